@@ -1,0 +1,74 @@
+-- A document: blocks under handles, each with a user ID and a body, and a map block.
+use Rattle.std.specs.Prelude.{ℕ, List, [], Bool, true, false, not, nat_le, length, Option, find}
+use Rattle.std.specs.List.{range_with_len}
+use Rattle.std.specs.Ordering.{nat_cmp}
+use Rattle.std.specs.Option.{option_map_or}
+use Rattle.std.specs.FinMap.{FinMap, get, insert, remove, contains_key, empty}
+use Rattle.geos_model.specs.Heap.{ChunkMap, is_heap_map, capacity}
+use Rattle.geos_model.specs.declared.command.Body.{Body}
+use Rattle.geos_model.specs.declared.command.Body.TheVariants.{Raw, Heap}
+
+pub record Block : Type 0 where
+  pub user_id : ℕ
+  pub body : Body
+
+pub record Document : Type 0 where
+  pub blocks : FinMap nat_cmp Block
+  pub map_block : ℕ  -- 0 for none
+
+abbrev pub empty_document : Document
+empty_document = record { blocks = empty; map_block = 0 }
+
+-- every VM handle
+unfoldable pub vm_handles : List ℕ
+vm_handles = range_with_len 1 2048
+
+-- a body that can be
+abbrev pub is_valid_body : Body → Bool
+is_valid_body (Raw bytes) = nat_le (length bytes) capacity
+is_valid_body (Heap m) = is_heap_map m
+
+-- the least handle that isn't live
+unfoldable pub next_handle : Document → Option ℕ
+next_handle d = find (λ h. not (contains_key d.blocks h)) vm_handles
+
+abbrev pub is_live : Document → ℕ → Bool
+is_live d h = contains_key d.blocks h
+
+-- the chunks of a heap, none of a raw body
+abbrev pub chunks_of_body : Body → ChunkMap
+chunks_of_body (Raw bytes) = empty
+chunks_of_body (Heap m) = m
+
+-- the bytes of a raw body, none of a heap
+abbrev pub raw_of_body : Body → List ℕ
+raw_of_body (Raw bytes) = bytes
+raw_of_body (Heap m) = []
+
+abbrev pub is_heap_body : Body → Bool
+is_heap_body (Raw bytes) = false
+is_heap_body (Heap m) = true
+
+abbrev pub is_heap : Document → ℕ → Bool
+is_heap d h = option_map_or (λ b. is_heap_body b.body) (get d.blocks h) false
+
+-- Of the block under a handle; where it isn't live or is of the other kind, nothing or 0.
+abbrev pub chunks_of : Document → ℕ → ChunkMap
+chunks_of d h = option_map_or (λ b. chunks_of_body b.body) (get d.blocks h) empty
+
+abbrev pub raw_of : Document → ℕ → List ℕ
+raw_of d h = option_map_or (λ b. raw_of_body b.body) (get d.blocks h) []
+
+abbrev pub user_id_of : Document → ℕ → ℕ
+user_id_of d h = option_map_or (λ b. b.user_id) (get d.blocks h) 0
+
+-- the document with this block under a handle, and with none there
+abbrev pub with_block : Document → ℕ → Block → Document
+with_block d h b = record d { blocks = insert d.blocks h b }
+
+abbrev pub without_block : Document → ℕ → Document
+without_block d h = record d { blocks = remove d.blocks h }
+
+-- the document with this body of a block
+abbrev pub with_body : Document → ℕ → Body → Document
+with_body d h body = with_block d h (record { user_id = user_id_of d h; body = body })

@@ -1,0 +1,11 @@
+pub mod Words
+pub mod Refusal
+pub mod Heap
+pub mod Table
+pub mod Document
+pub mod Meaning
+pub mod Image
+pub mod Cost
+pub mod Reply
+pub mod Machine
+pub mod Script

@@ -1,0 +1,102 @@
+-- The machine: a document with its past and its future.
+use Rattle.std.specs.Prelude.{◌≡◌, ◌⊎◌, ℕ, List, [], ◌∷◌, Bool, true, false, ◌==◌, length, Option, Some, None}
+use Rattle.std.specs.Option.{option_map_or}
+use Rattle.geos_model.specs.Refusal.{Conditions, first_refusal}
+use Rattle.geos_model.specs.Document.{Document, empty_document}
+use Rattle.geos_model.specs.Meaning.{conditions, effect}
+use Rattle.geos_model.specs.Cost.{cost}
+use Rattle.geos_model.specs.Reply.{Reply, Accepted, Refused, reply_of_done, look_up_conditions, look_up}
+use Rattle.geos_model.specs.declared.fault.Fault.TheVariants.{Memory, BadCommand, NothingToUndo}
+use Rattle.geos_model.specs.declared.command.Kind.{Kind}
+use Rattle.geos_model.specs.declared.command.Kind.TheVariants.{In, Made}
+use Rattle.geos_model.specs.declared.command.Edit.{Edit}
+use Rattle.geos_model.specs.declared.command.Edit.TheVariants as edits
+use Rattle.geos_model.specs.declared.command.Command.{Command}
+use Rattle.geos_model.specs.declared.command.Command.TheVariants as commands
+
+-- a document that undo or redo gives back, with what kind of edit lies between
+pub record UndoStep : Type 0 where
+  pub kind : Kind
+  pub cost : ℕ
+  pub document : Document
+
+pub record Machine : Type 0 where
+  pub document : Document
+  pub past : List UndoStep  -- the newest first
+  pub future : List UndoStep  -- the next one first
+
+-- a new session's
+abbrev pub empty_machine : Machine
+empty_machine = record { document = empty_document; past = []; future = [] }
+
+-- what is asked of the machine: a command, or None for a line that is none
+abbrev pub Request : Type 0
+Request = Option Command
+
+-- what kind of step an edit makes
+abbrev pub kind_of : Edit → Kind
+kind_of (edits.NewHeap uid) = Made
+kind_of (edits.Alloc b n) = In b
+kind_of (edits.Write b c at bytes) = In b
+
+abbrev pub command_conditions : Command → Machine → Conditions
+command_conditions (commands.Edit e) m = conditions e m.document
+command_conditions commands.Undo m = (NothingToUndo, length m.past == 0) ∷ []
+command_conditions c m = look_up_conditions c m.document
+
+abbrev pub machine_conditions : Request → Machine → Conditions
+machine_conditions None m = (BadCommand, true) ∷ []
+machine_conditions (Some c) m = command_conditions c m
+
+-- an edit puts the old document on the past, and empties the future
+abbrev pub edited : Edit → Machine → Reply × Machine
+edited e m =
+    let after = effect e m.document in
+    let undo : UndoStep = record { kind = kind_of e; cost = cost e m.document after.0; document = m.document } in
+    (reply_of_done after.1, record { document = after.0; past = undo ∷ m.past; future = [] })
+
+-- the newest past document is the document again, and the old one is the next of the future
+abbrev pub undone : Machine → List UndoStep → Machine
+undone m [] = m
+undone m (s ∷ past) = record { document = s.document; past = past; future = record s { document = m.document } ∷ m.future }
+
+-- what a command does that nothing refuses
+abbrev pub done_by : Command → Machine → Reply × Machine
+done_by (commands.Edit e) m = edited e m
+done_by commands.Undo m = (Accepted, undone m m.past)
+done_by c m = (look_up c m.document, m)
+
+abbrev pub done_by_request : Request → Machine → Reply × Machine
+done_by_request None m = (Accepted, m)
+done_by_request (Some c) m = done_by c m
+
+-- the first refusal, which leaves the machine as it was, or what the request does
+abbrev pub next : Request → Machine → Reply × Machine
+next request m = option_map_or (λ fault. (Refused fault, m)) (first_refusal (machine_conditions request m)) (done_by_request request m)
+
+-- what takes no memory, so that the rules alone decide the answer
+abbrev pub takes_memory : Request → Bool
+takes_memory None = false
+takes_memory (Some c) = true
+
+-- the machine's own answer
+pub record Answers (old : Machine) (request : Request) (reply : Reply) (new : Machine) : Type 0 where
+  pub says : reply ≡ (next request old).0
+  pub goes : new ≡ (next request old).1
+
+-- want of memory in place of it, and nothing changes
+pub record RunsOut (old : Machine) (request : Request) (reply : Reply) (new : Machine) : Type 0 where
+  pub may : takes_memory request ≡ true
+  pub says : reply ≡ Refused Memory
+  pub stays : new ≡ old
+
+-- The machine may answer a request so, and go on to new.
+abbrev pub Step : Machine → Request → Reply → Machine → Type 0
+Step old request reply new = Answers old request reply new ⊎ RunsOut old request reply new
+
+-- The machine may give these replies to these requests, one after another, and go on to new.
+abbrev pub Run : Machine → List Request → List Reply → Machine → Type 0
+Run old [] [] new = new ≡ old
+Run old (request ∷ requests) (reply ∷ replies) new = (mid : Machine) × Step old request reply mid × Run mid requests replies new
+Run old [] (reply ∷ replies) new = ⊥
+Run old (request ∷ requests) [] new = ⊥

@@ -1,0 +1,53 @@
+-- What a command answers, and how look-ups answer of a document.
+use Rattle.std.specs.Prelude.{ℕ, List, [], length}
+use Rattle.std.specs.FinMap.{get, keys}
+use Rattle.std.specs.Option.{option_map_or}
+use Rattle.geos_model.specs.Refusal.{Conditions}
+use Rattle.geos_model.specs.Heap.{need}
+use Rattle.geos_model.specs.Document.{Document, chunks_of}
+use Rattle.geos_model.specs.Meaning.{on_block, on_heap, on_chunk, chunk_at}
+use Rattle.geos_model.specs.declared.fault.Fault.{Fault}
+use Rattle.geos_model.specs.declared.command.Body.{Body}
+use Rattle.geos_model.specs.declared.command.Body.TheVariants.{Raw, Heap}
+use Rattle.geos_model.specs.declared.command.Done.{Done}
+use Rattle.geos_model.specs.declared.command.Done.TheVariants as done
+use Rattle.geos_model.specs.declared.command.Command.{Command}
+use Rattle.geos_model.specs.declared.command.Command.TheVariants as commands
+
+pub data Reply : Type 0 where
+  Accepted : Reply
+  Refused : (fault : Fault) → Reply
+  BlockIs : (handle : ℕ) → Reply
+  ChunkIs : (handle : ℕ) → Reply
+  TokenIs : (token : ℕ) → Reply
+  BytesAre : (bytes : List ℕ) → Reply
+  BlocksAre : (handles : List ℕ) → Reply
+  ChunksAre : (handles : List ℕ) → Reply
+  RawIs : (user_id size : ℕ) → Reply
+  HeapIs : (user_id size : ℕ) → Reply
+
+abbrev pub reply_of_done : Done → Reply
+reply_of_done done.Nothing = Accepted
+reply_of_done (done.Block b) = BlockIs b.0
+reply_of_done (done.Chunk c) = ChunkIs c.0
+reply_of_done (done.Token t) = TokenIs t.0
+
+-- the refusals of a look-up
+abbrev pub look_up_conditions : Command → Document → Conditions
+look_up_conditions (commands.Info b) d = on_block d b.0
+look_up_conditions (commands.Chunks b) d = on_heap d b.0
+look_up_conditions (commands.Read b c) d = on_chunk d b.0 c.0
+look_up_conditions _ d = []
+
+-- of a raw block the size of its body, of a heap the bytes that it needs
+abbrev pub body_info : ℕ → Body → Reply
+body_info uid (Raw bytes) = RawIs uid (length bytes)
+body_info uid (Heap m) = HeapIs uid (need m)
+
+-- what a look-up answers that nothing refuses
+abbrev pub look_up : Command → Document → Reply
+look_up (commands.Info b) d = option_map_or (λ block. body_info block.user_id block.body) (get d.blocks b.0) Accepted
+look_up commands.List d = BlocksAre (keys d.blocks)
+look_up (commands.Chunks b) d = ChunksAre (keys (chunks_of d b.0))
+look_up (commands.Read b c) d = BytesAre (chunk_at d b.0 c.0)
+look_up _ d = Accepted

@@ -1,0 +1,184 @@
+-- A script: lines of words, the command that a line is, the text of a reply, and what a run writes.
+use Rattle.std.specs.Prelude.{◌≡◌, ℕ, List, [], ◌∷◌, ◌++◌, ◌+◌, ◌*◌, ◌-◌, ◌/◌, ◌%◌, Bool, true, false, ◌==◌, ◌&&◌, ◌||◌, nat_le, nat_eq, length, map, filter, fold, if◌then◌else◌, Option, Some, None, Result, Ok, Err, codes}
+use Rattle.std.specs.List.{flat_map, list_all}
+use Rattle.std.specs.Option.{option_and_then, option_map}
+use Rattle.std.specs.Fmt.{decimal}
+use lib.Pointwise.{pointwise}
+use Rattle.hex.specs.Hex.{encode_lower, decode_of}
+use Rattle.hex.specs.declared.error.FromHexError.{FromHexError}
+use Rattle.geos_model.specs.declared.handle.VmHandle.{VmHandle}
+use Rattle.geos_model.specs.declared.handle.ChunkHandle.{ChunkHandle}
+use Rattle.geos_model.specs.Refusal.{number_of_fault, name_of_fault}
+use Rattle.geos_model.specs.Reply.{Reply, Accepted, Refused, BlockIs, ChunkIs, TokenIs, BytesAre, BlocksAre, ChunksAre, RawIs, HeapIs}
+use Rattle.geos_model.specs.Machine.{Machine, Request, Run}
+use Rattle.geos_model.specs.declared.command.Edit.TheVariants as edits
+use Rattle.geos_model.specs.declared.command.Command.{Command}
+use Rattle.geos_model.specs.declared.command.Command.TheVariants as commands
+
+abbrev pub line_feed : ℕ
+line_feed = 10
+
+-- x goes before the first of these lines
+abbrev pub begin_line : ℕ → List (List ℕ) → List (List ℕ)
+begin_line x [] = (x ∷ []) ∷ []
+begin_line x (line ∷ lines) = (x ∷ line) ∷ lines
+
+-- the lines of a script, each ended by a line feed or by the end; an empty rest is no line
+abbrev pub lines : List ℕ → List (List ℕ)
+lines [] = []
+lines (x ∷ xs) = if x == line_feed then [] ∷ lines xs else begin_line x (lines xs)
+
+-- a space, a tab or a carriage return
+abbrev pub is_blank : ℕ → Bool
+is_blank x = x == 32 || x == 9 || x == 13
+
+-- x goes before the first of these words where no blank lies between, and else is a word of its own
+abbrev pub begin_word : ℕ → List ℕ → List (List ℕ) → List (List ℕ)
+begin_word x [] words = (x ∷ []) ∷ words
+begin_word x (y ∷ ys) [] = (x ∷ []) ∷ []
+begin_word x (y ∷ ys) (word ∷ words) = if is_blank y then (x ∷ []) ∷ word ∷ words else (x ∷ word) ∷ words
+
+-- the longest runs of bytes that aren't blanks
+abbrev pub words : List ℕ → List (List ℕ)
+words [] = []
+words (x ∷ xs) = if is_blank x then words xs else begin_word x xs (words xs)
+
+-- Operands. Each is the value that a word spells, if it spells one.
+
+abbrev pub same_bytes : List ℕ → List ℕ → Bool
+same_bytes xs ys = pointwise nat_eq xs ys
+
+abbrev pub is_digit : ℕ → Bool
+is_digit x = nat_le 48 x && nat_le x 57
+
+-- a number with one more digit behind it
+abbrev pub with_digit : ℕ → ℕ → ℕ
+with_digit n x = 10 * n + (x - 48)
+
+-- 1 to 7 decimal digits
+abbrev pub number : List ℕ → Option ℕ
+number word = if nat_le 1 (length word) && nat_le (length word) 7 && list_all is_digit word then Some (fold with_digit 0 word) else None
+
+-- such digits for a number of two bytes
+abbrev pub user_id : List ℕ → Option ℕ
+user_id word = option_and_then (λ n. if nat_le n 65535 then Some n else None) (number word)
+
+-- the bytes that pairs of hexadecimal digits spell
+abbrev pub if_spelled : Result (List ℕ) FromHexError → Option (List ℕ)
+if_spelled (Ok bytes) = Some bytes
+if_spelled (Err e) = None
+
+-- a dash for no bytes, or two hexadecimal digits for each byte, at least one
+abbrev pub bytes : List ℕ → Option (List ℕ)
+bytes word = if same_bytes word (codes "-") then Some [] else if length word == 0 then None else if_spelled (decode_of word)
+
+abbrev pub two_bytes : List ℕ → Option ℕ
+two_bytes (high ∷ low ∷ []) = Some (256 * high + low)
+two_bytes _ = None
+
+-- exactly four hexadecimal digits
+abbrev pub handle : List ℕ → Option ℕ
+handle word = option_and_then two_bytes (if_spelled (decode_of word))
+
+abbrev pub block : List ℕ → Option VmHandle
+block word = option_map (λ n. record { 0 = n }) (handle word)
+
+abbrev pub chunk : List ℕ → Option ChunkHandle
+chunk word = option_map (λ n. record { 0 = n }) (handle word)
+
+-- A command of so many operands, each spelled by one word.
+
+abbrev pub with_none : Command → List (List ℕ) → Option Command
+with_none c [] = Some c
+with_none c (w ∷ ws) = None
+
+abbrev pub operand : {A : Type 0} → (List ℕ → Option A) → (A → List (List ℕ) → Option Command) → List (List ℕ) → Option Command
+operand p f [] = None
+operand p f (w ∷ ws) = option_and_then (λ a. f a ws) (p w)
+
+abbrev pub with_1 : {A : Type 0} → (List ℕ → Option A) → (A → Command) → List (List ℕ) → Option Command
+with_1 p f = operand p (λ a. with_none (f a))
+
+abbrev pub with_2 : {A B : Type 0} → (List ℕ → Option A) → (List ℕ → Option B) → (A → B → Command) → List (List ℕ) → Option Command
+with_2 p q f = operand p (λ a. with_1 q (f a))
+
+abbrev pub with_3 : {A B C : Type 0} → (List ℕ → Option A) → (List ℕ → Option B) → (List ℕ → Option C) → (A → B → C → Command) → List (List ℕ) → Option Command
+with_3 p q r f = operand p (λ a. with_2 q r (f a))
+
+abbrev pub with_4 : {A B C D : Type 0} → (List ℕ → Option A) → (List ℕ → Option B) → (List ℕ → Option C) → (List ℕ → Option D) → (A → B → C → D → Command) → List (List ℕ) → Option Command
+with_4 p q r s f = operand p (λ a. with_3 q r s (f a))
+
+-- each command by its name, with what its operands make of it
+abbrev pub commands_by_name : List (List ℕ × (List (List ℕ) → Option Command))
+commands_by_name =
+    (codes "newheap", with_1 user_id (λ u. commands.Edit (edits.NewHeap u)))
+    ∷ (codes "alloc", with_2 block number (λ b n. commands.Edit (edits.Alloc b n)))
+    ∷ (codes "write", with_4 block chunk number bytes (λ b c at bs. commands.Edit (edits.Write b c at bs)))
+    ∷ (codes "undo", with_none commands.Undo)
+    ∷ (codes "info", with_1 block (λ b. commands.Info b))
+    ∷ (codes "list", with_none commands.List)
+    ∷ (codes "chunks", with_1 block (λ b. commands.Chunks b))
+    ∷ (codes "read", with_2 block chunk (λ b c. commands.Read b c))
+    ∷ []
+
+abbrev pub by_name : List ℕ → List (List ℕ) → List (List ℕ × (List (List ℕ) → Option Command)) → Option Command
+by_name name operands [] = None
+by_name name operands (c ∷ cs) = if same_bytes name c.0 then c.1 operands else by_name name operands cs
+
+-- a line with no word, and one whose first word begins with #, is blank
+abbrev pub command_of_words : List (List ℕ) → Option Command
+command_of_words [] = Some commands.Blank
+command_of_words ([] ∷ operands) = None
+command_of_words ((x ∷ name) ∷ operands) = if x == 35 then Some commands.Blank else by_name (x ∷ name) operands commands_by_name
+
+abbrev pub longest_line : ℕ
+longest_line = 140000
+
+-- The command that a line is, or None for a bad one; a line that is too long is bad, whatever it begins with.
+unfoldable pub command : List ℕ → Option Command
+command line = if nat_le (length line) longest_line then command_of_words (words line) else None
+
+abbrev pub gets_reply : Request → Bool
+gets_reply (Some commands.Blank) = false
+gets_reply _ = true
+
+-- what the lines ask, those aside that get no reply
+abbrev pub requests : List (List ℕ) → List Request
+requests lines = filter gets_reply (map command lines)
+
+-- The text of a reply.
+
+abbrev pub four_digits : ℕ → List ℕ
+four_digits n = encode_lower (n / 256 ∷ n % 256 ∷ [])
+
+abbrev pub listed : List ℕ → List ℕ
+listed handles = flat_map (λ h. 32 ∷ four_digits h) handles
+
+abbrev pub hex_text : List ℕ → List ℕ
+hex_text [] = codes "-"
+hex_text (x ∷ xs) = encode_lower (x ∷ xs)
+
+unfoldable pub reply_text : Reply → List ℕ
+reply_text Accepted = codes "ok"
+reply_text (Refused fault) = codes "no " ++ decimal (number_of_fault fault) ++ 32 ∷ name_of_fault fault
+reply_text (BlockIs h) = codes "block " ++ four_digits h
+reply_text (ChunkIs h) = codes "chunk " ++ four_digits h
+reply_text (TokenIs t) = codes "token " ++ four_digits t
+reply_text (BytesAre bytes) = codes "bytes " ++ hex_text bytes
+reply_text (BlocksAre hs) = codes "blocks" ++ listed hs
+reply_text (ChunksAre hs) = codes "chunks" ++ listed hs
+reply_text (RawIs uid size) = codes "raw " ++ decimal uid ++ 32 ∷ decimal size
+reply_text (HeapIs uid size) = codes "heap " ++ decimal uid ++ 32 ∷ decimal size
+
+abbrev pub reply_line : Reply → List ℕ
+reply_line reply = reply_text reply ++ line_feed ∷ []
+
+-- one line for each reply, in order
+abbrev pub output : List Reply → List ℕ
+output replies = flat_map reply_line replies
+
+-- From old, these lines may be answered so, and lead to new.
+pub record Answered (old : Machine) (lines : List (List ℕ)) (written : List ℕ) (new : Machine) : Type 0 where
+  pub replies : List Reply
+  pub run : Run old (requests lines) replies new
+  pub text : written ≡ output replies

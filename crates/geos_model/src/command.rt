@@ -1,0 +1,61 @@
+use crate::{Bytes, ChunkHandle, Chunks, Token, VmHandle};
+
+/// What a block holds.
+#[derive(Drop)]
+pub enum Body {
+    Raw(Bytes),
+    Heap(Chunks),
+}
+
+/// A change of the document.
+#[derive(Drop)]
+pub enum Edit {
+    /// A new empty heap, with this user ID.
+    NewHeap(u16),
+    /// A new chunk of so many zeros.
+    Alloc(VmHandle, u32),
+    /// Bytes written over those of a chunk, from a place on.
+    Write(VmHandle, ChunkHandle, u32, Bytes),
+}
+
+/// What an accepted edit answers.
+#[derive(Clone, Copy, Debug, PartialEq, Eq)]
+pub enum Done {
+    Nothing,
+    Block(VmHandle),
+    Chunk(ChunkHandle),
+    Token(Token),
+}
+
+/// What kind of edit a step of the undo lists takes back.
+#[derive(Clone, Copy, Debug, PartialEq, Eq)]
+pub enum Kind {
+    /// Of a user ID or the map block.
+    Plain,
+    /// Of the body of one block.
+    In(VmHandle),
+    /// Blocks were made.
+    Made,
+    /// Blocks were freed.
+    Freed,
+}
+
+/// A line of a script.
+#[derive(Drop)]
+pub enum Command {
+    /// A line without a word, or a note: it gets no reply.
+    Blank,
+    Edit(Edit),
+    Undo,
+    Info(VmHandle),
+    List,
+    Chunks(VmHandle),
+    Read(VmHandle, ChunkHandle),
+}
+
+/// A block's user ID, and the bytes of a raw body or those that a heap needs.
+#[derive(Clone, Copy, Debug, PartialEq, Eq)]
+pub enum Info {
+    Raw(u16, u32),
+    Heap(u16, u32),
+}

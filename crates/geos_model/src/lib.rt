@@ -1,0 +1,13 @@
+//! What a document is and what its commands mean: the types that every other crate speaks of, and in `specs/` the
+//! definitions that their contracts cite.
+#![tactic(auto)]
+
+mod bytes;
+mod command;
+mod fault;
+mod handle;
+
+pub use bytes::{Bytes, Chunks};
+pub use command::{Body, Command, Done, Edit, Info, Kind};
+pub use fault::Fault;
+pub use handle::{ChunkHandle, Token, VmHandle};
