@@ -1,9 +1,9 @@
 -- A heap is a finite map from chunk handles to bytes.
-use Rattle.std.specs.Prelude.{ℕ, List, ◌+◌, ◌*◌, ◌/◌, ◌-◌, ◌%◌, Bool, false, not, ◌==◌, ◌&&◌, nat_le, max, length, map, if◌then◌else◌, Option, find, sum_by, fold}
+use Rattle.std.specs.Prelude.{ℕ, List, [], ◌+◌, ◌*◌, ◌/◌, ◌-◌, ◌%◌, Bool, false, not, ◌==◌, ◌&&◌, nat_le, max, length, map, if◌then◌else◌, Option, find, unwrap_or, sum_by, fold}
 use Rattle.std.specs.List.{range_with_len, list_all}
 use Rattle.std.specs.Ordering.{nat_cmp}
 use Rattle.std.specs.Option.{option_map_or}
-use Rattle.std.specs.FinMap.{FinMap, entries, keys, insert, contains_key}
+use Rattle.std.specs.FinMap.{FinMap, entries, keys, get, insert, contains_key}
 
 abbrev pub ChunkMap : Type 0
 ChunkMap = FinMap nat_cmp (List ℕ)
@@ -27,9 +27,13 @@ is_chunk_handle h = nat_le 16 h && nat_le h 0xFFEE && (h % 2 == 0)
 abbrev pub space_of : ℕ → ℕ
 space_of n = if n == 0 then 0 else 4 * ((n + 5) / 4)
 
+-- which table entry a chunk handle is, from 1 on
+abbrev pub entry_of : ℕ → ℕ
+entry_of h = (h - 14) / 2
+
 -- table entries up to the greatest of these handles
 unfoldable pub table_len : List ℕ → ℕ
-table_len handles = fold (λ t h. max t ((h - 14) / 2)) 0 handles
+table_len handles = fold (λ t h. max t (entry_of h)) 0 handles
 
 -- bytes that a heap needs: a header, the table in whole double words, and the chunks
 unfoldable pub need : ChunkMap → ℕ
@@ -50,7 +54,11 @@ is_heap_map m = list_all is_chunk_handle (keys m) && fits m
 unfoldable pub next_chunk : ChunkMap → Option ℕ
 next_chunk m = find (λ h. not (contains_key m h)) chunk_handles
 
--- the chunks with these bytes under this handle
+-- a chunk's bytes, none where there is no such chunk
+abbrev pub chunk_bytes : ChunkMap → ℕ → List ℕ
+chunk_bytes m h = unwrap_or (get m h) []
+
+-- the heap with these bytes under this handle fits
 unfoldable pub fits_with : ChunkMap → ℕ → List ℕ → Bool
 fits_with m h bytes = fits (insert m h bytes)
 

@@ -27,6 +27,8 @@ image (Heap m) =
     let t = table_len (keys m) in
     1 ∷ word t ++ flat_map (size_word m) (handles_to t) ++ flat_map (λ bytes. bytes) (values m)
 
+-- Reading an image back, where bytes are kept in place of a body. That it gives back what `image` wrote is a law.
+
 -- the chunks of a table of sizes, from a handle on, with their bytes one after another
 abbrev pub chunks_read : ℕ → List ℕ → List ℕ → List (ℕ × List ℕ)
 chunks_read h [] bytes = []

@@ -8,4 +8,6 @@ pub mod Image
 pub mod Cost
 pub mod Reply
 pub mod Machine
+pub mod Codes
+pub mod Laws
 pub mod Script

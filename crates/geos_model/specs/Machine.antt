@@ -74,7 +74,8 @@ done_by_request (Some c) m = done_by c m
 abbrev pub next : Request → Machine → Reply × Machine
 next request m = option_map_or (λ fault. (Refused fault, m)) (first_refusal (machine_conditions request m)) (done_by_request request m)
 
--- what takes no memory, so that the rules alone decide the answer
+-- What may take memory, so that want of it may stand in place of the answer. Of a line that is no command the rules alone
+-- decide.
 abbrev pub takes_memory : Request → Bool
 takes_memory None = false
 takes_memory (Some c) = true

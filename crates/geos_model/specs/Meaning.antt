@@ -1,12 +1,10 @@
--- What an edit means: the first of its refusals, or the document after it and what it answers.
-use Rattle.std.specs.Prelude.{ℕ, List, [], ◌∷◌, ◌++◌, ◌+◌, Bool, not, nat_lt, length, replicate, Option, is_none, unwrap_or, Result, Ok, Err}
+-- What an edit means: its refusals with their conditions, and where none holds the document after it and what it answers.
+use Rattle.std.specs.Prelude.{ℕ, List, [], ◌∷◌, ◌++◌, ◌+◌, Bool, not, nat_lt, length, replicate, is_none, unwrap_or}
 use Rattle.std.specs.List.{splice}
-use Rattle.std.specs.Option.{option_map_or}
-use Rattle.std.specs.FinMap.{get, insert, contains_key, empty}
-use Rattle.geos_model.specs.Refusal.{Conditions, first_refusal}
-use Rattle.geos_model.specs.Heap.{next_chunk, fits_new}
+use Rattle.std.specs.FinMap.{insert, contains_key, empty}
+use Rattle.geos_model.specs.Refusal.{Conditions}
+use Rattle.geos_model.specs.Heap.{next_chunk, chunk_bytes, fits_new}
 use Rattle.geos_model.specs.Document.{Block, Document, with_block, with_body, is_live, is_heap, chunks_of, next_handle}
-use Rattle.geos_model.specs.declared.fault.Fault.{Fault}
 use Rattle.geos_model.specs.declared.fault.Fault.TheVariants.{NoBlock, NoChunk, WrongKind, Full, NoHandles, Range}
 use Rattle.geos_model.specs.declared.command.Body.TheVariants.{Heap}
 use Rattle.geos_model.specs.declared.command.Done.{Done}
@@ -16,7 +14,7 @@ use Rattle.geos_model.specs.declared.command.Edit.TheVariants as edits
 
 -- a chunk's bytes, none where there is no such chunk
 abbrev pub chunk_at : Document → ℕ → ℕ → List ℕ
-chunk_at d b c = unwrap_or (get (chunks_of d b) c) []
+chunk_at d b c = chunk_bytes (chunks_of d b) c
 
 -- the document with a chunk's bytes
 abbrev pub with_chunk : Document → ℕ → ℕ → List ℕ → Document
@@ -30,7 +28,7 @@ abbrev pub on_block : Document → ℕ → Conditions
 on_block d b = (NoBlock, not (is_live d b)) ∷ []
 
 abbrev pub on_heap : Document → ℕ → Conditions
-on_heap d b = (NoBlock, not (is_live d b)) ∷ (WrongKind, not (is_heap d b)) ∷ []
+on_heap d b = on_block d b ++ (WrongKind, not (is_heap d b)) ∷ []
 
 abbrev pub on_chunk : Document → ℕ → ℕ → Conditions
 on_chunk d b c = on_heap d b ++ (NoChunk, not (contains_key (chunks_of d b) c)) ∷ []
@@ -53,7 +51,3 @@ abbrev pub effect : Edit → Document → Document × Done
 effect (edits.NewHeap uid) d = makes_block d (record { user_id = uid; body = Heap empty })
 effect (edits.Alloc b n) d = makes_chunk d b.0 (replicate n 0)
 effect (edits.Write b c at bytes) d = (with_chunk d b.0 c.0 (splice (chunk_at d b.0 c.0) at (at + length bytes) bytes), done.Nothing)
-
--- the first refusal, or the document after the edit and what it answers
-abbrev pub meaning : Edit → Document → Result (Document × Done) Fault
-meaning edit d = option_map_or (λ fault. Err fault) (first_refusal (conditions edit d)) (Ok (effect edit d))

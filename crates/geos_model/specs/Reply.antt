@@ -1,5 +1,5 @@
 -- What a command answers, and how look-ups answer of a document.
-use Rattle.std.specs.Prelude.{ℕ, List, [], length}
+use Rattle.std.specs.Prelude.{ℕ, List, [], length, map, Result, Ok, Err}
 use Rattle.std.specs.FinMap.{get, keys}
 use Rattle.std.specs.Option.{option_map_or}
 use Rattle.geos_model.specs.Refusal.{Conditions}
@@ -11,6 +11,10 @@ use Rattle.geos_model.specs.declared.command.Body.{Body}
 use Rattle.geos_model.specs.declared.command.Body.TheVariants.{Raw, Heap}
 use Rattle.geos_model.specs.declared.command.Done.{Done}
 use Rattle.geos_model.specs.declared.command.Done.TheVariants as done
+use Rattle.geos_model.specs.declared.command.Info.{Info}
+use Rattle.geos_model.specs.declared.command.Info.TheVariants as infos
+use Rattle.geos_model.specs.declared.handle.VmHandle.{VmHandle}
+use Rattle.geos_model.specs.declared.handle.ChunkHandle.{ChunkHandle}
 use Rattle.geos_model.specs.declared.command.Command.{Command}
 use Rattle.geos_model.specs.declared.command.Command.TheVariants as commands
 
@@ -32,22 +36,42 @@ reply_of_done (done.Block b) = BlockIs b.0
 reply_of_done (done.Chunk c) = ChunkIs c.0
 reply_of_done (done.Token t) = TokenIs t.0
 
--- the refusals of a look-up
+-- the refusals of a look-up; none of a command that is no look-up
 abbrev pub look_up_conditions : Command → Document → Conditions
 look_up_conditions (commands.Info b) d = on_block d b.0
 look_up_conditions (commands.Chunks b) d = on_heap d b.0
 look_up_conditions (commands.Read b c) d = on_chunk d b.0 c.0
-look_up_conditions _ d = []
+look_up_conditions commands.List d = []
+look_up_conditions commands.Blank d = []
+look_up_conditions (commands.Edit e) d = []
+look_up_conditions commands.Undo d = []
 
 -- of a raw block the size of its body, of a heap the bytes that it needs
 abbrev pub body_info : ℕ → Body → Reply
 body_info uid (Raw bytes) = RawIs uid (length bytes)
 body_info uid (Heap m) = HeapIs uid (need m)
 
--- what a look-up answers that nothing refuses
+-- what a look-up answers that nothing refuses; a command that is none only keeps the cases complete
 abbrev pub look_up : Command → Document → Reply
 look_up (commands.Info b) d = option_map_or (λ block. body_info block.user_id block.body) (get d.blocks b.0) Accepted
 look_up commands.List d = BlocksAre (keys d.blocks)
 look_up (commands.Chunks b) d = ChunksAre (keys (chunks_of d b.0))
 look_up (commands.Read b c) d = BytesAre (chunk_at d b.0 c.0)
-look_up _ d = Accepted
+look_up commands.Blank d = Accepted
+look_up (commands.Edit e) d = Accepted
+look_up commands.Undo d = Accepted
+
+-- what a call of a session answers, as a reply
+abbrev pub reply_by : {T : Type 0} → (T → Reply) → Result T Fault → Reply
+reply_by f (Ok x) = f x
+reply_by f (Err fault) = Refused fault
+
+abbrev pub info_is : Info → Reply
+info_is (infos.Raw uid size) = RawIs uid size
+info_is (infos.Heap uid size) = HeapIs uid size
+
+abbrev pub blocks_are : List VmHandle → Reply
+blocks_are handles = BlocksAre (map (λ h. h.0) handles)
+
+abbrev pub chunks_are : List ChunkHandle → Reply
+chunks_are handles = ChunksAre (map (λ h. h.0) handles)

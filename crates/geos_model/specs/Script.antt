@@ -182,3 +182,21 @@ pub record Answered (old : Machine) (lines : List (List ℕ)) (written : List �
   pub replies : List Reply
   pub run : Run old (requests lines) replies new
   pub text : written ≡ output replies
+
+-- x goes before the first of these lines, if there is one
+abbrev pub begin_finished : ℕ → List (List ℕ) → List (List ℕ)
+begin_finished x [] = []
+begin_finished x (line ∷ lines) = (x ∷ line) ∷ lines
+
+-- the lines that a line feed ends
+abbrev pub finished_lines : List ℕ → List (List ℕ)
+finished_lines [] = []
+finished_lines (x ∷ xs) = if x == line_feed then [] ∷ finished_lines xs else begin_finished x (finished_lines xs)
+
+-- Of what was read, a part of the finished lines is answered, the first ones, and no other.
+pub record Stopped (old : Machine) (read written : List ℕ) : Type 0 where
+  pub answered : List (List ℕ)
+  pub others : List (List ℕ)
+  pub parts : finished_lines read ≡ answered ++ others
+  pub new : Machine
+  pub run : Answered old answered written new

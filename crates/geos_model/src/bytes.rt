@@ -30,7 +30,8 @@ impl Bytes {
     }
 }
 
-/// The chunks of a heap, which contracts see as a finite map from handles to bytes.
+/// The chunks of a heap, which contracts see as a finite map from handles to bytes: the body of a heap block, as the
+/// definitions speak of it. Code keeps chunks in a heap.
 #[derive(Drop)]
 pub struct Chunks {
     items: Vec<(ChunkHandle, Bytes)>,

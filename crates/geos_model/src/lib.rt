@@ -6,8 +6,10 @@ mod bytes;
 mod command;
 mod fault;
 mod handle;
+mod law;
 
 pub use bytes::{Bytes, Chunks};
 pub use command::{Body, Command, Done, Edit, Info, Kind};
 pub use fault::Fault;
 pub use handle::{ChunkHandle, Token, VmHandle};
+pub use law::{image_law, word_law};

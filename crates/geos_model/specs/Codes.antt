@@ -1,0 +1,29 @@
+-- The codes of documents and machines, by which a proof tells their values apart.
+use Rattle.std.specs.Prelude.{ℕ, List, refl}
+use Rattle.std.specs.Coded.{Coded, code_by, coded×, coded_ℕ, coded_list}
+use Rattle.std.specs.Ordering.{nat_cmp}
+use Rattle.std.specs.FinMap.{FinMap, code}
+use Rattle.geos_model.specs.Document.{Block, Document}
+use Rattle.geos_model.specs.Machine.{UndoStep, Machine}
+use Rattle.geos_model.specs.declared.command.Body.{Body}
+use Rattle.geos_model.specs.contracts.command.Body as body_type
+use Rattle.geos_model.specs.declared.command.Kind.{Kind}
+use Rattle.geos_model.specs.contracts.command.Kind as kind_type
+
+abbrev pub body_code : Coded Body
+body_code = body_type.the_row.coded
+
+abbrev pub block_code : Coded Block
+block_code = code_by (ℕ × Body) (coded× coded_ℕ body_code) (λ b. (b.user_id, b.body)) (λ p. record { user_id = p.0; body = p.1 }) (λ _. refl)
+
+abbrev pub document_code : Coded Document
+document_code =
+    code_by (FinMap nat_cmp Block × ℕ) (coded× (code coded_ℕ block_code) coded_ℕ) (λ d. (d.blocks, d.map_block)) (λ p. record { blocks = p.0; map_block = p.1 }) (λ _. refl)
+
+abbrev pub step_code : Coded UndoStep
+step_code =
+    code_by (Kind × (ℕ × Document)) (coded× kind_type.the_row.coded (coded× coded_ℕ document_code)) (λ s. (s.kind, (s.cost, s.document))) (λ p. record { kind = p.0; cost = p.1.0; document = p.1.1 }) (λ _. refl)
+
+abbrev pub machine_code : Coded Machine
+machine_code =
+    code_by (Document × (List UndoStep × List UndoStep)) (coded× document_code (coded× (coded_list step_code) (coded_list step_code))) (λ m. (m.document, (m.past, m.future))) (λ p. record { document = p.0; past = p.1.0; future = p.1.1 }) (λ _. refl)

@@ -1,0 +1,45 @@
+-- A reply's line is what is written for its request.
+use Rattle.std.proofs.Common.{◌≡◌, ℕ, List, [], ◌∷◌, ◌++◌, true, refl, ◌∙◌, sym, ap, append_assoc, append-nil, Result, Ok, OnOk, None, inl}
+use Rattle.std.specs.Prelude.{filter}
+use Rattle.std.proofs.lemmas.Result.{IfOk-at_ok}
+use Rattle.geos_model.specs.Reply.{Reply, Refused}
+use Rattle.geos_model.specs.declared.fault.Fault.TheVariants.{BadCommand}
+use Rattle.geos_model.specs.Machine.{Machine, Request, Step}
+use Rattle.geos_model.specs.Script.{Answered, command, gets_reply, reply_line, reply_text, line_feed}
+use Rattle.geos_shell.specs.Replies.{Responds}
+
+-- one step of the machine, and its reply's text and a line feed put behind what was there
+pub responds_by : (old new : Machine) (request : Request) (reply : Reply) (before text after : List ℕ)
+    → gets_reply request ≡ true → Step old request reply new
+    → text ≡ before ++ reply_text reply → after ≡ text ++ line_feed ∷ []
+    → (written : List ℕ) × Responds old request written new × (after ≡ before ++ written)
+responds_by old new request reply before text after asks step said ended =
+    let one : filter gets_reply (request ∷ []) ≡ request ∷ [] = rw asks refl in (
+      reply_line reply,
+      record { replies = reply ∷ []; run = rw one (new, step, refl); text = sym (append-nil (reply_line reply)) },
+      ended ∙ ap (λ (l : List ℕ). l ++ line_feed ∷ []) said ∙ append_assoc before (reply_text reply) (line_feed ∷ []),
+    )
+
+-- the same, where a call that may fail put the text
+pub responds_on_ok : {T E : Type 0} (put : Result T E) (x : T) (old new : Machine) (request : Request) (reply : Reply) (before text after : List ℕ)
+    → gets_reply request ≡ true → Step old request reply new
+    → put ≡ Ok x → OnOk put (text ≡ before ++ reply_text reply) → after ≡ text ++ line_feed ∷ []
+    → (written : List ℕ) × Responds old request written new × (after ≡ before ++ written)
+responds_on_ok put x old new request reply before text after asks step was said ended =
+    let text_said : text ≡ before ++ reply_text reply = IfOk-at_ok (λ _. text ≡ before ++ reply_text reply) was said in
+    responds_by old new request reply before text after asks step text_said ended
+
+-- the answer to a line is that to its request
+pub answered_by : (old new : Machine) (line written : List ℕ) (request : Request)
+    → command line ≡ request → Responds old request written new → Answered old (line ∷ []) written new
+answered_by old new line written request is r =
+    record { replies = r.replies; run = rw is r.run; text = r.text }
+
+-- a line that is no command leaves the machine as it is
+pub answered_bad : (machine : Machine) (line before text after : List ℕ)
+    → command line ≡ None → text ≡ before ++ reply_text (Refused BadCommand) → after ≡ text ++ line_feed ∷ []
+    → (written : List ℕ) × Answered machine (line ∷ []) written machine × (after ≡ before ++ written)
+answered_bad machine line before text after none said ended =
+    let step : Step machine None (Refused BadCommand) machine = inl (record { says = refl; goes = refl }) in
+    let r = responds_by machine machine None (Refused BadCommand) before text after refl step said ended in
+    (r.0, answered_by machine machine line r.0 None none r.1, r.2)

@@ -1,0 +1,12 @@
+//! Script bytes in, reply bytes out.
+#![tactic(auto)]
+
+mod operands;
+mod parser;
+mod replies;
+mod runner;
+mod text;
+mod verbs;
+
+pub use parser::parse;
+pub use runner::{RunFault, run};

@@ -1,0 +1,219 @@
+//! The texts of replies. Where memory is wanting, a part of a text may stand behind what was there.
+#![tactic(auto, using(crate::proofs::Extending::extending), unfolding(geos_model::specs::Script::reply_text))]
+
+ghost use Rattle.std.specs.Prelude.{◌≡◌, ◌++◌, ◌∷◌, OnOk, OnErr, map};
+ghost use Rattle.std.specs.Fmt.{decimal};
+ghost use Rattle.hex.specs.Hex.{encode_lower};
+ghost use Rattle.geos_model.specs.Reply.{Accepted, BytesAre, Refused, blocks_are, chunks_are, info_is, reply_by, reply_of_done};
+ghost use Rattle.geos_model.specs.Script.{four_digits, listed, reply_text};
+ghost use Rattle.geos_shell.specs.Replies.{Extends};
+
+use geos_model::{ChunkHandle, Done, Fault, Info, VmHandle};
+use std::alloc::{AllocError, Global};
+
+fn push_number(alloc: Global, out: &mut Vec<u8>, number: u32) -> Result<(), AllocError>
+    ensures ok { OnOk result (out.new.items ≡ out.old.items ++ decimal number) }
+    ensures err { OnErr result (Extends out.old.items out.new.items) }
+{
+    let digits = number.to_string(alloc)?;
+    out.extend_from_slice(digits.as_bytes())
+}
+
+// A lead, and always four digits.
+fn push_handle(out: &mut Vec<u8>, lead: &[u8], handle: u16) -> Result<(), AllocError>
+    ensures ok { OnOk result (out.new.items ≡ out.old.items ++ (lead.now ++ four_digits handle)) }
+    ensures err { OnErr result (Extends out.old.items out.new.items) }
+{
+    let mut digits = [0; 4];
+    hex::encode_to_slice(handle.to_be_bytes(), &mut digits).unwrap();
+    out.extend_from_slice(lead)?;
+    out.extend_from_slice(&digits)
+}
+
+// Encodes behind `out` in place, since the bytes may be many.
+fn push_hex(out: &mut Vec<u8>, bytes: &[u8]) -> Result<(), AllocError>
+    ensures ok { OnOk result (out.new.items ≡ out.old.items ++ encode_lower bytes.now) }
+    ensures err { OnErr result (Extends out.old.items out.new.items) }
+{
+    let start = out.len();
+    let Some(end) = bytes
+        .len()
+        .checked_mul(2)
+        .and_then(|digits| start.checked_add(digits))
+    else {
+        return Err(AllocError);
+    };
+    out.resize(end, 0)?;
+    hex::encode_to_slice(bytes, &mut out[start..]).unwrap();
+    Ok(())
+}
+
+pub(crate) fn push_refusal(alloc: Global, out: &mut Vec<u8>, fault: Fault) -> Result<(), AllocError>
+    ensures ok { OnOk result (out.new.items ≡ out.old.items ++ reply_text (Refused fault)) }
+    ensures err { OnErr result (Extends out.old.items out.new.items) }
+{
+    out.extend_from_slice(b"no ")?;
+    push_number(alloc, out, u32::from(fault.number()))?;
+    out.push(b' ')?;
+    out.extend_from_slice(fault.name().as_bytes())
+}
+
+pub(crate) fn push_done(
+    alloc: Global,
+    out: &mut Vec<u8>,
+    done: Result<Done, Fault>,
+) -> Result<(), AllocError>
+    ensures ok { OnOk result (out.new.items ≡ out.old.items ++ reply_text (reply_by reply_of_done done)) }
+    ensures err { OnErr result (Extends out.old.items out.new.items) }
+{
+    match done {
+        Ok(Done::Nothing) => out.extend_from_slice(b"ok"),
+        Ok(Done::Block(block)) => push_handle(out, b"block ", block.0),
+        Ok(Done::Chunk(chunk)) => push_handle(out, b"chunk ", chunk.0),
+        Ok(Done::Token(token)) => push_handle(out, b"token ", token.0),
+        Err(fault) => push_refusal(alloc, out, fault),
+    }
+}
+
+pub(crate) fn push_accepted(
+    alloc: Global,
+    out: &mut Vec<u8>,
+    accepted: Result<(), Fault>,
+) -> Result<(), AllocError>
+    ensures ok { OnOk result (out.new.items ≡ out.old.items ++ reply_text (reply_by (λ _. Accepted) accepted)) }
+    ensures err { OnErr result (Extends out.old.items out.new.items) }
+{
+    match accepted {
+        Ok(()) => out.extend_from_slice(b"ok"),
+        Err(fault) => push_refusal(alloc, out, fault),
+    }
+}
+
+fn push_body(
+    alloc: Global,
+    out: &mut Vec<u8>,
+    name: &[u8],
+    user_id: u16,
+    size: u32,
+) -> Result<(), AllocError>
+    ensures ok { OnOk result (out.new.items ≡ out.old.items ++ (name.now ++ decimal user_id ++ 32 ∷ decimal size)) }
+    ensures err { OnErr result (Extends out.old.items out.new.items) }
+{
+    out.extend_from_slice(name)?;
+    push_number(alloc, out, u32::from(user_id))?;
+    out.push(b' ')?;
+    push_number(alloc, out, size)
+}
+
+pub(crate) fn push_info(
+    alloc: Global,
+    out: &mut Vec<u8>,
+    info: Result<Info, Fault>,
+) -> Result<(), AllocError>
+    ensures ok { OnOk result (out.new.items ≡ out.old.items ++ reply_text (reply_by info_is info)) }
+    ensures err { OnErr result (Extends out.old.items out.new.items) }
+{
+    match info {
+        Ok(Info::Raw(user_id, size)) => push_body(alloc, out, b"raw ", user_id, size),
+        Ok(Info::Heap(user_id, size)) => push_body(alloc, out, b"heap ", user_id, size),
+        Err(fault) => push_refusal(alloc, out, fault),
+    }
+}
+
+fn push_blocks_listed(out: &mut Vec<u8>, blocks: &[VmHandle]) -> Result<(), AllocError>
+    ensures ok { OnOk result (out.new.items ≡ out.old.items ++ listed (map (λ h. h.0) blocks.now)) }
+    ensures err { OnErr result (Extends out.old.items out.new.items) }
+{
+    for block in blocks {
+        push_handle(out, b" ", block.0)?;
+    }
+    Ok(())
+}
+
+fn push_chunks_listed(out: &mut Vec<u8>, chunks: &[ChunkHandle]) -> Result<(), AllocError>
+    ensures ok { OnOk result (out.new.items ≡ out.old.items ++ listed (map (λ h. h.0) chunks.now)) }
+    ensures err { OnErr result (Extends out.old.items out.new.items) }
+{
+    for chunk in chunks {
+        push_handle(out, b" ", chunk.0)?;
+    }
+    Ok(())
+}
+
+pub(crate) fn push_blocks(
+    alloc: Global,
+    out: &mut Vec<u8>,
+    blocks: Result<Vec<VmHandle>, Fault>,
+) -> Result<(), AllocError>
+    ensures ok { OnOk result (out.new.items ≡ out.old.items ++ reply_text (reply_by (λ handles. blocks_are handles.items) blocks)) }
+    ensures err { OnErr result (Extends out.old.items out.new.items) }
+{
+    match blocks {
+        Ok(blocks) => {
+            out.extend_from_slice(b"blocks")?;
+            push_blocks_listed(out, &blocks)
+        }
+        Err(fault) => push_refusal(alloc, out, fault),
+    }
+}
+
+pub(crate) fn push_chunks(
+    alloc: Global,
+    out: &mut Vec<u8>,
+    chunks: Result<Vec<ChunkHandle>, Fault>,
+) -> Result<(), AllocError>
+    ensures ok { OnOk result (out.new.items ≡ out.old.items ++ reply_text (reply_by (λ handles. chunks_are handles.items) chunks)) }
+    ensures err { OnErr result (Extends out.old.items out.new.items) }
+{
+    match chunks {
+        Ok(chunks) => {
+            out.extend_from_slice(b"chunks")?;
+            push_chunks_listed(out, &chunks)
+        }
+        Err(fault) => push_refusal(alloc, out, fault),
+    }
+}
+
+pub(crate) fn push_bytes(
+    alloc: Global,
+    out: &mut Vec<u8>,
+    bytes: Result<&[u8], Fault>,
+) -> Result<(), AllocError>
+    ensures ok { OnOk result (out.new.items ≡ out.old.items ++ reply_text (reply_by (λ bytes. BytesAre bytes.now) bytes.entry)) }
+    ensures err { OnErr result (Extends out.old.items out.new.items) }
+{
+    match bytes {
+        Ok([]) => out.extend_from_slice(b"bytes -"),
+        Ok(bytes) => {
+            out.extend_from_slice(b"bytes ")?;
+            push_hex(out, bytes)
+        }
+        Err(fault) => push_refusal(alloc, out, fault),
+    }
+}
+
+#[cfg(test)]
+mod tests {
+    use super::*;
+
+    #[test]
+    fn each_reply_has_its_text(rt: HostRuntime) -> Result<(), AllocError> {
+        let alloc = rt.alloc();
+        let mut out = Vec::new(alloc);
+        push_done(alloc, &mut out, Ok(Done::Nothing))?;
+        push_done(alloc, &mut out, Ok(Done::Block(VmHandle(1))))?;
+        push_done(alloc, &mut out, Ok(Done::Chunk(ChunkHandle(0xffee))))?;
+        push_accepted(alloc, &mut out, Err(Fault::NothingToUndo))?;
+        push_info(alloc, &mut out, Ok(Info::Raw(65535, 0)))?;
+        push_info(alloc, &mut out, Ok(Info::Heap(7, 65520)))?;
+        let blocks = vec![in alloc; VmHandle(1), VmHandle(2048)]?;
+        push_blocks(alloc, &mut out, Ok(blocks))?;
+        push_chunks(alloc, &mut out, Ok(Vec::new(alloc)))?;
+        push_bytes(alloc, &mut out, Ok(&[]))?;
+        push_bytes(alloc, &mut out, Ok(&[0x0a, 0xf0]))?;
+        let texts =
+            b"okblock 0001chunk ffeeno 22 NothingToUndoraw 65535 0heap 7 65520blocks 0001 0800chunksbytes -bytes 0af0";
+        assert_eq!(rt; out.as_slice(), texts.as_slice());
+        Ok(())
+    }
+}

@@ -1,0 +1,7 @@
+use Rattle.std.proofs.Common.{ap, ◌∙◌}
+use Rattle.geos_model.specs.Table.{table_map}
+use Rattle.geos_model.proofs.Tables.{table_map-nil}
+use Rattle.lmem_heap.proofs.heap.Heap.new.Goals as goal
+
+pub returns : goal.returns
+returns c = ap (table_map 2 16) c.in_ok-table.ensures ∙ table_map-nil 2 16

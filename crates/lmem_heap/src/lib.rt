@@ -1,0 +1,7 @@
+//! A heap of chunks in 65,520 bytes, seen as a finite map from chunk handles to bytes.
+#![tactic(auto)]
+
+mod heap;
+mod table;
+
+pub use heap::Heap;

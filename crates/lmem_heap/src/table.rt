@@ -1,0 +1,166 @@
+ghost use Rattle.std.specs.Prelude.{◌≡◌, ◌⊎◌, ◌+◌, ◌*◌, ◌≤◌, ◌<◌, ℕ, List, [], ◌∷◌, ◌++◌, Option, Some, None, IfOk, MatchOption, IsSome, is_some, length, max, replicate, take, set, get_or, unwrap_or};
+ghost use Rattle.std.specs.List.{splice};
+ghost use Rattle.std.specs.Option.{option_copied, option_map};
+ghost use Rattle.lmem_heap.specs.Packed.{Slots, packed, words, total, chunks};
+ghost use Rattle.lmem_heap.specs.Slots.{with_slot};
+
+use raw_region::RawBody;
+use std::alloc::{AllocError, Global};
+use std::marker::Model;
+
+/// The size word of a slot with no chunk.
+const NO_CHUNK: u16 = 0xFFFF;
+
+/// A row of slots, each with a chunk or none: a word for the size of each, and behind them the chunks, packed in order.
+#[derive(Drop)]
+pub(crate) struct Table {
+    body: RawBody,
+    slots: usize,
+}
+
+impl Model for Table {
+    ghost use Rattle.std.specs.Prelude.{◌≡◌, ◌≤◌, ℕ, List, Option, length};
+    ghost use Rattle.lmem_heap.specs.Packed.{packed, slots_in};
+
+    ghost Value = { List (Option (List ℕ)) };
+
+    ghost view = { λ t. slots_in t.slots t.body };
+
+    ghost invariant = { λ t. (t.body ≡ packed (slots_in t.slots t.body)) × (length t.body ≤ 65520) };
+}
+
+impl Table {
+    pub(crate) fn new(alloc: Global) -> Result<Table, AllocError>
+        ensures { IfOk result (λ t. t ≡ []) }
+    {
+        let body = RawBody::new(alloc)?;
+        Ok(Table { body, slots: 0 })
+    }
+
+    /// The table of so many slots whose bytes these are; None where they are no such table's.
+    pub(crate) fn from_bytes(
+        alloc: Global,
+        slots: usize,
+        bytes: &[u8],
+    ) -> Result<Option<Table>, AllocError>
+        requires { length bytes.now ≤ 65520 }
+        ensures { IfOk result (λ found. MatchOption found
+            ((t : Slots) → length t ≡ slots → packed t ≡ bytes.now → ⊥)
+            (λ t. (length t ≡ slots) × (packed t ≡ bytes.now))) }
+    {
+        if slots > bytes.len() / 2 {
+            return Ok(None);
+        }
+        let mut body = RawBody::new(alloc)?;
+        body.replace(0, 0, bytes);
+        if bytes_before(&body, slots) != bytes.len() - 2 * slots {
+            return Ok(None);
+        }
+        Ok(Some(Table { body, slots }))
+    }
+
+    /// How many slots there are.
+    pub(crate) fn len(&self) -> usize
+        ensures value { result ≡ length self.now }
+        ensures room { 2 * length self.now + length (chunks self.now) ≤ 65520 }
+    {
+        self.slots
+    }
+
+    pub(crate) fn bytes(&self) -> &[u8]
+        ensures { result.now ≡ packed self.now }
+    {
+        self.body.bytes()
+    }
+
+    /// The size of the chunk in a slot.
+    pub(crate) fn size(&self, i: usize) -> Option<usize>
+        requires { i < length self.now }
+        ensures { result ≡ option_map length (get_or self.now i None) }
+    {
+        let size = self.body.word(2 * i);
+        if size == NO_CHUNK {
+            None
+        } else {
+            Some(size as usize)
+        }
+    }
+
+    /// Where the bytes of a slot's chunk stand, or would stand.
+    fn place(&self, i: usize) -> usize
+        requires { i ≤ length self.now }
+        ensures { result ≡ 2 * length self.now + length (chunks (take i self.now)) }
+    {
+        2 * self.slots + bytes_before(&self.body, i)
+    }
+
+    /// The bytes of the chunk in a slot.
+    pub(crate) fn chunk(&self, i: usize) -> Option<&[u8]>
+        requires { i < length self.now }
+        ensures { option_copied result ≡ get_or self.now i None }
+    {
+        let size = self.size(i)?;
+        let at = self.place(i);
+        Some(&self.body.bytes()[at..at + size])
+    }
+
+    /// Writes over the bytes of a slot's chunk from `at` on.
+    pub(crate) fn write(&mut self, i: usize, at: usize, bytes: &[u8])
+        requires slot { i < length self.old }
+        requires live { IsSome (get_or self.old i None) }
+        requires range { at + length bytes.now ≤ length (unwrap_or (get_or self.old i None) []) }
+        ensures { self.new ≡ set self.old i (Some (splice (unwrap_or (get_or self.old i None) []) at (at + length bytes.now) bytes.now)) }
+    {
+        let place = self.place(i);
+        self.body.copy_in(place + at, bytes);
+    }
+
+    /// Sees that there is a slot `i`, at most one past the last.
+    pub(crate) fn open_slot(&mut self, i: usize)
+        requires within { i ≤ length self.old }
+        requires room { 2 * max (length self.old) (i + 1) + length (chunks self.old) ≤ 65520 }
+        ensures { self.new ≡ with_slot self.old i }
+    {
+        if i == self.slots {
+            self.push_gap();
+        }
+    }
+
+    /// One more slot, with no chunk.
+    fn push_gap(&mut self)
+        requires { 2 * length self.old + length (chunks self.old) + 2 ≤ 65520 }
+        ensures { self.new ≡ self.old ++ None ∷ [] }
+    {
+        self.body
+            .replace(2 * self.slots, 0, [0xFF, 0xFF].as_slice());
+        self.slots += 1;
+    }
+
+    /// A chunk of `n` zeros in a slot that has none. The chunks behind it slide.
+    pub(crate) fn fill(&mut self, i: usize, n: usize)
+        requires slot { i < length self.old }
+        requires gap { get_or self.old i None ≡ None }
+        requires room { 2 * length self.old + length (chunks self.old) + n ≤ 65520 }
+        ensures { self.new ≡ set self.old i (Some (replicate n 0)) }
+    {
+        let place = self.place(i);
+        self.body.insert_zeros(place, n);
+        self.body.set_word(2 * i, n as u16);
+    }
+}
+
+/// How many bytes the chunks of the first `i` slots have.
+fn bytes_before(body: &RawBody, i: usize) -> usize
+    requires within { 2 * i ≤ length body.now }
+    requires small { i ≤ 65535 }
+    ensures { result ≡ total (words i body.now) }
+{
+    let mut sum: usize = 0;
+    for k in 0..i {
+        let size = body.word(2 * k);
+        if size != NO_CHUNK {
+            sum += size as usize;
+        }
+    }
+    sum
+}

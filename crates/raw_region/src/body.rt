@@ -1,0 +1,89 @@
+ghost use Rattle.std.specs.Prelude.{◌≡◌, ◌+◌, ◌≤◌, ℕ, IfOk, List, [], ◌++◌, length, take, drop, replicate, slice_index};
+ghost use Rattle.raw_region.specs.Bytes.{put, splice, word_at, word_bytes};
+ghost use Rattle.raw_region.specs.declared.TheConstants.{SIZE};
+
+use crate::SIZE;
+use crate::region::Region;
+use std::alloc::{AllocError, Global};
+use std::marker::Model;
+
+/// Up to `SIZE` bytes, in a region of their own.
+#[derive(Drop)]
+pub struct RawBody {
+    region: Region,
+    len: usize,
+}
+
+impl Model for RawBody {
+    ghost Value = { List ℕ };
+
+    ghost view = { λ b. take b.len b.region };
+
+    ghost invariant = { λ b. (b.len ≤ SIZE) × (length b.region ≡ SIZE) };
+}
+
+impl RawBody {
+    /// No bytes yet; the region is allocated here, and never grows.
+    pub fn new(alloc: Global) -> Result<RawBody, AllocError>
+        ensures { IfOk result (λ b. b ≡ []) }
+    {
+        let region = Region::new(alloc)?;
+        Ok(RawBody { region, len: 0 })
+    }
+
+    /// The bytes in use.
+    pub fn bytes(&self) -> &[u8]
+        ensures value { result.now ≡ self.now }
+        ensures len { length self.now ≤ SIZE }
+    {
+        self.region.slice(0, self.len)
+    }
+
+    /// The word at `at`, its low byte first.
+    pub fn word(&self, at: usize) -> u16
+        requires { at + 2 ≤ length self.now }
+        ensures { result ≡ word_at self.now at }
+    {
+        self.region.word(at)
+    }
+
+    /// Writes a word at `at`, its low byte first.
+    pub fn set_word(&mut self, at: usize, v: u16)
+        requires { at + 2 ≤ length self.old }
+        ensures { self.new ≡ put self.old at (word_bytes v) }
+    {
+        self.region.set_word(at, v);
+    }
+
+    /// Writes `bytes` over those from `at` on.
+    pub fn copy_in(&mut self, at: usize, bytes: &[u8])
+        requires { at + length bytes.now ≤ length self.old }
+        ensures { self.new ≡ put self.old at bytes.now }
+    {
+        self.region.copy_in(at, bytes);
+    }
+
+    /// Puts `new` in the place of the `k` bytes at `at`; the bytes behind them slide.
+    pub fn replace(&mut self, at: usize, k: usize, new: &[u8])
+        requires within { at + k ≤ length self.old }
+        requires room { length self.old + length new.now ≤ SIZE + k }
+        ensures { self.new ≡ splice self.old at k new.now }
+    {
+        let tail = self.len - (at + k);
+        self.region.slide(at + k, at + new.len(), tail);
+        self.region.copy_in(at, new);
+        self.len = at + new.len() + tail;
+    }
+
+    /// Puts `n` zeros in before the byte at `at`.
+    pub fn insert_zeros(&mut self, at: usize, n: usize)
+        requires within { at ≤ length self.old }
+        requires room { length self.old + n ≤ SIZE }
+        ensures { self.new ≡ splice self.old at 0 (replicate n 0) }
+    {
+        let tail = self.len - at;
+        self.region.slide(at, at + n, tail);
+        self.region.zero(at, n);
+        self.len = at + n + tail;
+    }
+}

@@ -1,0 +1,12 @@
+//! 65,520 bytes of raw memory, seen as a list of bytes. All pointers of the project are in the module `raw`.
+#![tactic(auto)]
+
+mod body;
+mod raw;
+mod region;
+
+pub use body::RawBody;
+pub use region::Region;
+
+/// How many bytes a region has.
+pub const SIZE: usize = 65_520;

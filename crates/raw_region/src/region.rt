@@ -1,0 +1,118 @@
+ghost use Rattle.std.specs.Prelude.{◌≡◌, ◌+◌, ◌<◌, ◌≤◌, ℕ, IfOk, length, replicate, slice_index, slice_range};
+ghost use Rattle.std.specs.Borrow.{sem};
+ghost use Rattle.raw_region.specs.Bytes.{put, word_at, word_bytes};
+
+use crate::SIZE;
+use crate::raw::Raw;
+use byteorder::{ByteOrder, LittleEndian};
+use std::alloc::{AllocError, Global};
+use std::marker::Model;
+
+/// `SIZE` bytes from the allocator, which go back to it once, at the drop. Contracts see the list of the bytes.
+pub struct Region {
+    raw: Raw,
+    alloc: Global,
+}
+
+impl Model for Region {
+    ghost use Rattle.std.specs.Prelude.{ℕ, List};
+
+    ghost Value = { List ℕ };
+
+    ghost view = { λ r. r.raw.bytes };
+}
+
+#[tactic(auto, using(crate::proofs::Puts::lengths))]
+impl Region {
+    ghost use Rattle.raw_region.specs.LendsRun.{lends_run};
+
+    /// A region of zeros.
+    pub fn new(alloc: Global) -> Result<Region, AllocError>
+        ensures zeros { IfOk result (λ r. r ≡ replicate SIZE 0) }
+        ensures len { IfOk result (λ r. length r ≡ SIZE) }
+    {
+        let raw = Raw::new(&alloc)?;
+        Ok(Region { raw, alloc })
+    }
+
+    /// The word at `at`, its low byte first.
+    pub fn word(&self, at: usize) -> u16
+        requires { at + 2 ≤ SIZE }
+        ensures { result ≡ word_at self.now at }
+    {
+        LittleEndian::read_u16(self.slice(at, 2))
+    }
+
+    /// Writes a word at `at`, its low byte first.
+    pub fn set_word(&mut self, at: usize, v: u16)
+        requires { at + 2 ≤ SIZE }
+        ensures bytes { self.new ≡ put self.old at (word_bytes v) }
+        ensures len { length self.new ≡ SIZE }
+    {
+        LittleEndian::write_u16(self.slice_mut(at, 2), v);
+    }
+
+    /// The `n` bytes from `at` on.
+    pub fn slice(&self, at: usize, n: usize) -> &[u8]
+        requires { at + n ≤ SIZE }
+        ensures value { result.now ≡ slice_range self.now at (at + n) }
+        ensures len { length result.now ≡ n }
+        ensures region_len { length self.now ≡ SIZE }
+        ensures region_bytes { (i : ℕ) → slice_index self.now i < 256 }
+    {
+        let all = self.raw.view();
+        are_bytes(all);
+        &all[at..at + n]
+    }
+
+    /// The `n` bytes from `at` on, to be written. The region ends as it was, with what is left in them in their place.
+    pub fn slice_mut(&mut self, at: usize, n: usize) -> &mut [u8]
+        requires { at + n ≤ SIZE }
+        ensures* writes_back { sem 𝓛 (lends_run self.entry at result) }
+        ensures value { result.now ≡ slice_range self.old at (at + n) }
+        ensures len { length result.now ≡ n }
+        ensures region_len { length self.old ≡ SIZE }
+    {
+        self.raw.slice_mut(at, n)
+    }
+
+    /// Moves `n` bytes from `from` to `to`, as if they were copied aside first.
+    pub fn slide(&mut self, from: usize, to: usize, n: usize)
+        requires source { from + n ≤ SIZE }
+        requires target { to + n ≤ SIZE }
+        ensures bytes { self.new ≡ put self.old to (slice_range self.old from (from + n)) }
+        ensures len { length self.new ≡ SIZE }
+    {
+        self.slice_mut(0, SIZE).copy_within(from..from + n, to);
+    }
+
+    /// Writes `bytes` over the region's from `at` on.
+    pub fn copy_in(&mut self, at: usize, bytes: &[u8])
+        requires { at + length bytes.now ≤ SIZE }
+        ensures bytes { self.new ≡ put self.old at bytes.now }
+        ensures len { length self.new ≡ SIZE }
+    {
+        self.slice_mut(at, bytes.len()).copy_from_slice(bytes);
+    }
+
+    /// Makes the `n` bytes from `at` on zero.
+    pub fn zero(&mut self, at: usize, n: usize)
+        requires { at + n ≤ SIZE }
+        ensures bytes { self.new ≡ put self.old at (replicate n 0) }
+        ensures len { length self.new ≡ SIZE }
+    {
+        self.slice_mut(at, n).fill(0);
+    }
+}
+
+// It does nothing: its callers learn what a slice's type says.
+fn are_bytes(bytes: &[u8])
+    ensures { (i : ℕ) → slice_index bytes.now i < 256 }
+{}
+
+impl Drop for Region {
+    fn drop(self) {
+        let Region { raw, alloc } = self;
+        raw.free(&alloc);
+    }
+}

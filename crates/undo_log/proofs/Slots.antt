@@ -1,0 +1,47 @@
+-- A block put back where it was.
+use Rattle.std.proofs.Common.{◌≡◌, ℕ, Bool, true, false, cond, Option, Some, None, List, length, ◌+◌, ◌≤◌, ◌==◌, nat_cmp, refl, sym, ap, ◌∙◌}
+use Rattle.std.proofs.lemmas.Bool.{eqb-true, le-ltb}
+use Rattle.std.specs.Ordering.{eq_by_cmp}
+use Rattle.std.specs.Cmp.{nat_cmp_total, unsigned_tied}
+use Rattle.std.specs.FinMap.{FinMap, get, insert, remove, same_map, nat_cmp-IsAntisymmetric, get-insert, get-remove}
+use Rattle.geos_model.specs.Document.{Block, Document, is_heap_body, chunks_of_body}
+use Rattle.geos_model.specs.Refusal.{first_refusal}
+use Rattle.geos_model.specs.Meaning.{conditions}
+use Rattle.geos_model.specs.declared.command.Edit.TheVariants.{Write}
+use Rattle.geos_model.specs.declared.handle.VmHandle.{VmHandle}
+use Rattle.geos_model.specs.declared.handle.ChunkHandle.{ChunkHandle}
+use Rattle.vm_blocks.specs.Saved.{with_slot}
+
+-- the blocks with this one under a handle, or none
+abbrev blocks_with : FinMap nat_cmp Block → ℕ → Option Block → FinMap nat_cmp Block
+blocks_with m h (Some b) = insert m h b
+blocks_with m h None = remove m h
+
+get-blocks_with : (m : FinMap nat_cmp Block) (h : ℕ) (o : Option Block) (q : ℕ) → get (blocks_with m h o) q ≡ cond (q == h) o (get m q)
+get-blocks_with m h (Some b) q = get-insert nat_cmp_total m h b q ∙ ap (λ (t : Bool). cond t (Some b) (get m q)) (unsigned_tied q h)
+get-blocks_with m h None q = get-remove nat_cmp_total m h q ∙ ap (λ (t : Bool). cond t None (get m q)) (unsigned_tied q h)
+
+at_key : (m : FinMap nat_cmp Block) (h : ℕ) (o was : Option Block) (q : ℕ) → get m h ≡ was → (t : Bool) → (q == h) ≡ t → cond t was (cond t o (get m q)) ≡ get m q
+at_key m h o was q e true same = sym e ∙ ap (get m) (sym (eqb-true q h same))
+at_key m h o was q e false other = refl
+
+blocks_back : (m : FinMap nat_cmp Block) (h : ℕ) (o was : Option Block) → get m h ≡ was → blocks_with (blocks_with m h o) h was ≡ m
+blocks_back m h o was e =
+    same_map nat_cmp_total nat_cmp-IsAntisymmetric _ _ (λ q.
+      get-blocks_with (blocks_with m h o) h was q ∙ ap (cond (q == h) was) (get-blocks_with m h o q) ∙ at_key m h o was q e (q == h) refl)
+
+with_slot-blocks : (d : Document) (h : ℕ) (o : Option Block) → with_slot d h o ≡ record { blocks = blocks_with d.blocks h o; map_block = d.map_block }
+with_slot-blocks d h (Some b) = refl
+with_slot-blocks d h None = refl
+
+-- what was under the handle, put there again, gives the document again
+pub slot_back : (d : Document) (h : ℕ) (o was : Option Block) → was ≡ get d.blocks h → with_slot (with_slot d h o) h was ≡ d
+slot_back d h o was e =
+    ap (λ (x : Document). with_slot x h was) (with_slot-blocks d h o)
+    ∙ with_slot-blocks (record { blocks = blocks_with d.blocks h o; map_block = d.map_block }) h was
+    ∙ ap (λ (m : FinMap nat_cmp Block). record { blocks = m; map_block = d.map_block }) (blocks_back d.blocks h o was (sym e))
+
+-- a write within its chunk is not refused
+pub write_accepted : (d : Document) (b : VmHandle) (c : ChunkHandle) (at : ℕ) (bytes old : List ℕ) (block : Block) → get d.blocks b.0 ≡ Some block → is_heap_body block.body ≡ true → get (chunks_of_body block.body) c.0 ≡ Some old
+    → at + length bytes ≤ length old → first_refusal (conditions (Write b c at bytes) d) ≡ None
+write_accepted d b c at bytes old block live heap chunk within = rw (live, heap, chunk, le-ltb (length old) (at + length bytes) within) refl

@@ -1,0 +1,20 @@
+use Rattle.std.proofs.Common.{◌≡◌, Option, refl, sym, ap, ◌∙◌}
+use Rattle.geos_model.specs.Document.{Block as DocumentBlock, Document}
+use Rattle.std.specs.Option.{option_map}
+use Rattle.vm_blocks.specs.Blocks.{block_of}
+use Rattle.vm_blocks.specs.Saved.{saved_block, with_slot}
+use Rattle.undo_log.specs.Records.{back}
+use Rattle.undo_log.proofs.Slots.{slot_back}
+use Rattle.undo_log.proofs.change.take_back.Goals as goal
+
+pub returns-clause-ok : goal.returns-clause-ok
+returns-clause-ok c =
+    let d = c.args.blocks.now in
+    let h = c.args.step.now.handle.0 in
+    let new_is : c.put.new.self ≡ with_slot d h (option_map saved_block c.args.step.now.block) = c.put.ensures ∙ ap (with_slot d h) c.in_ok-before.ensures in
+    record {
+      new_is = new_is;
+      old_is = ap (λ (x : Document). with_slot x h (option_map saved_block c.in_ok-now.now)) new_is ∙ slot_back d h (option_map saved_block c.args.step.now.block) (option_map saved_block c.in_ok-now.now) c.in_ok-now.ensures;
+      kind = refl;
+      cost = refl;
+    }

@@ -1,0 +1,148 @@
+ghost use Rattle.std.specs.Prelude.{◌≡◌, ◌+◌, ◌≤◌, ℕ, Some, IfOk, OnErr, reverse, vec_len, vec_capacity};
+ghost use Rattle.geos_model.specs.Reply.{Accepted, BytesAre, reply_by, reply_of_done, info_is, blocks_are, chunks_are};
+ghost use Rattle.geos_model.specs.Machine.{Step, empty_machine};
+ghost use Rattle.geos_model.specs.declared.command.Command.TheVariants as commands;
+ghost use Rattle.undo_log.specs.Turning.{Turns};
+
+use crate::change::{make, take_back};
+use crate::record::Record;
+use geos_model::{ChunkHandle, Done, Edit, Fault, Info, VmHandle};
+use std::alloc::{AllocError, Global};
+use std::marker::Model;
+use vm_blocks::Blocks;
+
+/// A document that is edited, with what undo needs. Contracts see it as the machine of documents: each call is one step
+/// of it, refused or not.
+#[derive(Drop)]
+pub struct Session {
+    alloc: Global,
+    blocks: Blocks,
+    /// What takes the newest edit back is the last. There is room for all records of both lists.
+    undo: Vec<Record>,
+    /// What makes the next edit again is the last. There is room for all records of both lists.
+    redo: Vec<Record>,
+}
+
+impl Model for Session {
+    ghost use Rattle.geos_model.specs.Machine.{Machine};
+    ghost use Rattle.geos_model.specs.Codes.{machine_code};
+
+    ghost Value = { Machine };
+
+    ghost coded = { machine_code };
+
+    ghost use Rattle.std.specs.Prelude.{◌+◌, ◌≤◌, reverse, vec_len, vec_capacity};
+    ghost use Rattle.undo_log.specs.Records.{steps};
+
+    ghost view = { λ s. record {
+        document = s.blocks;
+        past = steps (reverse s.undo.items) s.blocks;
+        future = steps (reverse s.redo.items) s.blocks
+    } };
+
+    ghost invariant = { λ s. (vec_len s.undo + vec_len s.redo ≤ vec_capacity s.undo) × (vec_len s.undo + vec_len s.redo ≤ vec_capacity s.redo) };
+}
+
+// Takes the newest record of one list back, and puts the one that takes this back on the other; false where there is none.
+fn turn(
+    alloc: Global,
+    blocks: &mut Blocks,
+    from: &mut Vec<Record>,
+    to: &mut Vec<Record>,
+) -> Result<bool, AllocError>
+    requires from_room { vec_len from.old ≤ vec_capacity from.old }
+    requires to_room { vec_len from.old + vec_len to.old ≤ vec_capacity to.old }
+    ensures ok { IfOk result (λ turned. Turns turned blocks.old blocks.new (reverse from.old.items) (reverse to.old.items) (reverse from.new.items) (reverse to.new.items)) }
+    ensures err { OnErr result ((blocks.new ≡ blocks.old) × (from.new.items ≡ from.old.items) × (to.new.items ≡ to.old.items)) }
+    ensures count { vec_len from.new + vec_len to.new ≡ vec_len from.old + vec_len to.old }
+    ensures from_capacity { vec_capacity from.new ≡ vec_capacity from.old }
+    ensures to_capacity { vec_capacity to.new ≡ vec_capacity to.old }
+{
+    match from.pop() {
+        None => Ok(false),
+        Some(record) => match take_back(alloc, blocks, &record) {
+            Ok(turned) => {
+                to.push_reserved(turned);
+                Ok(true)
+            }
+            Err(error) => {
+                from.push_reserved(record);
+                Err(error)
+            }
+        },
+    }
+}
+
+impl Session {
+    /// The empty document, with nothing to undo.
+    pub fn new(alloc: Global) -> Result<Session, AllocError>
+        ensures { IfOk result (λ s. s ≡ empty_machine) }
+    {
+        Ok(Session {
+            alloc,
+            blocks: Blocks::new(alloc)?,
+            undo: Vec::new(alloc),
+            redo: Vec::new(alloc),
+        })
+    }
+
+    /// Makes an edit, which can be undone from then on.
+    pub fn edit(&mut self, edit: &Edit) -> Result<Done, Fault>
+        ensures { Step self.old (Some (commands.Edit edit.now)) (reply_by reply_of_done result) self.new }
+    {
+        self.undo.reserve(self.redo.len() + 1)?;
+        self.redo.reserve(self.undo.len() + 1)?;
+        let (done, record) = make(self.alloc, &mut self.blocks, edit)?;
+        self.redo.clear();
+        self.undo.push_reserved(record);
+        Ok(done)
+    }
+
+    /// Goes back to the document before the newest edit.
+    pub fn undo(&mut self) -> Result<(), Fault>
+        ensures { Step self.old (Some commands.Undo) (reply_by (λ _. Accepted) result) self.new }
+    {
+        if turn(self.alloc, &mut self.blocks, &mut self.undo, &mut self.redo)? {
+            Ok(())
+        } else {
+            Err(Fault::NothingToUndo)
+        }
+    }
+
+    /// A block's user ID and size.
+    pub fn info(&self, block: VmHandle) -> Result<Info, Fault>
+        ensures { Step self.now (Some (commands.Info block)) (reply_by info_is result) self.now }
+    {
+        match self.blocks.block(block) {
+            Some(found) => Ok(Info::Heap(found.user_id, found.heap.need())),
+            None => Err(Fault::NoBlock),
+        }
+    }
+
+    /// The live blocks, rising.
+    pub fn list(&self) -> Result<Vec<VmHandle>, Fault>
+        ensures { Step self.now (Some commands.List) (reply_by (λ handles. blocks_are handles.items) result) self.now }
+    {
+        Ok(self.blocks.list()?)
+    }
+
+    /// The live chunks of a heap, rising.
+    pub fn chunks(&self, block: VmHandle) -> Result<Vec<ChunkHandle>, Fault>
+        ensures { Step self.now (Some (commands.Chunks block)) (reply_by (λ handles. chunks_are handles.items) result) self.now }
+    {
+        match self.blocks.block(block) {
+            Some(found) => Ok(found.heap.handles()?),
+            None => Err(Fault::NoBlock),
+        }
+    }
+
+    /// The bytes of a chunk.
+    pub fn read_chunk(&self, block: VmHandle, chunk: ChunkHandle) -> Result<&[u8], Fault>
+        ensures { Step self.now (Some (commands.Read block chunk)) (reply_by (λ bytes. BytesAre bytes.now) result) self.now }
+    {
+        match self.blocks.block(block) {
+            Some(found) => found.heap.chunk(chunk).ok_or(Fault::NoChunk),
+            None => Err(Fault::NoBlock),
+        }
+    }
+}

@@ -1,0 +1,267 @@
+-- Slots as tables, slot by slot.
+use Rattle.std.proofs.Common.{◌≡◌, ℕ, zero, suc, ◌+◌, ◌<◌, ◌≤◌, Bool, true, false, List, [], ◌∷◌, ◌++◌, map, length, get_or, set, take, replicate, Option, Some, None, is_some, refl, sym, ap, ◌∙◌, arith, ◌-◌, IsTrue, IsSome, unwrap_or, ◌*◌, cond, nat_lt, min, ◌==◌, subst}
+use Rattle.std.specs.Option.{option_map, option_map_or}
+use Rattle.std.proofs.lemmas.List.{take_more, length-take-le, append-nil, map-append, get_or_default}
+use Rattle.std.proofs.Math.ListN.{length-set}
+use Rattle.std.proofs.lemmas.Bool.{lt-ltb, le-ltb, eqb-true}
+use Rattle.std.specs.FinMap.{get, insert, remove, empty, keys}
+use Rattle.geos_model.specs.Table.{table_entries, table_map, first_gap}
+use Rattle.geos_model.specs.Document.{Block as DocumentBlock, Document, empty_document, is_heap, is_heap_body, chunks_of, chunks_of_body, user_id_of, with_block, next_handle}
+use Rattle.geos_model.specs.Heap.{ChunkMap}
+use Rattle.geos_model.specs.Meaning.{with_chunk}
+use Rattle.geos_model.specs.declared.command.Body.TheVariants.{Heap}
+use Rattle.vm_blocks.specs.Saved.{with_slot}
+use Rattle.geos_model.proofs.Tables.{slot_at, get-table_map_at, get-table_map_below, table_map-set, table_map-clear, keys-table_map, next_handle-table, first_gap_none}
+use Rattle.geos_model.specs.declared.handle.VmHandle.{VmHandle}
+use Rattle.vm_blocks.specs.declared.block.Block.{Block}
+use Rattle.vm_blocks.specs.Blocks.{block_of, table_of, document_of, AreSlots, start_after}
+
+pub length-table_of : (slots : List (Option Block)) → length (table_of slots) ≡ length slots
+length-table_of [] = refl
+length-table_of (o ∷ os) = ap suc (length-table_of os)
+
+pub slot_at-table_of : (slots : List (Option Block)) (i : ℕ) → slot_at (table_of slots) i ≡ option_map block_of (get_or slots i None)
+slot_at-table_of [] i = refl
+slot_at-table_of (o ∷ os) zero = refl
+slot_at-table_of (o ∷ os) (suc i) = slot_at-table_of os i
+
+pub table_of-set : (slots : List (Option Block)) (i : ℕ) (o : Option Block) → table_of (set slots i o) ≡ set (table_of slots) i (option_map block_of o)
+table_of-set [] i o = refl
+table_of-set (x ∷ xs) zero o = refl
+table_of-set (x ∷ xs) (suc i) o = ap (λ t. option_map block_of x ∷ t) (table_of-set xs i o)
+
+is_some-option_map : (o : Option Block) → is_some (option_map block_of o) ≡ is_some o
+is_some-option_map None = refl
+is_some-option_map (Some b) = refl
+
+-- a slot that is full leaves the first gap behind it
+pub first_gap_past : (slots : List (Option Block)) (i : ℕ) → i ≤ first_gap (table_of slots) → is_some (get_or slots i None) ≡ true → i + 1 ≤ first_gap (table_of slots)
+first_gap_past [] i l e = absurd (cc e)
+first_gap_past (None ∷ xs) zero l e = absurd (cc e)
+first_gap_past (None ∷ xs) (suc i) l e = absurd (omega arith)
+first_gap_past (Some x ∷ xs) zero l e = omega arith
+first_gap_past (Some x ∷ xs) (suc i) l e = let r = first_gap_past xs i (omega arith) e in omega (arith, r)
+
+-- a free slot that isn't past the first gap is the first gap
+pub first_gap_here : (slots : List (Option Block)) (i : ℕ) → i ≤ first_gap (table_of slots) → is_some (get_or slots i None) ≡ false → first_gap (table_of slots) ≡ i
+first_gap_here [] i l e = omega arith
+first_gap_here (None ∷ xs) zero l e = refl
+first_gap_here (None ∷ xs) (suc i) l e = absurd (omega arith)
+first_gap_here (Some x ∷ xs) zero l e = absurd (cc e)
+first_gap_here (Some x ∷ xs) (suc i) l e = ap suc (first_gap_here xs i (omega arith) e)
+
+pub first_gap-bound : (slots : List (Option Block)) → first_gap (table_of slots) ≤ length slots
+first_gap-bound [] = omega arith
+first_gap-bound (None ∷ xs) = omega arith
+first_gap-bound (Some x ∷ xs) = let r = first_gap-bound xs in omega (arith, r)
+
+one_on : (h n : ℕ) → h + 1 + n ≡ h + suc n
+one_on h n = omega arith
+
+-- the handles of the slots that are full, from the handle h on
+abbrev pub handles_from : ℕ → List (Option Block) → List ℕ
+handles_from h slots = map (λ e. e.0) (table_entries 1 h (table_of slots))
+
+pub handles_from-push : (h : ℕ) (slots : List (Option Block)) (o : Option Block) → handles_from h (slots ++ o ∷ []) ≡ handles_from h slots ++ cond (is_some o) ((h + length slots) ∷ []) []
+handles_from-push h [] None = refl
+handles_from-push h [] (Some b) = let e : h + 0 ≡ h = omega arith in ap (λ (k : ℕ). k ∷ []) (sym e)
+handles_from-push h (None ∷ xs) o = handles_from-push (h + 1) xs o ∙ ap (λ (k : ℕ). handles_from (h + 1) xs ++ cond (is_some o) (k ∷ []) []) (one_on h (length xs))
+handles_from-push h (Some b ∷ xs) o = ap (λ (t : List ℕ). h ∷ t) (handles_from-push (h + 1) xs o ∙ ap (λ (k : ℕ). handles_from (h + 1) xs ++ cond (is_some o) (k ∷ []) []) (one_on h (length xs)))
+
+-- one slot more
+pub handles_from-more : (slots : List (Option Block)) (i : ℕ) → i < length slots → (o : Option Block) → o ≡ get_or slots i None → handles_from 1 (take (i + 1) slots) ≡ handles_from 1 (take i slots) ++ cond (is_some o) ((1 + i) ∷ []) []
+handles_from-more slots i l o e =
+    ap (handles_from 1) (take_more slots i None l) ∙ handles_from-push 1 (take i slots) (get_or slots i None)
+    ∙ ap (λ (n : ℕ). handles_from 1 (take i slots) ++ cond (is_some (get_or slots i None)) ((1 + n) ∷ []) []) (length-take-le i slots (omega arith))
+    ∙ ap (λ (s : Option Block). handles_from 1 (take i slots) ++ cond (is_some s) ((1 + i) ∷ []) []) (sym e)
+
+-- the handles so far, with one slot more
+pub listed_full : (slots : List (Option Block)) (i : ℕ) → i < length slots → (o : Option Block) → o ≡ get_or slots i None → is_some o ≡ true → (old new : List VmHandle) → new ≡ old ++ record { 0 = i + 1 } ∷ []
+    → map (λ h. h.0) old ≡ handles_from 1 (take i slots) → map (λ h. h.0) new ≡ handles_from 1 (take (i + 1) slots)
+listed_full slots i l o e full old new pushed before =
+    ap (map (λ (h : VmHandle). h.0)) pushed ∙ map-append (λ (h : VmHandle). h.0) old (record { 0 = i + 1 } ∷ [])
+    ∙ ap (λ (hs : List ℕ). hs ++ ((i + 1) ∷ [])) before
+    ∙ ap (λ (n : ℕ). handles_from 1 (take i slots) ++ (n ∷ [])) (let c : i + 1 ≡ 1 + i = omega arith in c)
+    ∙ ap (λ (b : Bool). handles_from 1 (take i slots) ++ cond b ((1 + i) ∷ []) []) (sym full)
+    ∙ sym (handles_from-more slots i l o e)
+
+pub listed_free : (slots : List (Option Block)) (i : ℕ) → i < length slots → (o : Option Block) → o ≡ get_or slots i None → is_some o ≡ false → (old : List VmHandle)
+    → map (λ h. h.0) old ≡ handles_from 1 (take i slots) → map (λ h. h.0) old ≡ handles_from 1 (take (i + 1) slots)
+listed_free slots i l o e free old before =
+    before ∙ sym (append-nil (handles_from 1 (take i slots)))
+    ∙ ap (λ (b : Bool). handles_from 1 (take i slots) ++ cond b ((1 + i) ∷ []) []) (sym free)
+    ∙ sym (handles_from-more slots i l o e)
+
+pub table_of-nones : (n : ℕ) → table_of (replicate n None) ≡ replicate n None
+table_of-nones zero = refl
+table_of-nones (suc n) = ap (λ t. None ∷ t) (table_of-nones n)
+
+-- What is under a handle of the document is in the slot before.
+module _ (slots : List (Option Block)) where
+  pub get-document_none : get (document_of slots).blocks 0 ≡ None
+  get-document_none = get-table_map_below (let up : 0 < 1 = omega arith in up) 1 (table_of slots) 0 (omega arith)
+
+  pub get-document : (h : ℕ) → 1 ≤ h → get (document_of slots).blocks h ≡ option_map block_of (get_or slots (h - 1) None)
+  get-document h l = get-table_map_at (let up : 0 < 1 = omega arith in up) 1 (table_of slots) (h - 1) h (omega arith) ∙ slot_at-table_of slots (h - 1)
+
+  pub put-document : (h : ℕ) (o : Option Block) → 1 ≤ h → h - 1 < length slots → document_of (set slots (h - 1) o) ≡ with_slot (document_of slots) h (option_map block_of o)
+  put-document h None l lt = ap (λ (t : List (Option DocumentBlock)). record { blocks = table_map 1 1 t; map_block = 0 }) (table_of-set slots (h - 1) None)
+      ∙ ap (λ b. record { blocks = b; map_block = 0 }) (table_map-clear (let up : 0 < 1 = omega arith in up) 1 (table_of slots) (h - 1) (omega (arith, length-table_of slots)) ∙ ap (remove (table_map 1 1 (table_of slots))) (let e : 1 + 1 * (h - 1) ≡ h = omega arith in e))
+  put-document h (Some b) l lt = ap (λ (t : List (Option DocumentBlock)). record { blocks = table_map 1 1 t; map_block = 0 }) (table_of-set slots (h - 1) (Some b))
+      ∙ ap (λ m. record { blocks = m; map_block = 0 }) (table_map-set (let up : 0 < 1 = omega arith in up) 1 (table_of slots) (h - 1) (block_of b) (omega (arith, length-table_of slots)) ∙ ap (λ (k : ℕ). insert (table_map 1 1 (table_of slots)) k (block_of b)) (let e : 1 + 1 * (h - 1) ≡ h = omega arith in e))
+
+  -- the block under a handle, in its slot
+  pub record Holds (h : ℕ) (b : Block) : Type 0 where
+    pub from_one : 1 ≤ h
+    pub within : h - 1 < length slots
+    pub slot : get_or slots (h - 1) None ≡ Some b
+
+slot_within : (slots : List (Option Block)) (i : ℕ) (b : Block) → get_or slots i None ≡ Some b → i < length slots
+slot_within [] i b e = absurd (cc e)
+slot_within (x ∷ xs) zero b e = omega arith
+slot_within (x ∷ xs) (suc i) b e = let r = slot_within xs i b e in omega (arith, r)
+
+slot_some_within : (slots : List (Option Block)) (i : ℕ) → is_some (get_or slots i None) ≡ true → i < length slots
+slot_some_within [] i e = absurd (cc e)
+slot_some_within (x ∷ xs) zero e = omega arith
+slot_some_within (x ∷ xs) (suc i) e = let r = slot_some_within xs i e in omega (arith, r)
+
+holds_by : (slots : List (Option Block)) (h : ℕ) → 1 ≤ h → (o : Option Block) → get_or slots (h - 1) None ≡ o → option_map_or (λ (b : DocumentBlock). is_heap_body b.body) (option_map block_of o) false ≡ true → (b : Block) × Holds slots h b
+holds_by slots h l None e t = absurd (cc t)
+holds_by slots h l (Some b) e t = (b, record { from_one = l; within = slot_within slots (h - 1) b e; slot = e })
+
+-- where the document has a heap, there is a block
+pub holds : (slots : List (Option Block)) (h : ℕ) → is_heap (document_of slots) h ≡ true → (b : Block) × Holds slots h b
+holds slots zero t = absurd (cc (sym (ap (λ o. option_map_or (λ (b : DocumentBlock). is_heap_body b.body) o false) (get-document_none slots)) ∙ t))
+holds slots (suc n) t =
+    let here : 1 ≤ suc n = omega arith in
+    holds_by slots (suc n) here (get_or slots (suc n - 1) None) refl (sym (ap (λ o. option_map_or (λ (b : DocumentBlock). is_heap_body b.body) o false) (get-document slots (suc n) here)) ∙ t)
+
+module _ (slots : List (Option Block)) (h : ℕ) (b : Block) (there : Holds slots h b) where
+  pub get-holds : get (document_of slots).blocks h ≡ Some (block_of b)
+  get-holds = get-document slots h there.from_one ∙ ap (option_map block_of) there.slot
+
+  pub chunks-holds : chunks_of (document_of slots) h ≡ b.heap
+  chunks-holds = ap (λ o. option_map_or (λ (x : DocumentBlock). chunks_of_body x.body) o empty) get-holds
+
+  pub user_id-holds : user_id_of (document_of slots) h ≡ b.user_id
+  user_id-holds = ap (λ o. option_map_or (λ (x : DocumentBlock). x.user_id) o 0) get-holds
+
+  -- a chunk put into the block's heap
+  pub with_chunk-holds : (c : ℕ) (bytes : List ℕ) → document_of (set slots (h - 1) (Some (record { user_id = b.user_id; heap = insert b.heap c bytes }))) ≡ with_chunk (document_of slots) h c bytes
+  with_chunk-holds c bytes =
+      put-document slots h (Some (record { user_id = b.user_id; heap = insert b.heap c bytes })) there.from_one there.within
+      ∙ ap (λ (p : ℕ × ChunkMap). with_block (document_of slots) h (record { user_id = p.0; body = Heap (insert p.1 c bytes) })) (λ i. (sym user_id-holds i, sym chunks-holds i))
+
+-- a block that is put somewhere leaves no new gap
+pub first_gap-full : (slots : List (Option Block)) (i gap : ℕ) (b : Block) → gap ≤ first_gap (table_of slots) → gap ≤ first_gap (table_of (set slots i (Some b)))
+first_gap-full [] i gap b l = l
+first_gap-full (x ∷ xs) i zero b l = omega arith
+first_gap-full (None ∷ xs) i (suc gap) b l = absurd (omega arith)
+first_gap-full (Some x ∷ xs) zero (suc gap) b l = l
+first_gap-full (Some x ∷ xs) (suc i) (suc gap) b l = let r = first_gap-full xs i gap b (omega arith) in omega (arith, r)
+
+-- at the gap it moves it on
+pub first_gap-filled : (slots : List (Option Block)) (gap : ℕ) (b : Block) → gap < length slots → gap ≤ first_gap (table_of slots) → gap + 1 ≤ first_gap (table_of (set slots gap (Some b)))
+first_gap-filled [] gap b n l = absurd (omega arith)
+first_gap-filled (x ∷ xs) zero b n l = omega arith
+first_gap-filled (None ∷ xs) (suc gap) b n l = absurd (omega arith)
+first_gap-filled (Some x ∷ xs) (suc gap) b n l = let r = first_gap-filled xs gap b (omega arith) (omega arith) in omega (arith, r)
+
+-- a block that goes leaves a gap at its place, and none before it
+pub first_gap-freed : (slots : List (Option Block)) (i gap : ℕ) → gap ≤ first_gap (table_of slots) → gap ≤ i → gap ≤ first_gap (table_of (set slots i None))
+first_gap-freed [] i gap l le = l
+first_gap-freed (x ∷ xs) i zero l le = omega arith
+first_gap-freed (None ∷ xs) i (suc gap) l le = absurd (omega arith)
+first_gap-freed (Some x ∷ xs) zero (suc gap) l le = absurd (omega arith)
+first_gap-freed (Some x ∷ xs) (suc i) (suc gap) l le = let r = first_gap-freed xs i gap (omega arith) (omega arith) in omega (arith, r)
+
+-- what stays of the slots when a block is put into one
+pub are_slots_full : (slots : List (Option Block)) (i gap : ℕ) (b : Block) → AreSlots slots gap → AreSlots (set slots i (Some b)) gap
+are_slots_full slots i gap b are = record { size = length-set slots i (Some b) ∙ are.size; full_below = first_gap-full slots i gap b are.full_below }
+
+-- The slot of a heap of the document that the slots show, as code reads it at the place p - 1.
+module _ (slots : List (Option Block)) (d : Document) (shown : document_of slots ≡ d) (h p : ℕ) (place : p ≡ h) (heap : is_heap d h ≡ true) where
+  there : (b : Block) × Holds slots h b
+  there = holds slots h (ap (λ (x : Document). is_heap x h) shown ∙ heap)
+
+  pub heap_from_one : 1 ≤ p
+  heap_from_one = let l = there.1.from_one in omega (arith, l)
+
+  pub heap_within : p - 1 < length slots
+  heap_within = let l = there.1.within in omega (arith, l)
+
+  read_is : (r : Option Block) → r ≡ get_or slots (p - 1) r → r ≡ Some there.0
+  read_is r read = read ∙ get_or_default slots (p - 1) r None heap_within ∙ ap (λ (q : ℕ). get_or slots (q - 1) None) place ∙ there.1.slot
+
+  pub heap_not_none : (r : Option Block) → r ≡ get_or slots (p - 1) r → r ≡ None → ⊥
+  heap_not_none r read none = cc (read_is r read)
+
+  pub heap_holds : (r : Option Block) (b : Block) → r ≡ get_or slots (p - 1) r → r ≡ Some b → Holds slots h b
+  heap_holds r b read is = record { from_one = there.1.from_one; within = there.1.within; slot = there.1.slot ∙ sym (read_is r read) ∙ is }
+
+  module _ (r : Option Block) (b : Block) (read : r ≡ get_or slots (p - 1) r) (is : r ≡ Some b) where
+    pub heap_chunks : chunks_of d h ≡ b.heap
+    heap_chunks = ap (λ (x : Document). chunks_of x h) (sym shown) ∙ chunks-holds slots h b (heap_holds r b read is)
+
+    pub heap_with_chunk : (new : ChunkMap) (c : ℕ) (bytes : List ℕ) → new ≡ insert b.heap c bytes
+        → document_of (set slots (p - 1) (Some (record { user_id = b.user_id; heap = new }))) ≡ with_chunk d h c bytes
+    heap_with_chunk new c bytes e =
+        ap (λ (m : ChunkMap). document_of (set slots (p - 1) (Some (record { user_id = b.user_id; heap = m })))) e
+        ∙ ap (λ (q : ℕ). document_of (set slots (q - 1) (Some (record { user_id = b.user_id; heap = insert b.heap c bytes })))) place
+        ∙ with_chunk-holds slots h b (heap_holds r b read is) c bytes
+        ∙ ap (λ (x : Document). with_chunk x h c bytes) shown
+
+-- the handles of the document
+pub keys-document : (slots : List (Option Block)) → keys (document_of slots).blocks ≡ handles_from 1 slots
+keys-document slots = keys-table_map (let up : 0 < 1 = omega arith in up) 1 (table_of slots)
+
+-- its least free handle, by the first gap
+pub next_handle-some : (slots : List (Option Block)) (gap : ℕ) → gap ≡ first_gap (table_of slots) → gap < 2048 → next_handle (document_of slots) ≡ Some (gap + 1)
+next_handle-some slots gap e l =
+    next_handle-table (table_of slots) 0
+    ∙ ap (λ (n : ℕ). cond (nat_lt n 2048) (Some (1 + n)) None) (sym e)
+    ∙ ap (λ (b : Bool). cond b (Some (1 + gap)) None) (lt-ltb gap 2048 l)
+    ∙ ap (λ (n : ℕ). Some n) (let c : 1 + gap ≡ gap + 1 = omega arith in c)
+
+pub next_handle-none : (slots : List (Option Block)) (gap : ℕ) → gap ≡ first_gap (table_of slots) → 2048 ≤ gap → next_handle (document_of slots) ≡ None
+next_handle-none slots gap e l =
+    next_handle-table (table_of slots) 0
+    ∙ ap (λ (n : ℕ). cond (nat_lt n 2048) (Some (1 + n)) None) (sym e)
+    ∙ ap (λ (b : Bool). cond b (Some (1 + gap)) None) (le-ltb gap 2048 l)
+
+full_by : (slots : List (Option Block)) (place gap : ℕ) (b : Block) → gap ≤ first_gap (table_of slots) → place < length slots → (t : Bool) → (place == gap) ≡ t → cond t (gap + 1) gap ≤ first_gap (table_of (set slots place (Some b)))
+full_by slots place gap b l n true e = let same : place ≡ gap = eqb-true place gap e in subst (λ (p : ℕ). gap + 1 ≤ first_gap (table_of (set slots p (Some b)))) (sym same) (first_gap-filled slots gap b (omega arith) l)
+full_by slots place gap b l n false e = first_gap-full slots place gap b l
+
+-- what stays of the slots when one is filled or freed
+pub are_slots_put : (slots : List (Option Block)) (place gap : ℕ) (o : Option Block) → place < length slots → AreSlots slots gap → AreSlots (set slots place o) (start_after gap place (is_some o))
+are_slots_put slots place gap None n are = record { size = length-set slots place None ∙ are.size; full_below = first_gap-freed slots place (min gap place) (let l = are.full_below in omega (arith, l)) (omega arith) }
+are_slots_put slots place gap (Some b) n are = record { size = length-set slots place (Some b) ∙ are.size; full_below = full_by slots place gap b are.full_below n (place == gap) refl }
+
+pub gap_le : (slots : List (Option Block)) (gap : ℕ) → AreSlots slots gap → gap ≤ 2048
+gap_le slots gap are = let f = are.full_below in let b = first_gap-bound slots in let n = are.size in omega (arith, f, b, n)
+
+-- the block under a handle, as code reads the slot at p - 1
+pub block-read : (slots : List (Option Block)) (d : Document) → document_of slots ≡ d → (h p : ℕ) → p ≡ h → 1 ≤ h → (o : Option Block) → o ≡ get_or slots (p - 1) None → option_map block_of o ≡ get d.blocks h
+block-read slots d shown h p place one o read =
+    ap (option_map block_of) (read ∙ ap (λ (q : ℕ). get_or slots (q - 1) None) place) ∙ sym (get-document slots h one) ∙ ap (λ (x : Document). get x.blocks h) shown
+
+pub block-none : (slots : List (Option Block)) (d : Document) → document_of slots ≡ d → (h : ℕ) → h ≡ 0 → None ≡ get d.blocks h
+block-none slots d shown h zero_is = sym (get-document_none slots) ∙ ap (λ (x : Document). get x.blocks 0) shown ∙ ap (λ (q : ℕ). get d.blocks q) (sym zero_is)
+
+-- a block is put in its slot, or nothing
+pub put-read : (slots : List (Option Block)) (d : Document) → document_of slots ≡ d → (h p : ℕ) → p ≡ h → 1 ≤ h → h ≤ length slots → (o : Option Block) → document_of (set slots (p - 1) o) ≡ with_slot d h (option_map block_of o)
+put-read slots d shown h p place one within o =
+    ap (λ (q : ℕ). document_of (set slots (q - 1) o)) place ∙ put-document slots h o one (omega arith) ∙ ap (λ (x : Document). with_slot x h (option_map block_of o)) shown
+
+-- a block that code reads is under a handle
+pub block-within : (slots : List (Option Block)) (gap h p : ℕ) → AreSlots slots gap → p ≡ h → (o : Option Block) → o ≡ get_or slots (p - 1) None → is_some o ≡ true → h ≤ 2048
+block-within slots gap h p are place o read some = let n = are.size in let l = slot_some_within slots (p - 1) (ap is_some (sym read) ∙ some) in omega (arith, n, l)
+
+-- the handle of the first gap isn't live
+pub gap-free : (slots : List (Option Block)) (d : Document) → document_of slots ≡ d → (gap : ℕ) → gap ≡ first_gap (table_of slots) → get d.blocks (gap + 1) ≡ None
+gap-free slots d shown gap e =
+    ap (λ (x : Document). get x.blocks (gap + 1)) (sym shown)
+    ∙ get-table_map_at (let up : 0 < 1 = omega arith in up) 1 (table_of slots) gap (gap + 1) (omega arith)
+    ∙ ap (slot_at (table_of slots)) e ∙ first_gap_none (table_of slots)

@@ -1,0 +1,10 @@
+use Rattle.std.proofs.Common.{◌≡◌, ℕ, List, Option, None, replicate, ap, ◌∙◌}
+use Rattle.geos_model.specs.Document.{Block as DocumentBlock, Document}
+use Rattle.geos_model.specs.Table.{table_map}
+use Rattle.geos_model.proofs.Tables.{table_map-nones}
+use Rattle.vm_blocks.proofs.blocks.Blocks.new.Goals as goal
+
+pub returns : goal.returns
+returns c =
+    let none = ap (table_map 1 1) c.in_ok-empty_slots.ensures.1 ∙ table_map-nones {X = DocumentBlock} 1 1 2048 in
+    ap (λ m. record { blocks = m; map_block = 0 }) none

@@ -1,0 +1,12 @@
+use Rattle.std.proofs.Common.{◌≡◌, ap, sym, ◌∙◌}
+use Rattle.geos_model.specs.Heap.{ChunkMap, is_heap_map}
+use Rattle.geos_model.specs.Image.{image, body_read}
+use Rattle.geos_model.specs.Document.{chunks_of_body}
+use Rattle.vm_blocks.proofs.SavedLemmas.{chunks_saved-image, IsSaved-image}
+use Rattle.vm_blocks.proofs.saved.SavedHeap.of.Goals as goal
+
+pub invariant_of-result : goal.invariant_of-result
+invariant_of-result c = IsSaved-image c.args.heap.now c.from_vec-image.result c.in_ok-image.ensures.valid (c.from_vec-image.ensures ∙ c.in_ok-image.ensures.bytes)
+
+pub returns : goal.returns
+returns c = chunks_saved-image c.args.heap.now c.from_vec-image.result c.in_ok-image.ensures.valid (c.from_vec-image.ensures ∙ c.in_ok-image.ensures.bytes)

@@ -1,0 +1,184 @@
+ghost use Rattle.std.specs.Prelude.{◌≡◌, ◌+◌, ◌≤◌, ℕ, Some, None, true, IsTrue, IfOk, IfSome, IsSome, length, map, replicate, unwrap_or};
+ghost use Rattle.std.specs.List.{splice};
+ghost use Rattle.std.specs.Option.{option_map, option_copied};
+ghost use Rattle.std.specs.FinMap.{get, keys, contains_key};
+ghost use Rattle.geos_model.specs.Heap.{next_chunk, fits_new, chunk_bytes};
+ghost use Rattle.geos_model.specs.Document.{empty_document, next_handle, is_heap, chunks_of};
+ghost use Rattle.geos_model.specs.Meaning.{with_chunk, chunk_at};
+ghost use Rattle.geos_model.specs.Table.{table_entries, first_gap};
+ghost use Rattle.vm_blocks.specs.Blocks.{block_of, table_of, start_after};
+ghost use Rattle.vm_blocks.specs.Saved.{with_slot};
+
+use crate::Block;
+use geos_model::{ChunkHandle, VmHandle};
+use std::alloc::{AllocError, Global};
+use std::marker::Model;
+
+/// How many blocks a document can have: their handles are 1 to this.
+const MOST_BLOCKS: usize = 2_048;
+
+/// The live blocks of a document. Contracts see it as the document.
+#[derive(Drop)]
+pub struct Blocks {
+    alloc: Global,
+    /// The block under the handle h is at h - 1, if it is live.
+    slots: Vec<Option<Block>>,
+    /// Every handle below the one of this place is live, so that a search for a free one starts here.
+    first_gap: usize,
+}
+
+impl Model for Blocks {
+    ghost use Rattle.geos_model.specs.Document.{Document};
+    ghost use Rattle.geos_model.specs.Codes.{document_code};
+
+    ghost Value = { Document };
+
+    ghost coded = { document_code };
+
+    ghost use Rattle.vm_blocks.specs.Blocks.{document_of, AreSlots};
+
+    ghost view = { λ b. document_of b.slots.items };
+
+    ghost invariant = { λ b. AreSlots b.slots.items b.first_gap };
+}
+
+// No block under any handle.
+fn empty_slots(alloc: Global) -> Result<Vec<Option<Block>>, AllocError>
+    ensures { IfOk result (λ slots. (length slots.items ≡ 2048) × (table_of slots.items ≡ replicate 2048 None)) }
+{
+    let mut slots = Vec::with_capacity(alloc, MOST_BLOCKS)?;
+    for _i in 0..MOST_BLOCKS {
+        slots.push(None)?;
+    }
+    Ok(slots)
+}
+
+// The place of the first gap, from a place that isn't past it on.
+fn gap_from(slots: &[Option<Block>], start: usize) -> usize
+    requires { start ≤ first_gap (table_of slots.now) }
+    ensures { result ≡ first_gap (table_of slots.now) }
+{
+    for i in start..slots.len() {
+        if slots[i].is_none() {
+            return i;
+        }
+    }
+    slots.len()
+}
+
+// Where a search for a gap starts after a place was filled or freed.
+fn start_after(start: usize, place: usize, is_full: bool) -> usize
+    requires { start ≤ 2048 }
+    ensures { result ≡ start_after start place is_full }
+{
+    if !is_full {
+        start.min(place)
+    } else if place == start {
+        start + 1
+    } else {
+        start
+    }
+}
+
+// The handles of the blocks that are there.
+fn live_handles(alloc: Global, slots: &[Option<Block>]) -> Result<Vec<VmHandle>, AllocError>
+    requires { length slots.now ≤ 2048 }
+    ensures { IfOk result (λ handles. map (λ h. h.0) handles.items ≡ map (λ e. e.0) (table_entries 1 1 (table_of slots.now))) }
+{
+    let mut handles = Vec::new(alloc);
+    for (i, slot) in slots.iter().enumerate() {
+        if slot.is_some() {
+            handles.push(VmHandle(i as u16 + 1))?;
+        }
+    }
+    Ok(handles)
+}
+
+impl Blocks {
+    /// The empty document.
+    pub fn new(alloc: Global) -> Result<Blocks, AllocError>
+        ensures { IfOk result (λ blocks. blocks ≡ empty_document) }
+    {
+        Ok(Blocks {
+            alloc,
+            slots: empty_slots(alloc)?,
+            first_gap: 0,
+        })
+    }
+
+    /// The block under a handle.
+    pub fn block(&self, handle: VmHandle) -> Option<&Block>
+        ensures value { option_map block_of (option_copied result) ≡ get self.now.blocks handle.0 }
+        ensures within { IsSome result → (1 ≤ handle.0) × (handle.0 ≤ 2048) }
+    {
+        let slots = &self.slots;
+        if handle.0 == 0 {
+            return None;
+        }
+        match slots.get(usize::from(handle.0) - 1) {
+            Some(slot) => slot.as_ref(),
+            None => None,
+        }
+    }
+
+    /// The live handles, rising.
+    pub fn list(&self) -> Result<Vec<VmHandle>, AllocError>
+        ensures { IfOk result (λ handles. map (λ h. h.0) handles.items ≡ keys self.now.blocks) }
+    {
+        live_handles(self.alloc, &self.slots)
+    }
+
+    /// The least handle that isn't live.
+    pub fn next_handle(&self) -> Option<VmHandle>
+        ensures value { option_map (λ h. h.0) result ≡ next_handle self.now }
+        ensures within { IfSome result (λ h. (1 ≤ h.0) × (h.0 ≤ 2048)) }
+        ensures free { IfSome result (λ h. get self.now.blocks h.0 ≡ None) }
+    {
+        let gap = gap_from(&self.slots, self.first_gap);
+        if gap < MOST_BLOCKS {
+            Some(VmHandle(gap as u16 + 1))
+        } else {
+            None
+        }
+    }
+
+    /// Puts a block under a handle in place of what is there, or nothing.
+    pub fn put(&mut self, handle: VmHandle, block: Option<Block>)
+        requires { (1 ≤ handle.0) × (handle.0 ≤ 2048) }
+        ensures { self.new ≡ with_slot self.old handle.0 (option_map block_of block) }
+    {
+        let place = usize::from(handle.0) - 1;
+        self.first_gap = start_after(self.first_gap, place, block.is_some());
+        self.slots[place] = block;
+    }
+
+    /// A new chunk of `n` zeros in a heap.
+    pub fn alloc_chunk(&mut self, handle: VmHandle, n: u32) -> ChunkHandle
+        requires heap { IsTrue (is_heap self.old handle.0) }
+        requires fits { IsTrue (fits_new (chunks_of self.old handle.0) (replicate n 0)) }
+        ensures chunk { next_chunk (chunks_of self.old handle.0) ≡ Some result.0 }
+        ensures document { self.new ≡ with_chunk self.old handle.0 result.0 (replicate n 0) }
+    {
+        let slots = &mut self.slots;
+        let place = usize::from(handle.0) - 1;
+        match &mut slots[place] {
+            Some(block) => block.heap.alloc(n),
+            None => unreachable!(),
+        }
+    }
+
+    /// Writes over the bytes of a chunk from `at` on.
+    pub fn write_chunk(&mut self, handle: VmHandle, chunk: ChunkHandle, at: usize, bytes: &[u8])
+        requires heap { IsTrue (is_heap self.old handle.0) }
+        requires live { IsTrue (contains_key (chunks_of self.old handle.0) chunk.0) }
+        requires range { at + length bytes.now ≤ length (chunk_at self.old handle.0 chunk.0) }
+        ensures { self.new ≡ with_chunk self.old handle.0 chunk.0 (splice (chunk_at self.old handle.0 chunk.0) at (at + length bytes.now) bytes.now) }
+    {
+        let slots = &mut self.slots;
+        let place = usize::from(handle.0) - 1;
+        match &mut slots[place] {
+            Some(block) => block.heap.write(chunk, at, bytes),
+            None => unreachable!(),
+        }
+    }
+}

@@ -1,0 +1,108 @@
+// Each public call once, with ample memory.
+use geos_model::{Bytes, ChunkHandle, Command, Done, Edit, Fault, Info, VmHandle, image_law, word_law};
+use geos_shell::parse;
+use lmem_heap::Heap;
+use std::test::Fail;
+use undo_log::Session;
+use vm_blocks::{Block, Blocks, SavedBlock, SavedHeap};
+
+const BLOCK: VmHandle = VmHandle(1);
+const CHUNK: ChunkHandle = ChunkHandle(16);
+
+#[test]
+fn a_fault_has_a_number_and_a_name(rt: HostRuntime) {
+    assert_eq!(rt; Fault::Memory.number(), 1);
+    assert_eq!(rt; Fault::Worn.number(), 27);
+    assert_eq!(rt; Fault::NothingToUndo.name(), "NothingToUndo");
+    word_law();
+    image_law();
+}
+
+#[test]
+fn a_heap_gives_chunks_of_zeros_that_are_written(rt: HostRuntime) -> Result<(), Fail> {
+    let mut heap = Heap::new(rt.alloc())?;
+    assert_eq!(rt; heap.need(), 16);
+    assert_eq!(rt; heap.next_handle(), Some(CHUNK));
+    assert!(rt; heap.fits_alloc(3));
+    assert!(rt; !heap.fits_alloc(65_499));
+    assert_eq!(rt; heap.alloc(3), CHUNK);
+    assert_eq!(rt; heap.chunk(CHUNK), Some([0, 0, 0].as_slice()));
+    assert_eq!(rt; heap.chunk(ChunkHandle(18)), None);
+    assert_eq!(rt; heap.handles()?.as_slice(), [CHUNK].as_slice());
+    assert_eq!(rt; heap.need(), 28);
+    Ok(())
+}
+
+#[test]
+fn images_are_written_and_read(rt: HostRuntime) -> Result<(), Fail> {
+    let images: [&[u8]; 3] = [
+        &[1, 1, 0, 2, 0, 0xaa, 0xbb],
+        &[1, 2, 0, 0xff, 0xff, 1, 0, 0xcc],
+        &[1, 0, 0],
+    ];
+    for image in images {
+        match Heap::from_image(rt.alloc(), image) {
+            Ok(heap) => assert_eq!(rt; heap.image()?.as_slice(), image),
+            Err(fault) => assert!(rt; false, "{fault:?}"),
+        }
+    }
+    let damaged: [&[u8]; 6] = [
+        &[],
+        &[0, 0, 0],
+        &[1, 1, 0, 0xff, 0xff],
+        &[1, 1, 0, 2, 0, 0xaa],
+        &[1, 0, 0, 0],
+        &[1, 1, 0],
+    ];
+    for image in damaged {
+        assert!(rt; matches!(Heap::from_image(rt.alloc(), image), Err(Fault::Damaged)));
+    }
+    Ok(())
+}
+
+#[test]
+fn blocks_are_put_changed_and_saved(rt: HostRuntime) -> Result<(), Fail> {
+    let mut blocks = Blocks::new(rt.alloc())?;
+    assert_eq!(rt; blocks.next_handle(), Some(BLOCK));
+    let heap = Heap::new(rt.alloc())?;
+    blocks.put(BLOCK, Some(Block { user_id: 7, heap }));
+    assert_eq!(rt; blocks.list()?.as_slice(), [BLOCK].as_slice());
+    assert_eq!(rt; blocks.next_handle(), Some(VmHandle(2)));
+    assert!(rt; blocks.block(VmHandle(2)).is_none());
+    match blocks.block(BLOCK) {
+        Some(block) => {
+            let saved = SavedBlock::of(block)?;
+            assert_eq!(rt; saved.restore(rt.alloc())?.user_id, 7);
+            let heap = SavedHeap::of(&block.heap)?;
+            assert_eq!(rt; heap.restore(rt.alloc())?.need(), 16);
+        }
+        None => assert!(rt; false),
+    }
+    Ok(())
+}
+
+#[test]
+fn a_session_edits_answers_and_undoes(rt: HostRuntime) -> Result<(), Fail> {
+    let mut session = Session::new(rt.alloc())?;
+    let text = Bytes::from_vec([0x61, 0x62].to_vec(rt.alloc())?);
+    assert_eq!(rt; text.as_slice(), [0x61, 0x62].as_slice());
+    assert_eq!(rt; session.edit(&Edit::NewHeap(7)), Ok(Done::Block(BLOCK)));
+    assert_eq!(rt; session.edit(&Edit::Alloc(BLOCK, 2)), Ok(Done::Chunk(CHUNK)));
+    assert_eq!(rt; session.edit(&Edit::Write(BLOCK, CHUNK, 0, text)), Ok(Done::Nothing));
+    assert_eq!(rt; session.read_chunk(BLOCK, CHUNK), Ok([0x61, 0x62].as_slice()));
+    assert_eq!(rt; session.info(BLOCK), Ok(Info::Heap(7, 24)));
+    assert_eq!(rt; session.list().map_err(|fault| fault.name())?.as_slice(), [BLOCK].as_slice());
+    assert_eq!(rt; session.chunks(BLOCK).map_err(|fault| fault.name())?.as_slice(), [CHUNK].as_slice());
+    for _ in 0..3 {
+        assert_eq!(rt; session.undo(), Ok(()));
+    }
+    assert_eq!(rt; session.undo(), Err(Fault::NothingToUndo));
+    Ok(())
+}
+
+#[test]
+fn a_line_is_parsed(rt: HostRuntime) {
+    assert!(rt; matches!(parse(rt.alloc(), b"undo"), Ok(Command::Undo)));
+    assert!(rt; matches!(parse(rt.alloc(), b" # undo"), Ok(Command::Blank)));
+    assert!(rt; matches!(parse(rt.alloc(), b"undo 1"), Err(Fault::BadCommand)));
+}

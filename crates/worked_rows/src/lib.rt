@@ -1,0 +1,7 @@
+//! Tests that cross the crates: scripts with their replies, and each public call once with ample memory.
+#![tactic(auto)]
+
+#[cfg(test)]
+mod calls;
+#[cfg(test)]
+mod scripts;
