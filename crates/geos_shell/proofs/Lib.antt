@@ -1,7 +1,12 @@
+pub mod Calls
+pub mod Composed
 pub mod Counts
+pub mod Extending
+pub mod Lines
 pub mod Names
 pub mod Outcome
-pub mod Spelling
-pub mod Words
-pub mod Extending
 pub mod Replying
+pub mod Runs
+pub mod Spelling
+pub mod Steps
+pub mod Words

@@ -1,3 +1,5 @@
-pub mod Runs
+pub mod Given
+pub mod Progress
 pub mod Replies
+pub mod Runs
 pub mod Verbs

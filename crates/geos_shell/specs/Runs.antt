@@ -1,5 +1,5 @@
 -- What a run over a reader and a writer comes to, where their bytes are known.
-use Rattle.std.specs.Prelude.{ℕ, List, Option, ◌≡◌, IfSome}
+use Rattle.std.specs.Prelude.{ℕ, List, Option}
 use Rattle.std.specs.Io.KnownBytes.{Appends, Consumes}
 use Rattle.geos_model.specs.Machine.{Machine}
 use Rattle.geos_model.specs.Script.{lines, Answered, Stopped}

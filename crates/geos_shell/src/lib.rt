@@ -1,6 +1,7 @@
 //! Script bytes in, reply bytes out.
 #![tactic(auto)]
 
+mod answering;
 mod operands;
 mod parser;
 mod replies;

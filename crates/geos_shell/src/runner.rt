@@ -1,10 +1,20 @@
-ghost use Rattle.std.specs.Prelude.{◌≡◌, ◌⊎◌, IfSome, IfOk, IfErr, OnOk};
-ghost use Rattle.std.specs.Io.KnownBytes.{IsAtEnd};
+ghost use Rattle.std.specs.Prelude.{◌≡◌, ◌⊎◌, ℕ, [], IfSome, IfOk, IfErr, OnOk, OnErr, ◌<◌, ◌≤◌, length};
+ghost use Rattle.std.specs.Io.KnownBytes.{Appends, IsAtEnd, Keeps};
 ghost use Rattle.geos_shell.specs.Runs.{AnswersAll, AnswersSome};
+ghost use Rattle.geos_shell.specs.Given.{Gives};
+ghost use Rattle.geos_shell.specs.Progress.{AnswersPiece, StopsPiece, AnswersRest};
 
+use crate::answering::Answering;
 use std::alloc::Global;
-use std::io::{Read, Write};
+use std::fmt;
+use std::io::{ErrorKind, Read, Write};
 use undo_log::Session;
+
+/// How many bytes a read may give.
+const PIECE: usize = 4_096;
+
+/// How many reads a run makes at most, so that it ends with any reader.
+const READS: u32 = 1 << 24;
 
 /// Why a run ended before its script did.
 #[derive(Clone, Copy, Debug, PartialEq, Eq)]
@@ -15,6 +25,16 @@ pub enum RunFault {
     Write,
     /// A line, its parse or the text of a reply found no memory.
     Memory,
+}
+
+impl fmt::Display for RunFault {
+    fn fmt<W: fmt::Write>(&self, f: &mut fmt::Formatter<W>) -> fmt::Result {
+        match self {
+            RunFault::Read => write!(f, "read fault"),
+            RunFault::Write => write!(f, "write fault"),
+            RunFault::Memory => write!(f, "memory"),
+        }
+    }
 }
 
 /// Answers a script line by line, from the session's state on. It reads pieces of at most 4,096 bytes, and writes the
@@ -32,9 +52,92 @@ pub fn run<R: Read, W: Write>(
     ensures err { IfErr result (λ fault. (fault ≡ RunFault.Write)
         ⊎ AnswersSome session (R.remaining reader.old) (R.remaining reader.new) (W.contents writer.old) (W.contents writer.new)) }
 {
-    let _ = alloc;
-    let _ = session;
-    let _ = reader;
-    let _ = writer;
-    Err(RunFault::Memory)
+    let mut answering = Answering {
+        session,
+        begun: Vec::new(alloc),
+        replies: Vec::new(alloc),
+    };
+    let mut piece = [0u8; PIECE];
+    for _ in 0..READS {
+        match read_piece(reader, &mut piece)? {
+            Given::Interrupted => {}
+            Given::End => return answer_rest(alloc, answering, writer),
+            Given::Bytes(count) => answer_piece(alloc, &mut answering, &piece[..count], writer)?,
+        }
+    }
+    Err(RunFault::Read)
+}
+
+/// What one read gave.
+enum Given {
+    /// Nothing, since it was interrupted.
+    Interrupted,
+    /// Nothing, since the script has ended.
+    End,
+    /// So many bytes.
+    Bytes(usize),
+}
+
+/// Reads once.
+fn read_piece<R: Read>(reader: &mut R, piece: &mut [u8]) -> Result<Given, RunFault>
+    requires { 0 < length piece.old }
+    ensures ok { IfOk result (λ given. Gives (R.remaining reader.old) (R.remaining reader.new) piece.new given) }
+    ensures err { OnErr result (Keeps (R.remaining reader.old) (R.remaining reader.new)) }
+{
+    match reader.read(piece) {
+        Ok(0) => Ok(Given::End),
+        Ok(count) => Ok(Given::Bytes(count)),
+        Err(error) if error.kind() == ErrorKind::Interrupted => Ok(Given::Interrupted),
+        Err(_) => Err(RunFault::Read),
+    }
+}
+
+/// Answers the lines that end in this piece, and writes the replies.
+fn answer_piece<W: Write>(
+    alloc: Global,
+    answering: &mut Answering,
+    piece: &[u8],
+    writer: &mut W,
+) -> Result<(), RunFault>
+    ensures ok { OnOk result (AnswersPiece answering.old piece.now answering.new (W.contents writer.old) (W.contents writer.new)) }
+    ensures err { IfErr result (λ fault. (fault ≡ RunFault.Write)
+        ⊎ StopsPiece answering.old piece.now (W.contents writer.old) (W.contents writer.new)) }
+{
+    let fed = answering.feed(alloc, piece);
+    send(&mut answering.replies, writer)?;
+    match fed {
+        Ok(()) => Ok(()),
+        Err(_) => Err(RunFault::Memory),
+    }
+}
+
+/// Answers the last line if no line feed ended it, and writes its reply.
+fn answer_rest<W: Write>(
+    alloc: Global,
+    mut answering: Answering,
+    writer: &mut W,
+) -> Result<Session, RunFault>
+    ensures ok { IfOk result (λ after. AnswersRest answering after (W.contents writer.old) (W.contents writer.new)) }
+    ensures err { IfErr result (λ fault. (fault ≡ RunFault.Write)
+        ⊎ StopsPiece answering [] (W.contents writer.old) (W.contents writer.new)) }
+{
+    let ended = answering.end(alloc);
+    send(&mut answering.replies, writer)?;
+    match ended {
+        Ok(()) => Ok(answering.session),
+        Err(_) => Err(RunFault::Memory),
+    }
+}
+
+/// Writes the replies so far, so that they are seen before the next read.
+fn send<W: Write>(replies: &mut Vec<u8>, writer: &mut W) -> Result<(), RunFault>
+    ensures ok { OnOk result (Appends (W.contents writer.old) (W.contents writer.new) replies.old.items) }
+    ensures sent { OnOk result (replies.new.items ≡ []) }
+    ensures err { IfErr result (λ fault. fault ≡ RunFault.Write) }
+{
+    if writer.write_all(replies).is_err() || writer.flush().is_err() {
+        return Err(RunFault::Write);
+    }
+    replies.clear();
+    Ok(())
 }

@@ -23,6 +23,12 @@ const CAPACITY: usize = 65_520;
 /// How many chunks a heap can have: so many table entries fill it.
 const MOST_CHUNKS: usize = 32_752;
 
+/// The first byte of a heap's image. The table's length stands behind it.
+const HEAP_KIND: u8 = 1;
+
+/// How many bytes of an image stand before the table.
+const PREFIX: usize = 3;
+
 /// Chunks in 65,520 bytes.
 #[derive(Drop)]
 pub struct Heap {
@@ -150,8 +156,8 @@ impl Heap {
     {
         let bytes = self.table.bytes();
         let slots = self.table.len() as u16;
-        let mut image = Vec::with_capacity(self.alloc, 3 + bytes.len())?;
-        image.push(1)?;
+        let mut image = Vec::with_capacity(self.alloc, PREFIX + bytes.len())?;
+        image.push(HEAP_KIND)?;
         image.extend_from_slice(slots.to_le_bytes().as_slice())?;
         image.extend_from_slice(bytes)?;
         Ok(image)
@@ -167,10 +173,10 @@ impl Heap {
             Some(slots) => slots,
             None => return Err(Fault::Damaged),
         };
-        if bytes.len() > 3 + CAPACITY {
+        if bytes.len() > PREFIX + CAPACITY {
             return Err(Fault::Damaged);
         }
-        match Table::from_bytes(alloc, slots, &bytes[3..]) {
+        match Table::from_bytes(alloc, slots, &bytes[PREFIX..]) {
             Err(_) => Err(Fault::Memory),
             Ok(None) => Err(Fault::Damaged),
             Ok(Some(table)) => Heap::from_table(alloc, table).ok_or(Fault::Damaged),
@@ -208,7 +214,7 @@ fn image_slots(bytes: &[u8]) -> Option<usize>
         (λ n. (n < 65536) × (bytes.now ≡ 1 ∷ word_bytes n ++ drop 3 bytes.now)) }
 {
     match bytes {
-        [1, low, high, ..] => Some(*low as usize + 256 * *high as usize),
+        [HEAP_KIND, low, high, ..] => Some(*low as usize + 256 * *high as usize),
         _ => None,
     }
 }

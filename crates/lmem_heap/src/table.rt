@@ -67,6 +67,7 @@ impl Table {
         self.slots
     }
 
+    /// The words and the chunks, as they stand.
     pub(crate) fn bytes(&self) -> &[u8]
         ensures { result.now ≡ packed self.now }
     {
@@ -131,8 +132,8 @@ impl Table {
         requires { 2 * length self.old + length (chunks self.old) + 2 ≤ 65520 }
         ensures { self.new ≡ self.old ++ None ∷ [] }
     {
-        self.body
-            .replace(2 * self.slots, 0, [0xFF, 0xFF].as_slice());
+        let word = NO_CHUNK.to_le_bytes();
+        self.body.replace(2 * self.slots, 0, word.as_slice());
         self.slots += 1;
     }
 

@@ -142,8 +142,8 @@ opened xs ys zs b len at n short is within room slid filled =
     let used : length b ≡ len = ap length is ∙ length-take-le len xs short in
     let Z = replicate n 0 in let count : length Z ≡ n = length-replicate {A = ℕ} n 0 in let at_is : at ≡ at + 0 = omega arith in
     let moved : ys ≡ put xs (at + length Z) (slice_range xs (at + 0) (at + 0 + (len - (at + 0)))) = slid
-        ∙ (ap (λ (m : ℕ). put xs (at + m) (slice_range xs at (at + (len - at)))) (sym count)
-        ∙ ap (λ (m : ℕ). put xs (at + length Z) (slice_range xs m (m + (len - m)))) at_is) in
+    ∙ (ap (λ (m : ℕ). put xs (at + m) (slice_range xs at (at + (len - at)))) (sym count)
+    ∙ ap (λ (m : ℕ). put xs (at + length Z) (slice_range xs m (m + (len - m)))) at_is) in
     spliced xs ys zs Z b len at 0 (at + n + (len - at)) short is (omega arith) (omega arith) moved filled (omega arith)
 
 copied : (xs : List ℕ) (i j to : ℕ) → j ≤ length xs → to + (j - i) ≤ length xs → copy_within xs i j to ≡ put xs to (slice_range xs i j)

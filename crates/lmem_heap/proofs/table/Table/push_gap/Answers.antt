@@ -28,14 +28,14 @@ overflow_add-self c =
 pub replace-requires : goal.replace-requires
 replace-requires c =
     let s = c.self.inside in let t = c.args.self.now in let o = opened s.slots s.body t c.self.view_is c.self.invariant in
-    record { within = omega (arith, o.long, o.count); room = omega (arith, o.long, ap length c.as_slice.ensures, c.requires) }
+    record { within = omega (arith, o.long, o.count); room = omega (arith, o.long, ap length (c.as_slice.ensures ∙ c.to_le_bytes-word.ensures), c.requires) }
 
 pub invariant_of-self : goal.invariant_of-self
 invariant_of-self c =
     let s = c.self.inside in let t = c.args.self.now in let o = opened s.slots s.body t c.self.view_is c.self.invariant in
-    holds (s.slots + 1) c.replace.new.self (t ++ None ∷ []) (omega (arith, o.count, one_more t)) (pushed s.slots s.body _ _ t o c.as_slice.ensures c.replace.ensures) (room_more t c.requires)
+    holds (s.slots + 1) c.replace.new.self (t ++ None ∷ []) (omega (arith, o.count, one_more t)) (pushed s.slots s.body _ _ t o (c.as_slice.ensures ∙ c.to_le_bytes-word.ensures) c.replace.ensures) (room_more t c.requires)
 
 pub returns : goal.returns
 returns c =
     let s = c.self.inside in let t = c.args.self.now in let o = opened s.slots s.body t c.self.view_is c.self.invariant in
-    shows (s.slots + 1) c.replace.new.self (t ++ None ∷ []) (omega (arith, o.count, one_more t)) (pushed s.slots s.body _ _ t o c.as_slice.ensures c.replace.ensures) (room_more t c.requires)
+    shows (s.slots + 1) c.replace.new.self (t ++ None ∷ []) (omega (arith, o.count, one_more t)) (pushed s.slots s.body _ _ t o (c.as_slice.ensures ∙ c.to_le_bytes-word.ensures) c.replace.ensures) (room_more t c.requires)

@@ -1,4 +1,4 @@
-use Rattle.std.proofs.Common.{◌≤◌, length, arith, sym}
+use Rattle.std.proofs.Common.{arith, sym}
 use Rattle.raw_region.proofs.Puts.{opened}
 use Rattle.raw_region.proofs.body.RawBody.insert_zeros.Goals as goal
 

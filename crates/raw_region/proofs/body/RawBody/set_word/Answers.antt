@@ -1,4 +1,4 @@
-use Rattle.std.proofs.Common.{◌≤◌, length, arith, sym}
+use Rattle.std.proofs.Common.{arith, sym}
 use Rattle.raw_region.proofs.Puts.{put_in}
 use Rattle.raw_region.proofs.body.RawBody.set_word.Goals as goal
 
