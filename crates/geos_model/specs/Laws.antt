@@ -1,6 +1,6 @@
 -- Laws of the definitions.
 use Rattle.std.specs.Prelude.{◌≡◌, ◌+◌, ◌*◌, ◌<◌, ℕ, [], ◌∷◌, true}
-use Rattle.geos_model.specs.Words.{word, word_at}
+use Rattle.geos_model.specs.Words.{word}
 use Rattle.geos_model.specs.Heap.{ChunkMap, is_heap_map}
 use Rattle.geos_model.specs.Image.{image, body_read}
 use Rattle.geos_model.specs.declared.command.Body.TheVariants.{Heap}

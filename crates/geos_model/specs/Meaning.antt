@@ -1,5 +1,5 @@
 -- What an edit means: its refusals with their conditions, and where none holds the document after it and what it answers.
-use Rattle.std.specs.Prelude.{ℕ, List, [], ◌∷◌, ◌++◌, ◌+◌, Bool, not, nat_lt, length, replicate, is_none, unwrap_or}
+use Rattle.std.specs.Prelude.{ℕ, List, [], ◌∷◌, ◌++◌, ◌+◌, not, nat_lt, length, replicate, is_none, unwrap_or}
 use Rattle.std.specs.List.{splice}
 use Rattle.std.specs.FinMap.{insert, contains_key, empty}
 use Rattle.geos_model.specs.Refusal.{Conditions}

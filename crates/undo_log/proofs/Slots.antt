@@ -1,7 +1,6 @@
 -- A block put back where it was.
 use Rattle.std.proofs.Common.{◌≡◌, ℕ, Bool, true, false, cond, Option, Some, None, List, length, ◌+◌, ◌≤◌, ◌==◌, nat_cmp, refl, sym, ap, ◌∙◌}
 use Rattle.std.proofs.lemmas.Bool.{eqb-true, le-ltb}
-use Rattle.std.specs.Ordering.{eq_by_cmp}
 use Rattle.std.specs.Cmp.{nat_cmp_total, unsigned_tied}
 use Rattle.std.specs.FinMap.{FinMap, get, insert, remove, same_map, nat_cmp-IsAntisymmetric, get-insert, get-remove}
 use Rattle.geos_model.specs.Document.{Block, Document, is_heap_body, chunks_of_body}
@@ -28,7 +27,7 @@ at_key m h o was q e false other = refl
 blocks_back : (m : FinMap nat_cmp Block) (h : ℕ) (o was : Option Block) → get m h ≡ was → blocks_with (blocks_with m h o) h was ≡ m
 blocks_back m h o was e =
     same_map nat_cmp_total nat_cmp-IsAntisymmetric _ _ (λ q.
-      get-blocks_with (blocks_with m h o) h was q ∙ ap (cond (q == h) was) (get-blocks_with m h o q) ∙ at_key m h o was q e (q == h) refl)
+    get-blocks_with (blocks_with m h o) h was q ∙ ap (cond (q == h) was) (get-blocks_with m h o q) ∙ at_key m h o was q e (q == h) refl)
 
 with_slot-blocks : (d : Document) (h : ℕ) (o : Option Block) → with_slot d h o ≡ record { blocks = blocks_with d.blocks h o; map_block = d.map_block }
 with_slot-blocks d h (Some b) = refl

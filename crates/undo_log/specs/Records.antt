@@ -1,5 +1,5 @@
 -- What records give back.
-use Rattle.std.specs.Prelude.{◌≡◌, ◌+◌, ◌≤◌, ℕ, List, [], ◌∷◌, length}
+use Rattle.std.specs.Prelude.{◌≡◌, List, [], ◌∷◌}
 use Rattle.std.specs.Option.{option_map}
 use Rattle.geos_model.specs.Document.{Document}
 use Rattle.geos_model.specs.Machine.{UndoStep}

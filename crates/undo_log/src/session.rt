@@ -35,9 +35,9 @@ impl Model for Session {
     ghost use Rattle.undo_log.specs.Records.{steps};
 
     ghost view = { λ s. record {
-        document = s.blocks;
-        past = steps (reverse s.undo.items) s.blocks;
-        future = steps (reverse s.redo.items) s.blocks
+      document = s.blocks;
+      past = steps (reverse s.undo.items) s.blocks;
+      future = steps (reverse s.redo.items) s.blocks;
     } };
 
     ghost invariant = { λ s. (vec_len s.undo + vec_len s.redo ≤ vec_capacity s.undo) × (vec_len s.undo + vec_len s.redo ≤ vec_capacity s.redo) };

@@ -1,12 +1,12 @@
 -- Slots as tables, slot by slot.
-use Rattle.std.proofs.Common.{◌≡◌, ℕ, zero, suc, ◌+◌, ◌<◌, ◌≤◌, Bool, true, false, List, [], ◌∷◌, ◌++◌, map, length, get_or, set, take, replicate, Option, Some, None, is_some, refl, sym, ap, ◌∙◌, arith, ◌-◌, IsTrue, IsSome, unwrap_or, ◌*◌, cond, nat_lt, min, ◌==◌, subst}
+use Rattle.std.proofs.Common.{◌≡◌, ℕ, zero, suc, ◌+◌, ◌<◌, ◌≤◌, Bool, true, false, List, [], ◌∷◌, ◌++◌, map, length, get_or, set, take, replicate, Option, Some, None, is_some, refl, sym, ap, ◌∙◌, arith, ◌-◌, ◌*◌, cond, nat_lt, min, ◌==◌, subst}
 use Rattle.std.specs.Option.{option_map, option_map_or}
 use Rattle.std.proofs.lemmas.List.{take_more, length-take-le, append-nil, map-append, get_or_default}
 use Rattle.std.proofs.Math.ListN.{length-set}
 use Rattle.std.proofs.lemmas.Bool.{lt-ltb, le-ltb, eqb-true}
 use Rattle.std.specs.FinMap.{get, insert, remove, empty, keys}
 use Rattle.geos_model.specs.Table.{table_entries, table_map, first_gap}
-use Rattle.geos_model.specs.Document.{Block as DocumentBlock, Document, empty_document, is_heap, is_heap_body, chunks_of, chunks_of_body, user_id_of, with_block, next_handle}
+use Rattle.geos_model.specs.Document.{Block as DocumentBlock, Document, is_heap, is_heap_body, chunks_of, chunks_of_body, user_id_of, with_block, next_handle}
 use Rattle.geos_model.specs.Heap.{ChunkMap}
 use Rattle.geos_model.specs.Meaning.{with_chunk}
 use Rattle.geos_model.specs.declared.command.Body.TheVariants.{Heap}

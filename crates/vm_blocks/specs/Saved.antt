@@ -1,6 +1,5 @@
 -- What callers see of saved blocks, and how a document is with a block or none under a handle.
 use Rattle.std.specs.Prelude.{◌≡◌, ℕ, List, true, Option, Some, None}
-use Rattle.std.specs.Option.{option_map}
 use Rattle.geos_model.specs.Heap.{ChunkMap, is_heap_map}
 use Rattle.geos_model.specs.Image.{image, body_read}
 use Rattle.geos_model.specs.Document.{Block, Document, chunks_of_body, with_block, without_block}

@@ -1,5 +1,7 @@
 // Each public call once, with ample memory.
-use geos_model::{Bytes, ChunkHandle, Command, Done, Edit, Fault, Info, VmHandle, image_law, word_law};
+use geos_model::{
+    Bytes, ChunkHandle, Command, Done, Edit, Fault, Info, VmHandle, image_law, word_law,
+};
 use geos_shell::parse;
 use lmem_heap::Heap;
 use std::test::Fail;
@@ -7,6 +9,7 @@ use undo_log::Session;
 use vm_blocks::{Block, Blocks, SavedBlock, SavedHeap};
 
 const BLOCK: VmHandle = VmHandle(1);
+
 const CHUNK: ChunkHandle = ChunkHandle(16);
 
 #[test]
@@ -30,6 +33,8 @@ fn a_heap_gives_chunks_of_zeros_that_are_written(rt: HostRuntime) -> Result<(), 
     assert_eq!(rt; heap.chunk(ChunkHandle(18)), None);
     assert_eq!(rt; heap.handles()?.as_slice(), [CHUNK].as_slice());
     assert_eq!(rt; heap.need(), 28);
+    heap.write(CHUNK, 1, [0x61, 0x62].as_slice());
+    assert_eq!(rt; heap.chunk(CHUNK), Some([0, 0x61, 0x62].as_slice()));
     Ok(())
 }
 
@@ -87,12 +92,30 @@ fn a_session_edits_answers_and_undoes(rt: HostRuntime) -> Result<(), Fail> {
     let text = Bytes::from_vec([0x61, 0x62].to_vec(rt.alloc())?);
     assert_eq!(rt; text.as_slice(), [0x61, 0x62].as_slice());
     assert_eq!(rt; session.edit(&Edit::NewHeap(7)), Ok(Done::Block(BLOCK)));
-    assert_eq!(rt; session.edit(&Edit::Alloc(BLOCK, 2)), Ok(Done::Chunk(CHUNK)));
-    assert_eq!(rt; session.edit(&Edit::Write(BLOCK, CHUNK, 0, text)), Ok(Done::Nothing));
-    assert_eq!(rt; session.read_chunk(BLOCK, CHUNK), Ok([0x61, 0x62].as_slice()));
+    assert_eq!(rt;
+        session.edit(&Edit::Alloc(BLOCK, 2)),
+        Ok(Done::Chunk(CHUNK))
+    );
+    assert_eq!(rt;
+        session.edit(&Edit::Write(BLOCK, CHUNK, 0, text)),
+        Ok(Done::Nothing)
+    );
+    assert_eq!(rt;
+        session.read_chunk(BLOCK, CHUNK),
+        Ok([0x61, 0x62].as_slice())
+    );
     assert_eq!(rt; session.info(BLOCK), Ok(Info::Heap(7, 24)));
-    assert_eq!(rt; session.list().map_err(|fault| fault.name())?.as_slice(), [BLOCK].as_slice());
-    assert_eq!(rt; session.chunks(BLOCK).map_err(|fault| fault.name())?.as_slice(), [CHUNK].as_slice());
+    assert_eq!(rt;
+        session.list().map_err(|fault| fault.name())?.as_slice(),
+        [BLOCK].as_slice()
+    );
+    assert_eq!(rt;
+        session
+            .chunks(BLOCK)
+            .map_err(|fault| fault.name())?
+            .as_slice(),
+        [CHUNK].as_slice()
+    );
     for _ in 0..3 {
         assert_eq!(rt; session.undo(), Ok(()));
     }

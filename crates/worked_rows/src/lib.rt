@@ -4,4 +4,6 @@
 #[cfg(test)]
 mod calls;
 #[cfg(test)]
+mod regions;
+#[cfg(test)]
 mod scripts;

@@ -35,7 +35,9 @@ fn a_heap_is_filled_to_its_last_byte(rt: HostRuntime) -> Result<(), Fail> {
 }
 
 #[test]
-fn a_bad_line_is_refused_and_a_blank_line_or_a_note_gets_no_reply(rt: HostRuntime) -> Result<(), Fail> {
+fn a_bad_line_is_refused_and_a_blank_line_or_a_note_gets_no_reply(
+    rt: HostRuntime,
+) -> Result<(), Fail> {
     expect(
         &rt,
         "foo\n\n# note\nlist 1\nlist",

@@ -1,4 +1,4 @@
-use Rattle.std.proofs.Common.{◌≡◌, rules, ℕ, Option, unwrap_or, Some, None, replicate, refl, sym, ap, ◌∙◌}
+use Rattle.std.proofs.Common.{◌≡◌, rules, ℕ, Option, unwrap_or, Some, replicate, refl, sym, ap, ◌∙◌}
 use Rattle.std.specs.FinMap.{insert}
 use Rattle.geos_model.specs.Meaning.{new_chunk, with_chunk}
 use Rattle.geos_model.specs.declared.command.Done.TheVariants.{Chunk}
@@ -21,5 +21,5 @@ returns-clause-made c =
       kind = refl;
       cost = c.from.ensures;
       undo = ap (λ (x : Document). with_slot x h (option_map saved_block c.in_ok-before.before)) c.alloc_chunk-chunk.ensures.document
-        ∙ slot_back d h (Some (record { user_id = user_id_of d h; body = Heap (insert (chunks_of d h) c.alloc_chunk-chunk.result.0 (replicate c.args.size 0)) })) (option_map saved_block c.in_ok-before.before) c.in_ok-before.ensures;
+          ∙ slot_back d h (Some (record { user_id = user_id_of d h; body = Heap (insert (chunks_of d h) c.alloc_chunk-chunk.result.0 (replicate c.args.size 0)) })) (option_map saved_block c.in_ok-before.before) c.in_ok-before.ensures;
     }

@@ -1,12 +1,11 @@
-use Rattle.std.proofs.Common.{◌≡◌, rules, ℕ, Option, unwrap_or, Some, None, refl, sym, ap, ◌∙◌}
+use Rattle.std.proofs.Common.{◌≡◌, ℕ, Option, unwrap_or, Some, None, refl, sym, ap, ◌∙◌}
 use Rattle.std.specs.FinMap.{empty}
-use Rattle.std.specs.Option.{option_map}
 use Rattle.geos_model.specs.Heap.{ChunkMap}
 use Rattle.geos_model.specs.Document.{Document, next_handle, with_block}
 use Rattle.geos_model.specs.declared.command.Body.TheVariants.{Heap}
 use Rattle.geos_model.specs.declared.command.Done.TheVariants.{Block}
 use Rattle.geos_model.proofs.Images.{length_image-empty}
-use Rattle.vm_blocks.specs.Saved.{saved_block, with_slot}
+use Rattle.vm_blocks.specs.Saved.{with_slot}
 use Rattle.undo_log.proofs.Slots.{slot_back}
 use Rattle.undo_log.proofs.change.make_heap.Goals as goal
 
@@ -23,5 +22,5 @@ returns-clause-made c =
       kind = refl;
       cost = sym length_image-empty;
       undo = ap (λ (x : Document). with_slot x h.0 None) made
-        ∙ slot_back d h.0 (Some (record { user_id = c.args.user_id; body = Heap empty })) None (sym c.in-Some.ensures.free);
+          ∙ slot_back d h.0 (Some (record { user_id = c.args.user_id; body = Heap empty })) None (sym c.in-Some.ensures.free);
     }

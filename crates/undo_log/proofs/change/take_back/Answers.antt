@@ -1,9 +1,7 @@
-use Rattle.std.proofs.Common.{◌≡◌, Option, refl, sym, ap, ◌∙◌}
-use Rattle.geos_model.specs.Document.{Block as DocumentBlock, Document}
+use Rattle.std.proofs.Common.{◌≡◌, refl, ap, ◌∙◌}
+use Rattle.geos_model.specs.Document.{Document}
 use Rattle.std.specs.Option.{option_map}
-use Rattle.vm_blocks.specs.Blocks.{block_of}
 use Rattle.vm_blocks.specs.Saved.{saved_block, with_slot}
-use Rattle.undo_log.specs.Records.{back}
 use Rattle.undo_log.proofs.Slots.{slot_back}
 use Rattle.undo_log.proofs.change.take_back.Goals as goal
 

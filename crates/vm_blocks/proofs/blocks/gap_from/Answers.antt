@@ -1,4 +1,4 @@
-use Rattle.std.proofs.Common.{◌≡◌, None, is_some, length, refl, sym, ap, ◌∙◌, arith}
+use Rattle.std.proofs.Common.{None, is_some, length, refl, sym, ap, ◌∙◌, arith}
 use Rattle.std.proofs.lemmas.List.{get_or_read_under}
 use Rattle.vm_blocks.proofs.SlotLemmas.{first_gap_here, first_gap_past, first_gap-bound}
 use Rattle.vm_blocks.proofs.blocks.gap_from.Goals as goal

@@ -1,4 +1,4 @@
-use Rattle.std.proofs.Common.{None, Vec, length, refl, sym, ap, ◌∙◌}
+use Rattle.std.proofs.Common.{None, length, refl, sym}
 use Rattle.std.proofs.lemmas.List.{get_or_read_under}
 use Rattle.vm_blocks.proofs.SlotLemmas.{listed_full, listed_free}
 use Rattle.vm_blocks.proofs.blocks.live_handles.Goals as goal

@@ -1,4 +1,4 @@
-use Rattle.std.proofs.Common.{◌≡◌, ℕ, ◌-◌, ◌+◌, None, Some, replicate, sym, ap, arith, ◌∙◌}
+use Rattle.std.proofs.Common.{◌-◌, replicate, sym, ap, arith, ◌∙◌}
 use Rattle.geos_model.specs.Heap.{ChunkMap, next_chunk, fits_new}
 use Rattle.vm_blocks.proofs.SlotLemmas.{heap_from_one, heap_within, heap_not_none, heap_chunks, heap_with_chunk, are_slots_full}
 use Rattle.vm_blocks.proofs.blocks.Blocks.alloc_chunk.Goals as goal

@@ -1,5 +1,4 @@
-use Rattle.std.proofs.Common.{◌≡◌, ℕ, ◌-◌, ◌<◌, ◌≤◌, Option, None, Some, get_or, length, refl, sym, ap, ◌∙◌, arith}
-use Rattle.vm_blocks.specs.declared.block.Block.{Block}
+use Rattle.std.proofs.Common.{◌-◌, ◌≤◌, None, get_or, sym, ap, ◌∙◌, arith}
 use Rattle.std.specs.Option.{option_map}
 use Rattle.vm_blocks.specs.Blocks.{block_of}
 use Rattle.vm_blocks.proofs.SlotLemmas.{block-read, block-none, block-within}
@@ -28,6 +27,8 @@ pub returns-in-Some-clause-within : goal.returns-in-Some-clause-within
 returns-in-Some-clause-within c = λ some.
     let one : 1 ≤ c.args.handle.0 = omega arith in
     let here : c.from.result - 1 ≤ c.from.result - 1 = omega arith in
-    let read = c.in-Some.ensures.lookup.4 here None in
-    (one, block-within c.self.inside.slots.items c.self.inside.first_gap c.args.handle.0 c.from.result c.self.invariant c.from.ensures c.in-Some.slot.now
-    (read ∙ ap (λ (xs : _). get_or xs (c.from.result - 1) None) c.deref.ensures.value) (sym c.as_ref.ensures.variant ∙ some))
+    let read = c.in-Some.ensures.lookup.4 here None in (
+      one,
+      block-within c.self.inside.slots.items c.self.inside.first_gap c.args.handle.0 c.from.result c.self.invariant c.from.ensures c.in-Some.slot.now
+          (read ∙ ap (λ (xs : _). get_or xs (c.from.result - 1) None) c.deref.ensures.value) (sym c.as_ref.ensures.variant ∙ some),
+    )

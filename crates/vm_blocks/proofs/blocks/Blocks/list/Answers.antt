@@ -1,7 +1,3 @@
-use Rattle.std.proofs.Common.{◌≡◌, ℕ, List, map, sym, ap, ◌∙◌, arith}
-use Rattle.std.proofs.lemmas.Result.{IfOk-weaker}
-use Rattle.geos_model.specs.Table.{table_entries}
-use Rattle.geos_model.proofs.Tables.{keys-table_map}
 use Rattle.vm_blocks.proofs.SlotLemmas.{keys-document}
 use Rattle.vm_blocks.proofs.blocks.Blocks.list.Goals as goal
 

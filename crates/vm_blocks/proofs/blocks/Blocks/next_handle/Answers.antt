@@ -1,7 +1,4 @@
-use Rattle.std.proofs.Common.{◌≡◌, ℕ, Bool, true, false, cond, Option, Some, None, sym, ap, ◌∙◌, arith, ◌+◌, ◌<◌, ◌≤◌}
-use Rattle.geos_model.specs.Document.{Document, next_handle}
-use Rattle.vm_blocks.specs.Blocks.{table_of, document_of}
-use Rattle.geos_model.specs.Table.{first_gap}
+use Rattle.std.proofs.Common.{sym}
 use Rattle.vm_blocks.proofs.SlotLemmas.{next_handle-some, next_handle-none, gap-free}
 use Rattle.vm_blocks.proofs.blocks.Blocks.next_handle.Goals as goal
 

@@ -1,4 +1,4 @@
-use Rattle.std.proofs.Common.{◌≡◌, ℕ, ◌-◌, ◌<◌, ◌≤◌, length, is_some, sym, ap, subst, ◌∙◌, arith}
+use Rattle.std.proofs.Common.{ℕ, ◌-◌, ◌<◌, ◌≤◌, length, sym, ap, subst, ◌∙◌, arith}
 use Rattle.vm_blocks.specs.Blocks.{AreSlots, start_after}
 use Rattle.std.proofs.Math.ListN.{set}
 use Rattle.vm_blocks.proofs.SlotLemmas.{are_slots_put, gap_le, put-read}

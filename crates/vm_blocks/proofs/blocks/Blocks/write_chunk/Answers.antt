@@ -1,6 +1,6 @@
-use Rattle.std.proofs.Common.{◌≡◌, ℕ, ◌-◌, ◌+◌, ◌≤◌, None, Some, length, sym, ap, arith, subst, ◌∙◌}
+use Rattle.std.proofs.Common.{◌-◌, ◌+◌, ◌≤◌, length, sym, ap, arith, subst, ◌∙◌}
 use Rattle.std.specs.List.{splice}
-use Rattle.std.specs.FinMap.{contains_key, insert}
+use Rattle.std.specs.FinMap.{contains_key}
 use Rattle.geos_model.specs.Heap.{ChunkMap, chunk_bytes}
 use Rattle.geos_model.specs.Meaning.{with_chunk}
 use Rattle.vm_blocks.proofs.SlotLemmas.{heap_from_one, heap_within, heap_not_none, heap_chunks, heap_with_chunk, are_slots_full}

@@ -1,7 +1,4 @@
-use Rattle.std.proofs.Common.{◌≡◌, ap, sym, ◌∙◌}
-use Rattle.geos_model.specs.Heap.{ChunkMap, is_heap_map}
-use Rattle.geos_model.specs.Image.{image, body_read}
-use Rattle.geos_model.specs.Document.{chunks_of_body}
+use Rattle.std.proofs.Common.{◌∙◌}
 use Rattle.vm_blocks.proofs.SavedLemmas.{chunks_saved-image, IsSaved-image}
 use Rattle.vm_blocks.proofs.saved.SavedHeap.of.Goals as goal
 

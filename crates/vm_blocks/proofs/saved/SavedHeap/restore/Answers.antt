@@ -1,4 +1,4 @@
-use Rattle.std.proofs.Common.{◌≡◌, sym, ◌∙◌}
+use Rattle.std.proofs.Common.{sym, ◌∙◌}
 use Rattle.vm_blocks.proofs.SavedLemmas.{chunks_saved-image}
 use Rattle.vm_blocks.proofs.saved.SavedHeap.restore.Goals as goal
 

@@ -1,0 +1,79 @@
+use raw_region::{RawBody, Region, SIZE};
+use std::test::Fail;
+
+#[test]
+fn a_new_region_is_zeros(rt: HostRuntime) -> Result<(), Fail> {
+    let region = Region::new(rt.alloc())?;
+    assert_eq!(rt; region.slice(0, SIZE).len(), 65_520);
+    assert!(rt; region.slice(0, SIZE).iter().all(|byte| *byte == 0));
+    Ok(())
+}
+
+#[test]
+fn a_word_is_two_bytes_low_first(rt: HostRuntime) -> Result<(), Fail> {
+    let mut region = Region::new(rt.alloc())?;
+    region.set_word(SIZE - 2, 0x1234);
+    assert_eq!(rt; region.slice(SIZE - 3, 3), [0, 0x34, 0x12].as_slice());
+    assert_eq!(rt; region.word(SIZE - 2), 0x1234);
+    assert_eq!(rt; region.word(SIZE - 3), 0x3400);
+    Ok(())
+}
+
+#[test]
+fn bytes_go_in_by_a_lent_slice(rt: HostRuntime) -> Result<(), Fail> {
+    let mut region = Region::new(rt.alloc())?;
+    let lent = region.slice_mut(10, 3);
+    lent[0] = 1;
+    lent[2] = 3;
+    assert_eq!(rt; region.slice(9, 5), [0, 1, 0, 3, 0].as_slice());
+    Ok(())
+}
+
+#[test]
+fn bytes_slide_over_themselves(rt: HostRuntime) -> Result<(), Fail> {
+    let mut region = Region::new(rt.alloc())?;
+    region.copy_in(0, [1, 2, 3, 4, 5, 6].as_slice());
+    region.slide(0, 2, 4);
+    assert_eq!(rt; region.slice(0, 7), [1, 2, 1, 2, 3, 4, 0].as_slice());
+    region.slide(3, 1, 4);
+    assert_eq!(rt; region.slice(0, 7), [1, 2, 3, 4, 0, 4, 0].as_slice());
+    Ok(())
+}
+
+#[test]
+fn a_run_is_made_zero(rt: HostRuntime) -> Result<(), Fail> {
+    let mut region = Region::new(rt.alloc())?;
+    region.copy_in(SIZE - 4, [1, 2, 3, 4].as_slice());
+    region.zero(SIZE - 3, 2);
+    assert_eq!(rt; region.slice(SIZE - 5, 5), [0, 1, 0, 0, 4].as_slice());
+    Ok(())
+}
+
+#[test]
+fn a_part_of_a_body_is_replaced(rt: HostRuntime) -> Result<(), Fail> {
+    let mut body = RawBody::new(rt.alloc())?;
+    assert_eq!(rt; body.bytes().len(), 0);
+    body.replace(0, 0, [1, 2, 3, 4].as_slice());
+    body.replace(1, 2, [7, 8, 9].as_slice());
+    assert_eq!(rt; body.bytes(), [1, 7, 8, 9, 4].as_slice());
+    body.replace(1, 3, [5].as_slice());
+    assert_eq!(rt; body.bytes(), [1, 5, 4].as_slice());
+    body.replace(3, 0, [6].as_slice());
+    body.replace(0, 1, [].as_slice());
+    assert_eq!(rt; body.bytes(), [5, 4, 6].as_slice());
+    Ok(())
+}
+
+#[test]
+fn words_and_zeros_go_into_a_body(rt: HostRuntime) -> Result<(), Fail> {
+    let mut body = RawBody::new(rt.alloc())?;
+    body.insert_zeros(0, 4);
+    body.set_word(1, 0x1234);
+    assert_eq!(rt; body.bytes().len(), 4);
+    body.copy_in(3, [7].as_slice());
+    assert_eq!(rt; body.bytes(), [0, 0x34, 0x12, 7].as_slice());
+    assert_eq!(rt; body.word(1), 0x1234);
+    body.insert_zeros(2, 1);
+    assert_eq!(rt; body.bytes(), [0, 0x34, 0, 0x12, 7].as_slice());
+    Ok(())
+}
