@@ -1,3 +1,4 @@
 pub mod Tables
 pub mod HeapTables
 pub mod Images
+pub mod Undoing

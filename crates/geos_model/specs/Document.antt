@@ -64,3 +64,7 @@ without_block d h = record d { blocks = remove d.blocks h }
 -- the document with this body of a block
 abbrev pub with_body : Document → ℕ → Body → Document
 with_body d h body = with_block d h (record { user_id = user_id_of d h; body = body })
+
+-- the document with this user ID of a block, if it is live
+abbrev pub with_user_id : Document → ℕ → ℕ → Document
+with_user_id d h uid = option_map_or (λ b. with_block d h (record b { user_id = uid })) (get d.blocks h) d

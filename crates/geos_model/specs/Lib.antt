@@ -10,4 +10,5 @@ pub mod Reply
 pub mod Machine
 pub mod Codes
 pub mod Laws
+pub mod Undoing
 pub mod Script

@@ -1,11 +1,12 @@
 -- What an edit means: its refusals with their conditions, and where none holds the document after it and what it answers.
-use Rattle.std.specs.Prelude.{ℕ, List, [], ◌∷◌, ◌++◌, ◌+◌, not, nat_lt, length, replicate, is_none, unwrap_or}
+use Rattle.std.specs.Prelude.{ℕ, List, [], ◌∷◌, ◌++◌, ◌+◌, not, ◌==◌, ◌&&◌, nat_lt, length, replicate, is_none, unwrap_or}
 use Rattle.std.specs.List.{splice}
-use Rattle.std.specs.FinMap.{insert, contains_key, empty}
+use Rattle.std.specs.Option.{option_map_or}
+use Rattle.std.specs.FinMap.{get, insert, contains_key, empty}
 use Rattle.geos_model.specs.Refusal.{Conditions}
 use Rattle.geos_model.specs.Heap.{next_chunk, chunk_bytes, fits_new}
-use Rattle.geos_model.specs.Document.{Block, Document, with_block, with_body, is_live, is_heap, chunks_of, next_handle}
-use Rattle.geos_model.specs.declared.fault.Fault.TheVariants.{NoBlock, NoChunk, WrongKind, Full, NoHandles, Range}
+use Rattle.geos_model.specs.Document.{Block, Document, with_block, without_block, with_body, with_user_id, is_live, is_heap, chunks_of, next_handle}
+use Rattle.geos_model.specs.declared.fault.Fault.TheVariants.{NoBlock, NoChunk, WrongKind, Full, NoHandles, Range, IsMap}
 use Rattle.geos_model.specs.declared.command.Body.TheVariants.{Heap}
 use Rattle.geos_model.specs.declared.command.Done.{Done}
 use Rattle.geos_model.specs.declared.command.Done.TheVariants as done
@@ -36,6 +37,10 @@ on_chunk d b c = on_heap d b ++ (NoChunk, not (contains_key (chunks_of d b) c)) 
 -- The refusals of an edit, each with its condition. Where an earlier one applies, a later one may be anything.
 abbrev pub conditions : Edit → Document → Conditions
 conditions (edits.NewHeap uid) d = (NoHandles, is_none (next_handle d)) ∷ []
+conditions (edits.FreeBlock b) d = on_block d b.0 ++ (IsMap, d.map_block == b.0) ∷ []
+conditions (edits.CopyBlock b) d = on_block d b.0 ++ (NoHandles, is_none (next_handle d)) ∷ []
+conditions (edits.SetUserId b uid) d = on_block d b.0
+conditions (edits.SetMap b) d = (NoBlock, not (b.0 == 0) && not (is_live d b.0)) ∷ []
 conditions (edits.Alloc b n) d = on_heap d b.0 ++ (Full, not (fits_new (chunks_of d b.0) (replicate n 0))) ∷ []
 conditions (edits.Write b c at bytes) d = on_chunk d b.0 c.0 ++ (Range, nat_lt (length (chunk_at d b.0 c.0)) (at + length bytes)) ∷ []
 
@@ -49,5 +54,9 @@ makes_chunk d b bytes = (with_chunk d b (new_chunk d b) bytes, done.Chunk (recor
 -- what an edit does that nothing refuses
 abbrev pub effect : Edit → Document → Document × Done
 effect (edits.NewHeap uid) d = makes_block d (record { user_id = uid; body = Heap empty })
+effect (edits.FreeBlock b) d = (without_block d b.0, done.Nothing)
+effect (edits.CopyBlock b) d = option_map_or (makes_block d) (get d.blocks b.0) (d, done.Nothing)
+effect (edits.SetUserId b uid) d = (with_user_id d b.0 uid, done.Nothing)
+effect (edits.SetMap b) d = (record d { map_block = b.0 }, done.Nothing)
 effect (edits.Alloc b n) d = makes_chunk d b.0 (replicate n 0)
 effect (edits.Write b c at bytes) d = (with_chunk d b.0 c.0 (splice (chunk_at d b.0 c.0) at (at + length bytes) bytes), done.Nothing)

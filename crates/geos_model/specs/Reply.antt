@@ -1,7 +1,7 @@
 -- What a command answers, and how look-ups answer of a document.
-use Rattle.std.specs.Prelude.{ℕ, List, [], length, map, Result, Ok, Err}
-use Rattle.std.specs.FinMap.{get, keys}
-use Rattle.std.specs.Option.{option_map_or}
+use Rattle.std.specs.Prelude.{ℕ, List, [], ◌==◌, ◌&&◌, nat_lt, length, map, find, Option, unwrap_or, Result, Ok, Err}
+use Rattle.std.specs.FinMap.{get, keys, entries}
+use Rattle.std.specs.Option.{option_map, option_map_or}
 use Rattle.geos_model.specs.Refusal.{Conditions}
 use Rattle.geos_model.specs.Heap.{need}
 use Rattle.geos_model.specs.Document.{Document, chunks_of}
@@ -24,6 +24,7 @@ pub data Reply : Type 0 where
   BlockIs : (handle : ℕ) → Reply
   ChunkIs : (handle : ℕ) → Reply
   TokenIs : (token : ℕ) → Reply
+  NumberIs : (n : ℕ) → Reply
   BytesAre : (bytes : List ℕ) → Reply
   BlocksAre : (handles : List ℕ) → Reply
   ChunksAre : (handles : List ℕ) → Reply
@@ -42,24 +43,38 @@ look_up_conditions (commands.Info b) d = on_block d b.0
 look_up_conditions (commands.Chunks b) d = on_heap d b.0
 look_up_conditions (commands.Read b c) d = on_chunk d b.0 c.0
 look_up_conditions commands.List d = []
+look_up_conditions (commands.Find uid start) d = []
+look_up_conditions commands.MapBlock d = []
+look_up_conditions commands.Undos d = []
+look_up_conditions commands.Redos d = []
 look_up_conditions commands.Blank d = []
 look_up_conditions (commands.Edit e) d = []
 look_up_conditions commands.Undo d = []
+look_up_conditions commands.Redo d = []
 
 -- of a raw block the size of its body, of a heap the bytes that it needs
 abbrev pub body_info : ℕ → Body → Reply
 body_info uid (Raw bytes) = RawIs uid (length bytes)
 body_info uid (Heap m) = HeapIs uid (need m)
 
--- what a look-up answers that nothing refuses; a command that is none only keeps the cases complete
+-- the least handle above the start that has this user ID
+abbrev pub found : Document → ℕ → ℕ → Option ℕ
+found d uid start = option_map (λ e. e.0) (find (λ e. nat_lt start e.0 && (e.1.user_id == uid)) (entries d.blocks))
+
+-- what a look-up answers of the document that nothing refuses; a command that is none only keeps the cases complete
 abbrev pub look_up : Command → Document → Reply
 look_up (commands.Info b) d = option_map_or (λ block. body_info block.user_id block.body) (get d.blocks b.0) Accepted
 look_up commands.List d = BlocksAre (keys d.blocks)
+look_up (commands.Find uid start) d = BlockIs (unwrap_or (found d uid start.0) 0)
+look_up commands.MapBlock d = BlockIs d.map_block
 look_up (commands.Chunks b) d = ChunksAre (keys (chunks_of d b.0))
 look_up (commands.Read b c) d = BytesAre (chunk_at d b.0 c.0)
 look_up commands.Blank d = Accepted
 look_up (commands.Edit e) d = Accepted
 look_up commands.Undo d = Accepted
+look_up commands.Redo d = Accepted
+look_up commands.Undos d = Accepted
+look_up commands.Redos d = Accepted
 
 -- what a call of a session answers, as a reply
 abbrev pub reply_by : {T : Type 0} → (T → Reply) → Result T Fault → Reply

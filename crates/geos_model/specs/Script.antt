@@ -9,7 +9,7 @@ use Rattle.hex.specs.declared.error.FromHexError.{FromHexError}
 use Rattle.geos_model.specs.declared.handle.VmHandle.{VmHandle}
 use Rattle.geos_model.specs.declared.handle.ChunkHandle.{ChunkHandle}
 use Rattle.geos_model.specs.Refusal.{number_of_fault, name_of_fault}
-use Rattle.geos_model.specs.Reply.{Reply, Accepted, Refused, BlockIs, ChunkIs, TokenIs, BytesAre, BlocksAre, ChunksAre, RawIs, HeapIs}
+use Rattle.geos_model.specs.Reply.{Reply, Accepted, Refused, BlockIs, ChunkIs, TokenIs, NumberIs, BytesAre, BlocksAre, ChunksAre, RawIs, HeapIs}
 use Rattle.geos_model.specs.Machine.{Machine, Request, Run}
 use Rattle.geos_model.specs.declared.command.Edit.TheVariants as edits
 use Rattle.geos_model.specs.declared.command.Command.{Command}
@@ -112,13 +112,22 @@ with_4 p q r s f = operand p (λ a. with_3 q r s (f a))
 abbrev pub commands_by_name : List (List ℕ × (List (List ℕ) → Option Command))
 commands_by_name =
     (codes "newheap", with_1 user_id (λ u. commands.Edit (edits.NewHeap u)))
+    ∷ (codes "vfree", with_1 block (λ b. commands.Edit (edits.FreeBlock b)))
+    ∷ (codes "vcopy", with_1 block (λ b. commands.Edit (edits.CopyBlock b)))
+    ∷ (codes "uid", with_2 block user_id (λ b u. commands.Edit (edits.SetUserId b u)))
+    ∷ (codes "map", with_1 block (λ b. commands.Edit (edits.SetMap b)))
     ∷ (codes "alloc", with_2 block number (λ b n. commands.Edit (edits.Alloc b n)))
     ∷ (codes "write", with_4 block chunk number bytes (λ b c at bs. commands.Edit (edits.Write b c at bs)))
     ∷ (codes "undo", with_none commands.Undo)
+    ∷ (codes "redo", with_none commands.Redo)
     ∷ (codes "info", with_1 block (λ b. commands.Info b))
     ∷ (codes "list", with_none commands.List)
+    ∷ (codes "find", with_2 user_id block (λ u b. commands.Find u b))
+    ∷ (codes "mapblock", with_none commands.MapBlock)
     ∷ (codes "chunks", with_1 block (λ b. commands.Chunks b))
     ∷ (codes "read", with_2 block chunk (λ b c. commands.Read b c))
+    ∷ (codes "undos", with_none commands.Undos)
+    ∷ (codes "redos", with_none commands.Redos)
     ∷ []
 
 abbrev pub by_name : List ℕ → List (List ℕ) → List (List ℕ × (List (List ℕ) → Option Command)) → Option Command
@@ -164,6 +173,7 @@ reply_text (Refused fault) = codes "no " ++ decimal (number_of_fault fault) ++ 3
 reply_text (BlockIs h) = codes "block " ++ four_digits h
 reply_text (ChunkIs h) = codes "chunk " ++ four_digits h
 reply_text (TokenIs t) = codes "token " ++ four_digits t
+reply_text (NumberIs n) = codes "number " ++ decimal n
 reply_text (BytesAre bytes) = codes "bytes " ++ hex_text bytes
 reply_text (BlocksAre hs) = codes "blocks" ++ listed hs
 reply_text (ChunksAre hs) = codes "chunks" ++ listed hs

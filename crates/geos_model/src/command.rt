@@ -12,6 +12,14 @@ pub enum Body {
 pub enum Edit {
     /// A new empty heap, with this user ID.
     NewHeap(u16),
+    /// The block is freed.
+    FreeBlock(VmHandle),
+    /// A new block with the same body and user ID.
+    CopyBlock(VmHandle),
+    /// The block gets this user ID.
+    SetUserId(VmHandle, u16),
+    /// The block becomes the map block; with 0 there is none.
+    SetMap(VmHandle),
     /// A new chunk of so many zeros.
     Alloc(VmHandle, u32),
     /// Bytes written over those of a chunk, from a place on.
@@ -47,10 +55,18 @@ pub enum Command {
     Blank,
     Edit(Edit),
     Undo,
+    Redo,
     Info(VmHandle),
     List,
+    /// The least handle above a start that has this user ID.
+    Find(u16, VmHandle),
+    MapBlock,
     Chunks(VmHandle),
     Read(VmHandle, ChunkHandle),
+    /// How many edits can be undone.
+    Undos,
+    /// How many edits can be redone.
+    Redos,
 }
 
 /// A block's user ID, and the bytes of a raw body or those that a heap needs.

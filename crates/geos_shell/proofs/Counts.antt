@@ -43,13 +43,22 @@ with_4-other p q r s f (w ∷ ws) h =
 pub takes-other : (verb : Verb) (ws : List (List ℕ)) → (length ws ≡ 0 → ⊥) → (length ws ≡ 1 → ⊥) → (length ws ≡ 2 → ⊥)
     → (length ws ≡ 4 → ⊥) → takes verb ws ≡ None
 takes-other verbs.NewHeap ws not_0 not_1 not_2 not_4 = with_1-other _ _ ws not_1
+takes-other verbs.FreeBlock ws not_0 not_1 not_2 not_4 = with_1-other _ _ ws not_1
+takes-other verbs.CopyBlock ws not_0 not_1 not_2 not_4 = with_1-other _ _ ws not_1
+takes-other verbs.SetUserId ws not_0 not_1 not_2 not_4 = with_2-other _ _ _ ws not_2
+takes-other verbs.SetMap ws not_0 not_1 not_2 not_4 = with_1-other _ _ ws not_1
 takes-other verbs.Alloc ws not_0 not_1 not_2 not_4 = with_2-other _ _ _ ws not_2
 takes-other verbs.Write ws not_0 not_1 not_2 not_4 = with_4-other _ _ _ _ _ ws not_4
 takes-other verbs.Undo ws not_0 not_1 not_2 not_4 = with_none-other _ ws not_0
+takes-other verbs.Redo ws not_0 not_1 not_2 not_4 = with_none-other _ ws not_0
 takes-other verbs.Info ws not_0 not_1 not_2 not_4 = with_1-other _ _ ws not_1
 takes-other verbs.List ws not_0 not_1 not_2 not_4 = with_none-other _ ws not_0
+takes-other verbs.Find ws not_0 not_1 not_2 not_4 = with_2-other _ _ _ ws not_2
+takes-other verbs.MapBlock ws not_0 not_1 not_2 not_4 = with_none-other _ ws not_0
 takes-other verbs.Chunks ws not_0 not_1 not_2 not_4 = with_1-other _ _ ws not_1
 takes-other verbs.Read ws not_0 not_1 not_2 not_4 = with_2-other _ _ _ ws not_2
+takes-other verbs.Undos ws not_0 not_1 not_2 not_4 = with_none-other _ ws not_0
+takes-other verbs.Redos ws not_0 not_1 not_2 not_4 = with_none-other _ ws not_0
 
 -- the same of words behind references
 pub takes-other_words : (verb : Verb) (ws : List (Bor (List ℕ))) → (length ws ≡ 0 → ⊥) → (length ws ≡ 1 → ⊥) → (length ws ≡ 2 → ⊥)

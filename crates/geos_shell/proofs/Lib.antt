@@ -3,6 +3,7 @@ pub mod Composed
 pub mod Counts
 pub mod Extending
 pub mod Lines
+pub mod LookUps
 pub mod Names
 pub mod Outcome
 pub mod Replying

@@ -11,13 +11,22 @@ use Rattle.geos_shell.specs.declared.verbs.Verb.TheVariants as verbs
 -- the command that a verb and its operands are
 abbrev pub takes : Verb → List (List ℕ) → Option Command
 takes verbs.NewHeap = with_1 user_id (λ u. commands.Edit (edits.NewHeap u))
+takes verbs.FreeBlock = with_1 block (λ b. commands.Edit (edits.FreeBlock b))
+takes verbs.CopyBlock = with_1 block (λ b. commands.Edit (edits.CopyBlock b))
+takes verbs.SetUserId = with_2 block user_id (λ b u. commands.Edit (edits.SetUserId b u))
+takes verbs.SetMap = with_1 block (λ b. commands.Edit (edits.SetMap b))
 takes verbs.Alloc = with_2 block number (λ b n. commands.Edit (edits.Alloc b n))
 takes verbs.Write = with_4 block chunk number bytes (λ b c at bs. commands.Edit (edits.Write b c at bs))
 takes verbs.Undo = with_none commands.Undo
+takes verbs.Redo = with_none commands.Redo
 takes verbs.Info = with_1 block (λ b. commands.Info b)
 takes verbs.List = with_none commands.List
+takes verbs.Find = with_2 user_id block (λ u b. commands.Find u b)
+takes verbs.MapBlock = with_none commands.MapBlock
 takes verbs.Chunks = with_1 block (λ b. commands.Chunks b)
 takes verbs.Read = with_2 block chunk (λ b c. commands.Read b c)
+takes verbs.Undos = with_none commands.Undos
+takes verbs.Redos = with_none commands.Redos
 
 -- the command that a name and its operands are
 unfoldable pub command_named : List ℕ → List (List ℕ) → Option Command

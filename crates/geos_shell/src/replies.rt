@@ -23,12 +23,17 @@ fn respond(
         Command::Blank => return Ok(()),
         Command::Edit(edit) => text::push_done(alloc, out, session.edit(edit)),
         Command::Undo => text::push_accepted(alloc, out, session.undo()),
+        Command::Redo => text::push_accepted(alloc, out, session.redo()),
         Command::Info(block) => text::push_info(alloc, out, session.info(*block)),
         Command::List => text::push_blocks(alloc, out, session.list()),
+        Command::Find(user_id, start) => text::push_found(out, session.find(*user_id, *start)),
+        Command::MapBlock => text::push_block(out, session.map_block()),
         Command::Chunks(block) => text::push_chunks(alloc, out, session.chunks(*block)),
         Command::Read(block, chunk) => {
             text::push_bytes(alloc, out, session.read_chunk(*block, *chunk))
         }
+        Command::Undos => text::push_count(alloc, out, session.undo_count()),
+        Command::Redos => text::push_count(alloc, out, session.redo_count()),
     }?;
     out.push(b'\n')?;
     Ok(())

@@ -1,10 +1,10 @@
 //! The texts of replies. Where memory is wanting, a part of a text may stand behind what was there.
 #![tactic(auto, using(crate::proofs::Extending::extending), unfolding(geos_model::specs::Script::reply_text))]
 
-ghost use Rattle.std.specs.Prelude.{◌≡◌, ◌++◌, ◌∷◌, OnOk, OnErr, map};
+ghost use Rattle.std.specs.Prelude.{◌≡◌, ◌++◌, ◌∷◌, OnOk, OnErr, map, option_map, unwrap_or};
 ghost use Rattle.std.specs.Fmt.{decimal};
 ghost use Rattle.hex.specs.Hex.{encode_lower};
-ghost use Rattle.geos_model.specs.Reply.{Accepted, BytesAre, Refused, blocks_are, chunks_are, info_is, reply_by, reply_of_done};
+ghost use Rattle.geos_model.specs.Reply.{Accepted, BlockIs, BytesAre, NumberIs, Refused, blocks_are, chunks_are, info_is, reply_by, reply_of_done};
 ghost use Rattle.geos_model.specs.Script.{four_digits, listed, reply_text};
 ghost use Rattle.geos_shell.specs.Replies.{Extends};
 
@@ -68,7 +68,7 @@ pub(crate) fn push_done(
 {
     match done {
         Ok(Done::Nothing) => out.extend_from_slice(b"ok"),
-        Ok(Done::Block(block)) => push_handle(out, b"block ", block.0),
+        Ok(Done::Block(block)) => push_block(out, block),
         Ok(Done::Chunk(chunk)) => push_handle(out, b"chunk ", chunk.0),
         Ok(Done::Token(token)) => push_handle(out, b"token ", token.0),
         Err(fault) => push_refusal(alloc, out, fault),
@@ -87,6 +87,30 @@ pub(crate) fn push_accepted(
         Ok(()) => out.extend_from_slice(b"ok"),
         Err(fault) => push_refusal(alloc, out, fault),
     }
+}
+
+pub(crate) fn push_block(out: &mut Vec<u8>, block: VmHandle) -> Result<(), AllocError>
+    ensures ok { OnOk result (out.new.items ≡ out.old.items ++ reply_text (BlockIs block.0)) }
+    ensures err { OnErr result (Extends out.old.items out.new.items) }
+{
+    push_handle(out, b"block ", block.0)
+}
+
+// Handle 0 stands for none.
+pub(crate) fn push_found(out: &mut Vec<u8>, found: Option<VmHandle>) -> Result<(), AllocError>
+    ensures ok { OnOk result (out.new.items ≡ out.old.items ++ reply_text (BlockIs (unwrap_or (option_map (λ h. h.0) found) 0))) }
+    ensures err { OnErr result (Extends out.old.items out.new.items) }
+{
+    push_block(out, found.unwrap_or(VmHandle(0)))
+}
+
+pub(crate) fn push_count(alloc: Global, out: &mut Vec<u8>, count: usize) -> Result<(), AllocError>
+    ensures ok { OnOk result (out.new.items ≡ out.old.items ++ reply_text (NumberIs count)) }
+    ensures err { OnErr result (Extends out.old.items out.new.items) }
+{
+    let digits = count.to_string(alloc)?;
+    out.extend_from_slice(b"number ")?;
+    out.extend_from_slice(digits.as_bytes())
 }
 
 fn push_body(
@@ -211,8 +235,11 @@ mod tests {
         push_chunks(alloc, &mut out, Ok(Vec::new(alloc)))?;
         push_bytes(alloc, &mut out, Ok(&[]))?;
         push_bytes(alloc, &mut out, Ok(&[0x0a, 0xf0]))?;
+        push_found(&mut out, Some(VmHandle(0x30)))?;
+        push_found(&mut out, None)?;
+        push_count(alloc, &mut out, 12)?;
         let texts =
-            b"okblock 0001chunk ffeeno 22 NothingToUndoraw 65535 0heap 7 65520blocks 0001 0800chunksbytes -bytes 0af0";
+            b"okblock 0001chunk ffeeno 22 NothingToUndoraw 65535 0heap 7 65520blocks 0001 0800chunksbytes -bytes 0af0block 0030block 0000number 12";
         assert_eq!(rt; out.as_slice(), texts.as_slice());
         Ok(())
     }

@@ -10,25 +10,43 @@ use std::alloc::Global;
 #[derive(Clone, Copy)]
 pub(crate) enum Verb {
     NewHeap,
+    FreeBlock,
+    CopyBlock,
+    SetUserId,
+    SetMap,
     Alloc,
     Write,
     Undo,
+    Redo,
     Info,
     List,
+    Find,
+    MapBlock,
     Chunks,
     Read,
+    Undos,
+    Redos,
 }
 
 /// Each verb by its name.
-const VERBS: [(&[u8], Verb); 8] = [
+const VERBS: [(&[u8], Verb); 17] = [
     (b"newheap", Verb::NewHeap),
+    (b"vfree", Verb::FreeBlock),
+    (b"vcopy", Verb::CopyBlock),
+    (b"uid", Verb::SetUserId),
+    (b"map", Verb::SetMap),
     (b"alloc", Verb::Alloc),
     (b"write", Verb::Write),
     (b"undo", Verb::Undo),
+    (b"redo", Verb::Redo),
     (b"info", Verb::Info),
     (b"list", Verb::List),
+    (b"find", Verb::Find),
+    (b"mapblock", Verb::MapBlock),
     (b"chunks", Verb::Chunks),
     (b"read", Verb::Read),
+    (b"undos", Verb::Undos),
+    (b"redos", Verb::Redos),
 ];
 
 impl Verb {
@@ -76,7 +94,11 @@ fn of_none(verb: Verb) -> Result<Command, Fault>
 {
     match verb {
         Verb::Undo => Ok(Command::Undo),
+        Verb::Redo => Ok(Command::Redo),
         Verb::List => Ok(Command::List),
+        Verb::MapBlock => Ok(Command::MapBlock),
+        Verb::Undos => Ok(Command::Undos),
+        Verb::Redos => Ok(Command::Redos),
         _ => Err(Fault::BadCommand),
     }
 }
@@ -88,6 +110,9 @@ fn of_one(verb: Verb, first: &[u8]) -> Result<Command, Fault>
 {
     match verb {
         Verb::NewHeap => Ok(Command::Edit(Edit::NewHeap(user_id(first)?))),
+        Verb::FreeBlock => Ok(Command::Edit(Edit::FreeBlock(block(first)?))),
+        Verb::CopyBlock => Ok(Command::Edit(Edit::CopyBlock(block(first)?))),
+        Verb::SetMap => Ok(Command::Edit(Edit::SetMap(block(first)?))),
         Verb::Info => Ok(Command::Info(block(first)?)),
         Verb::Chunks => Ok(Command::Chunks(block(first)?)),
         _ => Err(Fault::BadCommand),
@@ -100,7 +125,9 @@ fn of_two(verb: Verb, first: &[u8], second: &[u8]) -> Result<Command, Fault>
     ensures err { IfErr result (λ fault. (fault ≡ Fault.Memory) ⊎ ((fault ≡ Fault.BadCommand) × (takes verb (first.now ∷ second.now ∷ []) ≡ None))) }
 {
     match verb {
+        Verb::SetUserId => Ok(Command::Edit(Edit::SetUserId(block(first)?, user_id(second)?))),
         Verb::Alloc => Ok(Command::Edit(Edit::Alloc(block(first)?, number(second)?))),
+        Verb::Find => Ok(Command::Find(user_id(first)?, block(second)?)),
         Verb::Read => Ok(Command::Read(block(first)?, chunk(second)?)),
         _ => Err(Fault::BadCommand),
     }

@@ -1,12 +1,16 @@
 -- A block put back where it was.
+use Rattle.std.specs.Option.{option_map_or}
 use Rattle.std.proofs.Common.{◌≡◌, ℕ, Bool, true, false, cond, Option, Some, None, List, length, ◌+◌, ◌≤◌, ◌==◌, nat_cmp, refl, sym, ap, ◌∙◌}
-use Rattle.std.proofs.lemmas.Bool.{eqb-true, le-ltb}
+use Rattle.std.proofs.lemmas.Bool.{eqb-true, eq-eqb, le-ltb}
 use Rattle.std.specs.Cmp.{nat_cmp_total, unsigned_tied}
 use Rattle.std.specs.FinMap.{FinMap, get, insert, remove, same_map, nat_cmp-IsAntisymmetric, get-insert, get-remove}
-use Rattle.geos_model.specs.Document.{Block, Document, is_heap_body, chunks_of_body}
+use Rattle.geos_model.specs.Document.{Block, Document, is_heap_body, chunks_of_body, with_block, with_user_id, next_handle}
 use Rattle.geos_model.specs.Refusal.{first_refusal}
-use Rattle.geos_model.specs.Meaning.{conditions}
-use Rattle.geos_model.specs.declared.command.Edit.TheVariants.{Write}
+use Rattle.geos_model.specs.Meaning.{conditions, effect}
+use Rattle.geos_model.specs.Cost.{image_length}
+use Rattle.geos_model.specs.Image.{image}
+use Rattle.geos_model.specs.declared.command.Done.TheVariants as done
+use Rattle.geos_model.specs.declared.command.Edit.TheVariants.{Write, FreeBlock, CopyBlock, SetUserId}
 use Rattle.geos_model.specs.declared.handle.VmHandle.{VmHandle}
 use Rattle.geos_model.specs.declared.handle.ChunkHandle.{ChunkHandle}
 use Rattle.vm_blocks.specs.Saved.{with_slot}
@@ -44,3 +48,35 @@ slot_back d h o was e =
 pub write_accepted : (d : Document) (b : VmHandle) (c : ChunkHandle) (at : ℕ) (bytes old : List ℕ) (block : Block) → get d.blocks b.0 ≡ Some block → is_heap_body block.body ≡ true → get (chunks_of_body block.body) c.0 ≡ Some old
     → at + length bytes ≤ length old → first_refusal (conditions (Write b c at bytes) d) ≡ None
 write_accepted d b c at bytes old block live heap chunk within = rw (live, heap, chunk, le-ltb (length old) (at + length bytes) within) refl
+
+-- what stands under the handle then
+get-with_slot : (d : Document) (h : ℕ) (b : Block) → get (with_block d h b).blocks h ≡ Some b
+get-with_slot d h b = get-blocks_with d.blocks h (Some b) h ∙ ap (λ (t : Bool). cond t (Some b) (get d.blocks h)) (eq-eqb h h refl)
+
+user_id-is : (d : Document) (h uid : ℕ) (b : Block) → get d.blocks h ≡ Some b → with_user_id d h uid ≡ with_block d h (record b { user_id = uid })
+user_id-is d h uid b e = ap (λ (o : Option Block). option_map_or (λ (x : Block). with_block d h (record x { user_id = uid })) o d) e
+
+-- the user ID of a live block, set again, gives the document again
+pub user_id_back : (d : Document) (h uid : ℕ) (b : Block) → get d.blocks h ≡ Some b → with_user_id (with_user_id d h uid) h b.user_id ≡ d
+user_id_back d h uid b e =
+    let there : Block = record b { user_id = uid } in
+    ap (λ (x : Document). with_user_id x h b.user_id) (user_id-is d h uid b e)
+    ∙ user_id-is (with_block d h there) h b.user_id there (get-with_slot d h there)
+    ∙ slot_back d h (Some there) (Some b) (sym e)
+
+-- a live block that isn't the map block may be freed
+pub free_accepted : (d : Document) (b : VmHandle) (block : Block) → get d.blocks b.0 ≡ Some block → (d.map_block == b.0) ≡ false → first_refusal (conditions (FreeBlock b) d) ≡ None
+free_accepted d b block live other = rw (live, other) refl
+
+pub copy_accepted : (d : Document) (b : VmHandle) (block : Block) (h : ℕ) → get d.blocks b.0 ≡ Some block → next_handle d ≡ Some h → first_refusal (conditions (CopyBlock b) d) ≡ None
+copy_accepted d b block h live some = rw (live, some) refl
+
+-- what a copy comes to
+pub copy_effect : (d : Document) (b : VmHandle) (block : Block) (h : ℕ) → get d.blocks b.0 ≡ Some block → next_handle d ≡ Some h → effect (CopyBlock b) d ≡ (with_block d h block, done.Block (record { 0 = h }))
+copy_effect d b block h live some = rw (live, some) refl
+
+pub user_id_accepted : (d : Document) (b : VmHandle) (uid : ℕ) (block : Block) → get d.blocks b.0 ≡ Some block → first_refusal (conditions (SetUserId b uid) d) ≡ None
+user_id_accepted d b uid block live = rw live refl
+
+pub image_length-is : (d : Document) (h : ℕ) (block : Block) → get d.blocks h ≡ Some block → image_length d h ≡ length (image block.body)
+image_length-is d h block live = rw live refl

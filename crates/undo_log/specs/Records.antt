@@ -1,19 +1,32 @@
 -- What records give back.
 use Rattle.std.specs.Prelude.{◌≡◌, List, [], ◌∷◌}
 use Rattle.std.specs.Option.{option_map}
-use Rattle.geos_model.specs.Document.{Document}
+use Rattle.geos_model.specs.Document.{Document, with_user_id}
 use Rattle.geos_model.specs.Machine.{UndoStep}
 use Rattle.vm_blocks.specs.Saved.{saved_block, with_slot}
+use Rattle.undo_log.specs.declared.before.Before.{Before}
+use Rattle.undo_log.specs.declared.before.Before.TheVariants as befores
 use Rattle.undo_log.specs.declared.record.Record.{Record}
+
+-- the document with what was before
+abbrev pub with_before : Before → Document → Document
+with_before (befores.Block place block) d = with_slot d place.handle.0 (option_map saved_block block)
+with_before (befores.UserId h uid) d = with_user_id d h.0 uid
+with_before (befores.Map h) d = record d { map_block = h.0 }
 
 -- the document before the record's step
 abbrev pub back : Record → Document → Document
-back r d = with_slot d r.handle.0 (option_map saved_block r.block)
+back r d = with_before r.before d
 
 -- what the records give back from a document, one after another
 abbrev pub steps : List Record → Document → List UndoStep
 steps [] d = []
 steps (r ∷ rs) d = record { kind = r.kind; cost = r.cost; document = back r d } ∷ steps rs (back r d)
+
+-- What was before is there, and what was there is before.
+pub record Swaps (before now : Before) (old new : Document) : Type 0 where
+  pub new_is : new ≡ with_before before old
+  pub old_is : with_before now new ≡ old
 
 -- a record that takes another one back
 pub record TurnsBack (r turned : Record) (old new : Document) : Type 0 where

@@ -1,6 +1,7 @@
 -- A step from one list of records to the other.
 use Rattle.std.specs.Prelude.{◌≡◌, Bool, true, false, List, [], ◌∷◌}
 use Rattle.geos_model.specs.Document.{Document}
+use Rattle.geos_model.specs.Machine.{is_plain_kind}
 use Rattle.undo_log.specs.declared.record.Record.{Record}
 use Rattle.undo_log.specs.Records.{TurnsBack}
 
@@ -22,3 +23,8 @@ pub record Stays (old new : Document) (from to from' to' : List Record) : Type 0
 abbrev pub Turns : Bool → Document → Document → List Record → List Record → List Record → List Record → Type 0
 Turns true old new from to from' to' = Moves old new from to from' to'
 Turns false old new from to from' to' = Stays old new from to from' to'
+
+-- the newest record is of a user ID or the map block, or there is none
+abbrev pub is_plain_record : List Record → Bool
+is_plain_record [] = true
+is_plain_record (r ∷ rs) = is_plain_kind r.kind

@@ -1,40 +1,16 @@
-ghost use Rattle.std.specs.Prelude.{◌≡◌, ◌≤◌, IfOk};
-ghost use Rattle.std.specs.Option.{option_map};
-ghost use Rattle.std.specs.FinMap.{get};
-ghost use Rattle.vm_blocks.specs.Blocks.{block_of};
-ghost use Rattle.vm_blocks.specs.Saved.{saved_block};
+ghost use Rattle.std.specs.Prelude.{◌≡◌};
+ghost use Rattle.geos_model.specs.Machine.{is_plain_kind};
+ghost use Rattle.undo_log.specs.Before.{is_plain_before};
 
-use geos_model::{Kind, VmHandle};
-use std::alloc::{AllocError, Global};
-use vm_blocks::{Block, Blocks, SavedBlock};
+use crate::before::Before;
+use geos_model::Kind;
 
-/// What takes a step of the undo lists back: the block under a handle as it was before, or that there was none.
+/// What takes a step of the undo lists back.
 #[derive(Drop)]
 pub struct Record {
     pub kind: Kind,
     /// How many bytes the step's edit is charged for.
     pub cost: u64,
-    pub handle: VmHandle,
-    pub block: Option<SavedBlock>,
-    ghost is_handle: { (1 ≤ handle.0) × (handle.0 ≤ 2048) },
-}
-
-/// The block under a handle as it is now, or that there is none.
-pub fn saved(blocks: &Blocks, handle: VmHandle) -> Result<Option<SavedBlock>, AllocError>
-    ensures { IfOk result (λ saved. option_map saved_block saved ≡ get blocks.now.blocks handle.0) }
-{
-    match blocks.block(handle) {
-        Some(block) => Ok(Some(SavedBlock::of(block)?)),
-        None => Ok(None),
-    }
-}
-
-/// A saved block, or none, as it was.
-pub fn restored(alloc: Global, saved: &Option<SavedBlock>) -> Result<Option<Block>, AllocError>
-    ensures { IfOk result (λ block. option_map block_of block ≡ option_map saved_block saved.now) }
-{
-    match saved {
-        Some(saved) => Ok(Some(saved.restore(alloc)?)),
-        None => Ok(None),
-    }
+    pub before: Before,
+    ghost plain: { is_plain_kind kind ≡ is_plain_before before },
 }

@@ -1,11 +1,12 @@
-ghost use Rattle.std.specs.Prelude.{◌≡◌, ◌+◌, ◌≤◌, ℕ, Some, IfOk, OnErr, reverse, vec_len, vec_capacity};
-ghost use Rattle.geos_model.specs.Reply.{Accepted, BytesAre, reply_by, reply_of_done, info_is, blocks_are, chunks_are};
+ghost use Rattle.std.specs.Prelude.{◌≡◌, ℕ, Some, IfOk, length};
+ghost use Rattle.std.specs.Option.{option_map};
+ghost use Rattle.geos_model.specs.Reply.{Accepted, BytesAre, reply_by, reply_of_done, info_is, blocks_are, chunks_are, found};
 ghost use Rattle.geos_model.specs.Machine.{Step, empty_machine};
 ghost use Rattle.geos_model.specs.declared.command.Command.TheVariants as commands;
-ghost use Rattle.undo_log.specs.Turning.{Turns};
 
-use crate::change::{make, take_back};
+use crate::edits::make;
 use crate::record::Record;
+use crate::turn::turn;
 use geos_model::{ChunkHandle, Done, Edit, Fault, Info, VmHandle};
 use std::alloc::{AllocError, Global};
 use std::marker::Model;
@@ -41,36 +42,6 @@ impl Model for Session {
     } };
 
     ghost invariant = { λ s. (vec_len s.undo + vec_len s.redo ≤ vec_capacity s.undo) × (vec_len s.undo + vec_len s.redo ≤ vec_capacity s.redo) };
-}
-
-// Takes the newest record of one list back, and puts the one that takes this back on the other; false where there is none.
-fn turn(
-    alloc: Global,
-    blocks: &mut Blocks,
-    from: &mut Vec<Record>,
-    to: &mut Vec<Record>,
-) -> Result<bool, AllocError>
-    requires from_room { vec_len from.old ≤ vec_capacity from.old }
-    requires to_room { vec_len from.old + vec_len to.old ≤ vec_capacity to.old }
-    ensures ok { IfOk result (λ turned. Turns turned blocks.old blocks.new (reverse from.old.items) (reverse to.old.items) (reverse from.new.items) (reverse to.new.items)) }
-    ensures err { OnErr result ((blocks.new ≡ blocks.old) × (from.new.items ≡ from.old.items) × (to.new.items ≡ to.old.items)) }
-    ensures count { vec_len from.new + vec_len to.new ≡ vec_len from.old + vec_len to.old }
-    ensures from_capacity { vec_capacity from.new ≡ vec_capacity from.old }
-    ensures to_capacity { vec_capacity to.new ≡ vec_capacity to.old }
-{
-    match from.pop() {
-        None => Ok(false),
-        Some(record) => match take_back(alloc, blocks, &record) {
-            Ok(turned) => {
-                to.push_reserved(turned);
-                Ok(true)
-            }
-            Err(error) => {
-                from.push_reserved(record);
-                Err(error)
-            }
-        },
-    }
 }
 
 impl Session {
@@ -109,6 +80,31 @@ impl Session {
         }
     }
 
+    /// Makes the edit again that the newest undo took back.
+    pub fn redo(&mut self) -> Result<(), Fault>
+        ensures { Step self.old (Some commands.Redo) (reply_by (λ _. Accepted) result) self.new }
+    {
+        if turn(self.alloc, &mut self.blocks, &mut self.redo, &mut self.undo)? {
+            Ok(())
+        } else {
+            Err(Fault::NothingToRedo)
+        }
+    }
+
+    /// How many edits can be undone.
+    pub fn undo_count(&self) -> usize
+        ensures { result ≡ length self.now.past }
+    {
+        self.undo.len()
+    }
+
+    /// How many edits can be redone.
+    pub fn redo_count(&self) -> usize
+        ensures { result ≡ length self.now.future }
+    {
+        self.redo.len()
+    }
+
     /// A block's user ID and size.
     pub fn info(&self, block: VmHandle) -> Result<Info, Fault>
         ensures { Step self.now (Some (commands.Info block)) (reply_by info_is result) self.now }
@@ -124,6 +120,20 @@ impl Session {
         ensures { Step self.now (Some commands.List) (reply_by (λ handles. blocks_are handles.items) result) self.now }
     {
         Ok(self.blocks.list()?)
+    }
+
+    /// The least live handle above `start` whose block has this user ID.
+    pub fn find(&self, user_id: u16, start: VmHandle) -> Option<VmHandle>
+        ensures { option_map (λ h. h.0) result ≡ found self.now.document user_id start.0 }
+    {
+        self.blocks.find(user_id, start)
+    }
+
+    /// The map block, 0 if there is none.
+    pub fn map_block(&self) -> VmHandle
+        ensures { result.0 ≡ self.now.document.map_block }
+    {
+        self.blocks.map_block()
     }
 
     /// The live chunks of a heap, rising.

@@ -1,17 +1,18 @@
 -- Slots as tables, slot by slot.
-use Rattle.std.proofs.Common.{◌≡◌, ℕ, zero, suc, ◌+◌, ◌<◌, ◌≤◌, Bool, true, false, List, [], ◌∷◌, ◌++◌, map, length, get_or, set, take, replicate, Option, Some, None, is_some, refl, sym, ap, ◌∙◌, arith, ◌-◌, ◌*◌, cond, nat_lt, min, ◌==◌, subst}
+use Rattle.std.proofs.Common.{◌≡◌, ℕ, zero, suc, ◌+◌, ◌<◌, ◌≤◌, Bool, true, false, List, [], ◌∷◌, ◌++◌, map, length, get_or, set, take, replicate, Option, Some, None, is_some, refl, sym, ap, ◌∙◌, arith, ◌-◌, ◌*◌, cond, nat_lt, min, ◌==◌, subst, ◌&&◌, drop, find, add_assoc, drop-cons}
 use Rattle.std.specs.Option.{option_map, option_map_or}
-use Rattle.std.proofs.lemmas.List.{take_more, length-take-le, append-nil, map-append, get_or_default}
+use Rattle.std.proofs.lemmas.List.{take_more, length-take-le, append-nil, map-append, get_or_default, drop_all}
 use Rattle.std.proofs.Math.ListN.{length-set}
-use Rattle.std.proofs.lemmas.Bool.{lt-ltb, le-ltb, eqb-true}
-use Rattle.std.specs.FinMap.{get, insert, remove, empty, keys}
+use Rattle.std.proofs.lemmas.Bool.{lt-ltb, le-ltb, eqb-true, eq-eqb}
+use Rattle.std.specs.FinMap.{get, insert, remove, empty, keys, contains_key}
 use Rattle.geos_model.specs.Table.{table_entries, table_map, first_gap}
-use Rattle.geos_model.specs.Document.{Block as DocumentBlock, Document, is_heap, is_heap_body, chunks_of, chunks_of_body, user_id_of, with_block, next_handle}
+use Rattle.geos_model.specs.Document.{Block as DocumentBlock, Document, is_heap, is_heap_body, chunks_of, chunks_of_body, user_id_of, with_block, with_user_id, next_handle}
+use Rattle.geos_model.specs.Reply.{found}
 use Rattle.geos_model.specs.Heap.{ChunkMap}
 use Rattle.geos_model.specs.Meaning.{with_chunk}
 use Rattle.geos_model.specs.declared.command.Body.TheVariants.{Heap}
 use Rattle.vm_blocks.specs.Saved.{with_slot}
-use Rattle.geos_model.proofs.Tables.{slot_at, get-table_map_at, get-table_map_below, table_map-set, table_map-clear, keys-table_map, next_handle-table, first_gap_none}
+use Rattle.geos_model.proofs.Tables.{slot_at, get-table_map_at, get-table_map_below, table_map-set, table_map-clear, keys-table_map, next_handle-table, first_gap_none, entries-table_map}
 use Rattle.geos_model.specs.declared.handle.VmHandle.{VmHandle}
 use Rattle.vm_blocks.specs.declared.block.Block.{Block}
 use Rattle.vm_blocks.specs.Blocks.{block_of, table_of, document_of, AreSlots, start_after}
@@ -96,172 +97,236 @@ pub table_of-nones : (n : ℕ) → table_of (replicate n None) ≡ replicate n N
 table_of-nones zero = refl
 table_of-nones (suc n) = ap (λ t. None ∷ t) (table_of-nones n)
 
--- What is under a handle of the document is in the slot before.
-module _ (slots : List (Option Block)) where
-  pub get-document_none : get (document_of slots).blocks 0 ≡ None
-  get-document_none = get-table_map_below (let up : 0 < 1 = omega arith in up) 1 (table_of slots) 0 (omega arith)
+heap_if_some : (o : Option Block) → is_some (option_map block_of o) ≡ true → option_map_or (λ (b : DocumentBlock). is_heap_body b.body) (option_map block_of o) false ≡ true
+heap_if_some None e = absurd (cc e)
+heap_if_some (Some b) e = refl
 
-  pub get-document : (h : ℕ) → 1 ≤ h → get (document_of slots).blocks h ≡ option_map block_of (get_or slots (h - 1) None)
-  get-document h l = get-table_map_at (let up : 0 < 1 = omega arith in up) 1 (table_of slots) (h - 1) h (omega arith) ∙ slot_at-table_of slots (h - 1)
+-- Of a document with some map block.
+module _ (mb : ℕ) where
+  abbrev pub shown_by : List (Option Block) → Document
+  shown_by slots = document_of slots mb
 
-  pub put-document : (h : ℕ) (o : Option Block) → 1 ≤ h → h - 1 < length slots → document_of (set slots (h - 1) o) ≡ with_slot (document_of slots) h (option_map block_of o)
-  put-document h None l lt = ap (λ (t : List (Option DocumentBlock)). record { blocks = table_map 1 1 t; map_block = 0 }) (table_of-set slots (h - 1) None)
-      ∙ ap (λ b. record { blocks = b; map_block = 0 }) (table_map-clear (let up : 0 < 1 = omega arith in up) 1 (table_of slots) (h - 1) (omega (arith, length-table_of slots)) ∙ ap (remove (table_map 1 1 (table_of slots))) (let e : 1 + 1 * (h - 1) ≡ h = omega arith in e))
-  put-document h (Some b) l lt = ap (λ (t : List (Option DocumentBlock)). record { blocks = table_map 1 1 t; map_block = 0 }) (table_of-set slots (h - 1) (Some b))
-      ∙ ap (λ m. record { blocks = m; map_block = 0 }) (table_map-set (let up : 0 < 1 = omega arith in up) 1 (table_of slots) (h - 1) (block_of b) (omega (arith, length-table_of slots)) ∙ ap (λ (k : ℕ). insert (table_map 1 1 (table_of slots)) k (block_of b)) (let e : 1 + 1 * (h - 1) ≡ h = omega arith in e))
+  -- What is under a handle of the document is in the slot before.
+  module _ (slots : List (Option Block)) where
+    pub get-document_none : get (shown_by slots).blocks 0 ≡ None
+    get-document_none = get-table_map_below (let up : 0 < 1 = omega arith in up) 1 (table_of slots) 0 (omega arith)
 
-  -- the block under a handle, in its slot
-  pub record Holds (h : ℕ) (b : Block) : Type 0 where
-    pub from_one : 1 ≤ h
-    pub within : h - 1 < length slots
-    pub slot : get_or slots (h - 1) None ≡ Some b
+    pub get-document : (h : ℕ) → 1 ≤ h → get (shown_by slots).blocks h ≡ option_map block_of (get_or slots (h - 1) None)
+    get-document h l = get-table_map_at (let up : 0 < 1 = omega arith in up) 1 (table_of slots) (h - 1) h (omega arith) ∙ slot_at-table_of slots (h - 1)
 
-slot_within : (slots : List (Option Block)) (i : ℕ) (b : Block) → get_or slots i None ≡ Some b → i < length slots
-slot_within [] i b e = absurd (cc e)
-slot_within (x ∷ xs) zero b e = omega arith
-slot_within (x ∷ xs) (suc i) b e = let r = slot_within xs i b e in omega (arith, r)
+    pub put-document : (h : ℕ) (o : Option Block) → 1 ≤ h → h - 1 < length slots → shown_by (set slots (h - 1) o) ≡ with_slot (shown_by slots) h (option_map block_of o)
+    put-document h None l lt = ap (λ (t : List (Option DocumentBlock)). record { blocks = table_map 1 1 t; map_block = mb }) (table_of-set slots (h - 1) None)
+        ∙ ap (λ b. record { blocks = b; map_block = mb }) (table_map-clear (let up : 0 < 1 = omega arith in up) 1 (table_of slots) (h - 1) (omega (arith, length-table_of slots)) ∙ ap (remove (table_map 1 1 (table_of slots))) (let e : 1 + 1 * (h - 1) ≡ h = omega arith in e))
+    put-document h (Some b) l lt = ap (λ (t : List (Option DocumentBlock)). record { blocks = table_map 1 1 t; map_block = mb }) (table_of-set slots (h - 1) (Some b))
+        ∙ ap (λ m. record { blocks = m; map_block = mb }) (table_map-set (let up : 0 < 1 = omega arith in up) 1 (table_of slots) (h - 1) (block_of b) (omega (arith, length-table_of slots)) ∙ ap (λ (k : ℕ). insert (table_map 1 1 (table_of slots)) k (block_of b)) (let e : 1 + 1 * (h - 1) ≡ h = omega arith in e))
 
-slot_some_within : (slots : List (Option Block)) (i : ℕ) → is_some (get_or slots i None) ≡ true → i < length slots
-slot_some_within [] i e = absurd (cc e)
-slot_some_within (x ∷ xs) zero e = omega arith
-slot_some_within (x ∷ xs) (suc i) e = let r = slot_some_within xs i e in omega (arith, r)
+    -- the block under a handle, in its slot
+    pub record Holds (h : ℕ) (b : Block) : Type 0 where
+      pub from_one : 1 ≤ h
+      pub within : h - 1 < length slots
+      pub slot : get_or slots (h - 1) None ≡ Some b
 
-holds_by : (slots : List (Option Block)) (h : ℕ) → 1 ≤ h → (o : Option Block) → get_or slots (h - 1) None ≡ o → option_map_or (λ (b : DocumentBlock). is_heap_body b.body) (option_map block_of o) false ≡ true → (b : Block) × Holds slots h b
-holds_by slots h l None e t = absurd (cc t)
-holds_by slots h l (Some b) e t = (b, record { from_one = l; within = slot_within slots (h - 1) b e; slot = e })
+  slot_within : (slots : List (Option Block)) (i : ℕ) (b : Block) → get_or slots i None ≡ Some b → i < length slots
+  slot_within [] i b e = absurd (cc e)
+  slot_within (x ∷ xs) zero b e = omega arith
+  slot_within (x ∷ xs) (suc i) b e = let r = slot_within xs i b e in omega (arith, r)
 
--- where the document has a heap, there is a block
-pub holds : (slots : List (Option Block)) (h : ℕ) → is_heap (document_of slots) h ≡ true → (b : Block) × Holds slots h b
-holds slots zero t = absurd (cc (sym (ap (λ o. option_map_or (λ (b : DocumentBlock). is_heap_body b.body) o false) (get-document_none slots)) ∙ t))
-holds slots (suc n) t =
-    let here : 1 ≤ suc n = omega arith in
-    holds_by slots (suc n) here (get_or slots (suc n - 1) None) refl (sym (ap (λ o. option_map_or (λ (b : DocumentBlock). is_heap_body b.body) o false) (get-document slots (suc n) here)) ∙ t)
+  slot_some_within : (slots : List (Option Block)) (i : ℕ) → is_some (get_or slots i None) ≡ true → i < length slots
+  slot_some_within [] i e = absurd (cc e)
+  slot_some_within (x ∷ xs) zero e = omega arith
+  slot_some_within (x ∷ xs) (suc i) e = let r = slot_some_within xs i e in omega (arith, r)
 
-module _ (slots : List (Option Block)) (h : ℕ) (b : Block) (there : Holds slots h b) where
-  pub get-holds : get (document_of slots).blocks h ≡ Some (block_of b)
-  get-holds = get-document slots h there.from_one ∙ ap (option_map block_of) there.slot
+  holds_by : (slots : List (Option Block)) (h : ℕ) → 1 ≤ h → (o : Option Block) → get_or slots (h - 1) None ≡ o → option_map_or (λ (b : DocumentBlock). is_heap_body b.body) (option_map block_of o) false ≡ true → (b : Block) × Holds slots h b
+  holds_by slots h l None e t = absurd (cc t)
+  holds_by slots h l (Some b) e t = (b, record { from_one = l; within = slot_within slots (h - 1) b e; slot = e })
 
-  pub chunks-holds : chunks_of (document_of slots) h ≡ b.heap
-  chunks-holds = ap (λ o. option_map_or (λ (x : DocumentBlock). chunks_of_body x.body) o empty) get-holds
+  -- where the document has a heap, there is a block
+  pub holds : (slots : List (Option Block)) (h : ℕ) → is_heap (shown_by slots) h ≡ true → (b : Block) × Holds slots h b
+  holds slots zero t = absurd (cc (sym (ap (λ o. option_map_or (λ (b : DocumentBlock). is_heap_body b.body) o false) (get-document_none slots)) ∙ t))
+  holds slots (suc n) t =
+      let here : 1 ≤ suc n = omega arith in
+      holds_by slots (suc n) here (get_or slots (suc n - 1) None) refl (sym (ap (λ o. option_map_or (λ (b : DocumentBlock). is_heap_body b.body) o false) (get-document slots (suc n) here)) ∙ t)
 
-  pub user_id-holds : user_id_of (document_of slots) h ≡ b.user_id
-  user_id-holds = ap (λ o. option_map_or (λ (x : DocumentBlock). x.user_id) o 0) get-holds
+  module _ (slots : List (Option Block)) (h : ℕ) (b : Block) (there : Holds slots h b) where
+    pub get-holds : get (shown_by slots).blocks h ≡ Some (block_of b)
+    get-holds = get-document slots h there.from_one ∙ ap (option_map block_of) there.slot
 
-  -- a chunk put into the block's heap
-  pub with_chunk-holds : (c : ℕ) (bytes : List ℕ) → document_of (set slots (h - 1) (Some (record { user_id = b.user_id; heap = insert b.heap c bytes }))) ≡ with_chunk (document_of slots) h c bytes
-  with_chunk-holds c bytes =
-      put-document slots h (Some (record { user_id = b.user_id; heap = insert b.heap c bytes })) there.from_one there.within
-      ∙ ap (λ (p : ℕ × ChunkMap). with_block (document_of slots) h (record { user_id = p.0; body = Heap (insert p.1 c bytes) })) (λ i. (sym user_id-holds i, sym chunks-holds i))
+    pub chunks-holds : chunks_of (shown_by slots) h ≡ b.heap
+    chunks-holds = ap (λ o. option_map_or (λ (x : DocumentBlock). chunks_of_body x.body) o empty) get-holds
 
--- a block that is put somewhere leaves no new gap
-pub first_gap-full : (slots : List (Option Block)) (i gap : ℕ) (b : Block) → gap ≤ first_gap (table_of slots) → gap ≤ first_gap (table_of (set slots i (Some b)))
-first_gap-full [] i gap b l = l
-first_gap-full (x ∷ xs) i zero b l = omega arith
-first_gap-full (None ∷ xs) i (suc gap) b l = absurd (omega arith)
-first_gap-full (Some x ∷ xs) zero (suc gap) b l = l
-first_gap-full (Some x ∷ xs) (suc i) (suc gap) b l = let r = first_gap-full xs i gap b (omega arith) in omega (arith, r)
+    pub user_id-holds : user_id_of (shown_by slots) h ≡ b.user_id
+    user_id-holds = ap (λ o. option_map_or (λ (x : DocumentBlock). x.user_id) o 0) get-holds
 
--- at the gap it moves it on
-pub first_gap-filled : (slots : List (Option Block)) (gap : ℕ) (b : Block) → gap < length slots → gap ≤ first_gap (table_of slots) → gap + 1 ≤ first_gap (table_of (set slots gap (Some b)))
-first_gap-filled [] gap b n l = absurd (omega arith)
-first_gap-filled (x ∷ xs) zero b n l = omega arith
-first_gap-filled (None ∷ xs) (suc gap) b n l = absurd (omega arith)
-first_gap-filled (Some x ∷ xs) (suc gap) b n l = let r = first_gap-filled xs gap b (omega arith) (omega arith) in omega (arith, r)
+    -- a chunk put into the block's heap
+    pub with_chunk-holds : (c : ℕ) (bytes : List ℕ) → shown_by (set slots (h - 1) (Some (record { user_id = b.user_id; heap = insert b.heap c bytes }))) ≡ with_chunk (shown_by slots) h c bytes
+    with_chunk-holds c bytes =
+        put-document slots h (Some (record { user_id = b.user_id; heap = insert b.heap c bytes })) there.from_one there.within
+        ∙ ap (λ (p : ℕ × ChunkMap). with_block (shown_by slots) h (record { user_id = p.0; body = Heap (insert p.1 c bytes) })) (λ i. (sym user_id-holds i, sym chunks-holds i))
 
--- a block that goes leaves a gap at its place, and none before it
-pub first_gap-freed : (slots : List (Option Block)) (i gap : ℕ) → gap ≤ first_gap (table_of slots) → gap ≤ i → gap ≤ first_gap (table_of (set slots i None))
-first_gap-freed [] i gap l le = l
-first_gap-freed (x ∷ xs) i zero l le = omega arith
-first_gap-freed (None ∷ xs) i (suc gap) l le = absurd (omega arith)
-first_gap-freed (Some x ∷ xs) zero (suc gap) l le = absurd (omega arith)
-first_gap-freed (Some x ∷ xs) (suc i) (suc gap) l le = let r = first_gap-freed xs i gap (omega arith) (omega arith) in omega (arith, r)
+  -- a block that is put somewhere leaves no new gap
+  pub first_gap-full : (slots : List (Option Block)) (i gap : ℕ) (b : Block) → gap ≤ first_gap (table_of slots) → gap ≤ first_gap (table_of (set slots i (Some b)))
+  first_gap-full [] i gap b l = l
+  first_gap-full (x ∷ xs) i zero b l = omega arith
+  first_gap-full (None ∷ xs) i (suc gap) b l = absurd (omega arith)
+  first_gap-full (Some x ∷ xs) zero (suc gap) b l = l
+  first_gap-full (Some x ∷ xs) (suc i) (suc gap) b l = let r = first_gap-full xs i gap b (omega arith) in omega (arith, r)
 
--- what stays of the slots when a block is put into one
-pub are_slots_full : (slots : List (Option Block)) (i gap : ℕ) (b : Block) → AreSlots slots gap → AreSlots (set slots i (Some b)) gap
-are_slots_full slots i gap b are = record { size = length-set slots i (Some b) ∙ are.size; full_below = first_gap-full slots i gap b are.full_below }
+  -- at the gap it moves it on
+  pub first_gap-filled : (slots : List (Option Block)) (gap : ℕ) (b : Block) → gap < length slots → gap ≤ first_gap (table_of slots) → gap + 1 ≤ first_gap (table_of (set slots gap (Some b)))
+  first_gap-filled [] gap b n l = absurd (omega arith)
+  first_gap-filled (x ∷ xs) zero b n l = omega arith
+  first_gap-filled (None ∷ xs) (suc gap) b n l = absurd (omega arith)
+  first_gap-filled (Some x ∷ xs) (suc gap) b n l = let r = first_gap-filled xs gap b (omega arith) (omega arith) in omega (arith, r)
 
--- The slot of a heap of the document that the slots show, as code reads it at the place p - 1.
-module _ (slots : List (Option Block)) (d : Document) (shown : document_of slots ≡ d) (h p : ℕ) (place : p ≡ h) (heap : is_heap d h ≡ true) where
-  there : (b : Block) × Holds slots h b
-  there = holds slots h (ap (λ (x : Document). is_heap x h) shown ∙ heap)
+  -- a block that goes leaves a gap at its place, and none before it
+  pub first_gap-freed : (slots : List (Option Block)) (i gap : ℕ) → gap ≤ first_gap (table_of slots) → gap ≤ i → gap ≤ first_gap (table_of (set slots i None))
+  first_gap-freed [] i gap l le = l
+  first_gap-freed (x ∷ xs) i zero l le = omega arith
+  first_gap-freed (None ∷ xs) i (suc gap) l le = absurd (omega arith)
+  first_gap-freed (Some x ∷ xs) zero (suc gap) l le = absurd (omega arith)
+  first_gap-freed (Some x ∷ xs) (suc i) (suc gap) l le = let r = first_gap-freed xs i gap (omega arith) (omega arith) in omega (arith, r)
 
-  pub heap_from_one : 1 ≤ p
-  heap_from_one = let l = there.1.from_one in omega (arith, l)
+  -- what stays of the slots when a block is put into one
+  pub are_slots_full : (slots : List (Option Block)) (i gap : ℕ) (b : Block) → AreSlots slots gap → AreSlots (set slots i (Some b)) gap
+  are_slots_full slots i gap b are = record { size = length-set slots i (Some b) ∙ are.size; full_below = first_gap-full slots i gap b are.full_below }
 
-  pub heap_within : p - 1 < length slots
-  heap_within = let l = there.1.within in omega (arith, l)
+  -- The slot of a heap of the document that the slots show, as code reads it at the place p - 1.
+  module _ (slots : List (Option Block)) (d : Document) (shown : shown_by slots ≡ d) (h p : ℕ) (place : p ≡ h) (heap : is_heap d h ≡ true) where
+    there : (b : Block) × Holds slots h b
+    there = holds slots h (ap (λ (x : Document). is_heap x h) shown ∙ heap)
 
-  read_is : (r : Option Block) → r ≡ get_or slots (p - 1) r → r ≡ Some there.0
-  read_is r read = read ∙ get_or_default slots (p - 1) r None heap_within ∙ ap (λ (q : ℕ). get_or slots (q - 1) None) place ∙ there.1.slot
+    pub heap_from_one : 1 ≤ p
+    heap_from_one = let l = there.1.from_one in omega (arith, l)
 
-  pub heap_not_none : (r : Option Block) → r ≡ get_or slots (p - 1) r → r ≡ None → ⊥
-  heap_not_none r read none = cc (read_is r read)
+    pub heap_within : p - 1 < length slots
+    heap_within = let l = there.1.within in omega (arith, l)
 
-  pub heap_holds : (r : Option Block) (b : Block) → r ≡ get_or slots (p - 1) r → r ≡ Some b → Holds slots h b
-  heap_holds r b read is = record { from_one = there.1.from_one; within = there.1.within; slot = there.1.slot ∙ sym (read_is r read) ∙ is }
+    read_is : (r : Option Block) → r ≡ get_or slots (p - 1) r → r ≡ Some there.0
+    read_is r read = read ∙ get_or_default slots (p - 1) r None heap_within ∙ ap (λ (q : ℕ). get_or slots (q - 1) None) place ∙ there.1.slot
 
-  module _ (r : Option Block) (b : Block) (read : r ≡ get_or slots (p - 1) r) (is : r ≡ Some b) where
-    pub heap_chunks : chunks_of d h ≡ b.heap
-    heap_chunks = ap (λ (x : Document). chunks_of x h) (sym shown) ∙ chunks-holds slots h b (heap_holds r b read is)
+    pub heap_not_none : (r : Option Block) → r ≡ get_or slots (p - 1) r → r ≡ None → ⊥
+    heap_not_none r read none = cc (read_is r read)
 
-    pub heap_with_chunk : (new : ChunkMap) (c : ℕ) (bytes : List ℕ) → new ≡ insert b.heap c bytes
-        → document_of (set slots (p - 1) (Some (record { user_id = b.user_id; heap = new }))) ≡ with_chunk d h c bytes
-    heap_with_chunk new c bytes e =
-        ap (λ (m : ChunkMap). document_of (set slots (p - 1) (Some (record { user_id = b.user_id; heap = m })))) e
-        ∙ ap (λ (q : ℕ). document_of (set slots (q - 1) (Some (record { user_id = b.user_id; heap = insert b.heap c bytes })))) place
-        ∙ with_chunk-holds slots h b (heap_holds r b read is) c bytes
-        ∙ ap (λ (x : Document). with_chunk x h c bytes) shown
+    pub heap_holds : (r : Option Block) (b : Block) → r ≡ get_or slots (p - 1) r → r ≡ Some b → Holds slots h b
+    heap_holds r b read is = record { from_one = there.1.from_one; within = there.1.within; slot = there.1.slot ∙ sym (read_is r read) ∙ is }
 
--- the handles of the document
-pub keys-document : (slots : List (Option Block)) → keys (document_of slots).blocks ≡ handles_from 1 slots
-keys-document slots = keys-table_map (let up : 0 < 1 = omega arith in up) 1 (table_of slots)
+    module _ (r : Option Block) (b : Block) (read : r ≡ get_or slots (p - 1) r) (is : r ≡ Some b) where
+      pub heap_chunks : chunks_of d h ≡ b.heap
+      heap_chunks = ap (λ (x : Document). chunks_of x h) (sym shown) ∙ chunks-holds slots h b (heap_holds r b read is)
 
--- its least free handle, by the first gap
-pub next_handle-some : (slots : List (Option Block)) (gap : ℕ) → gap ≡ first_gap (table_of slots) → gap < 2048 → next_handle (document_of slots) ≡ Some (gap + 1)
-next_handle-some slots gap e l =
-    next_handle-table (table_of slots) 0
-    ∙ ap (λ (n : ℕ). cond (nat_lt n 2048) (Some (1 + n)) None) (sym e)
-    ∙ ap (λ (b : Bool). cond b (Some (1 + gap)) None) (lt-ltb gap 2048 l)
-    ∙ ap (λ (n : ℕ). Some n) (let c : 1 + gap ≡ gap + 1 = omega arith in c)
+      pub heap_with_chunk : (new : ChunkMap) (c : ℕ) (bytes : List ℕ) → new ≡ insert b.heap c bytes
+          → shown_by (set slots (p - 1) (Some (record { user_id = b.user_id; heap = new }))) ≡ with_chunk d h c bytes
+      heap_with_chunk new c bytes e =
+          ap (λ (m : ChunkMap). shown_by (set slots (p - 1) (Some (record { user_id = b.user_id; heap = m })))) e
+          ∙ ap (λ (q : ℕ). shown_by (set slots (q - 1) (Some (record { user_id = b.user_id; heap = insert b.heap c bytes })))) place
+          ∙ with_chunk-holds slots h b (heap_holds r b read is) c bytes
+          ∙ ap (λ (x : Document). with_chunk x h c bytes) shown
 
-pub next_handle-none : (slots : List (Option Block)) (gap : ℕ) → gap ≡ first_gap (table_of slots) → 2048 ≤ gap → next_handle (document_of slots) ≡ None
-next_handle-none slots gap e l =
-    next_handle-table (table_of slots) 0
-    ∙ ap (λ (n : ℕ). cond (nat_lt n 2048) (Some (1 + n)) None) (sym e)
-    ∙ ap (λ (b : Bool). cond b (Some (1 + gap)) None) (le-ltb gap 2048 l)
+  -- the handles of the document
+  pub keys-document : (slots : List (Option Block)) → keys (shown_by slots).blocks ≡ handles_from 1 slots
+  keys-document slots = keys-table_map (let up : 0 < 1 = omega arith in up) 1 (table_of slots)
 
-full_by : (slots : List (Option Block)) (place gap : ℕ) (b : Block) → gap ≤ first_gap (table_of slots) → place < length slots → (t : Bool) → (place == gap) ≡ t → cond t (gap + 1) gap ≤ first_gap (table_of (set slots place (Some b)))
-full_by slots place gap b l n true e = let same : place ≡ gap = eqb-true place gap e in subst (λ (p : ℕ). gap + 1 ≤ first_gap (table_of (set slots p (Some b)))) (sym same) (first_gap-filled slots gap b (omega arith) l)
-full_by slots place gap b l n false e = first_gap-full slots place gap b l
+  -- its least free handle, by the first gap
+  pub next_handle-some : (slots : List (Option Block)) (gap : ℕ) → gap ≡ first_gap (table_of slots) → gap < 2048 → next_handle (shown_by slots) ≡ Some (gap + 1)
+  next_handle-some slots gap e l =
+      next_handle-table (table_of slots) mb
+      ∙ ap (λ (n : ℕ). cond (nat_lt n 2048) (Some (1 + n)) None) (sym e)
+      ∙ ap (λ (b : Bool). cond b (Some (1 + gap)) None) (lt-ltb gap 2048 l)
+      ∙ ap (λ (n : ℕ). Some n) (let c : 1 + gap ≡ gap + 1 = omega arith in c)
 
--- what stays of the slots when one is filled or freed
-pub are_slots_put : (slots : List (Option Block)) (place gap : ℕ) (o : Option Block) → place < length slots → AreSlots slots gap → AreSlots (set slots place o) (start_after gap place (is_some o))
-are_slots_put slots place gap None n are = record { size = length-set slots place None ∙ are.size; full_below = first_gap-freed slots place (min gap place) (let l = are.full_below in omega (arith, l)) (omega arith) }
-are_slots_put slots place gap (Some b) n are = record { size = length-set slots place (Some b) ∙ are.size; full_below = full_by slots place gap b are.full_below n (place == gap) refl }
+  pub next_handle-none : (slots : List (Option Block)) (gap : ℕ) → gap ≡ first_gap (table_of slots) → 2048 ≤ gap → next_handle (shown_by slots) ≡ None
+  next_handle-none slots gap e l =
+      next_handle-table (table_of slots) mb
+      ∙ ap (λ (n : ℕ). cond (nat_lt n 2048) (Some (1 + n)) None) (sym e)
+      ∙ ap (λ (b : Bool). cond b (Some (1 + gap)) None) (le-ltb gap 2048 l)
 
-pub gap_le : (slots : List (Option Block)) (gap : ℕ) → AreSlots slots gap → gap ≤ 2048
-gap_le slots gap are = let f = are.full_below in let b = first_gap-bound slots in let n = are.size in omega (arith, f, b, n)
+  full_by : (slots : List (Option Block)) (place gap : ℕ) (b : Block) → gap ≤ first_gap (table_of slots) → place < length slots → (t : Bool) → (place == gap) ≡ t → cond t (gap + 1) gap ≤ first_gap (table_of (set slots place (Some b)))
+  full_by slots place gap b l n true e = let same : place ≡ gap = eqb-true place gap e in subst (λ (p : ℕ). gap + 1 ≤ first_gap (table_of (set slots p (Some b)))) (sym same) (first_gap-filled slots gap b (omega arith) l)
+  full_by slots place gap b l n false e = first_gap-full slots place gap b l
 
--- the block under a handle, as code reads the slot at p - 1
-pub block-read : (slots : List (Option Block)) (d : Document) → document_of slots ≡ d → (h p : ℕ) → p ≡ h → 1 ≤ h → (o : Option Block) → o ≡ get_or slots (p - 1) None → option_map block_of o ≡ get d.blocks h
-block-read slots d shown h p place one o read =
-    ap (option_map block_of) (read ∙ ap (λ (q : ℕ). get_or slots (q - 1) None) place) ∙ sym (get-document slots h one) ∙ ap (λ (x : Document). get x.blocks h) shown
+  -- what stays of the slots when one is filled or freed
+  pub are_slots_put : (slots : List (Option Block)) (place gap : ℕ) (o : Option Block) → place < length slots → AreSlots slots gap → AreSlots (set slots place o) (start_after gap place (is_some o))
+  are_slots_put slots place gap None n are = record { size = length-set slots place None ∙ are.size; full_below = first_gap-freed slots place (min gap place) (let l = are.full_below in omega (arith, l)) (omega arith) }
+  are_slots_put slots place gap (Some b) n are = record { size = length-set slots place (Some b) ∙ are.size; full_below = full_by slots place gap b are.full_below n (place == gap) refl }
 
-pub block-none : (slots : List (Option Block)) (d : Document) → document_of slots ≡ d → (h : ℕ) → h ≡ 0 → None ≡ get d.blocks h
-block-none slots d shown h zero_is = sym (get-document_none slots) ∙ ap (λ (x : Document). get x.blocks 0) shown ∙ ap (λ (q : ℕ). get d.blocks q) (sym zero_is)
+  pub gap_le : (slots : List (Option Block)) (gap : ℕ) → AreSlots slots gap → gap ≤ 2048
+  gap_le slots gap are = let f = are.full_below in let b = first_gap-bound slots in let n = are.size in omega (arith, f, b, n)
 
--- a block is put in its slot, or nothing
-pub put-read : (slots : List (Option Block)) (d : Document) → document_of slots ≡ d → (h p : ℕ) → p ≡ h → 1 ≤ h → h ≤ length slots → (o : Option Block) → document_of (set slots (p - 1) o) ≡ with_slot d h (option_map block_of o)
-put-read slots d shown h p place one within o =
-    ap (λ (q : ℕ). document_of (set slots (q - 1) o)) place ∙ put-document slots h o one (omega arith) ∙ ap (λ (x : Document). with_slot x h (option_map block_of o)) shown
+  -- the block under a handle, as code reads the slot at p - 1
+  pub block-read : (slots : List (Option Block)) (d : Document) → shown_by slots ≡ d → (h p : ℕ) → p ≡ h → 1 ≤ h → (o : Option Block) → o ≡ get_or slots (p - 1) None → option_map block_of o ≡ get d.blocks h
+  block-read slots d shown h p place one o read =
+      ap (option_map block_of) (read ∙ ap (λ (q : ℕ). get_or slots (q - 1) None) place) ∙ sym (get-document slots h one) ∙ ap (λ (x : Document). get x.blocks h) shown
 
--- a block that code reads is under a handle
-pub block-within : (slots : List (Option Block)) (gap h p : ℕ) → AreSlots slots gap → p ≡ h → (o : Option Block) → o ≡ get_or slots (p - 1) None → is_some o ≡ true → h ≤ 2048
-block-within slots gap h p are place o read some = let n = are.size in let l = slot_some_within slots (p - 1) (ap is_some (sym read) ∙ some) in omega (arith, n, l)
+  pub block-none : (slots : List (Option Block)) (d : Document) → shown_by slots ≡ d → (h : ℕ) → h ≡ 0 → None ≡ get d.blocks h
+  block-none slots d shown h zero_is = sym (get-document_none slots) ∙ ap (λ (x : Document). get x.blocks 0) shown ∙ ap (λ (q : ℕ). get d.blocks q) (sym zero_is)
 
--- the handle of the first gap isn't live
-pub gap-free : (slots : List (Option Block)) (d : Document) → document_of slots ≡ d → (gap : ℕ) → gap ≡ first_gap (table_of slots) → get d.blocks (gap + 1) ≡ None
-gap-free slots d shown gap e =
-    ap (λ (x : Document). get x.blocks (gap + 1)) (sym shown)
-    ∙ get-table_map_at (let up : 0 < 1 = omega arith in up) 1 (table_of slots) gap (gap + 1) (omega arith)
-    ∙ ap (slot_at (table_of slots)) e ∙ first_gap_none (table_of slots)
+  -- a block is put in its slot, or nothing
+  pub put-read : (slots : List (Option Block)) (d : Document) → shown_by slots ≡ d → (h p : ℕ) → p ≡ h → 1 ≤ h → h ≤ length slots → (o : Option Block) → shown_by (set slots (p - 1) o) ≡ with_slot d h (option_map block_of o)
+  put-read slots d shown h p place one within o =
+      ap (λ (q : ℕ). shown_by (set slots (q - 1) o)) place ∙ put-document slots h o one (omega arith) ∙ ap (λ (x : Document). with_slot x h (option_map block_of o)) shown
+
+  -- a block that code reads is under a handle
+  pub block-within : (slots : List (Option Block)) (gap h p : ℕ) → AreSlots slots gap → p ≡ h → (o : Option Block) → o ≡ get_or slots (p - 1) None → is_some o ≡ true → h ≤ 2048
+  block-within slots gap h p are place o read some = let n = are.size in let l = slot_some_within slots (p - 1) (ap is_some (sym read) ∙ some) in omega (arith, n, l)
+
+  -- the handle of the first gap isn't live
+  pub gap-free : (slots : List (Option Block)) (d : Document) → shown_by slots ≡ d → (gap : ℕ) → gap ≡ first_gap (table_of slots) → get d.blocks (gap + 1) ≡ None
+  gap-free slots d shown gap e =
+      ap (λ (x : Document). get x.blocks (gap + 1)) (sym shown)
+      ∙ get-table_map_at (let up : 0 < 1 = omega arith in up) 1 (table_of slots) gap (gap + 1) (omega arith)
+      ∙ ap (slot_at (table_of slots)) e ∙ first_gap_none (table_of slots)
+
+  -- a live block is a heap
+  pub live_heap : (slots : List (Option Block)) (d : Document) → shown_by slots ≡ d → (h : ℕ) → contains_key d.blocks h ≡ true → is_heap d h ≡ true
+  live_heap slots d shown zero live = let e : false ≡ true = ap is_some (block-none slots d shown zero refl) ∙ live in absurd (cc e)
+  live_heap slots d shown (suc n) live =
+      let one : 1 ≤ suc n = omega arith in
+      let read = block-read slots d shown (suc n) (suc n) refl one (get_or slots (suc n - 1) None) refl in
+      ap (λ (o : Option DocumentBlock). option_map_or (λ (b : DocumentBlock). is_heap_body b.body) o false) (sym read)
+      ∙ heap_if_some (get_or slots (suc n - 1) None) (ap is_some read ∙ live)
+
+  -- the block gets another user ID
+  pub heap_with_user_id : (slots : List (Option Block)) (d : Document) (shown : shown_by slots ≡ d) (h p : ℕ) (place : p ≡ h) (heap : is_heap d h ≡ true) (r : Option Block) (b : Block) → r ≡ get_or slots (p - 1) r → r ≡ Some b
+      → (uid : ℕ) → shown_by (set slots (p - 1) (Some (record { user_id = uid; heap = b.heap }))) ≡ with_user_id d h uid
+  heap_with_user_id slots d shown h p place heap r b read is uid =
+      let there = heap_holds slots d shown h p place heap r b read is in
+      ap (λ (q : ℕ). shown_by (set slots (q - 1) (Some (record { user_id = uid; heap = b.heap })))) place
+      ∙ put-document slots h (Some (record { user_id = uid; heap = b.heap })) there.from_one there.within
+      ∙ ap (λ (x : Document). with_block x h (record { user_id = uid; body = Heap b.heap })) shown
+      ∙ ap (λ (o : Option DocumentBlock). option_map_or (λ (x : DocumentBlock). with_block d h (record x { user_id = uid })) o d) (sym (get-holds slots h b there) ∙ ap (λ (x : Document). get x.blocks h) shown)
+
+-- the least handle past the start, of the slots from the place i on, whose block has the user ID
+abbrev pub found_from : ℕ → ℕ → ℕ → List (Option Block) → Option ℕ
+found_from uid start i rest = option_map (λ e. e.0) (find (λ e. nat_lt start e.0 && (e.1.user_id == uid)) (table_entries 1 (1 + i) (table_of rest)))
+
+-- a slot that is free, or whose block isn't meant, is passed over
+pub found_past : (uid start i : ℕ) (o : Option Block) (rest : List (Option Block)) → ((b : Block) → o ≡ Some b → (nat_lt start (1 + i) && (b.user_id == uid)) ≡ false) → found_from uid start i (o ∷ rest) ≡ found_from uid start (i + 1) rest
+found_past uid start i None rest other = ap (λ (h : ℕ). option_map (λ e. e.0) (find (λ e. nat_lt start e.0 && (e.1.user_id == uid)) (table_entries 1 h (table_of rest)))) (add_assoc 1 i 1)
+found_past uid start i (Some b) rest other =
+    ap (λ (t : Bool). option_map (λ e. e.0) (cond t (Some (1 + i, block_of b)) (find (λ e. nat_lt start e.0 && (e.1.user_id == uid)) (table_entries 1 (1 + i + 1) (table_of rest))))) (other b refl)
+    ∙ ap (λ (h : ℕ). option_map (λ e. e.0) (find (λ e. nat_lt start e.0 && (e.1.user_id == uid)) (table_entries 1 h (table_of rest)))) (add_assoc 1 i 1)
+
+-- handles up to the start are passed over
+pub found_front : (uid start : ℕ) (slots : List (Option Block)) (i k : ℕ) → i + k ≤ start → found_from uid start i slots ≡ found_from uid start (i + k) (drop k slots)
+found_front uid start slots i zero le = ap (λ (j : ℕ). found_from uid start j slots) (let e : i ≡ i + 0 = omega arith in e)
+found_front uid start [] i (suc k) le = refl
+found_front uid start (o ∷ rest) i (suc k) le =
+    found_past uid start i o rest (λ b is. ap (λ (t : Bool). t && (b.user_id == uid)) (le-ltb start (1 + i) (omega arith)))
+    ∙ found_front uid start rest (i + 1) k (omega arith)
+    ∙ ap (λ (j : ℕ). found_from uid start j (drop k rest)) (let e : i + 1 + k ≡ i + suc k = omega arith in e)
+
+pub found_here : (uid start i : ℕ) (b : Block) (rest : List (Option Block)) → start ≤ i → b.user_id ≡ uid → found_from uid start i (Some b ∷ rest) ≡ Some (i + 1)
+found_here uid start i b rest le same =
+    ap (λ (t : Bool). option_map (λ e. e.0) (cond t (Some (1 + i, block_of b)) (find (λ e. nat_lt start e.0 && (e.1.user_id == uid)) (table_entries 1 (1 + i + 1) (table_of rest)))))
+    (ap (λ (t : Bool). t && (b.user_id == uid)) (lt-ltb start (1 + i) (omega arith)) ∙ eq-eqb b.user_id uid same)
+    ∙ ap (λ (n : ℕ). Some n) (let e : 1 + i ≡ i + 1 = omega arith in e)
+
+pub found-slots : (slots : List (Option Block)) (mb uid start : ℕ) → found (document_of slots mb) uid start ≡ found_from uid start 0 slots
+found-slots slots mb uid start = ap (λ (es : List (ℕ × DocumentBlock)). option_map (λ e. e.0) (find (λ e. nat_lt start e.0 && (e.1.user_id == uid)) es)) (entries-table_map (let up : 0 < 1 = omega arith in up) 1 (table_of slots))
+
+pub found_at : (uid start i : ℕ) (b : Block) (slots : List (Option Block)) → i < length slots → Some b ≡ get_or slots i None → start ≤ i → b.user_id ≡ uid → found_from uid start i (drop i slots) ≡ Some (i + 1)
+found_at uid start i b slots within here le same =
+    ap (found_from uid start i) (drop-cons slots i None within ∙ ap (λ (o : Option Block). o ∷ drop (suc i) slots) (sym here)) ∙ found_here uid start i b (drop (suc i) slots) le same
+
+pub found_end : (uid start i : ℕ) (slots : List (Option Block)) → length slots ≤ i → found_from uid start i (drop i slots) ≡ None
+found_end uid start i slots past = ap (found_from uid start i) (drop_all i slots past)

@@ -14,8 +14,8 @@ block_of b = record { user_id = b.user_id; body = Heap b.heap }
 abbrev pub table_of : List (Option Block) → List (Option DocumentBlock)
 table_of slots = map (option_map block_of) slots
 
-abbrev pub document_of : List (Option Block) → Document
-document_of slots = record { blocks = table_map 1 1 (table_of slots); map_block = 0 }
+abbrev pub document_of : List (Option Block) → ℕ → Document
+document_of slots map_block = record { blocks = table_map 1 1 (table_of slots); map_block = map_block }
 
 -- there is a slot for each handle, and none below the gap is free
 pub record AreSlots (slots : List (Option Block)) (gap : ℕ) : Type 0 where

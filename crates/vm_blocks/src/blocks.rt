@@ -3,10 +3,11 @@ ghost use Rattle.std.specs.List.{splice};
 ghost use Rattle.std.specs.Option.{option_map, option_copied};
 ghost use Rattle.std.specs.FinMap.{get, keys, contains_key};
 ghost use Rattle.geos_model.specs.Heap.{next_chunk, fits_new, chunk_bytes};
-ghost use Rattle.geos_model.specs.Document.{empty_document, next_handle, is_heap, chunks_of};
+ghost use Rattle.geos_model.specs.Document.{empty_document, next_handle, is_heap, is_live, chunks_of, with_user_id};
+ghost use Rattle.geos_model.specs.Reply.{found};
 ghost use Rattle.geos_model.specs.Meaning.{with_chunk, chunk_at};
 ghost use Rattle.geos_model.specs.Table.{table_entries, first_gap};
-ghost use Rattle.vm_blocks.specs.Blocks.{block_of, table_of, start_after};
+ghost use Rattle.vm_blocks.specs.Blocks.{block_of, table_of, document_of, start_after};
 ghost use Rattle.vm_blocks.specs.Saved.{with_slot};
 
 use crate::Block;
@@ -25,6 +26,8 @@ pub struct Blocks {
     slots: Vec<Option<Block>>,
     /// Every handle below the one of this place is live, so that a search for a free one starts here.
     first_gap: usize,
+    /// The map block, 0 if there is none.
+    map_block: VmHandle,
 }
 
 impl Model for Blocks {
@@ -37,7 +40,7 @@ impl Model for Blocks {
 
     ghost use Rattle.vm_blocks.specs.Blocks.{document_of, AreSlots};
 
-    ghost view = { λ b. document_of b.slots.items };
+    ghost view = { λ b. document_of b.slots.items b.map_block.0 };
 
     ghost invariant = { λ b. AreSlots b.slots.items b.first_gap };
 }
@@ -94,6 +97,21 @@ fn live_handles(alloc: Global, slots: &[Option<Block>]) -> Result<Vec<VmHandle>,
     Ok(handles)
 }
 
+// The least handle above a start whose block has this user ID.
+fn find_from(slots: &[Option<Block>], user_id: u16, start: u16) -> Option<VmHandle>
+    requires { length slots.now ≤ 2048 }
+    ensures { option_map (λ h. h.0) result ≡ found (document_of slots.now 0) user_id start }
+{
+    for i in usize::from(start)..slots.len() {
+        if let Some(block) = &slots[i] {
+            if block.user_id == user_id {
+                return Some(VmHandle(i as u16 + 1));
+            }
+        }
+    }
+    None
+}
+
 impl Blocks {
     /// The empty document.
     pub fn new(alloc: Global) -> Result<Blocks, AllocError>
@@ -103,6 +121,7 @@ impl Blocks {
             alloc,
             slots: empty_slots(alloc)?,
             first_gap: 0,
+            map_block: VmHandle(0),
         })
     }
 
@@ -119,6 +138,20 @@ impl Blocks {
             Some(slot) => slot.as_ref(),
             None => None,
         }
+    }
+
+    /// The map block, 0 if there is none.
+    pub fn map_block(&self) -> VmHandle
+        ensures { result.0 ≡ self.now.map_block }
+    {
+        self.map_block
+    }
+
+    /// The least handle above `start` whose block has this user ID.
+    pub fn find(&self, user_id: u16, start: VmHandle) -> Option<VmHandle>
+        ensures { option_map (λ h. h.0) result ≡ found self.now user_id start.0 }
+    {
+        find_from(&self.slots, user_id, start.0)
     }
 
     /// The live handles, rising.
@@ -150,6 +183,26 @@ impl Blocks {
         let place = usize::from(handle.0) - 1;
         self.first_gap = start_after(self.first_gap, place, block.is_some());
         self.slots[place] = block;
+    }
+
+    /// Sets the map block, or with 0 that there is none.
+    pub fn set_map(&mut self, handle: VmHandle)
+        ensures { self.new ≡ record self.old { map_block = handle.0 } }
+    {
+        self.map_block = handle;
+    }
+
+    /// Sets the user ID of a block.
+    pub fn set_user_id(&mut self, handle: VmHandle, user_id: u16)
+        requires { IsTrue (is_live self.old handle.0) }
+        ensures { self.new ≡ with_user_id self.old handle.0 user_id }
+    {
+        let slots = &mut self.slots;
+        let place = usize::from(handle.0) - 1;
+        match &mut slots[place] {
+            Some(block) => block.user_id = user_id,
+            None => unreachable!(),
+        }
     }
 
     /// A new chunk of `n` zeros in a heap.

@@ -1,4 +1,6 @@
-ghost use Rattle.std.specs.Prelude.{◌≡◌, IfOk};
+ghost use Rattle.std.specs.Prelude.{◌≡◌, IfOk, length};
+ghost use Rattle.geos_model.specs.Image.{image};
+ghost use Rattle.geos_model.specs.declared.command.Body.TheVariants as bodies;
 ghost use Rattle.vm_blocks.specs.Blocks.{block_of};
 
 use crate::Block;
@@ -37,6 +39,13 @@ impl SavedHeap {
     {
         let image = Bytes::from_vec(heap.image()?);
         Ok(SavedHeap { image })
+    }
+
+    /// How many bytes the image has.
+    pub fn image_len(&self) -> usize
+        ensures { result ≡ length (image (bodies.Heap self.now)) }
+    {
+        self.image.as_slice().len()
     }
 
     /// The heap as it was.

@@ -1,6 +1,7 @@
 // Each public call once, with ample memory.
 use geos_model::{
-    Bytes, ChunkHandle, Command, Done, Edit, Fault, Info, VmHandle, image_law, word_law,
+    Bytes, ChunkHandle, Command, Done, Edit, Fault, Info, VmHandle, image_law, redo_law, undo_law,
+    word_law,
 };
 use geos_shell::parse;
 use lmem_heap::Heap;
@@ -19,6 +20,8 @@ fn a_fault_has_a_number_and_a_name(rt: HostRuntime) {
     assert_eq!(rt; Fault::NothingToUndo.name(), "NothingToUndo");
     word_law();
     image_law();
+    undo_law();
+    redo_law();
 }
 
 #[test]
@@ -74,12 +77,16 @@ fn blocks_are_put_changed_and_saved(rt: HostRuntime) -> Result<(), Fail> {
     assert_eq!(rt; blocks.list()?.as_slice(), [BLOCK].as_slice());
     assert_eq!(rt; blocks.next_handle(), Some(VmHandle(2)));
     assert!(rt; blocks.block(VmHandle(2)).is_none());
+    assert_eq!(rt; blocks.find(7, VmHandle(0)), Some(BLOCK));
+    blocks.set_map(BLOCK);
+    assert_eq!(rt; blocks.map_block(), BLOCK);
     match blocks.block(BLOCK) {
         Some(block) => {
             let saved = SavedBlock::of(block)?;
             assert_eq!(rt; saved.restore(rt.alloc())?.user_id, 7);
             let heap = SavedHeap::of(&block.heap)?;
             assert_eq!(rt; heap.restore(rt.alloc())?.need(), 16);
+            assert_eq!(rt; heap.image_len(), 3);
         }
         None => assert!(rt; false),
     }
@@ -120,6 +127,47 @@ fn a_session_edits_answers_and_undoes(rt: HostRuntime) -> Result<(), Fail> {
         assert_eq!(rt; session.undo(), Ok(()));
     }
     assert_eq!(rt; session.undo(), Err(Fault::NothingToUndo));
+    assert_eq!(rt; session.redo_count(), 3);
+    assert_eq!(rt; session.redo(), Ok(()));
+    assert_eq!(rt; session.undo_count(), 1);
+    assert_eq!(rt; session.find(7, VmHandle(0)), Some(BLOCK));
+    assert_eq!(rt; session.find(7, BLOCK), None);
+    assert_eq!(rt; session.edit(&Edit::SetMap(BLOCK)), Ok(Done::Nothing));
+    assert_eq!(rt; session.map_block(), BLOCK);
+    assert_eq!(rt;
+        session.edit(&Edit::CopyBlock(BLOCK)),
+        Ok(Done::Block(VmHandle(2)))
+    );
+    assert_eq!(rt;
+        session.edit(&Edit::SetUserId(VmHandle(2), 8)),
+        Ok(Done::Nothing)
+    );
+    assert_eq!(rt;
+        session.edit(&Edit::FreeBlock(VmHandle(2))),
+        Ok(Done::Nothing)
+    );
+    Ok(())
+}
+
+#[test]
+fn all_block_handles_can_be_taken(rt: HostRuntime) -> Result<(), Fail> {
+    let mut session = Session::new(rt.alloc())?;
+    for _ in 0..2_048 {
+        assert!(rt; session.edit(&Edit::NewHeap(0)).is_ok());
+    }
+    assert_eq!(rt; session.edit(&Edit::NewHeap(0)), Err(Fault::NoHandles));
+    assert_eq!(rt;
+        session.edit(&Edit::CopyBlock(BLOCK)),
+        Err(Fault::NoHandles)
+    );
+    assert_eq!(rt;
+        session.edit(&Edit::FreeBlock(VmHandle(9))),
+        Ok(Done::Nothing)
+    );
+    assert_eq!(rt;
+        session.edit(&Edit::NewHeap(0)),
+        Ok(Done::Block(VmHandle(9)))
+    );
     Ok(())
 }
 

@@ -89,3 +89,66 @@ fn undo_gives_back_several_blocks_and_chunks(rt: HostRuntime) -> Result<(), Fail
         "block 0001\nblock 0002\nchunk 0010\nchunk 0010\nchunk 0012\nok\nok\nok\nok\nbytes 0000\nbytes 000000\nok\nchunks 0010\nok\nchunks\nok\nheap 2 16\nok\nblocks 0001\nok\nblocks\n",
     )
 }
+
+#[test]
+fn whole_documents_are_undone_and_redone(rt: HostRuntime) -> Result<(), Fail> {
+    expect(
+        &rt,
+        "newheap 7\nvcopy 0001\nuid 0002 9\nmap 0002\nvfree 0002\nvfree 0001\nfind 9 0000\nundos\nundo\nundo\nundo\nundo\nundo\nlist\nmapblock\nredo\nredo\nredo\nredo\nredo\ninfo 0002\nredos\nredo\n",
+        "block 0001\nblock 0002\nok\nok\nno 18 IsMap\nok\nblock 0002\nnumber 5\nok\nok\nok\nok\nok\nblocks\nblock 0000\nok\nok\nok\nok\nok\nheap 9 16\nnumber 0\nno 23 NothingToRedo\n",
+    )
+}
+
+#[test]
+fn find_answers_the_least_handle_above_the_start(rt: HostRuntime) -> Result<(), Fail> {
+    expect(
+        &rt,
+        "newheap 5\nnewheap 6\nnewheap 5\nfind 5 0000\nfind 5 0001\nfind 5 0003\nfind 6 0001\nfind 6 0002\nfind 7 0000\nfind 5 ffff\nvfree 0001\nfind 5 0000\nundo\nfind 5 0000\n",
+        "block 0001\nblock 0002\nblock 0003\nblock 0001\nblock 0003\nblock 0000\nblock 0002\nblock 0000\nblock 0000\nblock 0000\nok\nblock 0003\nok\nblock 0001\n",
+    )
+}
+
+#[test]
+fn a_copy_has_the_chunks_and_the_user_id_of_its_source(rt: HostRuntime) -> Result<(), Fail> {
+    expect(
+        &rt,
+        "newheap 5\nalloc 0001 2\nwrite 0001 0010 0 6162\nvcopy 0001\nwrite 0001 0010 0 7879\nread 0002 0010\ninfo 0002\nvcopy 0003\nundo\nundo\nlist\nredo\nread 0002 0010\n",
+        "block 0001\nchunk 0010\nok\nblock 0002\nok\nbytes 6162\nheap 5 24\nno 5 NoBlock\nok\nok\nblocks 0001\nok\nbytes 6162\n",
+    )
+}
+
+#[test]
+fn a_freed_block_comes_back_with_its_user_id(rt: HostRuntime) -> Result<(), Fail> {
+    expect(
+        &rt,
+        "newheap 9\nalloc 0001 1\nvfree 0001\ninfo 0001\nundo\ninfo 0001\nchunks 0001\nuid 0001 10\ninfo 0001\nundo\ninfo 0001\nredo\ninfo 0001\nuid 0002 1\nredos\n",
+        "block 0001\nchunk 0010\nok\nno 5 NoBlock\nok\nheap 9 24\nchunks 0010\nok\nheap 10 24\nok\nheap 9 24\nok\nheap 10 24\nno 5 NoBlock\nnumber 0\n",
+    )
+}
+
+#[test]
+fn the_map_block_is_live_or_none(rt: HostRuntime) -> Result<(), Fail> {
+    expect(
+        &rt,
+        "map 0001\nmap 0000\nmapblock\nnewheap 1\nmap 0001\nmapblock\nvfree 0001\nmap 0000\nvfree 0001\nmapblock\nundo\nundo\nmapblock\nmap 0900\n",
+        "no 5 NoBlock\nok\nblock 0000\nblock 0001\nok\nblock 0001\nno 18 IsMap\nok\nok\nblock 0000\nok\nok\nblock 0001\nno 5 NoBlock\n",
+    )
+}
+
+#[test]
+fn a_refused_edit_leaves_what_can_be_redone(rt: HostRuntime) -> Result<(), Fail> {
+    expect(
+        &rt,
+        "newheap 0\nundo\nalloc 0009 1\nvfree 0001\nredos\nredo\nalloc 0001 1\nredo\nundos\n",
+        "block 0001\nok\nno 5 NoBlock\nno 5 NoBlock\nnumber 1\nok\nchunk 0010\nno 23 NothingToRedo\nnumber 2\n",
+    )
+}
+
+#[test]
+fn a_freed_handle_is_taken_again_and_undone(rt: HostRuntime) -> Result<(), Fail> {
+    expect(
+        &rt,
+        "newheap 1\nnewheap 2\nvfree 0001\nnewheap 3\ninfo 0001\nundo\nundo\ninfo 0001\nredo\nredo\ninfo 0001\nlist\n",
+        "block 0001\nblock 0002\nok\nblock 0001\nheap 3 16\nok\nok\nheap 1 16\nok\nok\nheap 3 16\nblocks 0001 0002\n",
+    )
+}

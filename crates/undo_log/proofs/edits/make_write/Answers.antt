@@ -7,7 +7,7 @@ use Rattle.geos_model.specs.Meaning.{chunk_at, with_chunk}
 use Rattle.geos_model.specs.declared.command.Body.TheVariants.{Heap}
 use Rattle.vm_blocks.specs.Saved.{saved_block, with_slot}
 use Rattle.undo_log.proofs.Slots.{slot_back, write_accepted}
-use Rattle.undo_log.proofs.change.make_write.Goals as goal
+use Rattle.undo_log.proofs.edits.make_write.Goals as goal
 
 pub returns-clause-made : goal.returns-clause-made
 returns-clause-made c =

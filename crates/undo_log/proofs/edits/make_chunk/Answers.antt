@@ -7,7 +7,7 @@ use Rattle.geos_model.specs.declared.command.Body.TheVariants.{Heap}
 use Rattle.std.specs.Option.{option_map}
 use Rattle.vm_blocks.specs.Saved.{saved_block, with_slot}
 use Rattle.undo_log.proofs.Slots.{slot_back}
-use Rattle.undo_log.proofs.change.make_chunk.Goals as goal
+use Rattle.undo_log.proofs.edits.make_chunk.Goals as goal
 
 pub returns-clause-made : goal.returns-clause-made
 returns-clause-made c =

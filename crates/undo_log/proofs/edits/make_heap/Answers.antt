@@ -7,7 +7,7 @@ use Rattle.geos_model.specs.declared.command.Done.TheVariants.{Block}
 use Rattle.geos_model.proofs.Images.{length_image-empty}
 use Rattle.vm_blocks.specs.Saved.{with_slot}
 use Rattle.undo_log.proofs.Slots.{slot_back}
-use Rattle.undo_log.proofs.change.make_heap.Goals as goal
+use Rattle.undo_log.proofs.edits.make_heap.Goals as goal
 
 pub returns-clause-made : goal.returns-clause-made
 returns-clause-made c =

@@ -1,0 +1,5 @@
+use Rattle.geos_model.proofs.Undoing.{redo_law}
+use Rattle.geos_model.proofs.law.redo_law.Goals as goal
+
+pub returns : goal.returns
+returns c = redo_law

@@ -1,0 +1,5 @@
+use Rattle.geos_model.proofs.Undoing.{undo_law}
+use Rattle.geos_model.proofs.law.undo_law.Goals as goal
+
+pub returns : goal.returns
+returns c = undo_law
