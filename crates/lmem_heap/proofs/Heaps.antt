@@ -271,15 +271,15 @@ space_of_at_most n = elim (cases_eq n 0) [
 abbrev pub handles_in : Slots → List ℕ
 handles_in t = map (λ e. e.0) (table_entries 2 16 t)
 
-handles-row : (h k : ℕ) (t : Slots) (o : Option (List ℕ)) → k ≡ h + 2 * length t → map (λ e. e.0) (table_entries 2 h (t ++ o ∷ [])) ≡ map (λ e. e.0) (table_entries 2 h t) ++ map (λ e. e.0) (table_entries 2 k (o ∷ []))
-handles-row h k [] o at = let e : k ≡ h = omega arith in ap (λ (n : ℕ). map (λ (e : ℕ × List ℕ). e.0) (table_entries 2 n (o ∷ []))) (sym e)
-handles-row h k (None ∷ t) o at = handles-row (h + 2) k t o (omega arith)
-handles-row h k (Some b ∷ t) o at = ap (λ (l : List ℕ). h ∷ l) (handles-row (h + 2) k t o (omega arith))
+handles-along : (h k : ℕ) (t : Slots) (o : Option (List ℕ)) → k ≡ h + 2 * length t → map (λ e. e.0) (table_entries 2 h (t ++ o ∷ [])) ≡ map (λ e. e.0) (table_entries 2 h t) ++ map (λ e. e.0) (table_entries 2 k (o ∷ []))
+handles-along h k [] o at = let e : k ≡ h = omega arith in ap (λ (n : ℕ). map (λ (e : ℕ × List ℕ). e.0) (table_entries 2 n (o ∷ []))) (sym e)
+handles-along h k (None ∷ t) o at = handles-along (h + 2) k t o (omega arith)
+handles-along h k (Some b ∷ t) o at = ap (λ (l : List ℕ). h ∷ l) (handles-along (h + 2) k t o (omega arith))
 
 handles_more : (t : Slots) (i : ℕ) (o : Option (List ℕ)) → i < length t → get_or t i None ≡ o → handles_in (take (i + 1) t) ≡ handles_in (take i t) ++ map (λ e. e.0) (table_entries 2 (16 + 2 * i) (o ∷ []))
 handles_more t i o l is =
     ap handles_in (take_more t i None l ∙ ap (λ (p : Option (List ℕ)). take i t ++ p ∷ []) is)
-    ∙ handles-row 16 (16 + 2 * i) (take i t) o (omega (arith, length-take-le i t (omega arith)))
+    ∙ handles-along 16 (16 + 2 * i) (take i t) o (omega (arith, length-take-le i t (omega arith)))
 
 pub handles_some : (t : Slots) (i : ℕ) → i < length t → is_some (get_or t i None) ≡ true → handles_in (take (i + 1) t) ≡ handles_in (take i t) ++ (16 + 2 * i) ∷ []
 handles_some t i l live = handles_more t i (Some (unwrap_or (get_or t i None) [])) l (slot_from_live (get_or t i None) live)

@@ -75,7 +75,8 @@ impl Heap {
     }
 
     /// How many bytes the heap needs: a header of 16 bytes, two for each table entry up to the greatest live handle,
-    /// in whole double words, and each chunk with a word before it, in whole double words.
+    /// in whole double words, and each chunk with a word before it, in whole double words; an empty chunk takes nothing
+    /// beside its entry.
     pub fn need(&self) -> u32
         ensures { result ≡ need self.now }
     {

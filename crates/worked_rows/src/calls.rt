@@ -130,6 +130,14 @@ fn a_session_edits_answers_and_undoes(rt: HostRuntime) -> Result<(), Fail> {
     assert_eq!(rt; session.redo_count(), 3);
     assert_eq!(rt; session.redo(), Ok(()));
     assert_eq!(rt; session.undo_count(), 1);
+    Ok(())
+}
+
+#[test]
+fn a_session_maps_copies_and_frees_blocks(rt: HostRuntime) -> Result<(), Fail> {
+    let mut session = Session::new(rt.alloc())?;
+    assert_eq!(rt; session.map_block(), VmHandle(0));
+    assert_eq!(rt; session.edit(&Edit::NewHeap(7)), Ok(Done::Block(BLOCK)));
     assert_eq!(rt; session.find(7, VmHandle(0)), Some(BLOCK));
     assert_eq!(rt; session.find(7, BLOCK), None);
     assert_eq!(rt; session.edit(&Edit::SetMap(BLOCK)), Ok(Done::Nothing));
