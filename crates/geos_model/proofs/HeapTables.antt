@@ -1,29 +1,21 @@
 -- Heaps as tables of chunks: what a heap needs and its image, slot by slot, and that every heap is such a table.
-use Rattle.std.proofs.Common.{◌≡◌, ℕ, zero, suc, ◌+◌, ◌*◌, ◌/◌, ◌-◌, ◌%◌, ◌<◌, ◌≤◌, Bool, true, false, ◌&&◌, ◌≢◌, List, [], ◌∷◌, ◌++◌, map, max, length, set, Option, Some, None, is_some, nat_le, nat_cmp, ◌==◌, sum_by, fold, flat_map, refl, sym, ap, subst, ◌∙◌, inl, inr, arith}
-use Rattle.std.proofs.lemmas.Bool.{le-leb, leb-true, eqb-true, eq-eqb, cases_Bool, cases_eq, cases_lt, and_from, and_parts, or_cases, or_left, or_right, cond-false, ne_eqb}
-use Rattle.std.proofs.lemmas.List.{get_or-set_other, get_or-set_same, length-set, length_push, get_or_push, length-map, get_or-map}
+use Rattle.std.proofs.Common.{set, ◌≡◌, ℕ, zero, suc, ◌+◌, ◌*◌, ◌/◌, ◌-◌, ◌%◌, ◌<◌, ◌≤◌, Bool, true, false, ◌&&◌, ◌≢◌, List, [], ◌∷◌, ◌++◌, map, max, length, Option, Some, None, is_some, nat_le, nat_cmp, not, ◌==◌, find, sum_by, fold, flat_map, refl, sym, ap, subst, ◌∙◌, inl, inr, arith, unwrap_or}
+use Rattle.std.proofs.lemmas.Bool.{le-leb, leb-true, eqb-true, eq-eqb, cases_Bool, cases_eq, cases_lt, and_from, and_parts, or_cases, or_left, or_right, cond-true, cond-false, ne_eqb, lt-leb}
+use Rattle.std.proofs.lemmas.List.{length-set, length-map, get_or-map}
 use Rattle.std.proofs.lemmas.List.FromFn.{length-map-range_with_len, get_or-map-range_with_len}
-use Rattle.std.proofs.lemmas.List.Sums.{sum_by-cons}
+use Rattle.std.proofs.lemmas.List.Sums.{sum_by-cons, sum_by-set}
+use Rattle.std.proofs.Math.Bool.{not-not}
 use Rattle.std.specs.List.{range_with_len, list_all, list_any}
 use Rattle.std.specs.Option.{option_map_or}
 use Rattle.std.specs.Ordering.{eq_by_cmp}
 use Rattle.std.specs.Cmp.{nat_cmp_total, unsigned_tied}
-use Rattle.std.specs.FinMap.{get, entries, keys, values, contains_key-keys, same_map, nat_cmp-IsAntisymmetric}
+use Rattle.std.specs.FinMap.{get, entries, keys, values, contains_key, contains_key-keys, same_map, nat_cmp-IsAntisymmetric, insert}
 use Rattle.geos_model.specs.Words.{word}
-use Rattle.geos_model.specs.Table.{table_entries, table_map}
-use Rattle.geos_model.specs.Heap.{ChunkMap, handle_of, is_chunk_handle, space_of, table_len, need, fits, is_heap_map}
+use Rattle.geos_model.specs.Table.{table_entries, table_map, IsTrimmed}
+use Rattle.geos_model.specs.Heap.{ChunkMap, handle_of, is_chunk_handle, space_of, slot_space, table_len, need, fits, is_heap_map, next_chunk, chunk_handles, chunk_bytes, fits_with}
 use Rattle.geos_model.specs.Image.{no_chunk, handles_to, size_word, image}
 use Rattle.geos_model.specs.declared.command.Body.TheVariants.{Heap}
-use Rattle.geos_model.proofs.Tables.{slot_at, entries-table_map, keys-table_map, values-table_map, get-table_map, get-table_map_at, get-table_map_off}
-
--- a table's last slot has a value, so the table is no longer than it has to be
-abbrev pub IsTrimmed : {X : Type 0} → List (Option X) → Type 0
-IsTrimmed t = 0 < length t → is_some (slot_at t (length t - 1)) ≡ true
-
--- what a slot takes of a heap's space
-abbrev pub slot_space : Option (List ℕ) → ℕ
-slot_space None = 0
-slot_space (Some bytes) = space_of (length bytes)
+use Rattle.geos_model.proofs.Tables.{slot_at, put_at, length-put_at, full-put_at, entries-table_map, keys-table_map, values-table_map, get-table_map, get-table_map_at, get-table_map_off, slot_at_within, table_map-set, put_at-within}
 
 -- a slot's size as a heap's image has it
 abbrev pub slot_size : Option (List ℕ) → ℕ
@@ -57,21 +49,12 @@ pub trimmed-nil : (X : Type 0) → IsTrimmed {X = X} []
 trimmed-nil X l = absurd (omega arith)
 
 module _ {X : Type 0} where
-  -- a value behind the last slot
-  pub trimmed-push : (t : List (Option X)) (x : X) → IsTrimmed (t ++ Some x ∷ [])
-  trimmed-push t x l =
-      let longer : length (t ++ Some x ∷ []) ≡ length t + 1 = length_push t (Some x) in
-      ap is_some (get_or_push t (Some x) None (length (t ++ Some x ∷ []) - 1) (omega arith))
-
-  -- a value in a slot
-  pub trimmed-set : (t : List (Option X)) (i : ℕ) (x : X) → i < length t → IsTrimmed t → IsTrimmed (set t i (Some x))
-  trimmed-set t i x l trimmed some =
-      let same : length (set t i (Some x)) ≡ length t = length-set t i (Some x) in
-      ap (λ (n : ℕ). is_some (slot_at (set t i (Some x)) (n - 1))) same
-      ∙ elim (cases_eq (length t - 1) i) [
-        | inl e ↦ ap (λ (k : ℕ). is_some (slot_at (set t i (Some x)) k)) e ∙ ap is_some (get_or-set_same t i (Some x) None l)
-        | inr e ↦ ap is_some (get_or-set_other t i (length t - 1) (Some x) None e) ∙ trimmed (omega arith)
-      ]
+  -- a value is put in a slot
+  pub trimmed-put : (t : List (Option X)) (i : ℕ) (x : X) → IsTrimmed t → IsTrimmed (put_at t i x)
+  trimmed-put t i x trimmed some =
+      let n : ℕ = max (length t) (i + 1) - 1 in
+      ap (λ (k : ℕ). is_some (slot_at (put_at t i x) (k - 1))) (length-put_at t i x)
+      ∙ full-put_at t i n x (λ other. let same : n ≡ length t - 1 = omega arith in ap (λ (k : ℕ). is_some (slot_at t k)) same ∙ trimmed (omega arith))
 
 -- the greatest place of the handles of a table, one slot after the other
 table_len-row : {X : Type 0} (b : Bool) (t : List (Option X)) (h k a : ℕ) → h ≡ 16 + 2 * k → a ≤ k → (b ≡ true → a ≡ k) → ends_full b t ≡ true → fold (λ m q. max m ((q - 14) / 2)) a (map (λ e. e.0) (table_entries 2 h t)) ≡ k + length t
@@ -96,15 +79,21 @@ space-row [] h a = refl
 space-row (None ∷ t) h a = let same : a ≡ a + 0 = omega arith in space-row t (h + 2) a ∙ ap (λ (n : ℕ). fold (λ n o. n + slot_space o) n t) same
 space-row (Some x ∷ t) h a = space-row t (h + 2) (a + space_of (length x))
 
+-- the space of a table's chunks is that of its map's
+pub space-table : (t : List (Option (List ℕ))) → sum_by (λ c. space_of (length c.1)) (entries (table_map 2 16 t)) ≡ sum_by slot_space t
+space-table t = ap (sum_by (λ c. space_of (length c.1))) (entries-table_map (omega arith) 16 t) ∙ space-row t 16 0
+
+-- so tables that show the same map take the same space
+pub space-same : (s t : List (Option (List ℕ))) → table_map 2 16 s ≡ table_map 2 16 t → sum_by slot_space s ≡ sum_by slot_space t
+space-same s t same = sym (space-table s) ∙ ap (λ (m : ChunkMap). sum_by (λ c. space_of (length c.1)) (entries m)) same ∙ space-table t
+
 -- what a trimmed table's heap needs
 pub need-table : (t : List (Option (List ℕ))) → IsTrimmed t → need (table_map 2 16 t) ≡ 16 + 4 * ((length t + 1) / 2) + sum_by slot_space t
 unfolding need
 need-table t trimmed =
     let len : table_len (keys (table_map 2 16 t)) ≡ length t = table_len-table t trimmed in
-    let space : sum_by (λ c. space_of (length c.1)) (entries (table_map 2 16 t)) ≡ sum_by slot_space t =
-    ap (sum_by (λ c. space_of (length c.1))) (entries-table_map (omega arith) 16 t) ∙ space-row t 16 0 in
     ap (λ (n : ℕ). 16 + 4 * ((n + 1) / 2) + sum_by (λ c. space_of (length c.1)) (entries (table_map 2 16 t))) len
-    ∙ ap (λ (n : ℕ). 16 + 4 * ((length t + 1) / 2) + n) space
+    ∙ ap (λ (n : ℕ). 16 + 4 * ((length t + 1) / 2) + n) (space-table t)
 
 size_word-slot : (o : Option (List ℕ)) → word (option_map_or length o no_chunk) ≡ slot_size_word o
 size_word-slot None = refl
@@ -157,6 +146,27 @@ handles-row [] h k at long = refl
 handles-row (None ∷ t) h k at long = handles-row t (h + 2) (k + 1) (omega arith) (omega arith)
 handles-row (Some x ∷ t) h k at long =
     and_from _ _ (ap is_chunk_handle at ∙ is_chunk_handle-row k (omega arith)) (handles-row t (h + 2) (k + 1) (omega arith) (omega arith))
+
+none_from_dead : {X : Type 0} (o : Option X) → is_some o ≡ false → o ≡ None
+none_from_dead None e = refl
+none_from_dead (Some x) e = cc
+
+-- the first of a row of handles that passes a test
+find-row : (p : ℕ → Bool) (n a h : ℕ) → find p (map handle_of (range_with_len a n)) ≡ Some h → (i : ℕ) × (i < a + n) × (h ≡ 16 + 2 * i) × (p h ≡ true)
+find-row p zero a h is = cc
+find-row p (suc n) a h is = elim (cases_Bool (p (handle_of a))) [
+  | inl e ↦
+      let found : Some (handle_of a) ≡ Some h = sym (cond-true _ _ _ e) ∙ is in let at : handle_of a ≡ h = cc in
+      (a, omega arith, sym at, ap p (sym at) ∙ e)
+  | inr e ↦ let rest = find-row p n (a + 1) h (sym (cond-false _ _ _ e) ∙ is) in (rest.0, omega (arith, rest.1), rest.2, rest.3)
+]
+
+-- the least free handle is a chunk handle that is free
+pub next_chunk-free : (m : ChunkMap) (h : ℕ) → next_chunk m ≡ Some h → (is_chunk_handle h ≡ true) × (get m h ≡ None)
+unfolding next_chunk chunk_handles
+next_chunk-free m h is =
+    let there = find-row (λ q. not (contains_key m q)) 32752 0 h is in
+    (ap is_chunk_handle there.2 ∙ is_chunk_handle-row there.0 (omega (arith, there.1)), none_from_dead (get m h) (sym (not-not (contains_key m h)) ∙ ap not there.3))
 
 -- a table that is short enough and fits is a heap
 pub is_heap_map-table : (t : List (Option (List ℕ))) → length t ≤ 32752 → need (table_map 2 16 t) ≤ 65520 → is_heap_map (table_map 2 16 t) ≡ true
@@ -273,17 +283,13 @@ key_of : (m : ChunkMap) (q : ℕ) → is_some (get m q) ≡ true → is_key (key
 key_of m q live = sym (contains_key-keys m q) ∙ live
 
 -- a live handle is one of the row
-live_handle : (m : ChunkMap) (q : ℕ) → is_heap_map m ≡ true → is_some (get m q) ≡ true → is_chunk_handle q ≡ true
+pub live_handle : (m : ChunkMap) (q : ℕ) → is_heap_map m ≡ true → is_some (get m q) ≡ true → is_chunk_handle q ≡ true
 unfolding is_heap_map
 live_handle m q heap live = all-key is_chunk_handle (keys m) q (and_parts _ _ heap).0 (key_of m q live)
 
 live_below : (m : ChunkMap) (q : ℕ) → is_some (get m q) ≡ true → (q - 14) / 2 ≤ table_len (keys m)
 unfolding table_len
 live_below m q live = greatest_key 0 (keys m) q (key_of m q live)
-
-none_from_dead : {X : Type 0} (o : Option X) → is_some o ≡ false → o ≡ None
-none_from_dead None e = refl
-none_from_dead (Some x) e = cc
 
 -- what is no handle of the table isn't live
 dead : (m : ChunkMap) (q : ℕ) → is_heap_map m ≡ true → ((i : ℕ) → i < table_len (keys m) → q ≢ 16 + 2 * i) → get m q ≡ None
@@ -336,3 +342,72 @@ trimmed-table_of m heap some =
 -- every heap is a table
 pub heap_map-table : (m : ChunkMap) → is_heap_map m ≡ true → (t : List (Option (List ℕ))) × IsTrimmed t × (m ≡ table_map 2 16 t) × (length t ≡ table_len (keys m))
 heap_map-table m heap = (table_of m, trimmed-table_of m heap, sym (table_map-table_of m heap), length-table_of m)
+
+-- ---- other bytes of a live chunk
+
+-- a live handle is a slot's
+live_slot : (m : ChunkMap) (h : ℕ) → is_heap_map m ≡ true → contains_key m h ≡ true → h ≡ 16 + 2 * ((h - 16) / 2)
+live_slot m h heap live = let parts = is_chunk_handle-parts h (live_handle m h heap live) in omega (arith, parts.0, parts.2)
+
+-- what a slot with a value takes
+slot_space-live : (o : Option (List ℕ)) → is_some o ≡ true → slot_space o ≡ space_of (length (unwrap_or o []))
+slot_space-live None live = cc
+slot_space-live (Some b) live = refl
+
+need-set : (t : List (Option (List ℕ))) (i : ℕ) (b : List ℕ) → IsTrimmed t → i < length t → need (insert (table_map 2 16 t) (16 + 2 * i) b) + slot_space (slot_at t i) ≡ need (table_map 2 16 t) + space_of (length b)
+need-set t i b trimmed l =
+    let before = need-table t trimmed in
+    let after = need-table (set t i (Some b)) (subst (λ (s : List (Option (List ℕ))). IsTrimmed s) (put_at-within t i b l) (trimmed-put t i b trimmed)) in
+    let same : length (set t i (Some b)) ≡ length t = length-set t i (Some b) in
+    let space = sum_by-set slot_space t i (Some b) None l in
+    let shows : need (table_map 2 16 (set t i (Some b))) ≡ need (insert (table_map 2 16 t) (16 + 2 * i) b) = ap need (table_map-set (omega arith) 16 t i b l) in
+    omega (arith, before, after, same, space, shows)
+
+need-at : (t : List (Option (List ℕ))) (i h : ℕ) (b : List ℕ) → IsTrimmed t → h ≡ 16 + 2 * i → contains_key (table_map 2 16 t) h ≡ true → need (insert (table_map 2 16 t) h b) + space_of (length (chunk_bytes (table_map 2 16 t) h)) ≡ need (table_map 2 16 t) + space_of (length b)
+need-at t i h b trimmed at live =
+    let slot : get (table_map 2 16 t) h ≡ slot_at t i = get-table_map_at (omega arith) 16 t i h at in
+    let full : is_some (slot_at t i) ≡ true = sym (ap is_some slot) ∙ live in
+    let here : slot_space (slot_at t i) ≡ space_of (length (chunk_bytes (table_map 2 16 t) h)) = ap slot_space (sym slot) ∙ slot_space-live (get (table_map 2 16 t) h) live in
+    let set_is = need-set t i b trimmed (slot_at_within t i full) in
+    let handle = ap (λ (k : ℕ). need (insert (table_map 2 16 t) k b)) at in
+    omega (arith, here, set_is, handle)
+
+-- what a heap needs then
+pub need-insert : (m : ChunkMap) (h : ℕ) (b : List ℕ) → is_heap_map m ≡ true → contains_key m h ≡ true → need (insert m h b) + space_of (length (chunk_bytes m h)) ≡ need m + space_of (length b)
+need-insert m h b heap live =
+    let shown = heap_map-table m heap in
+    let live_there : contains_key (table_map 2 16 shown.0) h ≡ true = ap (λ (x : ChunkMap). contains_key x h) (sym shown.2) ∙ live in
+    subst (λ (x : ChunkMap). need (insert x h b) + space_of (length (chunk_bytes x h)) ≡ need x + space_of (length b)) (sym shown.2)
+    (need-at shown.0 ((h - 16) / 2) h b shown.1 (live_slot m h heap live) live_there)
+
+-- more bytes take no less space
+space_of_mono : (a b : ℕ) → a ≤ b → space_of a ≤ space_of b
+space_of_mono a b le = elim (cases_eq a 0) [
+  | inl e ↦ let none : space_of a ≡ 0 = ap space_of e in omega (arith, none)
+  | inr e ↦ omega (arith, space_of_some a (omega arith), space_of_some b (omega arith))
+]
+
+-- whether they fit is a matter of how many they are
+pub fits_with-same : (m : ChunkMap) (h : ℕ) (a b : List ℕ) → is_heap_map m ≡ true → contains_key m h ≡ true → length a ≡ length b → fits_with m h a ≡ fits_with m h b
+unfolding fits_with fits
+fits_with-same m h a b heap live same =
+    let needed : need (insert m h a) ≡ need (insert m h b) = omega (arith, need-insert m h a heap live, need-insert m h b heap live, ap space_of same) in
+    ap (λ (n : ℕ). nat_le n 65520) needed
+
+-- no more than there are fit
+pub fits_with-fewer : (m : ChunkMap) (h : ℕ) (b : List ℕ) → is_heap_map m ≡ true → contains_key m h ≡ true → length b ≤ length (chunk_bytes m h) → fits_with m h b ≡ true
+unfolding fits_with fits
+fits_with-fewer m h b heap live fewer =
+    le-leb _ _ (omega (arith, need-insert m h b heap live, need_le m heap, space_of_mono (length b) (length (chunk_bytes m h)) fewer))
+
+space_le-need : (m : ChunkMap) (h : ℕ) → is_heap_map m ≡ true → contains_key m h ≡ true → space_of (length (chunk_bytes m h)) ≤ need m
+space_le-need m h heap live = let empty = need-insert m h [] heap live in omega (arith, empty)
+
+-- a chunk has no more than there is room for, and more bytes don't fit
+pub chunk_bytes_le : (m : ChunkMap) (h : ℕ) → is_heap_map m ≡ true → contains_key m h ≡ true → length (chunk_bytes m h) ≤ 65520
+chunk_bytes_le m h heap live = omega (arith, space_le-need m h heap live, space_of_ge (length (chunk_bytes m h)), need_le m heap)
+
+pub fits_with-many : (m : ChunkMap) (h : ℕ) (b : List ℕ) → is_heap_map m ≡ true → contains_key m h ≡ true → 65520 < length b → fits_with m h b ≡ false
+unfolding fits_with fits
+fits_with-many m h b heap live many =
+    lt-leb _ _ (omega (arith, need-insert m h b heap live, space_le-need m h heap live, space_of_ge (length b)))

@@ -8,14 +8,14 @@ use Rattle.std.specs.FinMap.{empty, from_entries}
 use Rattle.byteorder.specs.Numbers.{little_number-reads_back}
 use Rattle.byteorder.specs.Endian.{little_number}
 use Rattle.geos_model.specs.Words.{word, word_at}
-use Rattle.geos_model.specs.Table.{table_entries, table_map}
-use Rattle.geos_model.specs.Heap.{ChunkMap, need, is_heap_map}
+use Rattle.geos_model.specs.Table.{table_entries, table_map, IsTrimmed}
+use Rattle.geos_model.specs.Heap.{ChunkMap, need, slot_space, is_heap_map}
 use Rattle.geos_model.specs.Document.{is_valid_body}
 use Rattle.geos_model.specs.Image.{chunks_read, image, body_read}
 use Rattle.geos_model.specs.declared.command.Body.{Body}
 use Rattle.geos_model.specs.declared.command.Body.TheVariants.{Raw, Heap}
 use Rattle.geos_model.proofs.Tables.{slot_at, table_map-nil}
-use Rattle.geos_model.proofs.HeapTables.{IsTrimmed, slot_space, slot_size, slot_size_word, slot_bytes, trimmed-nil, image-table, need-table, need_le, length_le-table, chunk_length_le, space_of_ge, heap_map-table}
+use Rattle.geos_model.proofs.HeapTables.{slot_size, slot_size_word, slot_bytes, trimmed-nil, image-table, need-table, need_le, length_le-table, chunk_length_le, space_of_ge, heap_map-table}
 
 -- the number in the bytes of a word
 pub word-reads_back : (n : ℕ) (rest : List ℕ) → n < 65536 → little_number 2 (word n ++ rest) ≡ n
@@ -112,15 +112,6 @@ body_read-body (Heap m) valid = body_read-image m valid
 -- two bodies with one image are one
 pub image-injective_body : (a b : Body) → is_valid_body a ≡ true → is_valid_body b ≡ true → image a ≡ image b → a ≡ b
 image-injective_body a b valid other same = sym (body_read-body a valid) ∙ ap body_read same ∙ body_read-body b other
-
-abbrev chunks_in : Body → ChunkMap
-chunks_in (Raw bytes) = empty
-chunks_in (Heap m) = m
-
--- two heaps with one image are one
-pub image-injective : (m n : ChunkMap) → is_heap_map m ≡ true → is_heap_map n ≡ true → image (Heap m) ≡ image (Heap n) → m ≡ n
-image-injective m n heap other same =
-    ap chunks_in (sym (body_read-image m heap) ∙ ap body_read same ∙ body_read-image n other)
 
 pub length_image-empty : length (image (Heap empty)) ≡ 3
 length_image-empty =

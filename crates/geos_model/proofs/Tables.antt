@@ -1,6 +1,7 @@
 -- Tables as finite maps: what `table_map` and `first_gap` say, slot by slot.
-use Rattle.std.proofs.Common.{◌≡◌, ◌≢◌, ℕ, zero, suc, ◌+◌, ◌*◌, ◌<◌, ◌≤◌, Bool, true, false, cond, not, ◌&&◌, T, List, [], ◌∷◌, ◌++◌, map, length, get_or, set, replicate, Option, Some, None, is_some, slice_get, option_and_then, if◌then◌else◌, nat_lt, ◌==◌, find, nat_cmp, is_lt, Less, Equal, Greater, refl, sym, ap, subst, ◌∙◌, inl, inr, arith, map-id, mul-suc}
-use Rattle.std.proofs.lemmas.Bool.{lt-ltb, le-ltb, ne_eqb, eq-eqb, eqb-true, cases_Bool, cases_lt, cond-true, cond-false}
+use Rattle.std.proofs.Common.{◌≡◌, ◌≢◌, ℕ, zero, suc, ◌+◌, ◌-◌, ◌*◌, ◌<◌, ◌≤◌, max, min, Bool, true, false, cond, not, ◌&&◌, T, List, [], ◌∷◌, ◌++◌, map, length, get_or, set, take, drop, replicate, Option, Some, None, is_some, if◌then◌else◌, nat_lt, ◌==◌, find, nat_cmp, is_lt, Less, Equal, Greater, refl, sym, ap, subst, ◌∙◌, inl, inr, arith, map-id, mul-suc, length-append}
+use Rattle.std.proofs.lemmas.Bool.{lt-ltb, le-ltb, ne_eqb, eq-eqb, eqb-true, cases_Bool, cases_lt, cases_eq, cond-true, cond-false}
+use Rattle.std.proofs.lemmas.List.{append-nil, length-replicate, length-set, length-take, get_or-take, get_or-set_same, get_or-set_other}
 use Rattle.std.specs.List.{range_with_len}
 use Rattle.std.specs.Cmp.{nat_cmp_total, unsigned_tied}
 use Rattle.std.specs.FinMap.{get, entries, keys, values, insert, remove, empty, contains_key, from_entries, from_sorted, same_map, nat_cmp-IsAntisymmetric, get-empty, get-insert, get-remove, get-from_entries, get-from_sorted, entries-from_sorted}
@@ -20,17 +21,61 @@ module _ {X : Type 0} where
   slot_at_past (o ∷ t) zero l = absurd (omega arith)
   slot_at_past (o ∷ t) (suc i) l = slot_at_past t i (omega arith)
 
-  -- the same by a slot that may be past the end
-  pub slot_at-slice_get : (t : List (Option X)) (i : ℕ) → slot_at t i ≡ option_and_then (λ o. o) (slice_get t i)
-  slot_at-slice_get [] i = refl
-  slot_at-slice_get (o ∷ t) zero = refl
-  slot_at-slice_get (o ∷ t) (suc i) = slot_at-slice_get t i
-
   -- a slot with a value is in the table
   pub slot_at_within : (t : List (Option X)) (i : ℕ) → is_some (slot_at t i) ≡ true → i < length t
   slot_at_within [] i e = cc
   slot_at_within (o ∷ t) zero e = omega arith
   slot_at_within (o ∷ t) (suc i) e = let l = slot_at_within t i e in omega (arith, l)
+
+  gaps_past : (t : List (Option X)) (k i : ℕ) → slot_at (t ++ replicate k None) i ≡ slot_at t i
+  gaps_past [] zero i = refl
+  gaps_past [] (suc k) zero = refl
+  gaps_past [] (suc k) (suc i) = gaps_past [] k i
+  gaps_past (o ∷ t) k zero = refl
+  gaps_past (o ∷ t) k (suc i) = gaps_past t k i
+
+  -- the table as far as a slot, behind gaps where it has no such slot
+  abbrev pub slots_to : List (Option X) → ℕ → List (Option X)
+  slots_to t i = t ++ replicate (i + 1 - length t) None
+
+  pub length-slots_to : (t : List (Option X)) (i : ℕ) → length (slots_to t i) ≡ max (length t) (i + 1)
+  length-slots_to t i = let n = i + 1 - length t in omega (arith, length-append t (replicate n None), length-replicate {A = Option X} n None)
+
+  pub slot_at-slots_to : (t : List (Option X)) (i k : ℕ) → slot_at (slots_to t i) k ≡ slot_at t k
+  slot_at-slots_to t i k = gaps_past t (i + 1 - length t) k
+
+  -- the table with a value in a slot
+  abbrev pub put_at : List (Option X) → ℕ → X → List (Option X)
+  put_at t i x = set (slots_to t i) i (Some x)
+
+  pub length-put_at : (t : List (Option X)) (i : ℕ) (x : X) → length (put_at t i x) ≡ max (length t) (i + 1)
+  length-put_at t i x = length-set (slots_to t i) i (Some x) ∙ length-slots_to t i
+
+  pub slot_at-put_same : (t : List (Option X)) (i : ℕ) (x : X) → slot_at (put_at t i x) i ≡ Some x
+  slot_at-put_same t i x = get_or-set_same (slots_to t i) i (Some x) None (omega (arith, length-slots_to t i))
+
+  pub slot_at-put_other : (t : List (Option X)) (i k : ℕ) (x : X) → k ≢ i → slot_at (put_at t i x) k ≡ slot_at t k
+  slot_at-put_other t i k x other = get_or-set_other (slots_to t i) i k (Some x) None other ∙ slot_at-slots_to t i k
+
+  -- a slot has a value then if it is this one, or had a value
+  pub full-put_at : (t : List (Option X)) (i k : ℕ) (x : X) → (k ≢ i → is_some (slot_at t k) ≡ true) → is_some (slot_at (put_at t i x) k) ≡ true
+  full-put_at t i k x full = elim (cases_eq k i) [
+    | inl e ↦ ap (λ (j : ℕ). is_some (slot_at (put_at t i x) j)) e ∙ ap is_some (slot_at-put_same t i x)
+    | inr e ↦ ap is_some (slot_at-put_other t i k x e) ∙ full e
+  ]
+
+  -- no gap is added where the slot is there
+  pub put_at-within : (t : List (Option X)) (i : ℕ) (x : X) → i < length t → put_at t i x ≡ set t i (Some x)
+  put_at-within t i x l =
+      let none : i + 1 - length t ≡ 0 = omega arith in
+      ap (λ (k : ℕ). set (t ++ replicate k None) i (Some x)) none ∙ ap (λ (s : List (Option X)). set s i (Some x)) (append-nil t)
+
+  -- gaps that are left off at the end change no slot
+  slot_at-cut : (t : List (Option X)) (n i : ℕ) → ((k : ℕ) → n ≤ k → slot_at t k ≡ None) → slot_at (take n t) i ≡ slot_at t i
+  slot_at-cut t n i gaps = elim (cases_lt i n) [
+    | inl l ↦ get_or-take n t i None l
+    | inr l ↦ slot_at_past (take n t) i (omega (arith, length-take n t)) ∙ sym (gaps i l)
+  ]
 
 -- two tests that both hold
 both : (a b : Bool) → T a → T b → T (a && b)
@@ -58,6 +103,26 @@ row-zero step h = omega arith
 
 row-suc : (step h i : ℕ) → h + step * suc i ≡ h + step + step * i
 row-suc step h i = omega (arith, mul-suc step i)
+
+-- tables with the same slots show the same map
+module _ {X : Type 0} (step : ℕ) where
+  entries_cons : (h : ℕ) (o : Option X) (s t : List (Option X)) → table_entries step (h + step) s ≡ table_entries step (h + step) t → table_entries step h (o ∷ s) ≡ table_entries step h (o ∷ t)
+  entries_cons h None s t same = same
+  entries_cons h (Some x) s t same = ap (λ (es : List (ℕ × X)). (h, x) ∷ es) same
+
+  entries_same : (h : ℕ) (s t : List (Option X)) → ((i : ℕ) → slot_at s i ≡ slot_at t i) → table_entries step h s ≡ table_entries step h t
+  entries_same h [] [] same = refl
+  entries_same h [] (p ∷ t) same = entries_cons h None [] t (entries_same (h + step) [] t (λ i. same (suc i))) ∙ ap (λ (o : Option X). table_entries step h (o ∷ t)) (same 0)
+  entries_same h (o ∷ s) [] same = entries_cons h o s [] (entries_same (h + step) s [] (λ i. same (suc i))) ∙ ap (λ (p : Option X). table_entries step h (p ∷ [])) (same 0)
+  entries_same h (o ∷ s) (p ∷ t) same = entries_cons h o s t (entries_same (h + step) s t (λ i. same (suc i))) ∙ ap (λ (q : Option X). table_entries step h (q ∷ t)) (same 0)
+
+  pub table_map-same : (h : ℕ) (s t : List (Option X)) → ((i : ℕ) → slot_at s i ≡ slot_at t i) → table_map step h s ≡ table_map step h t
+  unfolding table_map
+  table_map-same h s t same = ap from_entries (entries_same h s t same)
+
+  -- so gaps at the end show nothing
+  pub table_map-cut : (h : ℕ) (t : List (Option X)) (n : ℕ) → ((k : ℕ) → n ≤ k → slot_at t k ≡ None) → table_map step h (take n t) ≡ table_map step h t
+  table_map-cut h t n gaps = table_map-same h (take n t) t (λ i. slot_at-cut t n i gaps)
 
 module _ {X : Type 0} {step : ℕ} (up : 0 < step) where
   below-table_entries : (x h : ℕ) (t : List (Option X)) → x < h → T (below_all nat_cmp x (table_entries step h t))
@@ -162,33 +227,11 @@ module _ {X : Type 0} {step : ℕ} (up : 0 < step) where
       get-table_map_set h t i None q l
       ∙ sym (get-remove nat_cmp_total (table_map step h t) (h + step * i) q ∙ ap (λ b. cond b None (get (table_map step h t) q)) (unsigned_tied q (h + step * i))))
 
-  -- what is under a key after a slot was added
-  pub get-table_map_push : (h : ℕ) (t : List (Option X)) (o : Option X) (q : ℕ) → get (table_map step h (t ++ o ∷ [])) q ≡ cond (q == h + step * length t) o (get (table_map step h t) q)
-  get-table_map_push h [] o q =
-      let first : h + step * 0 ≡ h = row-zero step h in
-      get-table_map_cons h o [] q
-      ∙ ap (cond (q == h) o) (get-table_map_nil (h + step) q ∙ sym (get-table_map_nil h q))
-      ∙ ap (λ (k : ℕ). cond (q == k) o (get (table_map {X = X} step h []) q)) (sym first)
-  get-table_map_push h (a ∷ t) o q =
-      let next : h + step * suc (length t) ≡ h + step + step * length t = row-suc step h (length t) in
-      get-table_map_cons h a (t ++ o ∷ []) q
-      ∙ ap (cond (q == h) a) (get-table_map_push (h + step) t o q)
-      ∙ either_first (q == h) (q == h + step + step * length t) a o _ (λ x y. let e : q ≡ h = eqb-true q h x in let f : q ≡ h + step + step * length t = eqb-true q _ y in absurd (omega arith))
-      ∙ ap (cond (q == h + step + step * length t) o) (sym (get-table_map_cons h a t q))
-      ∙ ap (λ (k : ℕ). cond (q == k) o (get (table_map step h (a ∷ t)) q)) (sym next)
-
-  -- a value is added behind the last slot
-  pub table_map-push : (h : ℕ) (t : List (Option X)) (x : X) → table_map step h (t ++ Some x ∷ []) ≡ insert (table_map step h t) (h + step * length t) x
-  table_map-push h t x = same_map nat_cmp_total nat_cmp-IsAntisymmetric _ _ (λ q.
-      get-table_map_push h t (Some x) q
-      ∙ sym (get-insert nat_cmp_total (table_map step h t) (h + step * length t) x q ∙ ap (λ b. cond b (Some x) (get (table_map step h t) q)) (unsigned_tied q (h + step * length t))))
-
-  -- a gap behind the last slot shows nothing
-  pub table_map-push_none : (h : ℕ) (t : List (Option X)) → table_map step h (t ++ None ∷ []) ≡ table_map step h t
-  table_map-push_none h t = same_map nat_cmp_total nat_cmp-IsAntisymmetric _ _ (λ q. get-table_map_push h t None q ∙ elim (cases_Bool (q == h + step * length t)) [
-    | inl e ↦ cond-true _ _ _ e ∙ sym (ap (get (table_map step h t)) (eqb-true q _ e) ∙ get-table_map h t (length t) ∙ slot_at_past t (length t) (omega arith))
-    | inr e ↦ cond-false _ _ _ e
-  ])
+  -- a value is put in a slot
+  pub table_map-put : (h : ℕ) (t : List (Option X)) (i : ℕ) (x : X) → table_map step h (put_at t i x) ≡ insert (table_map step h t) (h + step * i) x
+  table_map-put h t i x =
+      table_map-set h (slots_to t i) i x (omega (arith, length-slots_to t i))
+      ∙ ap (λ m. insert m (h + step * i) x) (table_map-same step h (slots_to t i) t (slot_at-slots_to t i))
 
 -- nothing but gaps shows the empty map
 pub table_map-nil : {X : Type 0} (step h : ℕ) → table_map {X = X} step h [] ≡ empty
@@ -252,11 +295,6 @@ unfolding next_handle vm_handles
 next_handle-table t m = find-blocks 2048 t
 
 module _ {X : Type 0} where
-  pub first_gap_le : (t : List (Option X)) → first_gap t ≤ length t
-  first_gap_le [] = omega arith
-  first_gap_le (None ∷ t) = omega arith
-  first_gap_le (Some x ∷ t) = omega (arith, first_gap_le t)
-
   -- below the first gap each slot has a value
   pub first_gap_below : (t : List (Option X)) (i : ℕ) → i < first_gap t → is_some (slot_at t i) ≡ true
   first_gap_below [] i l = absurd (omega arith)
@@ -279,6 +317,38 @@ module _ {X : Type 0} where
   first_gap_is (Some x ∷ t) zero full none = cc
   first_gap_is (Some x ∷ t) (suc i) full none = ap suc (first_gap_is t i (λ k l. full (suc k) (omega arith)) none)
 
-  -- no slot is free where the first gap is the end
-  pub first_gap_end : (t : List (Option X)) (i : ℕ) → i ≡ length t → ((k : ℕ) → k < i → is_some (slot_at t k) ≡ true) → first_gap t ≡ i
-  first_gap_end t i e full = first_gap_is t i full (ap is_some (slot_at_past t i (omega arith)))
+  -- where each slot below has a value, the first gap is no less
+  first_gap_past : (t : List (Option X)) (n : ℕ) → ((k : ℕ) → k < n → is_some (slot_at t k) ≡ true) → n ≤ first_gap t
+  first_gap_past t n full = elim (cases_lt (first_gap t) n) [
+    | inl l ↦ let e : false ≡ true = ap is_some (sym (first_gap_none t)) ∙ full (first_gap t) l in cc
+    | inr l ↦ l
+  ]
+
+  first_gap-drop : (t : List (Option X)) (n : ℕ) → n ≤ first_gap t → first_gap t ≡ n + first_gap (drop n t)
+  first_gap-drop t zero l = omega arith
+  first_gap-drop [] (suc n) l = absurd (omega arith)
+  first_gap-drop (None ∷ t) (suc n) l = absurd (omega arith)
+  first_gap-drop (Some x ∷ t) (suc n) l = omega (arith, first_gap-drop t n (omega arith))
+
+  -- of the first of the slots
+  pub first_gap-take : (t : List (Option X)) (n : ℕ) → first_gap (take n t) ≡ min (first_gap t) n
+  first_gap-take t zero = omega arith
+  first_gap-take [] (suc n) = omega arith
+  first_gap-take (None ∷ t) (suc n) = omega arith
+  first_gap-take (Some x ∷ t) (suc n) = omega (arith, first_gap-take t n)
+
+  -- the first gap once another slot has a value
+  pub first_gap-put_other : (t : List (Option X)) (i : ℕ) (x : X) → first_gap t ≢ i → first_gap (put_at t i x) ≡ first_gap t
+  first_gap-put_other t i x other =
+      first_gap_is (put_at t i x) (first_gap t) (λ k l. full-put_at t i k x (λ e. first_gap_below t k l)) (ap is_some (slot_at-put_other t i (first_gap t) x other ∙ first_gap_none t))
+
+  -- once it is filled itself
+  pub first_gap-put_first : (t : List (Option X)) (i : ℕ) (x : X) → first_gap t ≡ i → first_gap (put_at t i x) ≡ i + 1 + first_gap (drop (i + 1) (put_at t i x))
+  first_gap-put_first t i x is = first_gap-drop (put_at t i x) (i + 1) (first_gap_past (put_at t i x) (i + 1) (λ k l. full-put_at t i k x (λ e. first_gap_below t k (omega arith))))
+
+  -- once a slot is cleared
+  pub first_gap-clear : (t : List (Option X)) (i : ℕ) → i < length t → first_gap (set t i None) ≡ min (first_gap t) i
+  first_gap-clear [] i l = absurd (omega arith)
+  first_gap-clear (o ∷ t) zero l = omega arith
+  first_gap-clear (None ∷ t) (suc i) l = omega arith
+  first_gap-clear (Some x ∷ t) (suc i) l = omega (arith, first_gap-clear t i (omega arith))

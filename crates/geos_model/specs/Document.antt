@@ -1,5 +1,5 @@
 -- A document: blocks under handles, each with a user ID and a body, and a map block.
-use Rattle.std.specs.Prelude.{ℕ, List, Bool, true, false, not, nat_le, length, Option, find}
+use Rattle.std.specs.Prelude.{ℕ, List, [], Bool, true, false, not, nat_le, length, Option, find}
 use Rattle.std.specs.List.{range_with_len}
 use Rattle.std.specs.Ordering.{nat_cmp}
 use Rattle.std.specs.Option.{option_map_or}
@@ -40,6 +40,11 @@ abbrev pub chunks_of_body : Body → ChunkMap
 chunks_of_body (Raw bytes) = empty
 chunks_of_body (Heap m) = m
 
+-- the bytes of a raw body, none of a heap
+abbrev pub bytes_of_body : Body → List ℕ
+bytes_of_body (Raw bytes) = bytes
+bytes_of_body (Heap m) = []
+
 abbrev pub is_heap_body : Body → Bool
 is_heap_body (Raw bytes) = false
 is_heap_body (Heap m) = true
@@ -47,9 +52,15 @@ is_heap_body (Heap m) = true
 abbrev pub is_heap : Document → ℕ → Bool
 is_heap d h = option_map_or (λ b. is_heap_body b.body) (get d.blocks h) false
 
+abbrev pub is_raw : Document → ℕ → Bool
+is_raw d h = option_map_or (λ b. not (is_heap_body b.body)) (get d.blocks h) false
+
 -- Of the block under a handle; where it isn't live or is of the other kind, nothing or 0.
 abbrev pub chunks_of : Document → ℕ → ChunkMap
 chunks_of d h = option_map_or (λ b. chunks_of_body b.body) (get d.blocks h) empty
+
+abbrev pub raw_bytes_of : Document → ℕ → List ℕ
+raw_bytes_of d h = option_map_or (λ b. bytes_of_body b.body) (get d.blocks h) []
 
 abbrev pub user_id_of : Document → ℕ → ℕ
 user_id_of d h = option_map_or (λ b. b.user_id) (get d.blocks h) 0

@@ -1,5 +1,5 @@
 -- A heap is a finite map from chunk handles to bytes.
-use Rattle.std.specs.Prelude.{ℕ, List, [], ◌+◌, ◌*◌, ◌/◌, ◌-◌, ◌%◌, Bool, false, not, ◌==◌, ◌&&◌, nat_le, max, length, map, if◌then◌else◌, Option, find, unwrap_or, sum_by, fold}
+use Rattle.std.specs.Prelude.{ℕ, List, [], ◌+◌, ◌*◌, ◌/◌, ◌-◌, ◌%◌, Bool, false, not, ◌==◌, ◌&&◌, nat_le, max, length, map, if◌then◌else◌, Option, Some, None, find, unwrap_or, sum_by, fold}
 use Rattle.std.specs.List.{range_with_len, list_all}
 use Rattle.std.specs.Ordering.{nat_cmp}
 use Rattle.std.specs.Option.{option_map_or}
@@ -26,6 +26,11 @@ is_chunk_handle h = nat_le 16 h && nat_le h 0xFFEE && (h % 2 == 0)
 -- what a chunk of n bytes takes: its bytes and a word before them, in whole double words; an empty one takes nothing
 abbrev pub space_of : ℕ → ℕ
 space_of n = if n == 0 then 0 else 4 * ((n + 5) / 4)
+
+-- what a chunk takes, and none
+abbrev pub slot_space : Option (List ℕ) → ℕ
+slot_space None = 0
+slot_space (Some bytes) = space_of (length bytes)
 
 -- which table entry a chunk handle is, from 1 on
 abbrev pub entry_of : ℕ → ℕ

@@ -1,4 +1,5 @@
 pub mod Words
+pub mod Bytes
 pub mod Refusal
 pub mod Heap
 pub mod Table

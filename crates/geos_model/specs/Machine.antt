@@ -41,12 +41,19 @@ is_plain_kind Freed = false
 
 -- what kind of step an edit makes
 abbrev pub kind_of : Edit → Kind
+kind_of (edits.NewRaw uid size) = Made
 kind_of (edits.NewHeap uid) = Made
 kind_of (edits.FreeBlock b) = Freed
 kind_of (edits.CopyBlock b) = Made
+kind_of (edits.WriteRaw b at bytes) = In b
+kind_of (edits.Attach b bytes) = In b
 kind_of (edits.SetUserId b uid) = Plain
 kind_of (edits.SetMap b) = Plain
 kind_of (edits.Alloc b n) = In b
+kind_of (edits.Free b c) = In b
+kind_of (edits.Resize b c n) = In b
+kind_of (edits.Insert b c at n) = In b
+kind_of (edits.Delete b c at n) = In b
 kind_of (edits.Write b c at bytes) = In b
 
 abbrev pub command_conditions : Command → Machine → Conditions

@@ -1,13 +1,13 @@
 -- What an edit means: its refusals with their conditions, and where none holds the document after it and what it answers.
 use Rattle.std.specs.Prelude.{ℕ, List, [], ◌∷◌, ◌++◌, ◌+◌, not, ◌==◌, ◌&&◌, nat_lt, length, replicate, is_none, unwrap_or}
-use Rattle.std.specs.List.{splice}
 use Rattle.std.specs.Option.{option_map_or}
-use Rattle.std.specs.FinMap.{get, insert, contains_key, empty}
+use Rattle.std.specs.FinMap.{get, insert, remove, contains_key, empty}
 use Rattle.geos_model.specs.Refusal.{Conditions}
-use Rattle.geos_model.specs.Heap.{next_chunk, chunk_bytes, fits_new}
-use Rattle.geos_model.specs.Document.{Block, Document, with_block, without_block, with_body, with_user_id, is_live, is_heap, chunks_of, next_handle}
-use Rattle.geos_model.specs.declared.fault.Fault.TheVariants.{NoBlock, NoChunk, WrongKind, Full, NoHandles, Range, IsMap}
-use Rattle.geos_model.specs.declared.command.Body.TheVariants.{Heap}
+use Rattle.geos_model.specs.Bytes.{written, resized, inserted, deleted}
+use Rattle.geos_model.specs.Heap.{ChunkMap, capacity, next_chunk, chunk_bytes, fits_with, fits_new}
+use Rattle.geos_model.specs.Document.{Block, Document, with_block, without_block, with_body, with_user_id, is_live, is_heap, is_raw, chunks_of, raw_bytes_of, next_handle}
+use Rattle.geos_model.specs.declared.fault.Fault.TheVariants.{NoBlock, NoChunk, WrongKind, Full, TooBig, NoHandles, Range, IsMap}
+use Rattle.geos_model.specs.declared.command.Body.TheVariants.{Raw, Heap}
 use Rattle.geos_model.specs.declared.command.Done.{Done}
 use Rattle.geos_model.specs.declared.command.Done.TheVariants as done
 use Rattle.geos_model.specs.declared.command.Edit.{Edit}
@@ -21,12 +21,30 @@ chunk_at d b c = chunk_bytes (chunks_of d b) c
 abbrev pub with_chunk : Document → ℕ → ℕ → List ℕ → Document
 with_chunk d b c bytes = with_body d b (Heap (insert (chunks_of d b) c bytes))
 
+-- the document without a chunk
+abbrev pub without_chunk : Document → ℕ → ℕ → Document
+without_chunk d b c = with_body d b (Heap (remove (chunks_of d b) c))
+
+-- Refusals of an edit of bytes: it reaches past their end, the heap has no room for the new ones, or they are too many for a raw body.
+
+abbrev pub past_end : List ℕ → ℕ → Conditions
+past_end bytes end = (Range, nat_lt (length bytes) end) ∷ []
+
+abbrev pub no_room : ChunkMap → ℕ → List ℕ → Conditions
+no_room m c bytes = (Full, not (fits_with m c bytes)) ∷ []
+
+abbrev pub too_big : ℕ → Conditions
+too_big n = (TooBig, nat_lt capacity n) ∷ []
+
 -- the handle that a new chunk gets
 abbrev pub new_chunk : Document → ℕ → ℕ
 new_chunk d b = unwrap_or (next_chunk (chunks_of d b)) 0
 
 abbrev pub on_block : Document → ℕ → Conditions
 on_block d b = (NoBlock, not (is_live d b)) ∷ []
+
+abbrev pub on_raw : Document → ℕ → Conditions
+on_raw d b = on_block d b ++ (WrongKind, not (is_raw d b)) ∷ []
 
 abbrev pub on_heap : Document → ℕ → Conditions
 on_heap d b = on_block d b ++ (WrongKind, not (is_heap d b)) ∷ []
@@ -36,13 +54,20 @@ on_chunk d b c = on_heap d b ++ (NoChunk, not (contains_key (chunks_of d b) c)) 
 
 -- The refusals of an edit, each with its condition. Where an earlier one applies, a later one may be anything.
 abbrev pub conditions : Edit → Document → Conditions
+conditions (edits.NewRaw uid size) d = too_big size ++ (NoHandles, is_none (next_handle d)) ∷ []
 conditions (edits.NewHeap uid) d = (NoHandles, is_none (next_handle d)) ∷ []
 conditions (edits.FreeBlock b) d = on_block d b.0 ++ (IsMap, d.map_block == b.0) ∷ []
 conditions (edits.CopyBlock b) d = on_block d b.0 ++ (NoHandles, is_none (next_handle d)) ∷ []
+conditions (edits.WriteRaw b at bytes) d = on_raw d b.0 ++ past_end (raw_bytes_of d b.0) (at + length bytes)
+conditions (edits.Attach b bytes) d = on_raw d b.0 ++ too_big (length bytes)
 conditions (edits.SetUserId b uid) d = on_block d b.0
 conditions (edits.SetMap b) d = (NoBlock, not (b.0 == 0) && not (is_live d b.0)) ∷ []
 conditions (edits.Alloc b n) d = on_heap d b.0 ++ (Full, not (fits_new (chunks_of d b.0) (replicate n 0))) ∷ []
-conditions (edits.Write b c at bytes) d = on_chunk d b.0 c.0 ++ (Range, nat_lt (length (chunk_at d b.0 c.0)) (at + length bytes)) ∷ []
+conditions (edits.Free b c) d = on_chunk d b.0 c.0
+conditions (edits.Resize b c n) d = on_chunk d b.0 c.0 ++ no_room (chunks_of d b.0) c.0 (resized (chunk_at d b.0 c.0) n)
+conditions (edits.Insert b c at n) d = on_chunk d b.0 c.0 ++ past_end (chunk_at d b.0 c.0) at ++ no_room (chunks_of d b.0) c.0 (inserted (chunk_at d b.0 c.0) at n)
+conditions (edits.Delete b c at n) d = on_chunk d b.0 c.0 ++ past_end (chunk_at d b.0 c.0) (at + n)
+conditions (edits.Write b c at bytes) d = on_chunk d b.0 c.0 ++ past_end (chunk_at d b.0 c.0) (at + length bytes)
 
 -- an edit that makes a block, or a chunk, and answers its handle
 abbrev pub makes_block : Document → Block → Document × Done
@@ -53,10 +78,17 @@ makes_chunk d b bytes = (with_chunk d b (new_chunk d b) bytes, done.Chunk (recor
 
 -- what an edit does that nothing refuses
 abbrev pub effect : Edit → Document → Document × Done
+effect (edits.NewRaw uid size) d = makes_block d (record { user_id = uid; body = Raw (replicate size 0) })
 effect (edits.NewHeap uid) d = makes_block d (record { user_id = uid; body = Heap empty })
 effect (edits.FreeBlock b) d = (without_block d b.0, done.Nothing)
 effect (edits.CopyBlock b) d = option_map_or (makes_block d) (get d.blocks b.0) (d, done.Nothing)
+effect (edits.WriteRaw b at bytes) d = (with_body d b.0 (Raw (written (raw_bytes_of d b.0) at bytes)), done.Nothing)
+effect (edits.Attach b bytes) d = (with_body d b.0 (Raw bytes), done.Nothing)
 effect (edits.SetUserId b uid) d = (with_user_id d b.0 uid, done.Nothing)
 effect (edits.SetMap b) d = (record d { map_block = b.0 }, done.Nothing)
 effect (edits.Alloc b n) d = makes_chunk d b.0 (replicate n 0)
-effect (edits.Write b c at bytes) d = (with_chunk d b.0 c.0 (splice (chunk_at d b.0 c.0) at (at + length bytes) bytes), done.Nothing)
+effect (edits.Free b c) d = (without_chunk d b.0 c.0, done.Nothing)
+effect (edits.Resize b c n) d = (with_chunk d b.0 c.0 (resized (chunk_at d b.0 c.0) n), done.Nothing)
+effect (edits.Insert b c at n) d = (with_chunk d b.0 c.0 (inserted (chunk_at d b.0 c.0) at n), done.Nothing)
+effect (edits.Delete b c at n) d = (with_chunk d b.0 c.0 (deleted (chunk_at d b.0 c.0) at n), done.Nothing)
+effect (edits.Write b c at bytes) d = (with_chunk d b.0 c.0 (written (chunk_at d b.0 c.0) at bytes), done.Nothing)

@@ -4,8 +4,8 @@ use Rattle.std.specs.FinMap.{get, keys, entries}
 use Rattle.std.specs.Option.{option_map, option_map_or}
 use Rattle.geos_model.specs.Refusal.{Conditions}
 use Rattle.geos_model.specs.Heap.{need}
-use Rattle.geos_model.specs.Document.{Document, chunks_of}
-use Rattle.geos_model.specs.Meaning.{on_block, on_heap, on_chunk, chunk_at}
+use Rattle.geos_model.specs.Document.{Document, chunks_of, raw_bytes_of}
+use Rattle.geos_model.specs.Meaning.{on_block, on_raw, on_heap, on_chunk, chunk_at}
 use Rattle.geos_model.specs.declared.fault.Fault.{Fault}
 use Rattle.geos_model.specs.declared.command.Body.{Body}
 use Rattle.geos_model.specs.declared.command.Body.TheVariants.{Raw, Heap}
@@ -40,6 +40,7 @@ reply_of_done (done.Token t) = TokenIs t.0
 -- the refusals of a look-up; none of a command that is no look-up
 abbrev pub look_up_conditions : Command → Document → Conditions
 look_up_conditions (commands.Info b) d = on_block d b.0
+look_up_conditions (commands.ReadRaw b) d = on_raw d b.0
 look_up_conditions (commands.Chunks b) d = on_heap d b.0
 look_up_conditions (commands.Read b c) d = on_chunk d b.0 c.0
 look_up_conditions commands.List d = []
@@ -67,6 +68,7 @@ look_up (commands.Info b) d = option_map_or (λ block. body_info block.user_id b
 look_up commands.List d = BlocksAre (keys d.blocks)
 look_up (commands.Find uid start) d = BlockIs (unwrap_or (found d uid start.0) 0)
 look_up commands.MapBlock d = BlockIs d.map_block
+look_up (commands.ReadRaw b) d = BytesAre (raw_bytes_of d b.0)
 look_up (commands.Chunks b) d = ChunksAre (keys (chunks_of d b.0))
 look_up (commands.Read b c) d = BytesAre (chunk_at d b.0 c.0)
 look_up commands.Blank d = Accepted

@@ -6,7 +6,7 @@ pub fn word_law()
     ensures { WordLaw }
 {}
 
-/// An image is the image of one heap.
+/// An image is the image of one body.
 pub fn image_law()
     ensures { ImageLaw }
 {}

@@ -1,5 +1,5 @@
--- Operands of which there are too few or too many.
-use Rattle.std.proofs.Common.{◌≡◌, ℕ, List, [], ◌∷◌, length, map, Option, Some, None, refl, sym, ◌∙◌, arith}
+-- Operands of which there are too many.
+use Rattle.std.proofs.Common.{◌≡◌, ℕ, ◌<◌, List, [], ◌∷◌, length, map, Option, Some, None, refl, arith}
 use Rattle.std.specs.Borrow.{Bor}
 use Rattle.std.specs.Option.{option_and_then}
 use Rattle.std.proofs.lemmas.List.{length-map}
@@ -14,55 +14,60 @@ and_then_none : {A B : Type 0} (o : Option A) (f : A → Option B) → ((a : A) 
 and_then_none None f h = refl
 and_then_none (Some a) f h = h a
 
-with_none-other : (c : Command) (ws : List (List ℕ)) → (length ws ≡ 0 → ⊥) → with_none c ws ≡ None
-with_none-other c [] h = absurd (h refl)
-with_none-other c (w ∷ ws) h = refl
+with_none-many : (c : Command) (ws : List (List ℕ)) → 0 < length ws → with_none c ws ≡ None
+with_none-many c [] h = absurd (omega arith)
+with_none-many c (w ∷ ws) h = refl
 
-with_1-other : {A : Type 0} (p : List ℕ → Option A) (f : A → Command) (ws : List (List ℕ)) → (length ws ≡ 1 → ⊥) → with_1 p f ws ≡ None
-with_1-other p f [] h = refl
-with_1-other p f (w ∷ ws) h = and_then_none (p w) (λ a. with_none (f a) ws) (λ a. with_none-other (f a) ws (λ e. h (omega arith)))
+with_1-many : {A : Type 0} (p : List ℕ → Option A) (f : A → Command) (ws : List (List ℕ)) → 1 < length ws → with_1 p f ws ≡ None
+with_1-many p f [] h = refl
+with_1-many p f (w ∷ ws) h = and_then_none (p w) (λ a. with_none (f a) ws) (λ a. with_none-many (f a) ws (omega arith))
 
-with_2-other : {A B : Type 0} (p : List ℕ → Option A) (q : List ℕ → Option B) (f : A → B → Command) (ws : List (List ℕ))
-    → (length ws ≡ 2 → ⊥) → with_2 p q f ws ≡ None
-with_2-other p q f [] h = refl
-with_2-other p q f (w ∷ ws) h = and_then_none (p w) (λ a. with_1 q (f a) ws) (λ a. with_1-other q (f a) ws (λ e. h (omega arith)))
+with_2-many : {A B : Type 0} (p : List ℕ → Option A) (q : List ℕ → Option B) (f : A → B → Command) (ws : List (List ℕ))
+    → 2 < length ws → with_2 p q f ws ≡ None
+with_2-many p q f [] h = refl
+with_2-many p q f (w ∷ ws) h = and_then_none (p w) (λ a. with_1 q (f a) ws) (λ a. with_1-many q (f a) ws (omega arith))
 
-with_3-other : {A B C : Type 0} (p : List ℕ → Option A) (q : List ℕ → Option B) (r : List ℕ → Option C) (f : A → B → C → Command)
-    (ws : List (List ℕ)) → (length ws ≡ 3 → ⊥) → with_3 p q r f ws ≡ None
-with_3-other p q r f [] h = refl
-with_3-other p q r f (w ∷ ws) h =
-    and_then_none (p w) (λ a. with_2 q r (f a) ws) (λ a. with_2-other q r (f a) ws (λ e. h (omega arith)))
+with_3-many : {A B C : Type 0} (p : List ℕ → Option A) (q : List ℕ → Option B) (r : List ℕ → Option C) (f : A → B → C → Command)
+    (ws : List (List ℕ)) → 3 < length ws → with_3 p q r f ws ≡ None
+with_3-many p q r f [] h = refl
+with_3-many p q r f (w ∷ ws) h = and_then_none (p w) (λ a. with_2 q r (f a) ws) (λ a. with_2-many q r (f a) ws (omega arith))
 
-with_4-other : {A B C D : Type 0} (p : List ℕ → Option A) (q : List ℕ → Option B) (r : List ℕ → Option C) (s : List ℕ → Option D)
-    (f : A → B → C → D → Command) (ws : List (List ℕ)) → (length ws ≡ 4 → ⊥) → with_4 p q r s f ws ≡ None
-with_4-other p q r s f [] h = refl
-with_4-other p q r s f (w ∷ ws) h =
-    and_then_none (p w) (λ a. with_3 q r s (f a) ws) (λ a. with_3-other q r s (f a) ws (λ e. h (omega arith)))
+with_4-many : {A B C D : Type 0} (p : List ℕ → Option A) (q : List ℕ → Option B) (r : List ℕ → Option C) (s : List ℕ → Option D)
+    (f : A → B → C → D → Command) (ws : List (List ℕ)) → 4 < length ws → with_4 p q r s f ws ≡ None
+with_4-many p q r s f [] h = refl
+with_4-many p q r s f (w ∷ ws) h =
+    and_then_none (p w) (λ a. with_3 q r s (f a) ws) (λ a. with_3-many q r s (f a) ws (omega arith))
 
--- no verb takes another number of operands than none, one, two or four
-pub takes-other : (verb : Verb) (ws : List (List ℕ)) → (length ws ≡ 0 → ⊥) → (length ws ≡ 1 → ⊥) → (length ws ≡ 2 → ⊥)
-    → (length ws ≡ 4 → ⊥) → takes verb ws ≡ None
-takes-other verbs.NewHeap ws not_0 not_1 not_2 not_4 = with_1-other _ _ ws not_1
-takes-other verbs.FreeBlock ws not_0 not_1 not_2 not_4 = with_1-other _ _ ws not_1
-takes-other verbs.CopyBlock ws not_0 not_1 not_2 not_4 = with_1-other _ _ ws not_1
-takes-other verbs.SetUserId ws not_0 not_1 not_2 not_4 = with_2-other _ _ _ ws not_2
-takes-other verbs.SetMap ws not_0 not_1 not_2 not_4 = with_1-other _ _ ws not_1
-takes-other verbs.Alloc ws not_0 not_1 not_2 not_4 = with_2-other _ _ _ ws not_2
-takes-other verbs.Write ws not_0 not_1 not_2 not_4 = with_4-other _ _ _ _ _ ws not_4
-takes-other verbs.Undo ws not_0 not_1 not_2 not_4 = with_none-other _ ws not_0
-takes-other verbs.Redo ws not_0 not_1 not_2 not_4 = with_none-other _ ws not_0
-takes-other verbs.Info ws not_0 not_1 not_2 not_4 = with_1-other _ _ ws not_1
-takes-other verbs.List ws not_0 not_1 not_2 not_4 = with_none-other _ ws not_0
-takes-other verbs.Find ws not_0 not_1 not_2 not_4 = with_2-other _ _ _ ws not_2
-takes-other verbs.MapBlock ws not_0 not_1 not_2 not_4 = with_none-other _ ws not_0
-takes-other verbs.Chunks ws not_0 not_1 not_2 not_4 = with_1-other _ _ ws not_1
-takes-other verbs.Read ws not_0 not_1 not_2 not_4 = with_2-other _ _ _ ws not_2
-takes-other verbs.Undos ws not_0 not_1 not_2 not_4 = with_none-other _ ws not_0
-takes-other verbs.Redos ws not_0 not_1 not_2 not_4 = with_none-other _ ws not_0
+-- no verb takes more than four operands
+pub takes-many : (verb : Verb) (ws : List (List ℕ)) → 4 < length ws → takes verb ws ≡ None
+takes-many verbs.NewRaw ws h = with_2-many _ _ _ ws (omega arith)
+takes-many verbs.NewHeap ws h = with_1-many _ _ ws (omega arith)
+takes-many verbs.FreeBlock ws h = with_1-many _ _ ws (omega arith)
+takes-many verbs.CopyBlock ws h = with_1-many _ _ ws (omega arith)
+takes-many verbs.WriteRaw ws h = with_3-many _ _ _ _ ws (omega arith)
+takes-many verbs.Attach ws h = with_2-many _ _ _ ws (omega arith)
+takes-many verbs.SetUserId ws h = with_2-many _ _ _ ws (omega arith)
+takes-many verbs.SetMap ws h = with_1-many _ _ ws (omega arith)
+takes-many verbs.Alloc ws h = with_2-many _ _ _ ws (omega arith)
+takes-many verbs.Free ws h = with_2-many _ _ _ ws (omega arith)
+takes-many verbs.Resize ws h = with_3-many _ _ _ _ ws (omega arith)
+takes-many verbs.Insert ws h = with_4-many _ _ _ _ _ ws (omega arith)
+takes-many verbs.Delete ws h = with_4-many _ _ _ _ _ ws (omega arith)
+takes-many verbs.Write ws h = with_4-many _ _ _ _ _ ws (omega arith)
+takes-many verbs.Undo ws h = with_none-many _ ws (omega arith)
+takes-many verbs.Redo ws h = with_none-many _ ws (omega arith)
+takes-many verbs.Info ws h = with_1-many _ _ ws (omega arith)
+takes-many verbs.List ws h = with_none-many _ ws (omega arith)
+takes-many verbs.Find ws h = with_2-many _ _ _ ws (omega arith)
+takes-many verbs.MapBlock ws h = with_none-many _ ws (omega arith)
+takes-many verbs.ReadRaw ws h = with_1-many _ _ ws (omega arith)
+takes-many verbs.Chunks ws h = with_1-many _ _ ws (omega arith)
+takes-many verbs.Read ws h = with_2-many _ _ _ ws (omega arith)
+takes-many verbs.Undos ws h = with_none-many _ ws (omega arith)
+takes-many verbs.Redos ws h = with_none-many _ ws (omega arith)
 
 -- the same of words behind references
-pub takes-other_words : (verb : Verb) (ws : List (Bor (List ℕ))) → (length ws ≡ 0 → ⊥) → (length ws ≡ 1 → ⊥) → (length ws ≡ 2 → ⊥)
-    → (length ws ≡ 4 → ⊥) → takes verb (map (λ (w : Bor (List ℕ)). w.now) ws) ≡ None
-takes-other_words verb ws not_0 not_1 not_2 not_4 =
+pub takes-many_words : (verb : Verb) (ws : List (Bor (List ℕ))) → 4 < length ws → takes verb (map (λ (w : Bor (List ℕ)). w.now) ws) ≡ None
+takes-many_words verb ws h =
     let same = length-map ws (λ (w : Bor (List ℕ)). w.now) in
-    takes-other verb _ (λ e. not_0 (sym same ∙ e)) (λ e. not_1 (sym same ∙ e)) (λ e. not_2 (sym same ∙ e)) (λ e. not_4 (sym same ∙ e))
+    takes-many verb _ (omega arith)

@@ -1,9 +1,10 @@
 -- Lemmas on the lines of bytes, and on lines that are too long.
-use Rattle.std.proofs.Common.{◌≡◌, ℕ, ◌+◌, ◌<◌, ◌≤◌, min, Bool, true, false, ◌==◌, List, [], ◌∷◌, ◌++◌, length, slice_index, take, None, refl, sym, ap, ◌∙◌, arith, length-append, length-take, suc, inl, inr, drop}
+use Rattle.std.proofs.Common.{◌≡◌, ℕ, ◌+◌, ◌<◌, ◌≤◌, min, Bool, true, false, ◌==◌, List, [], ◌∷◌, ◌++◌, length, slice_index, take, refl, sym, ap, ◌∙◌, arith, length-append, length-take, suc, inl, inr, drop}
 use Rattle.std.proofs.lemmas.List.{take_all, get_or-take, append_assoc, nil_from_length, drop_more, take-append-drop}
-use Rattle.std.proofs.lemmas.Bool.{lt-leb, cases_lt, eqb-true}
+use Rattle.std.proofs.lemmas.Bool.{cases_lt, eqb-true}
 use Rattle.geos_model.specs.Script.{lines, finished_lines, command}
 use Rattle.geos_shell.specs.Progress.{HasNoFeed, StandsFor}
+use Rattle.geos_shell.proofs.Words.{command-long}
 
 -- a line feed ends the first line
 pub lines-at_feed : (line rest : List ℕ) → HasNoFeed line → lines (line ++ 10 ∷ rest) ≡ line ∷ lines rest
@@ -20,11 +21,6 @@ pub lines-one : (line : List ℕ) → 0 < length line → HasNoFeed line → lin
 lines-one [] some h = absurd (omega arith)
 lines-one (x ∷ []) some h = rw h.0
 lines-one (x ∷ y ∷ line) some h = rw (h.0, lines-one (y ∷ line) (omega arith) h.1)
-
--- with no line feed, no line is finished
-pub finished_lines-none : (line : List ℕ) → HasNoFeed line → finished_lines line ≡ []
-finished_lines-none [] h = refl
-finished_lines-none (x ∷ line) h = rw (h.0, finished_lines-none line h.1)
 
 pub HasNoFeed-append : (xs ys : List ℕ) → HasNoFeed xs → HasNoFeed ys → HasNoFeed (xs ++ ys)
 HasNoFeed-append [] ys h k = k
@@ -47,11 +43,6 @@ HasNoFeed-before xs end h before =
     (λ k l is.
     let low : k < end = omega (arith, length-take end xs) in
     before k low (rw (get_or-take end xs k 0 low) at is))
-
--- a line that is too long is no command
-pub command-long : (line : List ℕ) → 140000 < length line → command line ≡ None
-unfolding command
-command-long line h = rw (lt-leb (length line) 140000 h)
 
 -- bytes that are kept in full stand for themselves
 pub StandsFor-same : (bytes : List ℕ) → StandsFor bytes bytes

@@ -1,7 +1,7 @@
 -- The verbs that begin a command, and what the operands of each make.
 use Rattle.std.specs.Prelude.{ℕ, List, Option, map}
 use Rattle.std.specs.Borrow.{Bor}
-use Rattle.geos_model.specs.Script.{by_name, commands_by_name, with_none, with_1, with_2, with_4, user_id, block, chunk, number, bytes}
+use Rattle.geos_model.specs.Script.{by_name, commands_by_name, with_none, with_1, with_2, with_3, with_4, user_id, block, chunk, number, bytes}
 use Rattle.geos_model.specs.declared.command.Edit.TheVariants as edits
 use Rattle.geos_model.specs.declared.command.Command.{Command}
 use Rattle.geos_model.specs.declared.command.Command.TheVariants as commands
@@ -10,12 +10,19 @@ use Rattle.geos_shell.specs.declared.verbs.Verb.TheVariants as verbs
 
 -- the command that a verb and its operands are
 abbrev pub takes : Verb → List (List ℕ) → Option Command
+takes verbs.NewRaw = with_2 user_id number (λ u n. commands.Edit (edits.NewRaw u n))
 takes verbs.NewHeap = with_1 user_id (λ u. commands.Edit (edits.NewHeap u))
 takes verbs.FreeBlock = with_1 block (λ b. commands.Edit (edits.FreeBlock b))
 takes verbs.CopyBlock = with_1 block (λ b. commands.Edit (edits.CopyBlock b))
+takes verbs.WriteRaw = with_3 block number bytes (λ b at bs. commands.Edit (edits.WriteRaw b at bs))
+takes verbs.Attach = with_2 block bytes (λ b bs. commands.Edit (edits.Attach b bs))
 takes verbs.SetUserId = with_2 block user_id (λ b u. commands.Edit (edits.SetUserId b u))
 takes verbs.SetMap = with_1 block (λ b. commands.Edit (edits.SetMap b))
 takes verbs.Alloc = with_2 block number (λ b n. commands.Edit (edits.Alloc b n))
+takes verbs.Free = with_2 block chunk (λ b c. commands.Edit (edits.Free b c))
+takes verbs.Resize = with_3 block chunk number (λ b c n. commands.Edit (edits.Resize b c n))
+takes verbs.Insert = with_4 block chunk number number (λ b c at n. commands.Edit (edits.Insert b c at n))
+takes verbs.Delete = with_4 block chunk number number (λ b c at n. commands.Edit (edits.Delete b c at n))
 takes verbs.Write = with_4 block chunk number bytes (λ b c at bs. commands.Edit (edits.Write b c at bs))
 takes verbs.Undo = with_none commands.Undo
 takes verbs.Redo = with_none commands.Redo
@@ -23,6 +30,7 @@ takes verbs.Info = with_1 block (λ b. commands.Info b)
 takes verbs.List = with_none commands.List
 takes verbs.Find = with_2 user_id block (λ u b. commands.Find u b)
 takes verbs.MapBlock = with_none commands.MapBlock
+takes verbs.ReadRaw = with_1 block (λ b. commands.ReadRaw b)
 takes verbs.Chunks = with_1 block (λ b. commands.Chunks b)
 takes verbs.Read = with_2 block chunk (λ b c. commands.Read b c)
 takes verbs.Undos = with_none commands.Undos

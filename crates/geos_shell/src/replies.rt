@@ -28,6 +28,7 @@ fn respond(
         Command::List => text::push_blocks(alloc, out, session.list()),
         Command::Find(user_id, start) => text::push_found(out, session.find(*user_id, *start)),
         Command::MapBlock => text::push_block(out, session.map_block()),
+        Command::ReadRaw(block) => text::push_bytes(alloc, out, session.read_raw(*block)),
         Command::Chunks(block) => text::push_chunks(alloc, out, session.chunks(*block)),
         Command::Read(block, chunk) => {
             text::push_bytes(alloc, out, session.read_chunk(*block, *chunk))

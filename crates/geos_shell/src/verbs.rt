@@ -9,12 +9,19 @@ use std::alloc::Global;
 /// What the first word of a line asks for.
 #[derive(Clone, Copy)]
 pub(crate) enum Verb {
+    NewRaw,
     NewHeap,
     FreeBlock,
     CopyBlock,
+    WriteRaw,
+    Attach,
     SetUserId,
     SetMap,
     Alloc,
+    Free,
+    Resize,
+    Insert,
+    Delete,
     Write,
     Undo,
     Redo,
@@ -22,6 +29,7 @@ pub(crate) enum Verb {
     List,
     Find,
     MapBlock,
+    ReadRaw,
     Chunks,
     Read,
     Undos,
@@ -29,13 +37,20 @@ pub(crate) enum Verb {
 }
 
 /// Each verb by its name.
-const VERBS: [(&[u8], Verb); 17] = [
+const VERBS: [(&[u8], Verb); 25] = [
+    (b"newraw", Verb::NewRaw),
     (b"newheap", Verb::NewHeap),
     (b"vfree", Verb::FreeBlock),
     (b"vcopy", Verb::CopyBlock),
+    (b"vwrite", Verb::WriteRaw),
+    (b"attach", Verb::Attach),
     (b"uid", Verb::SetUserId),
     (b"map", Verb::SetMap),
     (b"alloc", Verb::Alloc),
+    (b"free", Verb::Free),
+    (b"resize", Verb::Resize),
+    (b"insert", Verb::Insert),
+    (b"delete", Verb::Delete),
     (b"write", Verb::Write),
     (b"undo", Verb::Undo),
     (b"redo", Verb::Redo),
@@ -43,6 +58,7 @@ const VERBS: [(&[u8], Verb); 17] = [
     (b"list", Verb::List),
     (b"find", Verb::Find),
     (b"mapblock", Verb::MapBlock),
+    (b"vread", Verb::ReadRaw),
     (b"chunks", Verb::Chunks),
     (b"read", Verb::Read),
     (b"undos", Verb::Undos),
@@ -81,7 +97,8 @@ pub(crate) fn command_of(alloc: Global, verb: Verb, operands: &[&[u8]]) -> Resul
     match operands {
         [] => of_none(verb),
         [first] => of_one(verb, first),
-        [first, second] => of_two(verb, first, second),
+        [first, second] => of_two(alloc, verb, first, second),
+        [first, second, third] => of_three(alloc, verb, first, second, third),
         [first, second, third, fourth] => of_four(alloc, verb, first, second, third, fourth),
         _ => Err(Fault::BadCommand),
     }
@@ -114,21 +131,51 @@ fn of_one(verb: Verb, first: &[u8]) -> Result<Command, Fault>
         Verb::CopyBlock => Ok(Command::Edit(Edit::CopyBlock(block(first)?))),
         Verb::SetMap => Ok(Command::Edit(Edit::SetMap(block(first)?))),
         Verb::Info => Ok(Command::Info(block(first)?)),
+        Verb::ReadRaw => Ok(Command::ReadRaw(block(first)?)),
         Verb::Chunks => Ok(Command::Chunks(block(first)?)),
         _ => Err(Fault::BadCommand),
     }
 }
 
 /// A command of two operands.
-fn of_two(verb: Verb, first: &[u8], second: &[u8]) -> Result<Command, Fault>
+fn of_two(alloc: Global, verb: Verb, first: &[u8], second: &[u8]) -> Result<Command, Fault>
     ensures ok { IfOk result (λ c. takes verb (first.now ∷ second.now ∷ []) ≡ Some c) }
     ensures err { IfErr result (λ fault. (fault ≡ Fault.Memory) ⊎ ((fault ≡ Fault.BadCommand) × (takes verb (first.now ∷ second.now ∷ []) ≡ None))) }
 {
     match verb {
+        Verb::NewRaw => Ok(Command::Edit(Edit::NewRaw(user_id(first)?, number(second)?))),
+        Verb::Attach => Ok(Command::Edit(Edit::Attach(block(first)?, bytes(alloc, second)?))),
         Verb::SetUserId => Ok(Command::Edit(Edit::SetUserId(block(first)?, user_id(second)?))),
         Verb::Alloc => Ok(Command::Edit(Edit::Alloc(block(first)?, number(second)?))),
+        Verb::Free => Ok(Command::Edit(Edit::Free(block(first)?, chunk(second)?))),
         Verb::Find => Ok(Command::Find(user_id(first)?, block(second)?)),
         Verb::Read => Ok(Command::Read(block(first)?, chunk(second)?)),
+        _ => Err(Fault::BadCommand),
+    }
+}
+
+/// A command of three operands.
+fn of_three(
+    alloc: Global,
+    verb: Verb,
+    first: &[u8],
+    second: &[u8],
+    third: &[u8],
+) -> Result<Command, Fault>
+    ensures ok { IfOk result (λ c. takes verb (first.now ∷ second.now ∷ third.now ∷ []) ≡ Some c) }
+    ensures err { IfErr result (λ fault. (fault ≡ Fault.Memory) ⊎ ((fault ≡ Fault.BadCommand) × (takes verb (first.now ∷ second.now ∷ third.now ∷ []) ≡ None))) }
+{
+    match verb {
+        Verb::WriteRaw => Ok(Command::Edit(Edit::WriteRaw(
+            block(first)?,
+            number(second)?,
+            bytes(alloc, third)?,
+        ))),
+        Verb::Resize => Ok(Command::Edit(Edit::Resize(
+            block(first)?,
+            chunk(second)?,
+            number(third)?,
+        ))),
         _ => Err(Fault::BadCommand),
     }
 }
@@ -146,6 +193,18 @@ fn of_four(
     ensures err { IfErr result (λ fault. (fault ≡ Fault.Memory) ⊎ ((fault ≡ Fault.BadCommand) × (takes verb (first.now ∷ second.now ∷ third.now ∷ fourth.now ∷ []) ≡ None))) }
 {
     match verb {
+        Verb::Insert => Ok(Command::Edit(Edit::Insert(
+            block(first)?,
+            chunk(second)?,
+            number(third)?,
+            number(fourth)?,
+        ))),
+        Verb::Delete => Ok(Command::Edit(Edit::Delete(
+            block(first)?,
+            chunk(second)?,
+            number(third)?,
+            number(fourth)?,
+        ))),
         Verb::Write => Ok(Command::Edit(Edit::Write(
             block(first)?,
             chunk(second)?,

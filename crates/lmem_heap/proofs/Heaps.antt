@@ -1,21 +1,22 @@
 -- A heap over its table: what each call does to the table is what it does to the finite map.
-use Rattle.std.proofs.Common.{◌≡◌, ℕ, zero, suc, ◌+◌, ◌*◌, ◌/◌, ◌%◌, ◌<◌, ◌≤◌, max, true, false, nat_le, List, [], ◌∷◌, ◌++◌, map, length, get_or, set, take, drop, Option, Some, None, is_some, unwrap_or, MatchOption, flat_map, ◌==◌, refl, sym, ap, subst, ◌∙◌, inl, inr, arith, length-append}
+use Rattle.std.proofs.Common.{◌≡◌, ℕ, ◌+◌, ◌-◌, ◌*◌, ◌/◌, ◌%◌, ◌<◌, ◌≤◌, ◌≢◌, true, false, nat_le, max, min, List, [], ◌∷◌, ◌++◌, map, length, get_or, set, take, drop, replicate, Option, Some, None, is_some, unwrap_or, flat_map, ◌==◌, refl, sym, ap, subst, ◌∙◌, inl, inr, arith, length-append}
 use Rattle.std.proofs.lemmas.Bool.{cases_lt, cases_eq, cond-true, cond-false, lt-ltb, le-ltb, leb-true, ne_eqb}
-use Rattle.std.proofs.lemmas.List.{length-set, set_at, append-nil, take_more, take_all, length-take-le}
-use Rattle.std.proofs.lemmas.List.Sums.{sum_by-cons, sum_by-set, sum_by_push, sum_by_more}
+use Rattle.std.proofs.lemmas.List.{length-replicate, length-set, append-nil, take_more, take_all, length-take, length-take-le, length-drop}
+use Rattle.std.proofs.lemmas.List.Sums.{sum_by-cons, sum_by-set, sum_by_more}
 use Rattle.std.specs.List as list
 use Rattle.std.specs.Option.{option_map, option_map_or}
-use Rattle.std.specs.FinMap.{get, insert, keys, contains_key}
-use Rattle.geos_model.specs.Table.{table_entries, table_map, first_gap}
-use Rattle.geos_model.specs.Heap.{ChunkMap, need, next_chunk, fits, fits_with, fits_new, space_of, is_heap_map, chunk_bytes}
+use Rattle.std.specs.FinMap.{get, insert, remove, keys, contains_key}
+use Rattle.geos_model.specs.Table.{table_entries, table_map, first_gap, IsTrimmed}
+use Rattle.geos_model.specs.Heap.{ChunkMap, need, next_chunk, fits, fits_with, fits_new, space_of, slot_space, is_chunk_handle, is_heap_map, chunk_bytes}
+use Rattle.geos_model.specs.Bytes.{resized}
 use Rattle.geos_model.specs.Image.{image}
 use Rattle.geos_model.specs.declared.command.Body.TheVariants as bodies
-use Rattle.geos_model.proofs.Tables.{table_map-set, table_map-push, next_chunk-table, get-table_map_at, get-table_map_off, first_gap_le, first_gap_none, keys-table_map}
-use Rattle.geos_model.proofs.HeapTables.{need-table, image-table, slot_size_word, slot_bytes, trimmed-set, trimmed-push, is_heap_map-trimmed, need_le, heap_map-table, space_of_ge}
+use Rattle.geos_model.proofs.Tables.{slot_at_within, slots_to, length-slots_to, slot_at-slots_to, put_at, put_at-within, length-put_at, table_map-same, table_map-cut, table_map-put, table_map-clear, next_chunk-table, get-table_map_at, get-table_map_off, first_gap_none, first_gap-take, first_gap-clear, first_gap-put_other, keys-table_map}
+use Rattle.geos_model.proofs.HeapTables.{need-table, image-table, slot_size_word, slot_bytes, trimmed-put, is_heap_map-trimmed, live_handle, space-same, slot_space_le, is_chunk_handle-parts, need_le, heap_map-table, space_of_ge}
 use Rattle.raw_region.specs.Bytes.{word_bytes}
 use Rattle.lmem_heap.specs.Packed.{Slots, heads, chunks, packed, slots_in}
-use Rattle.lmem_heap.specs.Slots.{slot_space, space_in, IsTrimmed, with_slot}
-use Rattle.lmem_heap.proofs.Packing.{length-packed, slots_in-packed, slot_some, slot_length, chunks-append, over}
+use Rattle.lmem_heap.specs.Slots.{space_in}
+use Rattle.lmem_heap.proofs.Packing.{length-packed, slots_in-packed, slot_some, slot_length, length-chunks-set}
 
 -- what a heap with this table needs
 abbrev pub need_in : Slots → ℕ
@@ -24,38 +25,14 @@ need_in t = 16 + 4 * ((length t + 1) / 2) + space_in t
 pub need_is : (t : Slots) → IsTrimmed t → need (table_map 2 16 t) ≡ need_in t
 need_is t trimmed = need-table t trimmed
 
--- ---- what a new or changed chunk leaves
+pub is_heap : (t : Slots) → IsTrimmed t → need_in t ≤ 65520 → is_heap_map (table_map 2 16 t) ≡ true
+is_heap t trimmed room = is_heap_map-trimmed t trimmed (omega (arith, need_is t trimmed))
 
-pub space-set : (t : Slots) (i : ℕ) (b : List ℕ) → i < length t → get_or t i None ≡ None → space_in (set t i (Some b)) ≡ space_in t + space_of (length b)
-space-set t i b l gap = let e = sum_by-set slot_space t i (Some b) None l in omega (arith, e, ap slot_space gap)
-
-pub space-same : (t : Slots) (i : ℕ) (a b : List ℕ) → i < length t → get_or t i None ≡ Some a → length b ≡ length a → space_in (set t i (Some b)) ≡ space_in t
-space-same t i a b l live same =
-    let e = sum_by-set slot_space t i (Some b) None l in omega (arith, e, ap slot_space live, ap space_of same)
-
+-- a chunk takes no less than its bytes
 pub length-chunks_le : (t : Slots) → length (chunks t) ≤ space_in t
 length-chunks_le [] = omega arith
 length-chunks_le (None ∷ t) = omega (arith, length-chunks_le t, sum_by-cons slot_space None t)
 length-chunks_le (Some b ∷ t) = omega (arith, length-chunks_le t, sum_by-cons slot_space (Some b) t, length-append b (chunks t), space_of_ge (length b))
-
-pub first_gap-same : (t : Slots) (i : ℕ) (b : List ℕ) → is_some (get_or t i None) ≡ true → first_gap (set t i (Some b)) ≡ first_gap t
-first_gap-same [] i b live = refl
-first_gap-same (None ∷ t) zero b live = cc
-first_gap-same (None ∷ t) (suc i) b live = refl
-first_gap-same (Some a ∷ t) zero b live = refl
-first_gap-same (Some a ∷ t) (suc i) b live = ap suc (first_gap-same t i b live)
-
--- the next gap, once the first is filled
-pub first_gap-filled : (t : Slots) (i : ℕ) (b : List ℕ) → i < length t → i ≡ first_gap t → first_gap (set t i (Some b)) ≡ i + 1 + first_gap (drop (i + 1) (set t i (Some b)))
-first_gap-filled [] i b l is = absurd (omega arith)
-first_gap-filled (None ∷ t) zero b l is = omega arith
-first_gap-filled (None ∷ t) (suc i) b l is = absurd (omega arith)
-first_gap-filled (Some a ∷ t) zero b l is = absurd (omega arith)
-first_gap-filled (Some a ∷ t) (suc i) b l is =
-    let rest = first_gap-filled t i b (omega arith) (omega arith) in
-    let next : suc i + 1 ≡ suc (i + 1) = omega arith in
-    let dropped : first_gap (drop (suc i + 1) (Some a ∷ set t i (Some b))) ≡ first_gap (drop (i + 1) (set t i (Some b))) = ap (λ (n : ℕ). first_gap (drop n (Some a ∷ set t i (Some b)))) next in
-    omega (arith, rest, dropped)
 
 -- ---- the least free handle
 
@@ -65,40 +42,25 @@ next_some t l = next_chunk-table t ∙ cond-true _ _ _ (lt-ltb (first_gap t) 327
 pub next_none : (t : Slots) → 32752 ≤ first_gap t → next_chunk (table_map 2 16 t) ≡ None
 next_none t l = next_chunk-table t ∙ cond-false _ _ _ (le-ltb (first_gap t) 32752 l)
 
--- what a heap needs with a chunk at the least free handle
-pub need_with : (t : Slots) (b : List ℕ) → IsTrimmed t → need (insert (table_map 2 16 t) (16 + 2 * first_gap t) b) ≡ 16 + 4 * ((max (length t) (first_gap t + 1) + 1) / 2) + (space_in t + space_of (length b))
-need_with t b trimmed = let g = first_gap t in elim (cases_lt g (length t)) [
-  | inl l ↦
-      let same : length (set t g (Some b)) ≡ max (length t) (g + 1) = omega (arith, length-set t g (Some b)) in
-      ap need (sym (table_map-set (omega arith) 16 t g b l)) ∙ (need_is (set t g (Some b)) (trimmed-set t g b l trimmed)
-      ∙ (ap (λ (n : ℕ). 16 + 4 * ((n + 1) / 2) + space_in (set t g (Some b))) same
-      ∙ ap (λ (n : ℕ). 16 + 4 * ((max (length t) (g + 1) + 1) / 2) + n) (space-set t g b l (first_gap_none t))))
-  | inr l ↦
-      let end : g ≡ length t = omega (arith, first_gap_le t) in
-      let same : length (t ++ Some b ∷ []) ≡ max (length t) (g + 1) = omega (arith, length-append t (Some b ∷ [])) in
-      ap (λ (k : ℕ). need (insert (table_map 2 16 t) (16 + 2 * k) b)) end ∙ (ap need (sym (table_map-push (omega arith) 16 t b)) ∙ (need_is (t ++ Some b ∷ []) (trimmed-push t b)
-      ∙ (ap (λ (n : ℕ). 16 + 4 * ((n + 1) / 2) + space_in (t ++ Some b ∷ [])) same
-      ∙ ap (λ (n : ℕ). 16 + 4 * ((max (length t) (g + 1) + 1) / 2) + n) (sum_by_push slot_space t (Some b)))))
-]
-
-pub fits_some : (m : ChunkMap) (h : ℕ) (b : List ℕ) → next_chunk m ≡ Some h → fits_new m b ≡ nat_le (need (insert m h b)) 65520
-unfolding fits_new fits_with fits
-fits_some m h b next = ap (λ (o : Option ℕ). option_map_or (λ h. fits_with m h b) o false) next
-
-pub fits_none : (m : ChunkMap) (b : List ℕ) → next_chunk m ≡ None → fits_new m b ≡ false
-unfolding fits_new
-fits_none m b next = ap (λ (o : Option ℕ). option_map_or (λ h. fits_with m h b) o false) next
-
 -- whether a new chunk fits
-pub fits_table : (t : Slots) (b : List ℕ) → IsTrimmed t → first_gap t < 32752 → fits_new (table_map 2 16 t) b ≡ nat_le (16 + 4 * ((max (length t) (first_gap t + 1) + 1) / 2) + (space_in t + space_of (length b))) 65520
-fits_table t b trimmed l = fits_some (table_map 2 16 t) _ b (next_some t l) ∙ ap (λ (n : ℕ). nat_le n 65520) (need_with t b trimmed)
+pub fits_new-some : (m : ChunkMap) (h : ℕ) (b : List ℕ) → next_chunk m ≡ Some h → fits_new m b ≡ fits_with m h b
+unfolding fits_new
+fits_new-some m h b next = ap (λ (o : Option ℕ). option_map_or (λ h. fits_with m h b) o false) next
 
--- what is known where it does
-pub fits_room : (t : Slots) (b : List ℕ) → IsTrimmed t → fits_new (table_map 2 16 t) b ≡ true → (first_gap t < 32752) × (16 + 4 * ((max (length t) (first_gap t + 1) + 1) / 2) + (space_in t + space_of (length b)) ≤ 65520)
-fits_room t b trimmed fit = elim (cases_lt (first_gap t) 32752) [
-  | inl l ↦ (l, leb-true _ _ (sym (fits_table t b trimmed l) ∙ fit))
-  | inr l ↦ let no : fits_new (table_map 2 16 t) b ≡ false = fits_none (table_map 2 16 t) b (next_none t l) in let e : false ≡ true = sym no ∙ fit in cc
+pub fits_new-none : (m : ChunkMap) (b : List ℕ) → next_chunk m ≡ None → fits_new m b ≡ false
+unfolding fits_new
+fits_new-none m b next = ap (λ (o : Option ℕ). option_map_or (λ h. fits_with m h b) o false) next
+
+-- where one fits there is a handle for it
+pub gap_below : (t : Slots) (b : List ℕ) (m : ChunkMap) → table_map 2 16 t ≡ m → fits_new m b ≡ true → first_gap t < 32752
+gap_below t b m shows fit = elim (cases_lt (first_gap t) 32752) [
+  | inl l ↦ l
+  | inr l ↦ let no : false ≡ true = sym (fits_new-none m b (ap next_chunk (sym shows) ∙ next_none t l)) ∙ fit in cc
 ]
+
+pub next_at : (t : Slots) (gap h : ℕ) (b : List ℕ) (m : ChunkMap) → table_map 2 16 t ≡ m → gap ≡ first_gap t → h ≡ 16 + 2 * gap → fits_new m b ≡ true → next_chunk m ≡ Some h
+next_at t gap h b m shows first at fit =
+    ap next_chunk (sym shows) ∙ (next_some t (gap_below t b m shows fit) ∙ ap (λ (g : ℕ). Some (16 + 2 * g)) (sym first) ∙ ap Some (sym at))
 
 -- ---- the image
 
@@ -130,21 +92,6 @@ packed_same s t small_s small_t count is =
 
 -- ---- slots one by one
 
-pub gap_more : (t : Slots) (i : ℕ) → i < length t → is_some (get_or t i None) ≡ true → first_gap (drop i t) ≡ 1 + first_gap (drop (i + 1) t)
-gap_more [] i l live = absurd (omega arith)
-gap_more (None ∷ t) zero l live = cc
-gap_more (Some b ∷ t) zero l live = omega arith
-gap_more (o ∷ t) (suc i) l live =
-    let next : suc i + 1 ≡ suc (i + 1) = omega arith in
-    gap_more t i (omega arith) live ∙ ap (λ (n : ℕ). 1 + first_gap (drop n (o ∷ t))) (sym next)
-
-pub gap_here : (t : Slots) (i : ℕ) → get_or t i None ≡ None → first_gap (drop i t) ≡ 0
-gap_here [] zero gap = refl
-gap_here [] (suc i) gap = refl
-gap_here (None ∷ t) zero gap = refl
-gap_here (Some b ∷ t) zero gap = cc
-gap_here (o ∷ t) (suc i) gap = gap_here t i gap
-
 -- a slot by its size
 pub none_by_size : (o : Option (List ℕ)) (size : Option ℕ) → size ≡ option_map length o → is_some size ≡ false → o ≡ None
 none_by_size None size is none = refl
@@ -164,73 +111,137 @@ slot_from_live (Some b) live = refl
 pub get_slot : (t : Slots) (i h : ℕ) → h ≡ 16 + 2 * i → get (table_map 2 16 t) h ≡ get_or t i None
 get_slot t i h is = get-table_map_at (omega arith) 16 t i h is
 
--- a live handle is a slot's
+-- what is no slot's names nothing
 pub get_other : (t : Slots) (h : ℕ) → ((i : ℕ) → i < length t → h ≡ 16 + 2 * i → ⊥) → get (table_map 2 16 t) h ≡ None
 get_other t h off = get-table_map_off (omega arith) 16 t h off
 
--- a live handle has a slot
-pub live_slot : (t : Slots) (h n : ℕ) (o : Option ℕ) → n ≡ length t → MatchOption o ((i : ℕ) → i < n → h ≡ 16 + 2 * i → ⊥) (λ i. (i < n) × (h ≡ 16 + 2 * i)) → contains_key (table_map 2 16 t) h ≡ true → is_some o ≡ true
-live_slot t h n None count found live = let e : false ≡ true = sym (ap is_some (get_other t h (λ i l is. found i (omega arith) is))) ∙ live in cc
-live_slot t h n (Some i) count found live = refl
+-- a live handle is a chunk handle
+pub live_is : (t : Slots) (h : ℕ) (m : ChunkMap) → table_map 2 16 t ≡ m → IsTrimmed t → need_in t ≤ 65520 → contains_key m h ≡ true → is_chunk_handle h ≡ true
+live_is t h m shows trimmed room live = live_handle m h (ap is_heap_map (sym shows) ∙ is_heap t trimmed room) live
 
-pub slot_found : (h n i : ℕ) (o : Option ℕ) → MatchOption o ((i : ℕ) → i < n → h ≡ 16 + 2 * i → ⊥) (λ i. (i < n) × (h ≡ 16 + 2 * i)) → o ≡ Some i → (i < n) × (h ≡ 16 + 2 * i)
-slot_found h n i o found is = subst (λ (p : Option ℕ). MatchOption p ((i : ℕ) → i < n → h ≡ 16 + 2 * i → ⊥) (λ i. (i < n) × (h ≡ 16 + 2 * i))) is found
+-- so it is one of a slot
+pub live_at : (t : Slots) (h : ℕ) (m : ChunkMap) → table_map 2 16 t ≡ m → IsTrimmed t → need_in t ≤ 65520 → contains_key m h ≡ true → (i : ℕ) × (h ≡ 16 + 2 * i)
+live_at t h m shows trimmed room live = let parts = is_chunk_handle-parts h (live_is t h m shows trimmed room live) in ((h - 16) / 2, omega (arith, parts.0, parts.2))
 
--- a chunk is written over
-pub written_map : (t : Slots) (i h from : ℕ) (ws : List ℕ) (m : ChunkMap) → i < length t → h ≡ 16 + 2 * i → table_map 2 16 t ≡ m
-    → table_map 2 16 (set t i (Some (over t i from ws))) ≡ insert m h (list.splice (chunk_bytes m h) from (from + length ws) ws)
-written_map t i h from ws m l is shows =
-    let slot : get_or t i None ≡ get m h = sym (get_slot t i h is) ∙ ap (λ (x : ChunkMap). get x h) shows in
-    table_map-set (omega arith) 16 t i (over t i from ws) l
-    ∙ (ap (λ (k : ℕ). insert (table_map 2 16 t) k (over t i from ws)) (sym is)
-    ∙ (ap (λ (x : ChunkMap). insert x h (over t i from ws)) shows
-    ∙ ap (λ (o : Option (List ℕ)). insert m h (list.splice (unwrap_or o []) from (from + length ws) ws)) slot))
+-- a slot that has this chunk
+pub record Live (t : Slots) (i : ℕ) (b : List ℕ) : Type 0 where
+  pub within : i < length t
+  pub holds : get_or t i None ≡ Some b
+  pub space : space_of (length b) ≤ space_in t
+  pub bytes : length b ≤ space_in t
 
--- ---- the first gap is filled
+module _ (t : Slots) (i h : ℕ) (m : ChunkMap) (shows : table_map 2 16 t ≡ m) (at : h ≡ 16 + 2 * i) where
+  slot_is : get_or t i None ≡ get m h
+  slot_is = sym (get_slot t i h at) ∙ ap (λ (x : ChunkMap). get x h) shows
 
--- a table with a slot at its first gap
-pub record GapOpened (t s : Slots) : Type 0 where
-  pub slots : length s ≡ max (length t) (first_gap t + 1)
-  pub gap : first_gap s ≡ first_gap t
-  pub long : length (chunks s) ≡ length (chunks t)
-  pub space : space_in s ≡ space_in t
-  pub trimmed : (b : List ℕ) → IsTrimmed t → IsTrimmed (set s (first_gap t) (Some b))
-  pub shows : (b : List ℕ) → table_map 2 16 (set s (first_gap t) (Some b)) ≡ insert (table_map 2 16 t) (16 + 2 * first_gap t) b
+  -- a free handle's slot has no chunk
+  pub free_slot : get m h ≡ None → get_or t i None ≡ None
+  free_slot free = slot_is ∙ free
 
-first_gap-push : (t : Slots) → first_gap (t ++ None ∷ []) ≡ first_gap t
-first_gap-push [] = refl
-first_gap-push (None ∷ t) = refl
-first_gap-push (Some b ∷ t) = ap suc (first_gap-push t)
+  -- a live handle's has its own
+  pub live_slot : contains_key m h ≡ true → Live t i (chunk_bytes m h)
+  live_slot live =
+      let holds : get_or t i None ≡ Some (chunk_bytes m h) = slot_is ∙ slot_from_live (get m h) live in
+      let space : space_of (length (chunk_bytes m h)) ≤ space_in t = omega (arith, ap slot_space holds, slot_space_le t i) in
+      record { within = slot_at_within t i (ap is_some holds); holds = holds; space = space; bytes = omega (arith, space_of_ge (length (chunk_bytes m h))) }
 
-gap_within : (t : Slots) → first_gap t < length t → GapOpened t t
-gap_within t l = record {
-  slots = omega arith;
-  gap = refl;
-  long = refl;
-  space = refl;
-  trimmed = λ b trimmed. trimmed-set t (first_gap t) b l trimmed;
-  shows = λ b. table_map-set (omega arith) 16 t (first_gap t) b l;
-}
+  pub live_size : (size : Option ℕ) → contains_key m h ≡ true → size ≡ option_map length (get_or t i None) → size ≡ Some (length (chunk_bytes m h))
+  live_size size live is = is ∙ ap (option_map length) (live_slot live).holds
 
-gap_pushed : (t : Slots) → first_gap t ≡ length t → GapOpened t (t ++ None ∷ [])
-gap_pushed t end =
-    let filled : (b : List ℕ) → set (t ++ None ∷ []) (first_gap t) (Some b) ≡ t ++ Some b ∷ [] = λ b. set_at t None [] (Some b) (first_gap t) (sym end) in
-    record {
-      slots = omega (arith, length-append t (None ∷ []));
-      gap = first_gap-push t;
-      long = omega (arith, ap length (chunks-append t (None ∷ [])), length-append (chunks t) []);
-      space = omega (arith, sum_by_push slot_space t None);
-      trimmed = λ b trimmed. subst (λ (s : Slots). IsTrimmed s) (sym (filled b)) (trimmed-push t b);
-      shows = λ b. ap (table_map 2 16) (filled b) ∙ (table_map-push (omega arith) 16 t b ∙ ap (λ (k : ℕ). insert (table_map 2 16 t) (16 + 2 * k) b) (sym end));
-    }
+  -- a chunk is put under the handle
+  pub shows_put : (n : Slots) (b : List ℕ) → n ≡ put_at t i b → table_map 2 16 n ≡ insert m h b
+  shows_put n b is =
+      ap (table_map 2 16) is ∙ (table_map-put (omega arith) 16 t i b ∙ (ap (λ (k : ℕ). insert (table_map 2 16 t) k b) (sym at) ∙ ap (λ (x : ChunkMap). insert x h b) shows))
 
-pub gap_opened : (t s : Slots) (g : ℕ) → g ≡ first_gap t → s ≡ with_slot t g → GapOpened t s
-gap_opened t s g is opened =
-    let there : s ≡ with_slot t (first_gap t) = opened ∙ ap (with_slot t) is in
-    elim (cases_lt (first_gap t) (length t)) [
-      | inl l ↦ subst (λ (r : Slots). GapOpened t r) (sym (there ∙ cond-true _ _ _ (lt-ltb (first_gap t) (length t) l))) (gap_within t l)
-      | inr l ↦ subst (λ (r : Slots). GapOpened t r) (sym (there ∙ cond-false _ _ _ (le-ltb (first_gap t) (length t) l))) (gap_pushed t (omega (arith, first_gap_le t)))
-    ]
+  -- and whether it fits
+  pub fits_put : (b : List ℕ) → IsTrimmed t → fits_with m h b ≡ nat_le (need_in (put_at t i b)) 65520
+  unfolding fits_with fits
+  fits_put b trimmed =
+      ap (λ (n : ℕ). nat_le n 65520) (ap need (sym (shows_put (put_at t i b) b refl)) ∙ need_is (put_at t i b) (trimmed-put t i b trimmed))
+
+  pub room_put : (b : List ℕ) → IsTrimmed t → fits_with m h b ≡ true → need_in (put_at t i b) ≤ 65520
+  room_put b trimmed fit = leb-true _ _ (sym (fits_put b trimmed) ∙ fit)
+
+-- ---- what a chunk that is put in a slot changes
+
+pub space-slots_to : (t : Slots) (i : ℕ) → space_in (slots_to t i) ≡ space_in t
+space-slots_to t i = space-same (slots_to t i) t (table_map-same 2 16 (slots_to t i) t (slot_at-slots_to t i))
+
+space-put : (t : Slots) (i : ℕ) (b : List ℕ) → space_in (put_at t i b) + slot_space (get_or t i None) ≡ space_in t + space_of (length b)
+space-put t i b =
+    omega (arith, sum_by-set slot_space (slots_to t i) i (Some b) None (omega (arith, length-slots_to t i)), ap slot_space (slot_at-slots_to t i i), space-slots_to t i)
+
+-- in a slot with no chunk
+pub need_new : (t : Slots) (i : ℕ) (b : List ℕ) → get_or t i None ≡ None → need_in (put_at t i b) ≡ 16 + 4 * ((max (length t) (i + 1) + 1) / 2) + (space_in t + space_of (length b))
+need_new t i b gap = omega (arith, length-put_at t i b, space-put t i b, ap slot_space gap)
+
+-- in the place of another
+pub need_changed : (t : Slots) (i : ℕ) (b c : List ℕ) → Live t i c → need_in (put_at t i b) ≡ 16 + 4 * ((length t + 1) / 2) + (space_in t - space_of (length c) + space_of (length b))
+need_changed t i b c live = let l = live.within in let fewer = live.space in omega (arith, length-put_at t i b, space-put t i b, ap slot_space live.holds)
+
+-- the bytes that are left for it there
+pub room_changed : (t : Slots) (i : ℕ) (b c : List ℕ) → Live t i c → need_in (put_at t i b) ≤ 65520 → 2 * length t + length (chunks t) + length b ≤ 65504 + length c
+room_changed t i b c live room =
+    let l = live.within in let n = put_at t i b in
+    let same : length (chunks n) ≡ length (chunks (set t i (Some b))) = ap (λ (s : Slots). length (chunks s)) (put_at-within t i b l) in
+    let moved : length (chunks (set t i (Some b))) + length c ≡ length (chunks t) + length b
+    = ap (λ (o : Option (List ℕ)). length (chunks (set t i (Some b))) + length (unwrap_or o [])) (sym live.holds) ∙ length-chunks-set t i (Some b) l in
+    omega (arith, length-put_at t i b, length-chunks_le n)
+
+-- what becomes of the table where a slot's chunk is changed
+pub put_changed : (t n : Slots) (i : ℕ) (b c : List ℕ) (change : List ℕ → List ℕ) → Live t i c → n ≡ set t i (Some (change (unwrap_or (get_or t i None) []))) → change c ≡ b → n ≡ put_at t i b
+put_changed t n i b c change live is to =
+    is ∙ (ap (λ (o : Option (List ℕ)). set t i (Some (change (unwrap_or o [])))) live.holds ∙ (ap (λ (l : List ℕ). set t i (Some l)) to ∙ sym (put_at-within t i b live.within)))
+
+pub put_spliced : (t n : Slots) (i at end : ℕ) (new b : List ℕ) → Live t i b → n ≡ set t i (Some (list.splice (unwrap_or (get_or t i None) []) at end new)) → n ≡ put_at t i (list.splice b at end new)
+put_spliced t n i at end new b live is = put_changed t n i (list.splice b at end new) b (λ (l : List ℕ). list.splice l at end new) live is refl
+
+-- what a heap keeps count of
+abbrev pub IsCounted : Slots → ℕ → ℕ → Type 0
+IsCounted t space gap = IsTrimmed t × (space ≡ space_in t) × (gap ≡ first_gap t) × (16 + 4 * ((length t + 1) / 2) + space ≤ 65520)
+
+counted_put : (t n : Slots) (i space gap : ℕ) (b : List ℕ) → IsTrimmed t → need_in (put_at t i b) ≤ 65520 → n ≡ put_at t i b → space ≡ space_in (put_at t i b) → gap ≡ first_gap (put_at t i b) → IsCounted n space gap
+counted_put t n i space gap b trimmed room is takes first = subst (λ (x : Slots). IsCounted x space gap) (sym is) (trimmed-put t i b trimmed, takes, first, omega arith)
+
+pub counted_new : (t n : Slots) (i space gap : ℕ) (b : List ℕ) → IsTrimmed t → get_or t i None ≡ None → need_in (put_at t i b) ≤ 65520 → n ≡ put_at t i b → space ≡ space_in t + space_of (length b) → gap ≡ first_gap (put_at t i b) → IsCounted n space gap
+counted_new t n i space gap b trimmed none room is takes first = counted_put t n i space gap b trimmed room is (omega (arith, space-put t i b, ap slot_space none)) first
+
+pub counted_changed : (t n : Slots) (i space more gap : ℕ) (b c : List ℕ) → Live t i c → IsCounted t space gap → need_in (put_at t i b) ≤ 65520 → n ≡ put_at t i b → more ≡ space - space_of (length c) + space_of (length b) → IsCounted n more gap
+counted_changed t n i space more gap b c live counted room is takes =
+    let other : first_gap t ≢ i = λ e. let none : None ≡ Some c = sym (ap (λ (k : ℕ). get_or t k None) (sym e) ∙ first_gap_none t) ∙ live.holds in cc in
+    let fewer = live.space in
+    counted_put t n i more gap b counted.0 room is (omega (arith, space-put t i b, ap slot_space live.holds, counted.1)) (counted.2 ∙ sym (first_gap-put_other t i b other))
+
+-- ---- a chunk's new bytes
+
+pub length-splice : (b new : List ℕ) (at k : ℕ) → at + k ≤ length b → length (list.splice b at (at + k) new) ≡ length b - k + length new
+length-splice b new at k le = let j = at + k in omega (arith, length-append (take at b) (new ++ drop j b), length-append new (drop j b), length-take-le at b (omega arith), length-drop j b)
+
+pub length-resized : (b : List ℕ) (n : ℕ) → length (resized b n) ≡ n
+length-resized b n = let k = n - length b in omega (arith, length-append (take n b) (replicate k 0), length-take n b, length-replicate {A = ℕ} k 0)
+
+-- ---- a chunk is freed: its slot is cleared, and the slots behind the last chunk are left off
+
+module _ (t s n : Slots) (i k : ℕ) (c : List ℕ) (live : Live t i c) (cleared : s ≡ set t i None) (is : n ≡ take k s) (gaps : (j : ℕ) → k ≤ j → get_or s j None ≡ None) where
+  shows_cut : table_map 2 16 n ≡ table_map 2 16 s
+  shows_cut = ap (table_map 2 16) is ∙ table_map-cut 2 16 s k gaps
+
+  pub shows_freed : (h : ℕ) (m : ChunkMap) → table_map 2 16 t ≡ m → h ≡ 16 + 2 * i → table_map 2 16 n ≡ remove m h
+  shows_freed h m shows at =
+      shows_cut ∙ (ap (table_map 2 16) cleared ∙ (table_map-clear (omega arith) 16 t i live.within
+      ∙ (ap (λ (q : ℕ). remove (table_map 2 16 t) q) (sym at) ∙ ap (λ (x : ChunkMap). remove x h) shows)))
+
+  pub counted_freed : (space less gap first : ℕ) → IsCounted t space gap → IsTrimmed (take k s) → less ≡ space - space_of (length c) → first ≡ min (min gap i) k → IsCounted n less first
+  counted_freed space less gap first counted trimmed takes gap_is =
+      let count : space_in n + space_of (length c) ≡ space_in t
+      = omega (arith, space-same n s shows_cut, ap space_in cleared, sum_by-set slot_space t i None None live.within, ap slot_space live.holds) in
+      let short : length n ≤ length t = omega (arith, ap length is, length-take k s, ap length cleared, length-set t i None) in
+      let next : first_gap n ≡ min (min (first_gap t) i) k = ap first_gap is ∙ (first_gap-take s k ∙ ap (λ (g : ℕ). min g k) (ap first_gap cleared ∙ first_gap-clear t i live.within)) in (
+        subst (λ (x : Slots). IsTrimmed x) (sym is) trimmed,
+        omega (arith, counted.1),
+        gap_is ∙ (ap (λ (g : ℕ). min (min g i) k) counted.2 ∙ sym next),
+        omega (arith, counted.1, counted.3),
+      )
 
 -- ---- the space, slot by slot
 
@@ -256,9 +267,6 @@ image_made t n a b c d low bytes a_is b_is c_is low_is d_is bytes_is count trimm
     let words : low ≡ word_bytes (length t) = low_is ∙ (ap (λ (x : ℕ). n % 256 ∷ x ∷ []) high ∙ ap word_bytes count) in
     d_is ∙ (ap (λ (l : List ℕ). l ++ bytes) (c_is ∙ (ap (λ (l : List ℕ). l ++ low) (b_is ∙ ap (λ (l : List ℕ). l ++ 1 ∷ []) a_is) ∙ ap (λ (l : List ℕ). 1 ∷ l) words))
     ∙ (ap (λ (l : List ℕ). (1 ∷ word_bytes (length t)) ++ l) bytes_is ∙ sym (image_is t trimmed room)))
-
-pub is_heap : (t : Slots) → IsTrimmed t → need_in t ≤ 65520 → is_heap_map (table_map 2 16 t) ≡ true
-is_heap t trimmed room = is_heap_map-trimmed t trimmed (omega (arith, need_is t trimmed))
 
 pub space_of_at_most : (n : ℕ) → space_of n ≤ n + 8
 space_of_at_most n = elim (cases_eq n 0) [

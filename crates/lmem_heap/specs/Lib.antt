@@ -1,2 +1,4 @@
+pub mod LendsChunk
+pub mod LendsHeapChunk
 pub mod Packed
 pub mod Slots

@@ -1,10 +1,12 @@
-ghost use Rattle.std.specs.Prelude.{◌≡◌, ◌⊎◌, ◌+◌, ◌*◌, ◌/◌, ◌^◌, ◌≤◌, ◌<◌, ℕ, List, ◌∷◌, ◌++◌, true, Some, IsTrue, IfOk, IfErr, MatchOption, length, map, drop, replicate};
+ghost use Rattle.std.specs.Prelude.{◌≡◌, ◌⊎◌, ◌+◌, ◌*◌, ◌/◌, ◌^◌, ◌≤◌, ◌<◌, ℕ, List, ◌∷◌, ◌++◌, true, Some, None, IsTrue, IfOk, IfErr, MatchOption, length, map, take, drop, replicate, get_or};
+ghost use Rattle.std.specs.Borrow.{sem};
 ghost use Rattle.std.specs.List.{splice};
 ghost use Rattle.std.specs.Option.{option_map, option_copied};
-ghost use Rattle.std.specs.FinMap.{empty, get, insert, keys, contains_key};
-ghost use Rattle.geos_model.specs.Heap.{ChunkMap, need, chunk_bytes, next_chunk, fits_new, is_heap_map, space_of};
-ghost use Rattle.geos_model.specs.Table.{table_map, first_gap};
-ghost use Rattle.lmem_heap.specs.Slots.{space_in, IsTrimmed};
+ghost use Rattle.std.specs.FinMap.{empty, get, insert, remove, keys, contains_key};
+ghost use Rattle.geos_model.specs.Heap.{ChunkMap, need, chunk_bytes, next_chunk, fits_new, fits_with, is_chunk_handle, is_heap_map, space_of};
+ghost use Rattle.geos_model.specs.Bytes.{resized};
+ghost use Rattle.geos_model.specs.Table.{table_map, first_gap, IsTrimmed};
+ghost use Rattle.lmem_heap.specs.Slots.{space_in};
 ghost use Rattle.raw_region.specs.Bytes.{word_bytes};
 ghost use Rattle.geos_model.specs.Image.{image};
 ghost use Rattle.geos_model.specs.declared.command.Body.TheVariants as bodies;
@@ -45,8 +47,8 @@ impl Model for Heap {
     ghost use Rattle.std.specs.Ordering.{nat_cmp};
     ghost use Rattle.std.specs.Coded.{coded_ℕ, coded_list};
     ghost use Rattle.std.specs.FinMap.{FinMap, code};
-    ghost use Rattle.geos_model.specs.Table.{table_map, first_gap};
-    ghost use Rattle.lmem_heap.specs.Slots.{space_in, IsTrimmed};
+    ghost use Rattle.geos_model.specs.Table.{table_map, first_gap, IsTrimmed};
+    ghost use Rattle.lmem_heap.specs.Slots.{space_in};
 
     ghost Value = { FinMap nat_cmp (List ℕ) };
 
@@ -61,6 +63,8 @@ impl Model for Heap {
 }
 
 impl Heap {
+    ghost use Rattle.lmem_heap.specs.LendsHeapChunk.{lends_chunk};
+
     /// An empty heap.
     pub fn new(alloc: Global) -> Result<Heap, AllocError>
         ensures { IfOk result (λ h. h ≡ empty) }
@@ -87,11 +91,38 @@ impl Heap {
     pub fn fits_alloc(&self, n: u32) -> bool
         ensures { result ≡ fits_new self.now (replicate n 0) }
     {
-        let slots = self.table.len();
-        if self.gap == MOST_CHUNKS {
-            return false;
+        match self.next_handle() {
+            Some(h) => self.fits_at(h, n),
+            None => false,
         }
-        need_of(slots.max(self.gap + 1), self.space + space_of(n as usize)) <= CAPACITY
+    }
+
+    /// Whether a chunk of `n` bytes under a free handle finds room.
+    pub fn fits_at(&self, h: ChunkHandle, n: u32) -> bool
+        requires handle { IsTrue (is_chunk_handle h.0) }
+        requires free { get self.now h.0 ≡ None }
+        ensures { result ≡ fits_with self.now h.0 (replicate n 0) }
+    {
+        let slots = self.table.len().max(slot(h) + 1);
+        need_of(slots, self.space + space_of(n as usize)) <= CAPACITY
+    }
+
+    /// Whether a chunk finds room with a size of `n` bytes.
+    pub fn fits_resize(&self, h: ChunkHandle, n: u32) -> bool
+        requires { IsTrue (contains_key self.now h.0) }
+        ensures { result ≡ fits_with self.now h.0 (resized (chunk_bytes self.now h.0) n) }
+    {
+        let size = self.size(h);
+        let others = self.space - space_of(size);
+        need_of(self.table.len(), others + space_of(n as usize)) <= CAPACITY
+    }
+
+    /// The size of a chunk.
+    fn size(&self, h: ChunkHandle) -> usize
+        requires { IsTrue (contains_key self.now h.0) }
+        ensures { result ≡ length (chunk_bytes self.now h.0) }
+    {
+        self.table.size(slot(h)).unwrap()
     }
 
     /// The least free handle.
@@ -111,20 +142,95 @@ impl Heap {
         ensures handle { next_chunk self.old ≡ Some result.0 }
         ensures chunk { self.new ≡ insert self.old result.0 (replicate n 0) }
     {
-        let i = self.gap;
-        self.table.open_slot(i);
+        let h = handle_of(self.gap);
+        self.alloc_at(h, n);
+        h
+    }
+
+    /// A new chunk of `n` zeros, under a free handle.
+    pub fn alloc_at(&mut self, h: ChunkHandle, n: u32)
+        requires handle { IsTrue (is_chunk_handle h.0) }
+        requires free { get self.old h.0 ≡ None }
+        requires fits { IsTrue (fits_with self.old h.0 (replicate n 0)) }
+        ensures { self.new ≡ insert self.old h.0 (replicate n 0) }
+    {
+        let i = slot(h);
+        self.table.open_slots(i + 1);
         self.table.fill(i, n as usize);
         self.space += space_of(n as usize);
-        self.gap = gap_from(&self.table, i + 1);
-        handle_of(i)
+        if i == self.gap {
+            self.gap = gap_from(&self.table, i + 1);
+        }
+    }
+
+    /// Frees a chunk. The table becomes as short as the greatest live handle lets it be.
+    pub fn free(&mut self, h: ChunkHandle)
+        requires { IsTrue (contains_key self.old h.0) }
+        ensures { self.new ≡ remove self.old h.0 }
+    {
+        let size = self.size(h);
+        let i = slot(h);
+        self.space -= space_of(size);
+        self.table.clear(i);
+        let slots = trimmed_len(&self.table);
+        self.gap = self.gap.min(i).min(slots);
+        if slots < self.table.len() {
+            self.table.truncate(slots);
+        }
+    }
+
+    /// Cuts a chunk at its end, or adds zeros there, so that it has `n` bytes.
+    pub fn resize(&mut self, h: ChunkHandle, n: u32)
+        requires live { IsTrue (contains_key self.old h.0) }
+        requires fits { IsTrue (fits_with self.old h.0 (resized (chunk_bytes self.old h.0) n)) }
+        ensures { self.new ≡ insert self.old h.0 (resized (chunk_bytes self.old h.0) n) }
+    {
+        let n = n as usize;
+        let size = self.size(h);
+        let i = slot(h);
+        self.space = self.space - space_of(size) + space_of(n);
+        if n <= size {
+            self.table.replace(i, n, size - n, &[]);
+        } else {
+            self.table.lengthen(i, n - size);
+        }
+    }
+
+    /// Puts `new` in the place of the `k` bytes from `at` on of a chunk; what stands behind them slides.
+    pub fn replace(&mut self, h: ChunkHandle, at: usize, k: usize, new: &[u8])
+        requires live { IsTrue (contains_key self.old h.0) }
+        requires range { at + k ≤ length (chunk_bytes self.old h.0) }
+        requires fits { IsTrue (fits_with self.old h.0 (splice (chunk_bytes self.old h.0) at (at + k) new.now)) }
+        ensures { self.new ≡ insert self.old h.0 (splice (chunk_bytes self.old h.0) at (at + k) new.now) }
+    {
+        let size = self.size(h);
+        self.table.replace(slot(h), at, k, new);
+        self.space = self.space - space_of(size) + space_of(size - k + new.len());
+    }
+
+    /// Joins all free room into one piece. The chunks stay as they are.
+    pub fn contract(&mut self)
+        ensures { self.new ≡ self.old }
+    {
+        // Chunks always stand one behind the other, so the free room is in one piece already.
     }
 
     /// The bytes of a chunk.
     pub fn chunk(&self, h: ChunkHandle) -> Option<&[u8]>
-        ensures { option_copied result ≡ get self.now h.0 }
+        ensures value { option_copied result ≡ get self.now h.0 }
+        ensures valid { is_heap_map self.now ≡ true }
     {
         let i = slot_of(h, self.table.len())?;
         self.table.chunk(i)
+    }
+
+    /// The bytes of a chunk, to be written.
+    pub fn chunk_mut(&mut self, h: ChunkHandle) -> &mut [u8]
+        requires { IsTrue (contains_key self.old h.0) }
+        ensures* writes_back { sem 𝓛 (lends_chunk self.entry h.0 result) }
+        ensures value { result.now ≡ chunk_bytes self.old h.0 }
+    {
+        self.table.chunk_mut(slot(h))
     }
 
     /// Writes over the bytes of a chunk from `at` on.
@@ -133,8 +239,7 @@ impl Heap {
         requires range { at + length bytes.now ≤ length (chunk_bytes self.old h.0) }
         ensures { self.new ≡ insert self.old h.0 (splice (chunk_bytes self.old h.0) at (at + length bytes.now) bytes.now) }
     {
-        let i = slot_of(h, self.table.len()).unwrap();
-        self.table.write(i, at, bytes);
+        self.table.write(slot(h), at, bytes);
     }
 
     /// The live handles, rising.
@@ -257,6 +362,29 @@ fn slot_of(h: ChunkHandle, slots: usize) -> Option<usize>
     }
     let i = (offset - HEADER) / 2;
     if i < slots { Some(i) } else { None }
+}
+
+/// The slot of a handle that a chunk can have.
+fn slot(h: ChunkHandle) -> usize
+    requires { IsTrue (is_chunk_handle h.0) }
+    ensures at { h.0 ≡ 16 + 2 * result }
+    ensures within { result < 32752 }
+{
+    (h.0 as usize - HEADER) / 2
+}
+
+/// How many slots there are up to the last one with a chunk.
+fn trimmed_len(table: &Table) -> usize
+    ensures within { result ≤ length table.now }
+    ensures full { IsTrimmed (take result table.now) }
+    ensures gaps { (i : ℕ) → result ≤ i → get_or table.now i None ≡ None }
+{
+    for i in (0..table.len()).rev() {
+        if table.size(i).is_some() {
+            return i + 1;
+        }
+    }
+    0
 }
 
 /// What the chunks of a table take.

@@ -1,8 +1,8 @@
-ghost use Rattle.std.specs.Prelude.{◌≡◌, ◌⊎◌, ◌+◌, ◌*◌, ◌≤◌, ◌<◌, ℕ, List, [], ◌∷◌, ◌++◌, Option, Some, None, IfOk, MatchOption, IsSome, is_some, length, max, replicate, take, set, get_or, unwrap_or};
+ghost use Rattle.std.specs.Prelude.{◌≡◌, ◌+◌, ◌-◌, ◌*◌, ◌≤◌, ◌<◌, ℕ, [], ◌++◌, Some, None, IfOk, MatchOption, IsSome, length, max, replicate, take, set, get_or, unwrap_or};
+ghost use Rattle.std.specs.Borrow.{sem};
 ghost use Rattle.std.specs.List.{splice};
 ghost use Rattle.std.specs.Option.{option_copied, option_map};
 ghost use Rattle.lmem_heap.specs.Packed.{Slots, packed, words, total, chunks};
-ghost use Rattle.lmem_heap.specs.Slots.{with_slot};
 
 use raw_region::RawBody;
 use std::alloc::{AllocError, Global};
@@ -30,6 +30,8 @@ impl Model for Table {
 }
 
 impl Table {
+    ghost use Rattle.lmem_heap.specs.LendsChunk.{lends_chunk};
+
     pub(crate) fn new(alloc: Global) -> Result<Table, AllocError>
         ensures { IfOk result (λ t. t ≡ []) }
     {
@@ -87,6 +89,15 @@ impl Table {
         }
     }
 
+    /// The size of the chunk in a slot that has one.
+    fn chunk_size(&self, i: usize) -> usize
+        requires slot { i < length self.now }
+        requires live { IsSome (get_or self.now i None) }
+        ensures { result ≡ length (unwrap_or (get_or self.now i None) []) }
+    {
+        self.size(i).unwrap()
+    }
+
     /// Where the bytes of a slot's chunk stand, or would stand.
     fn place(&self, i: usize) -> usize
         requires { i ≤ length self.now }
@@ -105,6 +116,18 @@ impl Table {
         Some(&self.body.bytes()[at..at + size])
     }
 
+    /// The bytes of the chunk in a slot that has one, to be written.
+    pub(crate) fn chunk_mut(&mut self, i: usize) -> &mut [u8]
+        requires slot { i < length self.old }
+        requires live { IsSome (get_or self.old i None) }
+        ensures* writes_back { sem 𝓛 (lends_chunk self.entry i result) }
+        ensures value { result.now ≡ unwrap_or (get_or self.old i None) [] }
+    {
+        let size = self.chunk_size(i);
+        let at = self.place(i);
+        self.body.slice_mut(at, size)
+    }
+
     /// Writes over the bytes of a slot's chunk from `at` on.
     pub(crate) fn write(&mut self, i: usize, at: usize, bytes: &[u8])
         requires slot { i < length self.old }
@@ -116,25 +139,85 @@ impl Table {
         self.body.copy_in(place + at, bytes);
     }
 
-    /// Sees that there is a slot `i`, at most one past the last.
-    pub(crate) fn open_slot(&mut self, i: usize)
-        requires within { i ≤ length self.old }
-        requires room { 2 * max (length self.old) (i + 1) + length (chunks self.old) ≤ 65520 }
-        ensures { self.new ≡ with_slot self.old i }
+    /// Puts `new` in the place of the `k` bytes from `at` on of a slot's chunk.
+    pub(crate) fn replace(&mut self, i: usize, at: usize, k: usize, new: &[u8])
+        requires slot { i < length self.old }
+        requires live { IsSome (get_or self.old i None) }
+        requires range { at + k ≤ length (unwrap_or (get_or self.old i None) []) }
+        requires room { 2 * length self.old + length (chunks self.old) + length new.now ≤ 65520 + k }
+        ensures { self.new ≡ set self.old i (Some (splice (unwrap_or (get_or self.old i None) []) at (at + k) new.now)) }
     {
-        if i == self.slots {
-            self.push_gap();
+        let size = self.chunk_size(i);
+        let place = self.place(i);
+        self.body.replace(place + at, k, new);
+        self.body.set_word(2 * i, (size - k + new.len()) as u16);
+    }
+
+    /// Makes a slot's chunk longer by `n` zeros at its end.
+    pub(crate) fn lengthen(&mut self, i: usize, n: usize)
+        requires slot { i < length self.old }
+        requires live { IsSome (get_or self.old i None) }
+        requires room { 2 * length self.old + length (chunks self.old) + n ≤ 65520 }
+        ensures { self.new ≡ set self.old i (Some (unwrap_or (get_or self.old i None) [] ++ replicate n 0)) }
+    {
+        let size = self.chunk_size(i);
+        let place = self.place(i);
+        self.body.insert_zeros(place + size, n);
+        self.body.set_word(2 * i, (size + n) as u16);
+    }
+
+    /// Takes a slot's chunk away.
+    pub(crate) fn clear(&mut self, i: usize)
+        requires slot { i < length self.old }
+        requires live { IsSome (get_or self.old i None) }
+        ensures { self.new ≡ set self.old i None }
+    {
+        let size = self.chunk_size(i);
+        let place = self.place(i);
+        self.body.replace(place, size, &[]);
+        self.body.set_word(2 * i, NO_CHUNK);
+    }
+
+    /// Leaves off the slots behind the first `n`, which have no chunks.
+    pub(crate) fn truncate(&mut self, n: usize)
+        requires within { n ≤ length self.old }
+        requires gaps { (i : ℕ) → n ≤ i → get_or self.old i None ≡ None }
+        ensures { self.new ≡ take n self.old }
+    {
+        self.body.replace(2 * n, 2 * (self.slots - n), &[]);
+        self.slots = n;
+    }
+
+    /// Sees that there are at least `n` slots. New ones have no chunk.
+    pub(crate) fn open_slots(&mut self, n: usize)
+        requires { 2 * max (length self.old) n + length (chunks self.old) ≤ 65520 }
+        ensures { self.new ≡ self.old ++ replicate (n - length self.old) None }
+    {
+        let first = self.slots;
+        if first < n {
+            self.push_empty(n - first);
+            for i in first..n {
+                self.set_gap(i);
+            }
         }
     }
 
-    /// One more slot, with no chunk.
-    fn push_gap(&mut self)
-        requires { 2 * length self.old + length (chunks self.old) + 2 ≤ 65520 }
-        ensures { self.new ≡ self.old ++ None ∷ [] }
+    /// More slots, each with an empty chunk.
+    fn push_empty(&mut self, more: usize)
+        requires { 2 * (length self.old + more) + length (chunks self.old) ≤ 65520 }
+        ensures { self.new ≡ self.old ++ replicate more (Some []) }
     {
-        let word = NO_CHUNK.to_le_bytes();
-        self.body.replace(2 * self.slots, 0, word.as_slice());
-        self.slots += 1;
+        self.body.insert_zeros(2 * self.slots, 2 * more);
+        self.slots += more;
+    }
+
+    /// A slot with an empty chunk has none instead.
+    fn set_gap(&mut self, gap: usize)
+        requires slot { gap < length self.old }
+        requires empty { get_or self.old gap None ≡ Some [] }
+        ensures { self.new ≡ set self.old gap None }
+    {
+        self.body.set_word(2 * gap, NO_CHUNK);
     }
 
     /// A chunk of `n` zeros in a slot that has none. The chunks behind it slide.

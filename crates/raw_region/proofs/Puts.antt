@@ -1,6 +1,7 @@
 -- What callers of a region need of `put`, `slice_range` and `word_at`.
-use Rattle.std.proofs.Common.{◌≡◌, ℕ, suc, ◌+◌, ◌-◌, ◌/◌, ◌%◌, ◌<◌, ◌≤◌, List, [], ◌∷◌, ◌++◌, length, take, drop, get_or, arith, refl, sym, ap, ◌∙◌, append_assoc, length-append, length-take, length-drop, slice_range, replicate}
+use Rattle.std.proofs.Common.{◌≡◌, ℕ, suc, ◌+◌, ◌-◌, ◌/◌, ◌%◌, ◌<◌, ◌≤◌, List, [], ◌∷◌, ◌++◌, length, take, drop, get_or, arith, refl, sym, ap, ◌∙◌, inl, inr, append_assoc, length-append, length-take, length-drop, slice_range, replicate}
 use Rattle.std.specs.List.{copy_within}
+use Rattle.std.proofs.lemmas.Bool.{cases_lt}
 use Rattle.std.proofs.lemmas.List.{take-append-drop, length-replicate, replicate-append-replicate, drop_all, take_all, append-nil, length-take-le, take_at, take-append-le, take-take, drop_at, drop-drop, drop-take, get_or_append_left, get_or-take, get_or-drop}
 use Rattle.std.proofs.lemmas.List.Edits.{length-between, split_between, get_or-between}
 use Rattle.std.proofs.lemmas.Slice.{between_to_end, between_is}
@@ -79,6 +80,16 @@ module _ (xs ws vs : List ℕ) (at : ℕ) where
   pub put-again : at + length ws ≤ length xs → length vs ≡ length ws → put (put xs at ws) at vs ≡ put xs at vs
   put-again le same = put_is (put xs at ws) vs at (omega (arith, length-put xs ws at)) ∙ rw (take-put xs ws at le at (omega arith), drop-put_past xs ws at le (at + length vs) (omega arith), put_is xs vs at (omega arith)) refl
 
+-- bytes over all others are cut to their length
+pub put-cut : (xs ws : List ℕ) → put xs 0 (take (length xs) ws) ≡ put xs 0 ws
+unfolding put
+put-cut xs ws = let n = length xs in let cut = take n ws in elim (cases_lt n (length ws)) [
+  | inl long ↦
+      let whole : length cut ≡ n = length-take-le n ws (omega arith) in
+      take-append-le n cut (drop (0 + length cut) xs) (omega arith) ∙ (take-take n n ws (omega arith) ∙ sym (take-append-le n ws (drop (0 + length ws) xs) (omega arith)))
+  | inr short ↦ ap (λ (l : List ℕ). take n (l ++ drop (0 + length l) xs)) (take_all n ws short)
+]
+
 -- no bytes, and more zeros behind zeros
 pub put-none : (xs : List ℕ) (at : ℕ) → put xs at [] ≡ xs
 unfolding put
@@ -130,6 +141,12 @@ put_in xs ys ws b at len short is within done =
     let used : length b ≡ len = ap length is ∙ length-take-le len xs short in
     ap (λ (l : List ℕ). take len l) done ∙ (take-put_in xs ws at len (omega arith) short ∙ ap (λ (l : List ℕ). put l at ws) (sym is))
 
+-- a slice of the bytes in use
+pub slice-take : (xs b : List ℕ) (i j len : ℕ) → len ≤ length xs → b ≡ take len xs → j ≤ length b → slice_range xs i j ≡ slice_range b i j
+slice-take xs b i j len short is within =
+    let used : length b ≡ len = ap length is ∙ length-take-le len xs short in
+    between_is xs i j ∙ (ap (λ (l : List ℕ). drop i l) (sym (take-take j len xs (omega arith)) ∙ ap (λ (l : List ℕ). take j l) (sym is)) ∙ sym (between_is b i j))
+
 -- a word of the bytes in use
 pub word-take : (xs : List ℕ) (at len : ℕ) → at + 2 ≤ len → word_at (take len xs) at ≡ word_at xs at
 word-take xs at len within = rw (get_or-take len xs at 0 (omega arith), get_or-take len xs (at + 1) 0 (omega arith)) refl
@@ -151,13 +168,14 @@ copied xs i j to le fits = rw (put_is xs (slice_range xs i j) to (omega (arith, 
 
 -- what `copy_within` on the whole region leaves
 pub slid : (xs ys zs : List ℕ) (size from to n : ℕ) → length xs ≡ size → from + n ≤ size → to + n ≤ size → ys ≡ slice_range xs 0 size → zs ≡ copy_within ys from (from + n) to
-    → put xs 0 zs ≡ put xs to (slice_range xs from (from + n))
+    → put xs 0 (take size zs) ≡ put xs to (slice_range xs from (from + n))
 slid xs ys zs size from to n long source target whole after =
     let r = slice_range xs from (from + n) in let count = length-between xs from (from + n) (omega arith) in
     let all : ys ≡ xs = whole ∙ between_to_end xs 0 size (omega arith) in
     let is : zs ≡ put xs to r = after ∙ (ap (λ (l : List ℕ). copy_within l from (from + n) to) all ∙ copied xs from (from + n) to (omega arith) (omega arith)) in
     let same : length zs ≡ length xs = ap length is ∙ length-put xs r to in
-    put_is xs zs 0 (omega arith) ∙ (ap (λ (l : List ℕ). zs ++ l) (drop_all (0 + length zs) xs (omega arith)) ∙ (append-nil zs ∙ is))
+    ap (λ (l : List ℕ). put xs 0 l) (take_all size zs (omega arith))
+    ∙ (put_is xs zs 0 (omega arith) ∙ (ap (λ (l : List ℕ). zs ++ l) (drop_all (0 + length zs) xs (omega arith)) ∙ (append-nil zs ∙ is)))
 
 -- a byte of a slice
 pub get_or-slice : (xs : List ℕ) (i j k d : ℕ) → i + k < j → get_or (slice_range xs i j) k d ≡ get_or xs (i + k) d

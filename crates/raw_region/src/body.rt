@@ -1,4 +1,5 @@
-ghost use Rattle.std.specs.Prelude.{◌≡◌, ◌+◌, ◌≤◌, ℕ, IfOk, List, [], ◌++◌, length, take, drop, replicate, slice_index};
+ghost use Rattle.std.specs.Prelude.{◌≡◌, ◌+◌, ◌≤◌, ℕ, IfOk, List, [], ◌++◌, length, take, drop, replicate, slice_index, slice_range};
+ghost use Rattle.std.specs.Borrow.{sem};
 ghost use Rattle.raw_region.specs.Bytes.{put, splice, word_at, word_bytes};
 ghost use Rattle.raw_region.specs.declared.TheConstants.{SIZE};
 
@@ -23,6 +24,8 @@ impl Model for RawBody {
 }
 
 impl RawBody {
+    ghost use Rattle.raw_region.specs.LendsBody.{lends_run};
+
     /// No bytes yet; the region is allocated here, and never grows.
     pub fn new(alloc: Global) -> Result<RawBody, AllocError>
         ensures { IfOk result (λ b. b ≡ []) }
@@ -61,6 +64,15 @@ impl RawBody {
         ensures { self.new ≡ put self.old at bytes.now }
     {
         self.region.copy_in(at, bytes);
+    }
+
+    /// The `n` bytes from `at` on, to be written. They end as what is left in them, and the others as they were.
+    pub fn slice_mut(&mut self, at: usize, n: usize) -> &mut [u8]
+        requires { at + n ≤ length self.old }
+        ensures* writes_back { sem 𝓛 (lends_run self.entry at n result) }
+        ensures value { result.now ≡ slice_range self.old at (at + n) }
+    {
+        self.region.slice_mut(at, n)
     }
 
     /// Puts `new` in the place of the `k` bytes at `at`; the bytes behind them slide.

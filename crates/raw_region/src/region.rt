@@ -68,7 +68,7 @@ impl Region {
     /// The `n` bytes from `at` on, to be written. The region ends as it was, with what is left in them in their place.
     pub fn slice_mut(&mut self, at: usize, n: usize) -> &mut [u8]
         requires { at + n ≤ SIZE }
-        ensures* writes_back { sem 𝓛 (lends_run self.entry at result) }
+        ensures* writes_back { sem 𝓛 (lends_run self.entry at n result) }
         ensures value { result.now ≡ slice_range self.old at (at + n) }
         ensures len { length result.now ≡ n }
         ensures region_len { length self.old ≡ SIZE }

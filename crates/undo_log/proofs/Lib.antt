@@ -1,2 +1,4 @@
 pub mod Slots
 pub mod Lists
+pub mod Refusals
+pub mod Changes

@@ -1,18 +1,19 @@
 -- A block put back where it was.
 use Rattle.std.specs.Option.{option_map_or}
-use Rattle.std.proofs.Common.{◌≡◌, ℕ, Bool, true, false, cond, Option, Some, None, List, length, ◌+◌, ◌≤◌, ◌==◌, nat_cmp, refl, sym, ap, ◌∙◌}
+use Rattle.std.proofs.Common.{◌≡◌, ℕ, Bool, true, false, cond, Option, Some, None, length, ◌+◌, ◌≤◌, ◌==◌, nat_cmp, replicate, refl, sym, ap, ◌∙◌, arith}
 use Rattle.std.proofs.lemmas.Bool.{eqb-true, eq-eqb, le-ltb}
+use Rattle.std.proofs.lemmas.List.{length-replicate}
 use Rattle.std.specs.Cmp.{nat_cmp_total, unsigned_tied}
 use Rattle.std.specs.FinMap.{FinMap, get, insert, remove, same_map, nat_cmp-IsAntisymmetric, get-insert, get-remove}
-use Rattle.geos_model.specs.Document.{Block, Document, is_heap_body, chunks_of_body, with_block, with_user_id, next_handle}
+use Rattle.geos_model.specs.Document.{Block, Document, with_block, with_user_id, next_handle}
 use Rattle.geos_model.specs.Refusal.{first_refusal}
 use Rattle.geos_model.specs.Meaning.{conditions, effect}
 use Rattle.geos_model.specs.Cost.{image_length}
 use Rattle.geos_model.specs.Image.{image}
 use Rattle.geos_model.specs.declared.command.Done.TheVariants as done
-use Rattle.geos_model.specs.declared.command.Edit.TheVariants.{Write, FreeBlock, CopyBlock, SetUserId}
+use Rattle.geos_model.specs.declared.command.Edit.TheVariants.{NewRaw, FreeBlock, CopyBlock, SetUserId}
 use Rattle.geos_model.specs.declared.handle.VmHandle.{VmHandle}
-use Rattle.geos_model.specs.declared.handle.ChunkHandle.{ChunkHandle}
+use Rattle.geos_model.specs.declared.command.Body.TheVariants.{Raw}
 use Rattle.vm_blocks.specs.Saved.{with_slot}
 
 -- the blocks with this one under a handle, or none
@@ -44,10 +45,13 @@ slot_back d h o was e =
     ∙ with_slot-blocks (record { blocks = blocks_with d.blocks h o; map_block = d.map_block }) h was
     ∙ ap (λ (m : FinMap nat_cmp Block). record { blocks = m; map_block = d.map_block }) (blocks_back d.blocks h o was (sym e))
 
--- a write within its chunk is not refused
-pub write_accepted : (d : Document) (b : VmHandle) (c : ChunkHandle) (at : ℕ) (bytes old : List ℕ) (block : Block) → get d.blocks b.0 ≡ Some block → is_heap_body block.body ≡ true → get (chunks_of_body block.body) c.0 ≡ Some old
-    → at + length bytes ≤ length old → first_refusal (conditions (Write b c at bytes) d) ≡ None
-write_accepted d b c at bytes old block live heap chunk within = rw (live, heap, chunk, le-ltb (length old) (at + length bytes) within) refl
+-- a raw block that isn't too big is not refused where there is a handle
+pub raw_accepted : (d : Document) (uid size h : ℕ) → size ≤ 65520 → next_handle d ≡ Some h → first_refusal (conditions (NewRaw uid size) d) ≡ None
+raw_accepted d uid size h small some = rw (some, le-ltb 65520 size small) refl
+
+pub raw_cost : (size n : ℕ) → n ≡ size → 1 + n ≡ length (image (Raw (replicate size 0)))
+unfolding image
+raw_cost size n e = omega (arith, length-replicate {A = ℕ} size 0)
 
 -- what stands under the handle then
 get-with_slot : (d : Document) (h : ℕ) (b : Block) → get (with_block d h b).blocks h ≡ Some b

@@ -1,4 +1,5 @@
 pub mod Before
 pub mod Records
+pub mod Found
 pub mod Making
 pub mod Turning

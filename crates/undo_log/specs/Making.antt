@@ -1,5 +1,5 @@
 -- What making an edit comes to.
-use Rattle.std.specs.Prelude.{◌≡◌, ◌⊎◌, None, Some}
+use Rattle.std.specs.Prelude.{◌≡◌, ◌⊎◌, ℕ, None, Some}
 use Rattle.geos_model.specs.Refusal.{first_refusal}
 use Rattle.geos_model.specs.Document.{Document}
 use Rattle.geos_model.specs.Meaning.{conditions, effect}
@@ -9,6 +9,10 @@ use Rattle.geos_model.specs.declared.fault.Fault.{Fault}
 use Rattle.geos_model.specs.declared.fault.Fault.TheVariants.{Memory}
 use Rattle.geos_model.specs.declared.command.Done.{Done}
 use Rattle.geos_model.specs.declared.command.Edit.{Edit}
+use Rattle.geos_model.specs.declared.command.Kind.TheVariants.{In}
+use Rattle.geos_model.specs.declared.handle.VmHandle.{VmHandle}
+use Rattle.vm_blocks.specs.declared.change.Change.{Change}
+use Rattle.vm_blocks.specs.Changes.{changed}
 use Rattle.undo_log.specs.declared.record.Record.{Record}
 use Rattle.undo_log.specs.Records.{back}
 
@@ -19,6 +23,13 @@ pub record Makes (edit : Edit) (old new : Document) (done : Done) (r : Record) :
   pub answer : done ≡ (effect edit old).1
   pub kind : r.kind ≡ kind_of edit
   pub cost : r.cost ≡ cost edit old new
+  pub undo : back r new ≡ old
+
+-- The body of a block was changed, and the record takes it back.
+pub record ChangesBody (old new : Document) (h : VmHandle) (change : Change) (cost : ℕ) (r : Record) : Type 0 where
+  pub document : new ≡ changed old h.0 change
+  pub kind : r.kind ≡ In h
+  pub cost_is : r.cost ≡ cost
   pub undo : back r new ≡ old
 
 -- want of memory, or the first refusal

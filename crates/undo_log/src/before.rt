@@ -1,4 +1,4 @@
-ghost use Rattle.std.specs.Prelude.{◌≡◌, IfOk};
+ghost use Rattle.std.specs.Prelude.{◌≡◌, ◌≤◌, IfOk, IsSome};
 ghost use Rattle.std.specs.Option.{option_map};
 ghost use Rattle.std.specs.FinMap.{get};
 ghost use Rattle.vm_blocks.specs.Blocks.{block_of};
@@ -21,11 +21,16 @@ pub enum Before {
 }
 
 /// The block under a handle as it is now, or that there is none.
-pub fn saved(blocks: &Blocks, handle: VmHandle) -> Result<Option<SavedBlock>, AllocError>
-    ensures { IfOk result (λ saved. option_map saved_block saved ≡ get blocks.now.blocks handle.0) }
+pub fn saved(
+    alloc: Global,
+    blocks: &Blocks,
+    handle: VmHandle,
+) -> Result<Option<SavedBlock>, AllocError>
+    ensures block { IfOk result (λ saved. option_map saved_block saved ≡ get blocks.now.blocks handle.0) }
+    ensures within { IfOk result (λ saved. IsSome saved → (1 ≤ handle.0) × (handle.0 ≤ 2048)) }
 {
     match blocks.block(handle) {
-        Some(block) => Ok(Some(SavedBlock::of(block)?)),
+        Some(block) => Ok(Some(SavedBlock::of(alloc, block)?)),
         None => Ok(None),
     }
 }

@@ -1,16 +1,18 @@
 ghost use Rattle.std.specs.Prelude.{◌≡◌, ℕ, Some, IfOk, length};
 ghost use Rattle.std.specs.Option.{option_map};
-ghost use Rattle.geos_model.specs.Reply.{Accepted, BytesAre, reply_by, reply_of_done, info_is, blocks_are, chunks_are, found};
+ghost use Rattle.geos_model.specs.Reply.{Accepted, BytesAre, reply_by, reply_of_done, body_info, info_is, blocks_are, chunks_are, found};
 ghost use Rattle.geos_model.specs.Machine.{Step, empty_machine};
 ghost use Rattle.geos_model.specs.declared.command.Command.TheVariants as commands;
+ghost use Rattle.vm_blocks.specs.Blocks.{block_of};
 
 use crate::edits::make;
+use crate::found::{heap_at, raw_at};
 use crate::record::Record;
 use crate::turn::turn;
 use geos_model::{ChunkHandle, Done, Edit, Fault, Info, VmHandle};
 use std::alloc::{AllocError, Global};
 use std::marker::Model;
-use vm_blocks::Blocks;
+use vm_blocks::{Block, BlockBody, Blocks};
 
 /// A document that is edited, with what undo needs. Contracts see it as the machine of documents: each call is one step
 /// of it, refused or not.
@@ -42,6 +44,16 @@ impl Model for Session {
     } };
 
     ghost invariant = { λ s. (vec_len s.undo + vec_len s.redo ≤ vec_capacity s.undo) × (vec_len s.undo + vec_len s.redo ≤ vec_capacity s.redo) };
+}
+
+/// A block's user ID and size.
+fn info_of(block: &Block) -> Info
+    ensures { info_is result ≡ body_info (block_of block.now).user_id (block_of block.now).body }
+{
+    match &block.body {
+        BlockBody::Raw(body) => Info::Raw(block.user_id, body.bytes().len() as u32),
+        BlockBody::Heap(heap) => Info::Heap(block.user_id, heap.need()),
+    }
 }
 
 impl Session {
@@ -110,7 +122,7 @@ impl Session {
         ensures { Step self.now (Some (commands.Info block)) (reply_by info_is result) self.now }
     {
         match self.blocks.block(block) {
-            Some(found) => Ok(Info::Heap(found.user_id, found.heap.need())),
+            Some(found) => Ok(info_of(found)),
             None => Err(Fault::NoBlock),
         }
     }
@@ -136,23 +148,27 @@ impl Session {
         self.blocks.map_block()
     }
 
+    /// The bytes of a raw block.
+    pub fn read_raw(&self, block: VmHandle) -> Result<&[u8], Fault>
+        ensures { Step self.now (Some (commands.ReadRaw block)) (reply_by (λ bytes. BytesAre bytes.now) result) self.now }
+    {
+        let body = raw_at(&self.blocks, block)?;
+        Ok(body.bytes())
+    }
+
     /// The live chunks of a heap, rising.
     pub fn chunks(&self, block: VmHandle) -> Result<Vec<ChunkHandle>, Fault>
         ensures { Step self.now (Some (commands.Chunks block)) (reply_by (λ handles. chunks_are handles.items) result) self.now }
     {
-        match self.blocks.block(block) {
-            Some(found) => Ok(found.heap.handles()?),
-            None => Err(Fault::NoBlock),
-        }
+        let heap = heap_at(&self.blocks, block)?;
+        Ok(heap.handles()?)
     }
 
     /// The bytes of a chunk.
     pub fn read_chunk(&self, block: VmHandle, chunk: ChunkHandle) -> Result<&[u8], Fault>
         ensures { Step self.now (Some (commands.Read block chunk)) (reply_by (λ bytes. BytesAre bytes.now) result) self.now }
     {
-        match self.blocks.block(block) {
-            Some(found) => found.heap.chunk(chunk).ok_or(Fault::NoChunk),
-            None => Err(Fault::NoBlock),
-        }
+        let heap = heap_at(&self.blocks, block)?;
+        heap.chunk(chunk).ok_or(Fault::NoChunk)
     }
 }

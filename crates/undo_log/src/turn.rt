@@ -74,7 +74,7 @@ fn put_back(
     ensures ok { IfOk result (λ now. Swaps (befores.Block place block.now) now blocks.old blocks.new × (is_plain_before now ≡ is_plain_before (befores.Block place block.now))) }
     ensures err { OnErr result (blocks.new ≡ blocks.old) }
 {
-    let now = saved(blocks, place.handle)?;
+    let now = saved(alloc, blocks, place.handle)?;
     let before = restored(alloc, block)?;
     blocks.put(place.handle, before);
     Ok(Before::Block(place, now))

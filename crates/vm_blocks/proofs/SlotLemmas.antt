@@ -4,13 +4,10 @@ use Rattle.std.specs.Option.{option_map, option_map_or}
 use Rattle.std.proofs.lemmas.List.{take_more, length-take-le, append-nil, map-append, get_or_default, drop_all}
 use Rattle.std.proofs.Math.ListN.{length-set}
 use Rattle.std.proofs.lemmas.Bool.{lt-ltb, le-ltb, eqb-true, eq-eqb}
-use Rattle.std.specs.FinMap.{get, insert, remove, empty, keys, contains_key}
+use Rattle.std.specs.FinMap.{get, insert, remove, keys}
 use Rattle.geos_model.specs.Table.{table_entries, table_map, first_gap}
-use Rattle.geos_model.specs.Document.{Block as DocumentBlock, Document, is_heap, is_heap_body, chunks_of, chunks_of_body, user_id_of, with_block, with_user_id, next_handle}
+use Rattle.geos_model.specs.Document.{Block as DocumentBlock, Document, is_live, with_block, next_handle}
 use Rattle.geos_model.specs.Reply.{found}
-use Rattle.geos_model.specs.Heap.{ChunkMap}
-use Rattle.geos_model.specs.Meaning.{with_chunk}
-use Rattle.geos_model.specs.declared.command.Body.TheVariants.{Heap}
 use Rattle.vm_blocks.specs.Saved.{with_slot}
 use Rattle.geos_model.proofs.Tables.{slot_at, get-table_map_at, get-table_map_below, table_map-set, table_map-clear, keys-table_map, next_handle-table, first_gap_none, entries-table_map}
 use Rattle.geos_model.specs.declared.handle.VmHandle.{VmHandle}
@@ -30,10 +27,6 @@ pub table_of-set : (slots : List (Option Block)) (i : ℕ) (o : Option Block) �
 table_of-set [] i o = refl
 table_of-set (x ∷ xs) zero o = refl
 table_of-set (x ∷ xs) (suc i) o = ap (λ t. option_map block_of x ∷ t) (table_of-set xs i o)
-
-is_some-option_map : (o : Option Block) → is_some (option_map block_of o) ≡ is_some o
-is_some-option_map None = refl
-is_some-option_map (Some b) = refl
 
 -- a slot that is full leaves the first gap behind it
 pub first_gap_past : (slots : List (Option Block)) (i : ℕ) → i ≤ first_gap (table_of slots) → is_some (get_or slots i None) ≡ true → i + 1 ≤ first_gap (table_of slots)
@@ -97,10 +90,6 @@ pub table_of-nones : (n : ℕ) → table_of (replicate n None) ≡ replicate n N
 table_of-nones zero = refl
 table_of-nones (suc n) = ap (λ t. None ∷ t) (table_of-nones n)
 
-heap_if_some : (o : Option Block) → is_some (option_map block_of o) ≡ true → option_map_or (λ (b : DocumentBlock). is_heap_body b.body) (option_map block_of o) false ≡ true
-heap_if_some None e = absurd (cc e)
-heap_if_some (Some b) e = refl
-
 -- Of a document with some map block.
 module _ (mb : ℕ) where
   abbrev pub shown_by : List (Option Block) → Document
@@ -126,42 +115,21 @@ module _ (mb : ℕ) where
       pub within : h - 1 < length slots
       pub slot : get_or slots (h - 1) None ≡ Some b
 
-  slot_within : (slots : List (Option Block)) (i : ℕ) (b : Block) → get_or slots i None ≡ Some b → i < length slots
-  slot_within [] i b e = absurd (cc e)
-  slot_within (x ∷ xs) zero b e = omega arith
-  slot_within (x ∷ xs) (suc i) b e = let r = slot_within xs i b e in omega (arith, r)
-
   slot_some_within : (slots : List (Option Block)) (i : ℕ) → is_some (get_or slots i None) ≡ true → i < length slots
   slot_some_within [] i e = absurd (cc e)
   slot_some_within (x ∷ xs) zero e = omega arith
   slot_some_within (x ∷ xs) (suc i) e = let r = slot_some_within xs i e in omega (arith, r)
 
-  holds_by : (slots : List (Option Block)) (h : ℕ) → 1 ≤ h → (o : Option Block) → get_or slots (h - 1) None ≡ o → option_map_or (λ (b : DocumentBlock). is_heap_body b.body) (option_map block_of o) false ≡ true → (b : Block) × Holds slots h b
+  holds_by : (slots : List (Option Block)) (h : ℕ) → 1 ≤ h → (o : Option Block) → get_or slots (h - 1) None ≡ o → is_some (option_map block_of o) ≡ true → (b : Block) × Holds slots h b
   holds_by slots h l None e t = absurd (cc t)
-  holds_by slots h l (Some b) e t = (b, record { from_one = l; within = slot_within slots (h - 1) b e; slot = e })
+  holds_by slots h l (Some b) e t = (b, record { from_one = l; within = slot_some_within slots (h - 1) (ap is_some e); slot = e })
 
-  -- where the document has a heap, there is a block
-  pub holds : (slots : List (Option Block)) (h : ℕ) → is_heap (shown_by slots) h ≡ true → (b : Block) × Holds slots h b
-  holds slots zero t = absurd (cc (sym (ap (λ o. option_map_or (λ (b : DocumentBlock). is_heap_body b.body) o false) (get-document_none slots)) ∙ t))
+  -- where the document has a block, there is one in a slot
+  pub holds : (slots : List (Option Block)) (h : ℕ) → is_live (shown_by slots) h ≡ true → (b : Block) × Holds slots h b
+  holds slots zero t = absurd (cc (sym (ap is_some (get-document_none slots)) ∙ t))
   holds slots (suc n) t =
       let here : 1 ≤ suc n = omega arith in
-      holds_by slots (suc n) here (get_or slots (suc n - 1) None) refl (sym (ap (λ o. option_map_or (λ (b : DocumentBlock). is_heap_body b.body) o false) (get-document slots (suc n) here)) ∙ t)
-
-  module _ (slots : List (Option Block)) (h : ℕ) (b : Block) (there : Holds slots h b) where
-    pub get-holds : get (shown_by slots).blocks h ≡ Some (block_of b)
-    get-holds = get-document slots h there.from_one ∙ ap (option_map block_of) there.slot
-
-    pub chunks-holds : chunks_of (shown_by slots) h ≡ b.heap
-    chunks-holds = ap (λ o. option_map_or (λ (x : DocumentBlock). chunks_of_body x.body) o empty) get-holds
-
-    pub user_id-holds : user_id_of (shown_by slots) h ≡ b.user_id
-    user_id-holds = ap (λ o. option_map_or (λ (x : DocumentBlock). x.user_id) o 0) get-holds
-
-    -- a chunk put into the block's heap
-    pub with_chunk-holds : (c : ℕ) (bytes : List ℕ) → shown_by (set slots (h - 1) (Some (record { user_id = b.user_id; heap = insert b.heap c bytes }))) ≡ with_chunk (shown_by slots) h c bytes
-    with_chunk-holds c bytes =
-        put-document slots h (Some (record { user_id = b.user_id; heap = insert b.heap c bytes })) there.from_one there.within
-        ∙ ap (λ (p : ℕ × ChunkMap). with_block (shown_by slots) h (record { user_id = p.0; body = Heap (insert p.1 c bytes) })) (λ i. (sym user_id-holds i, sym chunks-holds i))
+      holds_by slots (suc n) here (get_or slots (suc n - 1) None) refl (sym (ap is_some (get-document slots (suc n) here)) ∙ t)
 
   -- a block that is put somewhere leaves no new gap
   pub first_gap-full : (slots : List (Option Block)) (i gap : ℕ) (b : Block) → gap ≤ first_gap (table_of slots) → gap ≤ first_gap (table_of (set slots i (Some b)))
@@ -190,37 +158,37 @@ module _ (mb : ℕ) where
   pub are_slots_full : (slots : List (Option Block)) (i gap : ℕ) (b : Block) → AreSlots slots gap → AreSlots (set slots i (Some b)) gap
   are_slots_full slots i gap b are = record { size = length-set slots i (Some b) ∙ are.size; full_below = first_gap-full slots i gap b are.full_below }
 
-  -- The slot of a heap of the document that the slots show, as code reads it at the place p - 1.
-  module _ (slots : List (Option Block)) (d : Document) (shown : shown_by slots ≡ d) (h p : ℕ) (place : p ≡ h) (heap : is_heap d h ≡ true) where
+  -- The slot of a live block of the document that the slots show, as code reads it at the place p - 1.
+  module _ (slots : List (Option Block)) (d : Document) (shown : shown_by slots ≡ d) (h p : ℕ) (place : p ≡ h) (live : is_live d h ≡ true) where
     there : (b : Block) × Holds slots h b
-    there = holds slots h (ap (λ (x : Document). is_heap x h) shown ∙ heap)
+    there = holds slots h (ap (λ (x : Document). is_live x h) shown ∙ live)
 
-    pub heap_from_one : 1 ≤ p
-    heap_from_one = let l = there.1.from_one in omega (arith, l)
+    pub live_from_one : 1 ≤ p
+    live_from_one = let l = there.1.from_one in omega (arith, l)
 
-    pub heap_within : p - 1 < length slots
-    heap_within = let l = there.1.within in omega (arith, l)
+    pub live_within : p - 1 < length slots
+    live_within = let l = there.1.within in omega (arith, l)
 
     read_is : (r : Option Block) → r ≡ get_or slots (p - 1) r → r ≡ Some there.0
-    read_is r read = read ∙ get_or_default slots (p - 1) r None heap_within ∙ ap (λ (q : ℕ). get_or slots (q - 1) None) place ∙ there.1.slot
+    read_is r read = read ∙ get_or_default slots (p - 1) r None live_within ∙ ap (λ (q : ℕ). get_or slots (q - 1) None) place ∙ there.1.slot
 
-    pub heap_not_none : (r : Option Block) → r ≡ get_or slots (p - 1) r → r ≡ None → ⊥
-    heap_not_none r read none = cc (read_is r read)
-
-    pub heap_holds : (r : Option Block) (b : Block) → r ≡ get_or slots (p - 1) r → r ≡ Some b → Holds slots h b
-    heap_holds r b read is = record { from_one = there.1.from_one; within = there.1.within; slot = there.1.slot ∙ sym (read_is r read) ∙ is }
+    pub live_not_none : (r : Option Block) → r ≡ get_or slots (p - 1) r → r ≡ None → ⊥
+    live_not_none r read none = cc (read_is r read)
 
     module _ (r : Option Block) (b : Block) (read : r ≡ get_or slots (p - 1) r) (is : r ≡ Some b) where
-      pub heap_chunks : chunks_of d h ≡ b.heap
-      heap_chunks = ap (λ (x : Document). chunks_of x h) (sym shown) ∙ chunks-holds slots h b (heap_holds r b read is)
+      pub live_block : get d.blocks h ≡ Some (block_of b)
+      live_block =
+          ap (λ (x : Document). get x.blocks h) (sym shown) ∙ get-document slots h there.1.from_one
+          ∙ ap (option_map block_of) (there.1.slot ∙ sym (read_is r read) ∙ is)
 
-      pub heap_with_chunk : (new : ChunkMap) (c : ℕ) (bytes : List ℕ) → new ≡ insert b.heap c bytes
-          → shown_by (set slots (p - 1) (Some (record { user_id = b.user_id; heap = new }))) ≡ with_chunk d h c bytes
-      heap_with_chunk new c bytes e =
-          ap (λ (m : ChunkMap). shown_by (set slots (p - 1) (Some (record { user_id = b.user_id; heap = m })))) e
-          ∙ ap (λ (q : ℕ). shown_by (set slots (q - 1) (Some (record { user_id = b.user_id; heap = insert b.heap c bytes })))) place
-          ∙ with_chunk-holds slots h b (heap_holds r b read is) c bytes
-          ∙ ap (λ (x : Document). with_chunk x h c bytes) shown
+      -- the block changes in place
+      pub live_changed : (f : DocumentBlock → DocumentBlock) (new : Block) → block_of new ≡ f (block_of b) → shown_by (set slots (p - 1) (Some new)) ≡ option_map_or (λ x. with_block d h (f x)) (get d.blocks h) d
+      live_changed f new e =
+          ap (λ (q : ℕ). shown_by (set slots (q - 1) (Some new))) place
+          ∙ put-document slots h (Some new) there.1.from_one there.1.within
+          ∙ ap (λ (x : Document). with_block x h (block_of new)) shown
+          ∙ ap (with_block d h) e
+          ∙ ap (λ (o : Option DocumentBlock). option_map_or (λ (x : DocumentBlock). with_block d h (f x)) o d) (sym live_block)
 
   -- the handles of the document
   pub keys-document : (slots : List (Option Block)) → keys (shown_by slots).blocks ≡ handles_from 1 slots
@@ -275,25 +243,6 @@ module _ (mb : ℕ) where
       ap (λ (x : Document). get x.blocks (gap + 1)) (sym shown)
       ∙ get-table_map_at (let up : 0 < 1 = omega arith in up) 1 (table_of slots) gap (gap + 1) (omega arith)
       ∙ ap (slot_at (table_of slots)) e ∙ first_gap_none (table_of slots)
-
-  -- a live block is a heap
-  pub live_heap : (slots : List (Option Block)) (d : Document) → shown_by slots ≡ d → (h : ℕ) → contains_key d.blocks h ≡ true → is_heap d h ≡ true
-  live_heap slots d shown zero live = let e : false ≡ true = ap is_some (block-none slots d shown zero refl) ∙ live in absurd (cc e)
-  live_heap slots d shown (suc n) live =
-      let one : 1 ≤ suc n = omega arith in
-      let read = block-read slots d shown (suc n) (suc n) refl one (get_or slots (suc n - 1) None) refl in
-      ap (λ (o : Option DocumentBlock). option_map_or (λ (b : DocumentBlock). is_heap_body b.body) o false) (sym read)
-      ∙ heap_if_some (get_or slots (suc n - 1) None) (ap is_some read ∙ live)
-
-  -- the block gets another user ID
-  pub heap_with_user_id : (slots : List (Option Block)) (d : Document) (shown : shown_by slots ≡ d) (h p : ℕ) (place : p ≡ h) (heap : is_heap d h ≡ true) (r : Option Block) (b : Block) → r ≡ get_or slots (p - 1) r → r ≡ Some b
-      → (uid : ℕ) → shown_by (set slots (p - 1) (Some (record { user_id = uid; heap = b.heap }))) ≡ with_user_id d h uid
-  heap_with_user_id slots d shown h p place heap r b read is uid =
-      let there = heap_holds slots d shown h p place heap r b read is in
-      ap (λ (q : ℕ). shown_by (set slots (q - 1) (Some (record { user_id = uid; heap = b.heap })))) place
-      ∙ put-document slots h (Some (record { user_id = uid; heap = b.heap })) there.from_one there.within
-      ∙ ap (λ (x : Document). with_block x h (record { user_id = uid; body = Heap b.heap })) shown
-      ∙ ap (λ (o : Option DocumentBlock). option_map_or (λ (x : DocumentBlock). with_block d h (record x { user_id = uid })) o d) (sym (get-holds slots h b there) ∙ ap (λ (x : Document). get x.blocks h) shown)
 
 -- the least handle past the start, of the slots from the place i on, whose block has the user ID
 abbrev pub found_from : ℕ → ℕ → ℕ → List (Option Block) → Option ℕ

@@ -3,12 +3,19 @@ use Rattle.std.specs.Prelude.{◌≡◌, ◌≤◌, ◌+◌, ℕ, Bool, ◌==◌
 use Rattle.std.specs.Option.{option_map}
 use Rattle.geos_model.specs.Document.{Block as DocumentBlock, Document}
 use Rattle.geos_model.specs.Table.{table_map, first_gap}
-use Rattle.geos_model.specs.declared.command.Body.TheVariants.{Heap}
+use Rattle.geos_model.specs.declared.command.Body.{Body}
+use Rattle.geos_model.specs.declared.command.Body.TheVariants.{Raw, Heap}
+use Rattle.vm_blocks.specs.declared.block.BlockBody.{BlockBody}
+use Rattle.vm_blocks.specs.declared.block.BlockBody.TheVariants as block_bodies
 use Rattle.vm_blocks.specs.declared.block.Block.{Block}
 
--- a block as the document has it
+-- a body, and a block, as the document has them
+abbrev pub body_of : BlockBody → Body
+body_of (block_bodies.Raw bytes) = Raw bytes
+body_of (block_bodies.Heap m) = Heap m
+
 abbrev pub block_of : Block → DocumentBlock
-block_of b = record { user_id = b.user_id; body = Heap b.heap }
+block_of b = record { user_id = b.user_id; body = body_of b.body }
 
 -- The block under the handle h is at h - 1, if it is live.
 abbrev pub table_of : List (Option Block) → List (Option DocumentBlock)

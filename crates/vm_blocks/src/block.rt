@@ -1,8 +1,60 @@
+ghost use Rattle.std.specs.Prelude.{◌≡◌};
+ghost use Rattle.geos_model.specs.declared.command.Body.TheVariants as bodies;
+ghost use Rattle.vm_blocks.specs.Blocks.{body_of};
+ghost use Rattle.vm_blocks.specs.Changes.{Allows, changed_body};
+
+use crate::Change;
+use chunk_edits::{apply, apply_raw};
 use lmem_heap::Heap;
+use raw_region::RawBody;
 
 /// A live block.
 #[derive(Drop)]
 pub struct Block {
     pub user_id: u16,
-    pub heap: Heap,
+    pub body: BlockBody,
+}
+
+/// What a live block holds, in a region of its own.
+#[derive(Drop)]
+pub enum BlockBody {
+    Raw(RawBody),
+    Heap(Heap),
+}
+
+impl BlockBody {
+    /// Makes a change in place.
+    pub(crate) fn change(&mut self, change: &Change)
+        requires { Allows change.now (body_of self.old) }
+        ensures { body_of self.new ≡ changed_body change.now (body_of self.old) }
+    {
+        match self {
+            BlockBody::Raw(body) => change_raw(body, change),
+            BlockBody::Heap(heap) => change_heap(heap, change),
+        }
+    }
+}
+
+/// Makes a change of a raw body.
+fn change_raw(body: &mut RawBody, change: &Change)
+    requires { Allows change.now (bodies.Raw body.old) }
+    ensures { bodies.Raw body.new ≡ changed_body change.now (bodies.Raw body.old) }
+{
+    match change {
+        Change::Raw(splice) => apply_raw(body, splice),
+        Change::Chunk(_, _) | Change::NewChunk(_, _) | Change::FreeChunk(_) => unreachable!(),
+    }
+}
+
+/// Makes a change of a heap.
+fn change_heap(heap: &mut Heap, change: &Change)
+    requires { Allows change.now (bodies.Heap heap.old) }
+    ensures { bodies.Heap heap.new ≡ changed_body change.now (bodies.Heap heap.old) }
+{
+    match change {
+        Change::Chunk(chunk, splice) => apply(heap, *chunk, splice),
+        Change::NewChunk(chunk, size) => heap.alloc_at(*chunk, *size),
+        Change::FreeChunk(chunk) => heap.free(*chunk),
+        Change::Raw(_) => unreachable!(),
+    }
 }

@@ -1,17 +1,15 @@
 ghost use Rattle.std.specs.Prelude.{◌≡◌, ◌+◌, ◌≤◌, ℕ, Some, None, true, IsTrue, IfOk, IfSome, IsSome, length, map, replicate, unwrap_or};
-ghost use Rattle.std.specs.List.{splice};
 ghost use Rattle.std.specs.Option.{option_map, option_copied};
-ghost use Rattle.std.specs.FinMap.{get, keys, contains_key};
-ghost use Rattle.geos_model.specs.Heap.{next_chunk, fits_new, chunk_bytes};
-ghost use Rattle.geos_model.specs.Document.{empty_document, next_handle, is_heap, is_live, chunks_of, with_user_id};
+ghost use Rattle.std.specs.FinMap.{get, keys};
+ghost use Rattle.geos_model.specs.Document.{empty_document, next_handle, is_live, with_user_id};
 ghost use Rattle.geos_model.specs.Reply.{found};
-ghost use Rattle.geos_model.specs.Meaning.{with_chunk, chunk_at};
 ghost use Rattle.geos_model.specs.Table.{table_entries, first_gap};
 ghost use Rattle.vm_blocks.specs.Blocks.{block_of, table_of, document_of, start_after};
+ghost use Rattle.vm_blocks.specs.Changes.{AllowsIn, changed};
 ghost use Rattle.vm_blocks.specs.Saved.{with_slot};
 
-use crate::Block;
-use geos_model::{ChunkHandle, VmHandle};
+use crate::{Block, Change};
+use geos_model::VmHandle;
 use std::alloc::{AllocError, Global};
 use std::marker::Model;
 
@@ -205,32 +203,15 @@ impl Blocks {
         }
     }
 
-    /// A new chunk of `n` zeros in a heap.
-    pub fn alloc_chunk(&mut self, handle: VmHandle, n: u32) -> ChunkHandle
-        requires heap { IsTrue (is_heap self.old handle.0) }
-        requires fits { IsTrue (fits_new (chunks_of self.old handle.0) (replicate n 0)) }
-        ensures chunk { next_chunk (chunks_of self.old handle.0) ≡ Some result.0 }
-        ensures document { self.new ≡ with_chunk self.old handle.0 result.0 (replicate n 0) }
+    /// Makes a change of a block's body in place.
+    pub fn change(&mut self, handle: VmHandle, change: &Change)
+        requires { AllowsIn self.old handle.0 change.now }
+        ensures { self.new ≡ changed self.old handle.0 change.now }
     {
         let slots = &mut self.slots;
         let place = usize::from(handle.0) - 1;
         match &mut slots[place] {
-            Some(block) => block.heap.alloc(n),
-            None => unreachable!(),
-        }
-    }
-
-    /// Writes over the bytes of a chunk from `at` on.
-    pub fn write_chunk(&mut self, handle: VmHandle, chunk: ChunkHandle, at: usize, bytes: &[u8])
-        requires heap { IsTrue (is_heap self.old handle.0) }
-        requires live { IsTrue (contains_key (chunks_of self.old handle.0) chunk.0) }
-        requires range { at + length bytes.now ≤ length (chunk_at self.old handle.0 chunk.0) }
-        ensures { self.new ≡ with_chunk self.old handle.0 chunk.0 (splice (chunk_at self.old handle.0 chunk.0) at (at + length bytes.now) bytes.now) }
-    {
-        let slots = &mut self.slots;
-        let place = usize::from(handle.0) - 1;
-        match &mut slots[place] {
-            Some(block) => block.heap.write(chunk, at, bytes),
+            Some(block) => block.body.change(change),
             None => unreachable!(),
         }
     }

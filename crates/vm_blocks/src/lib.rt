@@ -3,8 +3,10 @@
 
 mod block;
 mod blocks;
+mod change;
 mod saved;
 
-pub use block::Block;
+pub use block::{Block, BlockBody};
 pub use blocks::Blocks;
-pub use saved::{SavedBlock, SavedHeap};
+pub use change::Change;
+pub use saved::{SavedBlock, SavedBody, SavedHeap, SavedRaw};

@@ -3,9 +3,10 @@ ghost use Rattle.geos_model.specs.Image.{image};
 ghost use Rattle.geos_model.specs.declared.command.Body.TheVariants as bodies;
 ghost use Rattle.vm_blocks.specs.Blocks.{block_of};
 
-use crate::Block;
+use crate::{Block, BlockBody};
 use geos_model::{Bytes, Fault};
 use lmem_heap::Heap;
+use raw_region::RawBody;
 use std::alloc::{AllocError, Global};
 use std::marker::Model;
 
@@ -60,33 +61,103 @@ impl SavedHeap {
     }
 }
 
-/// A block as it was, with its heap as an image.
+/// The bytes of a raw body. Contracts see them.
+#[derive(Drop)]
+pub struct SavedRaw {
+    bytes: Bytes,
+}
+
+impl Model for SavedRaw {
+    ghost use Rattle.std.specs.Prelude.{List, ℕ, ◌≤◌, length};
+
+    ghost Value = { List ℕ };
+
+    ghost view = { λ s. s.bytes };
+
+    ghost invariant = { λ s. length s.bytes ≤ 65520 };
+}
+
+impl SavedRaw {
+    /// The body as it is now.
+    pub fn of(alloc: Global, body: &RawBody) -> Result<SavedRaw, AllocError>
+        ensures { IfOk result (λ saved. saved ≡ body.now) }
+    {
+        let all = body.bytes();
+        let mut bytes = Vec::with_capacity(alloc, all.len())?;
+        bytes.extend_from_slice(all)?;
+        let bytes = Bytes::from_vec(bytes);
+        Ok(SavedRaw { bytes })
+    }
+
+    /// How many bytes the body's image has: the bytes, and one that says what kind of body they are.
+    pub fn image_len(&self) -> usize
+        ensures { result ≡ length (image (bodies.Raw self.now)) }
+    {
+        self.bytes.as_slice().len() + 1
+    }
+
+    /// The body as it was.
+    pub fn restore(&self, alloc: Global) -> Result<RawBody, AllocError>
+        ensures { IfOk result (λ body. body ≡ self.now) }
+    {
+        let mut body = RawBody::new(alloc)?;
+        body.replace(0, 0, self.bytes.as_slice());
+        Ok(body)
+    }
+}
+
+/// What a block held.
+#[derive(Drop)]
+pub enum SavedBody {
+    Raw(SavedRaw),
+    Heap(SavedHeap),
+}
+
+/// A block as it was.
 #[derive(Drop)]
 pub struct SavedBlock {
     pub user_id: u16,
-    pub heap: SavedHeap,
+    pub body: SavedBody,
 }
 
 impl SavedBlock {
     ghost use Rattle.vm_blocks.specs.Saved.{saved_block};
 
     /// The block as it is now.
-    pub fn of(block: &Block) -> Result<SavedBlock, AllocError>
+    pub fn of(alloc: Global, block: &Block) -> Result<SavedBlock, AllocError>
         ensures { IfOk result (λ saved. saved_block saved ≡ block_of block.now) }
     {
+        let body = match &block.body {
+            BlockBody::Raw(body) => SavedBody::Raw(SavedRaw::of(alloc, body)?),
+            BlockBody::Heap(heap) => SavedBody::Heap(SavedHeap::of(heap)?),
+        };
         Ok(SavedBlock {
             user_id: block.user_id,
-            heap: SavedHeap::of(&block.heap)?,
+            body,
         })
+    }
+
+    /// How many bytes the image of its body has.
+    pub fn image_len(&self) -> usize
+        ensures { result ≡ length (image (saved_block self.now).body) }
+    {
+        match &self.body {
+            SavedBody::Raw(raw) => raw.image_len(),
+            SavedBody::Heap(heap) => heap.image_len(),
+        }
     }
 
     /// The block as it was.
     pub fn restore(&self, alloc: Global) -> Result<Block, AllocError>
         ensures { IfOk result (λ block. block_of block ≡ saved_block self.now) }
     {
+        let body = match &self.body {
+            SavedBody::Raw(raw) => BlockBody::Raw(raw.restore(alloc)?),
+            SavedBody::Heap(heap) => BlockBody::Heap(heap.restore(alloc)?),
+        };
         Ok(Block {
             user_id: self.user_id,
-            heap: self.heap.restore(alloc)?,
+            body,
         })
     }
 }

@@ -7,7 +7,7 @@ use geos_shell::parse;
 use lmem_heap::Heap;
 use std::test::Fail;
 use undo_log::Session;
-use vm_blocks::{Block, Blocks, SavedBlock, SavedHeap};
+use vm_blocks::{Block, BlockBody, Blocks, SavedBlock};
 
 const BLOCK: VmHandle = VmHandle(1);
 
@@ -72,8 +72,8 @@ fn images_are_written_and_read(rt: HostRuntime) -> Result<(), Fail> {
 fn blocks_are_put_changed_and_saved(rt: HostRuntime) -> Result<(), Fail> {
     let mut blocks = Blocks::new(rt.alloc())?;
     assert_eq!(rt; blocks.next_handle(), Some(BLOCK));
-    let heap = Heap::new(rt.alloc())?;
-    blocks.put(BLOCK, Some(Block { user_id: 7, heap }));
+    let body = BlockBody::Heap(Heap::new(rt.alloc())?);
+    blocks.put(BLOCK, Some(Block { user_id: 7, body }));
     assert_eq!(rt; blocks.list()?.as_slice(), [BLOCK].as_slice());
     assert_eq!(rt; blocks.next_handle(), Some(VmHandle(2)));
     assert!(rt; blocks.block(VmHandle(2)).is_none());
@@ -82,11 +82,9 @@ fn blocks_are_put_changed_and_saved(rt: HostRuntime) -> Result<(), Fail> {
     assert_eq!(rt; blocks.map_block(), BLOCK);
     match blocks.block(BLOCK) {
         Some(block) => {
-            let saved = SavedBlock::of(block)?;
+            let saved = SavedBlock::of(rt.alloc(), block)?;
             assert_eq!(rt; saved.restore(rt.alloc())?.user_id, 7);
-            let heap = SavedHeap::of(&block.heap)?;
-            assert_eq!(rt; heap.restore(rt.alloc())?.need(), 16);
-            assert_eq!(rt; heap.image_len(), 3);
+            assert_eq!(rt; saved.image_len(), 3);
         }
         None => assert!(rt; false),
     }

@@ -1,20 +1,6 @@
 // Scripts, each with the replies that it must get.
-use geos_shell::run;
-use std::process::Abort;
+use crate::replies::expect;
 use std::test::Fail;
-use undo_log::Session;
-
-// Runs a script on an empty document, and compares the replies.
-fn expect<R: Abort + AllocGlobal>(rt: &R, script: &str, replies: &str) -> Result<(), Fail> {
-    let session = Session::new(rt.alloc())?;
-    let mut written = Vec::new(rt.alloc());
-    match run(rt.alloc(), session, &mut script.as_bytes(), &mut written) {
-        Ok(_) => {}
-        Err(fault) => assert!(rt; false, "{fault:?}"),
-    }
-    assert_eq!(rt; written.as_slice(), replies.as_bytes());
-    Ok(())
-}
 
 #[test]
 fn a_chunk_is_made_written_and_undone(rt: HostRuntime) -> Result<(), Fail> {

@@ -2,7 +2,7 @@ use Rattle.std.proofs.Common.{◌∙◌, refl, sym}
 use Rattle.geos_shell.proofs.LookUps.{find_step, map_block_step, undos_step, redos_step}
 use Rattle.geos_shell.proofs.Replying.{responds_on_ok}
 use Rattle.geos_shell.proofs.replies.respond.Goals as goal
-use Rattle.geos_shell.proofs.replies.respond.Goals.{in-Edit, in-Undo, in-Redo, in-Info, in-List, in-Find, in-MapBlock, in-Chunks, in-Read, in-Undos, in-Redos}
+use Rattle.geos_shell.proofs.replies.respond.Goals.{in-Edit, in-Undo, in-Redo, in-Info, in-List, in-Find, in-MapBlock, in-ReadRaw, in-Chunks, in-Read, in-Undos, in-Redos}
 
 pub returns-clause-ok : goal.returns-clause-ok
 returns-clause-ok c =
@@ -35,13 +35,17 @@ returns-clause-ok c =
           rw (w.in-MapBlock.is, w.session-is)
           (responds_on_ok w.push_block.result _ _ _ _ _ _ _ _ refl (map_block_step _ _ w.map_block.ensures) (sym w.branch'-is ∙ c.in_ok-push_count.was) w.push_block.ensures.ok
           (rw w.out-is at c.in_ok-push.ensures.items))
+      | in-ReadRaw w ↦
+          rw (w.in-ReadRaw.is, w.session-is)
+          (responds_on_ok w.push_bytes.result _ _ _ _ _ _ _ _ refl w.read_raw.ensures (sym w.branch'-is ∙ c.in_ok-push_count.was) w.push_bytes.ensures.ok
+          (rw w.out-is at c.in_ok-push.ensures.items))
       | in-Chunks w ↦
           rw (w.in-Chunks.is, w.session-is)
           (responds_on_ok w.push_chunks.result _ _ _ _ _ _ _ _ refl w.chunks.ensures (sym w.branch'-is ∙ c.in_ok-push_count.was) w.push_chunks.ensures.ok
           (rw w.out-is at c.in_ok-push.ensures.items))
       | in-Read w ↦
           rw (w.in-Read.is, w.session-is)
-          (responds_on_ok w.push_bytes.result _ _ _ _ _ _ _ _ refl w.read_chunk.ensures (sym w.branch'-is ∙ c.in_ok-push_count.was) w.push_bytes.ensures.ok
+          (responds_on_ok w.push_bytes-in-Read.result _ _ _ _ _ _ _ _ refl w.read_chunk.ensures (sym w.branch'-is ∙ c.in_ok-push_count.was) w.push_bytes-in-Read.ensures.ok
           (rw w.out-is at c.in_ok-push.ensures.items))
       | in-Undos w ↦
           rw (w.in-Undos.is, w.session-is)

@@ -13,7 +13,7 @@ returns-clause-ok c =
       record {
         new_is = new_is;
         old_is = ap (λ (x : Document). with_slot x h (option_map saved_block c.in_ok-now.now)) new_is
-            ∙ slot_back d h (option_map saved_block c.args.block.now) (option_map saved_block c.in_ok-now.now) c.in_ok-now.ensures;
+            ∙ slot_back d h (option_map saved_block c.args.block.now) (option_map saved_block c.in_ok-now.now) c.in_ok-now.ensures.block;
       },
       refl,
     )

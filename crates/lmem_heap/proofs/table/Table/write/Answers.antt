@@ -1,47 +1,28 @@
-use Rattle.std.proofs.Common.{◌≡◌, ◌*◌, ◌+◌, ◌≤◌, ◌<◌, [], ℕ, List, Option, Some, None, IsSome, length, get_or, set, take, unwrap_or, arith, refl, ap, ◌∙◌}
-use Rattle.std.proofs.lemmas.List.{length-set}
-use Rattle.raw_region.specs.Bytes.{put}
-use Rattle.lmem_heap.specs.Packed.{Slots, packed, chunks}
-use Rattle.lmem_heap.proofs.Packing.{Opened, opened, shows, holds, written, length-chunks-set, place_within, over, length-over}
+use Rattle.std.proofs.Common.{◌+◌, ◌≤◌, Some, length, set, arith}
+use Rattle.lmem_heap.proofs.Packing.{Opened, opened, shows, holds, over, chunk_within, bytes_changed}
+use Rattle.lmem_heap.proofs.table.Table.write.Goals.{After-place-place, After-copy_in}
 use Rattle.lmem_heap.proofs.table.Table.write.Goals as goal
 
--- a slot that has a chunk
-some_bytes : (o : Option (List ℕ)) → IsSome o → o ≡ Some (unwrap_or o [])
-some_bytes None live = cc
-some_bytes (Some b) live = refl
-
--- the bytes with those of a chunk written over
-changed : (t : Slots) (i at from m : ℕ) (xs ys ws : List ℕ) → Opened m xs t → i < length t → IsSome (get_or t i None) → at ≡ 2 * length t + length (chunks (take i t))
-    → from + length ws ≤ length (unwrap_or (get_or t i None) []) → ys ≡ put xs (at + from) ws → ys ≡ packed (set t i (Some (over t i from ws)))
-changed t i at from m xs ys ws o l live place le done =
-    done ∙ (ap (λ (b : List ℕ). put b (at + from) ws) o.bytes ∙ written t i at l place (unwrap_or (get_or t i None) []) ws from (some_bytes (get_or t i None) live) le)
-
-room_after : (t : Slots) (i from : ℕ) (ws : List ℕ) → i < length t → from + length ws ≤ length (unwrap_or (get_or t i None) []) → 2 * length t + length (chunks t) ≤ 65520
-    → 2 * length (set t i (Some (over t i from ws))) + length (chunks (set t i (Some (over t i from ws)))) ≤ 65520
-room_after t i from ws l le room =
-    let b' : List ℕ = over t i from ws in
-    omega (arith, length-set t i (Some b'), length-chunks-set t i (Some b') l, length-over t i from ws le)
+-- the bytes that are written over stand within the table's
+within : (c : After-place-place) → c.place-place.result + c.args.at + length c.args.bytes.now ≤ length c.self.inside.body
+within c =
+    let s = c.self.inside in let t = c.args.self.now in let o = opened s.slots s.body t c.self.view_is c.self.invariant in
+    chunk_within t c.args.i c.requires.slot s.slots s.body o c.args.at (length c.args.bytes.now) (c.place-place.result + c.args.at) (omega (arith, c.place-place.ensures)) c.requires.range
 
 pub overflow_add-place : goal.overflow_add-place
-overflow_add-place c =
-    let s = c.self.inside in let t = c.args.self.now in let o = opened s.slots s.body t c.self.view_is c.self.invariant in
-    record { fits = omega (arith, o.room, c.place-place.ensures, place_within t c.args.i c.requires.slot, c.requires.range) }
+overflow_add-place c = let o = opened _ _ _ c.self.view_is c.self.invariant in record { fits = omega (arith, o.long, o.room, within (goal.at.overflow_add-place c).After-place-place) }
 
 pub copy_in-requires : goal.copy_in-requires
-copy_in-requires c =
+copy_in-requires c = within (goal.at.copy_in-requires c).After-place-place
+
+-- the table that is left
+changed : (c : After-copy_in) → Opened c.self.inside.slots c.copy_in.new.self (set c.args.self.now c.args.i (Some (over c.args.self.now c.args.i c.args.at c.args.bytes.now)))
+changed c =
     let s = c.self.inside in let t = c.args.self.now in let o = opened s.slots s.body t c.self.view_is c.self.invariant in
-    omega (arith, o.long, c.place-place.ensures, place_within t c.args.i c.requires.slot, c.requires.range)
+    bytes_changed t c.args.i c.requires.slot s.slots s.body o c.args.at (c.place-place.result + c.args.at) _ c.args.bytes.now c.copy_in.ensures c.requires.live (omega (arith, c.place-place.ensures)) c.requires.range
 
 pub invariant_of-self : goal.invariant_of-self
-invariant_of-self c =
-    let s = c.self.inside in let t = c.args.self.now in let o = opened s.slots s.body t c.self.view_is c.self.invariant in
-    let ws = c.args.bytes.now in
-    holds s.slots c.copy_in.new.self (set t c.args.i (Some (over t c.args.i c.args.at ws))) (omega (arith, o.count, length-set t c.args.i (Some (over t c.args.i c.args.at ws))))
-    (changed t c.args.i c.place-place.result c.args.at s.slots s.body _ ws o c.requires.slot c.requires.live c.place-place.ensures c.requires.range c.copy_in.ensures) (room_after t c.args.i c.args.at ws c.requires.slot c.requires.range o.room)
+invariant_of-self c = holds (changed (goal.at.invariant_of-self c).After-copy_in)
 
 pub returns : goal.returns
-returns c =
-    let s = c.self.inside in let t = c.args.self.now in let o = opened s.slots s.body t c.self.view_is c.self.invariant in
-    let ws = c.args.bytes.now in
-    shows s.slots c.copy_in.new.self (set t c.args.i (Some (over t c.args.i c.args.at ws))) (omega (arith, o.count, length-set t c.args.i (Some (over t c.args.i c.args.at ws))))
-    (changed t c.args.i c.place-place.result c.args.at s.slots s.body _ ws o c.requires.slot c.requires.live c.place-place.ensures c.requires.range c.copy_in.ensures) (room_after t c.args.i c.args.at ws c.requires.slot c.requires.range o.room)
+returns c = shows (changed (goal.at.returns c).After-copy_in)

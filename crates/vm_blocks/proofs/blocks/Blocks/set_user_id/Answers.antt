@@ -1,27 +1,22 @@
-use Rattle.std.proofs.Common.{◌-◌, arith}
-use Rattle.vm_blocks.proofs.SlotLemmas.{heap_from_one, heap_within, heap_not_none, live_heap, heap_with_user_id, are_slots_full}
+use Rattle.std.proofs.Common.{◌-◌, refl, arith}
+use Rattle.vm_blocks.proofs.SlotLemmas.{live_from_one, live_within, live_not_none, live_changed, are_slots_full}
 use Rattle.vm_blocks.proofs.blocks.Blocks.set_user_id.Goals as goal
 
 pub overflow_sub-place : goal.overflow_sub-place
-overflow_sub-place c =
-    let heap = live_heap c.self.inside.map_block.0 c.self.inside.slots.items c.args.self.now c.self.view_is c.args.handle.0 c.requires in
-    heap_from_one c.self.inside.map_block.0 c.self.inside.slots.items c.args.self.now c.self.view_is c.args.handle.0 c.from-place.result c.from-place.ensures heap
+overflow_sub-place c = live_from_one c.self.inside.map_block.0 c.self.inside.slots.items c.args.self.now c.self.view_is c.args.handle.0 c.from-place.result c.from-place.ensures c.requires
 
 pub index_mut-requires : goal.index_mut-requires
 index_mut-requires c =
-    let heap = live_heap c.self.inside.map_block.0 c.self.inside.slots.items c.args.self.now c.self.view_is c.args.handle.0 c.requires in
-    let within = heap_within c.self.inside.map_block.0 c.self.inside.slots.items c.args.self.now c.self.view_is c.args.handle.0 c.from-place.result c.from-place.ensures heap in
+    let within = live_within c.self.inside.map_block.0 c.self.inside.slots.items c.args.self.now c.self.view_is c.args.handle.0 c.from-place.result c.from-place.ensures c.requires in
     omega (arith, within, c.self.inside.slots.ok.0)
 
 pub unreachable-requires : goal.unreachable-requires
-unreachable-requires c =
-    let heap = live_heap c.self.inside.map_block.0 c.self.inside.slots.items c.args.self.now c.self.view_is c.args.handle.0 c.requires in
-    heap_not_none c.self.inside.map_block.0 c.self.inside.slots.items c.args.self.now c.self.view_is c.args.handle.0 c.from-place.result c.from-place.ensures heap c.index_mut.result.now c.index_mut.ensures.value c.in-None.is
+unreachable-requires c = live_not_none c.self.inside.map_block.0 c.self.inside.slots.items c.args.self.now c.self.view_is c.args.handle.0 c.from-place.result c.from-place.ensures c.requires c.index_mut.result.now c.index_mut.ensures.value c.in-None.is
 
 pub invariant_of-self : goal.invariant_of-self
-invariant_of-self c = are_slots_full c.self.inside.map_block.0 c.self.inside.slots.items (c.from-place.result - 1) c.self.inside.first_gap (record { user_id = c.args.user_id; heap = c.in-Some.block.heap }) c.self.invariant
+invariant_of-self c = are_slots_full c.self.inside.map_block.0 c.self.inside.slots.items (c.from-place.result - 1) c.self.inside.first_gap (record { user_id = c.args.user_id; body = c.in-Some.block.body }) c.self.invariant
 
 pub returns : goal.returns
 returns c =
-    let heap = live_heap c.self.inside.map_block.0 c.self.inside.slots.items c.args.self.now c.self.view_is c.args.handle.0 c.requires in
-    heap_with_user_id c.self.inside.map_block.0 c.self.inside.slots.items c.args.self.now c.self.view_is c.args.handle.0 c.from-place.result c.from-place.ensures heap c.index_mut.result.now c.in-Some.block c.index_mut.ensures.value c.in-Some.is c.args.user_id
+    live_changed c.self.inside.map_block.0 c.self.inside.slots.items c.args.self.now c.self.view_is c.args.handle.0 c.from-place.result c.from-place.ensures c.requires c.index_mut.result.now c.in-Some.block c.index_mut.ensures.value c.in-Some.is
+    (λ b. record b { user_id = c.args.user_id }) (record { user_id = c.args.user_id; body = c.in-Some.block.body }) refl

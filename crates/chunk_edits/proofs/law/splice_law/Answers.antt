@@ -1,0 +1,5 @@
+use Rattle.chunk_edits.proofs.Splices.{leads_back}
+use Rattle.chunk_edits.proofs.law.splice_law.Goals as goal
+
+pub returns : goal.returns
+returns c = leads_back

@@ -1,0 +1,167 @@
+ghost use Rattle.std.specs.Prelude.{◌≡◌, ◌≤◌, ◌<◌, ◌+◌, ◌*◌, ◌++◌, ℕ, List, true, IsTrue, IfOk, MatchResult, length, take, drop};
+ghost use Rattle.std.specs.List.{splice};
+ghost use Rattle.std.specs.FinMap.{insert, contains_key};
+ghost use Rattle.geos_model.specs.Bytes.{written, resized, inserted, deleted};
+ghost use Rattle.geos_model.specs.Cost.{difference};
+ghost use Rattle.geos_model.specs.Heap.{chunk_bytes, fits_with, is_heap_map};
+ghost use Rattle.geos_model.specs.Meaning.{past_end, no_room};
+ghost use Rattle.chunk_edits.specs.Splicing.{Builds, Refuses, forwards, backwards};
+
+use crate::splice::{Splice, copied, zeros};
+use geos_model::{Bytes, ChunkHandle, Fault};
+use lmem_heap::Heap;
+use std::alloc::Global;
+
+/// Puts the new part in the place of the old one.
+pub fn apply(heap: &mut Heap, h: ChunkHandle, splice: &Splice)
+    requires live { IsTrue (contains_key heap.old h.0) }
+    requires within { splice.now.at + length splice.now.old ≤ length (chunk_bytes heap.old h.0) }
+    requires fits { IsTrue (fits_with heap.old h.0 (forwards splice.now (chunk_bytes heap.old h.0))) }
+    ensures { heap.new ≡ insert heap.old h.0 (forwards splice.now (chunk_bytes heap.old h.0)) }
+{
+    let old = splice.old.as_slice().len();
+    put(heap, h, splice.at as usize, old, splice.new.as_slice());
+}
+
+/// Puts the old part in the place of the new one, which takes `apply` back.
+pub fn apply_back(heap: &mut Heap, h: ChunkHandle, splice: &Splice)
+    requires live { IsTrue (contains_key heap.old h.0) }
+    requires within { splice.now.at + length splice.now.new ≤ length (chunk_bytes heap.old h.0) }
+    requires fits { IsTrue (fits_with heap.old h.0 (backwards splice.now (chunk_bytes heap.old h.0))) }
+    ensures { heap.new ≡ insert heap.old h.0 (backwards splice.now (chunk_bytes heap.old h.0)) }
+{
+    let new = splice.new.as_slice().len();
+    put(heap, h, splice.at as usize, new, splice.old.as_slice());
+}
+
+/// Puts bytes in the place of the `k` bytes at `at` of a chunk. As many are written over without a move of others.
+fn put(heap: &mut Heap, h: ChunkHandle, at: usize, k: usize, bytes: &[u8])
+    requires live { IsTrue (contains_key heap.old h.0) }
+    requires within { at + k ≤ length (chunk_bytes heap.old h.0) }
+    requires fits { IsTrue (fits_with heap.old h.0 (splice (chunk_bytes heap.old h.0) at (at + k) bytes.now)) }
+    ensures { heap.new ≡ insert heap.old h.0 (splice (chunk_bytes heap.old h.0) at (at + k) bytes.now) }
+{
+    if bytes.len() == k {
+        heap.write(h, at, bytes);
+    } else {
+        heap.replace(h, at, k, bytes);
+    }
+}
+
+/// The splice that writes over the bytes of a chunk from `at` on. Range where that reaches past the chunk's end.
+pub fn write(
+    alloc: Global,
+    heap: &Heap,
+    h: ChunkHandle,
+    at: u32,
+    bytes: &[u8],
+) -> Result<Splice, Fault>
+    requires { IsTrue (contains_key heap.now h.0) }
+    ensures built { MatchResult result
+        (λ s. Builds (past_end (chunk_bytes heap.now h.0) (at + length bytes.now)) s (chunk_bytes heap.now h.0) (written (chunk_bytes heap.now h.0) at bytes.now) (2 * length bytes.now))
+        (Refuses (past_end (chunk_bytes heap.now h.0) (at + length bytes.now))) }
+    ensures fits { IfOk result (λ s. IsTrue (fits_with heap.now h.0 (written (chunk_bytes heap.now h.0) at bytes.now))) }
+{
+    let old = part(heap, h, at as usize, bytes.len())?;
+    Ok(Splice {
+        at,
+        old: copied(alloc, old)?,
+        new: copied(alloc, bytes)?,
+    })
+}
+
+/// The splice that puts `n` zeros in before the byte at `at` of a chunk. Range where `at` is past the chunk's end, Full
+/// where the heap has no room for them.
+pub fn insert(alloc: Global, heap: &Heap, h: ChunkHandle, at: u32, n: u32) -> Result<Splice, Fault>
+    requires { IsTrue (contains_key heap.now h.0) }
+    ensures built { MatchResult result
+        (λ s. Builds (past_end (chunk_bytes heap.now h.0) at ++ no_room heap.now h.0 (inserted (chunk_bytes heap.now h.0) at n)) s (chunk_bytes heap.now h.0) (inserted (chunk_bytes heap.now h.0) at n) n)
+        (Refuses (past_end (chunk_bytes heap.now h.0) at ++ no_room heap.now h.0 (inserted (chunk_bytes heap.now h.0) at n))) }
+    ensures fits { IfOk result (λ s. IsTrue (fits_with heap.now h.0 (inserted (chunk_bytes heap.now h.0) at n))) }
+{
+    if at as usize > chunk_of(heap, h).len() {
+        return Err(Fault::Range);
+    }
+    if !fits_longer(heap, h, n) {
+        return Err(Fault::Full);
+    }
+    Ok(Splice {
+        at,
+        old: Bytes::from_vec(Vec::new(alloc)),
+        new: zeros(alloc, n as usize)?,
+    })
+}
+
+/// The splice that takes `n` bytes out of a chunk from `at` on. Range where they reach past the chunk's end.
+pub fn delete(alloc: Global, heap: &Heap, h: ChunkHandle, at: u32, n: u32) -> Result<Splice, Fault>
+    requires { IsTrue (contains_key heap.now h.0) }
+    ensures built { MatchResult result
+        (λ s. Builds (past_end (chunk_bytes heap.now h.0) (at + n)) s (chunk_bytes heap.now h.0) (deleted (chunk_bytes heap.now h.0) at n) n)
+        (Refuses (past_end (chunk_bytes heap.now h.0) (at + n))) }
+    ensures fits { IfOk result (λ s. IsTrue (fits_with heap.now h.0 (deleted (chunk_bytes heap.now h.0) at n))) }
+{
+    let old = part(heap, h, at as usize, n as usize)?;
+    Ok(Splice {
+        at,
+        old: copied(alloc, old)?,
+        new: Bytes::from_vec(Vec::new(alloc)),
+    })
+}
+
+/// The splice that cuts a chunk at its end, or adds zeros there, so that it has `n` bytes. Full where the heap has no room
+/// for them.
+pub fn resize(alloc: Global, heap: &Heap, h: ChunkHandle, n: u32) -> Result<Splice, Fault>
+    requires { IsTrue (contains_key heap.now h.0) }
+    ensures built { MatchResult result
+        (λ s. Builds (no_room heap.now h.0 (resized (chunk_bytes heap.now h.0) n)) s (chunk_bytes heap.now h.0) (resized (chunk_bytes heap.now h.0) n) (difference n (length (chunk_bytes heap.now h.0))))
+        (Refuses (no_room heap.now h.0 (resized (chunk_bytes heap.now h.0) n))) }
+    ensures fits { IfOk result (λ s. IsTrue (fits_with heap.now h.0 (resized (chunk_bytes heap.now h.0) n))) }
+{
+    if !heap.fits_resize(h, n) {
+        return Err(Fault::Full);
+    }
+    let bytes = chunk_of(heap, h);
+    let kept = bytes.len().min(n as usize);
+    Ok(Splice {
+        at: kept as u32,
+        old: copied(alloc, &bytes[kept..])?,
+        new: zeros(alloc, n as usize - kept)?,
+    })
+}
+
+/// The bytes of a live chunk.
+fn chunk_of(heap: &Heap, h: ChunkHandle) -> &[u8]
+    requires { IsTrue (contains_key heap.now h.0) }
+    ensures value { result.now ≡ chunk_bytes heap.now h.0 }
+    ensures valid { is_heap_map heap.now ≡ true }
+{
+    match heap.chunk(h) {
+        Some(bytes) => bytes,
+        None => unreachable!(),
+    }
+}
+
+/// Whether the heap has room for a live chunk with `n` more bytes.
+fn fits_longer(heap: &Heap, h: ChunkHandle, n: u32) -> bool
+    requires { IsTrue (contains_key heap.now h.0) }
+    ensures { (bytes : List ℕ) → length bytes ≡ length (chunk_bytes heap.now h.0) + n → result ≡ fits_with heap.now h.0 bytes }
+{
+    let size = chunk_of(heap, h).len();
+    // No heap has room for as many bytes as the greatest `u32`, at which the sum is cut.
+    heap.fits_resize(h, n.saturating_add(size as u32))
+}
+
+/// The `n` bytes of a live chunk from `at` on; Range where it has not so many.
+fn part(heap: &Heap, h: ChunkHandle, at: usize, n: usize) -> Result<&[u8], Fault>
+    requires { IsTrue (contains_key heap.now h.0) }
+    ensures value { MatchResult result
+        (λ bytes. (at + n ≤ length (chunk_bytes heap.now h.0)) × (bytes.now ≡ take n (drop at (chunk_bytes heap.now h.0))))
+        (λ fault. (length (chunk_bytes heap.now h.0) < at + n) × (fault ≡ Fault.Range)) }
+    ensures valid { is_heap_map heap.now ≡ true }
+{
+    let bytes = chunk_of(heap, h);
+    if bytes.len() < at || bytes.len() - at < n {
+        return Err(Fault::Range);
+    }
+    Ok(&bytes[at..at + n])
+}

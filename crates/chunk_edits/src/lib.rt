@@ -1,0 +1,13 @@
+//! Edits of bytes as splices: a part of a chunk or of a raw body, and what takes its place. A splice is built without a
+//! change, and then applied or taken back without a refusal.
+#![tactic(auto)]
+
+mod chunk;
+mod law;
+mod raw;
+mod splice;
+
+pub use chunk::{apply, apply_back, delete, insert, resize, write};
+pub use law::splice_law;
+pub use raw::{apply_raw, apply_raw_back, raw_replace, raw_write};
+pub use splice::Splice;

@@ -1,0 +1,78 @@
+ghost use Rattle.std.specs.Prelude.{◌≡◌, ◌≤◌, ◌+◌, ◌*◌, IfOk, MatchResult, length};
+ghost use Rattle.std.specs.List.{splice};
+ghost use Rattle.geos_model.specs.Bytes.{written};
+ghost use Rattle.geos_model.specs.Meaning.{past_end, too_big};
+ghost use Rattle.chunk_edits.specs.Splicing.{Builds, Refuses, forwards, backwards};
+
+use crate::splice::{Splice, copied};
+use geos_model::Fault;
+use raw_region::{RawBody, SIZE};
+use std::alloc::Global;
+
+/// Puts the new part in the place of the old one.
+pub fn apply_raw(body: &mut RawBody, splice: &Splice)
+    requires within { splice.now.at + length splice.now.old ≤ length body.old }
+    requires room { length (forwards splice.now body.old) ≤ 65520 }
+    ensures { body.new ≡ forwards splice.now body.old }
+{
+    let old = splice.old.as_slice().len();
+    put(body, splice.at as usize, old, splice.new.as_slice());
+}
+
+/// Puts the old part in the place of the new one, which takes `apply_raw` back.
+pub fn apply_raw_back(body: &mut RawBody, splice: &Splice)
+    requires within { splice.now.at + length splice.now.new ≤ length body.old }
+    requires room { length (backwards splice.now body.old) ≤ 65520 }
+    ensures { body.new ≡ backwards splice.now body.old }
+{
+    let new = splice.new.as_slice().len();
+    put(body, splice.at as usize, new, splice.old.as_slice());
+}
+
+/// Puts bytes in the place of the `k` bytes at `at`. As many are written over without a move of others.
+fn put(body: &mut RawBody, at: usize, k: usize, bytes: &[u8])
+    requires within { at + k ≤ length body.old }
+    requires room { length (splice body.old at (at + k) bytes.now) ≤ 65520 }
+    ensures { body.new ≡ splice body.old at (at + k) bytes.now }
+{
+    if bytes.len() == k {
+        body.copy_in(at, bytes);
+    } else {
+        body.replace(at, k, bytes);
+    }
+}
+
+/// The splice that writes over the bytes of a raw body from `at` on. Range where that reaches past its end.
+pub fn raw_write(alloc: Global, body: &RawBody, at: u32, bytes: &[u8]) -> Result<Splice, Fault>
+    ensures built { MatchResult result
+        (λ s. Builds (past_end body.now (at + length bytes.now)) s body.now (written body.now at bytes.now) (2 * length bytes.now))
+        (Refuses (past_end body.now (at + length bytes.now))) }
+    ensures room { IfOk result (λ s. length (written body.now at bytes.now) ≤ 65520) }
+{
+    let all = body.bytes();
+    let start = at as usize;
+    if all.len() < start || all.len() - start < bytes.len() {
+        return Err(Fault::Range);
+    }
+    Ok(Splice {
+        at,
+        old: copied(alloc, &all[start..start + bytes.len()])?,
+        new: copied(alloc, bytes)?,
+    })
+}
+
+/// The splice that replaces a whole raw body. TooBig where a raw body can't have so many bytes.
+pub fn raw_replace(alloc: Global, body: &RawBody, bytes: &[u8]) -> Result<Splice, Fault>
+    ensures { MatchResult result
+        (λ s. Builds (too_big (length bytes.now)) s body.now bytes.now (length body.now + length bytes.now))
+        (Refuses (too_big (length bytes.now))) }
+{
+    if bytes.len() > SIZE {
+        return Err(Fault::TooBig);
+    }
+    Ok(Splice {
+        at: 0,
+        old: copied(alloc, body.bytes())?,
+        new: copied(alloc, bytes)?,
+    })
+}

@@ -1,0 +1,19 @@
+-- Bytes of a chunk or a raw body after an edit of them.
+use Rattle.std.specs.Prelude.{ℕ, List, [], ◌++◌, ◌+◌, ◌-◌, length, take, replicate}
+use Rattle.std.specs.List.{splice}
+
+-- written over from a place on
+abbrev pub written : List ℕ → ℕ → List ℕ → List ℕ
+written bytes at new = splice bytes at (at + length new) new
+
+-- cut at the end, or with zeros there
+abbrev pub resized : List ℕ → ℕ → List ℕ
+resized bytes n = take n bytes ++ replicate (n - length bytes) 0
+
+-- with zeros put in before a place
+abbrev pub inserted : List ℕ → ℕ → ℕ → List ℕ
+inserted bytes at n = splice bytes at at (replicate n 0)
+
+-- without those from a place on
+abbrev pub deleted : List ℕ → ℕ → ℕ → List ℕ
+deleted bytes at n = splice bytes at (at + n) []

@@ -1,0 +1,71 @@
+-- Which refusal is the first.
+use Rattle.std.proofs.Common.{◌≡◌, ℕ, [], Result, Ok, Err, MatchResult, subst, ◌∷◌, ◌++◌, true, false, Some, None, ◌==◌, refl, sym, ap, ◌∙◌, inl, inr}
+use Rattle.std.proofs.lemmas.Bool.{eqb-true, cases_Bool}
+use Rattle.std.specs.List.{list_any}
+use Rattle.std.specs.Result.{IsErrAnd}
+use Rattle.std.specs.FinMap.{get, contains_key}
+use Rattle.geos_model.specs.Refusal.{Conditions, applies, first_refusal, number_of_fault}
+use Rattle.geos_model.specs.Heap.{ChunkMap}
+use Rattle.geos_model.specs.Document.{Block, Document, is_heap_body}
+use Rattle.geos_model.specs.Meaning.{on_raw, on_heap, on_chunk}
+use Rattle.geos_model.specs.Reply.{Reply, Refused, reply_by}
+use Rattle.geos_model.specs.Machine.{Machine, Step, machine_conditions, next, done_by_request}
+use Rattle.geos_model.specs.declared.command.Command.{Command}
+use Rattle.std.specs.Option.{option_map_or}
+use Rattle.geos_model.specs.declared.fault.Fault.{Fault}
+use Rattle.geos_model.specs.declared.fault.Fault.TheVariants.{BadCommand, Locked, NothingToUndo, NothingToRedo, NoTarget, NoBlock, WrongKind, NotLocked, LockLimit, CacheFull, NoChunk, Range, TooBig, NoHandles, Full}
+use Rattle.undo_log.specs.Found.{is_late, AreLate, IsHeapAt}
+
+-- no later refusal is an earlier one
+late-number : (f g : Fault) → number_of_fault f ≡ number_of_fault g → is_late f ≡ is_late g
+late-number f g e = ap (λ (n : ℕ). list_any (λ h. number_of_fault h == n) (NoChunk ∷ Range ∷ TooBig ∷ NoHandles ∷ Full ∷ [])) e
+
+not_late : (rest : Conditions) (f : Fault) → AreLate rest → is_late f ≡ false → applies rest f ≡ false
+not_late [] f late early = refl
+not_late ((g, holds) ∷ rest) f late early = elim (cases_Bool (is_late g)) [
+  | inl e ↦ elim (cases_Bool (number_of_fault g == number_of_fault f)) [
+    | inl same ↦ let no : false ≡ true = sym early ∙ sym (late-number g f (eqb-true (number_of_fault g) (number_of_fault f) same)) ∙ e in cc
+    | inr other ↦ rw other (not_late rest f (rw e at late) early)
+  ]
+  | inr e ↦ let no : false ≡ true = rw e at late in cc
+]
+
+-- no block under the handle
+pub no_block_heap : (d : Document) (h : ℕ) (rest : Conditions) → get d.blocks h ≡ None → AreLate rest → first_refusal (on_heap d h ++ rest) ≡ Some NoBlock
+no_block_heap d h rest dead late =
+    rw (dead, not_late rest BadCommand late refl, not_late rest Locked late refl, not_late rest NothingToUndo late refl, not_late rest NothingToRedo late refl, not_late rest NoTarget late refl) refl
+
+-- a block of the other kind
+pub no_heap : (d : Document) (h : ℕ) (b : Block) (rest : Conditions) → get d.blocks h ≡ Some b → is_heap_body b.body ≡ false → AreLate rest → first_refusal (on_heap d h ++ rest) ≡ Some WrongKind
+no_heap d h b rest live raw late =
+    rw (live, raw, not_late rest BadCommand late refl, not_late rest Locked late refl, not_late rest NothingToUndo late refl, not_late rest NothingToRedo late refl, not_late rest NoTarget late refl, not_late rest NoBlock late refl) refl
+
+pub no_block_raw : (d : Document) (h : ℕ) (rest : Conditions) → get d.blocks h ≡ None → AreLate rest → first_refusal (on_raw d h ++ rest) ≡ Some NoBlock
+no_block_raw d h rest dead late =
+    rw (dead, not_late rest BadCommand late refl, not_late rest Locked late refl, not_late rest NothingToUndo late refl, not_late rest NothingToRedo late refl, not_late rest NoTarget late refl) refl
+
+pub no_raw : (d : Document) (h : ℕ) (b : Block) (rest : Conditions) → get d.blocks h ≡ Some b → is_heap_body b.body ≡ true → AreLate rest → first_refusal (on_raw d h ++ rest) ≡ Some WrongKind
+no_raw d h b rest live heap late =
+    rw (live, heap, not_late rest BadCommand late refl, not_late rest Locked late refl, not_late rest NothingToUndo late refl, not_late rest NothingToRedo late refl, not_late rest NoTarget late refl, not_late rest NoBlock late refl) refl
+
+-- no such chunk in the heap
+pub no_chunk : (d : Document) (h c : ℕ) (m : ChunkMap) (rest : Conditions) → IsHeapAt d h m → contains_key m c ≡ false → AreLate rest → first_refusal (on_chunk d h c ++ rest) ≡ Some NoChunk
+no_chunk d h c m rest live free late =
+    rw (live, free, not_late rest BadCommand late refl, not_late rest Locked late refl, not_late rest NothingToUndo late refl, not_late rest NothingToRedo late refl, not_late rest NoTarget late refl, not_late rest NoBlock late refl, not_late rest WrongKind late refl, not_late rest NotLocked late refl, not_late rest LockLimit late refl, not_late rest CacheFull late refl) refl
+
+-- where the heap is there, the other refusals decide
+pub past_heap : (d : Document) (h : ℕ) (m : ChunkMap) (rest : Conditions) → IsHeapAt d h m → first_refusal (on_heap d h ++ rest) ≡ first_refusal rest
+past_heap d h m rest live = rw live refl
+
+-- the fault that `?` hands on
+pub carried : {T : Type 0} (r : Result T Fault) (P : T → Type 0) (Q : Fault → Type 0) (fault : Fault) → IsErrAnd r (λ e. e ≡ fault) → Q fault → MatchResult r P Q
+carried (Ok x) P Q fault is q = absurd is
+carried (Err e) P Q fault is q = subst Q (sym is) q
+
+-- a look-up that is refused
+pub refused_look_up : {T : Type 0} (m : Machine) (command : Command) (f : T → Reply) (r : Result T Fault) (fault : Fault) → IsErrAnd r (λ e. e ≡ fault) → first_refusal (machine_conditions (Some command) m) ≡ Some fault
+    → Step m (Some command) (reply_by f r) m
+refused_look_up m command f (Ok x) fault is first = absurd is
+refused_look_up m command f (Err e) fault is first =
+    let answer : next (Some command) m ≡ (Refused fault, m) = ap (λ o. option_map_or (λ x. (Refused x, m)) o (done_by_request (Some command) m)) first in
+    inl (record { says = ap Refused is ∙ sym (ap (λ p. p.0) answer); goes = sym (ap (λ p. p.1) answer) })

@@ -1,0 +1,53 @@
+ghost use Rattle.std.specs.Prelude.{◌≡◌, ◌++◌, true, MatchResult, Some};
+ghost use Rattle.std.specs.FinMap.{contains_key};
+ghost use Rattle.geos_model.specs.Refusal.{Conditions, first_refusal};
+ghost use Rattle.geos_model.specs.Meaning.{on_raw, on_heap, on_chunk};
+ghost use Rattle.undo_log.specs.Found.{AreLate, IsRawAt, IsHeapAt};
+
+use geos_model::{ChunkHandle, Fault, VmHandle};
+use lmem_heap::Heap;
+use raw_region::RawBody;
+use vm_blocks::{BlockBody, Blocks};
+
+/// The raw body under a handle: NoBlock where it isn't live, WrongKind where it is a heap.
+pub fn raw_at(blocks: &Blocks, handle: VmHandle) -> Result<&RawBody, Fault>
+    ensures { MatchResult result
+        (λ body. IsRawAt blocks.now handle.0 body.now)
+        (λ fault. (rest : Conditions) → AreLate rest → first_refusal (on_raw blocks.now handle.0 ++ rest) ≡ Some fault) }
+{
+    match blocks.block(handle) {
+        Some(block) => match &block.body {
+            BlockBody::Raw(body) => Ok(body),
+            BlockBody::Heap(_) => Err(Fault::WrongKind),
+        },
+        None => Err(Fault::NoBlock),
+    }
+}
+
+/// The heap under a handle: NoBlock where it isn't live, WrongKind where it is raw.
+pub fn heap_at(blocks: &Blocks, handle: VmHandle) -> Result<&Heap, Fault>
+    ensures { MatchResult result
+        (λ heap. IsHeapAt blocks.now handle.0 heap.now)
+        (λ fault. (rest : Conditions) → AreLate rest → first_refusal (on_heap blocks.now handle.0 ++ rest) ≡ Some fault) }
+{
+    match blocks.block(handle) {
+        Some(block) => match &block.body {
+            BlockBody::Heap(heap) => Ok(heap),
+            BlockBody::Raw(_) => Err(Fault::WrongKind),
+        },
+        None => Err(Fault::NoBlock),
+    }
+}
+
+/// The heap under a handle, in which a chunk is live: NoBlock, WrongKind, or NoChunk where it isn't.
+pub fn heap_with(blocks: &Blocks, handle: VmHandle, chunk: ChunkHandle) -> Result<&Heap, Fault>
+    ensures { MatchResult result
+        (λ heap. IsHeapAt blocks.now handle.0 heap.now × (contains_key heap.now chunk.0 ≡ true))
+        (λ fault. (rest : Conditions) → AreLate rest → first_refusal (on_chunk blocks.now handle.0 chunk.0 ++ rest) ≡ Some fault) }
+{
+    let heap = heap_at(blocks, handle)?;
+    if heap.chunk(chunk).is_none() {
+        return Err(Fault::NoChunk);
+    }
+    Ok(heap)
+}

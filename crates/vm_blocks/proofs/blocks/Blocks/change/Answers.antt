@@ -1,0 +1,39 @@
+use Rattle.std.proofs.Common.{◌-◌, ap, arith}
+use Rattle.geos_model.specs.declared.command.Body.{Body}
+use Rattle.vm_blocks.specs.Blocks.{block_of}
+use Rattle.vm_blocks.specs.Changes.{changed_body}
+use Rattle.vm_blocks.proofs.SlotLemmas.{live_from_one, live_within, live_not_none, live_block, live_changed, are_slots_full}
+use Rattle.vm_blocks.proofs.ChangeLemmas.{allowed_live, allowed_body}
+use Rattle.vm_blocks.proofs.blocks.Blocks.change.Goals as goal
+
+pub overflow_sub-place : goal.overflow_sub-place
+overflow_sub-place c =
+    let live = allowed_live c.args.self.now c.args.handle.0 c.args.change.now c.requires in
+    live_from_one c.self.inside.map_block.0 c.self.inside.slots.items c.args.self.now c.self.view_is c.args.handle.0 c.from-place.result c.from-place.ensures live
+
+pub index_mut-requires : goal.index_mut-requires
+index_mut-requires c =
+    let live = allowed_live c.args.self.now c.args.handle.0 c.args.change.now c.requires in
+    let within = live_within c.self.inside.map_block.0 c.self.inside.slots.items c.args.self.now c.self.view_is c.args.handle.0 c.from-place.result c.from-place.ensures live in
+    omega (arith, within, c.self.inside.slots.ok.0)
+
+pub unreachable-requires : goal.unreachable-requires
+unreachable-requires c =
+    let live = allowed_live c.args.self.now c.args.handle.0 c.args.change.now c.requires in
+    live_not_none c.self.inside.map_block.0 c.self.inside.slots.items c.args.self.now c.self.view_is c.args.handle.0 c.from-place.result c.from-place.ensures live c.index_mut.result.now c.index_mut.ensures.value c.in-None.is
+
+pub change-requires : goal.change-requires
+change-requires c =
+    let live = allowed_live c.args.self.now c.args.handle.0 c.args.change.now c.requires in
+    let block = live_block c.self.inside.map_block.0 c.self.inside.slots.items c.args.self.now c.self.view_is c.args.handle.0 c.from-place.result c.from-place.ensures live c.index_mut.result.now c.in-Some.block c.index_mut.ensures.value c.in-Some.is in
+    allowed_body c.args.self.now c.args.handle.0 c.args.change.now (block_of c.in-Some.block) block c.requires
+
+pub invariant_of-self : goal.invariant_of-self
+invariant_of-self c = are_slots_full c.self.inside.map_block.0 c.self.inside.slots.items (c.from-place.result - 1) c.self.inside.first_gap (record { user_id = c.in-Some.block.user_id; body = c.change.new.self }) c.self.invariant
+
+pub returns : goal.returns
+returns c =
+    let live = allowed_live c.args.self.now c.args.handle.0 c.args.change.now c.requires in
+    live_changed c.self.inside.map_block.0 c.self.inside.slots.items c.args.self.now c.self.view_is c.args.handle.0 c.from-place.result c.from-place.ensures live c.index_mut.result.now c.in-Some.block c.index_mut.ensures.value c.in-Some.is
+    (λ b. record b { body = changed_body c.args.change.now b.body }) (record { user_id = c.in-Some.block.user_id; body = c.change.new.self })
+    (ap (λ (body : Body). record { user_id = c.in-Some.block.user_id; body = body }) c.change.ensures)

@@ -1,0 +1,15 @@
+use chunk_edits::Splice;
+use geos_model::ChunkHandle;
+
+/// A change of the body of a block.
+#[derive(Drop)]
+pub enum Change {
+    /// A part of a raw body is replaced.
+    Raw(Splice),
+    /// A part of a chunk is replaced.
+    Chunk(ChunkHandle, Splice),
+    /// A chunk of so many zeros comes under a free handle.
+    NewChunk(ChunkHandle, u32),
+    /// A chunk goes.
+    FreeChunk(ChunkHandle),
+}
