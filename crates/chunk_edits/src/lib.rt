@@ -10,4 +10,4 @@ mod splice;
 pub use chunk::{apply, apply_back, delete, insert, resize, write};
 pub use law::splice_law;
 pub use raw::{apply_raw, apply_raw_back, raw_replace, raw_write};
-pub use splice::Splice;
+pub use splice::{Splice, copied};

@@ -24,7 +24,7 @@ impl Splice {
 }
 
 /// A copy of these bytes.
-pub(crate) fn copied(alloc: Global, bytes: &[u8]) -> Result<Bytes, AllocError>
+pub fn copied(alloc: Global, bytes: &[u8]) -> Result<Bytes, AllocError>
     ensures { IfOk result (λ copy. copy ≡ bytes.now) }
 {
     let mut copy = Vec::with_capacity(alloc, bytes.len())?;

@@ -1,6 +1,10 @@
--- Bytes of a chunk or a raw body after an edit of them.
-use Rattle.std.specs.Prelude.{ℕ, List, [], ◌++◌, ◌+◌, ◌-◌, length, take, replicate}
+-- Bytes: whether they are the same, and those of a chunk or a raw body after an edit of them.
+use Rattle.std.specs.Prelude.{ℕ, List, [], ◌++◌, ◌+◌, ◌-◌, Bool, nat_eq, length, take, replicate}
 use Rattle.std.specs.List.{splice}
+use lib.Pointwise.{pointwise}
+
+abbrev pub same_bytes : List ℕ → List ℕ → Bool
+same_bytes xs ys = pointwise nat_eq xs ys
 
 -- written over from a place on
 abbrev pub written : List ℕ → ℕ → List ℕ → List ℕ

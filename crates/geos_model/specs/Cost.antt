@@ -2,6 +2,12 @@
 use Rattle.std.specs.Prelude.{ℕ, ◌+◌, ◌*◌, ◌-◌, length, replicate}
 use Rattle.std.specs.Option.{option_map_or}
 use Rattle.std.specs.FinMap.{empty, get}
+use Rattle.geos_model.specs.Array.{array_bytes}
+use Rattle.geos_model.specs.ArrayEdits.{new_array}
+use Rattle.geos_model.specs.ElementArray.{element_bytes}
+use Rattle.geos_model.specs.ElementEdits.{no_slots}
+use Rattle.geos_model.specs.NameArray.{name_bytes}
+use Rattle.geos_model.specs.NameEdits.{no_names}
 use Rattle.geos_model.specs.Image.{image}
 use Rattle.geos_model.specs.Meaning.{chunk_at}
 use Rattle.geos_model.specs.Document.{Document, raw_bytes_of}
@@ -17,8 +23,13 @@ difference m n = (m - n) + (n - m)
 abbrev pub image_length : Document → ℕ → ℕ
 image_length d h = option_map_or (λ b. length (image b.body)) (get d.blocks h) 0
 
+-- how many bytes a chunk has before an edit and after it
+abbrev pub both_lengths : Document → Document → ℕ → ℕ → ℕ
+both_lengths before after b c = length (chunk_at before b c) + length (chunk_at after b c)
+
 -- For a user ID or the map block nothing. For blocks made or freed the lengths of their images, for a chunk made or freed its bytes. For a write twice the bytes
--- written, for other changes within a chunk the bytes that it gains or loses; for a raw body replaced the old and the new one.
+-- written, for other changes within a chunk the bytes that it gains or loses; for a raw body replaced the old and the new one; for an edit of an array all bytes of its
+-- chunk before and after.
 abbrev pub cost : Edit → Document → Document → ℕ
 cost (edits.NewRaw uid size) before after = length (image (Raw (replicate size 0)))
 cost (edits.NewHeap uid) before after = length (image (Heap empty))
@@ -34,3 +45,19 @@ cost (edits.Resize b c n) before after = difference n (length (chunk_at before b
 cost (edits.Insert b c at n) before after = n
 cost (edits.Delete b c at n) before after = n
 cost (edits.Write b c at bytes) before after = 2 * length bytes
+cost (edits.CreateArray b size extra) before after = length (array_bytes (new_array size extra))
+cost (edits.InsertElement b c i element) before after = both_lengths before after b.0 c.0
+cost (edits.SetElement b c i element) before after = both_lengths before after b.0 c.0
+cost (edits.ResizeElement b c i n) before after = both_lengths before after b.0 c.0
+cost (edits.DeleteElements b c i k) before after = both_lengths before after b.0 c.0
+cost (edits.ZeroArray b c) before after = both_lengths before after b.0 c.0
+cost (edits.CreateElementArray b size) before after = length (element_bytes (no_slots size))
+cost (edits.AddElement b c element) before after = both_lengths before after b.0 c.0
+cost (edits.AddReference b c t) before after = both_lengths before after b.0 c.0
+cost (edits.RemoveReference b c t) before after = both_lengths before after b.0 c.0
+cost (edits.DeleteElement b c t) before after = both_lengths before after b.0 c.0
+cost (edits.ChangeElement b c t element) before after = both_lengths before after b.0 c.0
+cost (edits.CreateNameArray b part) before after = length (name_bytes (no_names part))
+cost (edits.AddName b c text part replace) before after = both_lengths before after b.0 c.0
+cost (edits.ChangeName b c t text) before after = both_lengths before after b.0 c.0
+cost (edits.RemoveName b c t) before after = both_lengths before after b.0 c.0

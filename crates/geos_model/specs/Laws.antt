@@ -1,6 +1,9 @@
 -- Laws of the definitions.
-use Rattle.std.specs.Prelude.{◌≡◌, ◌+◌, ◌*◌, ◌<◌, ℕ, [], ◌∷◌, true}
+use Rattle.std.specs.Prelude.{◌≡◌, ◌+◌, ◌*◌, ◌<◌, ℕ, List, [], ◌∷◌, true, Some, length}
 use Rattle.geos_model.specs.Words.{word}
+use Rattle.geos_model.specs.Array.{Array, array_bytes, array_of, is_even}
+use Rattle.geos_model.specs.ElementArray.{Slots, is_sound, element_bytes, element_array_of}
+use Rattle.geos_model.specs.NameArray.{NameArray, is_sound_names, name_bytes, name_array_of}
 use Rattle.geos_model.specs.Document.{is_valid_body}
 use Rattle.geos_model.specs.Image.{image, body_read}
 use Rattle.geos_model.specs.declared.command.Body.{Body}
@@ -16,3 +19,20 @@ abbrev pub ImageLaw : Type 0
 ImageLaw =
     ((a b : Body) → is_valid_body a ≡ true → is_valid_body b ≡ true → image a ≡ image b → a ≡ b)
     × ((b : Body) → is_valid_body b ≡ true → body_read (image b) ≡ b)
+
+-- Bytes are an array exactly where they are the bytes of one, and that one is read back.
+abbrev pub ArrayLaw : Type 0
+ArrayLaw =
+    ((bytes : List ℕ) (a : Array) → array_of bytes ≡ Some a → (is_even a ≡ true) × (array_bytes a ≡ bytes))
+    × ((a : Array) → is_even a ≡ true → length (array_bytes a) < 65536 → array_of (array_bytes a) ≡ Some a)
+
+-- So it is of element arrays, and of name arrays.
+abbrev pub ElementArrayLaw : Type 0
+ElementArrayLaw =
+    ((bytes : List ℕ) (s : Slots) → element_array_of bytes ≡ Some s → (is_sound s ≡ true) × (element_bytes s ≡ bytes))
+    × ((s : Slots) → is_sound s ≡ true → length (element_bytes s) < 65536 → element_array_of (element_bytes s) ≡ Some s)
+
+abbrev pub NameArrayLaw : Type 0
+NameArrayLaw =
+    ((bytes : List ℕ) (a : NameArray) → name_array_of bytes ≡ Some a → (is_sound_names a ≡ true) × (name_bytes a ≡ bytes))
+    × ((a : NameArray) → is_sound_names a ≡ true → length (name_bytes a) < 65536 → name_array_of (name_bytes a) ≡ Some a)

@@ -1,6 +1,12 @@
 pub mod Words
 pub mod Bytes
 pub mod Refusal
+pub mod Array
+pub mod ArrayEdits
+pub mod ElementArray
+pub mod NameArray
+pub mod ElementEdits
+pub mod NameEdits
 pub mod Heap
 pub mod Table
 pub mod Document

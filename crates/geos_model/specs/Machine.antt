@@ -55,6 +55,22 @@ kind_of (edits.Resize b c n) = In b
 kind_of (edits.Insert b c at n) = In b
 kind_of (edits.Delete b c at n) = In b
 kind_of (edits.Write b c at bytes) = In b
+kind_of (edits.CreateArray b size extra) = In b
+kind_of (edits.InsertElement b c i element) = In b
+kind_of (edits.SetElement b c i element) = In b
+kind_of (edits.ResizeElement b c i n) = In b
+kind_of (edits.DeleteElements b c i k) = In b
+kind_of (edits.ZeroArray b c) = In b
+kind_of (edits.CreateElementArray b size) = In b
+kind_of (edits.AddElement b c element) = In b
+kind_of (edits.AddReference b c t) = In b
+kind_of (edits.RemoveReference b c t) = In b
+kind_of (edits.DeleteElement b c t) = In b
+kind_of (edits.ChangeElement b c t element) = In b
+kind_of (edits.CreateNameArray b part) = In b
+kind_of (edits.AddName b c text part replace) = In b
+kind_of (edits.ChangeName b c t text) = In b
+kind_of (edits.RemoveName b c t) = In b
 
 abbrev pub command_conditions : Command → Machine → Conditions
 command_conditions (commands.Edit e) m = conditions e m.document

@@ -4,6 +4,12 @@ use Rattle.std.specs.Option.{option_map_or}
 use Rattle.std.specs.FinMap.{get, insert, remove, contains_key, empty}
 use Rattle.geos_model.specs.Refusal.{Conditions}
 use Rattle.geos_model.specs.Bytes.{written, resized, inserted, deleted}
+use Rattle.geos_model.specs.Array.{array_bytes}
+use Rattle.geos_model.specs.ArrayEdits.{new_array, element_inserted, element_set, element_resized, elements_deleted, array_zeroed, on_array, create_conditions, insert_conditions, set_conditions, resize_conditions, delete_conditions}
+use Rattle.geos_model.specs.ElementArray.{element_bytes}
+use Rattle.geos_model.specs.ElementEdits.{no_slots, element_added, token_added, reference_added, reference_removed, element_deleted, element_changed, on_token, create_elements_conditions, add_conditions, add_reference_conditions, change_conditions}
+use Rattle.geos_model.specs.NameArray.{name_bytes}
+use Rattle.geos_model.specs.NameEdits.{no_names, name_added, name_token_added, name_changed, name_reference_removed, on_name_token, create_names_conditions, add_name_conditions, change_name_conditions}
 use Rattle.geos_model.specs.Heap.{ChunkMap, capacity, next_chunk, chunk_bytes, fits_with, fits_new}
 use Rattle.geos_model.specs.Document.{Block, Document, with_block, without_block, with_body, with_user_id, is_live, is_heap, is_raw, chunks_of, raw_bytes_of, next_handle}
 use Rattle.geos_model.specs.declared.fault.Fault.TheVariants.{NoBlock, NoChunk, WrongKind, Full, TooBig, NoHandles, Range, IsMap}
@@ -36,6 +42,10 @@ no_room m c bytes = (Full, not (fits_with m c bytes)) ∷ []
 abbrev pub too_big : ℕ → Conditions
 too_big n = (TooBig, nat_lt capacity n) ∷ []
 
+-- the heap has no handle, or no room, for a new chunk of these bytes
+abbrev pub no_place : ChunkMap → List ℕ → Conditions
+no_place m bytes = (Full, not (fits_new m bytes)) ∷ []
+
 -- the handle that a new chunk gets
 abbrev pub new_chunk : Document → ℕ → ℕ
 new_chunk d b = unwrap_or (next_chunk (chunks_of d b)) 0
@@ -52,6 +62,13 @@ on_heap d b = on_block d b ++ (WrongKind, not (is_heap d b)) ∷ []
 abbrev pub on_chunk : Document → ℕ → ℕ → Conditions
 on_chunk d b c = on_heap d b ++ (NoChunk, not (contains_key (chunks_of d b) c)) ∷ []
 
+-- the refusals of an edit that makes a chunk of these bytes, and of one that leaves these in the place of a chunk's
+abbrev pub on_new_chunk : Document → ℕ → Conditions → List ℕ → Conditions
+on_new_chunk d b own bytes = on_heap d b ++ own ++ no_place (chunks_of d b) bytes
+
+abbrev pub on_new_bytes : Document → ℕ → ℕ → Conditions → List ℕ → Conditions
+on_new_bytes d b c own bytes = on_chunk d b c ++ own ++ no_room (chunks_of d b) c bytes
+
 -- The refusals of an edit, each with its condition. Where an earlier one applies, a later one may be anything.
 abbrev pub conditions : Edit → Document → Conditions
 conditions (edits.NewRaw uid size) d = too_big size ++ (NoHandles, is_none (next_handle d)) ∷ []
@@ -62,12 +79,41 @@ conditions (edits.WriteRaw b at bytes) d = on_raw d b.0 ++ past_end (raw_bytes_o
 conditions (edits.Attach b bytes) d = on_raw d b.0 ++ too_big (length bytes)
 conditions (edits.SetUserId b uid) d = on_block d b.0
 conditions (edits.SetMap b) d = (NoBlock, not (b.0 == 0) && not (is_live d b.0)) ∷ []
-conditions (edits.Alloc b n) d = on_heap d b.0 ++ (Full, not (fits_new (chunks_of d b.0) (replicate n 0))) ∷ []
+conditions (edits.Alloc b n) d = on_heap d b.0 ++ no_place (chunks_of d b.0) (replicate n 0)
 conditions (edits.Free b c) d = on_chunk d b.0 c.0
 conditions (edits.Resize b c n) d = on_chunk d b.0 c.0 ++ no_room (chunks_of d b.0) c.0 (resized (chunk_at d b.0 c.0) n)
 conditions (edits.Insert b c at n) d = on_chunk d b.0 c.0 ++ past_end (chunk_at d b.0 c.0) at ++ no_room (chunks_of d b.0) c.0 (inserted (chunk_at d b.0 c.0) at n)
 conditions (edits.Delete b c at n) d = on_chunk d b.0 c.0 ++ past_end (chunk_at d b.0 c.0) (at + n)
 conditions (edits.Write b c at bytes) d = on_chunk d b.0 c.0 ++ past_end (chunk_at d b.0 c.0) (at + length bytes)
+conditions (edits.CreateArray b size extra) d = on_new_chunk d b.0 (create_conditions size extra) (array_bytes (new_array size extra))
+conditions (edits.InsertElement b c i element) d =
+    let old = chunk_at d b.0 c.0 in on_new_bytes d b.0 c.0 (insert_conditions old i element) (element_inserted old i element)
+conditions (edits.SetElement b c i element) d =
+    let old = chunk_at d b.0 c.0 in on_new_bytes d b.0 c.0 (set_conditions old i element) (element_set old i element)
+conditions (edits.ResizeElement b c i n) d =
+    let old = chunk_at d b.0 c.0 in on_new_bytes d b.0 c.0 (resize_conditions old i) (element_resized old i n)
+conditions (edits.DeleteElements b c i k) d =
+    let old = chunk_at d b.0 c.0 in on_new_bytes d b.0 c.0 (delete_conditions old i k) (elements_deleted old i k)
+conditions (edits.ZeroArray b c) d =
+    let old = chunk_at d b.0 c.0 in on_new_bytes d b.0 c.0 (on_array old) (array_zeroed old)
+conditions (edits.CreateElementArray b size) d = on_new_chunk d b.0 (create_elements_conditions size) (element_bytes (no_slots size))
+conditions (edits.AddElement b c element) d =
+    let old = chunk_at d b.0 c.0 in on_new_bytes d b.0 c.0 (add_conditions old element) (element_added old element)
+conditions (edits.AddReference b c t) d =
+    let old = chunk_at d b.0 c.0 in on_new_bytes d b.0 c.0 (add_reference_conditions old t.0) (reference_added old t.0)
+conditions (edits.RemoveReference b c t) d =
+    let old = chunk_at d b.0 c.0 in on_new_bytes d b.0 c.0 (on_token old t.0) (reference_removed old t.0)
+conditions (edits.DeleteElement b c t) d =
+    let old = chunk_at d b.0 c.0 in on_new_bytes d b.0 c.0 (on_token old t.0) (element_deleted old t.0)
+conditions (edits.ChangeElement b c t element) d =
+    let old = chunk_at d b.0 c.0 in on_new_bytes d b.0 c.0 (change_conditions old t.0 element) (element_changed old t.0 element)
+conditions (edits.CreateNameArray b part) d = on_new_chunk d b.0 (create_names_conditions part) (name_bytes (no_names part))
+conditions (edits.AddName b c text part replace) d =
+    let old = chunk_at d b.0 c.0 in on_new_bytes d b.0 c.0 (add_name_conditions old text part) (name_added old text part replace)
+conditions (edits.ChangeName b c t text) d =
+    let old = chunk_at d b.0 c.0 in on_new_bytes d b.0 c.0 (change_name_conditions old t.0 text) (name_changed old t.0 text)
+conditions (edits.RemoveName b c t) d =
+    let old = chunk_at d b.0 c.0 in on_new_bytes d b.0 c.0 (on_name_token old t.0) (name_reference_removed old t.0)
 
 -- an edit that makes a block, or a chunk, and answers its handle
 abbrev pub makes_block : Document → Block → Document × Done
@@ -92,3 +138,21 @@ effect (edits.Resize b c n) d = (with_chunk d b.0 c.0 (resized (chunk_at d b.0 c
 effect (edits.Insert b c at n) d = (with_chunk d b.0 c.0 (inserted (chunk_at d b.0 c.0) at n), done.Nothing)
 effect (edits.Delete b c at n) d = (with_chunk d b.0 c.0 (deleted (chunk_at d b.0 c.0) at n), done.Nothing)
 effect (edits.Write b c at bytes) d = (with_chunk d b.0 c.0 (written (chunk_at d b.0 c.0) at bytes), done.Nothing)
+effect (edits.CreateArray b size extra) d = makes_chunk d b.0 (array_bytes (new_array size extra))
+effect (edits.InsertElement b c i element) d = (with_chunk d b.0 c.0 (element_inserted (chunk_at d b.0 c.0) i element), done.Nothing)
+effect (edits.SetElement b c i element) d = (with_chunk d b.0 c.0 (element_set (chunk_at d b.0 c.0) i element), done.Nothing)
+effect (edits.ResizeElement b c i n) d = (with_chunk d b.0 c.0 (element_resized (chunk_at d b.0 c.0) i n), done.Nothing)
+effect (edits.DeleteElements b c i k) d = (with_chunk d b.0 c.0 (elements_deleted (chunk_at d b.0 c.0) i k), done.Nothing)
+effect (edits.ZeroArray b c) d = (with_chunk d b.0 c.0 (array_zeroed (chunk_at d b.0 c.0)), done.Nothing)
+effect (edits.CreateElementArray b size) d = makes_chunk d b.0 (element_bytes (no_slots size))
+effect (edits.AddElement b c element) d =
+    let old = chunk_at d b.0 c.0 in (with_chunk d b.0 c.0 (element_added old element), done.Token (record { 0 = token_added old element }))
+effect (edits.AddReference b c t) d = (with_chunk d b.0 c.0 (reference_added (chunk_at d b.0 c.0) t.0), done.Nothing)
+effect (edits.RemoveReference b c t) d = (with_chunk d b.0 c.0 (reference_removed (chunk_at d b.0 c.0) t.0), done.Nothing)
+effect (edits.DeleteElement b c t) d = (with_chunk d b.0 c.0 (element_deleted (chunk_at d b.0 c.0) t.0), done.Nothing)
+effect (edits.ChangeElement b c t element) d = (with_chunk d b.0 c.0 (element_changed (chunk_at d b.0 c.0) t.0 element), done.Nothing)
+effect (edits.CreateNameArray b part) d = makes_chunk d b.0 (name_bytes (no_names part))
+effect (edits.AddName b c text part replace) d =
+    let old = chunk_at d b.0 c.0 in (with_chunk d b.0 c.0 (name_added old text part replace), done.Token (record { 0 = name_token_added old text part replace }))
+effect (edits.ChangeName b c t text) d = (with_chunk d b.0 c.0 (name_changed (chunk_at d b.0 c.0) t.0 text), done.Nothing)
+effect (edits.RemoveName b c t) d = (with_chunk d b.0 c.0 (name_reference_removed (chunk_at d b.0 c.0) t.0), done.Nothing)

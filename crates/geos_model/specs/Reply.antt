@@ -1,8 +1,11 @@
 -- What a command answers, and how look-ups answer of a document.
-use Rattle.std.specs.Prelude.{ℕ, List, [], ◌==◌, ◌&&◌, nat_lt, length, map, find, Option, unwrap_or, Result, Ok, Err}
+use Rattle.std.specs.Prelude.{ℕ, List, [], ◌++◌, ◌==◌, ◌&&◌, nat_lt, length, map, find, get_or, Option, unwrap_or, Result, Ok, Err}
 use Rattle.std.specs.FinMap.{get, keys, entries}
 use Rattle.std.specs.Option.{option_map, option_map_or}
 use Rattle.geos_model.specs.Refusal.{Conditions}
+use Rattle.geos_model.specs.ArrayEdits.{array_in, on_array, on_element}
+use Rattle.geos_model.specs.ElementEdits.{elements_in, count_at, bytes_at, used_in, used_from, used_below, on_elements, on_token, on_used}
+use Rattle.geos_model.specs.NameEdits.{names_in, token_of_text, text_at, part_at, on_name_token, find_conditions}
 use Rattle.geos_model.specs.Heap.{need}
 use Rattle.geos_model.specs.Document.{Document, chunks_of, raw_bytes_of}
 use Rattle.geos_model.specs.Meaning.{on_block, on_raw, on_heap, on_chunk, chunk_at}
@@ -43,6 +46,17 @@ look_up_conditions (commands.Info b) d = on_block d b.0
 look_up_conditions (commands.ReadRaw b) d = on_raw d b.0
 look_up_conditions (commands.Chunks b) d = on_heap d b.0
 look_up_conditions (commands.Read b c) d = on_chunk d b.0 c.0
+look_up_conditions (commands.ArrayCount b c) d = on_chunk d b.0 c.0 ++ on_array (chunk_at d b.0 c.0)
+look_up_conditions (commands.ArrayElement b c i) d = on_chunk d b.0 c.0 ++ on_element (chunk_at d b.0 c.0) i
+look_up_conditions (commands.ElementReferences b c t) d = on_chunk d b.0 c.0 ++ on_token (chunk_at d b.0 c.0) t.0
+look_up_conditions (commands.ElementBytes b c t) d = on_chunk d b.0 c.0 ++ on_token (chunk_at d b.0 c.0) t.0
+look_up_conditions (commands.ElementsUsed b c) d = on_chunk d b.0 c.0 ++ on_elements (chunk_at d b.0 c.0)
+look_up_conditions (commands.TokenOfUsed b c k) d = on_chunk d b.0 c.0 ++ on_used (chunk_at d b.0 c.0) k
+look_up_conditions (commands.UsedOfToken b c t) d = on_chunk d b.0 c.0 ++ on_token (chunk_at d b.0 c.0) t.0
+look_up_conditions (commands.NameFind b c text) d = on_chunk d b.0 c.0 ++ find_conditions (chunk_at d b.0 c.0) text
+look_up_conditions (commands.NameReferences b c t) d = on_chunk d b.0 c.0 ++ on_name_token (chunk_at d b.0 c.0) t.0
+look_up_conditions (commands.NameText b c t) d = on_chunk d b.0 c.0 ++ on_name_token (chunk_at d b.0 c.0) t.0
+look_up_conditions (commands.NamePart b c t) d = on_chunk d b.0 c.0 ++ on_name_token (chunk_at d b.0 c.0) t.0
 look_up_conditions commands.List d = []
 look_up_conditions (commands.Find uid start) d = []
 look_up_conditions commands.MapBlock d = []
@@ -71,6 +85,17 @@ look_up commands.MapBlock d = BlockIs d.map_block
 look_up (commands.ReadRaw b) d = BytesAre (raw_bytes_of d b.0)
 look_up (commands.Chunks b) d = ChunksAre (keys (chunks_of d b.0))
 look_up (commands.Read b c) d = BytesAre (chunk_at d b.0 c.0)
+look_up (commands.ArrayCount b c) d = NumberIs (length (array_in (chunk_at d b.0 c.0)).elements)
+look_up (commands.ArrayElement b c i) d = BytesAre (get_or (array_in (chunk_at d b.0 c.0)).elements i [])
+look_up (commands.ElementReferences b c t) d = NumberIs (count_at (elements_in (chunk_at d b.0 c.0)) t.0)
+look_up (commands.ElementBytes b c t) d = BytesAre (bytes_at (elements_in (chunk_at d b.0 c.0)) t.0)
+look_up (commands.ElementsUsed b c) d = NumberIs (used_in (elements_in (chunk_at d b.0 c.0)))
+look_up (commands.TokenOfUsed b c k) d = TokenIs (get_or (used_from 0 (elements_in (chunk_at d b.0 c.0)).slots) k 0)
+look_up (commands.UsedOfToken b c t) d = NumberIs (used_below (elements_in (chunk_at d b.0 c.0)) t.0)
+look_up (commands.NameFind b c text) d = TokenIs (unwrap_or (token_of_text (names_in (chunk_at d b.0 c.0)) text) 0)
+look_up (commands.NameReferences b c t) d = NumberIs (count_at (names_in (chunk_at d b.0 c.0)).names t.0)
+look_up (commands.NameText b c t) d = BytesAre (text_at (names_in (chunk_at d b.0 c.0)) t.0)
+look_up (commands.NamePart b c t) d = BytesAre (part_at (names_in (chunk_at d b.0 c.0)) t.0)
 look_up commands.Blank d = Accepted
 look_up (commands.Edit e) d = Accepted
 look_up commands.Undo d = Accepted

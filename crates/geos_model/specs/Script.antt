@@ -1,13 +1,14 @@
 -- A script: lines of words, the command that a line is, the text of a reply, and what a run writes.
-use Rattle.std.specs.Prelude.{◌≡◌, ℕ, List, [], ◌∷◌, ◌++◌, ◌+◌, ◌*◌, ◌-◌, ◌/◌, ◌%◌, Bool, true, false, ◌==◌, ◌&&◌, ◌||◌, nat_le, nat_eq, length, map, filter, fold, if◌then◌else◌, Option, Some, None, Result, Ok, Err, codes}
+use Rattle.std.specs.Prelude.{◌≡◌, ℕ, List, [], ◌∷◌, ◌++◌, ◌+◌, ◌*◌, ◌-◌, ◌/◌, ◌%◌, Bool, true, false, ◌==◌, ◌&&◌, ◌||◌, nat_le, length, map, filter, fold, if◌then◌else◌, Option, Some, None, Result, Ok, Err, codes}
 use Rattle.std.specs.List.{flat_map, list_all}
 use Rattle.std.specs.Option.{option_and_then, option_map}
 use Rattle.std.specs.Fmt.{decimal}
-use lib.Pointwise.{pointwise}
 use Rattle.hex.specs.Hex.{encode_lower, decode_of}
 use Rattle.hex.specs.declared.error.FromHexError.{FromHexError}
 use Rattle.geos_model.specs.declared.handle.VmHandle.{VmHandle}
 use Rattle.geos_model.specs.declared.handle.ChunkHandle.{ChunkHandle}
+use Rattle.geos_model.specs.declared.handle.Token.{Token}
+pub use Rattle.geos_model.specs.Bytes.{same_bytes}
 use Rattle.geos_model.specs.Refusal.{number_of_fault, name_of_fault}
 use Rattle.geos_model.specs.Reply.{Reply, Accepted, Refused, BlockIs, ChunkIs, TokenIs, NumberIs, BytesAre, BlocksAre, ChunksAre, RawIs, HeapIs}
 use Rattle.geos_model.specs.Machine.{Machine, Request, Run}
@@ -44,9 +45,6 @@ words [] = []
 words (x ∷ xs) = if is_blank x then words xs else begin_word x xs (words xs)
 
 -- Operands. Each is the value that a word spells, if it spells one.
-
-abbrev pub same_bytes : List ℕ → List ℕ → Bool
-same_bytes xs ys = pointwise nat_eq xs ys
 
 abbrev pub is_digit : ℕ → Bool
 is_digit x = nat_le 48 x && nat_le x 57
@@ -86,6 +84,13 @@ block word = option_map (λ n. record { 0 = n }) (handle word)
 abbrev pub chunk : List ℕ → Option ChunkHandle
 chunk word = option_map (λ n. record { 0 = n }) (handle word)
 
+abbrev pub token : List ℕ → Option Token
+token word = option_map (λ n. record { 0 = n }) (handle word)
+
+-- whether a part is set or kept
+abbrev pub is_set : List ℕ → Option Bool
+is_set word = if same_bytes word (codes "set") then Some true else if same_bytes word (codes "keep") then Some false else None
+
 -- A command of so many operands, each spelled by one word.
 
 abbrev pub with_none : Command → List (List ℕ) → Option Command
@@ -108,6 +113,9 @@ with_3 p q r f = operand p (λ a. with_2 q r (f a))
 abbrev pub with_4 : {A B C D : Type 0} → (List ℕ → Option A) → (List ℕ → Option B) → (List ℕ → Option C) → (List ℕ → Option D) → (A → B → C → D → Command) → List (List ℕ) → Option Command
 with_4 p q r s f = operand p (λ a. with_3 q r s (f a))
 
+abbrev pub with_5 : {A B C D E : Type 0} → (List ℕ → Option A) → (List ℕ → Option B) → (List ℕ → Option C) → (List ℕ → Option D) → (List ℕ → Option E) → (A → B → C → D → E → Command) → List (List ℕ) → Option Command
+with_5 p q r s t f = operand p (λ a. with_4 q r s t (f a))
+
 -- each command by its name, with what its operands make of it
 abbrev pub commands_by_name : List (List ℕ × (List (List ℕ) → Option Command))
 commands_by_name =
@@ -125,6 +133,22 @@ commands_by_name =
     ∷ (codes "insert", with_4 block chunk number number (λ b c at n. commands.Edit (edits.Insert b c at n)))
     ∷ (codes "delete", with_4 block chunk number number (λ b c at n. commands.Edit (edits.Delete b c at n)))
     ∷ (codes "write", with_4 block chunk number bytes (λ b c at bs. commands.Edit (edits.Write b c at bs)))
+    ∷ (codes "acreate", with_3 block number number (λ b e x. commands.Edit (edits.CreateArray b e x)))
+    ∷ (codes "ainsert", with_4 block chunk number bytes (λ b c i bs. commands.Edit (edits.InsertElement b c i bs)))
+    ∷ (codes "aset", with_4 block chunk number bytes (λ b c i bs. commands.Edit (edits.SetElement b c i bs)))
+    ∷ (codes "aresize", with_4 block chunk number number (λ b c i n. commands.Edit (edits.ResizeElement b c i n)))
+    ∷ (codes "adelete", with_4 block chunk number number (λ b c i k. commands.Edit (edits.DeleteElements b c i k)))
+    ∷ (codes "azero", with_2 block chunk (λ b c. commands.Edit (edits.ZeroArray b c)))
+    ∷ (codes "ecreate", with_2 block number (λ b e. commands.Edit (edits.CreateElementArray b e)))
+    ∷ (codes "eadd", with_3 block chunk bytes (λ b c bs. commands.Edit (edits.AddElement b c bs)))
+    ∷ (codes "eref", with_3 block chunk token (λ b c t. commands.Edit (edits.AddReference b c t)))
+    ∷ (codes "eunref", with_3 block chunk token (λ b c t. commands.Edit (edits.RemoveReference b c t)))
+    ∷ (codes "edelete", with_3 block chunk token (λ b c t. commands.Edit (edits.DeleteElement b c t)))
+    ∷ (codes "echange", with_4 block chunk token bytes (λ b c t bs. commands.Edit (edits.ChangeElement b c t bs)))
+    ∷ (codes "ncreate", with_2 block number (λ b d. commands.Edit (edits.CreateNameArray b d)))
+    ∷ (codes "nadd", with_5 block chunk bytes bytes is_set (λ b c name part replace. commands.Edit (edits.AddName b c name part replace)))
+    ∷ (codes "nname", with_4 block chunk token bytes (λ b c t name. commands.Edit (edits.ChangeName b c t name)))
+    ∷ (codes "nunref", with_3 block chunk token (λ b c t. commands.Edit (edits.RemoveName b c t)))
     ∷ (codes "undo", with_none commands.Undo)
     ∷ (codes "redo", with_none commands.Redo)
     ∷ (codes "info", with_1 block (λ b. commands.Info b))
@@ -134,6 +158,17 @@ commands_by_name =
     ∷ (codes "vread", with_1 block (λ b. commands.ReadRaw b))
     ∷ (codes "chunks", with_1 block (λ b. commands.Chunks b))
     ∷ (codes "read", with_2 block chunk (λ b c. commands.Read b c))
+    ∷ (codes "acount", with_2 block chunk (λ b c. commands.ArrayCount b c))
+    ∷ (codes "aget", with_3 block chunk number (λ b c i. commands.ArrayElement b c i))
+    ∷ (codes "ecount", with_3 block chunk token (λ b c t. commands.ElementReferences b c t))
+    ∷ (codes "edata", with_3 block chunk token (λ b c t. commands.ElementBytes b c t))
+    ∷ (codes "eused", with_2 block chunk (λ b c. commands.ElementsUsed b c))
+    ∷ (codes "etoken", with_3 block chunk number (λ b c k. commands.TokenOfUsed b c k))
+    ∷ (codes "eindex", with_3 block chunk token (λ b c t. commands.UsedOfToken b c t))
+    ∷ (codes "nfind", with_3 block chunk bytes (λ b c name. commands.NameFind b c name))
+    ∷ (codes "ncount", with_3 block chunk token (λ b c t. commands.NameReferences b c t))
+    ∷ (codes "ntext", with_3 block chunk token (λ b c t. commands.NameText b c t))
+    ∷ (codes "ndata", with_3 block chunk token (λ b c t. commands.NamePart b c t))
     ∷ (codes "undos", with_none commands.Undos)
     ∷ (codes "redos", with_none commands.Redos)
     ∷ []

@@ -38,6 +38,38 @@ pub enum Edit {
     Delete(VmHandle, ChunkHandle, u32, u32),
     /// Bytes written over those of a chunk, from a place on.
     Write(VmHandle, ChunkHandle, u32, Bytes),
+    /// A new chunk with an array of no elements: the size of each, 0 where sizes vary, and how many zeros as extra bytes.
+    CreateArray(VmHandle, u32, u32),
+    /// These bytes become an element of the array, before the one that has this number.
+    InsertElement(VmHandle, ChunkHandle, u32, Bytes),
+    /// The element has these bytes in place of its own.
+    SetElement(VmHandle, ChunkHandle, u32, Bytes),
+    /// The element is cut at its end, or gets zeros there, so that it has this size.
+    ResizeElement(VmHandle, ChunkHandle, u32, u32),
+    /// From an element on, so many are deleted.
+    DeleteElements(VmHandle, ChunkHandle, u32, u32),
+    /// All elements are deleted.
+    ZeroArray(VmHandle, ChunkHandle),
+    /// A new chunk with an element array of no elements: how many bytes each will have, 0 where sizes vary.
+    CreateElementArray(VmHandle, u32),
+    /// The element with these bytes gets one more reference, or becomes a new element.
+    AddElement(VmHandle, ChunkHandle, Bytes),
+    /// The element gets one more reference.
+    AddReference(VmHandle, ChunkHandle, Token),
+    /// The element loses a reference, and is freed with the last one.
+    RemoveReference(VmHandle, ChunkHandle, Token),
+    /// The element is freed, whatever its references.
+    DeleteElement(VmHandle, ChunkHandle, Token),
+    /// The element has these bytes in place of its own.
+    ChangeElement(VmHandle, ChunkHandle, Token, Bytes),
+    /// A new chunk with a name array of no names: how many bytes stand before each name.
+    CreateNameArray(VmHandle, u32),
+    /// A name and the part before it: one that is there gets one more reference, and this part if the flag says so.
+    AddName(VmHandle, ChunkHandle, Bytes, Bytes, bool),
+    /// The token gets this name.
+    ChangeName(VmHandle, ChunkHandle, Token, Bytes),
+    /// The name loses a reference, and is freed with the last one.
+    RemoveName(VmHandle, ChunkHandle, Token),
 }
 
 /// What an accepted edit answers.
@@ -79,6 +111,28 @@ pub enum Command {
     ReadRaw(VmHandle),
     Chunks(VmHandle),
     Read(VmHandle, ChunkHandle),
+    /// How many elements the array in a chunk has.
+    ArrayCount(VmHandle, ChunkHandle),
+    /// The bytes of an element of the array in a chunk.
+    ArrayElement(VmHandle, ChunkHandle, u32),
+    /// How many references an element has.
+    ElementReferences(VmHandle, ChunkHandle, Token),
+    /// The bytes of an element.
+    ElementBytes(VmHandle, ChunkHandle, Token),
+    /// How many elements are used.
+    ElementsUsed(VmHandle, ChunkHandle),
+    /// The token of a used element by its number from 0 on.
+    TokenOfUsed(VmHandle, ChunkHandle, u32),
+    /// How many used tokens are lower than this one.
+    UsedOfToken(VmHandle, ChunkHandle, Token),
+    /// The token of a name.
+    NameFind(VmHandle, ChunkHandle, Bytes),
+    /// How many references a name has.
+    NameReferences(VmHandle, ChunkHandle, Token),
+    /// The name of a token.
+    NameText(VmHandle, ChunkHandle, Token),
+    /// What stands before the name of a token.
+    NamePart(VmHandle, ChunkHandle, Token),
     /// How many edits can be undone.
     Undos,
     /// How many edits can be redone.

@@ -1,4 +1,4 @@
-ghost use Rattle.geos_model.specs.Laws.{WordLaw, ImageLaw};
+ghost use Rattle.geos_model.specs.Laws.{WordLaw, ImageLaw, ArrayLaw, ElementArrayLaw, NameArrayLaw};
 ghost use Rattle.geos_model.specs.Undoing.{UndoLaw, RedoLaw};
 
 /// Two bytes are the word of one number.
@@ -9,6 +9,21 @@ pub fn word_law()
 /// An image is the image of one body.
 pub fn image_law()
     ensures { ImageLaw }
+{}
+
+/// Bytes are a chunk array exactly where they are the bytes of one, and of that one alone.
+pub fn array_law()
+    ensures { ArrayLaw }
+{}
+
+/// Bytes are an element array exactly where they are the bytes of one, and of that one alone.
+pub fn element_array_law()
+    ensures { ElementArrayLaw }
+{}
+
+/// Bytes are a name array exactly where they are the bytes of one, and of that one alone.
+pub fn name_array_law()
+    ensures { NameArrayLaw }
 {}
 
 /// Undoing as many edits as were accepted gives back the document, whatever stands between that moves nothing.

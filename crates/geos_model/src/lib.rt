@@ -12,4 +12,6 @@ pub use bytes::{Bytes, Chunks};
 pub use command::{Body, Command, Done, Edit, Info, Kind};
 pub use fault::Fault;
 pub use handle::{ChunkHandle, Token, VmHandle};
-pub use law::{image_law, redo_law, undo_law, word_law};
+pub use law::{
+    array_law, element_array_law, image_law, name_array_law, redo_law, undo_law, word_law,
+};

@@ -1,6 +1,5 @@
 pub mod Calls
 pub mod Composed
-pub mod Counts
 pub mod Extending
 pub mod Lines
 pub mod LookUps
@@ -10,4 +9,5 @@ pub mod Replying
 pub mod Runs
 pub mod Spelling
 pub mod Steps
+pub mod Taken
 pub mod Words

@@ -1,12 +1,14 @@
 -- A reply's line is what is written for its request.
-use Rattle.std.proofs.Common.{◌≡◌, ℕ, List, [], ◌∷◌, ◌++◌, true, refl, ◌∙◌, sym, ap, append_assoc, append-nil, Result, Ok, OnOk, None, inl}
+use Rattle.std.proofs.Common.{◌≡◌, ℕ, List, [], ◌∷◌, ◌++◌, true, refl, ◌∙◌, sym, ap, append_assoc, append-nil, Result, Ok, Err, OnOk, None, Some, inl}
 use Rattle.std.specs.Prelude.{filter}
 use Rattle.std.proofs.lemmas.Result.{IfOk-at_ok}
 use Rattle.geos_model.specs.Reply.{Reply, Refused}
 use Rattle.geos_model.specs.declared.fault.Fault.TheVariants.{BadCommand}
 use Rattle.geos_model.specs.Machine.{Machine, Request, Step}
 use Rattle.geos_model.specs.Script.{Answered, command, gets_reply, reply_line, reply_text, line_feed}
-use Rattle.geos_shell.specs.Replies.{Responds}
+use Rattle.geos_model.specs.declared.command.Command.{Command}
+use Rattle.geos_model.specs.declared.command.Command.TheVariants as commands
+use Rattle.geos_shell.specs.Replies.{Responds, Told}
 
 -- one step of the machine, and its reply's text and a line feed put behind what was there
 pub responds_by : (old new : Machine) (request : Request) (reply : Reply) (before text after : List ℕ)
@@ -43,3 +45,22 @@ answered_bad machine line before text after none said ended =
     let step : Step machine None (Refused BadCommand) machine = inl (record { says = refl; goes = refl }) in
     let r = responds_by machine machine None (Refused BadCommand) before text after refl step said ended in
     (r.0, answered_by machine machine line r.0 None none r.1, r.2)
+
+-- where a call that may fail put the text of a look-up's reply
+pub told : {T E : Type 0} (put : Result T E) (machine : Machine) (c : Command) (reply : Reply) (before after : List ℕ)
+    → Step machine (Some c) reply machine → OnOk put (after ≡ before ++ reply_text reply) → OnOk put (Told machine c before after)
+told (Ok x) machine c reply before after step said = record { reply = reply; step = step; text = said }
+told (Err e) machine c reply before after step said = said
+
+-- a command that is no blank line gets a reply
+gets_one : (c : Command) → (c ≡ commands.Blank → ⊥) → gets_reply (Some c) ≡ true
+gets_one commands.Blank other = absurd (other refl)
+gets_one _ other = refl
+
+-- what was told of a look-up, and a line feed put behind it
+pub responds_told : {T E : Type 0} (put : Result T E) (x : T) (machine : Machine) (c : Command) (before text after : List ℕ)
+    → (c ≡ commands.Blank → ⊥) → put ≡ Ok x → OnOk put (Told machine c before text) → after ≡ text ++ line_feed ∷ []
+    → (written : List ℕ) × Responds machine (Some c) written machine × (after ≡ before ++ written)
+responds_told put x machine c before text after other was told_it ended =
+    let t : Told machine c before text = IfOk-at_ok (λ _. Told machine c before text) was told_it in
+    responds_by machine machine (Some c) t.reply before text after (gets_one c other) t.step t.text ended

@@ -6,6 +6,7 @@ mod operands;
 mod parser;
 mod replies;
 mod runner;
+mod shapes;
 mod text;
 mod verbs;
 

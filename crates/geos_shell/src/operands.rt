@@ -2,7 +2,7 @@
 ghost use Rattle.std.specs.Prelude.{◌≡◌, ◌⊎◌, None, Some, IfOk, IfErr, ok_or};
 ghost use Rattle.geos_model.specs.Script as script;
 
-use geos_model::{Bytes, ChunkHandle, Fault, VmHandle};
+use geos_model::{Bytes, ChunkHandle, Fault, Token, VmHandle};
 use hex::{FromHex, FromHexError};
 use std::alloc::Global;
 
@@ -52,6 +52,25 @@ pub(crate) fn chunk(word: &[u8]) -> Result<ChunkHandle, Fault>
     ensures { result ≡ ok_or (script.chunk word.now) Fault.BadCommand }
 {
     Ok(ChunkHandle(handle(word)?))
+}
+
+pub(crate) fn token(word: &[u8]) -> Result<Token, Fault>
+    ensures { result ≡ ok_or (script.token word.now) Fault.BadCommand }
+{
+    Ok(Token(handle(word)?))
+}
+
+/// Whether a part is set or kept.
+pub(crate) fn is_set(word: &[u8]) -> Result<bool, Fault>
+    ensures { result ≡ ok_or (script.is_set word.now) Fault.BadCommand }
+{
+    if word == b"set".as_slice() {
+        return Ok(true);
+    }
+    if word == b"keep".as_slice() {
+        return Ok(false);
+    }
+    Err(Fault::BadCommand)
 }
 
 /// Bytes in hexadecimal digits, or a dash for none.

@@ -1,12 +1,120 @@
-ghost use Rattle.std.specs.Prelude.{◌≡◌, ◌++◌, List, ℕ, [], ◌∷◌, OnOk, OnErr, Some};
+ghost use Rattle.std.specs.Prelude.{◌≡◌, ◌++◌, List, ℕ, [], ◌∷◌, OnOk, OnErr, Some, IsTrue};
 ghost use Rattle.geos_model.specs.Script.{Answered};
-ghost use Rattle.geos_shell.specs.Replies.{Extends, Responds};
+ghost use Rattle.geos_shell.specs.Replies.{Extends, Responds, Told, asks_array, asks_names, asks_slots, is_look_up};
 
 use crate::parser::parse;
 use crate::text;
 use geos_model::{Command, Fault};
 use std::alloc::{AllocError, Global};
 use undo_log::Session;
+
+// Puts the reply to a look-up of a name array behind `out`, without its line feed.
+fn push_name_look_up(
+    alloc: Global,
+    session: &Session,
+    look_up: &Command,
+    out: &mut Vec<u8>,
+) -> Result<(), AllocError>
+    requires { IsTrue (asks_names look_up.now) }
+    ensures ok { OnOk result (Told session.now look_up.now out.old.items out.new.items) }
+    ensures err { OnErr result (Extends out.old.items out.new.items) }
+{
+    match look_up {
+        Command::NameFind(block, chunk, name) => {
+            text::push_token(alloc, out, session.name_find(*block, *chunk, name))
+        }
+        Command::NameReferences(block, chunk, token) => {
+            text::push_references(alloc, out, session.name_refs(*block, *chunk, *token))
+        }
+        Command::NameText(block, chunk, token) => {
+            text::push_bytes(alloc, out, session.name_text(*block, *chunk, *token))
+        }
+        Command::NamePart(block, chunk, token) => {
+            text::push_bytes(alloc, out, session.name_part(*block, *chunk, *token))
+        }
+        _ => unreachable!(),
+    }
+}
+
+// Puts the reply to a look-up of an element array or a name array behind `out`, without its line feed.
+fn push_slot_look_up(
+    alloc: Global,
+    session: &Session,
+    look_up: &Command,
+    out: &mut Vec<u8>,
+) -> Result<(), AllocError>
+    requires { IsTrue (asks_slots look_up.now) }
+    ensures ok { OnOk result (Told session.now look_up.now out.old.items out.new.items) }
+    ensures err { OnErr result (Extends out.old.items out.new.items) }
+{
+    match look_up {
+        Command::ElementReferences(block, chunk, token) => {
+            text::push_references(alloc, out, session.element_refs(*block, *chunk, *token))
+        }
+        Command::ElementBytes(block, chunk, token) => {
+            text::push_bytes(alloc, out, session.element_bytes(*block, *chunk, *token))
+        }
+        Command::ElementsUsed(block, chunk) => {
+            text::push_array_count(alloc, out, session.elements_used(*block, *chunk))
+        }
+        Command::TokenOfUsed(block, chunk, k) => {
+            text::push_token(alloc, out, session.token_of_used(*block, *chunk, *k))
+        }
+        Command::UsedOfToken(block, chunk, token) => {
+            text::push_array_count(alloc, out, session.used_of_token(*block, *chunk, *token))
+        }
+        name_look_up => push_name_look_up(alloc, session, name_look_up, out),
+    }
+}
+
+// Puts the reply to a look-up of an array of any kind behind `out`, without its line feed.
+fn push_array_look_up(
+    alloc: Global,
+    session: &Session,
+    look_up: &Command,
+    out: &mut Vec<u8>,
+) -> Result<(), AllocError>
+    requires { IsTrue (asks_array look_up.now) }
+    ensures ok { OnOk result (Told session.now look_up.now out.old.items out.new.items) }
+    ensures err { OnErr result (Extends out.old.items out.new.items) }
+{
+    match look_up {
+        Command::ArrayCount(block, chunk) => {
+            text::push_array_count(alloc, out, session.array_count(*block, *chunk))
+        }
+        Command::ArrayElement(block, chunk, i) => {
+            text::push_bytes(alloc, out, session.array_element(*block, *chunk, *i))
+        }
+        slot_look_up => push_slot_look_up(alloc, session, slot_look_up, out),
+    }
+}
+
+// Puts the reply to a look-up behind `out`, without its line feed.
+fn push_look_up(
+    alloc: Global,
+    session: &Session,
+    look_up: &Command,
+    out: &mut Vec<u8>,
+) -> Result<(), AllocError>
+    requires { IsTrue (is_look_up look_up.now) }
+    ensures ok { OnOk result (Told session.now look_up.now out.old.items out.new.items) }
+    ensures err { OnErr result (Extends out.old.items out.new.items) }
+{
+    match look_up {
+        Command::Info(block) => text::push_info(alloc, out, session.info(*block)),
+        Command::List => text::push_blocks(alloc, out, session.list()),
+        Command::Find(user_id, start) => text::push_found(out, session.find(*user_id, *start)),
+        Command::MapBlock => text::push_block(out, session.map_block()),
+        Command::ReadRaw(block) => text::push_bytes(alloc, out, session.read_raw(*block)),
+        Command::Chunks(block) => text::push_chunks(alloc, out, session.chunks(*block)),
+        Command::Read(block, chunk) => {
+            text::push_bytes(alloc, out, session.read_chunk(*block, *chunk))
+        }
+        Command::Undos => text::push_count(alloc, out, session.undo_count()),
+        Command::Redos => text::push_count(alloc, out, session.redo_count()),
+        array_look_up => push_array_look_up(alloc, session, array_look_up, out),
+    }
+}
 
 // Carries out a command, and puts its reply line behind `out`. Where memory is wanting, a part of the line may stand there.
 fn respond(
@@ -24,17 +132,7 @@ fn respond(
         Command::Edit(edit) => text::push_done(alloc, out, session.edit(edit)),
         Command::Undo => text::push_accepted(alloc, out, session.undo()),
         Command::Redo => text::push_accepted(alloc, out, session.redo()),
-        Command::Info(block) => text::push_info(alloc, out, session.info(*block)),
-        Command::List => text::push_blocks(alloc, out, session.list()),
-        Command::Find(user_id, start) => text::push_found(out, session.find(*user_id, *start)),
-        Command::MapBlock => text::push_block(out, session.map_block()),
-        Command::ReadRaw(block) => text::push_bytes(alloc, out, session.read_raw(*block)),
-        Command::Chunks(block) => text::push_chunks(alloc, out, session.chunks(*block)),
-        Command::Read(block, chunk) => {
-            text::push_bytes(alloc, out, session.read_chunk(*block, *chunk))
-        }
-        Command::Undos => text::push_count(alloc, out, session.undo_count()),
-        Command::Redos => text::push_count(alloc, out, session.redo_count()),
+        look_up => push_look_up(alloc, session, look_up, out),
     }?;
     out.push(b'\n')?;
     Ok(())

@@ -4,11 +4,11 @@
 ghost use Rattle.std.specs.Prelude.{◌≡◌, ◌++◌, ◌∷◌, OnOk, OnErr, map, option_map, unwrap_or};
 ghost use Rattle.std.specs.Fmt.{decimal};
 ghost use Rattle.hex.specs.Hex.{encode_lower};
-ghost use Rattle.geos_model.specs.Reply.{Accepted, BlockIs, BytesAre, NumberIs, Refused, blocks_are, chunks_are, info_is, reply_by, reply_of_done};
+ghost use Rattle.geos_model.specs.Reply.{Accepted, BlockIs, BytesAre, NumberIs, Refused, TokenIs, blocks_are, chunks_are, info_is, reply_by, reply_of_done};
 ghost use Rattle.geos_model.specs.Script.{four_digits, listed, reply_text};
 ghost use Rattle.geos_shell.specs.Replies.{Extends};
 
-use geos_model::{ChunkHandle, Done, Fault, Info, VmHandle};
+use geos_model::{ChunkHandle, Done, Fault, Info, Token, VmHandle};
 use std::alloc::{AllocError, Global};
 
 fn push_number(alloc: Global, out: &mut Vec<u8>, number: u32) -> Result<(), AllocError>
@@ -111,6 +111,51 @@ pub(crate) fn push_count(alloc: Global, out: &mut Vec<u8>, count: usize) -> Resu
     let digits = count.to_string(alloc)?;
     out.extend_from_slice(b"number ")?;
     out.extend_from_slice(digits.as_bytes())
+}
+
+pub(crate) fn push_array_count(
+    alloc: Global,
+    out: &mut Vec<u8>,
+    count: Result<usize, Fault>,
+) -> Result<(), AllocError>
+    ensures ok { OnOk result (out.new.items ≡ out.old.items ++ reply_text (reply_by NumberIs count)) }
+    ensures err { OnErr result (Extends out.old.items out.new.items) }
+{
+    match count {
+        Ok(count) => push_count(alloc, out, count),
+        Err(fault) => push_refusal(alloc, out, fault),
+    }
+}
+
+pub(crate) fn push_references(
+    alloc: Global,
+    out: &mut Vec<u8>,
+    references: Result<u32, Fault>,
+) -> Result<(), AllocError>
+    ensures ok { OnOk result (out.new.items ≡ out.old.items ++ reply_text (reply_by NumberIs references)) }
+    ensures err { OnErr result (Extends out.old.items out.new.items) }
+{
+    match references {
+        Ok(references) => {
+            out.extend_from_slice(b"number ")?;
+            push_number(alloc, out, references)
+        }
+        Err(fault) => push_refusal(alloc, out, fault),
+    }
+}
+
+pub(crate) fn push_token(
+    alloc: Global,
+    out: &mut Vec<u8>,
+    token: Result<Token, Fault>,
+) -> Result<(), AllocError>
+    ensures ok { OnOk result (out.new.items ≡ out.old.items ++ reply_text (reply_by (λ token. TokenIs token.0) token)) }
+    ensures err { OnErr result (Extends out.old.items out.new.items) }
+{
+    match token {
+        Ok(token) => push_handle(out, b"token ", token.0),
+        Err(fault) => push_refusal(alloc, out, fault),
+    }
 }
 
 fn push_body(

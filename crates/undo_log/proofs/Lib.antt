@@ -1,4 +1,10 @@
 pub mod Slots
 pub mod Lists
+pub mod Order
 pub mod Refusals
 pub mod Changes
+pub mod ChunkChanges
+pub mod ArrayEdits
+pub mod ArrayLookUps
+pub mod ElementEdits
+pub mod NameEdits

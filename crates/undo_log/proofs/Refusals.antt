@@ -1,10 +1,8 @@
 -- Which refusal is the first.
-use Rattle.std.proofs.Common.{◌≡◌, ℕ, [], Result, Ok, Err, MatchResult, subst, ◌∷◌, ◌++◌, true, false, Some, None, ◌==◌, refl, sym, ap, ◌∙◌, inl, inr}
-use Rattle.std.proofs.lemmas.Bool.{eqb-true, cases_Bool}
-use Rattle.std.specs.List.{list_any}
+use Rattle.std.proofs.Common.{◌≡◌, ℕ, Result, Ok, Err, MatchResult, subst, ◌++◌, true, false, Some, None, refl, sym, ap, ◌∙◌, inl}
 use Rattle.std.specs.Result.{IsErrAnd}
 use Rattle.std.specs.FinMap.{get, contains_key}
-use Rattle.geos_model.specs.Refusal.{Conditions, applies, first_refusal, number_of_fault}
+use Rattle.geos_model.specs.Refusal.{Conditions, applies, first_refusal}
 use Rattle.geos_model.specs.Heap.{ChunkMap}
 use Rattle.geos_model.specs.Document.{Block, Document, is_heap_body}
 use Rattle.geos_model.specs.Meaning.{on_raw, on_heap, on_chunk}
@@ -13,22 +11,12 @@ use Rattle.geos_model.specs.Machine.{Machine, Step, machine_conditions, next, do
 use Rattle.geos_model.specs.declared.command.Command.{Command}
 use Rattle.std.specs.Option.{option_map_or}
 use Rattle.geos_model.specs.declared.fault.Fault.{Fault}
-use Rattle.geos_model.specs.declared.fault.Fault.TheVariants.{BadCommand, Locked, NothingToUndo, NothingToRedo, NoTarget, NoBlock, WrongKind, NotLocked, LockLimit, CacheFull, NoChunk, Range, TooBig, NoHandles, Full}
-use Rattle.undo_log.specs.Found.{is_late, AreLate, IsHeapAt}
+use Rattle.geos_model.specs.declared.fault.Fault.TheVariants.{BadCommand, Locked, NothingToUndo, NothingToRedo, NoTarget, NoBlock, WrongKind, NotLocked, LockLimit, CacheFull, NoChunk}
+use Rattle.undo_log.specs.Found.{is_among, late_faults, AreLate, IsHeapAt}
+use Rattle.undo_log.proofs.Order.{not_among}
 
--- no later refusal is an earlier one
-late-number : (f g : Fault) → number_of_fault f ≡ number_of_fault g → is_late f ≡ is_late g
-late-number f g e = ap (λ (n : ℕ). list_any (λ h. number_of_fault h == n) (NoChunk ∷ Range ∷ TooBig ∷ NoHandles ∷ Full ∷ [])) e
-
-not_late : (rest : Conditions) (f : Fault) → AreLate rest → is_late f ≡ false → applies rest f ≡ false
-not_late [] f late early = refl
-not_late ((g, holds) ∷ rest) f late early = elim (cases_Bool (is_late g)) [
-  | inl e ↦ elim (cases_Bool (number_of_fault g == number_of_fault f)) [
-    | inl same ↦ let no : false ≡ true = sym early ∙ sym (late-number g f (eqb-true (number_of_fault g) (number_of_fault f) same)) ∙ e in cc
-    | inr other ↦ rw other (not_late rest f (rw e at late) early)
-  ]
-  | inr e ↦ let no : false ≡ true = rw e at late in cc
-]
+not_late : (rest : Conditions) (f : Fault) → AreLate rest → is_among late_faults f ≡ false → applies rest f ≡ false
+not_late rest f late early = not_among late_faults rest f late early
 
 -- no block under the handle
 pub no_block_heap : (d : Document) (h : ℕ) (rest : Conditions) → get d.blocks h ≡ None → AreLate rest → first_refusal (on_heap d h ++ rest) ≡ Some NoBlock
@@ -56,6 +44,9 @@ no_chunk d h c m rest live free late =
 -- where the heap is there, the other refusals decide
 pub past_heap : (d : Document) (h : ℕ) (m : ChunkMap) (rest : Conditions) → IsHeapAt d h m → first_refusal (on_heap d h ++ rest) ≡ first_refusal rest
 past_heap d h m rest live = rw live refl
+
+pub past_chunk : (d : Document) (h c : ℕ) (m : ChunkMap) (rest : Conditions) → IsHeapAt d h m → contains_key m c ≡ true → first_refusal (on_chunk d h c ++ rest) ≡ first_refusal rest
+past_chunk d h c m rest live there = rw (live, there) refl
 
 -- the fault that `?` hands on
 pub carried : {T : Type 0} (r : Result T Fault) (P : T → Type 0) (Q : Fault → Type 0) (fault : Fault) → IsErrAnd r (λ e. e ≡ fault) → Q fault → MatchResult r P Q

@@ -54,7 +54,7 @@ unfolding image
 raw_cost size n e = omega (arith, length-replicate {A = ℕ} size 0)
 
 -- what stands under the handle then
-get-with_slot : (d : Document) (h : ℕ) (b : Block) → get (with_block d h b).blocks h ≡ Some b
+pub get-with_slot : (d : Document) (h : ℕ) (b : Block) → get (with_block d h b).blocks h ≡ Some b
 get-with_slot d h b = get-blocks_with d.blocks h (Some b) h ∙ ap (λ (t : Bool). cond t (Some b) (get d.blocks h)) (eq-eqb h h refl)
 
 user_id-is : (d : Document) (h uid : ℕ) (b : Block) → get d.blocks h ≡ Some b → with_user_id d h uid ≡ with_block d h (record b { user_id = uid })

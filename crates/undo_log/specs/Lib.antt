@@ -3,3 +3,4 @@ pub mod Records
 pub mod Found
 pub mod Making
 pub mod Turning
+pub mod Families

@@ -2,7 +2,7 @@ ghost use Rattle.std.specs.Prelude.{◌≡◌, ◌++◌, true, MatchResult, Some
 ghost use Rattle.std.specs.FinMap.{contains_key};
 ghost use Rattle.geos_model.specs.Refusal.{Conditions, first_refusal};
 ghost use Rattle.geos_model.specs.Meaning.{on_raw, on_heap, on_chunk};
-ghost use Rattle.undo_log.specs.Found.{AreLate, IsRawAt, IsHeapAt};
+ghost use Rattle.undo_log.specs.Found.{AreLate, IsRawAt, IsHeapAt, IsChunkAt};
 
 use geos_model::{ChunkHandle, Fault, VmHandle};
 use lmem_heap::Heap;
@@ -50,4 +50,17 @@ pub fn heap_with(blocks: &Blocks, handle: VmHandle, chunk: ChunkHandle) -> Resul
         return Err(Fault::NoChunk);
     }
     Ok(heap)
+}
+
+/// The bytes of a chunk: NoBlock, WrongKind, or NoChunk where it isn't live.
+pub fn bytes_at(blocks: &Blocks, handle: VmHandle, chunk: ChunkHandle) -> Result<&[u8], Fault>
+    ensures { MatchResult result
+        (λ bytes. IsChunkAt blocks.now handle.0 chunk.0 bytes.now)
+        (λ fault. (rest : Conditions) → AreLate rest → first_refusal (on_chunk blocks.now handle.0 chunk.0 ++ rest) ≡ Some fault) }
+{
+    let heap = heap_with(blocks, handle, chunk)?;
+    match heap.chunk(chunk) {
+        Some(bytes) => Ok(bytes),
+        None => unreachable!(),
+    }
 }

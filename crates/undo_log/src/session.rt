@@ -1,15 +1,15 @@
 ghost use Rattle.std.specs.Prelude.{◌≡◌, ℕ, Some, IfOk, length};
 ghost use Rattle.std.specs.Option.{option_map};
-ghost use Rattle.geos_model.specs.Reply.{Accepted, BytesAre, reply_by, reply_of_done, body_info, info_is, blocks_are, chunks_are, found};
+ghost use Rattle.geos_model.specs.Reply.{Accepted, BytesAre, NumberIs, TokenIs, reply_by, reply_of_done, body_info, info_is, blocks_are, chunks_are, found};
 ghost use Rattle.geos_model.specs.Machine.{Step, empty_machine};
 ghost use Rattle.geos_model.specs.declared.command.Command.TheVariants as commands;
 ghost use Rattle.vm_blocks.specs.Blocks.{block_of};
 
 use crate::edits::make;
-use crate::found::{heap_at, raw_at};
+use crate::found::{bytes_at, heap_at, raw_at};
 use crate::record::Record;
 use crate::turn::turn;
-use geos_model::{ChunkHandle, Done, Edit, Fault, Info, VmHandle};
+use geos_model::{Bytes, ChunkHandle, Done, Edit, Fault, Info, Token, VmHandle};
 use std::alloc::{AllocError, Global};
 use std::marker::Model;
 use vm_blocks::{Block, BlockBody, Blocks};
@@ -170,5 +170,129 @@ impl Session {
     {
         let heap = heap_at(&self.blocks, block)?;
         heap.chunk(chunk).ok_or(Fault::NoChunk)
+    }
+
+    /// How many elements the array in a chunk has.
+    pub fn array_count(&self, block: VmHandle, chunk: ChunkHandle) -> Result<usize, Fault>
+        ensures { Step self.now (Some (commands.ArrayCount block chunk)) (reply_by NumberIs result) self.now }
+    {
+        let bytes = bytes_at(&self.blocks, block, chunk)?;
+        let view = chunk_arrays::check(bytes)?;
+        Ok(view.count())
+    }
+
+    /// The bytes of an element of the array in a chunk.
+    pub fn array_element(&self, block: VmHandle, chunk: ChunkHandle, i: u32) -> Result<&[u8], Fault>
+        ensures { Step self.now (Some (commands.ArrayElement block chunk i)) (reply_by (λ bytes. BytesAre bytes.now) result) self.now }
+    {
+        let bytes = bytes_at(&self.blocks, block, chunk)?;
+        let view = chunk_arrays::check(bytes)?;
+        let i = i as usize;
+        if i >= view.count() {
+            return Err(Fault::NoElement);
+        }
+        Ok(view.element(i))
+    }
+
+    /// How many references an element of the element array in a chunk has.
+    pub fn element_refs(
+        &self,
+        block: VmHandle,
+        chunk: ChunkHandle,
+        token: Token,
+    ) -> Result<u32, Fault>
+        ensures { Step self.now (Some (commands.ElementReferences block chunk token)) (reply_by NumberIs result) self.now }
+    {
+        let bytes = bytes_at(&self.blocks, block, chunk)?;
+        element_arrays::count_of(bytes, token)
+    }
+
+    /// The bytes of an element of the element array in a chunk.
+    pub fn element_bytes(
+        &self,
+        block: VmHandle,
+        chunk: ChunkHandle,
+        token: Token,
+    ) -> Result<&[u8], Fault>
+        ensures { Step self.now (Some (commands.ElementBytes block chunk token)) (reply_by (λ bytes. BytesAre bytes.now) result) self.now }
+    {
+        let bytes = bytes_at(&self.blocks, block, chunk)?;
+        element_arrays::data_of(bytes, token)
+    }
+
+    /// How many elements of the element array in a chunk are used.
+    pub fn elements_used(&self, block: VmHandle, chunk: ChunkHandle) -> Result<usize, Fault>
+        ensures { Step self.now (Some (commands.ElementsUsed block chunk)) (reply_by NumberIs result) self.now }
+    {
+        let bytes = bytes_at(&self.blocks, block, chunk)?;
+        element_arrays::used_count(bytes)
+    }
+
+    /// The token of the used element that has this number, from 0 on, in the element array in a chunk.
+    pub fn token_of_used(&self, block: VmHandle, chunk: ChunkHandle, k: u32) -> Result<Token, Fault>
+        ensures { Step self.now (Some (commands.TokenOfUsed block chunk k)) (reply_by (λ token. TokenIs token.0) result) self.now }
+    {
+        let bytes = bytes_at(&self.blocks, block, chunk)?;
+        element_arrays::token_of_used(bytes, k)
+    }
+
+    /// How many used tokens of the element array in a chunk are lower than this one.
+    pub fn used_of_token(
+        &self,
+        block: VmHandle,
+        chunk: ChunkHandle,
+        token: Token,
+    ) -> Result<usize, Fault>
+        ensures { Step self.now (Some (commands.UsedOfToken block chunk token)) (reply_by NumberIs result) self.now }
+    {
+        let bytes = bytes_at(&self.blocks, block, chunk)?;
+        element_arrays::used_of_token(bytes, token)
+    }
+
+    /// The token of a name in the name array in a chunk, the lowest that has it.
+    pub fn name_find(
+        &self,
+        block: VmHandle,
+        chunk: ChunkHandle,
+        name: &Bytes,
+    ) -> Result<Token, Fault>
+        ensures { Step self.now (Some (commands.NameFind block chunk name.now)) (reply_by (λ token. TokenIs token.0) result) self.now }
+    {
+        let bytes = bytes_at(&self.blocks, block, chunk)?;
+        name_arrays::find(bytes, name.as_slice())
+    }
+
+    /// How many references a name of the name array in a chunk has.
+    pub fn name_refs(&self, block: VmHandle, chunk: ChunkHandle, token: Token) -> Result<u32, Fault>
+        ensures { Step self.now (Some (commands.NameReferences block chunk token)) (reply_by NumberIs result) self.now }
+    {
+        let bytes = bytes_at(&self.blocks, block, chunk)?;
+        name_arrays::count_of(bytes, token)
+    }
+
+    /// The name of a token of the name array in a chunk.
+    pub fn name_text(
+        &self,
+        block: VmHandle,
+        chunk: ChunkHandle,
+        token: Token,
+    ) -> Result<&[u8], Fault>
+        ensures { Step self.now (Some (commands.NameText block chunk token)) (reply_by (λ bytes. BytesAre bytes.now) result) self.now }
+    {
+        let bytes = bytes_at(&self.blocks, block, chunk)?;
+        name_arrays::name_of(bytes, token)
+    }
+
+    /// What stands before the name of a token of the name array in a chunk.
+    pub fn name_part(
+        &self,
+        block: VmHandle,
+        chunk: ChunkHandle,
+        token: Token,
+    ) -> Result<&[u8], Fault>
+        ensures { Step self.now (Some (commands.NamePart block chunk token)) (reply_by (λ bytes. BytesAre bytes.now) result) self.now }
+    {
+        let bytes = bytes_at(&self.blocks, block, chunk)?;
+        name_arrays::data_of(bytes, token)
     }
 }

@@ -1,3 +1,4 @@
 pub mod SlotLemmas
 pub mod ChangeLemmas
+pub mod RoomLemmas
 pub mod SavedLemmas

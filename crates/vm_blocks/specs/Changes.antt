@@ -22,11 +22,11 @@ pub record AllowsChunk (m : ChunkMap) (c : ℕ) (s : Splice) : Type 0 where
   pub within : s.at + length s.old ≤ length (chunk_bytes m c)
   pub fits : IsTrue (fits_with m c (forwards s (chunk_bytes m c)))
 
--- there is room for a chunk of so many zeros under a handle that is free
-pub record AllowsNewChunk (m : ChunkMap) (c n : ℕ) : Type 0 where
+-- there is room for a chunk of these bytes under a handle that is free
+pub record AllowsNewChunk (m : ChunkMap) (c : ℕ) (bytes : List ℕ) : Type 0 where
   pub handle : IsTrue (is_chunk_handle c)
   pub free : get m c ≡ None
-  pub fits : IsTrue (fits_with m c (replicate n 0))
+  pub fits : IsTrue (fits_with m c bytes)
 
 -- a change that a body can take
 abbrev pub Allows : Change → Body → Type 0
@@ -35,7 +35,9 @@ Allows (changes.Raw s) (Heap m) = ⊥
 Allows (changes.Chunk c s) (Raw bytes) = ⊥
 Allows (changes.Chunk c s) (Heap m) = AllowsChunk m c.0 s
 Allows (changes.NewChunk c n) (Raw bytes) = ⊥
-Allows (changes.NewChunk c n) (Heap m) = AllowsNewChunk m c.0 n
+Allows (changes.NewChunk c n) (Heap m) = AllowsNewChunk m c.0 (replicate n 0)
+Allows (changes.FilledChunk c bytes) (Raw body) = ⊥
+Allows (changes.FilledChunk c bytes) (Heap m) = AllowsNewChunk m c.0 bytes
 Allows (changes.FreeChunk c) (Raw bytes) = ⊥
 Allows (changes.FreeChunk c) (Heap m) = IsTrue (contains_key m c.0)
 
@@ -47,6 +49,8 @@ changed_body (changes.Chunk c s) (Raw bytes) = Raw bytes
 changed_body (changes.Chunk c s) (Heap m) = Heap (insert m c.0 (forwards s (chunk_bytes m c.0)))
 changed_body (changes.NewChunk c n) (Raw bytes) = Raw bytes
 changed_body (changes.NewChunk c n) (Heap m) = Heap (insert m c.0 (replicate n 0))
+changed_body (changes.FilledChunk c bytes) (Raw body) = Raw body
+changed_body (changes.FilledChunk c bytes) (Heap m) = Heap (insert m c.0 bytes)
 changed_body (changes.FreeChunk c) (Raw bytes) = Raw bytes
 changed_body (changes.FreeChunk c) (Heap m) = Heap (remove m c.0)
 

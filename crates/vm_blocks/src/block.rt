@@ -1,10 +1,12 @@
 ghost use Rattle.std.specs.Prelude.{◌≡◌};
+ghost use Rattle.std.specs.FinMap.{insert};
 ghost use Rattle.geos_model.specs.declared.command.Body.TheVariants as bodies;
 ghost use Rattle.vm_blocks.specs.Blocks.{body_of};
-ghost use Rattle.vm_blocks.specs.Changes.{Allows, changed_body};
+ghost use Rattle.vm_blocks.specs.Changes.{Allows, AllowsNewChunk, changed_body};
 
 use crate::Change;
 use chunk_edits::{apply, apply_raw};
+use geos_model::ChunkHandle;
 use lmem_heap::Heap;
 use raw_region::RawBody;
 
@@ -42,7 +44,10 @@ fn change_raw(body: &mut RawBody, change: &Change)
 {
     match change {
         Change::Raw(splice) => apply_raw(body, splice),
-        Change::Chunk(_, _) | Change::NewChunk(_, _) | Change::FreeChunk(_) => unreachable!(),
+        Change::Chunk(_, _)
+        | Change::NewChunk(_, _)
+        | Change::FilledChunk(_, _)
+        | Change::FreeChunk(_) => unreachable!(),
     }
 }
 
@@ -54,7 +59,17 @@ fn change_heap(heap: &mut Heap, change: &Change)
     match change {
         Change::Chunk(chunk, splice) => apply(heap, *chunk, splice),
         Change::NewChunk(chunk, size) => heap.alloc_at(*chunk, *size),
+        Change::FilledChunk(chunk, bytes) => fill_chunk(heap, *chunk, bytes.as_slice()),
         Change::FreeChunk(chunk) => heap.free(*chunk),
         Change::Raw(_) => unreachable!(),
     }
+}
+
+/// A new chunk of these bytes, under a free handle.
+fn fill_chunk(heap: &mut Heap, chunk: ChunkHandle, bytes: &[u8])
+    requires { AllowsNewChunk heap.old chunk.0 bytes.now }
+    ensures { heap.new ≡ insert heap.old chunk.0 bytes.now }
+{
+    heap.alloc_at(chunk, bytes.len() as u32);
+    heap.write(chunk, 0, bytes);
 }

@@ -1,5 +1,5 @@
 use chunk_edits::Splice;
-use geos_model::ChunkHandle;
+use geos_model::{Bytes, ChunkHandle};
 
 /// A change of the body of a block.
 #[derive(Drop)]
@@ -10,6 +10,8 @@ pub enum Change {
     Chunk(ChunkHandle, Splice),
     /// A chunk of so many zeros comes under a free handle.
     NewChunk(ChunkHandle, u32),
+    /// A chunk of these bytes comes under a free handle.
+    FilledChunk(ChunkHandle, Bytes),
     /// A chunk goes.
     FreeChunk(ChunkHandle),
 }

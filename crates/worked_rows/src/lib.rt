@@ -2,9 +2,17 @@
 #![tactic(auto)]
 
 #[cfg(test)]
+mod array_calls;
+#[cfg(test)]
+mod arrays;
+#[cfg(test)]
 mod calls;
 #[cfg(test)]
 mod chunks;
+#[cfg(test)]
+mod element_calls;
+#[cfg(test)]
+mod elements;
 #[cfg(test)]
 mod heaps;
 #[cfg(test)]

@@ -1,0 +1,5 @@
+pub mod Rewriting
+pub mod Parts
+pub mod Reading
+pub mod Viewing
+pub mod Replacing

@@ -1,0 +1,17 @@
+-- An array with other extra bytes, and with an element or none in the place of some.
+use Rattle.std.specs.Prelude.{ℕ, List, [], ◌∷◌, ◌++◌, replicate, Option, Some, None}
+use Rattle.std.specs.List.{splice}
+use Rattle.geos_model.specs.Array.{Array}
+use Rattle.chunk_arrays.specs.declared.rewriting.NewElement.{NewElement}
+
+-- the bytes of an element that comes in
+abbrev pub bytes_of : NewElement → List ℕ
+bytes_of e = e.head.now ++ e.middle.now ++ e.tail.now ++ replicate e.zeros 0
+
+-- the element that comes in, or none
+abbrev pub elements_of : Option NewElement → List (List ℕ)
+elements_of None = []
+elements_of (Some e) = bytes_of e ∷ []
+
+abbrev pub rewritten : Array → List ℕ → ℕ → ℕ → Option NewElement → Array
+rewritten a extra from to new = record a { extra = extra; elements = splice a.elements from to (elements_of new) }

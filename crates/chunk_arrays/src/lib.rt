@@ -1,0 +1,13 @@
+//! Chunk arrays: a row of elements of one size, or of any, in the bytes of a chunk. An array is read where it lies, and an
+//! edit of it is built as a splice, without a change.
+#![tactic(auto)]
+
+mod edits;
+mod empty;
+mod rewriting;
+mod view;
+
+pub use edits::{create_bytes, delete, insert, resize, set, zero};
+pub use empty::empty_bytes;
+pub use rewriting::{NewElement, rewrite};
+pub use view::{View, check};

@@ -1,0 +1,242 @@
+ghost use Rattle.std.specs.Prelude.{◌≡◌, ◌≤◌, ◌<◌, ◌+◌, ◌-◌, ◌*◌, ◌^◌, ◌++◌, true, MatchResult, IfOk, length, take, drop, min, ◌==◌, if◌then◌else◌};
+ghost use Rattle.std.specs.List.{splice, flat_map};
+ghost use Rattle.geos_model.specs.Words.{word};
+ghost use Rattle.geos_model.specs.Array.{array_bytes, is_even, place_table, places_from};
+ghost use Rattle.geos_model.specs.ArrayEdits.{too_long};
+ghost use Rattle.chunk_edits.specs.Splicing.{Builds, Refuses};
+ghost use Rattle.chunk_arrays.specs.Rewriting.{elements_of, rewritten};
+
+use crate::View;
+use chunk_edits::{Splice, copied};
+use geos_model::{Bytes, Fault};
+use std::alloc::{AllocError, Global};
+
+/// How many bytes a chunk has at most.
+const LONGEST: usize = 65_498;
+
+/// The bytes of an element that comes into an array: three parts, one after another, and so many zeros behind them.
+#[derive(Clone, Copy)]
+pub struct NewElement<'a> {
+    pub head: &'a [u8],
+    pub middle: &'a [u8],
+    pub tail: &'a [u8],
+    pub zeros: usize,
+}
+
+/// The splice that leaves an array with these extra bytes, as many as it has, and with an element or none in the place of
+/// those from `from` to `to`. Full where its bytes would be more than any chunk has.
+pub fn rewrite(
+    alloc: Global,
+    view: &View<'_>,
+    extra: &[u8],
+    from: usize,
+    to: usize,
+    new: Option<NewElement<'_>>,
+) -> Result<Splice, Fault>
+    requires order { from ≤ to }
+    requires within { to ≤ length view.now.elements }
+    requires extra { length extra.now ≡ length view.now.extra }
+    requires even { is_even (rewritten view.now extra.now from to new) ≡ true }
+    ensures { MatchResult result
+        (λ s. Builds (too_long (array_bytes (rewritten view.now extra.now from to new.entry))) s (array_bytes view.now) (array_bytes (rewritten view.now extra.now from to new.entry)) (length (array_bytes view.now) + length (array_bytes (rewritten view.now extra.now from to new.entry))))
+        (Refuses (too_long (array_bytes (rewritten view.now extra.now from to new.entry)))) }
+{
+    let len = length_after(view, from, to, new);
+    if len > LONGEST {
+        return Err(Fault::Full);
+    }
+    let bytes = bytes_after(alloc, view, extra, from, to, new, len)?;
+    Ok(Splice {
+        at: 0,
+        old: copied(alloc, view.bytes())?,
+        new: Bytes::from_vec(bytes),
+    })
+}
+
+/// How many bytes the array has then; the greatest number where they are more.
+fn length_after(view: &View<'_>, from: usize, to: usize, new: Option<NewElement<'_>>) -> usize
+    requires order { from ≤ to }
+    requires within { to ≤ length view.now.elements }
+    ensures { result ≡ min (length (array_bytes (rewritten view.now view.now.extra from to new.entry))) (2 ^ 64 - 1) }
+{
+    let start = view.extra().len().saturating_add(8);
+    let table = table_len(view, count_after(view, from, to, new));
+    let before = view.run(0, from).len();
+    let behind = view.run(to, view.count()).len();
+    let elements = before.saturating_add(new_len(new)).saturating_add(behind);
+    start.saturating_add(table).saturating_add(elements)
+}
+
+/// How many elements the array has then; the greatest number where they are more.
+fn count_after(view: &View<'_>, from: usize, to: usize, new: Option<NewElement<'_>>) -> usize
+    requires order { from ≤ to }
+    requires within { to ≤ length view.now.elements }
+    ensures { result ≡ min (length (splice view.now.elements from to (elements_of new.entry))) (2 ^ 64 - 1) }
+{
+    let left = from + (view.count() - to);
+    match new {
+        None => left,
+        Some(_) => left.saturating_add(1),
+    }
+}
+
+/// How many bytes the table of places of so many elements has; the greatest number where they are more.
+fn table_len(view: &View<'_>, count: usize) -> usize
+    ensures { result ≡ min (if view.now.size == 0 then 2 * count else 0) (2 ^ 64 - 1) }
+{
+    if view.element_size() == 0 {
+        count.saturating_add(count)
+    } else {
+        0
+    }
+}
+
+/// How many bytes the new element has; the greatest number where they are more.
+fn new_len(new: Option<NewElement<'_>>) -> usize
+    ensures { result ≡ min (length (flat_map (λ x. x) (elements_of new.entry))) (2 ^ 64 - 1) }
+{
+    match new {
+        None => 0,
+        Some(element) => {
+            let parts = element.head.len().saturating_add(element.middle.len());
+            parts
+                .saturating_add(element.tail.len())
+                .saturating_add(element.zeros)
+        }
+    }
+}
+
+/// The array's bytes then, of which there are so many.
+fn bytes_after(
+    alloc: Global,
+    view: &View<'_>,
+    extra: &[u8],
+    from: usize,
+    to: usize,
+    new: Option<NewElement<'_>>,
+    len: usize,
+) -> Result<Vec<u8>, AllocError>
+    requires order { from ≤ to }
+    requires within { to ≤ length view.now.elements }
+    requires even { is_even (rewritten view.now extra.now from to new) ≡ true }
+    requires len { len ≡ length (array_bytes (rewritten view.now extra.now from to new)) }
+    requires fits { len ≤ 65498 }
+    ensures { IfOk result (λ out. out.items ≡ array_bytes (rewritten view.now extra.now from to new.entry)) }
+{
+    let count = count_after(view, from, to, new);
+    let start = 8 + extra.len();
+    let mut out = Vec::with_capacity(alloc, len)?;
+    push_header(&mut out, count, view.element_size(), start)?;
+    out.extend_from_slice(extra)?;
+    push_table(&mut out, start, view, from, to, new)?;
+    out.extend_from_slice(view.run(0, from))?;
+    push_new(&mut out, new)?;
+    out.extend_from_slice(view.run(to, view.count()))?;
+    Ok(out)
+}
+
+/// Adds the four words that an array begins with: how many elements of which size, and where the extra bytes end.
+pub(crate) fn push_header(
+    out: &mut Vec<u8>,
+    count: usize,
+    size: usize,
+    start: usize,
+) -> Result<(), AllocError>
+    requires count { count < 65536 }
+    requires size { size < 65536 }
+    requires start { start < 65536 }
+    ensures { IfOk result (λ _. out.new.items ≡ out.old.items ++ (word count ++ word size ++ word 0 ++ word start)) }
+{
+    push_word(out, count)?;
+    push_word(out, size)?;
+    push_word(out, 0)?;
+    push_word(out, start)
+}
+
+/// Adds the table of places, which begins at `start`, where sizes vary.
+fn push_table(
+    out: &mut Vec<u8>,
+    start: usize,
+    view: &View<'_>,
+    from: usize,
+    to: usize,
+    new: Option<NewElement<'_>>,
+) -> Result<(), AllocError>
+    requires order { from ≤ to }
+    requires within { to ≤ length view.now.elements }
+    requires fits { start + length (place_table start (rewritten view.now view.now.extra from to new)) + length (flat_map (λ x. x) (splice view.now.elements from to (elements_of new))) < 65536 }
+    ensures { IfOk result (λ _. out.new.items ≡ out.old.items ++ place_table start (rewritten view.now view.now.extra from to new.entry)) }
+{
+    if view.element_size() != 0 {
+        return Ok(());
+    }
+    let first = start + 2 * count_after(view, from, to, new);
+    let place = push_places(out, first, view, 0, from)?;
+    let behind = push_place(out, place, new)?;
+    push_places(out, behind, view, to, view.count())?;
+    Ok(())
+}
+
+/// Adds the places of the elements from one up to another, the first of them at `place`, and says where the last one ends.
+fn push_places(
+    out: &mut Vec<u8>,
+    place: usize,
+    view: &View<'_>,
+    from: usize,
+    to: usize,
+) -> Result<usize, AllocError>
+    requires order { from ≤ to }
+    requires within { to ≤ length view.now.elements }
+    requires fits { place + length (flat_map (λ x. x) (take (to - from) (drop from view.now.elements))) < 65536 }
+    ensures { IfOk result (λ next.
+        (out.new.items ≡ out.old.items ++ flat_map word (places_from place (take (to - from) (drop from view.now.elements))))
+        × (next ≡ place + length (flat_map (λ x. x) (take (to - from) (drop from view.now.elements))))) }
+{
+    let mut next = place;
+    for i in from..to {
+        push_word(out, next)?;
+        next += view.element(i).len();
+    }
+    Ok(next)
+}
+
+/// Adds the place of the new element, and says where it ends.
+fn push_place(
+    out: &mut Vec<u8>,
+    place: usize,
+    new: Option<NewElement<'_>>,
+) -> Result<usize, AllocError>
+    requires { place + length (flat_map (λ x. x) (elements_of new)) < 65536 }
+    ensures { IfOk result (λ next.
+        (out.new.items ≡ out.old.items ++ flat_map word (places_from place (elements_of new.entry)))
+        × (next ≡ place + length (flat_map (λ x. x) (elements_of new.entry)))) }
+{
+    if new.is_some() {
+        push_word(out, place)?;
+    }
+    Ok(place + new_len(new))
+}
+
+/// Adds a number as a word.
+fn push_word(out: &mut Vec<u8>, n: usize) -> Result<(), AllocError>
+    requires { n < 65536 }
+    ensures { IfOk result (λ _. out.new.items ≡ out.old.items ++ word n) }
+{
+    let word = n as u16;
+    out.extend_from_slice(word.to_le_bytes().as_slice())
+}
+
+/// Adds the bytes of the new element.
+fn push_new(out: &mut Vec<u8>, new: Option<NewElement<'_>>) -> Result<(), AllocError>
+    requires { length out.old.items + length (flat_map (λ x. x) (elements_of new)) < 2 ^ 64 }
+    ensures { IfOk result (λ _. out.new.items ≡ out.old.items ++ flat_map (λ x. x) (elements_of new.entry)) }
+{
+    let Some(element) = new else {
+        return Ok(());
+    };
+    out.extend_from_slice(element.head)?;
+    out.extend_from_slice(element.middle)?;
+    out.extend_from_slice(element.tail)?;
+    let len = out.len() + element.zeros;
+    out.resize(len, 0)
+}

@@ -1,0 +1,177 @@
+ghost use Rattle.std.specs.Prelude.{◌≡◌, ◌<◌, ◌≤◌, ◌+◌, ◌-◌, ◌↔◌, Some, None, [], true, IsTrue, MatchResult, length, take, drop, get_or};
+ghost use Rattle.std.specs.List.{flat_map};
+ghost use Rattle.geos_model.specs.Words.{word_at};
+ghost use Rattle.geos_model.specs.Array.{array_bytes, array_of, is_even};
+ghost use Rattle.chunk_arrays.specs.Parts.{IsTable, HasElements};
+ghost use Rattle.chunk_arrays.specs.Reading.{place_of};
+
+use byteorder::{ByteOrder, LittleEndian};
+use geos_model::Fault;
+use std::marker::Model;
+
+/// A chunk array, read where it lies. Contracts see it as the array.
+#[derive(Drop)]
+pub struct View<'a> {
+    bytes: &'a [u8],
+    /// How many elements there are.
+    count: usize,
+    /// How many bytes each has, 0 where sizes vary.
+    size: usize,
+    /// Where the extra bytes end.
+    start: usize,
+}
+
+impl<'a> Model for View<'a> {
+    ghost use Rattle.geos_model.specs.Array.{Array, array_read};
+
+    ghost Value = { Array };
+
+    ghost use Rattle.chunk_arrays.specs.Viewing.{IsView};
+
+    ghost view = { λ v. array_read v.bytes.now };
+
+    ghost invariant = { IsView };
+}
+
+/// The array that these bytes are: a header of four words, extra bytes, and elements without gaps. NotArray where they are
+/// none. It takes time in proportion to the number of elements, and no memory.
+pub fn check(bytes: &[u8]) -> Result<View<'_>, Fault>
+    ensures { MatchResult result (λ view. array_of bytes.now ≡ Some view) (λ fault. (fault ≡ Fault.NotArray) × (array_of bytes.now ≡ None)) }
+{
+    if bytes.len() < 8 {
+        return Err(Fault::NotArray);
+    }
+    let count = word(bytes, 0);
+    let size = word(bytes, 2);
+    let third = word(bytes, 4);
+    let start = word(bytes, 6);
+    if third != 0 || start < 8 || bytes.len() < start {
+        return Err(Fault::NotArray);
+    }
+    if !has_elements(bytes, count, size, start) {
+        return Err(Fault::NotArray);
+    }
+    Ok(View {
+        bytes,
+        count,
+        size,
+        start,
+    })
+}
+
+/// The word at a place.
+fn word(bytes: &[u8], at: usize) -> usize
+    requires { at + 2 ≤ length bytes.now }
+    ensures value { result ≡ word_at bytes.now at }
+    ensures bound { result < 65536 }
+{
+    usize::from(LittleEndian::read_u16(&bytes[at..]))
+}
+
+/// Whether elements fill the bytes from `start` on.
+fn has_elements(bytes: &[u8], count: usize, size: usize, start: usize) -> bool
+    requires start { start ≤ length bytes.now }
+    requires words { (count < 65536) × (size < 65536) × (start < 65536) }
+    ensures { IsTrue result ↔ HasElements bytes.now count size start }
+{
+    if size == 0 {
+        has_table(bytes, count, start)
+    } else {
+        bytes.len() - start == count * size
+    }
+}
+
+/// Whether a table of places begins at `start`, and the elements fill the bytes from there on.
+fn has_table(bytes: &[u8], count: usize, start: usize) -> bool
+    requires start { start ≤ length bytes.now }
+    requires words { (count < 65536) × (start < 65536) }
+    ensures { IsTrue result ↔ IsTable bytes.now count start }
+{
+    let len = bytes.len();
+    if count == 0 {
+        return len == start;
+    }
+    let end = start + 2 * count;
+    if len < end {
+        return false;
+    }
+    let mut last = word(bytes, start);
+    if last != end {
+        return false;
+    }
+    for i in 1..count {
+        let next = word(bytes, start + 2 * i);
+        if next < last || len < next {
+            return false;
+        }
+        last = next;
+    }
+    true
+}
+
+impl<'a> View<'a> {
+    /// How many elements there are.
+    pub fn count(&self) -> usize
+        ensures value { result ≡ length self.now.elements }
+        ensures short { result < 65536 }
+    {
+        self.count
+    }
+
+    /// How many bytes each element has, 0 where sizes vary.
+    pub fn element_size(&self) -> usize
+        ensures { result ≡ self.now.size }
+    {
+        self.size
+    }
+
+    /// The bytes of an element.
+    pub fn element(&self, i: usize) -> &'a [u8]
+        requires { i < length self.now.elements }
+        ensures { result.now ≡ get_or self.now.elements i [] }
+    {
+        // an array has so few elements that the next place is a number
+        let _ = &self.count;
+        self.run(i, i + 1)
+    }
+
+    /// The extra bytes.
+    pub fn extra(&self) -> &'a [u8]
+        ensures { result.now ≡ self.now.extra }
+    {
+        &self.bytes[8..self.start]
+    }
+
+    /// All bytes of the array.
+    pub fn bytes(&self) -> &'a [u8]
+        ensures value { result.now ≡ array_bytes self.now }
+        ensures even { is_even self.now ≡ true }
+    {
+        self.bytes
+    }
+
+    /// The bytes of the elements from one up to another, one after another.
+    pub(crate) fn run(&self, from: usize, to: usize) -> &'a [u8]
+        requires order { from ≤ to }
+        requires within { to ≤ length self.now.elements }
+        ensures { result.now ≡ flat_map (λ x. x) (take (to - from) (drop from self.now.elements)) }
+    {
+        let start = self.place(from);
+        let end = self.place(to);
+        &self.bytes[start..end]
+    }
+
+    /// Where an element begins, or where the last one ends.
+    fn place(&self, i: usize) -> usize
+        requires { i ≤ length self.now.elements }
+        ensures { result ≡ place_of self.now i }
+    {
+        if i == self.count {
+            self.bytes.len()
+        } else if self.size == 0 {
+            word(self.bytes, self.start + 2 * i)
+        } else {
+            self.start + i * self.size
+        }
+    }
+}

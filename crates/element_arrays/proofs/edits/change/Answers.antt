@@ -1,0 +1,57 @@
+use Rattle.std.proofs.Common.{◌≡◌, ℕ, List, [], ◌++◌, refl, sym, ap, ◌∙◌, append-nil}
+use Rattle.geos_model.specs.ArrayEdits.{is_missized}
+use Rattle.geos_model.specs.ElementArray.{Slots, element_bytes}
+use Rattle.geos_model.specs.ElementEdits.{element_changed, with_element, count_at, change_conditions}
+use Rattle.geos_model.specs.declared.fault.Fault.TheVariants.{NotArray, NoElement, Range}
+use Rattle.element_arrays.specs.Slotted.{slotted_bytes, with_slots}
+use Rattle.element_arrays.specs.Used.{used_element}
+use Rattle.element_arrays.proofs.Found.{elements_are, is_read_sound, new_bytes}
+use Rattle.element_arrays.proofs.UsedElements.{counted, bounded, count_at-is, whole_element}
+use Rattle.element_arrays.proofs.Replacing.{carried, refuses_own, slots_handed_on}
+use Rattle.element_arrays.proofs.edits.change.Goals as goal
+
+pub returns-in_err-slots : goal.returns-in_err-slots
+returns-in_err-slots c =
+    let fault = c.in_err-slots.field-0.0 in
+    carried c.from_residual.result _ _ fault c.from_residual.ensures.1
+    (refuses_own (change_conditions c.args.bytes.now c.args.token.0 c.args.element.now) _ NotArray fault c.in_err-slots.ensures.0 refl (rw c.in_err-slots.ensures.1 refl))
+
+pub returns-in_err-used : goal.returns-in_err-used
+returns-in_err-used c =
+    let fault = c.in_err-used.field-0.0 in
+    carried c.from_residual-in_err-used.result _ _ fault c.from_residual-in_err-used.ensures.1
+    (refuses_own (change_conditions c.args.bytes.now c.args.token.0 c.args.element.now) _ NoElement fault c.in_err-used.ensures.0 refl (rw (c.in_ok-slots.ensures.0, c.in_err-used.ensures.1) refl))
+
+pub returns-then-has_other_size : goal.returns-then-has_other_size
+returns-then-has_other_size c =
+    let missized = sym c.has_other_size.ensures ∙ c.if-has_other_size.true in
+    refuses_own (change_conditions c.args.bytes.now c.args.token.0 c.args.element.now) _ Range Range refl refl (rw (c.in_ok-slots.ensures.0, c.in_ok-used.ensures, missized) refl)
+
+pub with_element-requires-clause-counted : goal.with_element-requires-clause-counted
+with_element-requires-clause-counted c =
+    counted c.in_ok-slots.slots.slots (is_read_sound c.args.bytes.now c.in_ok-slots.slots c.in_ok-slots.ensures) c.args.token.0 (used_element c.in_ok-used.used) c.in_ok-used.ensures
+
+pub with_element-requires-clause-bounded : goal.with_element-requires-clause-bounded
+with_element-requires-clause-bounded c =
+    bounded c.in_ok-slots.slots.slots (is_read_sound c.args.bytes.now c.in_ok-slots.slots c.in_ok-slots.ensures) c.args.token.0 (used_element c.in_ok-used.used) c.in_ok-used.ensures
+
+pub with_element-requires-clause-sized : goal.with_element-requires-clause-sized
+with_element-requires-clause-sized c =
+    ap (is_missized c.in_ok-slots.slots.slots.size) (append-nil c.args.element.now) ∙ sym c.has_other_size.ensures ∙ c.if-has_other_size.false
+
+pub returns : goal.returns
+returns c =
+    let bytes : List ℕ = c.args.bytes.now in
+    let element : List ℕ = c.args.element.now in
+    let t : ℕ = c.args.token.0 in
+    let s = c.in_ok-slots.slots in
+    let read = c.in_ok-slots.ensures in
+    let e = used_element c.in_ok-used.used in
+    let at = c.in_ok-used.ensures in
+    let fits = sym c.has_other_size.ensures ∙ c.if-has_other_size.false in
+    let new : Slots = with_element s.slots t e.count (element ++ []) in
+    let same : new ≡ with_element s.slots t (count_at s.slots t) element = whole_element s.slots t e.count _ element element (sym (count_at-is s.slots t e at)) refl in
+    let to_is : slotted_bytes (with_slots s new) ≡ element_changed bytes t element =
+    new_bytes bytes s read new ∙ ap element_bytes same ∙ ap (λ (x : Slots). element_bytes (with_element x t (count_at x t) element)) (sym (elements_are bytes s read)) in
+    slots_handed_on (change_conditions bytes t element) s new bytes (element_changed bytes t element)
+    (rw (read.0, at, fits) refl) read.1 to_is c.with_element.result c.with_element.ensures

@@ -1,0 +1,5 @@
+pub mod Slotted
+pub mod Used
+pub mod Answering
+pub mod Tested
+pub mod Referencing

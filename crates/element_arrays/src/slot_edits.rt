@@ -1,0 +1,131 @@
+ghost use Rattle.std.specs.Prelude.{◌≡◌, ◌≤◌, ◌++◌, ◌∷◌, [], true, false, is_some, length, take, drop, IfOk, MatchOption, MatchResult};
+ghost use Rattle.geos_model.specs.ArrayEdits.{is_missized};
+ghost use Rattle.geos_model.specs.ElementArray.{element_at, greatest_count, is_sound};
+ghost use Rattle.geos_model.specs.ElementEdits.{with_element, without_element, with_new};
+ghost use Rattle.element_arrays.specs.Slotted.{GivesSlots, RefusesSlots};
+
+use crate::SlotView;
+use byteorder::{ByteOrder, LittleEndian};
+use chunk_arrays::{NewElement, rewrite};
+use chunk_edits::Splice;
+use geos_model::{Fault, Token};
+use std::alloc::{AllocError, Global};
+
+impl<'a> SlotView<'a> {
+    /// The splice that gives a used element this count and these bytes, in two parts. Full where the array would be longer
+    /// than any chunk.
+    pub fn with_element(
+        &self,
+        alloc: Global,
+        token: Token,
+        count: u32,
+        head: &[u8],
+        tail: &[u8],
+    ) -> Result<Splice, Fault>
+        requires used { is_some (element_at self.now.slots token.0) ≡ true }
+        requires counted { 1 ≤ count }
+        requires bounded { count ≤ greatest_count }
+        requires sized { is_missized self.now.slots.size (head.now ++ tail.now) ≡ false }
+        ensures { MatchResult result
+            (GivesSlots self.now (with_element self.now.slots token.0 count (head.now ++ tail.now)))
+            (RefusesSlots self.now (with_element self.now.slots token.0 count (head.now ++ tail.now))) }
+    {
+        let array = self.array();
+        let at = usize::from(token.0);
+        let number = count.to_le_bytes();
+        let element = NewElement {
+            head: &number[..3],
+            middle: head,
+            tail,
+            zeros: 0,
+        };
+        rewrite(alloc, array, array.extra(), at, at + 1, Some(element))
+    }
+
+    /// The splice that frees a used element. Full where the array would still be longer than any chunk.
+    pub fn without_element(&self, alloc: Global, token: Token) -> Result<Splice, Fault>
+        requires { is_some (element_at self.now.slots token.0) ≡ true }
+        ensures { MatchResult result
+            (GivesSlots self.now (without_element self.now.slots token.0))
+            (RefusesSlots self.now (without_element self.now.slots token.0)) }
+    {
+        let array = self.array();
+        let at = usize::from(token.0);
+        let number = token.0.to_le_bytes();
+        let extra = self.extra_with(alloc, &number)?;
+        let element = NewElement {
+            head: first_word(array.extra()),
+            middle: &[0xFF],
+            tail: &[],
+            zeros: self.element_size(),
+        };
+        rewrite(alloc, array, &extra, at, at + 1, Some(element))
+    }
+
+    /// The splice that brings a new element of one reference and these bytes, in two parts, and its token: the newest free
+    /// one, else the next. Full where the array would be longer than any chunk.
+    pub fn with_new(
+        &self,
+        alloc: Global,
+        head: &[u8],
+        tail: &[u8],
+    ) -> Result<(Splice, Token), Fault>
+        requires { is_missized self.now.slots.size (head.now ++ tail.now) ≡ false }
+        ensures { MatchResult result
+            (λ made. GivesSlots self.now (with_new self.now.slots (head.now ++ tail.now)).0 made.0 × (made.1.0 ≡ (with_new self.now.slots (head.now ++ tail.now)).1))
+            (RefusesSlots self.now (with_new self.now.slots (head.now ++ tail.now)).0) }
+    {
+        let array = self.array();
+        let element = NewElement {
+            head: &[1, 0, 0],
+            middle: head,
+            tail,
+            zeros: 0,
+        };
+        match self.newest_free() {
+            None => {
+                let len = self.len();
+                let splice = rewrite(alloc, array, array.extra(), len, len, Some(element))?;
+                Ok((splice, Token(len as u16)))
+            }
+            Some(token) => {
+                let at = usize::from(token.0);
+                let extra = self.extra_with(alloc, first_word(array.element(at)))?;
+                let splice = rewrite(alloc, array, &extra, at, at + 1, Some(element))?;
+                Ok((splice, token))
+            }
+        }
+    }
+
+    /// The newest free token, if any is free.
+    fn newest_free(&self) -> Option<Token>
+        ensures newest { MatchOption result (self.now.slots.free ≡ []) (λ t. self.now.slots.free ≡ t.0 ∷ drop 1 self.now.slots.free) }
+        ensures sound { is_sound self.now.slots ≡ true }
+    {
+        let first = LittleEndian::read_u16(self.array().extra());
+        if usize::from(first) < self.len() {
+            Some(Token(first))
+        } else {
+            None
+        }
+    }
+
+    /// The extra bytes with another word as the first.
+    fn extra_with(&self, alloc: Global, word: &[u8]) -> Result<Vec<u8>, AllocError>
+        ensures { IfOk result (λ extra. extra.items ≡ word.now ++ self.now.more) }
+    {
+        let more = self.more();
+        let mut extra = Vec::with_capacity(alloc, word.len() + more.len())?;
+        extra.extend_from_slice(word)?;
+        extra.extend_from_slice(more)?;
+        Ok(extra)
+    }
+}
+
+/// The first two bytes.
+fn first_word(bytes: &[u8]) -> &[u8]
+    requires { 2 ≤ length bytes.now }
+    ensures { result.now ≡ take 2 bytes.now }
+{
+    &bytes[..2]
+}

@@ -1,0 +1,251 @@
+ghost use Rattle.std.specs.Prelude.{◌≡◌, ℕ, ◌==◌, ◌<◌, ◌≤◌, ◌+◌, None, Some, [], true, false, is_some, MatchOption, MatchResult, count_by, length, drop, get_or, slice_index};
+ghost use Rattle.std.specs.List.{list_all};
+ghost use Rattle.std.specs.Option.{option_map};
+ghost use Rattle.geos_model.specs.Bytes.{same_bytes};
+ghost use Rattle.geos_model.specs.Words.{word_at};
+ghost use Rattle.geos_model.specs.Array.{is_even};
+ghost use Rattle.geos_model.specs.ElementArray.{slots_of, element_at, is_sound};
+ghost use Rattle.geos_model.specs.ElementEdits.{token_of};
+ghost use Rattle.element_arrays.specs.Slotted.{slotted_array, slotted_bytes};
+ghost use Rattle.element_arrays.specs.Tested.{IsRead, is_freed, is_freed_at, is_slot, is_walk};
+ghost use Rattle.element_arrays.specs.Used.{used_element};
+
+use byteorder::{ByteOrder, LittleEndian};
+use chunk_arrays::View;
+use geos_model::{Fault, Token};
+use std::marker::Model;
+
+/// The third byte of a free element, and of no count.
+const FREE: u8 = 0xFF;
+
+/// The link of the last free element.
+const NO_TOKEN: u16 = 0xFFFF;
+
+/// A used element: how many references it has, and its bytes.
+#[derive(Clone, Copy)]
+pub struct Used<'a> {
+    pub count: u32,
+    pub bytes: &'a [u8],
+}
+
+/// The slots of an element array or a name array, read where they lie. Contracts see the slots, and the extra bytes behind
+/// the newest free token.
+#[derive(Drop)]
+pub struct SlotView<'a> {
+    view: View<'a>,
+}
+
+impl<'a> Model for SlotView<'a> {
+    ghost use Rattle.std.specs.Prelude.{◌≡◌, true, drop};
+    ghost use Rattle.element_arrays.specs.Slotted.{Slotted};
+    ghost use Rattle.geos_model.specs.ElementArray.{slots_read, slots_array, is_sound};
+
+    ghost Value = { Slotted };
+
+    ghost view = { λ v. record { more = drop 2 v.view.extra; slots = slots_read v.view } };
+
+    ghost invariant = { λ v. (slots_array (drop 2 v.view.extra) (slots_read v.view) ≡ v.view) × (is_sound (slots_read v.view) ≡ true) };
+}
+
+/// The slots of an array that has so many extra bytes, at least two. NotArray where it is none of slots. It takes time in
+/// proportion to the array's bytes, and no memory.
+pub fn slots_in<'a>(view: View<'a>, extra: usize) -> Result<SlotView<'a>, Fault>
+    requires { 2 ≤ extra }
+    ensures { MatchResult result
+        (λ s. (slots_of extra view.entry ≡ Some s.slots) × (slotted_array s ≡ view.entry) × (length s.more + 2 ≡ extra))
+        (λ fault. (fault ≡ Fault.NotArray) × (slots_of extra view.entry ≡ None)) }
+{
+    if are_slots(&view, extra) {
+        Ok(SlotView { view })
+    } else {
+        Err(Fault::NotArray)
+    }
+}
+
+/// Whether an array with so many extra bytes is one of slots.
+fn are_slots(view: &View<'_>, extra: usize) -> bool
+    requires { 2 ≤ extra }
+    ensures { result ≡ is_some (slots_of extra view.now) }
+{
+    array_law(view);
+    let bytes = view.extra();
+    let size = view.element_size();
+    if bytes.len() != extra {
+        return false;
+    }
+    // Elements of one size have a byte at least behind the count.
+    if 0 < size && size < 4 {
+        return false;
+    }
+    let first = LittleEndian::read_u16(bytes);
+    match count_free(view, size.saturating_sub(3)) {
+        Some(free) => is_walk(view, first, free),
+        None => false,
+    }
+}
+
+/// What holds of the array of each view. It does nothing.
+fn array_law(view: &View<'_>)
+    ensures { IsRead view.now }
+{
+    let _count = view.count();
+    bytes_law(view.bytes());
+}
+
+/// What holds of all bytes. It does nothing.
+fn bytes_law(bytes: &[u8])
+    ensures { (i : ℕ) → slice_index bytes.now i < 256 }
+{}
+
+/// How many elements are free, if the bytes of each are those of a slot.
+fn count_free(view: &View<'_>, size: usize) -> Option<usize>
+    ensures { MatchOption result
+        (list_all (is_slot size) view.now.elements ≡ false)
+        (λ free. (list_all (is_slot size) view.now.elements ≡ true) × (free ≡ count_by is_freed view.now.elements)) }
+{
+    let mut free = 0;
+    for i in 0..view.count() {
+        let bytes = view.element(i);
+        if !is_slot(bytes, size) {
+            return None;
+        }
+        if bytes[2] == FREE {
+            free += 1;
+        }
+    }
+    Some(free)
+}
+
+/// Whether these are the bytes of a slot, where each has so many behind the first three, 0 where sizes vary.
+fn is_slot(bytes: &[u8], size: usize) -> bool
+    ensures { result ≡ is_slot size bytes.now }
+{
+    if bytes.len() < 3 {
+        return false;
+    }
+    if bytes[2] == FREE {
+        bytes.len() - 3 == size && are_zeros(&bytes[3..])
+    } else {
+        LittleEndian::read_u24(bytes) != 0
+    }
+}
+
+/// Whether each byte is 0.
+fn are_zeros(bytes: &[u8]) -> bool
+    ensures { result ≡ list_all (λ b. b == 0) bytes.now }
+{
+    bytes.iter().all(|b| *b == 0)
+}
+
+/// Whether from a token on so many links lead over free elements to the end. A walk that ends meets no token twice, so one
+/// of as many steps as there are free elements meets each of them.
+fn is_walk(view: &View<'_>, first: u16, steps: usize) -> bool
+    ensures { result ≡ is_walk steps view.now.elements first }
+{
+    let mut token = first;
+    for _ in 0..steps {
+        match link_of(view, token) {
+            Some(next) => token = next,
+            None => return false,
+        }
+    }
+    token == NO_TOKEN
+}
+
+/// The token after this one, if this one's element is free.
+fn link_of(view: &View<'_>, token: u16) -> Option<u16>
+    ensures { MatchOption result
+        (is_freed_at view.now.elements token ≡ false)
+        (λ next. (is_freed_at view.now.elements token ≡ true) × (next ≡ word_at (get_or view.now.elements token []) 0)) }
+{
+    let i = usize::from(token);
+    if view.count() <= i {
+        return None;
+    }
+    let bytes = view.element(i);
+    if bytes.len() < 3 || bytes[2] != FREE {
+        return None;
+    }
+    Some(LittleEndian::read_u16(bytes))
+}
+
+impl<'a> SlotView<'a> {
+    /// How many tokens there are, used and free.
+    pub fn len(&self) -> usize
+        ensures value { result ≡ length self.now.slots.slots }
+        ensures short { result < 65536 }
+        ensures sound { is_sound self.now.slots ≡ true }
+    {
+        self.view.count()
+    }
+
+    /// How many bytes each element has, 0 where sizes vary.
+    pub fn element_size(&self) -> usize
+        ensures { result ≡ self.now.slots.size }
+    {
+        self.view.element_size().saturating_sub(3)
+    }
+
+    /// The extra bytes behind the newest free token.
+    pub fn more(&self) -> &'a [u8]
+        ensures { result.now ≡ self.now.more }
+    {
+        &self.view.extra()[2..]
+    }
+
+    /// All bytes of the array.
+    pub fn bytes(&self) -> &'a [u8]
+        ensures { result.now ≡ slotted_bytes self.now }
+    {
+        self.view.bytes()
+    }
+
+    /// The array that the slots are.
+    pub(crate) fn array(&self) -> &View<'a>
+        ensures value { result.now ≡ slotted_array self.now }
+        ensures even { is_even (slotted_array self.now) ≡ true }
+    {
+        // That the array is even is said where its bytes are read.
+        let _ = self.view.bytes();
+        &self.view
+    }
+
+    /// The element of a token, if it is used.
+    pub fn element(&self, token: Token) -> Option<Used<'a>>
+        ensures { option_map used_element result ≡ element_at self.now.slots token.0 }
+    {
+        let i = usize::from(token.0);
+        if self.view.count() <= i {
+            return None;
+        }
+        let bytes = self.view.element(i);
+        if bytes[2] == FREE {
+            return None;
+        }
+        Some(Used {
+            count: LittleEndian::read_u24(bytes),
+            bytes: &bytes[3..],
+        })
+    }
+
+    /// The lowest token whose element has these bytes behind its first `skip` ones.
+    pub fn find(&self, skip: usize, bytes: &[u8]) -> Option<Token>
+        ensures { option_map (λ t. t.0) result ≡ token_of (λ e. same_bytes (drop skip e.bytes) bytes.now) self.now.slots }
+    {
+        for t in 0..self.len() as u16 {
+            if let Some(used) = self.element(Token(t))
+                && behind(used.bytes, skip) == bytes
+            {
+                return Some(Token(t));
+            }
+        }
+        None
+    }
+}
+
+/// The bytes behind so many, none where there are fewer.
+fn behind(bytes: &[u8], skip: usize) -> &[u8]
+    ensures { result.now ≡ drop skip bytes.now }
+{
+    &bytes[skip.min(bytes.len())..]
+}

@@ -1,0 +1,130 @@
+ghost use Rattle.std.specs.Prelude.{◌≡◌, None, true, is_some, MatchResult};
+ghost use Rattle.geos_model.specs.ElementArray.{element_at};
+ghost use Rattle.element_arrays.specs.Slotted.{slotted_bytes};
+ghost use Rattle.name_arrays.specs.Reading.{named_array};
+ghost use Rattle.name_arrays.specs.Referencing.{referenced, referencing};
+ghost use Rattle.geos_model.specs.Refusal.{first_refusal};
+ghost use Rattle.geos_model.specs.NameArray.{name_bytes};
+ghost use Rattle.geos_model.specs.NameEdits.{no_names, name_added, name_token_added, name_changed, name_reference_removed, on_name_token, create_names_conditions, add_name_conditions, change_name_conditions};
+ghost use Rattle.chunk_edits.specs.Splicing.{Refuses};
+ghost use Rattle.chunk_arrays.specs.Replacing.{Replaces, RefusesToReplace};
+
+use crate::names::{GREATEST_PART, Names, is_name, read};
+use chunk_arrays::empty_bytes;
+use chunk_edits::Splice;
+use geos_model::{Fault, Token};
+use std::alloc::Global;
+
+/// How many references a name has at most.
+const GREATEST_COUNT: u32 = 0xFE_FFFF;
+
+/// The bytes of a name array without names: how many bytes the part before each name has. Range past 64.
+pub fn create_bytes(alloc: Global, part: u32) -> Result<Vec<u8>, Fault>
+    ensures { MatchResult result
+        (λ bytes. (first_refusal (create_names_conditions part) ≡ None) × (bytes.items ≡ name_bytes (no_names part)))
+        (Refuses (create_names_conditions part)) }
+{
+    if part as usize > GREATEST_PART {
+        return Err(Fault::Range);
+    }
+    // no token is free, and the part's size is a word
+    let extra = [0xFF, 0xFF, part as u8, 0];
+    Ok(empty_bytes(alloc, 0, &extra)?)
+}
+
+/// The splice that gives a name that is there, the lowest such, one more reference, and this part if `replace` says so; or
+/// else brings a new one; and its token. NotArray; CountFull where the name has as many references as any can have; Range
+/// where the name has no byte or more than 256, or the part isn't as long as the array's are; Full where the array would be
+/// longer than any chunk.
+pub fn add(
+    alloc: Global,
+    bytes: &[u8],
+    name: &[u8],
+    part: &[u8],
+    replace: bool,
+) -> Result<(Splice, Token), Fault>
+    ensures { MatchResult result
+        (λ made. Replaces (add_name_conditions bytes.now name.now part.now) bytes.now (name_added bytes.now name.now part.now replace) made.0 × (made.1.0 ≡ name_token_added bytes.now name.now part.now replace))
+        (RefusesToReplace (add_name_conditions bytes.now name.now part.now) (name_added bytes.now name.now part.now replace)) }
+{
+    let names = read(bytes)?;
+    match names.find(name) {
+        Some(token) => {
+            let splice = with_reference(alloc, &names, token, part, replace)?;
+            Ok((splice, token))
+        }
+        None => {
+            if !is_name(name) || part.len() != names.part {
+                return Err(Fault::Range);
+            }
+            names.slots.with_new(alloc, part, name)
+        }
+    }
+}
+
+/// The splice that gives a token another name; its part and references stay. NotArray, NoElement; NameInUse where another
+/// token has the name, and this one hasn't; Range where the name has no byte or more than 256; Full where the array would be
+/// longer than any chunk.
+pub fn change_name(alloc: Global, bytes: &[u8], token: Token, name: &[u8]) -> Result<Splice, Fault>
+    ensures { MatchResult result
+        (Replaces (change_name_conditions bytes.now token.0 name.now) bytes.now (name_changed bytes.now token.0 name.now))
+        (RefusesToReplace (change_name_conditions bytes.now token.0 name.now) (name_changed bytes.now token.0 name.now)) }
+{
+    let names = read(bytes)?;
+    let old = names.name(token)?;
+    if old.text != name && names.find(name).is_some() {
+        return Err(Fault::NameInUse);
+    }
+    if !is_name(name) {
+        return Err(Fault::Range);
+    }
+    names
+        .slots
+        .with_element(alloc, token, old.count, old.part, name)
+}
+
+/// The splice that takes a reference of a name, which is freed with the last one. NotArray, NoElement; Full where the array
+/// is longer than any chunk.
+pub fn remove_ref(alloc: Global, bytes: &[u8], token: Token) -> Result<Splice, Fault>
+    ensures { MatchResult result
+        (Replaces (on_name_token bytes.now token.0) bytes.now (name_reference_removed bytes.now token.0))
+        (RefusesToReplace (on_name_token bytes.now token.0) (name_reference_removed bytes.now token.0)) }
+{
+    let names = read(bytes)?;
+    let old = names.name(token)?;
+    if old.count == 1 {
+        names.slots.without_element(alloc, token)
+    } else {
+        names
+            .slots
+            .with_element(alloc, token, old.count - 1, old.part, old.text)
+    }
+}
+
+/// The splice that gives a used name one more reference, and this part if `replace` says so. CountFull where the name has as
+/// many references as any can have; Range where the part isn't as long as the array's are; Full where the array would be
+/// longer than any chunk.
+fn with_reference(
+    alloc: Global,
+    names: &Names<'_>,
+    token: Token,
+    part: &[u8],
+    replace: bool,
+) -> Result<Splice, Fault>
+    requires { is_some (element_at names.now.slots.slots token.0) ≡ true }
+    ensures { MatchResult result
+        (Replaces (referencing (named_array names.now.slots names.now.part) part.now token.0) (slotted_bytes names.now.slots) (referenced (named_array names.now.slots names.now.part) part.now replace token.0))
+        (RefusesToReplace (referencing (named_array names.now.slots names.now.part) part.now token.0) (referenced (named_array names.now.slots names.now.part) part.now replace token.0)) }
+{
+    let old = names.name(token)?;
+    if old.count == GREATEST_COUNT {
+        return Err(Fault::CountFull);
+    }
+    if part.len() != names.part {
+        return Err(Fault::Range);
+    }
+    let head = if replace { part } else { old.part };
+    names
+        .slots
+        .with_element(alloc, token, old.count + 1, head, old.text)
+}

@@ -1,0 +1,9 @@
+//! Name arrays: names under tokens that never change, each with a count of references and a part of one size, in a chunk array.
+#![tactic(auto)]
+
+mod edits;
+mod look_ups;
+mod names;
+
+pub use edits::{add, change_name, create_bytes, remove_ref};
+pub use look_ups::{count_of, data_of, find, name_of};

@@ -1,0 +1,35 @@
+use Rattle.std.proofs.Common.{Some, Err, refl, sym, ap, ◌∙◌, arith}
+use Rattle.geos_model.specs.ArrayEdits.{on_element}
+use Rattle.geos_model.specs.Refusal.{first_refusal}
+use Rattle.geos_model.specs.Reply.{NumberIs}
+use Rattle.geos_model.specs.Machine.{Machine, machine_conditions}
+use Rattle.geos_model.specs.Meaning.{chunk_at}
+use Rattle.geos_model.specs.declared.command.Command.TheVariants as commands
+use Rattle.geos_model.specs.declared.fault.Fault.TheVariants.{NoElement}
+use Rattle.undo_log.proofs.ArrayLookUps.{element_of_none, no_such_element, element_answers}
+use Rattle.undo_log.proofs.Refusals.{refused_look_up}
+use Rattle.undo_log.proofs.session.Session.array_element.Goals as goal
+
+pub returns-in_err-bytes : goal.returns-in_err-bytes
+returns-in_err-bytes c =
+    let b = c.args.block in let chunk = c.args.chunk in let i = c.args.i in
+    refused_look_up c.args.self.now (commands.ArrayElement b chunk i) _ c.from_residual.result c.in_err-bytes.field-0.0 c.from_residual.ensures.1
+    (ap (λ (m : Machine). first_refusal (machine_conditions (Some (commands.ArrayElement b chunk i)) m)) (sym c.self.view_is) ∙ c.in_err-bytes.ensures (on_element (chunk_at c.self.inside.blocks b.0 chunk.0) i) refl)
+
+pub returns-in_err-view : goal.returns-in_err-view
+returns-in_err-view c =
+    let m = c.args.self.now in let b = c.args.block in let chunk = c.args.chunk in let i = c.args.i in
+    refused_look_up m (commands.ArrayElement b chunk i) _ c.from_residual-in_err-view.result c.in_err-view.field-0.0 c.from_residual-in_err-view.ensures.1
+    (element_of_none m c.self.inside.blocks (ap (λ (x : Machine). x.document) c.self.view_is) b chunk c.in_ok-bytes.bytes.now c.in_ok-bytes.ensures i c.in_err-view.ensures.1 ∙ ap Some (sym c.in_err-view.ensures.0))
+
+pub returns-then-i-count : goal.returns-then-i-count
+returns-then-i-count c =
+    let m = c.args.self.now in let b = c.args.block in let chunk = c.args.chunk in let i = c.args.i in
+    refused_look_up m (commands.ArrayElement b chunk i) NumberIs (Err NoElement) NoElement refl
+    (no_such_element m c.self.inside.blocks (ap (λ (x : Machine). x.document) c.self.view_is) b chunk c.in_ok-bytes.bytes.now c.in_ok-bytes.ensures c.in_ok-view.view c.in_ok-view.ensures i (omega (arith, c.count.ensures.value, c.if-i-count.true)))
+
+pub returns : goal.returns
+returns c =
+    let m = c.args.self.now in let b = c.args.block in let chunk = c.args.chunk in let i = c.args.i in
+    element_answers m c.self.inside.blocks (ap (λ (x : Machine). x.document) c.self.view_is) b chunk c.in_ok-bytes.bytes.now c.in_ok-bytes.ensures c.in_ok-view.view c.in_ok-view.ensures i c.element.result.now
+    (omega (arith, c.count.ensures.value, c.if-i-count.false)) c.element.ensures

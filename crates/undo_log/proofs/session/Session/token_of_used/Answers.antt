@@ -1,0 +1,21 @@
+use Rattle.std.proofs.Common.{Some, refl, sym, ap, ◌∙◌, get_or}
+use Rattle.geos_model.specs.ElementEdits.{elements_in, on_used, used_from}
+use Rattle.geos_model.specs.Refusal.{first_refusal}
+use Rattle.geos_model.specs.Reply.{TokenIs}
+use Rattle.geos_model.specs.Machine.{Machine, machine_conditions}
+use Rattle.geos_model.specs.Meaning.{chunk_at}
+use Rattle.geos_model.specs.declared.command.Command.TheVariants as commands
+use Rattle.undo_log.proofs.ArrayLookUps.{answered}
+use Rattle.undo_log.proofs.Refusals.{refused_look_up}
+use Rattle.undo_log.proofs.session.Session.token_of_used.Goals as goal
+
+pub returns-in_err-bytes : goal.returns-in_err-bytes
+returns-in_err-bytes c =
+    let b = c.args.block in let chunk = c.args.chunk in
+    refused_look_up c.args.self.now (commands.TokenOfUsed b chunk c.args.k) _ c.from_residual.result c.in_err-bytes.field-0.0 c.from_residual.ensures.1
+    (ap (λ (m : Machine). first_refusal (machine_conditions (Some (commands.TokenOfUsed b chunk c.args.k)) m)) (sym c.self.view_is) ∙ c.in_err-bytes.ensures (on_used (chunk_at c.self.inside.blocks b.0 chunk.0) c.args.k) refl)
+
+pub returns : goal.returns
+returns c =
+    let m = c.args.self.now in let b = c.args.block in let chunk = c.args.chunk in
+    answered m c.self.inside.blocks (ap (λ (x : Machine). x.document) c.self.view_is) b chunk c.in_ok-bytes.bytes.now c.in_ok-bytes.ensures (commands.TokenOfUsed b chunk c.args.k) (λ x. on_used x c.args.k) TokenIs (λ token. token.0) (λ x. get_or (used_from 0 (elements_in x).slots) c.args.k 0) c.token_of_used.result refl refl c.token_of_used.ensures
