@@ -3,7 +3,6 @@ use Rattle.std.proofs.Common.{◌≡◌, ℕ, ◌+◌, ◌<◌, ◌≤◌, List,
 use Rattle.std.proofs.lemmas.Bool.{lt-leb}
 use Rattle.std.proofs.lemmas.List.{take_all, drop_all}
 use Rattle.std.specs.Option.{unwrap_or, is_none}
-use Rattle.std.specs.List.{splice}
 use Rattle.geos_model.specs.Refusal.{Conditions, first_refusal}
 use Rattle.geos_model.specs.Array.{Array, array_of, array_bytes}
 use Rattle.geos_model.specs.ArrayEdits.{too_long, array_in, new_array, with_elements, array_zeroed, on_array, insert_conditions, set_conditions, resize_conditions, delete_conditions, is_missized}
@@ -93,14 +92,13 @@ handed_on (Err fault) conditions from from′ to to′ decides from_is to_is ref
 ]
 
 -- the bytes that a rewriting makes are those that an edit means
-pub made : (bytes : List ℕ) (a : Array) (extra : List ℕ) (from to : ℕ) (xs ys : List (List ℕ)) → array_of bytes ≡ Some a → extra ≡ a.extra → xs ≡ ys
-    → array_bytes (record a { extra = extra; elements = splice a.elements from to xs }) ≡ array_bytes (with_elements (array_in bytes) from to ys)
-made bytes a extra from to xs ys is extra_is xs_is =
-    ap₂ (λ (e : List ℕ) (l : List (List ℕ)). array_bytes (record a { extra = e; elements = splice a.elements from to l })) extra_is xs_is
-    ∙ ap (λ (b : Array). array_bytes (with_elements b from to ys)) (sym (array_in-is bytes a is))
+pub made : (bytes : List ℕ) (a : Array) (from to : ℕ) (xs ys : List (List ℕ)) → array_of bytes ≡ Some a → xs ≡ ys
+    → array_bytes (with_elements a from to xs) ≡ array_bytes (with_elements (array_in bytes) from to ys)
+made bytes a from to xs ys is xs_is =
+    ap₂ (λ (b : Array) (l : List (List ℕ)). array_bytes (with_elements b from to l)) (sym (array_in-is bytes a is)) xs_is
 
-pub made-zeroed : (bytes : List ℕ) (a : Array) (extra : List ℕ) (count : ℕ) → array_of bytes ≡ Some a → extra ≡ a.extra → count ≡ length a.elements
-    → array_bytes (record a { extra = extra; elements = splice a.elements 0 count [] }) ≡ array_zeroed bytes
-made-zeroed bytes a extra count is extra_is count_is =
-    ap₂ (λ (e : List ℕ) (l : List (List ℕ)). array_bytes (record a { extra = e; elements = l })) extra_is (drop_all count a.elements (omega arith))
+pub made-zeroed : (bytes : List ℕ) (a : Array) (count : ℕ) → array_of bytes ≡ Some a → count ≡ length a.elements
+    → array_bytes (with_elements a 0 count []) ≡ array_zeroed bytes
+made-zeroed bytes a count is count_is =
+    ap (λ (l : List (List ℕ)). array_bytes (record a { elements = l })) (drop_all count a.elements (omega arith))
     ∙ ap (λ (b : Array). array_bytes (record b { elements = [] })) (sym (array_in-is bytes a is))

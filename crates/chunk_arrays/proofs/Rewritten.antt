@@ -1,14 +1,14 @@
 -- Arrays with elements in the place of others: their places, lengths and bytes.
-use Rattle.std.proofs.Common.{◌≡◌, ℕ, ◌+◌, ◌*◌, ◌-◌, ◌<◌, ◌≤◌, Bool, true, false, ◌&&◌, ◌||◌, not, ◌==◌, nat_lt, List, [], ◌∷◌, ◌++◌, length, take, drop, get_or, flat_map, min, replicate, if◌then◌else◌, refl, sym, ap, ap₂, subst, ◌∙◌, arith, inl, inr, length-append, append_assoc, append-nil, length-take-le, length-drop, pos_of_ne-zero, le-mul_of_pos_right}
-use Rattle.std.proofs.lemmas.Bool.{cases_Bool, and_parts, and_from, cond-true, cond-false, eqb-false}
-use Rattle.std.proofs.lemmas.List.{take_more, take-append-drop, take_rest, take_all, length-replicate, get_or-drop}
+use Rattle.std.proofs.Common.{◌≡◌, ℕ, ◌+◌, ◌*◌, ◌-◌, ◌<◌, ◌≤◌, Bool, true, false, ◌==◌, List, [], ◌∷◌, ◌++◌, length, take, drop, get_or, flat_map, min, replicate, if◌then◌else◌, sym, ap, ap₂, ◌∙◌, arith, inl, inr, length-append, append_assoc, append-nil, length-take-le, length-drop, pos_of_ne-zero, le-mul_of_pos_right}
+use Rattle.std.proofs.lemmas.Bool.{cases_Bool, cond-true, cond-false, eqb-false}
+use Rattle.std.proofs.lemmas.List.{take_more, take_rest, take_all, length-replicate, get_or-drop}
 use Rattle.std.proofs.Math.Seq.{take-add}
 use Rattle.std.proofs.lemmas.List.Concat.{flat_map-append}
-use Rattle.std.proofs.lemmas.List.Folds.{list_all-append}
-use Rattle.std.specs.List.{splice, list_all}
+use Rattle.std.specs.List.{splice}
 use Rattle.geos_model.specs.Words.{word}
 use Rattle.geos_model.specs.Array.{Array, places_from, place_table, array_start, array_bytes, is_even}
-use Rattle.geos_model.specs.ArrayEdits.{is_missized, new_array}
+use Rattle.geos_model.specs.ArrayEdits.{new_array}
+use Rattle.chunk_arrays.specs.Rewriting.{extra_after}
 use Rattle.geos_model.proofs.Arrays.{joined, length-words, length-places, length-joined, all_even, array_bytes-spelled, length-array_bytes}
 
 -- the places as words
@@ -212,6 +212,12 @@ table_room a extra from to start count ys any room count_is =
 pub is_any : (n size : ℕ) → n ≡ size → n ≡ 0 → (size == 0) ≡ true
 is_any n size is none = ap (λ (m : ℕ). m == 0) (sym is ∙ none)
 
+-- extra bytes with others as the first are as many
+pub length-extra_after : (a : Array) (first : List ℕ) → length first ≤ length a.extra → length (extra_after a first) ≡ length a.extra
+length-extra_after a first short =
+    let whole = length-append first (drop (length first) a.extra) in
+    omega (arith, short, whole, length-drop (length first) a.extra)
+
 -- other extra bytes, as many, change no length
 pub length-other_extra : (a : Array) (extra : List ℕ) → length extra ≡ length a.extra → length (array_bytes (record a { extra = extra })) ≡ length (array_bytes a)
 length-other_extra a extra same = let one = length-array (record a { extra = extra }) in let other = length-array a in omega (arith, one, other, same)
@@ -224,58 +230,6 @@ head_room b count even short count_is =
     let most = length-elements_le (array_start b) b even in
     let is : count ≡ length b.elements = omega (arith, whole, most) in
     (is, omega (arith, whole, most), omega (arith, whole))
-
--- what holds of all holds of the first and of the rest
-list_all-parts : (p : List ℕ → Bool) (xs : List (List ℕ)) (n : ℕ) → list_all p xs ≡ true → (list_all p (take n xs) ≡ true) × (list_all p (drop n xs) ≡ true)
-list_all-parts p xs n all =
-    and_parts (list_all p (take n xs)) (list_all p (drop n xs)) (sym (list_all-append p (take n xs) (drop n xs)) ∙ ap (list_all p) (take-append-drop n xs) ∙ all)
-
-sized_or : (x y : Bool) → (not x && not y) ≡ false → (x || y) ≡ true
-sized_or true y e = refl
-sized_or false true e = refl
-sized_or false false e = sym e
-
-fits_all : (x y : Bool) → (x || y) ≡ true → (x || (y && true)) ≡ true
-fits_all true y e = refl
-fits_all false true e = refl
-fits_all false false e = e
-
-or_true : (x : Bool) → (x || true) ≡ true
-or_true true = refl
-or_true false = refl
-
--- An array stays even with elements of its size in the place of others.
-pub even_with : (a : Array) (extra : List ℕ) (from to : ℕ) (ys : List (List ℕ)) → is_even a ≡ true → (a.size == 0 || list_all (λ x. length x == a.size) ys) ≡ true
-    → is_even (record a { extra = extra; elements = splice a.elements from to ys }) ≡ true
-even_with a extra from to ys even new =
-    let p : List ℕ → Bool = λ x. length x == a.size in
-    let xs : List (List ℕ) = a.elements in
-    let parts = and_parts (nat_lt a.size 65536) (a.size == 0 || list_all p xs) even in
-    let elements : (a.size == 0 || list_all p (splice xs from to ys)) ≡ true = elim (cases_Bool (a.size == 0)) [
-      | inl any ↦ ap (λ (b : Bool). b || list_all p (splice xs from to ys)) any
-      | inr one ↦ (
-          let all : list_all p xs ≡ true = all_even a even one in
-          let front = (list_all-parts p xs from all).0 in
-          let back = (list_all-parts p xs to all).1 in
-          let middle : list_all p ys ≡ true = subst (λ b. (b || list_all p ys) ≡ true) one new in
-          let spliced : list_all p (splice xs from to ys) ≡ true =
-          list_all-append p (take from xs) (ys ++ drop to xs)
-          ∙ and_from (list_all p (take from xs)) (list_all p (ys ++ drop to xs)) front
-          (list_all-append p ys (drop to xs) ∙ and_from (list_all p ys) (list_all p (drop to xs)) middle back) in
-          ap (λ (b : Bool). b || list_all p (splice xs from to ys)) one ∙ spliced)
-    ] in
-    and_from (nat_lt a.size 65536) (a.size == 0 || list_all p (splice xs from to ys)) parts.0 elements
-
--- with one that has not another size
-pub even_with_one : (a : Array) (extra : List ℕ) (from to : ℕ) (x element : List ℕ) → is_even a ≡ true → x ≡ element → is_missized a.size element ≡ false
-    → is_even (record a { extra = extra; elements = splice a.elements from to (x ∷ []) }) ≡ true
-even_with_one a extra from to x element even is sized =
-    let fits : (a.size == 0 || (length x == a.size)) ≡ true = ap (λ (y : List ℕ). a.size == 0 || (length y == a.size)) is ∙ sized_or (a.size == 0) (length element == a.size) sized in
-    even_with a extra from to (x ∷ []) even (fits_all (a.size == 0) (length x == a.size) fits)
-
--- with none
-pub even_with_none : (a : Array) (extra : List ℕ) (from to : ℕ) → is_even a ≡ true → is_even (record a { extra = extra; elements = splice a.elements from to [] }) ≡ true
-even_with_none a extra from to even = even_with a extra from to [] even (or_true (a.size == 0))
 
 -- no table where there are no elements
 place_table-nil : (at size extra : ℕ) → place_table at (new_array size extra) ≡ []

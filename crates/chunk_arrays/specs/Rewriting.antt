@@ -1,5 +1,5 @@
 -- An array with other extra bytes, and with an element or none in the place of some.
-use Rattle.std.specs.Prelude.{ℕ, List, [], ◌∷◌, ◌++◌, replicate, Option, Some, None}
+use Rattle.std.specs.Prelude.{ℕ, List, [], ◌∷◌, ◌++◌, length, drop, replicate, Option, Some, None}
 use Rattle.std.specs.List.{splice}
 use Rattle.geos_model.specs.Array.{Array}
 use Rattle.chunk_arrays.specs.declared.rewriting.NewElement.{NewElement}
@@ -12,6 +12,10 @@ bytes_of e = e.head.now ++ e.middle.now ++ e.tail.now ++ replicate e.zeros 0
 abbrev pub elements_of : Option NewElement → List (List ℕ)
 elements_of None = []
 elements_of (Some e) = bytes_of e ∷ []
+
+-- the extra bytes, with these as the first
+abbrev pub extra_after : Array → List ℕ → List ℕ
+extra_after a first = first ++ drop (length first) a.extra
 
 abbrev pub rewritten : Array → List ℕ → ℕ → ℕ → Option NewElement → Array
 rewritten a extra from to new = record a { extra = extra; elements = splice a.elements from to (elements_of new) }

@@ -48,11 +48,11 @@ pub fn insert(alloc: Global, bytes: &[u8], i: u32, element: &[u8]) -> Result<Spl
     if at > view.count() || has_other_size(&view, element) {
         return Err(Fault::Range);
     }
-    rewrite(alloc, &view, view.extra(), at, at, Some(whole(element)))
+    rewrite(alloc, &view, &[], at, at, Some(whole(element)))
 }
 
-/// The splice that gives element `i` these bytes in place of its own. NotArray, NoElement; Range where the array has elements of another size; Full where
-/// the array would be longer than any chunk.
+/// The splice that gives element `i` these bytes in place of its own. NotArray, NoElement; Range where the array has
+/// elements of another size; Full where the array would be longer than any chunk.
 pub fn set(alloc: Global, bytes: &[u8], i: u32, element: &[u8]) -> Result<Splice, Fault>
     ensures { MatchResult result
         (Replaces (set_conditions bytes.now i element.now) bytes.now (element_set bytes.now i element.now))
@@ -66,11 +66,11 @@ pub fn set(alloc: Global, bytes: &[u8], i: u32, element: &[u8]) -> Result<Splice
     if has_other_size(&view, element) {
         return Err(Fault::Range);
     }
-    rewrite(alloc, &view, view.extra(), at, at + 1, Some(whole(element)))
+    rewrite(alloc, &view, &[], at, at + 1, Some(whole(element)))
 }
 
-/// The splice that cuts element `i` at its end, or adds zeros there, so that it has `n` bytes. NotArray, NoElement; Range where the array has elements of
-/// one size; Full where the array would be longer than any chunk.
+/// The splice that cuts element `i` at its end, or adds zeros there, so that it has `n` bytes. NotArray, NoElement; Range
+/// where the array has elements of one size; Full where the array would be longer than any chunk.
 pub fn resize(alloc: Global, bytes: &[u8], i: u32, n: u32) -> Result<Splice, Fault>
     ensures { MatchResult result
         (Replaces (resize_conditions bytes.now i) bytes.now (element_resized bytes.now i n))
@@ -85,11 +85,11 @@ pub fn resize(alloc: Global, bytes: &[u8], i: u32, n: u32) -> Result<Splice, Fau
         return Err(Fault::Range);
     }
     let new = resized_to(view.element(at), n as usize);
-    rewrite(alloc, &view, view.extra(), at, at + 1, Some(new))
+    rewrite(alloc, &view, &[], at, at + 1, Some(new))
 }
 
-/// The splice that deletes `k` elements from element `i` on. NotArray; NoElement where there are not so many; Full where what is left is longer than any
-/// chunk.
+/// The splice that deletes `k` elements from element `i` on. NotArray; NoElement where there are not so many; Full where
+/// what is left is longer than any chunk.
 pub fn delete(alloc: Global, bytes: &[u8], i: u32, k: u32) -> Result<Splice, Fault>
     ensures { MatchResult result
         (Replaces (delete_conditions bytes.now i k) bytes.now (elements_deleted bytes.now i k))
@@ -101,7 +101,7 @@ pub fn delete(alloc: Global, bytes: &[u8], i: u32, k: u32) -> Result<Splice, Fau
     if to > view.count() {
         return Err(Fault::NoElement);
     }
-    rewrite(alloc, &view, view.extra(), from, to, None)
+    rewrite(alloc, &view, &[], from, to, None)
 }
 
 /// The splice that deletes all elements. NotArray; Full where the extra bytes are longer than any chunk.
@@ -111,7 +111,7 @@ pub fn zero(alloc: Global, bytes: &[u8]) -> Result<Splice, Fault>
         (RefusesToReplace (on_array bytes.now) (array_zeroed bytes.now)) }
 {
     let view = check(bytes)?;
-    rewrite(alloc, &view, view.extra(), 0, view.count(), None)
+    rewrite(alloc, &view, &[], 0, view.count(), None)
 }
 
 /// Whether these bytes can't be an element of the array since its elements have another size.

@@ -1,10 +1,9 @@
-ghost use Rattle.std.specs.Prelude.{◌≡◌, ◌≤◌, ◌<◌, ◌+◌, ◌-◌, ◌*◌, ◌^◌, ◌++◌, true, MatchResult, IfOk, length, take, drop, min, ◌==◌, if◌then◌else◌};
+ghost use Rattle.std.specs.Prelude.{◌≡◌, ◌≤◌, ◌<◌, ◌+◌, ◌-◌, ◌*◌, ◌^◌, ◌++◌, [], true, MatchResult, IfOk, length, take, drop, min, ◌==◌, if◌then◌else◌};
 ghost use Rattle.std.specs.List.{splice, flat_map};
 ghost use Rattle.geos_model.specs.Words.{word};
 ghost use Rattle.geos_model.specs.Array.{array_bytes, is_even, place_table, places_from};
-ghost use Rattle.geos_model.specs.ArrayEdits.{too_long};
-ghost use Rattle.chunk_edits.specs.Splicing.{Builds, Refuses};
-ghost use Rattle.chunk_arrays.specs.Rewriting.{elements_of, rewritten};
+ghost use Rattle.chunk_arrays.specs.Rewriting.{elements_of, extra_after, rewritten};
+ghost use Rattle.chunk_arrays.specs.Replacing.{Replaces, RefusesToReplace};
 
 use crate::View;
 use chunk_edits::{Splice, copied};
@@ -23,29 +22,29 @@ pub struct NewElement<'a> {
     pub zeros: usize,
 }
 
-/// The splice that leaves an array with these extra bytes, as many as it has, and with an element or none in the place of
-/// those from `from` to `to`. Full where its bytes would be more than any chunk has.
+/// The splice that leaves an array with these bytes as the first of its extra bytes, of which it has as many as before, and
+/// with an element or none in the place of those from `from` to `to`. Full where its bytes would be more than any chunk has.
 pub fn rewrite(
     alloc: Global,
     view: &View<'_>,
-    extra: &[u8],
+    first: &[u8],
     from: usize,
     to: usize,
     new: Option<NewElement<'_>>,
 ) -> Result<Splice, Fault>
     requires order { from ≤ to }
     requires within { to ≤ length view.now.elements }
-    requires extra { length extra.now ≡ length view.now.extra }
-    requires even { is_even (rewritten view.now extra.now from to new) ≡ true }
+    requires extra { length first.now ≤ length view.now.extra }
+    requires even { is_even (rewritten view.now (extra_after view.now first.now) from to new) ≡ true }
     ensures { MatchResult result
-        (λ s. Builds (too_long (array_bytes (rewritten view.now extra.now from to new.entry))) s (array_bytes view.now) (array_bytes (rewritten view.now extra.now from to new.entry)) (length (array_bytes view.now) + length (array_bytes (rewritten view.now extra.now from to new.entry))))
-        (Refuses (too_long (array_bytes (rewritten view.now extra.now from to new.entry)))) }
+        (Replaces [] (array_bytes view.now) (array_bytes (rewritten view.now (extra_after view.now first.now) from to new.entry)))
+        (RefusesToReplace [] (array_bytes (rewritten view.now (extra_after view.now first.now) from to new.entry))) }
 {
     let len = length_after(view, from, to, new);
     if len > LONGEST {
         return Err(Fault::Full);
     }
-    let bytes = bytes_after(alloc, view, extra, from, to, new, len)?;
+    let bytes = bytes_after(alloc, view, first, from, to, new, len)?;
     Ok(Splice {
         at: 0,
         old: copied(alloc, view.bytes())?,
@@ -110,7 +109,7 @@ fn new_len(new: Option<NewElement<'_>>) -> usize
 fn bytes_after(
     alloc: Global,
     view: &View<'_>,
-    extra: &[u8],
+    first: &[u8],
     from: usize,
     to: usize,
     new: Option<NewElement<'_>>,
@@ -118,16 +117,17 @@ fn bytes_after(
 ) -> Result<Vec<u8>, AllocError>
     requires order { from ≤ to }
     requires within { to ≤ length view.now.elements }
-    requires even { is_even (rewritten view.now extra.now from to new) ≡ true }
-    requires len { len ≡ length (array_bytes (rewritten view.now extra.now from to new)) }
+    requires extra { length first.now ≤ length view.now.extra }
+    requires even { is_even (rewritten view.now (extra_after view.now first.now) from to new) ≡ true }
+    requires len { len ≡ length (array_bytes (rewritten view.now (extra_after view.now first.now) from to new)) }
     requires fits { len ≤ 65498 }
-    ensures { IfOk result (λ out. out.items ≡ array_bytes (rewritten view.now extra.now from to new.entry)) }
+    ensures { IfOk result (λ out. out.items ≡ array_bytes (rewritten view.now (extra_after view.now first.now) from to new.entry)) }
 {
     let count = count_after(view, from, to, new);
-    let start = 8 + extra.len();
+    let start = 8 + view.extra().len();
     let mut out = Vec::with_capacity(alloc, len)?;
     push_header(&mut out, count, view.element_size(), start)?;
-    out.extend_from_slice(extra)?;
+    push_extra(&mut out, view, first)?;
     push_table(&mut out, start, view, from, to, new)?;
     out.extend_from_slice(view.run(0, from))?;
     push_new(&mut out, new)?;
@@ -151,6 +151,15 @@ pub(crate) fn push_header(
     push_word(out, size)?;
     push_word(out, 0)?;
     push_word(out, start)
+}
+
+/// Adds the extra bytes, with these as the first.
+fn push_extra(out: &mut Vec<u8>, view: &View<'_>, first: &[u8]) -> Result<(), AllocError>
+    requires { length first.now ≤ length view.now.extra }
+    ensures { IfOk result (λ _. out.new.items ≡ out.old.items ++ extra_after view.now first.now) }
+{
+    out.extend_from_slice(first)?;
+    out.extend_from_slice(&view.extra()[first.len()..])
 }
 
 /// Adds the table of places, which begins at `start`, where sizes vary.

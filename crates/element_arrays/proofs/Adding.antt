@@ -10,7 +10,7 @@ use Rattle.geos_model.specs.declared.fault.Fault.TheVariants.{NotArray, CountFul
 use Rattle.geos_model.proofs.Arrays.{same_bytes-is}
 use Rattle.element_arrays.specs.Slotted.{Slotted, slotted_bytes}
 use Rattle.element_arrays.specs.Referencing.{referenced, referencing}
-use Rattle.element_arrays.proofs.UsedElements.{found_element, own_size}
+use Rattle.geos_model.proofs.UsedElements.{found_element, own_size}
 use Rattle.element_arrays.proofs.Found.{is_read_sound}
 
 -- An equal element is used.

@@ -1,8 +1,7 @@
 -- What an edit of slots makes of the array that they are.
-use Rattle.std.proofs.Common.{◌≡◌, ℕ, zero, suc, ◌+◌, ◌<◌, ◌≤◌, Bool, true, false, not, ◌&&◌, ◌||◌, ◌==◌, nat_le, nat_lt, if◌then◌else◌, List, [], ◌∷◌, ◌++◌, map, length, take, drop, set, get_or, replicate, is_some, is_none, Option, Some, None, Result, Ok, Err, MatchResult, refl, sym, ap, ap₂, subst, ◌∙◌, arith, inl, inr, append_assoc, append-nil, length-append, eqb-true, ltb-true}
-use Rattle.std.proofs.lemmas.Bool.{cases_Bool, and_parts, and_from, cond-true, cond-false, ne_eqb, eq-eqb}
+use Rattle.std.proofs.Common.{◌≡◌, ℕ, zero, suc, ◌+◌, ◌<◌, ◌≤◌, Bool, true, false, not, ◌&&◌, ◌||◌, ◌==◌, nat_le, nat_lt, if◌then◌else◌, List, [], ◌∷◌, ◌++◌, map, length, take, drop, set, get_or, replicate, is_none, Option, Some, None, Result, Ok, Err, MatchResult, refl, sym, ap, ap₂, subst, ◌∙◌, arith, inl, inr, append_assoc, append-nil, length-append, eqb-true, ltb-true}
+use Rattle.std.proofs.lemmas.Bool.{cases_Bool, and_parts, cond-true, cond-false, ne_eqb, eq-eqb}
 use Rattle.std.proofs.lemmas.List.{take_all, drop_all, length-replicate}
-use Rattle.std.proofs.lemmas.List.Folds.{list_all-append}
 use Rattle.std.proofs.lemmas.Result.{MatchResult-weaker}
 use Rattle.std.specs.Result.{IsErrAnd}
 use Rattle.std.specs.List.{list_all, count_by, enumerate_from, splice}
@@ -13,8 +12,10 @@ use Rattle.geos_model.specs.ArrayEdits.{is_missized, too_long}
 use Rattle.geos_model.specs.ElementArray.{Element, Slots, slots_array, slot_bytes, token_after, first_token, is_free, is_sound, is_good_slot, all_distinct, element_at, greatest_size}
 use Rattle.geos_model.specs.ElementEdits.{with_new, with_new_at}
 use Rattle.geos_model.specs.declared.fault.Fault.{Fault}
+use Rattle.geos_model.proofs.ArrayEdits.{even_with}
 use Rattle.geos_model.proofs.Images.{word-reads_back}
 use Rattle.chunk_edits.specs.Splicing.{Builds, Refuses}
+use Rattle.chunk_arrays.specs.Rewriting.{extra_after}
 use Rattle.chunk_edits.specs.declared.splice.Splice.{Splice}
 use Rattle.element_arrays.specs.Slotted.{Slotted, slotted_array, slotted_bytes, GivesSlots, RefusesSlots}
 
@@ -109,36 +110,12 @@ token_after-here t free = cond-true (t == t) (first_token free) (token_after fre
 
 -- Evenness.
 
-list_all-take : (p : List ℕ → Bool) (n : ℕ) (xs : List (List ℕ)) → list_all p xs ≡ true → list_all p (take n xs) ≡ true
-list_all-take p zero xs all = refl
-list_all-take p (suc n) [] all = refl
-list_all-take p (suc n) (x ∷ xs) all =
-    let parts = and_parts (p x) (list_all p xs) all in
-    and_from (p x) (list_all p (take n xs)) parts.0 (list_all-take p n xs parts.1)
-
-list_all-drop : (p : List ℕ → Bool) (n : ℕ) (xs : List (List ℕ)) → list_all p xs ≡ true → list_all p (drop n xs) ≡ true
-list_all-drop p zero xs all = all
-list_all-drop p (suc n) [] all = refl
-list_all-drop p (suc n) (x ∷ xs) all = list_all-drop p n xs (and_parts (p x) (list_all p xs) all).1
-
-list_all-splice : (p : List ℕ → Bool) (from to : ℕ) (xs : List (List ℕ)) (y : List ℕ) → list_all p xs ≡ true → p y ≡ true → list_all p (splice xs from to (y ∷ [])) ≡ true
-list_all-splice p from to xs y all here =
-    list_all-append p (take from xs) (y ∷ drop to xs)
-    ∙ and_from (list_all p (take from xs)) (list_all p (y ∷ drop to xs)) (list_all-take p from xs all)
-    (and_from (p y) (list_all p (drop to xs)) here (list_all-drop p to xs all))
-
 is_even-put : (a : Array) (extra : List ℕ) (from to : ℕ) (y : List ℕ) → is_even a ≡ true → ((a.size == 0) ≡ false → length y ≡ a.size) → is_even (put a extra from to y) ≡ true
-is_even-put a extra from to y even sized =
-    let p : List ℕ → Bool = λ x. length x == a.size in
-    let parts = and_parts (nat_lt a.size 65536) (a.size == 0 || list_all p a.elements) even in
-    let all : (a.size == 0 || list_all p (splice a.elements from to (y ∷ []))) ≡ true = elim (cases_Bool (a.size == 0)) [
-      | inl any ↦ ap (λ (b : Bool). b || list_all p (splice a.elements from to (y ∷ []))) any
-      | inr one ↦ (
-          let old : list_all p a.elements ≡ true = subst (λ b. (b || list_all p a.elements) ≡ true) one parts.1 in
-          ap (λ (b : Bool). b || list_all p (splice a.elements from to (y ∷ []))) one
-          ∙ list_all-splice p from to a.elements y old (eq-eqb (length y) a.size (sized one)))
-    ] in
-    and_from (nat_lt a.size 65536) (a.size == 0 || list_all p (splice a.elements from to (y ∷ []))) parts.0 all
+is_even-put a extra from to y even sized = elim (cases_Bool (a.size == 0)) [
+  | inl any ↦ even_with a extra from to (y ∷ []) even (ap (λ (b : Bool). b || (length y == a.size && true)) any)
+  | inr one ↦ even_with a extra from to (y ∷ []) even
+      (ap₂ (λ (b d : Bool). b || (d && true)) one (eq-eqb (length y) a.size (sized one)))
+]
 
 -- the size of elements that have a count before their bytes, or what a free one has
 sized-slots : (n k : ℕ) → ((n == 0) ≡ false → k ≡ n + 3) → ((if n == 0 then 0 else n + 3) == 0) ≡ false → k ≡ (if n == 0 then 0 else n + 3)
@@ -170,16 +147,6 @@ element-slots more s v t is l =
     let here : 0 + t ≡ t = omega arith in
     ap (λ (a : Array). get_or a.elements t []) is ∙ get_or-spelled (slot_bytes s) 0 t s.slots l
     ∙ ap (λ (n : ℕ). slot_bytes s n (element_at s t)) here
-
-used_lt-slots : (slots : List (Option Element)) (t : ℕ) → is_some (get_or slots t None) ≡ true → t < length slots
-used_lt-slots [] zero used = absurd (cc)
-used_lt-slots [] (suc t) used = absurd (cc)
-used_lt-slots (o ∷ slots) zero used = omega arith
-used_lt-slots (o ∷ slots) (suc t) used = let rest = used_lt-slots slots t used in omega (arith, rest)
-
--- a used token is below the number of tokens
-pub used_lt : (s : Slots) (t : ℕ) → is_some (element_at s t) ≡ true → t < length s.slots
-used_lt s t used = used_lt-slots s.slots t used
 
 -- bytes that fit
 pub length-sized : (size : ℕ) (bytes : List ℕ) → is_missized size bytes ≡ false → (size == 0) ≡ false → length bytes ≡ size
@@ -278,8 +245,14 @@ none_free s first is sound past = none_free-of s s.free (all_free s sound) (omeg
 pub length_extra : (more : List ℕ) (n : ℕ) (extra : List ℕ) → extra ≡ word n ++ more → length extra ≡ 2 + length more
 length_extra more n extra is = ap length is ∙ length-append (word n) more
 
-pub same_extra : (more : List ℕ) (n m : ℕ) (new old : List ℕ) → new ≡ word n ++ more → old ≡ word m ++ more → length new ≡ length old
-same_extra more n m new old e f = length_extra more n new e ∙ sym (length_extra more m old f)
+pub extra_put : (more : List ℕ) (s : Slots) (v : Array) (n : ℕ) (first : List ℕ) → v ≡ slots_array more s → first ≡ word n → extra_after v first ≡ word n ++ more
+extra_put more s v n first is e = ap₂ (λ (w x : List ℕ). w ++ drop (length w) x) e (extra-slots more s v is)
+
+pub extra_room : (more : List ℕ) (s : Slots) (v : Array) (n : ℕ) (first : List ℕ) → v ≡ slots_array more s → first ≡ word n → length first ≤ length v.extra
+extra_room more s v n first is e =
+    let two = ap length e in
+    let long = length_extra more (first_token s.free) v.extra (extra-slots more s v is) in
+    omega (arith, two, long)
 
 none_of-is_none : (o : Option Element) → is_none o ≡ true → o ≡ None
 none_of-is_none None e = refl

@@ -39,7 +39,7 @@ impl<'a> SlotView<'a> {
             tail,
             zeros: 0,
         };
-        rewrite(alloc, array, array.extra(), at, at + 1, Some(element))
+        rewrite(alloc, array, &[], at, at + 1, Some(element))
     }
 
     /// The splice that frees a used element. Full where the array would still be longer than any chunk.
@@ -52,14 +52,13 @@ impl<'a> SlotView<'a> {
         let array = self.array();
         let at = usize::from(token.0);
         let number = token.0.to_le_bytes();
-        let extra = self.extra_with(alloc, &number)?;
         let element = NewElement {
             head: first_word(array.extra()),
             middle: &[0xFF],
             tail: &[],
             zeros: self.element_size(),
         };
-        rewrite(alloc, array, &extra, at, at + 1, Some(element))
+        rewrite(alloc, array, &number, at, at + 1, Some(element))
     }
 
     /// The splice that brings a new element of one reference and these bytes, in two parts, and its token: the newest free
@@ -85,13 +84,13 @@ impl<'a> SlotView<'a> {
         match self.newest_free() {
             None => {
                 let len = self.len();
-                let splice = rewrite(alloc, array, array.extra(), len, len, Some(element))?;
+                let splice = rewrite(alloc, array, &[], len, len, Some(element))?;
                 Ok((splice, Token(len as u16)))
             }
             Some(token) => {
                 let at = usize::from(token.0);
-                let extra = self.extra_with(alloc, first_word(array.element(at)))?;
-                let splice = rewrite(alloc, array, &extra, at, at + 1, Some(element))?;
+                let next = first_word(array.element(at));
+                let splice = rewrite(alloc, array, next, at, at + 1, Some(element))?;
                 Ok((splice, token))
             }
         }
@@ -108,17 +107,6 @@ impl<'a> SlotView<'a> {
         } else {
             None
         }
-    }
-
-    /// The extra bytes with another word as the first.
-    fn extra_with(&self, alloc: Global, word: &[u8]) -> Result<Vec<u8>, AllocError>
-        ensures { IfOk result (λ extra. extra.items ≡ word.now ++ self.now.more) }
-    {
-        let more = self.more();
-        let mut extra = Vec::with_capacity(alloc, word.len() + more.len())?;
-        extra.extend_from_slice(word)?;
-        extra.extend_from_slice(more)?;
-        Ok(extra)
     }
 }
 

@@ -109,18 +109,18 @@ count_by-used slots t e f =
     let sums = sum_by-set (λ x. cond (is_none x) 1 0) slots t (Some e) None (free_in-lt slots t f) in
     omega (arith, one, sums)
 
--- and the others stay free
-free_in-used : (slots : List (Option Element)) (t u : ℕ) (e : Element) → (t == u) ≡ false → free_in slots u ≡ true → free_in (set slots t (Some e)) u ≡ true
-free_in-used slots t u e other f =
+-- other free tokens stay free where a slot is another
+pub free_in-set : (slots : List (Option Element)) (t u : ℕ) (slot : Option Element) → (t == u) ≡ false → free_in slots u ≡ true → free_in (set slots t slot) u ≡ true
+free_in-set slots t u slot other f =
     let apart : u ≢ t = λ is. true≢false (sym (eq-eqb t u (sym is)) ∙ other) in
-    ap₂ (λ (n : ℕ) (o : Option Element). nat_lt u n && is_none o) (length-set slots t (Some e)) (get_or-set_other slots t u (Some e) None apart) ∙ f
+    ap₂ (λ (n : ℕ) (o : Option Element). nat_lt u n && is_none o) (length-set slots t slot) (get_or-set_other slots t u slot None apart) ∙ f
 
-all_free-used : (slots : List (Option Element)) (t : ℕ) (us : List ℕ) (e : Element) → list_any (λ y. t == y) us ≡ false → list_all (free_in slots) us ≡ true → list_all (free_in (set slots t (Some e))) us ≡ true
-all_free-used slots t [] e none f = refl
-all_free-used slots t (u ∷ us) e none f =
+pub all_free-set : (slots : List (Option Element)) (t : ℕ) (us : List ℕ) (slot : Option Element) → list_any (λ y. t == y) us ≡ false → list_all (free_in slots) us ≡ true → list_all (free_in (set slots t slot)) us ≡ true
+all_free-set slots t [] slot none f = refl
+all_free-set slots t (u ∷ us) slot none f =
     let apart = or_parts (t == u) (list_any (λ y. t == y) us) none in
     let free = and_parts (free_in slots u) (list_all (free_in slots) us) f in
-    and_from (free_in (set slots t (Some e)) u) (list_all (free_in (set slots t (Some e))) us) (free_in-used slots t u e apart.0 free.0) (all_free-used slots t us e apart.1 free.1)
+    and_from (free_in (set slots t slot) u) (list_all (free_in (set slots t slot)) us) (free_in-set slots t u slot apart.0 free.0) (all_free-set slots t us slot apart.1 free.1)
 
 -- distinct tokens of free slots are no more than these
 pub length-free_le : (slots : List (Option Element)) (ts : List ℕ) → all_distinct ts ≡ true → list_all (free_in slots) ts ≡ true → length ts ≤ count_by is_none slots
@@ -130,7 +130,7 @@ length-free_le slots (t ∷ ts) d f =
     let apart = and_parts (not (list_any (λ y. t == y) ts)) (all_distinct ts) d in
     let free = and_parts (free_in slots t) (list_all (free_in slots) ts) f in
     let once : list_any (λ y. t == y) ts ≡ false = not-true (list_any (λ y. t == y) ts) apart.0 in
-    let rest = length-free_le (set slots t (Some e)) ts apart.1 (all_free-used slots t ts e once free.1) in
+    let rest = length-free_le (set slots t (Some e)) ts apart.1 (all_free-set slots t ts (Some e) once free.1) in
     let less = count_by-used slots t e free.0 in
     omega (arith, rest, less)
 

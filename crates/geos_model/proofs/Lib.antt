@@ -5,4 +5,9 @@ pub mod Arrays
 pub mod FreeLists
 pub mod ElementArrays
 pub mod NameArrays
+pub mod Refusals
+pub mod ArrayEdits
+pub mod UsedElements
+pub mod ElementEdits
+pub mod NameEdits
 pub mod Undoing

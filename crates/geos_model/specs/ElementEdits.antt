@@ -1,5 +1,5 @@
 -- Edits and look-ups of an element array, as what they make of a chunk's bytes, and when they are refused.
-use Rattle.std.specs.Prelude.{ℕ, List, [], ◌∷◌, ◌++◌, ◌+◌, ◌-◌, Bool, false, not, ◌==◌, nat_le, nat_lt, length, take, set, is_some, is_none, if◌then◌else◌, Option, Some, None, unwrap_or}
+use Rattle.std.specs.Prelude.{ℕ, List, [], ◌∷◌, ◌++◌, ◌+◌, ◌-◌, Bool, false, ◌==◌, nat_le, nat_lt, length, take, set, is_some, is_none, if◌then◌else◌, Option, Some, None, unwrap_or}
 use Rattle.std.specs.List.{count_by, position}
 use Rattle.std.specs.Option.{option_map_or}
 use Rattle.geos_model.specs.Refusal.{Conditions}

@@ -17,5 +17,6 @@ pub mod Reply
 pub mod Machine
 pub mod Codes
 pub mod Laws
+pub mod EditLaws
 pub mod Undoing
 pub mod Script

@@ -1,5 +1,5 @@
 -- Edits and look-ups of a name array, as what they make of a chunk's bytes, and when they are refused.
-use Rattle.std.specs.Prelude.{ℕ, List, ◌∷◌, [], ◌++◌, ◌+◌, Bool, false, not, ◌==◌, ◌&&◌, ◌||◌, nat_lt, length, take, is_some, is_none, if◌then◌else◌, Option, unwrap_or}
+use Rattle.std.specs.Prelude.{ℕ, List, ◌∷◌, [], ◌++◌, ◌+◌, Bool, not, ◌==◌, ◌&&◌, ◌||◌, nat_lt, length, take, is_some, is_none, if◌then◌else◌, Option, unwrap_or}
 use Rattle.std.specs.Option.{option_map_or}
 use Rattle.geos_model.specs.Refusal.{Conditions}
 use Rattle.geos_model.specs.Bytes.{same_bytes}

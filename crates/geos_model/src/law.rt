@@ -1,4 +1,5 @@
 ghost use Rattle.geos_model.specs.Laws.{WordLaw, ImageLaw, ArrayLaw, ElementArrayLaw, NameArrayLaw};
+ghost use Rattle.geos_model.specs.EditLaws.{ArrayEditsLaw, ElementEditsLaw, NameEditsLaw};
 ghost use Rattle.geos_model.specs.Undoing.{UndoLaw, RedoLaw};
 
 /// Two bytes are the word of one number.
@@ -24,6 +25,21 @@ pub fn element_array_law()
 /// Bytes are a name array exactly where they are the bytes of one, and of that one alone.
 pub fn name_array_law()
     ensures { NameArrayLaw }
+{}
+
+/// An accepted edit of a chunk array leaves a chunk array, of the elements that it means.
+pub fn array_edits_law()
+    ensures { ArrayEditsLaw }
+{}
+
+/// An accepted edit of an element array leaves one, and the elements of other tokens as they were.
+pub fn element_edits_law()
+    ensures { ElementEditsLaw }
+{}
+
+/// An accepted edit of a name array leaves one, the names of other tokens as they were, and distinct names distinct.
+pub fn name_edits_law()
+    ensures { NameEditsLaw }
 {}
 
 /// Undoing as many edits as were accepted gives back the document, whatever stands between that moves nothing.

@@ -1,7 +1,10 @@
 // Each public call of the crates of arrays once, with ample memory.
 use chunk_arrays::{check, empty_bytes};
 use chunk_edits::Splice;
-use geos_model::{Fault, array_law, element_array_law, name_array_law};
+use geos_model::{
+    Fault, array_edits_law, array_law, element_array_law, element_edits_law, name_array_law,
+    name_edits_law,
+};
 use std::process::Abort;
 use std::test::Fail;
 
@@ -33,6 +36,9 @@ fn an_array_is_read_where_it_lies(rt: HostRuntime) {
     array_law();
     element_array_law();
     name_array_law();
+    array_edits_law();
+    element_edits_law();
+    name_edits_law();
 }
 
 #[test]

@@ -1,6 +1,7 @@
 // Each public call of element arrays and name arrays once, with ample memory.
 use crate::array_calls::brings;
 use chunk_edits::Splice;
+use element_arrays::slots_in;
 use geos_model::{Fault, Token};
 use std::process::Abort;
 
@@ -97,6 +98,25 @@ fn elements_are_looked_up(rt: HostRuntime) {
     assert!(rt; element_arrays::used_count(bytes) == Ok(1));
     assert!(rt; element_arrays::token_of_used(bytes, 0) == Ok(FIRST));
     assert!(rt; element_arrays::used_of_token(bytes, FIRST) == Ok(0));
+}
+
+#[test]
+fn slots_are_read_where_they_lie(rt: HostRuntime) {
+    let read = match chunk_arrays::check(ELEMENTS.as_slice()) {
+        Ok(view) => slots_in(view, 2),
+        Err(fault) => Err(fault),
+    };
+    match read {
+        Ok(slots) => {
+            assert_eq!(rt; slots.bytes(), ELEMENTS.as_slice());
+            assert_eq!(rt; slots.len(), 2);
+            assert_eq!(rt; slots.element_size(), 0);
+            assert_eq!(rt; slots.more().len(), 0);
+            assert!(rt; slots.element(FIRST).is_some());
+            assert!(rt; slots.element(Token(1)).is_none());
+        }
+        Err(fault) => assert!(rt; false, "{fault:?}"),
+    }
 }
 
 #[test]

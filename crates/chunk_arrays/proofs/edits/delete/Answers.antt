@@ -2,13 +2,13 @@ use Rattle.std.proofs.Common.{◌+◌, ◌++◌, [], List, ℕ, refl, arith}
 use Rattle.geos_model.specs.Array.{Array, array_bytes}
 use Rattle.geos_model.specs.ArrayEdits.{elements_deleted, delete_conditions, too_long}
 use Rattle.geos_model.proofs.Arrays.{array_bytes-of}
-use Rattle.chunk_arrays.proofs.Rewritten.{even_with_none}
+use Rattle.geos_model.proofs.ArrayEdits.{even_with_none}
 use Rattle.chunk_arrays.proofs.Refused.{delete_decides, handed_on, made}
 use Rattle.chunk_arrays.proofs.edits.delete.Goals as goal
 
 pub rewrite-requires-clause-even : goal.rewrite-requires-clause-even
 rewrite-requires-clause-even c =
-    even_with_none c.in_ok-view.view c.extra.result.now c.args.i (c.args.i + c.args.k) (array_bytes-of c.args.bytes.now c.in_ok-view.view c.in_ok-view.ensures).0
+    even_with_none c.in_ok-view.view (c.in_ok-view.view).extra c.args.i (c.args.i + c.args.k) (array_bytes-of c.args.bytes.now c.in_ok-view.view c.in_ok-view.ensures).0
 
 pub returns : goal.returns
 returns c =
@@ -20,5 +20,5 @@ returns c =
     handed_on c.rewrite.result (delete_conditions bytes i k ++ too_long to) bytes (array_bytes a) to _
     (delete_decides bytes a i k to c.in_ok-view.ensures (omega arith))
     (array_bytes-of bytes a c.in_ok-view.ensures).1
-    (made bytes a c.extra.result.now i (i + k) [] [] c.in_ok-view.ensures c.extra.ensures refl)
+    (made bytes a i (i + k) [] [] c.in_ok-view.ensures refl)
     c.rewrite.ensures

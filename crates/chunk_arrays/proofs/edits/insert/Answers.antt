@@ -2,14 +2,14 @@ use Rattle.std.proofs.Common.{◌≡◌, ◌++◌, [], ◌∷◌, List, ℕ, fal
 use Rattle.geos_model.specs.Array.{Array, array_bytes}
 use Rattle.geos_model.specs.ArrayEdits.{element_inserted, insert_conditions, is_missized, too_long}
 use Rattle.geos_model.proofs.Arrays.{array_bytes-of}
-use Rattle.chunk_arrays.proofs.Rewritten.{even_with_one}
+use Rattle.geos_model.proofs.ArrayEdits.{even_with_one}
 use Rattle.chunk_arrays.proofs.Refused.{insert_decides, handed_on, made}
 use Rattle.chunk_arrays.proofs.edits.insert.Goals as goal
 
 pub rewrite-requires-clause-even : goal.rewrite-requires-clause-even
 rewrite-requires-clause-even c =
     let sized : is_missized c.in_ok-view.view.size c.args.element.now ≡ false = sym c.if-has_other_size.ensures in
-    even_with_one c.in_ok-view.view c.extra.result.now c.args.i c.args.i _ c.args.element.now (array_bytes-of c.args.bytes.now c.in_ok-view.view c.in_ok-view.ensures).0 c.whole.ensures sized
+    even_with_one c.in_ok-view.view (c.in_ok-view.view).extra c.args.i c.args.i _ c.args.element.now (array_bytes-of c.args.bytes.now c.in_ok-view.view c.in_ok-view.ensures).0 c.whole.ensures sized
 
 pub returns : goal.returns
 returns c =
@@ -22,5 +22,5 @@ returns c =
     handed_on c.rewrite.result (insert_conditions bytes i element ++ too_long to) bytes (array_bytes a) to _
     (insert_decides bytes a i element to c.in_ok-view.ensures (omega arith) sized)
     (array_bytes-of bytes a c.in_ok-view.ensures).1
-    (made bytes a c.extra.result.now i i _ (element ∷ []) c.in_ok-view.ensures c.extra.ensures (ap (λ (x : List ℕ). x ∷ []) c.whole.ensures))
+    (made bytes a i i _ (element ∷ []) c.in_ok-view.ensures (ap (λ (x : List ℕ). x ∷ []) c.whole.ensures))
     c.rewrite.ensures

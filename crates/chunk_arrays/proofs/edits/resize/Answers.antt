@@ -18,5 +18,5 @@ returns c =
     handed_on c.rewrite.result (resize_conditions bytes i ++ too_long to) bytes (array_bytes a) to _
     (resize_decides bytes a i to c.in_ok-view.ensures (omega arith) (sym c.element_size.ensures ∙ c.if-element_size-ne0.false))
     (array_bytes-of bytes a c.in_ok-view.ensures).1
-    (made bytes a c.extra.result.now i (i + 1) _ (element ∷ []) c.in_ok-view.ensures c.extra.ensures (ap (λ (x : List ℕ). x ∷ []) element_is))
+    (made bytes a i (i + 1) _ (element ∷ []) c.in_ok-view.ensures (ap (λ (x : List ℕ). x ∷ []) element_is))
     c.rewrite.ensures

@@ -2,13 +2,13 @@ use Rattle.std.proofs.Common.{◌++◌, List, ℕ}
 use Rattle.geos_model.specs.Array.{Array, array_bytes}
 use Rattle.geos_model.specs.ArrayEdits.{array_zeroed, on_array, too_long}
 use Rattle.geos_model.proofs.Arrays.{array_bytes-of}
-use Rattle.chunk_arrays.proofs.Rewritten.{even_with_none}
+use Rattle.geos_model.proofs.ArrayEdits.{even_with_none}
 use Rattle.chunk_arrays.proofs.Refused.{zero_decides, handed_on, made-zeroed}
 use Rattle.chunk_arrays.proofs.edits.zero.Goals as goal
 
 pub rewrite-requires-clause-even : goal.rewrite-requires-clause-even
 rewrite-requires-clause-even c =
-    even_with_none c.in_ok-view.view c.extra.result.now 0 c.count.result (array_bytes-of c.args.bytes.now c.in_ok-view.view c.in_ok-view.ensures).0
+    even_with_none c.in_ok-view.view (c.in_ok-view.view).extra 0 c.count.result (array_bytes-of c.args.bytes.now c.in_ok-view.view c.in_ok-view.ensures).0
 
 pub returns : goal.returns
 returns c =
@@ -18,5 +18,5 @@ returns c =
     handed_on c.rewrite.result (on_array bytes ++ too_long to) bytes (array_bytes a) to _
     (zero_decides bytes a to c.in_ok-view.ensures)
     (array_bytes-of bytes a c.in_ok-view.ensures).1
-    (made-zeroed bytes a c.extra.result.now c.count.result c.in_ok-view.ensures c.extra.ensures c.count.ensures.value)
+    (made-zeroed bytes a c.count.result c.in_ok-view.ensures c.count.ensures.value)
     c.rewrite.ensures

@@ -6,7 +6,8 @@ use Rattle.geos_model.specs.declared.fault.Fault.TheVariants.{NotArray, NoElemen
 use Rattle.element_arrays.specs.Slotted.{slotted_bytes, with_slots}
 use Rattle.element_arrays.specs.Used.{used_element}
 use Rattle.element_arrays.proofs.Found.{elements_are, is_read_sound, new_bytes}
-use Rattle.element_arrays.proofs.UsedElements.{counted, bounded, own_size, last_reference, other_reference}
+use Rattle.geos_model.proofs.UsedElements.{counted, bounded, own_size}
+use Rattle.element_arrays.proofs.UsedElements.{last_reference, other_reference}
 use Rattle.element_arrays.proofs.Replacing.{carried, refuses_own, slots_handed_on}
 use Rattle.element_arrays.proofs.edits.remove_ref.Goals as goal
 

@@ -7,7 +7,8 @@ use Rattle.geos_model.specs.declared.fault.Fault.TheVariants.{NoElement}
 use Rattle.element_arrays.specs.Slotted.{slotted_bytes, with_slots}
 use Rattle.element_arrays.specs.Used.{used_element}
 use Rattle.element_arrays.specs.Referencing.{referenced, referencing}
-use Rattle.element_arrays.proofs.UsedElements.{bounded, own_size, count_at-is, bytes_at-is, whole_element}
+use Rattle.geos_model.proofs.UsedElements.{bounded, own_size, count_at-is, bytes_at-is}
+use Rattle.element_arrays.proofs.UsedElements.{whole_element}
 use Rattle.element_arrays.proofs.Replacing.{carried, refuses_own, slots_handed_on}
 use Rattle.element_arrays.proofs.edits.with_reference.Goals as goal
 

@@ -4,8 +4,9 @@ use Rattle.geos_model.specs.Words.{word}
 use Rattle.geos_model.specs.Array.{Array}
 use Rattle.geos_model.specs.ElementArray.{first_token, is_sound, slots_array}
 use Rattle.geos_model.specs.ElementEdits.{with_new}
+use Rattle.chunk_arrays.specs.Rewriting.{extra_after}
 use Rattle.element_arrays.specs.Slotted.{Slotted, slotted_array}
-use Rattle.element_arrays.proofs.SlotEdits.{is_even-slots, length-slots, extra-slots, same_extra, spelled-parts, length-parts, newest_lt, newest_link, token-none, put-none, token-some, put-some, put, gives, refuses, carried}
+use Rattle.element_arrays.proofs.SlotEdits.{is_even-slots, length-slots, extra-slots, extra_put, extra_room, spelled-parts, length-parts, newest_lt, newest_link, token-none, put-none, token-some, put-some, put, gives, refuses, carried}
 use Rattle.element_arrays.proofs.slot_view.SlotView.with_new.Goals as goal
 
 -- the bytes that come in
@@ -25,7 +26,7 @@ pub rewrite-requires-clause-even : goal.rewrite-requires-clause-even
 rewrite-requires-clause-even c =
     let s : Slotted = c.args.self.now in
     let head = c.args.head.now in let tail = c.args.tail.now in
-    is_even-slots s.more s.slots c.array-array.result.now c.extra.result.now c.len-len.result c.len-len.result (coming head tail) c.array-array.ensures.value c.array-array.ensures.even
+    is_even-slots s.more s.slots c.array-array.result.now c.array-array.result.now.extra c.len-len.result c.len-len.result (coming head tail) c.array-array.ensures.value c.array-array.ensures.even
     (length-parts s.slots.size 1 (coming head tail) (head ++ tail) (coming_is head tail) c.requires)
 
 pub element-requires : goal.element-requires
@@ -41,8 +42,8 @@ link_at s v t at element is sound free place e =
     let same : element ≡ get_or v.elements t [] = e ∙ ap (λ (n : ℕ). get_or v.elements n []) place in
     subst (λ x. (2 ≤ length x) × (take 2 x ≡ word (first_token (drop 1 s.slots.free)))) (sym same) (newest_link s.more s.slots v t is sound free)
 
-pub first_word-requires : goal.first_word-requires
-first_word-requires c =
+pub first_word-next-requires : goal.first_word-next-requires
+first_word-next-requires c =
     (link_at c.args.self.now c.array-array.result.now c.in-Some.token.0 c.from-at.result c.element.result.now c.array-array.ensures.value c.newest_free.ensures.sound c.in-Some.ensures.newest c.from-at.ensures c.element.ensures).0
 
 pub rewrite-requires-in-Some-clause-within : goal.rewrite-requires-in-Some-clause-within
@@ -52,25 +53,19 @@ rewrite-requires-in-Some-clause-within c =
     let low = newest_lt s.slots c.in-Some.token.0 c.newest_free.ensures.sound c.in-Some.ensures.newest in
     omega (arith, len, low, c.from-at.ensures)
 
--- the extra bytes with that link as the first word
-linked_extra : (s : Slotted) (element first items extra : List ℕ) → take 2 element ≡ word (first_token (drop 1 s.slots.free)) → first ≡ take 2 element → items ≡ first ++ s.more → extra ≡ items → extra ≡ word (first_token (drop 1 s.slots.free)) ++ s.more
-linked_extra s element first items extra link head made read = read ∙ made ∙ ap (λ (w : List ℕ). w ++ s.more) (head ∙ link)
-
 pub rewrite-requires-in-Some-clause-extra : goal.rewrite-requires-in-Some-clause-extra
 rewrite-requires-in-Some-clause-extra c =
     let s : Slotted = c.args.self.now in
     let v = c.array-array.result.now in
     let is = c.array-array.ensures.value in
     let link = link_at s v c.in-Some.token.0 c.from-at.result c.element.result.now is c.newest_free.ensures.sound c.in-Some.ensures.newest c.from-at.ensures c.element.ensures in
-    same_extra s.more (first_token (drop 1 s.slots.free)) (first_token s.slots.free) c.deref.result.now v.extra
-    (linked_extra s c.element.result.now c.first_word.result.now c.in_ok-extra-in-Some.extra.items c.deref.result.now link.1 c.first_word.ensures c.in_ok-extra-in-Some.ensures c.deref.ensures.value)
-    (extra-slots s.more s.slots v is)
+    extra_room s.more s.slots v (first_token (drop 1 s.slots.free)) c.first_word-next.result.now is (c.first_word-next.ensures ∙ link.1)
 
 pub rewrite-requires-in-Some-clause-even : goal.rewrite-requires-in-Some-clause-even
 rewrite-requires-in-Some-clause-even c =
     let s : Slotted = c.args.self.now in
     let head = c.args.head.now in let tail = c.args.tail.now in
-    is_even-slots s.more s.slots c.array-array.result.now c.deref.result.now c.from-at.result (c.from-at.result + 1) (coming head tail) c.array-array.ensures.value c.array-array.ensures.even
+    is_even-slots s.more s.slots c.array-array.result.now (extra_after c.array-array.result.now c.first_word-next.result.now) c.from-at.result (c.from-at.result + 1) (coming head tail) c.array-array.ensures.value c.array-array.ensures.even
     (length-parts s.slots.size 1 (coming head tail) (head ++ tail) (coming_is head tail) c.requires)
 
 -- what comes out where no token is free
@@ -84,10 +79,10 @@ returns-in_err-splice-in-None c =
     let v = c.array-array.result.now in
     let head = c.args.head.now in let tail = c.args.tail.now in
     let n = c.len-len.result in
-    let extra = c.extra.result.now in
+    let extra = c.array-array.result.now.extra in
     carried c.from_residual.result _ _ c.in_err-splice-in-None.field-0.0 c.from_residual.ensures.1
     (refuses s (with_new s.slots (head ++ tail)).0 (put v extra n n (coming head tail)) c.in_err-splice-in-None.field-0.0
-    (next_is s v n extra head tail c.array-array.ensures.value c.in-None.ensures.newest c.len-len.ensures.value c.extra.ensures)
+    (next_is s v n extra head tail c.array-array.ensures.value c.in-None.ensures.newest c.len-len.ensures.value refl)
     c.in_err-splice-in-None.ensures)
 
 pub returns-in_ok-splice-in-None : goal.returns-in_ok-splice-in-None
@@ -96,9 +91,9 @@ returns-in_ok-splice-in-None c =
     let v = c.array-array.result.now in
     let head = c.args.head.now in let tail = c.args.tail.now in
     let n = c.len-len.result in
-    let extra = c.extra.result.now in (
+    let extra = c.array-array.result.now.extra in (
       gives s (with_new s.slots (head ++ tail)).0 v (put v extra n n (coming head tail)) c.in_ok-splice-in-None.splice c.array-array.ensures.value
-          (next_is s v n extra head tail c.array-array.ensures.value c.in-None.ensures.newest c.len-len.ensures.value c.extra.ensures)
+          (next_is s v n extra head tail c.array-array.ensures.value c.in-None.ensures.newest c.len-len.ensures.value refl)
           c.in_ok-splice-in-None.ensures,
       token-none s.slots (head ++ tail) n c.in-None.ensures.newest c.len-len.ensures.value,
     )
@@ -116,9 +111,9 @@ returns-in_err-splice-in-Some c =
     let t : ℕ = c.in-Some.token.0 in
     let at = c.from-at.result in
     let head = c.args.head.now in let tail = c.args.tail.now in
-    let extra = c.deref.result.now in
+    let extra = (extra_after c.array-array.result.now c.first_word-next.result.now) in
     let link = link_at s v t at c.element.result.now is c.newest_free.ensures.sound c.in-Some.ensures.newest c.from-at.ensures c.element.ensures in
-    let first = linked_extra s c.element.result.now c.first_word.result.now c.in_ok-extra-in-Some.extra.items extra link.1 c.first_word.ensures c.in_ok-extra-in-Some.ensures c.deref.ensures.value in
+    let first = extra_put s.more s.slots v (first_token (drop 1 s.slots.free)) c.first_word-next.result.now is (c.first_word-next.ensures ∙ link.1) in
     carried c.from_residual-in_err-splice-in-Some.result _ _ c.in_err-splice-in-Some.field-0.0 c.from_residual-in_err-splice-in-Some.ensures.1
     (refuses s (with_new s.slots (head ++ tail)).0 (put v extra at (at + 1) (coming head tail)) c.in_err-splice-in-Some.field-0.0
     (reused_is s v t at extra head tail is c.newest_free.ensures.sound c.in-Some.ensures.newest c.from-at.ensures first)
@@ -132,9 +127,9 @@ returns-in_ok-splice-in-Some c =
     let t : ℕ = c.in-Some.token.0 in
     let at = c.from-at.result in
     let head = c.args.head.now in let tail = c.args.tail.now in
-    let extra = c.deref.result.now in
+    let extra = (extra_after c.array-array.result.now c.first_word-next.result.now) in
     let link = link_at s v t at c.element.result.now is c.newest_free.ensures.sound c.in-Some.ensures.newest c.from-at.ensures c.element.ensures in
-    let first = linked_extra s c.element.result.now c.first_word.result.now c.in_ok-extra-in-Some.extra.items extra link.1 c.first_word.ensures c.in_ok-extra-in-Some.ensures c.deref.ensures.value in (
+    let first = extra_put s.more s.slots v (first_token (drop 1 s.slots.free)) c.first_word-next.result.now is (c.first_word-next.ensures ∙ link.1) in (
       gives s (with_new s.slots (head ++ tail)).0 v (put v extra at (at + 1) (coming head tail)) c.in_ok-splice-in-Some.splice is
           (reused_is s v t at extra head tail is c.newest_free.ensures.sound c.in-Some.ensures.newest c.from-at.ensures first)
           c.in_ok-splice-in-Some.ensures,

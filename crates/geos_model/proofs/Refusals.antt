@@ -1,0 +1,35 @@
+-- Where nothing refuses, no refusal's condition holds.
+use Rattle.std.proofs.Common.{◌≡◌, ℕ, Bool, true, false, ◌==◌, ◌&&◌, ◌||◌, List, [], ◌∷◌, Some, None, find, length, nat_lt, ◌<◌, ◌≤◌, sym, ap, subst, ◌∙◌, arith, inl, inr, eqb-true, ltb-false}
+use Rattle.std.proofs.lemmas.Bool.{cases_Bool, true≢false, cond-true, cond-false, or_parts}
+use Rattle.std.specs.List.{list_any}
+use Rattle.geos_model.specs.Refusal.{Conditions, number_of_fault, one_order, applies, first_refusal}
+use Rattle.geos_model.specs.declared.fault.Fault.{Fault}
+
+-- the refusal is in the list
+abbrev pub stands_in : Fault → List Fault → Bool
+stands_in f fs = list_any (λ x. number_of_fault x == number_of_fault f) fs
+
+none_found : (cs : Conditions) (f : Fault) (fs : List Fault) → find (applies cs) fs ≡ None → stands_in f fs ≡ true → applies cs f ≡ false
+none_found cs f [] none member = absurd (true≢false (sym member))
+none_found cs f (x ∷ xs) none member = elim (cases_Bool (applies cs x)) [
+  | inl holds ↦ (let some : Some x ≡ None = sym (cond-true (applies cs x) (Some x) (find (applies cs) xs) holds) ∙ none in absurd (cc))
+  | inr not_here ↦ elim (cases_Bool (number_of_fault x == number_of_fault f)) [
+    | inl same ↦ (let one : number_of_fault f ≡ number_of_fault x = sym (eqb-true (number_of_fault x) (number_of_fault f) same) in
+        ap (λ (n : ℕ). list_any (λ c. (number_of_fault c.0 == n) && c.1) cs) one ∙ not_here)
+    | inr other ↦ none_found cs f xs
+        (sym (cond-false (applies cs x) (Some x) (find (applies cs) xs) not_here) ∙ none)
+        (subst (λ b. (b || stands_in f xs) ≡ true) other member)
+  ]
+]
+
+-- Where nothing refuses, no condition holds of a refusal of the one order; that it stands there is `refl`.
+pub none_applies : (cs : Conditions) → first_refusal cs ≡ None → (f : Fault) → stands_in f one_order ≡ true → applies cs f ≡ false
+none_applies cs none f member = none_found cs f one_order none member
+
+-- Neither of two conditions holds.
+pub or_none : {x y : Bool} → (x || y) ≡ false → (x ≡ false) × (y ≡ false)
+or_none {x = x} {y = y} none = or_parts x y none
+
+-- bytes that aren't too long for a chunk
+pub short_of : (bytes : List ℕ) → (nat_lt 65498 (length bytes) || false) ≡ false → length bytes < 65536
+short_of bytes none = let most : length bytes ≤ 65498 = ltb-false 65498 (length bytes) (or_none none).0 in omega (arith, most)
