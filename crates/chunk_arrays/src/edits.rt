@@ -14,7 +14,7 @@ use geos_model::Fault;
 use std::alloc::Global;
 
 /// The greatest size of each element that an array can be made with.
-const GREATEST_SIZE: u32 = 4096;
+pub const GREATEST_SIZE: u32 = 4096;
 
 /// How many extra bytes an array can be made with at most.
 const GREATEST_EXTRA: u32 = 1024;

@@ -130,7 +130,7 @@ impl<'a> View<'a> {
         requires { i < length self.now.elements }
         ensures { result.now ≡ get_or self.now.elements i [] }
     {
-        // an array has so few elements that the next place is a number
+        // The type of the count tells the prover that there are fewer than 2^64 elements, so that the next place is a number.
         let _ = &self.count;
         self.run(i, i + 1)
     }

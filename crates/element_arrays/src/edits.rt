@@ -10,16 +10,13 @@ ghost use Rattle.element_arrays.specs.Referencing.{referenced, referencing};
 
 use crate::SlotView;
 use crate::reading::{read, used_at};
-use chunk_arrays::empty_bytes;
+use chunk_arrays::{GREATEST_SIZE, empty_bytes};
 use chunk_edits::Splice;
 use geos_model::{Fault, Token};
 use std::alloc::Global;
 
-/// The greatest size of each element that an array can be made with.
-const GREATEST_SIZE: u32 = 4096;
-
-/// How many references an element has at most.
-const GREATEST_COUNT: u32 = 0xFE_FFFF;
+/// How many references an element or a name has at most.
+pub const GREATEST_COUNT: u32 = 0xFE_FFFF;
 
 /// The newest free token of an array that has none.
 const NO_TOKEN: [u8; 2] = [0xFF, 0xFF];

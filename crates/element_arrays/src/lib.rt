@@ -1,5 +1,5 @@
-//! Element arrays: elements under tokens that never change, each with a count of references, in a chunk array. The slots that
-//! they lie in are those of name arrays too.
+//! Element arrays: elements under tokens, each with a count of references, in a chunk array. An edit of one leaves the tokens
+//! of all others. The slots that they lie in are those of name arrays too.
 #![tactic(auto)]
 
 mod edits;
@@ -8,6 +8,6 @@ mod reading;
 mod slot_edits;
 mod slot_view;
 
-pub use edits::{add, add_ref, change, create_bytes, delete, remove_ref};
+pub use edits::{GREATEST_COUNT, add, add_ref, change, create_bytes, delete, remove_ref};
 pub use look_ups::{count_of, data_of, token_of_used, used_count, used_of_token};
 pub use slot_view::{SlotView, Used, slots_in};

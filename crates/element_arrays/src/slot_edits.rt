@@ -4,7 +4,7 @@ ghost use Rattle.geos_model.specs.ElementArray.{element_at, greatest_count, is_s
 ghost use Rattle.geos_model.specs.ElementEdits.{with_element, without_element, with_new};
 ghost use Rattle.element_arrays.specs.Slotted.{GivesSlots, RefusesSlots};
 
-use crate::SlotView;
+use crate::slot_view::{FREE, SlotView};
 use byteorder::{ByteOrder, LittleEndian};
 use chunk_arrays::{NewElement, rewrite};
 use chunk_edits::Splice;
@@ -54,7 +54,7 @@ impl<'a> SlotView<'a> {
         let number = token.0.to_le_bytes();
         let element = NewElement {
             head: first_word(array.extra()),
-            middle: &[0xFF],
+            middle: &[FREE],
             tail: &[],
             zeros: self.element_size(),
         };

@@ -16,7 +16,7 @@ use geos_model::{Fault, Token};
 use std::marker::Model;
 
 /// The third byte of a free element, and of no count.
-const FREE: u8 = 0xFF;
+pub(crate) const FREE: u8 = 0xFF;
 
 /// The link of the last free element.
 const NO_TOKEN: u16 = 0xFFFF;

@@ -1,5 +1,5 @@
 -- An accepted edit of an array leaves an array.
-use Rattle.std.proofs.Common.{◌≡◌, ℕ, ◌+◌, ◌≤◌, Bool, true, false, ◌&&◌, ◌||◌, not, ◌==◌, nat_lt, List, [], ◌∷◌, ◌++◌, length, take, drop, get_or, Option, Some, None, refl, sym, ap, subst, ◌∙◌, arith, inl, inr, ltb-false, lt-ltb}
+use Rattle.std.proofs.Common.{◌≡◌, ◌<◌, ℕ, ◌+◌, ◌≤◌, Bool, true, false, ◌&&◌, ◌||◌, not, ◌==◌, nat_lt, List, [], ◌∷◌, ◌++◌, length, take, drop, get_or, Option, Some, None, refl, sym, ap, subst, ◌∙◌, arith, inl, inr, ltb-false, lt-ltb}
 use Rattle.std.proofs.lemmas.Bool.{cases_Bool, and_parts, and_from}
 use Rattle.std.proofs.lemmas.List.{take-append-drop}
 use Rattle.std.proofs.lemmas.List.Folds.{list_all-append}
@@ -7,10 +7,10 @@ use Rattle.std.specs.List.{splice, list_all}
 use Rattle.std.specs.Option.{unwrap_or, is_none}
 use Rattle.geos_model.specs.Bytes.{resized}
 use Rattle.geos_model.specs.Array.{Array, array_bytes, array_of, is_even}
-use Rattle.geos_model.specs.ArrayEdits.{new_array, array_in, with_elements, on_array, create_conditions, insert_conditions, set_conditions, resize_conditions, delete_conditions, too_long, is_missized}
+use Rattle.geos_model.specs.ArrayEdits.{new_array, array_in, with_elements, on_array, create_conditions, insert_conditions, set_conditions, resize_conditions, delete_conditions, is_missized}
 use Rattle.geos_model.specs.EditLaws.{LeavesArray, ArrayEditsLaw}
-use Rattle.geos_model.specs.declared.fault.Fault.TheVariants.{NotArray, Range, Full}
-use Rattle.geos_model.proofs.Refusals.{none_applies, or_none, short_of}
+use Rattle.geos_model.specs.declared.fault.Fault.TheVariants.{NotArray, Range}
+use Rattle.geos_model.proofs.Refusals.{none_applies, or_none}
 use Rattle.geos_model.proofs.Arrays.{all_even, array_bytes-of, array_again}
 
 -- what holds of all holds of the first and of the rest
@@ -73,22 +73,18 @@ even_in bytes is = by_read (array_of bytes) refl is
     by_read None e none = absurd (cc)
     by_read (Some a) e some = (array_bytes-of bytes a e).0
 
--- an even array that is short enough is read back
-left : (a : Array) → is_even a ≡ true → (nat_lt 65498 (length (array_bytes a)) || false) ≡ false → array_of (array_bytes a) ≡ Some a
-left a even short = array_again a even (short_of (array_bytes a) short)
-
 -- with one element that has not another size in the place of some
 leaves_one : (bytes : List ℕ) (from to : ℕ) (x : List ℕ) → is_none (array_of bytes) ≡ false → is_missized (array_in bytes).size x ≡ false
-    → (nat_lt 65498 (length (array_bytes (with_elements (array_in bytes) from to (x ∷ [])))) || false) ≡ false
+    → length (array_bytes (with_elements (array_in bytes) from to (x ∷ []))) < 65536
     → array_of (array_bytes (with_elements (array_in bytes) from to (x ∷ []))) ≡ Some (with_elements (array_in bytes) from to (x ∷ []))
 leaves_one bytes from to x is sized short =
-    left (with_elements (array_in bytes) from to (x ∷ [])) (even_with_one (array_in bytes) (array_in bytes).extra from to x x (even_in bytes is) refl sized) short
+    array_again (with_elements (array_in bytes) from to (x ∷ [])) (even_with_one (array_in bytes) (array_in bytes).extra from to x x (even_in bytes is) refl sized) short
 
 leaves_none : (bytes : List ℕ) (from to : ℕ) → is_none (array_of bytes) ≡ false
-    → (nat_lt 65498 (length (array_bytes (with_elements (array_in bytes) from to []))) || false) ≡ false
+    → length (array_bytes (with_elements (array_in bytes) from to [])) < 65536
     → array_of (array_bytes (with_elements (array_in bytes) from to [])) ≡ Some (with_elements (array_in bytes) from to [])
 leaves_none bytes from to is short =
-    left (with_elements (array_in bytes) from to []) (even_with_none (array_in bytes) (array_in bytes).extra from to (even_in bytes is)) short
+    array_again (with_elements (array_in bytes) from to []) (even_with_none (array_in bytes) (array_in bytes).extra from to (even_in bytes is)) short
 
 created_even : (size extra : ℕ) → (nat_lt 4096 size || nat_lt 1024 extra) ≡ false → is_even (new_array size extra) ≡ true
 created_even size extra small =
@@ -102,34 +98,34 @@ any_fits : (n : ℕ) (x : List ℕ) → not (n == 0) ≡ false → is_missized n
 any_fits n x any = ap (λ (b : Bool). b && not (length x == n)) any
 
 leaves_insert : (bytes : List ℕ) (i : ℕ) (element : List ℕ) → LeavesArray (insert_conditions bytes i element) (with_elements (array_in bytes) i i (element ∷ []))
-leaves_insert bytes i element none =
-    let conditions = insert_conditions bytes i element ++ too_long (array_bytes (with_elements (array_in bytes) i i (element ∷ []))) in
-    leaves_one bytes i i element (or_none (none_applies conditions none NotArray refl)).0 (or_none (or_none (none_applies conditions none Range refl)).0).1 (none_applies conditions none Full refl)
+leaves_insert bytes i element none short =
+    let conditions = insert_conditions bytes i element in
+    leaves_one bytes i i element (or_none (none_applies conditions none NotArray refl)).0 (or_none (or_none (none_applies conditions none Range refl)).0).1 short
 
 leaves_set : (bytes : List ℕ) (i : ℕ) (element : List ℕ) → LeavesArray (set_conditions bytes i element) (with_elements (array_in bytes) i (i + 1) (element ∷ []))
-leaves_set bytes i element none =
-    let conditions = set_conditions bytes i element ++ too_long (array_bytes (with_elements (array_in bytes) i (i + 1) (element ∷ []))) in
-    leaves_one bytes i (i + 1) element (or_none (none_applies conditions none NotArray refl)).0 (or_none (none_applies conditions none Range refl)).0 (none_applies conditions none Full refl)
+leaves_set bytes i element none short =
+    let conditions = set_conditions bytes i element in
+    leaves_one bytes i (i + 1) element (or_none (none_applies conditions none NotArray refl)).0 (or_none (none_applies conditions none Range refl)).0 short
 
 leaves_resize : (bytes : List ℕ) (i n : ℕ) → LeavesArray (resize_conditions bytes i) (with_elements (array_in bytes) i (i + 1) (resized (get_or (array_in bytes).elements i []) n ∷ []))
-leaves_resize bytes i n none =
+leaves_resize bytes i n none short =
     let x : List ℕ = resized (get_or (array_in bytes).elements i []) n in
-    let conditions = resize_conditions bytes i ++ too_long (array_bytes (with_elements (array_in bytes) i (i + 1) (x ∷ []))) in
-    leaves_one bytes i (i + 1) x (or_none (none_applies conditions none NotArray refl)).0 (any_fits (array_in bytes).size x (or_none (none_applies conditions none Range refl)).0) (none_applies conditions none Full refl)
+    let conditions = resize_conditions bytes i in
+    leaves_one bytes i (i + 1) x (or_none (none_applies conditions none NotArray refl)).0 (any_fits (array_in bytes).size x (or_none (none_applies conditions none Range refl)).0) short
 
 leaves_delete : (bytes : List ℕ) (i k : ℕ) → LeavesArray (delete_conditions bytes i k) (with_elements (array_in bytes) i (i + k) [])
-leaves_delete bytes i k none =
-    let conditions = delete_conditions bytes i k ++ too_long (array_bytes (with_elements (array_in bytes) i (i + k) [])) in
-    leaves_none bytes i (i + k) (or_none (none_applies conditions none NotArray refl)).0 (none_applies conditions none Full refl)
+leaves_delete bytes i k none short =
+    let conditions = delete_conditions bytes i k in
+    leaves_none bytes i (i + k) (or_none (none_applies conditions none NotArray refl)).0 short
 
 pub array_edits_law : ArrayEditsLaw
 array_edits_law = record {
-  create = λ size extra none. let conditions = create_conditions size extra ++ too_long (array_bytes (new_array size extra)) in
-      left (new_array size extra) (created_even size extra (or_none (none_applies conditions none Range refl)).0) (none_applies conditions none Full refl);
+  create = λ size extra none short. let conditions = create_conditions size extra in
+      array_again (new_array size extra) (created_even size extra (or_none (none_applies conditions none Range refl)).0) short;
   insert = leaves_insert;
   set = leaves_set;
   resize = leaves_resize;
   delete = leaves_delete;
-  zero = λ bytes none. let conditions = on_array bytes ++ too_long (array_bytes (record (array_in bytes) { elements = [] })) in
-      left (record (array_in bytes) { elements = [] }) (zeroed_even (array_in bytes) (even_in bytes (or_none (none_applies conditions none NotArray refl)).0)) (none_applies conditions none Full refl);
+  zero = λ bytes none short. let conditions = on_array bytes in
+      array_again (record (array_in bytes) { elements = [] }) (zeroed_even (array_in bytes) (even_in bytes (or_none (none_applies conditions none NotArray refl)).0)) short;
 }

@@ -9,16 +9,16 @@ use Rattle.std.specs.List.{list_all, list_any}
 use Rattle.std.specs.Option.{option_map_or}
 use Rattle.geos_model.specs.Refusal.{Conditions, one_order, applies, first_refusal}
 use Rattle.geos_model.specs.Bytes.{same_bytes}
-use Rattle.geos_model.specs.ArrayEdits.{is_missized, too_long}
-use Rattle.geos_model.specs.ElementArray.{Element, Slots, element_at, is_free, all_distinct, is_good_slot, is_sound, greatest_count, element_bytes, element_array_of}
+use Rattle.geos_model.specs.ArrayEdits.{is_missized}
+use Rattle.geos_model.specs.ElementArray.{Element, Slots, element_at, is_free, all_distinct, is_good_slot, is_sound, greatest_count, element_array_of}
 use Rattle.geos_model.specs.ElementEdits.{no_slots, elements_in, count_at, bytes_at, with_element, without_element, with_new_at, with_new, unreferenced, token_of, token_of_bytes, added, on_token, is_count_full, create_elements_conditions, add_conditions, add_reference_conditions, change_conditions}
 use Rattle.geos_model.specs.EditLaws.{KeepsOthers, LeavesElements, ElementEditsLaw}
 use Rattle.geos_model.specs.declared.fault.Fault.{Fault}
-use Rattle.geos_model.specs.declared.fault.Fault.TheVariants.{Full, Range, NotArray, NoElement, CountFull}
+use Rattle.geos_model.specs.declared.fault.Fault.TheVariants.{Range, NotArray, NoElement, CountFull}
 use Rattle.geos_model.proofs.ElementArrays.{sound_parts, sound_from, element_bytes-of, element_array_again}
 use Rattle.geos_model.proofs.FreeLists.{free_in, all_free-set}
 use Rattle.geos_model.proofs.UsedElements.{used_element, count_at-is, bytes_at-is, counted, bounded, own_size, found_element}
-use Rattle.geos_model.proofs.Refusals.{stands_in, none_applies, or_none, short_of}
+use Rattle.geos_model.proofs.Refusals.{stands_in, none_applies, or_none}
 
 -- The slots of other tokens.
 
@@ -226,11 +226,6 @@ pub used_from_not_none : (o : Option Element) → is_none o ≡ false → is_som
 used_from_not_none None used = absurd (true≢false used)
 used_from_not_none (Some e) used = refl
 
--- slots that are sound read back where their bytes aren't too long
-pub read_again : (new : Slots) → is_sound new ≡ true → (nat_lt 65498 (length (element_bytes new)) || false) ≡ false → element_array_of (element_bytes new) ≡ Some new
-read_again new sound fits =
-    element_array_again new sound (short_of (element_bytes new) fits)
-
 -- one reference more than a count that isn't full
 below_full : (n : ℕ) → n ≤ greatest_count → (n == greatest_count) ≡ false → n + 1 ≤ greatest_count
 below_full n most other = let apart = eqb-false n greatest_count other in omega (arith, most, apart)
@@ -275,61 +270,61 @@ module _ (bytes : List ℕ) (t : ℕ) (rest : Conditions) (none : first_refusal 
   token-used = used_from_not_none (element_at (elements_in bytes) t) (or_parts (is_none (element_at (elements_in bytes) t)) (applies rest NoElement) (past_all NoElement refl)).0
 
 edits-create : (size : ℕ) → LeavesElements (create_elements_conditions size) (no_slots size) (no_slots size) 0
-edits-create size none =
-    let cs : Conditions = create_elements_conditions size ++ too_long (element_bytes (no_slots size)) in
+edits-create size none short =
+    let cs : Conditions = create_elements_conditions size in
     let low : size ≤ 4096 = ltb-false 4096 size (or_none (none_applies cs none Range refl)).0 in
-    (read_again (no_slots size) (sound-no_slots size low) (none_applies cs none Full refl), λ u other. refl)
+    (element_array_again (no_slots size) (sound-no_slots size low) short, λ u other. refl)
 
 edits-add : (bytes element : List ℕ) → let s = elements_in bytes in LeavesElements (add_conditions bytes element) s (added s element).0 (added s element).1
-edits-add bytes element none =
+edits-add bytes element none short =
     let s : Slots = elements_in bytes in
     let new : Slots = (added s element).0 in
-    let cs : Conditions = add_conditions bytes element ++ too_long (element_bytes new) in
+    let cs : Conditions = add_conditions bytes element in
     let sound : is_sound s ≡ true = elements-sound bytes (or_none (none_applies cs none NotArray refl)).0 in
     let room : is_count_full s (token_of_bytes s element) ≡ false = (or_none (none_applies cs none CountFull refl)).0 in
     let fits : is_missized s.size element ≡ false = (or_none (none_applies cs none Range refl)).0 in
-    (read_again new (sound-added s element sound room fits) (none_applies cs none Full refl), others-added_at s element (token_of_bytes s element))
+    (element_array_again new (sound-added s element sound room fits) short, others-added_at s element (token_of_bytes s element))
 
 edits-add_reference : (bytes : List ℕ) (t : ℕ) → let s = elements_in bytes in LeavesElements (add_reference_conditions bytes t) s (with_element s t (count_at s t + 1) (bytes_at s t)) t
-edits-add_reference bytes t none =
+edits-add_reference bytes t none short =
     let s : Slots = elements_in bytes in
     let new : Slots = with_element s t (count_at s t + 1) (bytes_at s t) in
-    let rest : Conditions = (CountFull, is_count_full s (Some t)) ∷ too_long (element_bytes new) in
+    let rest : Conditions = (CountFull, is_count_full s (Some t)) ∷ [] in
     let cs : Conditions = on_token bytes t ++ rest in
     let sound = token-sound bytes t rest none in
     let used = token-used bytes t rest none in
     let room : (count_at s t == greatest_count) ≡ false = (or_none (none_applies cs none CountFull refl)).0 in
-    (read_again new (sound-referenced s t sound used room) (none_applies cs none Full refl), others-set s t (Some (record { count = count_at s t + 1; bytes = bytes_at s t })))
+    (element_array_again new (sound-referenced s t sound used room) short, others-set s t (Some (record { count = count_at s t + 1; bytes = bytes_at s t })))
 
 edits-remove_reference : (bytes : List ℕ) (t : ℕ) → let s = elements_in bytes in LeavesElements (on_token bytes t) s (unreferenced s t) t
-edits-remove_reference bytes t none =
+edits-remove_reference bytes t none short =
     let s : Slots = elements_in bytes in
     let new : Slots = unreferenced s t in
-    let rest : Conditions = too_long (element_bytes new) in
+    let rest : Conditions = [] in
     let sound = token-sound bytes t rest none in
     let used = token-used bytes t rest none in
-    (read_again new (sound-unreferenced s t sound used) (none_applies (on_token bytes t ++ rest) none Full refl), others-unreferenced s t)
+    (element_array_again new (sound-unreferenced s t sound used) short, others-unreferenced s t)
 
 edits-delete : (bytes : List ℕ) (t : ℕ) → let s = elements_in bytes in LeavesElements (on_token bytes t) s (without_element s t) t
-edits-delete bytes t none =
+edits-delete bytes t none short =
     let s : Slots = elements_in bytes in
     let new : Slots = without_element s t in
-    let rest : Conditions = too_long (element_bytes new) in
+    let rest : Conditions = [] in
     let sound = token-sound bytes t rest none in
     let used = token-used bytes t rest none in
-    (read_again new (sound-without_element s t sound used) (none_applies (on_token bytes t ++ rest) none Full refl), others-set s t None)
+    (element_array_again new (sound-without_element s t sound used) short, others-set s t None)
 
 edits-change : (bytes : List ℕ) (t : ℕ) (element : List ℕ) → let s = elements_in bytes in LeavesElements (change_conditions bytes t element) s (with_element s t (count_at s t) element) t
-edits-change bytes t element none =
+edits-change bytes t element none short =
     let s : Slots = elements_in bytes in
     let new : Slots = with_element s t (count_at s t) element in
-    let rest : Conditions = (Range, is_missized s.size element) ∷ too_long (element_bytes new) in
+    let rest : Conditions = (Range, is_missized s.size element) ∷ [] in
     let cs : Conditions = on_token bytes t ++ rest in
     let sound = token-sound bytes t rest none in
     let used = token-used bytes t rest none in
     let good = used_is_good s t sound used in
     let fits : is_missized s.size element ≡ false = (or_none (none_applies cs none Range refl)).0 in (
-      read_again new (sound-with_element s t (count_at s t) element sound used good.least good.most fits) (none_applies cs none Full refl),
+      element_array_again new (sound-with_element s t (count_at s t) element sound used good.least good.most fits) short,
       others-set s t (Some (record { count = count_at s t; bytes = element })),
     )
 

@@ -6,6 +6,7 @@ pub mod FreeLists
 pub mod ElementArrays
 pub mod NameArrays
 pub mod Refusals
+pub mod Order
 pub mod ArrayEdits
 pub mod UsedElements
 pub mod ElementEdits

@@ -1,5 +1,5 @@
 -- An accepted edit of a name array leaves one, and distinct names distinct.
-use Rattle.std.proofs.Common.{◌≡◌, ℕ, zero, suc, ◌+◌, ◌-◌, ◌<◌, ◌≤◌, Bool, true, false, ◌&&◌, ◌||◌, not, ◌==◌, nat_lt, nat_le, if◌then◌else◌, List, [], ◌∷◌, ◌++◌, length, take, drop, set, get_or, is_some, Option, Some, None, unwrap_or, refl, sym, ap, subst, ◌∙◌, arith, inl, inr, leb-true, leb-false, eqb-true, le-leb, ltb-false, length-take-le, length-append, lt-ltb}
+use Rattle.std.proofs.Common.{◌≡◌, ℕ, zero, suc, ◌+◌, ◌-◌, ◌<◌, ◌≤◌, Bool, true, false, ◌&&◌, not, ◌==◌, nat_lt, nat_le, if◌then◌else◌, List, [], ◌∷◌, ◌++◌, length, take, drop, set, get_or, is_some, Option, Some, None, unwrap_or, refl, sym, ap, subst, ◌∙◌, arith, inl, inr, leb-true, leb-false, eqb-true, le-leb, ltb-false, length-take-le, length-append, lt-ltb}
 use Rattle.std.proofs.lemmas.Bool.{cases_Bool, eqb-false, cases_lt, cases_eq, and_parts, and_from, cond-true, cond-false, eq-eqb}
 use Rattle.std.proofs.lemmas.List.{take-append-drop, get_or-append-add}
 use Rattle.std.proofs.lemmas.List.Folds.{list_all-append}
@@ -9,15 +9,15 @@ use Rattle.std.proofs.Math.Seq.{drop-append_seam}
 use Rattle.std.specs.List.{list_all, position, position_or_len}
 use Rattle.std.specs.Option.{is_none, option_map_or}
 use Rattle.geos_model.specs.Bytes.{same_bytes}
-use Rattle.geos_model.specs.ArrayEdits.{is_missized, too_long}
+use Rattle.geos_model.specs.ArrayEdits.{is_missized}
 use Rattle.geos_model.specs.ElementArray.{Element, Slots, element_at, is_sound, greatest_count}
 use Rattle.geos_model.specs.ElementEdits.{no_slots, count_at, bytes_at, with_element, without_element, with_new, with_new_at, unreferenced, is_count_full}
 use Rattle.geos_model.specs.NameArray.{NameArray, part_of, text_of, is_name, is_named, is_sound_names, name_bytes, name_array_of}
 use Rattle.geos_model.specs.NameEdits.{no_names, names_in, token_of_text, text_at, part_at, name_with_reference, added_name, on_name_token, is_name_in_use, create_names_conditions, add_name_conditions, change_name_conditions}
 use Rattle.geos_model.specs.EditLaws.{KeepsOthers, AreDistinct, LeavesNames, NameEditsLaw}
-use Rattle.geos_model.specs.declared.fault.Fault.TheVariants.{NotArray, NoElement, NameInUse, CountFull, Range, Full}
+use Rattle.geos_model.specs.declared.fault.Fault.TheVariants.{NotArray, NoElement, NameInUse, CountFull, Range}
 use Rattle.geos_model.proofs.UsedElements.{used_element, count_at-is, bytes_at-is, counted, bounded, found_element}
-use Rattle.geos_model.proofs.Refusals.{none_applies, or_none, short_of}
+use Rattle.geos_model.proofs.Refusals.{none_applies, or_none}
 use Rattle.geos_model.proofs.Arrays.{same_bytes-is, same_bytes-refl}
 use Rattle.geos_model.proofs.ElementEdits.{used_from_not_none, sound-with_element, sound-without_element, sound-with_new, others-set, others-with_new}
 use Rattle.geos_model.proofs.NameArrays.{IsSoundNames, sound_names_parts, name_bytes-of, name_array_again}
@@ -171,9 +171,9 @@ record Kept (a : NameArray) (s : Slots) (t : ℕ) : Type 0 where
   others : KeepsOthers a.names s t
   distinct : AreDistinct a → AreDistinct (holding a s)
 
-left : (a : NameArray) (s : Slots) (t : ℕ) → Kept a s t → (nat_lt 65498 (length (name_bytes (holding a s))) || false) ≡ false
+left : (a : NameArray) (s : Slots) (t : ℕ) → Kept a s t → length (name_bytes (holding a s)) < 65536
     → (name_array_of (name_bytes (holding a s)) ≡ Some (holding a s)) × KeepsOthers a.names s t × (AreDistinct a → AreDistinct (holding a s))
-left a s t kept short = (name_array_again (holding a s) kept.sound (short_of (name_bytes (holding a s)) short), kept.others, kept.distinct)
+left a s t kept short = (name_array_again (holding a s) kept.sound short, kept.others, kept.distinct)
 
 -- An element with a part and a name, in the place of one.
 module _ (a : NameArray) (was : IsSoundNames a) (t : ℕ) (e : Element) (is : element_at a.names t ≡ Some e)
@@ -294,47 +294,47 @@ kept_added_name a text part replace was room name long = by_token (token_of_text
 
 leaves_add : (bytes text part : List ℕ) (replace : Bool) → let a = names_in bytes in let new = added_name a text part replace in
     LeavesNames (add_name_conditions bytes text part) a (record a { names = new.0 }) new.1
-leaves_add bytes text part replace none =
+leaves_add bytes text part replace none short =
     let a : NameArray = names_in bytes in
     let new = added_name a text part replace in
-    let conditions = add_name_conditions bytes text part ++ too_long (name_bytes (holding a new.0)) in
+    let conditions = add_name_conditions bytes text part in
     let range = or_none (or_none (none_applies conditions none Range refl)).0 in
     let was = sound_names_parts a (names_sound bytes (or_none (none_applies conditions none NotArray refl)).0) in
     left a new.0 new.1
     (kept_added_name a text part replace was (or_none (none_applies conditions none CountFull refl)).0 (not_false (is_name text) range.0) (eqb-true (length part) a.part (not_false (length part == a.part) range.1)))
-    (none_applies conditions none Full refl)
+    short
 
 leaves_change : (bytes : List ℕ) (t : ℕ) (text : List ℕ) → let a = names_in bytes in
     LeavesNames (change_name_conditions bytes t text) a (record a { names = with_element a.names t (count_at a.names t) (part_at a t ++ text) }) t
-leaves_change bytes t text none =
+leaves_change bytes t text none short =
     let a : NameArray = names_in bytes in
     let new : Slots = with_element a.names t (count_at a.names t) (part_at a t ++ text) in
-    let conditions = change_name_conditions bytes t text ++ too_long (name_bytes (holding a new)) in
+    let conditions = change_name_conditions bytes t text in
     let was = sound_names_parts a (names_sound bytes (or_none (none_applies conditions none NotArray refl)).0) in
     let used = is_used a.names t (or_none (none_applies conditions none NoElement refl)).0 in
     let name = not_false (is_name text) (or_none (none_applies conditions none Range refl)).0 in
-    left a new t (kept_changed a t used.0 text was used.1 name (or_none (none_applies conditions none NameInUse refl)).0) (none_applies conditions none Full refl)
+    left a new t (kept_changed a t used.0 text was used.1 name (or_none (none_applies conditions none NameInUse refl)).0) short
 
 leaves_remove : (bytes : List ℕ) (t : ℕ) → let a = names_in bytes in LeavesNames (on_name_token bytes t) a (record a { names = unreferenced a.names t }) t
-leaves_remove bytes t none =
+leaves_remove bytes t none short =
     let a : NameArray = names_in bytes in
-    let conditions = on_name_token bytes t ++ too_long (name_bytes (holding a (unreferenced a.names t))) in
+    let conditions = on_name_token bytes t in
     let was = sound_names_parts a (names_sound bytes (or_none (none_applies conditions none NotArray refl)).0) in
     let used = is_used a.names t (or_none (none_applies conditions none NoElement refl)).0 in
-    left a (unreferenced a.names t) t (kept_unreferenced a t used.0 was used.1) (none_applies conditions none Full refl)
+    left a (unreferenced a.names t) t (kept_unreferenced a t used.0 was used.1) short
 
 created_sound : (part : ℕ) → nat_lt 64 part ≡ false → is_sound_names (no_names part) ≡ true
 unfolding is_sound_names is_sound
 created_sound part small = and_from (nat_le part 64) true (le-leb part 64 (ltb-false 64 part small)) refl
 
 leaves_create : (part : ℕ) → LeavesNames (create_names_conditions part) (no_names part) (no_names part) 0
-leaves_create part none =
-    let conditions = create_names_conditions part ++ too_long (name_bytes (no_names part)) in
+leaves_create part none short =
+    let conditions = create_names_conditions part in
     left (no_names part) (no_slots 0) 0 (record {
       sound = created_sound part (or_none (none_applies conditions none Range refl)).0;
       others = λ u other. refl;
       distinct = λ d. d;
-    }) (none_applies conditions none Full refl)
+    }) short
 
 pub name_edits_law : NameEditsLaw
 name_edits_law = record { create = leaves_create; add = leaves_add; change_name = leaves_change; remove_reference = leaves_remove }

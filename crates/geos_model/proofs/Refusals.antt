@@ -1,5 +1,5 @@
 -- Where nothing refuses, no refusal's condition holds.
-use Rattle.std.proofs.Common.{◌≡◌, ℕ, Bool, true, false, ◌==◌, ◌&&◌, ◌||◌, List, [], ◌∷◌, Some, None, find, length, nat_lt, ◌<◌, ◌≤◌, sym, ap, subst, ◌∙◌, arith, inl, inr, eqb-true, ltb-false}
+use Rattle.std.proofs.Common.{◌≡◌, ℕ, Bool, true, false, ◌==◌, ◌&&◌, ◌||◌, List, [], ◌∷◌, Some, None, find, sym, ap, subst, ◌∙◌, inl, inr, eqb-true}
 use Rattle.std.proofs.lemmas.Bool.{cases_Bool, true≢false, cond-true, cond-false, or_parts}
 use Rattle.std.specs.List.{list_any}
 use Rattle.geos_model.specs.Refusal.{Conditions, number_of_fault, one_order, applies, first_refusal}
@@ -29,7 +29,3 @@ none_applies cs none f member = none_found cs f one_order none member
 -- Neither of two conditions holds.
 pub or_none : {x y : Bool} → (x || y) ≡ false → (x ≡ false) × (y ≡ false)
 or_none {x = x} {y = y} none = or_parts x y none
-
--- bytes that aren't too long for a chunk
-pub short_of : (bytes : List ℕ) → (nat_lt 65498 (length bytes) || false) ≡ false → length bytes < 65536
-short_of bytes none = let most : length bytes ≤ 65498 = ltb-false 65498 (length bytes) (or_none none).0 in omega (arith, most)

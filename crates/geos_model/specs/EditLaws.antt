@@ -1,17 +1,17 @@
--- What accepted edits of arrays leave: arrays again, of what the edits mean.
-use Rattle.std.specs.Prelude.{◌≡◌, ◌+◌, ◌++◌, ℕ, List, [], ◌∷◌, Bool, Some, None, get_or}
+-- What accepted edits of arrays leave: arrays again, of what the edits mean. A chunk has fewer than 65,536 bytes.
+use Rattle.std.specs.Prelude.{◌≡◌, ◌<◌, ◌+◌, ◌++◌, ℕ, List, [], ◌∷◌, Bool, Some, None, length, get_or}
 use Rattle.geos_model.specs.Refusal.{Conditions, first_refusal}
 use Rattle.geos_model.specs.Bytes.{resized}
 use Rattle.geos_model.specs.Array.{Array, array_bytes, array_of}
-use Rattle.geos_model.specs.ArrayEdits.{new_array, array_in, with_elements, on_array, create_conditions, insert_conditions, set_conditions, resize_conditions, delete_conditions, too_long}
+use Rattle.geos_model.specs.ArrayEdits.{new_array, array_in, with_elements, on_array, create_conditions, insert_conditions, set_conditions, resize_conditions, delete_conditions}
 use Rattle.geos_model.specs.ElementArray.{Element, Slots, element_at, element_bytes, element_array_of}
 use Rattle.geos_model.specs.ElementEdits.{no_slots, elements_in, count_at, bytes_at, with_element, without_element, unreferenced, added, on_token, create_elements_conditions, add_conditions, add_reference_conditions, change_conditions}
 use Rattle.geos_model.specs.NameArray.{NameArray, text_of, name_bytes, name_array_of}
 use Rattle.geos_model.specs.NameEdits.{no_names, names_in, part_at, added_name, on_name_token, create_names_conditions, add_name_conditions, change_name_conditions}
 
--- Where nothing refuses an edit of a chunk array, its bytes are this array after it.
+-- Where none of its own conditions refuses an edit of a chunk array, its bytes are this array after it.
 abbrev pub LeavesArray : Conditions → Array → Type 0
-LeavesArray own a = first_refusal (own ++ too_long (array_bytes a)) ≡ None → array_of (array_bytes a) ≡ Some a
+LeavesArray own a = first_refusal own ≡ None → length (array_bytes a) < 65536 → array_of (array_bytes a) ≡ Some a
 
 pub record ArrayEditsLaw : Type 0 where
   pub create : (size extra : ℕ) → LeavesArray (create_conditions size extra) (new_array size extra)
@@ -28,7 +28,7 @@ KeepsOthers s new t = (u : ℕ) → (u ≡ t → ⊥) → element_at new u ≡ e
 -- So it is of an element array, where an edit changes the slot of this token alone.
 abbrev pub LeavesElements : Conditions → Slots → Slots → ℕ → Type 0
 LeavesElements own s new t =
-    first_refusal (own ++ too_long (element_bytes new)) ≡ None → (element_array_of (element_bytes new) ≡ Some new) × KeepsOthers s new t
+    first_refusal own ≡ None → length (element_bytes new) < 65536 → (element_array_of (element_bytes new) ≡ Some new) × KeepsOthers s new t
 
 pub record ElementEditsLaw : Type 0 where
   pub create : (size : ℕ) → LeavesElements (create_elements_conditions size) (no_slots size) (no_slots size) 0
@@ -46,7 +46,7 @@ AreDistinct a =
 -- So it is of a name array, and an edit that finds the names distinct leaves them distinct.
 abbrev pub LeavesNames : Conditions → NameArray → NameArray → ℕ → Type 0
 LeavesNames own a new t =
-    first_refusal (own ++ too_long (name_bytes new)) ≡ None
+    first_refusal own ≡ None → length (name_bytes new) < 65536
     → (name_array_of (name_bytes new) ≡ Some new) × KeepsOthers a.names new.names t × (AreDistinct a → AreDistinct new)
 
 pub record NameEditsLaw : Type 0 where

@@ -20,7 +20,7 @@ ImageLaw =
     ((a b : Body) → is_valid_body a ≡ true → is_valid_body b ≡ true → image a ≡ image b → a ≡ b)
     × ((b : Body) → is_valid_body b ≡ true → body_read (image b) ≡ b)
 
--- Bytes are an array exactly where they are the bytes of one, and that one is read back.
+-- What is read as an array is the bytes of that one, and one that isn't too long is read back from its bytes.
 abbrev pub ArrayLaw : Type 0
 ArrayLaw =
     ((bytes : List ℕ) (a : Array) → array_of bytes ≡ Some a → (is_even a ≡ true) × (array_bytes a ≡ bytes))

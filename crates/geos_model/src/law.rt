@@ -12,17 +12,17 @@ pub fn image_law()
     ensures { ImageLaw }
 {}
 
-/// Bytes are a chunk array exactly where they are the bytes of one, and of that one alone.
+/// What is read as a chunk array is the bytes of that one, and one with fewer than 65,536 bytes is read back from them.
 pub fn array_law()
     ensures { ArrayLaw }
 {}
 
-/// Bytes are an element array exactly where they are the bytes of one, and of that one alone.
+/// What is read as an element array is the bytes of that one, and one with fewer than 65,536 bytes is read back from them.
 pub fn element_array_law()
     ensures { ElementArrayLaw }
 {}
 
-/// Bytes are a name array exactly where they are the bytes of one, and of that one alone.
+/// What is read as a name array is the bytes of that one, and one with fewer than 65,536 bytes is read back from them.
 pub fn name_array_law()
     ensures { NameArrayLaw }
 {}

@@ -12,11 +12,9 @@ ghost use Rattle.chunk_arrays.specs.Replacing.{Replaces, RefusesToReplace};
 use crate::names::{GREATEST_PART, Names, is_name, read};
 use chunk_arrays::empty_bytes;
 use chunk_edits::Splice;
+use element_arrays::GREATEST_COUNT;
 use geos_model::{Fault, Token};
 use std::alloc::Global;
-
-/// How many references a name has at most.
-const GREATEST_COUNT: u32 = 0xFE_FFFF;
 
 /// The bytes of a name array without names: how many bytes the part before each name has. Range past 64.
 pub fn create_bytes(alloc: Global, part: u32) -> Result<Vec<u8>, Fault>

@@ -1,4 +1,5 @@
-//! Name arrays: names under tokens that never change, each with a count of references and a part of one size, in a chunk array.
+//! Name arrays: names under tokens, each with a count of references and a part of one size, in a chunk array. An edit of one
+//! leaves the tokens of all others.
 #![tactic(auto)]
 
 mod edits;

@@ -16,7 +16,7 @@ use Rattle.geos_model.specs.declared.fault.Fault.TheVariants.{NotArray, NoElemen
 use Rattle.geos_model.specs.declared.handle.ChunkHandle.{ChunkHandle}
 use Rattle.geos_model.specs.declared.handle.VmHandle.{VmHandle}
 use Rattle.element_arrays.specs.Answering.{Answers, IsRefused}
-use Rattle.undo_log.specs.Found.{IsChunkAt}
+use Rattle.undo_log.specs.Found.{AreLate, IsChunkAt}
 use Rattle.undo_log.proofs.Refusals.{past_chunk, refused_look_up}
 
 -- A look-up that nothing refuses.
@@ -78,3 +78,13 @@ module _ (m : Machine) (d : Document) (same : d ≡ m.document) (b : VmHandle) (
     element_answers i element l e =
         accepted_look_up m (commands.ArrayElement b c i) (BytesAre element) (by_count i false (lt-leb _ _ l))
         (ap BytesAre (e ∙ ap (λ (x : Array). get_or x.elements i []) (sym array_is) ∙ ap (λ (x : List ℕ). get_or (array_in x).elements i []) there.value)) refl
+
+-- The bytes of a chunk, or why there are none.
+pub read_answers : {X : Type 0} (m : Machine) (d : Document) (same : d ≡ m.document) (b : VmHandle) (c : ChunkHandle) (now : X → List ℕ) (r : Result X Fault)
+    → MatchResult r (λ x. IsChunkAt d b.0 c.0 (now x)) (λ fault. (rest : Conditions) → AreLate rest → first_refusal (on_chunk d b.0 c.0 ++ rest) ≡ Some fault)
+    → Step m (Some (commands.Read b c)) (reply_by (λ x. BytesAre (now x)) r) m
+read_answers m d same b c now (Ok x) found =
+    accepted_look_up m (commands.Read b c) (BytesAre (now x)) (past m d same b c (now x) found (λ bytes. [])) (ap BytesAre (there m d same b c (now x) found).value) refl
+read_answers m d same b c now (Err fault) refused =
+    refused_look_up m (commands.Read b c) (λ x. BytesAre (now x)) (Err fault) fault refl
+    (ap (λ (x : Document). first_refusal (on_chunk x b.0 c.0 ++ [])) (sym same) ∙ refused [] refl)

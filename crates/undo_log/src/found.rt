@@ -58,9 +58,6 @@ pub fn bytes_at(blocks: &Blocks, handle: VmHandle, chunk: ChunkHandle) -> Result
         (λ bytes. IsChunkAt blocks.now handle.0 chunk.0 bytes.now)
         (λ fault. (rest : Conditions) → AreLate rest → first_refusal (on_chunk blocks.now handle.0 chunk.0 ++ rest) ≡ Some fault) }
 {
-    let heap = heap_with(blocks, handle, chunk)?;
-    match heap.chunk(chunk) {
-        Some(bytes) => Ok(bytes),
-        None => unreachable!(),
-    }
+    let heap = heap_at(blocks, handle)?;
+    heap.chunk(chunk).ok_or(Fault::NoChunk)
 }

@@ -168,8 +168,7 @@ impl Session {
     pub fn read_chunk(&self, block: VmHandle, chunk: ChunkHandle) -> Result<&[u8], Fault>
         ensures { Step self.now (Some (commands.Read block chunk)) (reply_by (λ bytes. BytesAre bytes.now) result) self.now }
     {
-        let heap = heap_at(&self.blocks, block)?;
-        heap.chunk(chunk).ok_or(Fault::NoChunk)
+        bytes_at(&self.blocks, block, chunk)
     }
 
     /// How many elements the array in a chunk has.

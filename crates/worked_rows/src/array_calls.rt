@@ -13,10 +13,14 @@ const EVEN: [u8; 12] = [2, 0, 2, 0, 0, 0, 8, 0, 1, 2, 3, 4];
 
 const VARIED: [u8; 13] = [2, 0, 0, 0, 0, 0, 8, 0, 12, 0, 13, 0, 0x61];
 
-// Compares what a splice brings.
-pub(crate) fn brings<R: Abort>(rt: &R, splice: Result<Splice, Fault>, bytes: &[u8]) {
+// Compares a splice with what it takes away and what it brings.
+pub(crate) fn leads<R: Abort>(rt: &R, splice: Result<Splice, Fault>, from: &[u8], to: &[u8]) {
     match splice {
-        Ok(splice) => assert_eq!(rt; splice.new.as_slice(), bytes),
+        Ok(splice) => {
+            assert_eq!(rt; splice.at, 0);
+            assert_eq!(rt; splice.old.as_slice(), from);
+            assert_eq!(rt; splice.new.as_slice(), to);
+        }
         Err(fault) => assert!(rt; false, "{fault:?}"),
     }
 }
@@ -55,33 +59,38 @@ fn an_array_of_no_elements_is_made(rt: HostRuntime) -> Result<(), Fail> {
 #[test]
 fn elements_are_put_in_and_replaced(rt: HostRuntime) {
     let new = [5, 6];
-    brings(
+    leads(
         &rt,
         chunk_arrays::insert(rt.alloc(), EVEN.as_slice(), 1, new.as_slice()),
+        EVEN.as_slice(),
         [3, 0, 2, 0, 0, 0, 8, 0, 1, 2, 5, 6, 3, 4].as_slice(),
     );
-    brings(
+    leads(
         &rt,
         chunk_arrays::set(rt.alloc(), EVEN.as_slice(), 1, new.as_slice()),
+        EVEN.as_slice(),
         [2, 0, 2, 0, 0, 0, 8, 0, 1, 2, 5, 6].as_slice(),
     );
-    brings(
+    leads(
         &rt,
         chunk_arrays::resize(rt.alloc(), VARIED.as_slice(), 1, 2),
+        VARIED.as_slice(),
         [2, 0, 0, 0, 0, 0, 8, 0, 12, 0, 13, 0, 0x61, 0, 0].as_slice(),
     );
 }
 
 #[test]
 fn elements_are_deleted(rt: HostRuntime) {
-    brings(
+    leads(
         &rt,
         chunk_arrays::delete(rt.alloc(), EVEN.as_slice(), 0, 1),
+        EVEN.as_slice(),
         [1, 0, 2, 0, 0, 0, 8, 0, 3, 4].as_slice(),
     );
-    brings(
+    leads(
         &rt,
         chunk_arrays::zero(rt.alloc(), VARIED.as_slice()),
+        VARIED.as_slice(),
         [0, 0, 0, 0, 0, 0, 8, 0].as_slice(),
     );
 }

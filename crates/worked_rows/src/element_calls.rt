@@ -1,5 +1,5 @@
 // Each public call of element arrays and name arrays once, with ample memory.
-use crate::array_calls::brings;
+use crate::array_calls::leads;
 use chunk_edits::Splice;
 use element_arrays::slots_in;
 use geos_model::{Fault, Token};
@@ -17,12 +17,18 @@ const NAMES: [u8; 19] = [
 
 const FIRST: Token = Token(0);
 
-// Compares what a splice brings, and its token.
-fn brings_at<R: Abort>(rt: &R, made: Result<(Splice, Token), Fault>, bytes: &[u8], token: Token) {
+// Compares a splice with what it takes away and what it brings, and its token.
+fn leads_at<R: Abort>(
+    rt: &R,
+    made: Result<(Splice, Token), Fault>,
+    from: &[u8],
+    to: &[u8],
+    token: Token,
+) {
     match made {
         Ok((splice, at)) => {
-            assert_eq!(rt; splice.new.as_slice(), bytes);
             assert_eq!(rt; at, token);
+            leads(rt, Ok(splice), from, to);
         }
         Err(fault) => assert!(rt; false, "{fault:?}"),
     }
@@ -30,18 +36,20 @@ fn brings_at<R: Abort>(rt: &R, made: Result<(Splice, Token), Fault>, bytes: &[u8
 
 #[test]
 fn an_element_is_added(rt: HostRuntime) {
-    brings_at(
+    leads_at(
         &rt,
         element_arrays::add(rt.alloc(), ELEMENTS.as_slice(), [0x61].as_slice()),
+        ELEMENTS.as_slice(),
         [
             2, 0, 0, 0, 0, 0, 10, 0, 1, 0, 14, 0, 18, 0, 3, 0, 0, 0x61, 255, 255, 255,
         ]
         .as_slice(),
         FIRST,
     );
-    brings_at(
+    leads_at(
         &rt,
         element_arrays::add(rt.alloc(), ELEMENTS.as_slice(), [].as_slice()),
+        ELEMENTS.as_slice(),
         [
             2, 0, 0, 0, 0, 0, 10, 0, 255, 255, 14, 0, 18, 0, 2, 0, 0, 0x61, 1, 0, 0,
         ]
@@ -52,17 +60,19 @@ fn an_element_is_added(rt: HostRuntime) {
 
 #[test]
 fn references_are_added_and_removed(rt: HostRuntime) {
-    brings(
+    leads(
         &rt,
         element_arrays::add_ref(rt.alloc(), ELEMENTS.as_slice(), FIRST),
+        ELEMENTS.as_slice(),
         [
             2, 0, 0, 0, 0, 0, 10, 0, 1, 0, 14, 0, 18, 0, 3, 0, 0, 0x61, 255, 255, 255,
         ]
         .as_slice(),
     );
-    brings(
+    leads(
         &rt,
         element_arrays::remove_ref(rt.alloc(), ELEMENTS.as_slice(), FIRST),
+        ELEMENTS.as_slice(),
         [
             2, 0, 0, 0, 0, 0, 10, 0, 1, 0, 14, 0, 18, 0, 1, 0, 0, 0x61, 255, 255, 255,
         ]
@@ -72,17 +82,19 @@ fn references_are_added_and_removed(rt: HostRuntime) {
 
 #[test]
 fn an_element_is_freed_or_changed(rt: HostRuntime) {
-    brings(
+    leads(
         &rt,
         element_arrays::delete(rt.alloc(), ELEMENTS.as_slice(), FIRST),
+        ELEMENTS.as_slice(),
         [
             2, 0, 0, 0, 0, 0, 10, 0, 0, 0, 14, 0, 17, 0, 1, 0, 255, 255, 255, 255,
         ]
         .as_slice(),
     );
-    brings(
+    leads(
         &rt,
         element_arrays::change(rt.alloc(), ELEMENTS.as_slice(), FIRST, [0x62].as_slice()),
+        ELEMENTS.as_slice(),
         [
             2, 0, 0, 0, 0, 0, 10, 0, 1, 0, 14, 0, 18, 0, 2, 0, 0, 0x62, 255, 255, 255,
         ]
@@ -112,7 +124,13 @@ fn slots_are_read_where_they_lie(rt: HostRuntime) {
             assert_eq!(rt; slots.len(), 2);
             assert_eq!(rt; slots.element_size(), 0);
             assert_eq!(rt; slots.more().len(), 0);
-            assert!(rt; slots.element(FIRST).is_some());
+            match slots.element(FIRST) {
+                Some(used) => {
+                    assert_eq!(rt; used.count, 2);
+                    assert_eq!(rt; used.bytes, [0x61].as_slice());
+                }
+                None => assert!(rt; false),
+            }
             assert!(rt; slots.element(Token(1)).is_none());
         }
         Err(fault) => assert!(rt; false, "{fault:?}"),
@@ -122,26 +140,29 @@ fn slots_are_read_where_they_lie(rt: HostRuntime) {
 #[test]
 fn a_name_is_added_changed_and_freed(rt: HostRuntime) {
     let bytes = NAMES.as_slice();
-    brings_at(
+    leads_at(
         &rt,
         name_arrays::add(rt.alloc(), bytes, [0x61].as_slice(), [8].as_slice(), true),
+        bytes,
         [
             1, 0, 0, 0, 0, 0, 12, 0, 255, 255, 1, 0, 14, 0, 2, 0, 0, 8, 0x61,
         ]
         .as_slice(),
         FIRST,
     );
-    brings(
+    leads(
         &rt,
         name_arrays::change_name(rt.alloc(), bytes, FIRST, [0x62].as_slice()),
+        bytes,
         [
             1, 0, 0, 0, 0, 0, 12, 0, 255, 255, 1, 0, 14, 0, 1, 0, 0, 7, 0x62,
         ]
         .as_slice(),
     );
-    brings(
+    leads(
         &rt,
         name_arrays::remove_ref(rt.alloc(), bytes, FIRST),
+        bytes,
         [1, 0, 0, 0, 0, 0, 12, 0, 0, 0, 1, 0, 14, 0, 255, 255, 255].as_slice(),
     );
 }

@@ -16,6 +16,8 @@ mod elements;
 #[cfg(test)]
 mod heaps;
 #[cfg(test)]
+mod long_runs;
+#[cfg(test)]
 mod raws;
 #[cfg(test)]
 mod regions;
