@@ -7,7 +7,7 @@ use Rattle.std.specs.List.{splice, list_all}
 use Rattle.std.specs.Option.{unwrap_or, is_none}
 use Rattle.geos_model.specs.Bytes.{resized}
 use Rattle.geos_model.specs.Array.{Array, array_bytes, array_of, is_even}
-use Rattle.geos_model.specs.ArrayEdits.{new_array, array_in, with_elements, on_array, create_conditions, insert_conditions, set_conditions, resize_conditions, delete_conditions, is_missized}
+use Rattle.geos_model.specs.ArrayEdits.{new_array, array_in, with_elements, element_inserted, element_set, element_resized, elements_deleted, on_array, create_conditions, insert_conditions, set_conditions, resize_conditions, delete_conditions, is_missized}
 use Rattle.geos_model.specs.EditLaws.{LeavesArray, ArrayEditsLaw}
 use Rattle.geos_model.specs.declared.fault.Fault.TheVariants.{NotArray, Range}
 use Rattle.geos_model.proofs.Refusals.{none_applies, or_none}
@@ -97,23 +97,23 @@ zeroed_even a even = and_from (nat_lt a.size 65536) (a.size == 0 || true) (and_p
 any_fits : (n : ℕ) (x : List ℕ) → not (n == 0) ≡ false → is_missized n x ≡ false
 any_fits n x any = ap (λ (b : Bool). b && not (length x == n)) any
 
-leaves_insert : (bytes : List ℕ) (i : ℕ) (element : List ℕ) → LeavesArray (insert_conditions bytes i element) (with_elements (array_in bytes) i i (element ∷ []))
+leaves_insert : (bytes : List ℕ) (i : ℕ) (element : List ℕ) → LeavesArray (insert_conditions bytes i element) (element_inserted bytes i element) (with_elements (array_in bytes) i i (element ∷ []))
 leaves_insert bytes i element none short =
     let conditions = insert_conditions bytes i element in
     leaves_one bytes i i element (or_none (none_applies conditions none NotArray refl)).0 (or_none (or_none (none_applies conditions none Range refl)).0).1 short
 
-leaves_set : (bytes : List ℕ) (i : ℕ) (element : List ℕ) → LeavesArray (set_conditions bytes i element) (with_elements (array_in bytes) i (i + 1) (element ∷ []))
+leaves_set : (bytes : List ℕ) (i : ℕ) (element : List ℕ) → LeavesArray (set_conditions bytes i element) (element_set bytes i element) (with_elements (array_in bytes) i (i + 1) (element ∷ []))
 leaves_set bytes i element none short =
     let conditions = set_conditions bytes i element in
     leaves_one bytes i (i + 1) element (or_none (none_applies conditions none NotArray refl)).0 (or_none (none_applies conditions none Range refl)).0 short
 
-leaves_resize : (bytes : List ℕ) (i n : ℕ) → LeavesArray (resize_conditions bytes i) (with_elements (array_in bytes) i (i + 1) (resized (get_or (array_in bytes).elements i []) n ∷ []))
+leaves_resize : (bytes : List ℕ) (i n : ℕ) → LeavesArray (resize_conditions bytes i) (element_resized bytes i n) (with_elements (array_in bytes) i (i + 1) (resized (get_or (array_in bytes).elements i []) n ∷ []))
 leaves_resize bytes i n none short =
     let x : List ℕ = resized (get_or (array_in bytes).elements i []) n in
     let conditions = resize_conditions bytes i in
     leaves_one bytes i (i + 1) x (or_none (none_applies conditions none NotArray refl)).0 (any_fits (array_in bytes).size x (or_none (none_applies conditions none Range refl)).0) short
 
-leaves_delete : (bytes : List ℕ) (i k : ℕ) → LeavesArray (delete_conditions bytes i k) (with_elements (array_in bytes) i (i + k) [])
+leaves_delete : (bytes : List ℕ) (i k : ℕ) → LeavesArray (delete_conditions bytes i k) (elements_deleted bytes i k) (with_elements (array_in bytes) i (i + k) [])
 leaves_delete bytes i k none short =
     let conditions = delete_conditions bytes i k in
     leaves_none bytes i (i + k) (or_none (none_applies conditions none NotArray refl)).0 short

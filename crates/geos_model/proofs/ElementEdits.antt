@@ -10,8 +10,8 @@ use Rattle.std.specs.Option.{option_map_or}
 use Rattle.geos_model.specs.Refusal.{Conditions, one_order, applies, first_refusal}
 use Rattle.geos_model.specs.Bytes.{same_bytes}
 use Rattle.geos_model.specs.ArrayEdits.{is_missized}
-use Rattle.geos_model.specs.ElementArray.{Element, Slots, element_at, is_free, all_distinct, is_good_slot, is_sound, greatest_count, element_array_of}
-use Rattle.geos_model.specs.ElementEdits.{no_slots, elements_in, count_at, bytes_at, with_element, without_element, with_new_at, with_new, unreferenced, token_of, token_of_bytes, added, on_token, is_count_full, create_elements_conditions, add_conditions, add_reference_conditions, change_conditions}
+use Rattle.geos_model.specs.ElementArray.{Element, Slots, element_at, is_free, all_distinct, is_good_slot, is_sound, greatest_count, element_bytes, element_array_of}
+use Rattle.geos_model.specs.ElementEdits.{no_slots, elements_in, count_at, bytes_at, with_element, without_element, with_new_at, with_new, unreferenced, token_of, token_of_bytes, added, on_token, is_count_full, create_elements_conditions, add_conditions, add_reference_conditions, change_conditions, element_added, reference_added, reference_removed, element_deleted, element_changed}
 use Rattle.geos_model.specs.EditLaws.{KeepsOthers, LeavesElements, ElementEditsLaw}
 use Rattle.geos_model.specs.declared.fault.Fault.{Fault}
 use Rattle.geos_model.specs.declared.fault.Fault.TheVariants.{Range, NotArray, NoElement, CountFull}
@@ -48,13 +48,13 @@ others-unreferenced s t u other = elim (cases_Bool (nat_le (count_at s t) 1)) [
 
 -- One slot that is another.
 
--- each slot is good where the new one is
-good-set : (size : ℕ) (slots : List (Option Element)) (t : ℕ) (slot : Option Element) → list_all (is_good_slot size) slots ≡ true → is_good_slot size slot ≡ true → list_all (is_good_slot size) (set slots t slot) ≡ true
-good-set size [] t slot all good = refl
-good-set size (x ∷ xs) zero slot all good = and_from (is_good_slot size slot) (list_all (is_good_slot size) xs) good (and_parts (is_good_slot size x) (list_all (is_good_slot size) xs) all).1
-good-set size (x ∷ xs) (suc t) slot all good =
-    let parts = and_parts (is_good_slot size x) (list_all (is_good_slot size) xs) all in
-    and_from (is_good_slot size x) (list_all (is_good_slot size) (set xs t slot)) parts.0 (good-set size xs t slot parts.1 good)
+-- what holds of each slot and of the new one
+pub all_set : (p : Option Element → Bool) (slots : List (Option Element)) (t : ℕ) (slot : Option Element) → list_all p slots ≡ true → p slot ≡ true → list_all p (set slots t slot) ≡ true
+all_set p [] t slot all here = refl
+all_set p (o ∷ slots) zero slot all here = and_from (p slot) (list_all p slots) here (and_parts (p o) (list_all p slots) all).1
+all_set p (o ∷ slots) (suc t) slot all here =
+    let parts = and_parts (p o) (list_all p slots) all in
+    and_from (p o) (list_all p (set slots t slot)) parts.0 (all_set p slots t slot parts.1 here)
 
 -- a slot isn't both used and free
 used_or_free : (o : Option Element) → is_some o ≡ true → is_none o ≡ false
@@ -116,7 +116,7 @@ sound-with_element s t count bytes sound used least most fits =
     let counted = h.counted in
     sound_from (with_element s t count bytes) (record {
       sized = h.sized;
-      good = good-set s.size s.slots t slot h.good (good_element s.size count bytes least most fits);
+      good = all_set (is_good_slot s.size) s.slots t slot h.good (good_element s.size count bytes least most fits);
       free = all_free-set s.slots t s.free slot (used_apart s.slots t s.free used h.free) h.free;
       distinct = h.distinct;
       counted = omega (arith, counted, number, old);
@@ -137,7 +137,7 @@ sound-without_element s t sound used =
     (ap is_none (get_or-set_same s.slots t None None low)) in
     sound_from (without_element s t) (record {
       sized = h.sized;
-      good = good-set s.size s.slots t None h.good refl;
+      good = all_set (is_good_slot s.size) s.slots t None h.good refl;
       free = and_from (free_in slots t) (list_all (free_in slots) s.free) here (all_free-set s.slots t s.free None apart h.free);
       distinct = and_from (not (list_any (λ y. t == y) s.free)) (all_distinct s.free) (not_from_false (list_any (λ y. t == y) s.free) apart) h.distinct;
       counted = omega (arith, counted, number, old);
@@ -168,7 +168,7 @@ sound-with_new_at (t ∷ ts) s e is sound good =
     let number = count_by-set s.slots t (Some e) (ltb-true t (length s.slots) slot.0) in
     sound_from (with_new_at (t ∷ ts) s (Some e)).0 (record {
       sized = h.sized;
-      good = good-set s.size s.slots t (Some e) h.good good;
+      good = all_set (is_good_slot s.size) s.slots t (Some e) h.good good;
       free = all_free-set s.slots t ts (Some e) (not-true (list_any (λ y. t == y) ts) distinct.0) free.1;
       distinct = distinct.1;
       counted = omega (arith, counted, number, old);
@@ -227,7 +227,7 @@ used_from_not_none None used = absurd (true≢false used)
 used_from_not_none (Some e) used = refl
 
 -- one reference more than a count that isn't full
-below_full : (n : ℕ) → n ≤ greatest_count → (n == greatest_count) ≡ false → n + 1 ≤ greatest_count
+pub below_full : (n : ℕ) → n ≤ greatest_count → (n == greatest_count) ≡ false → n + 1 ≤ greatest_count
 below_full n most other = let apart = eqb-false n greatest_count other in omega (arith, most, apart)
 
 pub sound-referenced : (s : Slots) (t : ℕ) → is_sound s ≡ true → is_some (element_at s t) ≡ true → (count_at s t == greatest_count) ≡ false → is_sound (with_element s t (count_at s t + 1) (bytes_at s t)) ≡ true
@@ -269,13 +269,13 @@ module _ (bytes : List ℕ) (t : ℕ) (rest : Conditions) (none : first_refusal 
   pub token-used : is_some (element_at (elements_in bytes) t) ≡ true
   token-used = used_from_not_none (element_at (elements_in bytes) t) (or_parts (is_none (element_at (elements_in bytes) t)) (applies rest NoElement) (past_all NoElement refl)).0
 
-edits-create : (size : ℕ) → LeavesElements (create_elements_conditions size) (no_slots size) (no_slots size) 0
+edits-create : (size : ℕ) → LeavesElements (create_elements_conditions size) (element_bytes (no_slots size)) (no_slots size) (no_slots size) 0
 edits-create size none short =
     let cs : Conditions = create_elements_conditions size in
     let low : size ≤ 4096 = ltb-false 4096 size (or_none (none_applies cs none Range refl)).0 in
     (element_array_again (no_slots size) (sound-no_slots size low) short, λ u other. refl)
 
-edits-add : (bytes element : List ℕ) → let s = elements_in bytes in LeavesElements (add_conditions bytes element) s (added s element).0 (added s element).1
+edits-add : (bytes element : List ℕ) → let s = elements_in bytes in LeavesElements (add_conditions bytes element) (element_added bytes element) s (added s element).0 (added s element).1
 edits-add bytes element none short =
     let s : Slots = elements_in bytes in
     let new : Slots = (added s element).0 in
@@ -285,7 +285,7 @@ edits-add bytes element none short =
     let fits : is_missized s.size element ≡ false = (or_none (none_applies cs none Range refl)).0 in
     (element_array_again new (sound-added s element sound room fits) short, others-added_at s element (token_of_bytes s element))
 
-edits-add_reference : (bytes : List ℕ) (t : ℕ) → let s = elements_in bytes in LeavesElements (add_reference_conditions bytes t) s (with_element s t (count_at s t + 1) (bytes_at s t)) t
+edits-add_reference : (bytes : List ℕ) (t : ℕ) → let s = elements_in bytes in LeavesElements (add_reference_conditions bytes t) (reference_added bytes t) s (with_element s t (count_at s t + 1) (bytes_at s t)) t
 edits-add_reference bytes t none short =
     let s : Slots = elements_in bytes in
     let new : Slots = with_element s t (count_at s t + 1) (bytes_at s t) in
@@ -296,7 +296,7 @@ edits-add_reference bytes t none short =
     let room : (count_at s t == greatest_count) ≡ false = (or_none (none_applies cs none CountFull refl)).0 in
     (element_array_again new (sound-referenced s t sound used room) short, others-set s t (Some (record { count = count_at s t + 1; bytes = bytes_at s t })))
 
-edits-remove_reference : (bytes : List ℕ) (t : ℕ) → let s = elements_in bytes in LeavesElements (on_token bytes t) s (unreferenced s t) t
+edits-remove_reference : (bytes : List ℕ) (t : ℕ) → let s = elements_in bytes in LeavesElements (on_token bytes t) (reference_removed bytes t) s (unreferenced s t) t
 edits-remove_reference bytes t none short =
     let s : Slots = elements_in bytes in
     let new : Slots = unreferenced s t in
@@ -305,7 +305,7 @@ edits-remove_reference bytes t none short =
     let used = token-used bytes t rest none in
     (element_array_again new (sound-unreferenced s t sound used) short, others-unreferenced s t)
 
-edits-delete : (bytes : List ℕ) (t : ℕ) → let s = elements_in bytes in LeavesElements (on_token bytes t) s (without_element s t) t
+edits-delete : (bytes : List ℕ) (t : ℕ) → let s = elements_in bytes in LeavesElements (on_token bytes t) (element_deleted bytes t) s (without_element s t) t
 edits-delete bytes t none short =
     let s : Slots = elements_in bytes in
     let new : Slots = without_element s t in
@@ -314,7 +314,7 @@ edits-delete bytes t none short =
     let used = token-used bytes t rest none in
     (element_array_again new (sound-without_element s t sound used) short, others-set s t None)
 
-edits-change : (bytes : List ℕ) (t : ℕ) (element : List ℕ) → let s = elements_in bytes in LeavesElements (change_conditions bytes t element) s (with_element s t (count_at s t) element) t
+edits-change : (bytes : List ℕ) (t : ℕ) (element : List ℕ) → let s = elements_in bytes in LeavesElements (change_conditions bytes t element) (element_changed bytes t element) s (with_element s t (count_at s t) element) t
 edits-change bytes t element none short =
     let s : Slots = elements_in bytes in
     let new : Slots = with_element s t (count_at s t) element in

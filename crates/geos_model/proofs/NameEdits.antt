@@ -1,6 +1,6 @@
 -- An accepted edit of a name array leaves one, and distinct names distinct.
 use Rattle.std.proofs.Common.{◌≡◌, ℕ, zero, suc, ◌+◌, ◌-◌, ◌<◌, ◌≤◌, Bool, true, false, ◌&&◌, not, ◌==◌, nat_lt, nat_le, if◌then◌else◌, List, [], ◌∷◌, ◌++◌, length, take, drop, set, get_or, is_some, Option, Some, None, unwrap_or, refl, sym, ap, subst, ◌∙◌, arith, inl, inr, leb-true, leb-false, eqb-true, le-leb, ltb-false, length-take-le, length-append, lt-ltb}
-use Rattle.std.proofs.lemmas.Bool.{cases_Bool, eqb-false, cases_lt, cases_eq, and_parts, and_from, cond-true, cond-false, eq-eqb}
+use Rattle.std.proofs.lemmas.Bool.{cases_Bool, cases_lt, cases_eq, and_parts, and_from, cond-true, cond-false, eq-eqb}
 use Rattle.std.proofs.lemmas.List.{take-append-drop, get_or-append-add}
 use Rattle.std.proofs.lemmas.List.Folds.{list_all-append}
 use Rattle.std.proofs.lemmas.List.Sums.{fails_before_first}
@@ -13,13 +13,13 @@ use Rattle.geos_model.specs.ArrayEdits.{is_missized}
 use Rattle.geos_model.specs.ElementArray.{Element, Slots, element_at, is_sound, greatest_count}
 use Rattle.geos_model.specs.ElementEdits.{no_slots, count_at, bytes_at, with_element, without_element, with_new, with_new_at, unreferenced, is_count_full}
 use Rattle.geos_model.specs.NameArray.{NameArray, part_of, text_of, is_name, is_named, is_sound_names, name_bytes, name_array_of}
-use Rattle.geos_model.specs.NameEdits.{no_names, names_in, token_of_text, text_at, part_at, name_with_reference, added_name, on_name_token, is_name_in_use, create_names_conditions, add_name_conditions, change_name_conditions}
+use Rattle.geos_model.specs.NameEdits.{no_names, names_in, token_of_text, text_at, part_at, name_with_reference, added_name, on_name_token, is_name_in_use, create_names_conditions, add_name_conditions, change_name_conditions, name_added, name_token_added, name_changed, name_reference_removed}
 use Rattle.geos_model.specs.EditLaws.{KeepsOthers, AreDistinct, LeavesNames, NameEditsLaw}
 use Rattle.geos_model.specs.declared.fault.Fault.TheVariants.{NotArray, NoElement, NameInUse, CountFull, Range}
 use Rattle.geos_model.proofs.UsedElements.{used_element, count_at-is, bytes_at-is, counted, bounded, found_element}
 use Rattle.geos_model.proofs.Refusals.{none_applies, or_none}
 use Rattle.geos_model.proofs.Arrays.{same_bytes-is, same_bytes-refl}
-use Rattle.geos_model.proofs.ElementEdits.{used_from_not_none, sound-with_element, sound-without_element, sound-with_new, others-set, others-with_new}
+use Rattle.geos_model.proofs.ElementEdits.{all_set, below_full, used_lt, used_from_not_none, sound-with_element, sound-without_element, sound-with_new, others-set, others-with_new}
 use Rattle.geos_model.proofs.NameArrays.{IsSoundNames, sound_names_parts, name_bytes-of, name_array_again}
 
 -- the same array with other slots
@@ -59,17 +59,11 @@ found_one p xs u d l passes none = elim (cases_lt (position_or_len p xs) (length
   | inr past ↦ (let odd : true ≡ false = sym passes ∙ fails_before_first p xs u d (omega (arith, past, l)) in absurd (cc odd))
 ]
 
-below : (slots : List (Option Element)) (u : ℕ) (y : Element) → get_or slots u None ≡ Some y → u < length slots
-below slots u y is = elim (cases_lt u (length slots)) [
-  | inl l ↦ l
-  | inr past ↦ (let odd : None ≡ Some y = sym (get_or-eq_default slots None past) ∙ is in absurd (cc odd))
-]
-
 -- no slot has a name of which there is no token
 no_text : (a : NameArray) (text : List ℕ) (u : ℕ) (y : Element) → is_none (token_of_text a text) ≡ true → element_at a.names u ≡ Some y → text_of a y ≡ text → ⊥
 no_text a text u y none is same =
     let test : Option Element → Bool = λ slot. option_map_or (λ e. same_bytes (text_of a e) text) slot false in
-    found_one test a.names.slots u None (below a.names.slots u y is)
+    found_one test a.names.slots u None (used_lt a.names.slots u (ap is_some is))
     (ap test is ∙ ap (λ (bytes : List ℕ). same_bytes bytes text) same ∙ same_bytes-refl text) none
 
 -- Of the element of a token.
@@ -101,13 +95,6 @@ new_slot_at [] s slot z is =
 new_slot_at (t ∷ ts) s slot z is = set_is s.slots t slot z is
 
 -- Soundness.
-
-all_set : (p : Option Element → Bool) (xs : List (Option Element)) (t : ℕ) (x : Option Element) → list_all p xs ≡ true → p x ≡ true → list_all p (set xs t x) ≡ true
-all_set p [] t x all here = refl
-all_set p (o ∷ xs) zero x all here = and_from (p x) (list_all p xs) here (and_parts (p o) (list_all p xs) all).1
-all_set p (o ∷ xs) (suc t) x all here =
-    let parts = and_parts (p o) (list_all p xs) all in
-    and_from (p o) (list_all p (set xs t x)) parts.0 (all_set p xs t x parts.1 here)
 
 all_new : (p : Option Element → Bool) (free : List ℕ) (s : Slots) (x : Option Element) → list_all p s.slots ≡ true → p x ≡ true → list_all p (with_new_at free s x).0.slots ≡ true
 all_new p [] s x all here = list_all-append p s.slots (x ∷ []) ∙ and_from (list_all p s.slots) (list_all p (x ∷ [])) all (and_from (p x) true here refl)
@@ -240,17 +227,10 @@ kept_referenced : (a : NameArray) (t : ℕ) (e : Element) (part : List ℕ) (rep
 kept_referenced a t e part replace was is long room =
     let count : count_at a.names t ≡ e.count = count_at-is a.names t e is in
     let most : e.count ≤ greatest_count = bounded a.names was.sound t e is in
-    let less : count_at a.names t ≡ greatest_count → ⊥ = eqb-false (count_at a.names t) greatest_count room in
     let text : text_at a t ≡ text_of a e = text_is a t e is in
-    kept_same a was t e is (count_at a.names t + 1) (omega arith) (below_most (count_at a.names t) (omega (arith, most, count)) less)
+    kept_same a was t e is (count_at a.names t + 1) (omega arith) (below_full (count_at a.names t) (omega (arith, most, count)) room)
     (if replace then part else part_at a t) (text_at a t) (front_long replace) (ap is_name text ∙ own_name a was t e is) text
   where
-    below_most : (n : ℕ) → n ≤ greatest_count → (n ≡ greatest_count → ⊥) → n + 1 ≤ greatest_count
-    below_most n most less = elim (cases_lt n greatest_count) [
-      | inl l ↦ omega (arith, l)
-      | inr past ↦ absurd (less (omega (arith, past, most)))
-    ]
-
     front_long : (replace : Bool) → length (if replace then part else part_at a t) ≡ a.part
     front_long true = long
     front_long false = ap length (part_is a t e is) ∙ long_part a was t e is
@@ -292,8 +272,8 @@ kept_added_name a text part replace was room name long = by_token (token_of_text
         let found = found_element (λ e. same_bytes (text_of a e) text) a.names t is in
         kept_referenced a t found.0 part replace was found.1 long room
 
-leaves_add : (bytes text part : List ℕ) (replace : Bool) → let a = names_in bytes in let new = added_name a text part replace in
-    LeavesNames (add_name_conditions bytes text part) a (record a { names = new.0 }) new.1
+leaves_add : (bytes text part : List ℕ) (replace : Bool) → let a = names_in bytes in
+    LeavesNames (add_name_conditions bytes text part) (name_added bytes text part replace) a (record a { names = (added_name a text part replace).0 }) (name_token_added bytes text part replace)
 leaves_add bytes text part replace none short =
     let a : NameArray = names_in bytes in
     let new = added_name a text part replace in
@@ -305,7 +285,7 @@ leaves_add bytes text part replace none short =
     short
 
 leaves_change : (bytes : List ℕ) (t : ℕ) (text : List ℕ) → let a = names_in bytes in
-    LeavesNames (change_name_conditions bytes t text) a (record a { names = with_element a.names t (count_at a.names t) (part_at a t ++ text) }) t
+    LeavesNames (change_name_conditions bytes t text) (name_changed bytes t text) a (record a { names = with_element a.names t (count_at a.names t) (part_at a t ++ text) }) t
 leaves_change bytes t text none short =
     let a : NameArray = names_in bytes in
     let new : Slots = with_element a.names t (count_at a.names t) (part_at a t ++ text) in
@@ -315,7 +295,7 @@ leaves_change bytes t text none short =
     let name = not_false (is_name text) (or_none (none_applies conditions none Range refl)).0 in
     left a new t (kept_changed a t used.0 text was used.1 name (or_none (none_applies conditions none NameInUse refl)).0) short
 
-leaves_remove : (bytes : List ℕ) (t : ℕ) → let a = names_in bytes in LeavesNames (on_name_token bytes t) a (record a { names = unreferenced a.names t }) t
+leaves_remove : (bytes : List ℕ) (t : ℕ) → let a = names_in bytes in LeavesNames (on_name_token bytes t) (name_reference_removed bytes t) a (record a { names = unreferenced a.names t }) t
 leaves_remove bytes t none short =
     let a : NameArray = names_in bytes in
     let conditions = on_name_token bytes t in
@@ -327,7 +307,7 @@ created_sound : (part : ℕ) → nat_lt 64 part ≡ false → is_sound_names (no
 unfolding is_sound_names is_sound
 created_sound part small = and_from (nat_le part 64) true (le-leb part 64 (ltb-false 64 part small)) refl
 
-leaves_create : (part : ℕ) → LeavesNames (create_names_conditions part) (no_names part) (no_names part) 0
+leaves_create : (part : ℕ) → LeavesNames (create_names_conditions part) (name_bytes (no_names part)) (no_names part) (no_names part) 0
 leaves_create part none short =
     let conditions = create_names_conditions part in
     left (no_names part) (no_slots 0) 0 (record {
