@@ -11,8 +11,8 @@ use Rattle.std.specs.Ordering.{eq_by_cmp}
 use Rattle.std.specs.Cmp.{nat_cmp_total, unsigned_tied}
 use Rattle.std.specs.FinMap.{get, entries, keys, values, contains_key, contains_key-keys, same_map, nat_cmp-IsAntisymmetric, insert}
 use Rattle.geos_model.specs.Words.{word}
-use Rattle.geos_model.specs.Table.{table_entries, table_map, IsTrimmed}
-use Rattle.geos_model.specs.Heap.{ChunkMap, handle_of, is_chunk_handle, space_of, slot_space, table_len, need, fits, is_heap_map, next_chunk, chunk_handles, chunk_bytes, fits_with}
+use Rattle.geos_model.proofs.Table.{slot_space, table_entries, table_map, IsTrimmed}
+use Rattle.geos_model.specs.Heap.{ChunkMap, handle_of, is_chunk_handle, space_of, table_len, need, fits, is_heap_map, next_chunk, chunk_handles, chunk_bytes, fits_with}
 use Rattle.geos_model.specs.Image.{no_chunk, handles_to, size_word, image}
 use Rattle.geos_model.specs.declared.command.Body.TheVariants.{Heap}
 use Rattle.geos_model.proofs.Tables.{slot_at, put_at, length-put_at, full-put_at, entries-table_map, keys-table_map, values-table_map, get-table_map, get-table_map_at, get-table_map_off, slot_at_within, table_map-set, put_at-within}

@@ -8,8 +8,8 @@ use Rattle.std.specs.FinMap.{empty, from_entries}
 use Rattle.byteorder.specs.Numbers.{little_number-reads_back}
 use Rattle.byteorder.specs.Endian.{little_number}
 use Rattle.geos_model.specs.Words.{word, word_at}
-use Rattle.geos_model.specs.Table.{table_entries, table_map, IsTrimmed}
-use Rattle.geos_model.specs.Heap.{ChunkMap, need, slot_space, is_heap_map}
+use Rattle.geos_model.proofs.Table.{slot_space, table_entries, table_map, IsTrimmed}
+use Rattle.geos_model.specs.Heap.{ChunkMap, need, is_heap_map}
 use Rattle.geos_model.specs.Document.{is_valid_body}
 use Rattle.geos_model.specs.Image.{chunks_read, image, body_read}
 use Rattle.geos_model.specs.declared.command.Body.{Body}

@@ -1,3 +1,5 @@
+pub mod Codes
+pub mod Table
 pub mod Tables
 pub mod HeapTables
 pub mod Images

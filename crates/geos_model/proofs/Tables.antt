@@ -6,7 +6,7 @@ use Rattle.std.specs.List.{range_with_len}
 use Rattle.std.specs.Cmp.{nat_cmp_total, unsigned_tied}
 use Rattle.std.specs.FinMap.{get, entries, keys, values, insert, remove, empty, contains_key, from_entries, from_sorted, same_map, nat_cmp-IsAntisymmetric, get-empty, get-insert, get-remove, get-from_entries, get-from_sorted, entries-from_sorted}
 use Rattle.std.specs.FinMap.Entries.{is_sorted, below_all}
-use Rattle.geos_model.specs.Table.{table_entries, table_map, first_gap}
+use Rattle.geos_model.proofs.Table.{table_entries, table_map, first_gap}
 use Rattle.geos_model.specs.Heap.{next_chunk, chunk_handles}
 use Rattle.geos_model.specs.Document.{Block, next_handle, vm_handles}
 

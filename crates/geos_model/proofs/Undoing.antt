@@ -1,13 +1,14 @@
 -- What undoing edits and redoing them comes to, over runs of the machine.
-use Rattle.std.proofs.Common.{◌≡◌, ℕ, zero, suc, List, [], ◌∷◌, Bool, true, false, not, ◌&&◌, ◌||◌, Option, Some, None, refl, sym, ◌∙◌, ap, subst, ◌⊎◌, inl, inr}
-use Rattle.std.specs.Option.{option_map_or}
+use Rattle.std.proofs.Common.{◌≡◌, ℕ, zero, suc, List, [], ◌∷◌, Bool, true, false, not, ◌&&◌, ◌||◌, Option, Some, None, unwrap_or, refl, sym, ◌∙◌, ap, subst, ◌⊎◌, inl, inr}
+use Rattle.std.specs.Option.{option_map, option_map_or}
 use Rattle.std.specs.Fn.{iterate}
 use Rattle.std.specs.FinMap.{get}
 use Rattle.geos_model.specs.Refusal.{first_refusal}
 use Rattle.geos_model.specs.Document.{Document, Block}
-use Rattle.geos_model.specs.Meaning.{effect}
-use Rattle.geos_model.specs.Reply.{Reply, Refused, Accepted, reply_of_done, body_info}
-use Rattle.geos_model.specs.Machine.{Machine, Request, UndoStep, Step, next, machine_conditions, done_by, done_by_request, edited, undone, redone}
+use Rattle.geos_model.specs.Meaning.{effect, chunk_at}
+use Rattle.geos_model.specs.NameEdits.{names_in, token_of_text}
+use Rattle.geos_model.specs.Reply.{Reply, Refused, Accepted, TokenIs, reply_of_done, body_info, look_up}
+use Rattle.geos_model.specs.Machine.{Machine, Request, UndoStep, Step, next, command_conditions, done_by, edited, undone, redone}
 use Rattle.geos_model.specs.Undoing.{Call, Calls, SamePast, UndoLaw, RedoLaw, is_refused, is_edit, is_undo, is_redo, moves, is_accepted, stays, only, accepted}
 use Rattle.geos_model.specs.declared.fault.Fault.{Fault}
 use Rattle.geos_model.specs.declared.command.Body.{Body}
@@ -29,18 +30,38 @@ body_info-answers : (uid : ℕ) (body : Body) → is_refused (body_info uid body
 body_info-answers uid (Raw bytes) = refl
 body_info-answers uid (Heap chunks) = refl
 
--- nor that of a block, whether it is there or not
-info-answers : (block : Option Block) → is_refused (option_map_or (λ b. body_info b.user_id b.body) block Accepted) ≡ false
-info-answers None = refl
-info-answers (Some block) = body_info-answers block.user_id block.body
+-- what holds of the reply and the machine after it, if there is an answer
+abbrev OnDone : (Reply → Machine → Type 0) → Option (Reply × Machine) → Type 0
+OnDone P None = Unit {0}
+OnDone P (Some (reply, new)) = P reply new
+
+on_done : (P : Reply → Machine → Type 0) (o : Option (Reply × Machine)) (reply : Reply) (new : Machine) → OnDone P o → o ≡ Some (reply, new) → P reply new
+on_done P o reply new holds is = subst (OnDone P) is holds
+
+-- The answer is no refusal.
+abbrev IsAnswer : Reply → Machine → Type 0
+IsAnswer reply new = is_refused reply ≡ false
+
+-- that of a block isn't, whether it is there or not, nor that of a name
+info-answers : (m : Machine) (block : Option Block) → OnDone IsAnswer (option_map (λ reply. (reply, m)) (option_map (λ b. body_info b.user_id b.body) block))
+info-answers m None = tt
+info-answers m (Some block) = body_info-answers block.user_id block.body
+
+name-answers : (m : Machine) (token : Option ℕ) → OnDone IsAnswer (option_map (λ reply. (reply, m)) (option_map TokenIs token))
+name-answers m None = tt
+name-answers m (Some token) = refl
+
+moved-answers : (new : Option Machine) → OnDone IsAnswer (option_map (λ m. (Accepted, m)) new)
+moved-answers None = tt
+moved-answers (Some m) = refl
 
 -- what nothing refuses answers no refusal
-done_by-answers : (c : Command) (m : Machine) → is_refused (done_by c m).0 ≡ false
+done_by-answers : (c : Command) (m : Machine) → OnDone IsAnswer (done_by c m)
 done_by-answers (commands.Edit e) m = reply_of_done-answers (effect e m.document).1
-done_by-answers (commands.Info b) m = info-answers (get m.document.blocks b.0)
-done_by-answers commands.Blank m = refl
-done_by-answers commands.Undo m = refl
-done_by-answers commands.Redo m = refl
+done_by-answers (commands.Info b) m = info-answers m (get m.document.blocks b.0)
+done_by-answers commands.Blank m = tt
+done_by-answers commands.Undo m = moved-answers (undone m m.past)
+done_by-answers commands.Redo m = moved-answers (redone m m.future)
 done_by-answers commands.List m = refl
 done_by-answers (commands.Find uid start) m = refl
 done_by-answers commands.MapBlock m = refl
@@ -54,85 +75,102 @@ done_by-answers (commands.ElementBytes b c t) m = refl
 done_by-answers (commands.ElementsUsed b c) m = refl
 done_by-answers (commands.TokenOfUsed b c k) m = refl
 done_by-answers (commands.UsedOfToken b c t) m = refl
-done_by-answers (commands.NameFind b c text) m = refl
+done_by-answers (commands.NameFind b c text) m = name-answers m (token_of_text (names_in (chunk_at m.document b.0 c.0)) text)
 done_by-answers (commands.NameReferences b c t) m = refl
 done_by-answers (commands.NameText b c t) m = refl
 done_by-answers (commands.NamePart b c t) m = refl
 done_by-answers commands.Undos m = refl
 done_by-answers commands.Redos m = refl
 
--- so does a request
-done_by_request-answers : (request : Request) (m : Machine) → is_refused (done_by_request request m).0 ≡ false
-done_by_request-answers None m = refl
-done_by_request-answers (Some c) m = done_by-answers c m
+-- The machine is this one.
+abbrev IsAt : Machine → Reply → Machine → Type 0
+IsAt m reply new = new ≡ m
 
--- a request that moves nothing leaves the machine
-done_by_request-stays : (request : Request) (m : Machine) → moves request ≡ false → (done_by_request request m).1 ≡ m
-done_by_request-stays None m h = refl
-done_by_request-stays (Some (commands.Edit e)) m h = absurd (cc h)
-done_by_request-stays (Some commands.Undo) m h = absurd (cc h)
-done_by_request-stays (Some commands.Redo) m h = absurd (cc h)
-done_by_request-stays (Some commands.Blank) m h = refl
-done_by_request-stays (Some (commands.Info b)) m h = refl
-done_by_request-stays (Some commands.List) m h = refl
-done_by_request-stays (Some (commands.Find uid start)) m h = refl
-done_by_request-stays (Some commands.MapBlock) m h = refl
-done_by_request-stays (Some (commands.ReadRaw b)) m h = refl
-done_by_request-stays (Some (commands.Chunks b)) m h = refl
-done_by_request-stays (Some (commands.Read b c)) m h = refl
-done_by_request-stays (Some (commands.ArrayCount b c)) m h = refl
-done_by_request-stays (Some (commands.ArrayElement b c i)) m h = refl
-done_by_request-stays (Some (commands.ElementReferences b c t)) m h = refl
-done_by_request-stays (Some (commands.ElementBytes b c t)) m h = refl
-done_by_request-stays (Some (commands.ElementsUsed b c)) m h = refl
-done_by_request-stays (Some (commands.TokenOfUsed b c k)) m h = refl
-done_by_request-stays (Some (commands.UsedOfToken b c t)) m h = refl
-done_by_request-stays (Some (commands.NameFind b c text)) m h = refl
-done_by_request-stays (Some (commands.NameReferences b c t)) m h = refl
-done_by_request-stays (Some (commands.NameText b c t)) m h = refl
-done_by_request-stays (Some (commands.NamePart b c t)) m h = refl
-done_by_request-stays (Some commands.Undos) m h = refl
-done_by_request-stays (Some commands.Redos) m h = refl
+looked_up-stays : (m : Machine) (reply : Option Reply) → OnDone (IsAt m) (option_map (λ r. (r, m)) reply)
+looked_up-stays m None = tt
+looked_up-stays m (Some reply) = refl
 
--- a refusal, or what is done where there is none
-abbrev refusal_or : Option Fault → Machine → Reply × Machine → Reply × Machine
-refusal_or refusal m action = option_map_or (λ fault. (Refused fault, m)) refusal action
+-- a command that moves nothing leaves the machine
+done_by-stays : (c : Command) (m : Machine) → moves (Some c) ≡ false → OnDone (IsAt m) (done_by c m)
+done_by-stays (commands.Edit e) m h = absurd (cc h)
+done_by-stays commands.Undo m h = absurd (cc h)
+done_by-stays commands.Redo m h = absurd (cc h)
+done_by-stays commands.Blank m h = tt
+done_by-stays (commands.Info b) m h = looked_up-stays m (look_up (commands.Info b) m.document)
+done_by-stays commands.List m h = refl
+done_by-stays (commands.Find uid start) m h = refl
+done_by-stays commands.MapBlock m h = refl
+done_by-stays (commands.ReadRaw b) m h = refl
+done_by-stays (commands.Chunks b) m h = refl
+done_by-stays (commands.Read b c) m h = refl
+done_by-stays (commands.ArrayCount b c) m h = refl
+done_by-stays (commands.ArrayElement b c i) m h = refl
+done_by-stays (commands.ElementReferences b c t) m h = refl
+done_by-stays (commands.ElementBytes b c t) m h = refl
+done_by-stays (commands.ElementsUsed b c) m h = refl
+done_by-stays (commands.TokenOfUsed b c k) m h = refl
+done_by-stays (commands.UsedOfToken b c t) m h = refl
+done_by-stays (commands.NameFind b c text) m h = looked_up-stays m (look_up (commands.NameFind b c text) m.document)
+done_by-stays (commands.NameReferences b c t) m h = refl
+done_by-stays (commands.NameText b c t) m h = refl
+done_by-stays (commands.NamePart b c t) m h = refl
+done_by-stays commands.Undos m h = refl
+done_by-stays commands.Redos m h = refl
+
+-- a reply and the machine after it
+abbrev answer : Reply → Machine → Option (Reply × Machine)
+answer reply m = Some (reply, m)
+
+-- one answer is one reply and one machine
+same_reply : {x reply : Reply} {m new : Machine} → answer x m ≡ answer reply new → x ≡ reply
+same_reply {x = x} {m = m} h = ap (λ (o : Option (Reply × Machine)). option_map_or (λ p. p.0) o x) h
+
+same_machine : {x reply : Reply} {m new : Machine} → answer x m ≡ answer reply new → m ≡ new
+same_machine {x = x} {m = m} h = ap (λ (o : Option (Reply × Machine)). option_map_or (λ p. p.1) o m) h
 
 -- where the reply is a refusal, the machine stays
-refusal-stays : (refusal : Option Fault) (m : Machine) (action : Reply × Machine) → is_refused action.0 ≡ false → is_refused (refusal_or refusal m action).0 ≡ true
-    → (refusal_or refusal m action).1 ≡ m
-refusal-stays (Some fault) m action answers h = refl
-refusal-stays None m action answers h = absurd (cc (sym answers ∙ h))
+refusal-stays : (refusal : Option Fault) (m : Machine) (done : Option (Reply × Machine)) → OnDone IsAnswer done → (reply : Reply) (new : Machine)
+    → option_map_or (λ fault. Some (Refused fault, m)) refusal done ≡ Some (reply, new) → is_refused reply ≡ true → new ≡ m
+refusal-stays (Some fault) m done answers reply new is h = sym (same_machine is)
+refusal-stays None m done answers reply new is h = let no : false ≡ true = sym (on_done IsAnswer done reply new answers is) ∙ h in absurd (cc)
 
--- where it is none, the machine goes where the action takes it
-no_refusal-done : (refusal : Option Fault) (m : Machine) (action : Reply × Machine) → is_refused (refusal_or refusal m action).0 ≡ false
-    → (refusal_or refusal m action).1 ≡ action.1
-no_refusal-done (Some fault) m action h = absurd (cc h)
-no_refusal-done None m action h = refl
+-- where it is none, the machine goes where the command takes it
+no_refusal-done : (refusal : Option Fault) (m : Machine) (done : Option (Reply × Machine)) (reply : Reply) (new : Machine)
+    → option_map_or (λ fault. Some (Refused fault, m)) refusal done ≡ Some (reply, new) → is_refused reply ≡ false → done ≡ Some (reply, new)
+no_refusal-done (Some fault) m done reply new is h = let no : true ≡ false = ap is_refused (same_reply is) ∙ h in absurd (cc)
+no_refusal-done None m done reply new is h = is
 
 -- a refused request leaves the machine
 refused : {old new : Machine} (request : Request) (reply : Reply) → Step old request reply new → is_refused reply ≡ true → new ≡ old
-refused {old = old} request reply (inl a) h =
-    a.goes ∙ refusal-stays (first_refusal (machine_conditions request old)) old (done_by_request request old) (done_by_request-answers request old) (ap is_refused (sym a.says) ∙ h)
+refused None reply (inl is) h = sym (same_machine is)
+refused {old = old} {new = new} (Some c) reply (inl is) h =
+    refusal-stays (first_refusal (command_conditions c old)) old (done_by c old) (done_by-answers c old) reply new is h
 refused request reply (inr out) h = out.stays
 
--- one that isn't refused was answered by the machine itself
-answered : {old new : Machine} (request : Request) (reply : Reply) → Step old request reply new → is_refused reply ≡ false
-    → (is_refused (next request old).0 ≡ false) × (new ≡ (done_by_request request old).1)
-answered {old = old} request reply (inl a) h =
-    let kept : is_refused (next request old).0 ≡ false = ap is_refused (sym a.says) ∙ h in
-    (kept, a.goes ∙ no_refusal-done (first_refusal (machine_conditions request old)) old (done_by_request request old) kept)
-answered request reply (inr out) h = absurd (cc (ap is_refused (sym out.says) ∙ h))
+-- a line that is no command is refused
+bad_line-refused : {old new : Machine} (reply : Reply) → Step old None reply new → is_refused reply ≡ false → ⊥
+bad_line-refused reply (inl is) h = let no : true ≡ false = ap is_refused (same_reply is) ∙ h in absurd (cc)
+bad_line-refused reply (inr out) h = absurd (cc (ap is_refused (sym out.says) ∙ h))
+
+-- a command that isn't refused was answered by the machine itself
+pub answered : {old new : Machine} (c : Command) (reply : Reply) → Step old (Some c) reply new → is_refused reply ≡ false → done_by c old ≡ Some (reply, new)
+answered {old = old} {new = new} c reply (inl is) h = no_refusal-done (first_refusal (command_conditions c old)) old (done_by c old) reply new is h
+answered c reply (inr out) h = absurd (cc (ap is_refused (sym out.says) ∙ h))
 
 -- what is not true is false
 not_true : (b : Bool) → not b ≡ true → b ≡ false
 not_true true h = absurd (cc h)
 not_true false h = refl
 
+-- a request that moves nothing leaves the machine
+still-stays : {old new : Machine} (request : Request) (reply : Reply) → Step old request reply new → is_refused reply ≡ false → moves request ≡ false → new ≡ old
+still-stays None reply step is h = absurd (bad_line-refused reply step is)
+still-stays {old = old} {new = new} (Some c) reply step is h = on_done (IsAt old) (done_by c old) reply new (done_by-stays c old h) (answered c reply step is)
+
 -- a call that stays, by whether it was refused
 stays_by : (b : Bool) {old new : Machine} (c : Call) → Step old c.request c.reply new → is_refused c.reply ≡ b → (b || not (moves c.request)) ≡ true → new ≡ old
 stays_by true c step is h = refused c.request c.reply step is
-stays_by false {old = old} c step is h = (answered c.request c.reply step is).1 ∙ done_by_request-stays c.request old (not_true (moves c.request) h)
+stays_by false c step is h = still-stays c.request c.reply step is (not_true (moves c.request) h)
 
 -- a call that stays leaves the machine
 call-stays : {old new : Machine} (c : Call) → Step old c.request c.reply new → stays c ≡ true → new ≡ old
@@ -202,53 +240,61 @@ taken_back Like back kind same takes (c ∷ cs) old new h run =
 
 -- what an undo does
 abbrev one_undone : Machine → Machine
-one_undone m = undone m m.past
+one_undone m = unwrap_or (undone m m.past) m
 
 -- what a redo does
 abbrev one_redone : Machine → Machine
-one_redone m = redone m m.future
+one_redone m = unwrap_or (redone m m.future) m
+
+abbrev accepted_at : Machine → Reply × Machine
+accepted_at m = (Accepted, m)
+
+-- an answer that is a machine goes there
+went : (o : Option Machine) (old new : Machine) (reply : Reply) → option_map accepted_at o ≡ answer reply new → new ≡ unwrap_or o old
+went None old new reply is = absurd (cc is)
+went (Some m) old new reply is = sym (same_machine is)
 
 -- an accepted undo does that
 undo-does : (old new : Machine) (request : Request) (reply : Reply) → Step old request reply new → is_refused reply ≡ false → is_undo request ≡ true → new ≡ one_undone old
-undo-does old new (Some commands.Undo) reply step h k = (answered (Some commands.Undo) reply step h).1
+undo-does old new (Some commands.Undo) reply step h k = went (undone old old.past) old new reply (answered commands.Undo reply step h)
 undo-does old new _ reply step h k = absurd (cc k)
 
 -- an accepted redo does that
 redo-does : (old new : Machine) (request : Request) (reply : Reply) → Step old request reply new → is_refused reply ≡ false → is_redo request ≡ true → new ≡ one_redone old
-redo-does old new (Some commands.Redo) reply step h k = (answered (Some commands.Redo) reply step h).1
+redo-does old new (Some commands.Redo) reply step h k = went (redone old old.future) old new reply (answered commands.Redo reply step h)
 redo-does old new _ reply step h k = absurd (cc k)
 
 -- undoing sees the document and the past alone
-undone-same : (past : List UndoStep) (old new : Machine) → SamePast old new → SamePast (undone old past) (undone new past)
+undone-same : (past : List UndoStep) (old new : Machine) → SamePast old new → SamePast (unwrap_or (undone old past) old) (unwrap_or (undone new past) new)
 undone-same [] old new same = same
 undone-same (s ∷ past) old new same = record { document = refl; past = refl }
 
 -- so an undo of like machines comes to like machines
 one_undone-same : (old new : Machine) → SamePast old new → SamePast (one_undone old) (one_undone new)
-one_undone-same old new same = subst (λ past. SamePast (one_undone old) (undone new past)) (sym same.past) (undone-same old.past old new same)
+one_undone-same old new same = subst (λ past. SamePast (one_undone old) (unwrap_or (undone new past) new)) (sym same.past) (undone-same old.past old new same)
 
 -- an undo takes back an edit
 edit-taken_back : (old mid late : Machine) (request : Request) (reply : Reply) → Step old request reply mid → is_refused reply ≡ false → is_edit request ≡ true
     → SamePast mid late → SamePast old (one_undone late)
 edit-taken_back old mid late (Some (commands.Edit e)) reply step h k same =
     let below : SamePast (one_undone (edited e old).1) (one_undone late) =
-    one_undone-same (edited e old).1 late (subst (λ m. SamePast m late) (answered (Some (commands.Edit e)) reply step h).1 same) in
+    one_undone-same (edited e old).1 late (subst (λ m. SamePast m late) (sym (same_machine (answered (commands.Edit e) reply step h))) same) in
     record { document = below.document; past = below.past }
 edit-taken_back old mid late _ reply step h k same = absurd (cc k)
 
--- a redo takes back an undo that nothing refuses
-undone-taken_back : (d : Document) (past future : List UndoStep)
-    → is_refused (next (Some commands.Undo) (record { document = d; past = past; future = future })).0 ≡ false
+-- a redo takes back an undo that was answered
+undone-taken_back : (d : Document) (past future : List UndoStep) (reply : Reply) (mid : Machine)
+    → done_by commands.Undo (record { document = d; past = past; future = future }) ≡ Some (reply, mid)
     → one_redone (one_undone (record { document = d; past = past; future = future })) ≡ record { document = d; past = past; future = future }
-undone-taken_back d [] future h = absurd (cc h)
-undone-taken_back d (s ∷ past) future h = refl
+undone-taken_back d [] future reply mid h = absurd (cc h)
+undone-taken_back d (s ∷ past) future reply mid h = refl
 
 -- the same, for an accepted undo of a run
 undo-taken_back : (old mid late : Machine) (request : Request) (reply : Reply) → Step old request reply mid → is_refused reply ≡ false → is_undo request ≡ true
     → late ≡ mid → one_redone late ≡ old
 undo-taken_back old mid late (Some commands.Undo) reply step h k same =
-    let own = answered (Some commands.Undo) reply step h in
-    ap one_redone (same ∙ own.1) ∙ undone-taken_back old.document old.past old.future own.0
+    let own = answered commands.Undo reply step h in
+    ap one_redone (same ∙ went (undone old old.past) old mid reply own) ∙ undone-taken_back old.document old.past old.future reply mid own
 undo-taken_back old mid late _ reply step h k same = absurd (cc k)
 
 pub undo_law : UndoLaw

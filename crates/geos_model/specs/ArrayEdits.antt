@@ -3,6 +3,7 @@ use Rattle.std.specs.Prelude.{ℕ, List, [], ◌∷◌, ◌++◌, ◌+◌, Bool,
 use Rattle.std.specs.List.{splice}
 use Rattle.geos_model.specs.Refusal.{Conditions}
 use Rattle.geos_model.specs.Bytes.{resized}
+use Rattle.geos_model.specs.Heap.{longest_chunk}
 use Rattle.geos_model.specs.Array.{Array, array_bytes, array_of}
 use Rattle.geos_model.specs.declared.fault.Fault.TheVariants.{Full, Range, NotArray, NoElement}
 
@@ -65,4 +66,4 @@ delete_conditions bytes i k = on_array bytes ++ (NoElement, nat_lt (length (arra
 
 -- more bytes than any chunk has
 abbrev pub too_long : List ℕ → Conditions
-too_long bytes = (Full, nat_lt 65498 (length bytes)) ∷ []
+too_long bytes = (Full, nat_lt longest_chunk (length bytes)) ∷ []

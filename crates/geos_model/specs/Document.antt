@@ -1,5 +1,5 @@
 -- A document: blocks under handles, each with a user ID and a body, and a map block.
-use Rattle.std.specs.Prelude.{ℕ, List, [], Bool, true, false, not, nat_le, length, Option, find}
+use Rattle.std.specs.Prelude.{◌≡◌, ◌<◌, ℕ, List, [], Bool, true, false, not, ◌&&◌, nat_le, length, Option, Some, find, unwrap_or}
 use Rattle.std.specs.List.{range_with_len}
 use Rattle.std.specs.Ordering.{nat_cmp}
 use Rattle.std.specs.Option.{option_map_or}
@@ -19,9 +19,16 @@ pub record Document : Type 0 where
 abbrev pub empty_document : Document
 empty_document = record { blocks = empty; map_block = 0 }
 
+-- how many blocks a document can have
+abbrev pub most_blocks : ℕ
+most_blocks = 2048
+
 -- every VM handle
 unfoldable pub vm_handles : List ℕ
-vm_handles = range_with_len 1 2048
+vm_handles = range_with_len 1 most_blocks
+
+abbrev pub is_vm_handle : ℕ → Bool
+is_vm_handle h = nat_le 1 h && nat_le h most_blocks
 
 -- a body that can be
 abbrev pub is_valid_body : Body → Bool
@@ -34,6 +41,17 @@ next_handle d = find (λ h. not (contains_key d.blocks h)) vm_handles
 
 abbrev pub is_live : Document → ℕ → Bool
 is_live d h = contains_key d.blocks h
+
+-- a block that can be under a handle
+pub record IsValidBlock (h : ℕ) (b : Block) : Type 0 where
+  pub handle : is_vm_handle h ≡ true
+  pub user_id : b.user_id < 65536
+  pub body : is_valid_body b.body ≡ true
+
+-- A document that can be: each block is valid, and the map block is 0 or live.
+pub record IsValid (d : Document) : Type 0 where
+  pub blocks : (h : ℕ) (b : Block) → get d.blocks h ≡ Some b → IsValidBlock h b
+  pub map_block : (d.map_block ≡ 0 → ⊥) → is_live d d.map_block ≡ true
 
 -- the chunks of a heap, none of a raw body
 abbrev pub chunks_of_body : Body → ChunkMap
@@ -64,6 +82,10 @@ raw_bytes_of d h = option_map_or (λ b. bytes_of_body b.body) (get d.blocks h) [
 
 abbrev pub user_id_of : Document → ℕ → ℕ
 user_id_of d h = option_map_or (λ b. b.user_id) (get d.blocks h) 0
+
+-- the block under a handle; where none is live, an empty raw one
+abbrev pub block_at : Document → ℕ → Block
+block_at d h = unwrap_or (get d.blocks h) (record { user_id = 0; body = Raw [] })
 
 -- the document with this block under a handle, and with none there
 abbrev pub with_block : Document → ℕ → Block → Document

@@ -1,5 +1,5 @@
 -- A heap is a finite map from chunk handles to bytes.
-use Rattle.std.specs.Prelude.{ℕ, List, [], ◌+◌, ◌*◌, ◌/◌, ◌-◌, ◌%◌, Bool, false, not, ◌==◌, ◌&&◌, nat_le, max, length, map, if◌then◌else◌, Option, Some, None, find, unwrap_or, sum_by, fold}
+use Rattle.std.specs.Prelude.{ℕ, List, [], ◌+◌, ◌*◌, ◌/◌, ◌-◌, ◌%◌, Bool, false, not, ◌==◌, ◌&&◌, nat_le, max, length, map, if◌then◌else◌, Option, find, unwrap_or, sum_by, fold}
 use Rattle.std.specs.List.{range_with_len, list_all}
 use Rattle.std.specs.Ordering.{nat_cmp}
 use Rattle.std.specs.Option.{option_map_or}
@@ -27,11 +27,6 @@ is_chunk_handle h = nat_le 16 h && nat_le h 0xFFEE && (h % 2 == 0)
 abbrev pub space_of : ℕ → ℕ
 space_of n = if n == 0 then 0 else 4 * ((n + 5) / 4)
 
--- what a chunk takes, and none
-abbrev pub slot_space : Option (List ℕ) → ℕ
-slot_space None = 0
-slot_space (Some bytes) = space_of (length bytes)
-
 -- which table entry a chunk handle is, from 1 on
 abbrev pub entry_of : ℕ → ℕ
 entry_of h = (h - 14) / 2
@@ -47,6 +42,10 @@ need m = 16 + 4 * ((table_len (keys m) + 1) / 2) + sum_by (λ c. space_of (lengt
 -- how many bytes a heap, or a raw body, has room for
 abbrev pub capacity : ℕ
 capacity = 65520
+
+-- the bytes of the greatest chunk: alone in a heap, it fills it
+abbrev pub longest_chunk : ℕ
+longest_chunk = 65498
 
 unfoldable pub fits : ChunkMap → Bool
 fits m = nat_le (need m) capacity

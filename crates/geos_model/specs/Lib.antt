@@ -8,14 +8,12 @@ pub mod NameArray
 pub mod ElementEdits
 pub mod NameEdits
 pub mod Heap
-pub mod Table
 pub mod Document
 pub mod Meaning
 pub mod Image
 pub mod Cost
 pub mod Reply
 pub mod Machine
-pub mod Codes
 pub mod Laws
 pub mod EditLaws
 pub mod Undoing

@@ -1,8 +1,8 @@
 -- The machine: a document with its past and its future.
-use Rattle.std.specs.Prelude.{◌≡◌, ◌⊎◌, ℕ, List, [], ◌∷◌, Bool, true, false, not, ◌==◌, length, Option, Some, None}
-use Rattle.std.specs.Option.{option_map_or}
+use Rattle.std.specs.Prelude.{◌≡◌, ◌⊎◌, ℕ, List, [], ◌∷◌, Bool, true, false, ◌==◌, length, All, Option, Some, None}
+use Rattle.std.specs.Option.{option_map, option_map_or}
 use Rattle.geos_model.specs.Refusal.{Conditions, first_refusal}
-use Rattle.geos_model.specs.Document.{Document, empty_document}
+use Rattle.geos_model.specs.Document.{Document, empty_document, IsValid}
 use Rattle.geos_model.specs.Meaning.{conditions, effect}
 use Rattle.geos_model.specs.Cost.{cost}
 use Rattle.geos_model.specs.Reply.{Reply, Accepted, Refused, NumberIs, reply_of_done, look_up_conditions, look_up}
@@ -28,6 +28,12 @@ pub record Machine : Type 0 where
 -- a new session's
 abbrev pub empty_machine : Machine
 empty_machine = record { document = empty_document; past = []; future = [] }
+
+-- each of its documents is valid
+pub record IsValidMachine (m : Machine) : Type 0 where
+  pub document : IsValid m.document
+  pub past : All (λ s. IsValid s.document) m.past
+  pub future : All (λ s. IsValid s.document) m.future
 
 -- what is asked of the machine: a command, or None for a line that is none
 abbrev pub Request : Type 0
@@ -72,75 +78,97 @@ kind_of (edits.AddName b c text part replace) = In b
 kind_of (edits.ChangeName b c t text) = In b
 kind_of (edits.RemoveName b c t) = In b
 
+-- the refusals of a command; of a look-up they depend on the document alone
 abbrev pub command_conditions : Command → Machine → Conditions
 command_conditions (commands.Edit e) m = conditions e m.document
 command_conditions commands.Undo m = (NothingToUndo, length m.past == 0) ∷ []
 command_conditions commands.Redo m = (NothingToRedo, length m.future == 0) ∷ []
 command_conditions c m = look_up_conditions c m.document
 
-abbrev pub machine_conditions : Request → Machine → Conditions
-machine_conditions None m = (BadCommand, true) ∷ []
-machine_conditions (Some c) m = command_conditions c m
-
 -- an edit puts the old document on the past, and empties the future
 abbrev pub edited : Edit → Machine → Reply × Machine
 edited e m =
     let after = effect e m.document in
     let undo : UndoStep = record { kind = kind_of e; cost = cost e m.document after.0; document = m.document } in
-    (reply_of_done after.1, record { document = after.0; past = undo ∷ m.past; future = [] })
+    (reply_of_done after.1, record m { document = after.0; past = undo ∷ m.past; future = [] })
 
 -- the newest past document is the document again, and the old one is the next of the future
-abbrev pub undone : Machine → List UndoStep → Machine
-undone m [] = m
-undone m (s ∷ past) = record { document = s.document; past = past; future = record s { document = m.document } ∷ m.future }
+abbrev pub undone : Machine → List UndoStep → Option Machine
+undone m [] = None
+undone m (s ∷ past) = Some (record m { document = s.document; past = past; future = record s { document = m.document } ∷ m.future })
 
 -- the next document of the future is the document again, and the old one is the newest of the past
-abbrev pub redone : Machine → List UndoStep → Machine
-redone m [] = m
-redone m (s ∷ future) = record { document = s.document; past = record s { document = m.document } ∷ m.past; future = future }
+abbrev pub redone : Machine → List UndoStep → Option Machine
+redone m [] = None
+redone m (s ∷ future) = Some (record m { document = s.document; past = record s { document = m.document } ∷ m.past; future = future })
 
--- what a command does that nothing refuses
-abbrev pub done_by : Command → Machine → Reply × Machine
-done_by (commands.Edit e) m = edited e m
-done_by commands.Undo m = (Accepted, undone m m.past)
-done_by commands.Redo m = (Accepted, redone m m.future)
-done_by commands.Undos m = (NumberIs (length m.past), m)
-done_by commands.Redos m = (NumberIs (length m.future), m)
-done_by c m = (look_up c m.document, m)
-
-abbrev pub done_by_request : Request → Machine → Reply × Machine
-done_by_request None m = (Accepted, m)
-done_by_request (Some c) m = done_by c m
+-- What a command that nothing refuses answers, and the machine after it. A look-up leaves the machine; a blank line gets no answer.
+abbrev pub done_by : Command → Machine → Option (Reply × Machine)
+done_by (commands.Edit e) m = Some (edited e m)
+done_by commands.Undo m = option_map (λ new. (Accepted, new)) (undone m m.past)
+done_by commands.Redo m = option_map (λ new. (Accepted, new)) (redone m m.future)
+done_by commands.Undos m = Some (NumberIs (length m.past), m)
+done_by commands.Redos m = Some (NumberIs (length m.future), m)
+done_by c m = option_map (λ reply. (reply, m)) (look_up c m.document)
 
 -- the first refusal, which leaves the machine as it was, or what the request does
-abbrev pub next : Request → Machine → Reply × Machine
-next request m = option_map_or (λ fault. (Refused fault, m)) (first_refusal (machine_conditions request m)) (done_by_request request m)
+abbrev pub next : Request → Machine → Option (Reply × Machine)
+next None m = Some (Refused BadCommand, m)
+next (Some c) m = option_map_or (λ fault. Some (Refused fault, m)) (first_refusal (command_conditions c m)) (done_by c m)
 
--- a step back that is of a user ID or the map block, or none at all, takes no memory
-abbrev pub is_plain : List UndoStep → Bool
-is_plain [] = true
-is_plain (s ∷ steps) = is_plain_kind s.kind
+-- Whether taking a step of this kind back may take memory, and bringing it back.
+
+abbrev pub undo_takes : Kind → Bool
+undo_takes Plain = false
+undo_takes (In b) = true
+undo_takes Made = true
+undo_takes Freed = true
+
+abbrev pub redo_takes : Kind → Bool
+redo_takes Plain = false
+redo_takes (In b) = true
+redo_takes Made = true
+redo_takes Freed = true
+
+-- so of the newest step of a list; where there is none, nothing is taken
+abbrev pub newest_takes : (Kind → Bool) → List UndoStep → Bool
+newest_takes takes [] = false
+newest_takes takes (s ∷ steps) = takes s.kind
 
 -- What may take memory, so that want of it may stand in place of the answer. Of all else the rules alone decide.
-abbrev pub takes_memory : Request → Machine → Bool
-takes_memory None m = false
-takes_memory (Some commands.Blank) m = false
-takes_memory (Some commands.Undo) m = not (is_plain m.past)
-takes_memory (Some commands.Redo) m = not (is_plain m.future)
-takes_memory (Some (commands.Find uid start)) m = false
-takes_memory (Some commands.MapBlock) m = false
-takes_memory (Some commands.Undos) m = false
-takes_memory (Some commands.Redos) m = false
-takes_memory (Some c) m = true
+abbrev pub takes_memory : Command → Machine → Bool
+takes_memory commands.Blank m = false
+takes_memory (commands.Edit e) m = true
+takes_memory commands.Undo m = newest_takes undo_takes m.past
+takes_memory commands.Redo m = newest_takes redo_takes m.future
+takes_memory (commands.Info b) m = true
+takes_memory commands.List m = true
+takes_memory (commands.Find uid start) m = false
+takes_memory commands.MapBlock m = false
+takes_memory (commands.ReadRaw b) m = true
+takes_memory (commands.Chunks b) m = true
+takes_memory (commands.Read b c) m = true
+takes_memory (commands.ArrayCount b c) m = true
+takes_memory (commands.ArrayElement b c i) m = true
+takes_memory (commands.ElementReferences b c t) m = true
+takes_memory (commands.ElementBytes b c t) m = true
+takes_memory (commands.ElementsUsed b c) m = true
+takes_memory (commands.TokenOfUsed b c k) m = true
+takes_memory (commands.UsedOfToken b c t) m = true
+takes_memory (commands.NameFind b c text) m = true
+takes_memory (commands.NameReferences b c t) m = true
+takes_memory (commands.NameText b c t) m = true
+takes_memory (commands.NamePart b c t) m = true
+takes_memory commands.Undos m = false
+takes_memory commands.Redos m = false
 
 -- the machine's own answer
-pub record Answers (old : Machine) (request : Request) (reply : Reply) (new : Machine) : Type 0 where
-  pub says : reply ≡ (next request old).0
-  pub goes : new ≡ (next request old).1
+abbrev pub Answers : Machine → Request → Reply → Machine → Type 0
+Answers old request reply new = next request old ≡ Some (reply, new)
 
 -- want of memory in place of it, and nothing changes
 pub record RunsOut (old : Machine) (request : Request) (reply : Reply) (new : Machine) : Type 0 where
-  pub may : takes_memory request old ≡ true
+  pub may : option_map_or (λ c. takes_memory c old) request false ≡ true
   pub says : reply ≡ Refused Memory
   pub stays : new ≡ old
 

@@ -1,7 +1,6 @@
 -- What an edit means: its refusals with their conditions, and where none holds the document after it and what it answers.
 use Rattle.std.specs.Prelude.{ℕ, List, [], ◌∷◌, ◌++◌, ◌+◌, not, ◌==◌, ◌&&◌, nat_lt, length, replicate, is_none, unwrap_or}
-use Rattle.std.specs.Option.{option_map_or}
-use Rattle.std.specs.FinMap.{get, insert, remove, contains_key, empty}
+use Rattle.std.specs.FinMap.{insert, remove, contains_key, empty}
 use Rattle.geos_model.specs.Refusal.{Conditions}
 use Rattle.geos_model.specs.Bytes.{written, resized, inserted, deleted}
 use Rattle.geos_model.specs.Array.{array_bytes}
@@ -11,7 +10,7 @@ use Rattle.geos_model.specs.ElementEdits.{no_slots, element_added, token_added, 
 use Rattle.geos_model.specs.NameArray.{name_bytes}
 use Rattle.geos_model.specs.NameEdits.{no_names, name_added, name_token_added, name_changed, name_reference_removed, on_name_token, create_names_conditions, add_name_conditions, change_name_conditions}
 use Rattle.geos_model.specs.Heap.{ChunkMap, capacity, next_chunk, chunk_bytes, fits_with, fits_new}
-use Rattle.geos_model.specs.Document.{Block, Document, with_block, without_block, with_body, with_user_id, is_live, is_heap, is_raw, chunks_of, raw_bytes_of, next_handle}
+use Rattle.geos_model.specs.Document.{Block, Document, block_at, with_block, without_block, with_body, with_user_id, is_live, is_heap, is_raw, chunks_of, raw_bytes_of, next_handle}
 use Rattle.geos_model.specs.declared.fault.Fault.TheVariants.{NoBlock, NoChunk, WrongKind, Full, TooBig, NoHandles, Range, IsMap}
 use Rattle.geos_model.specs.declared.command.Body.TheVariants.{Raw, Heap}
 use Rattle.geos_model.specs.declared.command.Done.{Done}
@@ -127,7 +126,7 @@ abbrev pub effect : Edit → Document → Document × Done
 effect (edits.NewRaw uid size) d = makes_block d (record { user_id = uid; body = Raw (replicate size 0) })
 effect (edits.NewHeap uid) d = makes_block d (record { user_id = uid; body = Heap empty })
 effect (edits.FreeBlock b) d = (without_block d b.0, done.Nothing)
-effect (edits.CopyBlock b) d = option_map_or (makes_block d) (get d.blocks b.0) (d, done.Nothing)
+effect (edits.CopyBlock b) d = makes_block d (block_at d b.0)
 effect (edits.WriteRaw b at bytes) d = (with_body d b.0 (Raw (written (raw_bytes_of d b.0) at bytes)), done.Nothing)
 effect (edits.Attach b bytes) d = (with_body d b.0 (Raw bytes), done.Nothing)
 effect (edits.SetUserId b uid) d = (with_user_id d b.0 uid, done.Nothing)

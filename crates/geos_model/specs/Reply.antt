@@ -1,7 +1,7 @@
 -- What a command answers, and how look-ups answer of a document.
-use Rattle.std.specs.Prelude.{ℕ, List, [], ◌++◌, ◌==◌, ◌&&◌, nat_lt, length, map, find, get_or, Option, unwrap_or, Result, Ok, Err}
+use Rattle.std.specs.Prelude.{ℕ, List, [], ◌++◌, ◌==◌, ◌&&◌, nat_lt, length, map, find, get_or, Option, Some, None, unwrap_or, Result, Ok, Err}
 use Rattle.std.specs.FinMap.{get, keys, entries}
-use Rattle.std.specs.Option.{option_map, option_map_or}
+use Rattle.std.specs.Option.{option_map}
 use Rattle.geos_model.specs.Refusal.{Conditions}
 use Rattle.geos_model.specs.ArrayEdits.{array_in, on_array, on_element}
 use Rattle.geos_model.specs.ElementEdits.{elements_in, count_at, bytes_at, used_in, used_from, used_below, on_elements, on_token, on_used}
@@ -76,32 +76,32 @@ body_info uid (Heap m) = HeapIs uid (need m)
 abbrev pub found : Document → ℕ → ℕ → Option ℕ
 found d uid start = option_map (λ e. e.0) (find (λ e. nat_lt start e.0 && (e.1.user_id == uid)) (entries d.blocks))
 
--- what a look-up answers of the document that nothing refuses; a command that is none only keeps the cases complete
-abbrev pub look_up : Command → Document → Reply
-look_up (commands.Info b) d = option_map_or (λ block. body_info block.user_id block.body) (get d.blocks b.0) Accepted
-look_up commands.List d = BlocksAre (keys d.blocks)
-look_up (commands.Find uid start) d = BlockIs (unwrap_or (found d uid start.0) 0)
-look_up commands.MapBlock d = BlockIs d.map_block
-look_up (commands.ReadRaw b) d = BytesAre (raw_bytes_of d b.0)
-look_up (commands.Chunks b) d = ChunksAre (keys (chunks_of d b.0))
-look_up (commands.Read b c) d = BytesAre (chunk_at d b.0 c.0)
-look_up (commands.ArrayCount b c) d = NumberIs (length (array_in (chunk_at d b.0 c.0)).elements)
-look_up (commands.ArrayElement b c i) d = BytesAre (get_or (array_in (chunk_at d b.0 c.0)).elements i [])
-look_up (commands.ElementReferences b c t) d = NumberIs (count_at (elements_in (chunk_at d b.0 c.0)) t.0)
-look_up (commands.ElementBytes b c t) d = BytesAre (bytes_at (elements_in (chunk_at d b.0 c.0)) t.0)
-look_up (commands.ElementsUsed b c) d = NumberIs (used_in (elements_in (chunk_at d b.0 c.0)))
-look_up (commands.TokenOfUsed b c k) d = TokenIs (get_or (used_from 0 (elements_in (chunk_at d b.0 c.0)).slots) k 0)
-look_up (commands.UsedOfToken b c t) d = NumberIs (used_below (elements_in (chunk_at d b.0 c.0)) t.0)
-look_up (commands.NameFind b c text) d = TokenIs (unwrap_or (token_of_text (names_in (chunk_at d b.0 c.0)) text) 0)
-look_up (commands.NameReferences b c t) d = NumberIs (count_at (names_in (chunk_at d b.0 c.0)).names t.0)
-look_up (commands.NameText b c t) d = BytesAre (text_at (names_in (chunk_at d b.0 c.0)) t.0)
-look_up (commands.NamePart b c t) d = BytesAre (part_at (names_in (chunk_at d b.0 c.0)) t.0)
-look_up commands.Blank d = Accepted
-look_up (commands.Edit e) d = Accepted
-look_up commands.Undo d = Accepted
-look_up commands.Redo d = Accepted
-look_up commands.Undos d = Accepted
-look_up commands.Redos d = Accepted
+-- what a look-up that nothing refuses answers of the document; what is no look-up, or asks of more than the document, has no answer here
+abbrev pub look_up : Command → Document → Option Reply
+look_up (commands.Info b) d = option_map (λ block. body_info block.user_id block.body) (get d.blocks b.0)
+look_up commands.List d = Some (BlocksAre (keys d.blocks))
+look_up (commands.Find uid start) d = Some (BlockIs (unwrap_or (found d uid start.0) 0))
+look_up commands.MapBlock d = Some (BlockIs d.map_block)
+look_up (commands.ReadRaw b) d = Some (BytesAre (raw_bytes_of d b.0))
+look_up (commands.Chunks b) d = Some (ChunksAre (keys (chunks_of d b.0)))
+look_up (commands.Read b c) d = Some (BytesAre (chunk_at d b.0 c.0))
+look_up (commands.ArrayCount b c) d = Some (NumberIs (length (array_in (chunk_at d b.0 c.0)).elements))
+look_up (commands.ArrayElement b c i) d = Some (BytesAre (get_or (array_in (chunk_at d b.0 c.0)).elements i []))
+look_up (commands.ElementReferences b c t) d = Some (NumberIs (count_at (elements_in (chunk_at d b.0 c.0)) t.0))
+look_up (commands.ElementBytes b c t) d = Some (BytesAre (bytes_at (elements_in (chunk_at d b.0 c.0)) t.0))
+look_up (commands.ElementsUsed b c) d = Some (NumberIs (used_in (elements_in (chunk_at d b.0 c.0))))
+look_up (commands.TokenOfUsed b c k) d = Some (TokenIs (get_or (used_from 0 (elements_in (chunk_at d b.0 c.0)).slots) k 0))
+look_up (commands.UsedOfToken b c t) d = Some (NumberIs (used_below (elements_in (chunk_at d b.0 c.0)) t.0))
+look_up (commands.NameFind b c text) d = option_map TokenIs (token_of_text (names_in (chunk_at d b.0 c.0)) text)
+look_up (commands.NameReferences b c t) d = Some (NumberIs (count_at (names_in (chunk_at d b.0 c.0)).names t.0))
+look_up (commands.NameText b c t) d = Some (BytesAre (text_at (names_in (chunk_at d b.0 c.0)) t.0))
+look_up (commands.NamePart b c t) d = Some (BytesAre (part_at (names_in (chunk_at d b.0 c.0)) t.0))
+look_up commands.Undos d = None
+look_up commands.Redos d = None
+look_up commands.Blank d = None
+look_up (commands.Edit e) d = None
+look_up commands.Undo d = None
+look_up commands.Redo d = None
 
 -- what a call of a session answers, as a reply
 abbrev pub reply_by : {T : Type 0} → (T → Reply) → Result T Fault → Reply

@@ -6,8 +6,8 @@ use Rattle.std.proofs.lemmas.List.Sums.{sum_by-cons, sum_by-set, sum_by_more}
 use Rattle.std.specs.List as list
 use Rattle.std.specs.Option.{option_map, option_map_or}
 use Rattle.std.specs.FinMap.{get, insert, remove, keys, contains_key}
-use Rattle.geos_model.specs.Table.{table_entries, table_map, first_gap, IsTrimmed}
-use Rattle.geos_model.specs.Heap.{ChunkMap, need, next_chunk, fits, fits_with, fits_new, space_of, slot_space, is_chunk_handle, is_heap_map, chunk_bytes}
+use Rattle.geos_model.proofs.Table.{slot_space, table_entries, table_map, first_gap, IsTrimmed}
+use Rattle.geos_model.specs.Heap.{ChunkMap, need, next_chunk, fits, fits_with, fits_new, space_of, is_chunk_handle, is_heap_map, chunk_bytes}
 use Rattle.geos_model.specs.Bytes.{resized}
 use Rattle.geos_model.specs.Image.{image}
 use Rattle.geos_model.specs.declared.command.Body.TheVariants as bodies

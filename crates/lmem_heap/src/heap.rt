@@ -5,7 +5,7 @@ ghost use Rattle.std.specs.Option.{option_map, option_copied};
 ghost use Rattle.std.specs.FinMap.{empty, get, insert, remove, keys, contains_key};
 ghost use Rattle.geos_model.specs.Heap.{ChunkMap, need, chunk_bytes, next_chunk, fits_new, fits_with, is_chunk_handle, is_heap_map, space_of};
 ghost use Rattle.geos_model.specs.Bytes.{resized};
-ghost use Rattle.geos_model.specs.Table.{table_map, first_gap, IsTrimmed};
+ghost use Rattle.geos_model.proofs.Table.{table_map, first_gap, IsTrimmed};
 ghost use Rattle.lmem_heap.specs.Slots.{space_in};
 ghost use Rattle.raw_region.specs.Bytes.{word_bytes};
 ghost use Rattle.geos_model.specs.Image.{image};
@@ -47,7 +47,7 @@ impl Model for Heap {
     ghost use Rattle.std.specs.Ordering.{nat_cmp};
     ghost use Rattle.std.specs.Coded.{coded_ℕ, coded_list};
     ghost use Rattle.std.specs.FinMap.{FinMap, code};
-    ghost use Rattle.geos_model.specs.Table.{table_map, first_gap, IsTrimmed};
+    ghost use Rattle.geos_model.proofs.Table.{table_map, first_gap, IsTrimmed};
     ghost use Rattle.lmem_heap.specs.Slots.{space_in};
 
     ghost Value = { FinMap nat_cmp (List ℕ) };

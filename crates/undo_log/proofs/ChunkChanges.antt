@@ -9,7 +9,7 @@ use Rattle.geos_model.specs.Document.{Block, Document, chunks_of, chunks_of_body
 use Rattle.geos_model.specs.Heap.{ChunkMap, chunk_bytes, fits, fits_with, fits_new, next_chunk, is_heap_map, need}
 use Rattle.geos_model.specs.Meaning.{conditions, effect, chunk_at, with_chunk, on_heap, on_chunk, no_room, no_place}
 use Rattle.geos_model.specs.Refusal.{Conditions, first_refusal}
-use Rattle.geos_model.specs.Table.{table_map}
+use Rattle.geos_model.proofs.Table.{table_map}
 use Rattle.geos_model.specs.declared.command.Body.TheVariants.{Heap}
 use Rattle.geos_model.specs.declared.command.Done.{Done}
 use Rattle.geos_model.specs.declared.command.Done.TheVariants.{Chunk}

@@ -28,7 +28,7 @@ pub struct Session {
 
 impl Model for Session {
     ghost use Rattle.geos_model.specs.Machine.{Machine};
-    ghost use Rattle.geos_model.specs.Codes.{machine_code};
+    ghost use Rattle.geos_model.proofs.Codes.{machine_code};
 
     ghost Value = { Machine };
 

@@ -5,7 +5,7 @@ use Rattle.std.proofs.lemmas.List.{take_more, length-take-le, append-nil, map-ap
 use Rattle.std.proofs.Math.ListN.{length-set}
 use Rattle.std.proofs.lemmas.Bool.{lt-ltb, le-ltb, eqb-true, eq-eqb}
 use Rattle.std.specs.FinMap.{get, insert, remove, keys}
-use Rattle.geos_model.specs.Table.{table_entries, table_map, first_gap}
+use Rattle.geos_model.proofs.Table.{table_entries, table_map, first_gap}
 use Rattle.geos_model.specs.Document.{Block as DocumentBlock, Document, is_live, with_block, next_handle}
 use Rattle.geos_model.specs.Reply.{found}
 use Rattle.vm_blocks.specs.Saved.{with_slot}

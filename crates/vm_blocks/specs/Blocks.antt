@@ -2,7 +2,7 @@
 use Rattle.std.specs.Prelude.{◌≡◌, ◌≤◌, ◌+◌, ℕ, Bool, ◌==◌, if◌then◌else◌, min, List, length, map, Option}
 use Rattle.std.specs.Option.{option_map}
 use Rattle.geos_model.specs.Document.{Block as DocumentBlock, Document}
-use Rattle.geos_model.specs.Table.{table_map, first_gap}
+use Rattle.geos_model.proofs.Table.{table_map, first_gap}
 use Rattle.geos_model.specs.declared.command.Body.{Body}
 use Rattle.geos_model.specs.declared.command.Body.TheVariants.{Raw, Heap}
 use Rattle.vm_blocks.specs.declared.block.BlockBody.{BlockBody}

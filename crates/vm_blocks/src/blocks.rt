@@ -3,7 +3,7 @@ ghost use Rattle.std.specs.Option.{option_map, option_copied};
 ghost use Rattle.std.specs.FinMap.{get, keys};
 ghost use Rattle.geos_model.specs.Document.{empty_document, next_handle, is_live, with_user_id};
 ghost use Rattle.geos_model.specs.Reply.{found};
-ghost use Rattle.geos_model.specs.Table.{table_entries, first_gap};
+ghost use Rattle.geos_model.proofs.Table.{table_entries, first_gap};
 ghost use Rattle.vm_blocks.specs.Blocks.{block_of, table_of, document_of, start_after};
 ghost use Rattle.vm_blocks.specs.Changes.{AllowsIn, changed};
 ghost use Rattle.vm_blocks.specs.Saved.{with_slot};
@@ -30,7 +30,7 @@ pub struct Blocks {
 
 impl Model for Blocks {
     ghost use Rattle.geos_model.specs.Document.{Document};
-    ghost use Rattle.geos_model.specs.Codes.{document_code};
+    ghost use Rattle.geos_model.proofs.Codes.{document_code};
 
     ghost Value = { Document };
 

@@ -1,5 +1,5 @@
 use Rattle.std.proofs.Common.{◌≡◌, ◌+◌, drop}
-use Rattle.geos_model.specs.Table.{first_gap}
+use Rattle.geos_model.proofs.Table.{first_gap}
 use Rattle.lmem_heap.proofs.heap.gap_from.Given as goal
 
 abbrev pub invariant-loop-i : goal.invariant-loop-i

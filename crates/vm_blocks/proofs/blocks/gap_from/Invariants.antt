@@ -1,5 +1,5 @@
 use Rattle.std.proofs.Common.{◌≤◌}
-use Rattle.geos_model.specs.Table.{first_gap}
+use Rattle.geos_model.proofs.Table.{first_gap}
 use Rattle.vm_blocks.specs.Blocks.{table_of}
 use Rattle.vm_blocks.proofs.blocks.gap_from.Given as goal
 

@@ -1,7 +1,7 @@
 use Rattle.std.proofs.Common.{◌≡◌, ◌≤◌, ◌+◌, ◌*◌, ◌≢◌, ℕ, List, Some, None, length, get_or, set, drop, replicate, ap, sym, ◌∙◌, arith}
 use Rattle.std.proofs.lemmas.List.{length-replicate}
 use Rattle.geos_model.specs.Heap.{space_of}
-use Rattle.geos_model.specs.Table.{first_gap}
+use Rattle.geos_model.proofs.Table.{first_gap}
 use Rattle.geos_model.proofs.Tables.{slots_to, length-slots_to, slot_at-slots_to, put_at, first_gap-put_first, first_gap-put_other}
 use Rattle.geos_model.proofs.HeapTables.{space_of_ge}
 use Rattle.lmem_heap.specs.Packed.{Slots, chunks}

@@ -2,7 +2,7 @@ use Rattle.std.proofs.Common.{◌≡◌, ◌+◌, ◌*◌, ◌/◌, ◌≤◌, �
 use Rattle.std.specs.FinMap.{get}
 use Rattle.std.specs.Option.{option_copied}
 use Rattle.geos_model.specs.Heap.{ChunkMap, is_heap_map}
-use Rattle.geos_model.specs.Table.{table_map, first_gap, IsTrimmed}
+use Rattle.geos_model.proofs.Table.{table_map, first_gap, IsTrimmed}
 use Rattle.lmem_heap.specs.Packed.{Slots}
 use Rattle.lmem_heap.specs.Slots.{space_in}
 use Rattle.lmem_heap.proofs.Heaps.{get_slot, get_other, is_heap}

@@ -1,5 +1,5 @@
 use Rattle.std.proofs.Common.{◌≡◌, map, take}
-use Rattle.geos_model.specs.Table.{table_entries}
+use Rattle.geos_model.proofs.Table.{table_entries}
 use Rattle.lmem_heap.proofs.heap.Heap.handles.Given as goal
 
 abbrev pub invariant-loop-i : goal.invariant-loop-i

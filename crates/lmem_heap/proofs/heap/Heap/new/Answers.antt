@@ -1,5 +1,5 @@
 use Rattle.std.proofs.Common.{ap, ◌∙◌}
-use Rattle.geos_model.specs.Table.{table_map}
+use Rattle.geos_model.proofs.Table.{table_map}
 use Rattle.geos_model.proofs.Tables.{table_map-nil}
 use Rattle.lmem_heap.proofs.heap.Heap.new.Goals as goal
 

@@ -1,5 +1,5 @@
 use Rattle.std.proofs.Common.{◌≡◌, ◌+◌, ◌*◌, ℕ, Some, arith, ap, sym, ◌∙◌}
-use Rattle.geos_model.specs.Table.{first_gap}
+use Rattle.geos_model.proofs.Table.{first_gap}
 use Rattle.geos_model.specs.Heap.{next_chunk}
 use Rattle.lmem_heap.proofs.Heaps.{next_some, next_none}
 use Rattle.lmem_heap.proofs.heap.Heap.next_handle.Goals as goal

@@ -1,6 +1,6 @@
 use Rattle.std.proofs.Common.{ap, ◌∙◌}
 use Rattle.geos_model.specs.Document.{Block as DocumentBlock}
-use Rattle.geos_model.specs.Table.{table_map}
+use Rattle.geos_model.proofs.Table.{table_map}
 use Rattle.geos_model.proofs.Tables.{table_map-nones}
 use Rattle.vm_blocks.proofs.blocks.Blocks.new.Goals as goal
 

@@ -2,6 +2,7 @@
 use Rattle.std.specs.Prelude.{◌≡◌, ◌<◌, ℕ, zero, suc, List, [], ◌∷◌, ◌+◌, ◌-◌, true, Option, Some, None, is_some, length, get_or}
 use Rattle.std.specs.Ordering.{nat_cmp}
 use Rattle.std.specs.FinMap.{FinMap, from_entries}
+use Rattle.geos_model.specs.Heap.{space_of}
 
 -- the values that are there, each with its handle; h is the first handle
 abbrev pub table_entries : {X : Type 0} → ℕ → ℕ → List (Option X) → List (ℕ × X)
@@ -22,3 +23,8 @@ abbrev pub first_gap : {X : Type 0} → List (Option X) → ℕ
 first_gap [] = zero
 first_gap (None ∷ table) = zero
 first_gap (Some x ∷ table) = suc (first_gap table)
+
+-- what a chunk takes in a heap, and none
+abbrev pub slot_space : Option (List ℕ) → ℕ
+slot_space None = 0
+slot_space (Some bytes) = space_of (length bytes)
