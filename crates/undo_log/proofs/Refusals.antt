@@ -1,5 +1,5 @@
 -- Which refusal is the first.
-use Rattle.std.proofs.Common.{◌≡◌, ℕ, Result, Ok, Err, MatchResult, subst, ◌++◌, true, false, Some, None, refl, sym, ap, ◌∙◌, inl}
+use Rattle.std.proofs.Common.{◌≡◌, ℕ, Result, Ok, Err, MatchResult, subst, ◌++◌, true, false, Option, Some, None, refl, sym, ap, ◌∙◌, inl}
 use Rattle.std.specs.Result.{IsErrAnd}
 use Rattle.std.specs.FinMap.{get, contains_key}
 use Rattle.geos_model.specs.Refusal.{Conditions, applies, first_refusal}
@@ -7,7 +7,7 @@ use Rattle.geos_model.specs.Heap.{ChunkMap}
 use Rattle.geos_model.specs.Document.{Block, Document, is_heap_body}
 use Rattle.geos_model.specs.Meaning.{on_raw, on_heap, on_chunk}
 use Rattle.geos_model.specs.Reply.{Reply, Refused, reply_by}
-use Rattle.geos_model.specs.Machine.{Machine, Step, machine_conditions, next, done_by_request}
+use Rattle.geos_model.specs.Machine.{Machine, Step, command_conditions, next, done_by}
 use Rattle.geos_model.specs.declared.command.Command.{Command}
 use Rattle.std.specs.Option.{option_map_or}
 use Rattle.geos_model.specs.declared.fault.Fault.{Fault}
@@ -53,10 +53,13 @@ pub carried : {T : Type 0} (r : Result T Fault) (P : T → Type 0) (Q : Fault �
 carried (Ok x) P Q fault is q = absurd is
 carried (Err e) P Q fault is q = subst Q (sym is) q
 
+-- the refusal with which the machine stays
+abbrev refusal : Machine → Fault → Option (Reply × Machine)
+refusal m fault = Some (Refused fault, m)
+
 -- a look-up that is refused
-pub refused_look_up : {T : Type 0} (m : Machine) (command : Command) (f : T → Reply) (r : Result T Fault) (fault : Fault) → IsErrAnd r (λ e. e ≡ fault) → first_refusal (machine_conditions (Some command) m) ≡ Some fault
+pub refused_look_up : {T : Type 0} (m : Machine) (command : Command) (f : T → Reply) (r : Result T Fault) (fault : Fault) → IsErrAnd r (λ e. e ≡ fault) → first_refusal (command_conditions command m) ≡ Some fault
     → Step m (Some command) (reply_by f r) m
 refused_look_up m command f (Ok x) fault is first = absurd is
 refused_look_up m command f (Err e) fault is first =
-    let answer : next (Some command) m ≡ (Refused fault, m) = ap (λ o. option_map_or (λ x. (Refused x, m)) o (done_by_request (Some command) m)) first in
-    inl (record { says = ap Refused is ∙ sym (ap (λ p. p.0) answer); goes = sym (ap (λ p. p.1) answer) })
+    inl (ap (λ o. option_map_or (λ x. Some (Refused x, m)) o (done_by command m)) first ∙ ap (refusal m) (sym is))

@@ -2,7 +2,7 @@ use Rattle.std.proofs.Common.{Some, Err, refl, sym, ap, ◌∙◌, arith}
 use Rattle.geos_model.specs.ArrayEdits.{on_element}
 use Rattle.geos_model.specs.Refusal.{first_refusal}
 use Rattle.geos_model.specs.Reply.{NumberIs}
-use Rattle.geos_model.specs.Machine.{Machine, machine_conditions}
+use Rattle.geos_model.specs.Machine.{Machine, command_conditions}
 use Rattle.geos_model.specs.Meaning.{chunk_at}
 use Rattle.geos_model.specs.declared.command.Command.TheVariants as commands
 use Rattle.geos_model.specs.declared.fault.Fault.TheVariants.{NoElement}
@@ -14,7 +14,7 @@ pub returns-in_err-bytes : goal.returns-in_err-bytes
 returns-in_err-bytes c =
     let b = c.args.block in let chunk = c.args.chunk in let i = c.args.i in
     refused_look_up c.args.self.now (commands.ArrayElement b chunk i) _ c.from_residual.result c.in_err-bytes.field-0.0 c.from_residual.ensures.1
-    (ap (λ (m : Machine). first_refusal (machine_conditions (Some (commands.ArrayElement b chunk i)) m)) (sym c.self.view_is) ∙ c.in_err-bytes.ensures (on_element (chunk_at c.self.inside.blocks b.0 chunk.0) i) refl)
+    (ap (λ (m : Machine). first_refusal (command_conditions (commands.ArrayElement b chunk i) m)) (sym c.self.view_is) ∙ c.in_err-bytes.ensures (on_element (chunk_at c.self.inside.blocks b.0 chunk.0) i) refl)
 
 pub returns-in_err-view : goal.returns-in_err-view
 returns-in_err-view c =

@@ -2,7 +2,7 @@ use Rattle.std.proofs.Common.{Some, refl, sym, ap, ◌∙◌}
 use Rattle.geos_model.specs.ElementEdits.{elements_in, on_token, used_below}
 use Rattle.geos_model.specs.Refusal.{first_refusal}
 use Rattle.geos_model.specs.Reply.{NumberIs}
-use Rattle.geos_model.specs.Machine.{Machine, machine_conditions}
+use Rattle.geos_model.specs.Machine.{Machine, command_conditions}
 use Rattle.geos_model.specs.Meaning.{chunk_at}
 use Rattle.geos_model.specs.declared.command.Command.TheVariants as commands
 use Rattle.undo_log.proofs.ArrayLookUps.{answered}
@@ -13,7 +13,7 @@ pub returns-in_err-bytes : goal.returns-in_err-bytes
 returns-in_err-bytes c =
     let b = c.args.block in let chunk = c.args.chunk in
     refused_look_up c.args.self.now (commands.UsedOfToken b chunk c.args.token) _ c.from_residual.result c.in_err-bytes.field-0.0 c.from_residual.ensures.1
-    (ap (λ (m : Machine). first_refusal (machine_conditions (Some (commands.UsedOfToken b chunk c.args.token)) m)) (sym c.self.view_is) ∙ c.in_err-bytes.ensures (on_token (chunk_at c.self.inside.blocks b.0 chunk.0) c.args.token.0) refl)
+    (ap (λ (m : Machine). first_refusal (command_conditions (commands.UsedOfToken b chunk c.args.token) m)) (sym c.self.view_is) ∙ c.in_err-bytes.ensures (on_token (chunk_at c.self.inside.blocks b.0 chunk.0) c.args.token.0) refl)
 
 pub returns : goal.returns
 returns c =
