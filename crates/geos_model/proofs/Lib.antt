@@ -14,3 +14,4 @@ pub mod UsedElements
 pub mod ElementEdits
 pub mod NameEdits
 pub mod Undoing
+pub mod ValidDocuments
