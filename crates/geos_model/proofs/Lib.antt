@@ -2,6 +2,7 @@ pub mod Codes
 pub mod Table
 pub mod Tables
 pub mod HeapTables
+pub mod HeapEdits
 pub mod Images
 pub mod Arrays
 pub mod FreeLists
@@ -14,3 +15,4 @@ pub mod UsedElements
 pub mod ElementEdits
 pub mod NameEdits
 pub mod Undoing
+pub mod Validity

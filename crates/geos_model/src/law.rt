@@ -1,6 +1,7 @@
 ghost use Rattle.geos_model.specs.Laws.{WordLaw, ImageLaw, ArrayLaw, ElementArrayLaw, NameArrayLaw};
 ghost use Rattle.geos_model.specs.EditLaws.{ArrayEditsLaw, ElementEditsLaw, NameEditsLaw};
 ghost use Rattle.geos_model.specs.Undoing.{UndoLaw, RedoLaw};
+ghost use Rattle.geos_model.specs.Validity.{ValidityLaw};
 
 /// Two bytes are the word of one number.
 pub fn word_law()
@@ -50,4 +51,9 @@ pub fn undo_law()
 /// Redoing as many undos as were accepted gives back the document from before them.
 pub fn redo_law()
     ensures { RedoLaw }
+{}
+
+/// What the machine does to a valid document leaves a valid one.
+pub fn validity_law()
+    ensures { ValidityLaw }
 {}

@@ -14,5 +14,5 @@ pub use fault::Fault;
 pub use handle::{ChunkHandle, Token, VmHandle};
 pub use law::{
     array_edits_law, array_law, element_array_law, element_edits_law, image_law, name_array_law,
-    name_edits_law, redo_law, undo_law, word_law,
+    name_edits_law, redo_law, undo_law, validity_law, word_law,
 };
