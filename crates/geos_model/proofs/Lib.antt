@@ -3,6 +3,8 @@ pub mod Table
 pub mod Tables
 pub mod HeapTables
 pub mod HeapEdits
+pub mod ChunkLengths
+pub mod Numbers
 pub mod Images
 pub mod Arrays
 pub mod FreeLists

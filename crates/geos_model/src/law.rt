@@ -1,4 +1,4 @@
-ghost use Rattle.geos_model.specs.Laws.{WordLaw, ImageLaw, ArrayLaw, ElementArrayLaw, NameArrayLaw};
+ghost use Rattle.geos_model.specs.Laws.{WordLaw, NumberLaw, ChunkLaw, ImageLaw, ArrayLaw, ElementArrayLaw, NameArrayLaw};
 ghost use Rattle.geos_model.specs.EditLaws.{ArrayEditsLaw, ElementEditsLaw, NameEditsLaw};
 ghost use Rattle.geos_model.specs.Undoing.{UndoLaw, RedoLaw};
 ghost use Rattle.geos_model.specs.Validity.{ValidityLaw};
@@ -8,7 +8,17 @@ pub fn word_law()
     ensures { WordLaw }
 {}
 
-/// An image is the image of one body.
+/// Any bytes are those of one number.
+pub fn number_law()
+    ensures { NumberLaw }
+{}
+
+/// How long a chunk can be.
+pub fn chunk_law()
+    ensures { ChunkLaw }
+{}
+
+/// An image is the image of one body, and how long it can be.
 pub fn image_law()
     ensures { ImageLaw }
 {}
