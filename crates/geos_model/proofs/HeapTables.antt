@@ -225,7 +225,7 @@ chunk_length_le (o ∷ t) trimmed room i bytes at =
 -- ---- every heap is a table
 
 -- a key of a list of keys
-abbrev is_key : List ℕ → ℕ → Bool
+abbrev pub is_key : List ℕ → ℕ → Bool
 is_key ks q = list_any (eq_by_cmp nat_cmp q) ks
 
 key-is : (q k : ℕ) → eq_by_cmp nat_cmp q k ≡ true → q ≡ k
@@ -240,14 +240,14 @@ all-key p (k ∷ ks) q all is =
       | inr e ↦ all-key p ks q parts.1 e
     ]
 
-abbrev greatest : ℕ → List ℕ → ℕ
+abbrev pub greatest : ℕ → List ℕ → ℕ
 greatest a ks = fold (λ m q. max m ((q - 14) / 2)) a ks
 
 greatest_above : (a : ℕ) (ks : List ℕ) → a ≤ greatest a ks
 greatest_above a [] = omega arith
 greatest_above a (k ∷ ks) = let l = greatest_above (max a ((k - 14) / 2)) ks in omega (arith, l)
 
-greatest_key : (a : ℕ) (ks : List ℕ) (q : ℕ) → is_key ks q ≡ true → (q - 14) / 2 ≤ greatest a ks
+pub greatest_key : (a : ℕ) (ks : List ℕ) (q : ℕ) → is_key ks q ≡ true → (q - 14) / 2 ≤ greatest a ks
 greatest_key a [] q is = cc
 greatest_key a (k ∷ ks) q is = elim (or_cases (eq_by_cmp nat_cmp q k) (is_key ks q) is) [
   | inl e ↦
@@ -258,7 +258,7 @@ greatest_key a (k ∷ ks) q is = elim (or_cases (eq_by_cmp nat_cmp q k) (is_key 
 ]
 
 -- the greatest is that of a key, where it is above the start
-greatest_is : (a : ℕ) (ks : List ℕ) → a < greatest a ks → (q : ℕ) × (is_key ks q ≡ true) × ((q - 14) / 2 ≡ greatest a ks)
+pub greatest_is : (a : ℕ) (ks : List ℕ) → a < greatest a ks → (q : ℕ) × (is_key ks q ≡ true) × ((q - 14) / 2 ≡ greatest a ks)
 greatest_is a [] l = absurd (omega arith)
 greatest_is a (k ∷ ks) l = elim (cases_lt (max a ((k - 14) / 2)) (greatest (max a ((k - 14) / 2)) ks)) [
   | inl more ↦ let there = greatest_is (max a ((k - 14) / 2)) ks more in (there.0, or_right (eq_by_cmp nat_cmp there.0 k) (is_key ks there.0) there.1, there.2)
@@ -346,7 +346,7 @@ heap_map-table m heap = (table_of m, trimmed-table_of m heap, sym (table_map-tab
 -- ---- other bytes of a live chunk
 
 -- a live handle is a slot's
-live_slot : (m : ChunkMap) (h : ℕ) → is_heap_map m ≡ true → contains_key m h ≡ true → h ≡ 16 + 2 * ((h - 16) / 2)
+pub live_slot : (m : ChunkMap) (h : ℕ) → is_heap_map m ≡ true → contains_key m h ≡ true → h ≡ 16 + 2 * ((h - 16) / 2)
 live_slot m h heap live = let parts = is_chunk_handle-parts h (live_handle m h heap live) in omega (arith, parts.0, parts.2)
 
 -- what a slot with a value takes

@@ -2,6 +2,9 @@ pub mod Codes
 pub mod Table
 pub mod Tables
 pub mod HeapTables
+pub mod HeapEdits
+pub mod ChunkLengths
+pub mod Numbers
 pub mod Images
 pub mod Arrays
 pub mod FreeLists
@@ -15,3 +18,4 @@ pub mod ElementEdits
 pub mod NameEdits
 pub mod Undoing
 pub mod ValidDocuments
+pub mod Validity

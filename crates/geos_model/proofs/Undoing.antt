@@ -8,7 +8,7 @@ use Rattle.geos_model.specs.Document.{Document, Block}
 use Rattle.geos_model.specs.Meaning.{effect, chunk_at}
 use Rattle.geos_model.specs.NameEdits.{names_in, token_of_text}
 use Rattle.geos_model.specs.Reply.{Reply, Refused, Accepted, TokenIs, reply_of_done, body_info, look_up}
-use Rattle.geos_model.specs.Machine.{Machine, Request, UndoStep, Step, next, command_conditions, done_by, edited, undone, redone}
+use Rattle.geos_model.specs.Machine.{Machine, Request, UndoStep, Step, command_conditions, done_by, edited, undone, redone}
 use Rattle.geos_model.specs.Undoing.{Call, Calls, SamePast, UndoLaw, RedoLaw, is_refused, is_edit, is_undo, is_redo, moves, is_accepted, stays, only, accepted}
 use Rattle.geos_model.specs.declared.fault.Fault.{Fault}
 use Rattle.geos_model.specs.declared.command.Body.{Body}
@@ -31,11 +31,11 @@ body_info-answers uid (Raw bytes) = refl
 body_info-answers uid (Heap chunks) = refl
 
 -- what holds of the reply and the machine after it, if there is an answer
-abbrev OnDone : (Reply → Machine → Type 0) → Option (Reply × Machine) → Type 0
+abbrev pub OnDone : (Reply → Machine → Type 0) → Option (Reply × Machine) → Type 0
 OnDone P None = Unit {0}
 OnDone P (Some (reply, new)) = P reply new
 
-on_done : (P : Reply → Machine → Type 0) (o : Option (Reply × Machine)) (reply : Reply) (new : Machine) → OnDone P o → o ≡ Some (reply, new) → P reply new
+pub on_done : (P : Reply → Machine → Type 0) (o : Option (Reply × Machine)) (reply : Reply) (new : Machine) → OnDone P o → o ≡ Some (reply, new) → P reply new
 on_done P o reply new holds is = subst (OnDone P) is holds
 
 -- The answer is no refusal.
@@ -83,7 +83,7 @@ done_by-answers commands.Undos m = refl
 done_by-answers commands.Redos m = refl
 
 -- The machine is this one.
-abbrev IsAt : Machine → Reply → Machine → Type 0
+abbrev pub IsAt : Machine → Reply → Machine → Type 0
 IsAt m reply new = new ≡ m
 
 looked_up-stays : (m : Machine) (reply : Option Reply) → OnDone (IsAt m) (option_map (λ r. (r, m)) reply)
@@ -91,7 +91,7 @@ looked_up-stays m None = tt
 looked_up-stays m (Some reply) = refl
 
 -- a command that moves nothing leaves the machine
-done_by-stays : (c : Command) (m : Machine) → moves (Some c) ≡ false → OnDone (IsAt m) (done_by c m)
+pub done_by-stays : (c : Command) (m : Machine) → moves (Some c) ≡ false → OnDone (IsAt m) (done_by c m)
 done_by-stays (commands.Edit e) m h = absurd (cc h)
 done_by-stays commands.Undo m h = absurd (cc h)
 done_by-stays commands.Redo m h = absurd (cc h)
@@ -118,27 +118,27 @@ done_by-stays commands.Undos m h = refl
 done_by-stays commands.Redos m h = refl
 
 -- a reply and the machine after it
-abbrev answer : Reply → Machine → Option (Reply × Machine)
+abbrev pub answer : Reply → Machine → Option (Reply × Machine)
 answer reply m = Some (reply, m)
 
 -- one answer is one reply and one machine
 same_reply : {x reply : Reply} {m new : Machine} → answer x m ≡ answer reply new → x ≡ reply
 same_reply {x = x} {m = m} h = ap (λ (o : Option (Reply × Machine)). option_map_or (λ p. p.0) o x) h
 
-same_machine : {x reply : Reply} {m new : Machine} → answer x m ≡ answer reply new → m ≡ new
+pub same_machine : {x reply : Reply} {m new : Machine} → answer x m ≡ answer reply new → m ≡ new
 same_machine {x = x} {m = m} h = ap (λ (o : Option (Reply × Machine)). option_map_or (λ p. p.1) o m) h
 
 -- where the reply is a refusal, the machine stays
-refusal-stays : (refusal : Option Fault) (m : Machine) (done : Option (Reply × Machine)) → OnDone IsAnswer done → (reply : Reply) (new : Machine)
-    → option_map_or (λ fault. Some (Refused fault, m)) refusal done ≡ Some (reply, new) → is_refused reply ≡ true → new ≡ m
-refusal-stays (Some fault) m done answers reply new is h = sym (same_machine is)
-refusal-stays None m done answers reply new is h = let no : false ≡ true = sym (on_done IsAnswer done reply new answers is) ∙ h in absurd (cc)
+refusal-stays : (refusal : Option Fault) (m : Machine) (after : Option (Reply × Machine)) → OnDone IsAnswer after → (reply : Reply) (new : Machine)
+    → option_map_or (λ fault. Some (Refused fault, m)) refusal after ≡ Some (reply, new) → is_refused reply ≡ true → new ≡ m
+refusal-stays (Some fault) m after answers reply new is h = sym (same_machine is)
+refusal-stays None m after answers reply new is h = let no : false ≡ true = sym (on_done IsAnswer after reply new answers is) ∙ h in absurd (cc)
 
 -- where it is none, the machine goes where the command takes it
-no_refusal-done : (refusal : Option Fault) (m : Machine) (done : Option (Reply × Machine)) (reply : Reply) (new : Machine)
-    → option_map_or (λ fault. Some (Refused fault, m)) refusal done ≡ Some (reply, new) → is_refused reply ≡ false → done ≡ Some (reply, new)
-no_refusal-done (Some fault) m done reply new is h = let no : true ≡ false = ap is_refused (same_reply is) ∙ h in absurd (cc)
-no_refusal-done None m done reply new is h = is
+no_refusal-done : (refusal : Option Fault) (m : Machine) (after : Option (Reply × Machine)) (reply : Reply) (new : Machine)
+    → option_map_or (λ fault. Some (Refused fault, m)) refusal after ≡ Some (reply, new) → is_refused reply ≡ false → after ≡ Some (reply, new)
+no_refusal-done (Some fault) m after reply new is h = let no : true ≡ false = ap is_refused (same_reply is) ∙ h in absurd (cc)
+no_refusal-done None m after reply new is h = is
 
 -- a refused request leaves the machine
 refused : {old new : Machine} (request : Request) (reply : Reply) → Step old request reply new → is_refused reply ≡ true → new ≡ old

@@ -1,10 +1,14 @@
 -- Laws of the definitions.
-use Rattle.std.specs.Prelude.{◌≡◌, ◌+◌, ◌*◌, ◌<◌, ℕ, List, [], ◌∷◌, true, Some, length}
+use Rattle.std.specs.Prelude.{◌≡◌, ◌+◌, ◌*◌, ◌^◌, ◌<◌, ◌≤◌, ℕ, List, [], ◌∷◌, ◌++◌, All, true, Some, length}
+use Rattle.std.specs.FinMap.{get, empty}
+use Rattle.byteorder.specs.Endian.{little_bytes, little_number}
 use Rattle.geos_model.specs.Words.{word}
 use Rattle.geos_model.specs.Array.{Array, array_bytes, array_of, is_even}
 use Rattle.geos_model.specs.ElementArray.{Slots, is_sound, element_bytes, element_array_of}
 use Rattle.geos_model.specs.NameArray.{NameArray, is_sound_names, name_bytes, name_array_of}
-use Rattle.geos_model.specs.Document.{is_valid_body}
+use Rattle.geos_model.specs.Heap.{ChunkMap, is_heap_map, fits_new, longest_chunk}
+use Rattle.geos_model.specs.Document.{Document, IsValid, is_valid_body}
+use Rattle.geos_model.specs.Meaning.{chunk_at}
 use Rattle.geos_model.specs.Image.{image, body_read}
 use Rattle.geos_model.specs.declared.command.Body.{Body}
 
@@ -14,11 +18,25 @@ WordLaw =
     (low high : ℕ) → low < 256 → high < 256
     → (word (low + 256 * high) ≡ low ∷ high ∷ []) × ((n : ℕ) → n < 65536 → word n ≡ low ∷ high ∷ [] → n ≡ low + 256 * high)
 
--- No two bodies have the same image, and an image is read back as its body.
+-- So it is of k bytes, as of the three of a count of references and the four or eight of a number in a file: numbers below
+-- 256 to the k are read back from their bytes, so that no two have the same, and any bytes are those of the number read from them.
+pub record NumberLaw : Type 0 where
+  pub read_back : (k n : ℕ) (rest : List ℕ) → n < 256 ^ k → little_number k (little_bytes k n ++ rest) ≡ n
+  pub in_range : (bytes : List ℕ) → All (λ b. b < 256) bytes → little_number (length bytes) bytes < 256 ^ length bytes
+  pub written_back : (bytes : List ℕ) → All (λ b. b < 256) bytes → little_bytes (length bytes) (little_number (length bytes) bytes) ≡ bytes
+
+-- No chunk of a heap is longer than `longest_chunk`, nor is one of a valid document, and one that isn't has room alone in a heap.
+pub record ChunkLaw : Type 0 where
+  pub in_heap : (m : ChunkMap) (h : ℕ) (bytes : List ℕ) → is_heap_map m ≡ true → get m h ≡ Some bytes → length bytes ≤ longest_chunk
+  pub in_document : (d : Document) (b c : ℕ) → IsValid d → length (chunk_at d b c) ≤ longest_chunk
+  pub alone : (bytes : List ℕ) → length bytes ≤ longest_chunk → fits_new empty bytes ≡ true
+
+-- No two bodies have the same image, an image is read back as its body, and it has at most 65,521 bytes.
 abbrev pub ImageLaw : Type 0
 ImageLaw =
     ((a b : Body) → is_valid_body a ≡ true → is_valid_body b ≡ true → image a ≡ image b → a ≡ b)
     × ((b : Body) → is_valid_body b ≡ true → body_read (image b) ≡ b)
+    × ((b : Body) → is_valid_body b ≡ true → length (image b) ≤ 65521)
 
 -- What is read as an array is the bytes of that one, and one that isn't too long is read back from its bytes.
 abbrev pub ArrayLaw : Type 0

@@ -17,4 +17,5 @@ pub mod Machine
 pub mod Laws
 pub mod EditLaws
 pub mod Undoing
+pub mod Validity
 pub mod Script

@@ -1,13 +1,24 @@
-ghost use Rattle.geos_model.specs.Laws.{WordLaw, ImageLaw, ArrayLaw, ElementArrayLaw, NameArrayLaw};
+ghost use Rattle.geos_model.specs.Laws.{WordLaw, NumberLaw, ChunkLaw, ImageLaw, ArrayLaw, ElementArrayLaw, NameArrayLaw};
 ghost use Rattle.geos_model.specs.EditLaws.{ArrayEditsLaw, ElementEditsLaw, NameEditsLaw};
 ghost use Rattle.geos_model.specs.Undoing.{UndoLaw, RedoLaw};
+ghost use Rattle.geos_model.specs.Validity.{ValidityLaw};
 
 /// Two bytes are the word of one number.
 pub fn word_law()
     ensures { WordLaw }
 {}
 
-/// An image is the image of one body.
+/// Any bytes are those of one number.
+pub fn number_law()
+    ensures { NumberLaw }
+{}
+
+/// How long a chunk can be.
+pub fn chunk_law()
+    ensures { ChunkLaw }
+{}
+
+/// An image is the image of one body, and how long it can be.
 pub fn image_law()
     ensures { ImageLaw }
 {}
@@ -50,4 +61,9 @@ pub fn undo_law()
 /// Redoing as many undos as were accepted gives back the document from before them.
 pub fn redo_law()
     ensures { RedoLaw }
+{}
+
+/// What the machine does to a valid document leaves a valid one.
+pub fn validity_law()
+    ensures { ValidityLaw }
 {}

@@ -1,5 +1,5 @@
-use Rattle.geos_model.proofs.Images.{image-injective_body, body_read-body}
+use Rattle.geos_model.proofs.Images.{image-injective_body, body_read-body, length_image_body_le}
 use Rattle.geos_model.proofs.law.image_law.Goals as goal
 
 pub returns : goal.returns
-returns c = (image-injective_body, body_read-body)
+returns c = (image-injective_body, body_read-body, length_image_body_le)

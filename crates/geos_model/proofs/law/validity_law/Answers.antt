@@ -1,0 +1,5 @@
+use Rattle.geos_model.proofs.Validity.{validity_law}
+use Rattle.geos_model.proofs.law.validity_law.Goals as goal
+
+pub returns : goal.returns
+returns c = validity_law

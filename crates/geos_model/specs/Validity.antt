@@ -1,0 +1,30 @@
+-- Every step of the machine keeps validity.
+use Rattle.std.specs.Prelude.{◌≡◌, ◌<◌, ℕ, List, All, Some, None}
+use Rattle.geos_model.specs.Refusal.{first_refusal}
+use Rattle.geos_model.specs.Document.{Document, IsValid}
+use Rattle.geos_model.specs.Meaning.{conditions, effect}
+use Rattle.geos_model.specs.Reply.{Reply}
+use Rattle.geos_model.specs.Machine.{Machine, Request, Step, Run, IsValidMachine, empty_machine}
+use Rattle.geos_model.specs.declared.command.Edit.{Edit}
+use Rattle.geos_model.specs.declared.command.Edit.TheVariants as edits
+use Rattle.geos_model.specs.declared.command.Command.TheVariants as commands
+
+-- the user ID that an edit gives a block, 0 where it gives none
+abbrev pub user_id_given : Edit → ℕ
+user_id_given (edits.NewRaw uid size) = uid
+user_id_given (edits.NewHeap uid) = uid
+user_id_given (edits.SetUserId b uid) = uid
+user_id_given e = 0
+
+-- that of a request's edit, 0 where it is none
+abbrev pub user_id_asked : Request → ℕ
+user_id_asked (Some (commands.Edit e)) = user_id_given e
+user_id_asked request = 0
+
+-- The machine is valid at the start, and where user IDs are words, an edit that nothing refuses, each step and each run keep validity.
+pub record ValidityLaw : Type 0 where
+  pub start : IsValidMachine empty_machine
+  pub edit : (e : Edit) (d : Document) → user_id_given e < 65536 → IsValid d → first_refusal (conditions e d) ≡ None → IsValid (effect e d).0
+  pub step : (old new : Machine) (request : Request) (reply : Reply) → user_id_asked request < 65536 → IsValidMachine old → Step old request reply new → IsValidMachine new
+  pub run : (old new : Machine) (requests : List Request) (replies : List Reply) → All (λ request. user_id_asked request < 65536) requests
+      → IsValidMachine old → Run old requests replies new → IsValidMachine new
