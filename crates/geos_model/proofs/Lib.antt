@@ -17,5 +17,4 @@ pub mod UsedElements
 pub mod ElementEdits
 pub mod NameEdits
 pub mod Undoing
-pub mod ValidDocuments
 pub mod Validity

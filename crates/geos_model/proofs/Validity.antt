@@ -47,7 +47,7 @@ block_there None h = absurd (cc h)
 block_there (Some b) h = (b, refl)
 
 -- with a valid block
-with_block-valid : (d : Document) (h : ℕ) (b : Block) → IsValid d → IsValidBlock h b → IsValid (with_block d h b)
+pub with_block-valid : (d : Document) (h : ℕ) (b : Block) → IsValid d → IsValidBlock h b → IsValid (with_block d h b)
 with_block-valid d h b valid good = record {
   blocks = λ q c is. elim (cases_eq q h) [
     | inl e ↦
@@ -63,7 +63,7 @@ with_block-valid d h b valid good = record {
 }
 
 -- without a block that isn't the map block
-without_block-valid : (d : Document) (h : ℕ) → IsValid d → d.map_block ≢ h → IsValid (without_block d h)
+pub without_block-valid : (d : Document) (h : ℕ) → IsValid d → d.map_block ≢ h → IsValid (without_block d h)
 without_block-valid d h valid other = record {
   blocks = λ q c is. valid.blocks q c (get-taken d.blocks h q c is);
   map_block = λ some. ap is_some (get-taken_other d.blocks h d.map_block other) ∙ valid.map_block some;
@@ -81,7 +81,7 @@ with_body-valid d h body valid live good =
     })
 
 -- with a user ID of a block, if it is live
-with_user_id-valid : (d : Document) (h uid : ℕ) → IsValid d → uid < 65536 → IsValid (with_user_id d h uid)
+pub with_user_id-valid : (d : Document) (h uid : ℕ) → IsValid d → uid < 65536 → IsValid (with_user_id d h uid)
 with_user_id-valid d h uid valid low = by_block (get d.blocks h) refl
   where
     by_block : (o : Option Block) → get d.blocks h ≡ o → IsValid (option_map_or (λ b. with_block d h (record b { user_id = uid })) o d)
@@ -384,7 +384,7 @@ run-valid old new (request ∷ requests) (reply ∷ replies) low valid run =
 run-valid old new [] (reply ∷ replies) low valid run = absurd run
 run-valid old new (request ∷ requests) [] low valid run = absurd run
 
-empty_document-valid : IsValid empty_document
+pub empty_document-valid : IsValid empty_document
 empty_document-valid = record {
   blocks = λ h b is. let no : None ≡ Some b = sym (get-empty nat_cmp h) ∙ is in absurd (cc no);
   map_block = λ some. absurd (some refl);

@@ -2,3 +2,4 @@ pub mod SlotLemmas
 pub mod ChangeLemmas
 pub mod RoomLemmas
 pub mod SavedLemmas
+pub mod ValidLemmas

@@ -6,13 +6,14 @@ use Rattle.std.proofs.Math.ListN.{length-set}
 use Rattle.std.proofs.lemmas.Bool.{lt-ltb, le-ltb, eqb-true, eq-eqb}
 use Rattle.std.specs.FinMap.{get, insert, remove, keys}
 use Rattle.geos_model.proofs.Table.{table_entries, table_map, first_gap}
-use Rattle.geos_model.specs.Document.{Block as DocumentBlock, Document, is_live, with_block, next_handle}
+use Rattle.geos_model.specs.Document.{Block as DocumentBlock, Document, IsValid, is_live, with_block, next_handle}
+use Rattle.geos_model.proofs.Validity.{with_block-valid}
 use Rattle.geos_model.specs.Reply.{found}
 use Rattle.vm_blocks.specs.Saved.{with_slot}
 use Rattle.geos_model.proofs.Tables.{slot_at, get-table_map_at, get-table_map_below, table_map-set, table_map-clear, keys-table_map, next_handle-table, first_gap_none, entries-table_map}
 use Rattle.geos_model.specs.declared.handle.VmHandle.{VmHandle}
 use Rattle.vm_blocks.specs.declared.block.Block.{Block}
-use Rattle.vm_blocks.specs.Blocks.{block_of, table_of, document_of, AreSlots, start_after}
+use Rattle.vm_blocks.specs.Blocks.{block_of, table_of, document_of, AreSlots, AreBlocks, start_after}
 
 pub length-table_of : (slots : List (Option Block)) → length (table_of slots) ≡ length slots
 length-table_of [] = refl
@@ -189,6 +190,19 @@ module _ (mb : ℕ) where
           ∙ ap (λ (x : Document). with_block x h (block_of new)) shown
           ∙ ap (with_block d h) e
           ∙ ap (λ (o : Option DocumentBlock). option_map_or (λ (x : DocumentBlock). with_block d h (f x)) o d) (sym live_block)
+
+      -- and the document stays valid
+      pub live_blocks : (new : Block) (gap : ℕ) → AreBlocks slots gap mb → AreBlocks (set slots (p - 1) (Some new)) gap mb
+      live_blocks new gap are =
+          let valid : IsValid d = subst IsValid shown are.valid in
+          let kept = with_block-valid d h (block_of new) valid (record { handle = (valid.blocks h (block_of b) live_block).handle; user_id = new.word; body = new.valid }) in
+          record {
+            placed = are_slots_full slots (p - 1) gap new are.placed;
+            valid = subst IsValid (sym (
+              ap (λ (q : ℕ). shown_by (set slots (q - 1) (Some new))) place
+              ∙ put-document slots h (Some new) there.1.from_one there.1.within
+              ∙ ap (λ (x : Document). with_block x h (block_of new)) shown)) kept;
+          }
 
   -- the handles of the document
   pub keys-document : (slots : List (Option Block)) → keys (shown_by slots).blocks ≡ handles_from 1 slots

@@ -1,19 +1,12 @@
 -- What callers see of blocks in memory.
 use Rattle.std.specs.Prelude.{◌≡◌, ◌≤◌, ◌+◌, ℕ, Bool, ◌==◌, if◌then◌else◌, min, List, length, map, Option}
 use Rattle.std.specs.Option.{option_map}
-use Rattle.geos_model.specs.Document.{Block as DocumentBlock, Document}
+use Rattle.geos_model.specs.Document.{Block as DocumentBlock, Document, IsValid, most_blocks}
 use Rattle.geos_model.proofs.Table.{table_map, first_gap}
-use Rattle.geos_model.specs.declared.command.Body.{Body}
-use Rattle.geos_model.specs.declared.command.Body.TheVariants.{Raw, Heap}
-use Rattle.vm_blocks.specs.declared.block.BlockBody.{BlockBody}
-use Rattle.vm_blocks.specs.declared.block.BlockBody.TheVariants as block_bodies
+use Rattle.vm_blocks.specs.Bodies.{body_of}
 use Rattle.vm_blocks.specs.declared.block.Block.{Block}
 
--- a body, and a block, as the document has them
-abbrev pub body_of : BlockBody → Body
-body_of (block_bodies.Raw bytes) = Raw bytes
-body_of (block_bodies.Heap m) = Heap m
-
+-- a block, as the document has it
 abbrev pub block_of : Block → DocumentBlock
 block_of b = record { user_id = b.user_id; body = body_of b.body }
 
@@ -26,8 +19,13 @@ document_of slots map_block = record { blocks = table_map 1 1 (table_of slots); 
 
 -- there is a slot for each handle, and none below the gap is free
 pub record AreSlots (slots : List (Option Block)) (gap : ℕ) : Type 0 where
-  pub size : length slots ≡ 2048
+  pub size : length slots ≡ most_blocks
   pub full_below : gap ≤ first_gap (table_of slots)
+
+-- so it is, and the document is valid
+pub record AreBlocks (slots : List (Option Block)) (gap map_block : ℕ) : Type 0 where
+  pub placed : AreSlots slots gap
+  pub valid : IsValid (document_of slots map_block)
 
 -- where a search for a gap may start after a place was filled or freed
 abbrev pub start_after : ℕ → ℕ → Bool → ℕ

@@ -1,7 +1,8 @@
-ghost use Rattle.std.specs.Prelude.{◌≡◌};
+ghost use Rattle.std.specs.Prelude.{◌≡◌, ◌<◌, true};
 ghost use Rattle.std.specs.FinMap.{insert};
 ghost use Rattle.geos_model.specs.declared.command.Body.TheVariants as bodies;
-ghost use Rattle.vm_blocks.specs.Blocks.{body_of};
+ghost use Rattle.geos_model.specs.Document.{is_valid_body};
+ghost use Rattle.vm_blocks.specs.Bodies.{body_of};
 ghost use Rattle.vm_blocks.specs.Changes.{Allows, AllowsNewChunk, changed_body};
 
 use crate::Change;
@@ -10,11 +11,14 @@ use geos_model::ChunkHandle;
 use lmem_heap::Heap;
 use raw_region::RawBody;
 
-/// A live block.
+/// A live block. Its body is one that a document can have.
 #[derive(Drop)]
 pub struct Block {
     pub user_id: u16,
     pub body: BlockBody,
+    // A contract doesn't see the range of a number within an `Option`, so it is said here.
+    ghost word: { user_id < 65536 },
+    ghost valid: { is_valid_body (body_of body) ≡ true },
 }
 
 /// What a live block holds, in a region of its own.
@@ -22,6 +26,18 @@ pub struct Block {
 pub enum BlockBody {
     Raw(RawBody),
     Heap(Heap),
+}
+
+impl Block {
+    ghost use Rattle.vm_blocks.specs.Blocks.{block_of};
+
+    /// A block of a body that a document can have.
+    pub fn new(user_id: u16, body: BlockBody) -> Block
+        requires { is_valid_body (body_of body) ≡ true }
+        ensures { block_of result ≡ record { user_id = user_id; body = body_of body } }
+    {
+        Block { user_id, body }
+    }
 }
 
 impl BlockBody {

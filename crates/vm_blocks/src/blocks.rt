@@ -1,7 +1,7 @@
-ghost use Rattle.std.specs.Prelude.{◌≡◌, ◌+◌, ◌≤◌, ℕ, Some, None, true, IsTrue, IfOk, IfSome, IsSome, length, map, replicate, unwrap_or};
+ghost use Rattle.std.specs.Prelude.{◌≡◌, ◌≢◌, ◌+◌, ◌≤◌, ℕ, Some, None, true, IsTrue, IfOk, IfSome, IsSome, length, map, replicate, unwrap_or};
 ghost use Rattle.std.specs.Option.{option_map, option_copied};
 ghost use Rattle.std.specs.FinMap.{get, keys};
-ghost use Rattle.geos_model.specs.Document.{empty_document, next_handle, is_live, with_user_id};
+ghost use Rattle.geos_model.specs.Document.{empty_document, next_handle, is_live, is_vm_handle, most_blocks, with_user_id};
 ghost use Rattle.geos_model.specs.Reply.{found};
 ghost use Rattle.geos_model.proofs.Table.{table_entries, first_gap};
 ghost use Rattle.vm_blocks.specs.Blocks.{block_of, table_of, document_of, start_after};
@@ -36,16 +36,16 @@ impl Model for Blocks {
 
     ghost coded = { document_code };
 
-    ghost use Rattle.vm_blocks.specs.Blocks.{document_of, AreSlots};
+    ghost use Rattle.vm_blocks.specs.Blocks.{document_of, AreBlocks};
 
     ghost view = { λ b. document_of b.slots.items b.map_block.0 };
 
-    ghost invariant = { λ b. AreSlots b.slots.items b.first_gap };
+    ghost invariant = { λ b. AreBlocks b.slots.items b.first_gap b.map_block.0 };
 }
 
 // No block under any handle.
 fn empty_slots(alloc: Global) -> Result<Vec<Option<Block>>, AllocError>
-    ensures { IfOk result (λ slots. (length slots.items ≡ 2048) × (table_of slots.items ≡ replicate 2048 None)) }
+    ensures { IfOk result (λ slots. (length slots.items ≡ most_blocks) × (table_of slots.items ≡ replicate most_blocks None)) }
 {
     let mut slots = Vec::with_capacity(alloc, MOST_BLOCKS)?;
     for _i in 0..MOST_BLOCKS {
@@ -69,7 +69,7 @@ fn gap_from(slots: &[Option<Block>], start: usize) -> usize
 
 // Where a search for a gap starts after a place was filled or freed.
 fn start_after(start: usize, place: usize, is_full: bool) -> usize
-    requires { start ≤ 2048 }
+    requires { start ≤ most_blocks }
     ensures { result ≡ start_after start place is_full }
 {
     if !is_full {
@@ -83,7 +83,7 @@ fn start_after(start: usize, place: usize, is_full: bool) -> usize
 
 // The handles of the blocks that are there.
 fn live_handles(alloc: Global, slots: &[Option<Block>]) -> Result<Vec<VmHandle>, AllocError>
-    requires { length slots.now ≤ 2048 }
+    requires { length slots.now ≤ most_blocks }
     ensures { IfOk result (λ handles. map (λ h. h.0) handles.items ≡ map (λ e. e.0) (table_entries 1 1 (table_of slots.now))) }
 {
     let mut handles = Vec::new(alloc);
@@ -97,7 +97,7 @@ fn live_handles(alloc: Global, slots: &[Option<Block>]) -> Result<Vec<VmHandle>,
 
 // The least handle above a start whose block has this user ID.
 fn find_from(slots: &[Option<Block>], user_id: u16, start: u16) -> Option<VmHandle>
-    requires { length slots.now ≤ 2048 }
+    requires { length slots.now ≤ most_blocks }
     ensures { option_map (λ h. h.0) result ≡ found (document_of slots.now 0) user_id start }
 {
     for i in usize::from(start)..slots.len() {
@@ -126,7 +126,7 @@ impl Blocks {
     /// The block under a handle.
     pub fn block(&self, handle: VmHandle) -> Option<&Block>
         ensures value { option_map block_of (option_copied result) ≡ get self.now.blocks handle.0 }
-        ensures within { IsSome result → (1 ≤ handle.0) × (handle.0 ≤ 2048) }
+        ensures within { IsSome result → is_vm_handle handle.0 ≡ true }
     {
         let slots = &self.slots;
         if handle.0 == 0 {
@@ -162,7 +162,7 @@ impl Blocks {
     /// The least handle that isn't live.
     pub fn next_handle(&self) -> Option<VmHandle>
         ensures value { option_map (λ h. h.0) result ≡ next_handle self.now }
-        ensures within { IfSome result (λ h. (1 ≤ h.0) × (h.0 ≤ 2048)) }
+        ensures within { IfSome result (λ h. is_vm_handle h.0 ≡ true) }
         ensures free { IfSome result (λ h. get self.now.blocks h.0 ≡ None) }
     {
         let gap = gap_from(&self.slots, self.first_gap);
@@ -173,9 +173,10 @@ impl Blocks {
         }
     }
 
-    /// Puts a block under a handle in place of what is there, or nothing.
+    /// Puts a block under a handle in place of what is there, or nothing. The map block stays live.
     pub fn put(&mut self, handle: VmHandle, block: Option<Block>)
-        requires { (1 ≤ handle.0) × (handle.0 ≤ 2048) }
+        requires handle { is_vm_handle handle.0 ≡ true }
+        requires map_block { block ≡ None → self.old.map_block ≢ handle.0 }
         ensures { self.new ≡ with_slot self.old handle.0 (option_map block_of block) }
     {
         let place = usize::from(handle.0) - 1;
@@ -185,6 +186,7 @@ impl Blocks {
 
     /// Sets the map block, or with 0 that there is none.
     pub fn set_map(&mut self, handle: VmHandle)
+        requires { handle.0 ≢ 0 → is_live self.old handle.0 ≡ true }
         ensures { self.new ≡ record self.old { map_block = handle.0 } }
     {
         self.map_block = handle;

@@ -1,4 +1,5 @@
-ghost use Rattle.std.specs.Prelude.{◌≡◌, IfOk, length};
+ghost use Rattle.std.specs.Prelude.{◌≡◌, ◌≤◌, true, IfOk, length};
+ghost use Rattle.geos_model.specs.Heap.{capacity, is_heap_map};
 ghost use Rattle.geos_model.specs.Image.{image};
 ghost use Rattle.geos_model.specs.declared.command.Body.TheVariants as bodies;
 ghost use Rattle.vm_blocks.specs.Blocks.{block_of};
@@ -51,7 +52,8 @@ impl SavedHeap {
 
     /// The heap as it was.
     pub fn restore(&self, alloc: Global) -> Result<Heap, AllocError>
-        ensures { IfOk result (λ heap. heap ≡ self.now) }
+        ensures value { IfOk result (λ heap. heap ≡ self.now) }
+        ensures valid { IfOk result (λ heap. is_heap_map heap ≡ true) }
     {
         match Heap::from_image(alloc, self.image.as_slice()) {
             Ok(heap) => Ok(heap),
@@ -69,12 +71,13 @@ pub struct SavedRaw {
 
 impl Model for SavedRaw {
     ghost use Rattle.std.specs.Prelude.{List, ℕ, ◌≤◌, length};
+    ghost use Rattle.geos_model.specs.Heap.{capacity};
 
     ghost Value = { List ℕ };
 
     ghost view = { λ s. s.bytes };
 
-    ghost invariant = { λ s. length s.bytes ≤ 65520 };
+    ghost invariant = { λ s. length s.bytes ≤ capacity };
 }
 
 impl SavedRaw {
@@ -98,7 +101,8 @@ impl SavedRaw {
 
     /// The body as it was.
     pub fn restore(&self, alloc: Global) -> Result<RawBody, AllocError>
-        ensures { IfOk result (λ body. body ≡ self.now) }
+        ensures value { IfOk result (λ body. body ≡ self.now) }
+        ensures valid { IfOk result (λ body. length body ≤ capacity) }
     {
         let mut body = RawBody::new(alloc)?;
         body.replace(0, 0, self.bytes.as_slice());
@@ -111,6 +115,23 @@ impl SavedRaw {
 pub enum SavedBody {
     Raw(SavedRaw),
     Heap(SavedHeap),
+}
+
+impl SavedBody {
+    ghost use Rattle.geos_model.specs.Document.{is_valid_body};
+    ghost use Rattle.vm_blocks.specs.Bodies.{body_of};
+    ghost use Rattle.vm_blocks.specs.Saved.{saved_body};
+
+    /// The body as it was.
+    fn restore(&self, alloc: Global) -> Result<BlockBody, AllocError>
+        ensures value { IfOk result (λ body. body_of body ≡ saved_body self.now) }
+        ensures valid { IfOk result (λ body. is_valid_body (body_of body) ≡ true) }
+    {
+        match self {
+            SavedBody::Raw(raw) => Ok(BlockBody::Raw(raw.restore(alloc)?)),
+            SavedBody::Heap(heap) => Ok(BlockBody::Heap(heap.restore(alloc)?)),
+        }
+    }
 }
 
 /// A block as it was.
@@ -151,13 +172,7 @@ impl SavedBlock {
     pub fn restore(&self, alloc: Global) -> Result<Block, AllocError>
         ensures { IfOk result (λ block. block_of block ≡ saved_block self.now) }
     {
-        let body = match &self.body {
-            SavedBody::Raw(raw) => BlockBody::Raw(raw.restore(alloc)?),
-            SavedBody::Heap(heap) => BlockBody::Heap(heap.restore(alloc)?),
-        };
-        Ok(Block {
-            user_id: self.user_id,
-            body,
-        })
+        let body = self.body.restore(alloc)?;
+        Ok(Block::new(self.user_id, body))
     }
 }

@@ -2,6 +2,7 @@ use Rattle.std.proofs.Common.{◌-◌, ◌≤◌, None, get_or, sym, ap, ◌∙�
 use Rattle.std.specs.Option.{option_map}
 use Rattle.vm_blocks.specs.Blocks.{block_of}
 use Rattle.vm_blocks.proofs.SlotLemmas.{block-read, block-none, block-within}
+use Rattle.vm_blocks.proofs.ValidLemmas.{handle_in}
 use Rattle.vm_blocks.proofs.blocks.Blocks.block.Goals as goal
 
 pub returns-then-handle-eq0-clause-value : goal.returns-then-handle-eq0-clause-value
@@ -27,8 +28,7 @@ pub returns-in-Some-clause-within : goal.returns-in-Some-clause-within
 returns-in-Some-clause-within c = λ some.
     let one : 1 ≤ c.args.handle.0 = omega arith in
     let here : c.from.result - 1 ≤ c.from.result - 1 = omega arith in
-    let read = c.in-Some.ensures.lookup.4 here None in (
-      one,
-      block-within c.self.inside.map_block.0 c.self.inside.slots.items c.self.inside.first_gap c.args.handle.0 c.from.result c.self.invariant c.from.ensures c.in-Some.slot.now
-          (read ∙ ap (λ (xs : _). get_or xs (c.from.result - 1) None) c.deref.ensures.value) (sym c.as_ref.ensures.variant ∙ some),
-    )
+    let read = c.in-Some.ensures.lookup.4 here None in
+    let last : c.args.handle.0 ≤ 2048 = block-within c.self.inside.map_block.0 c.self.inside.slots.items c.self.inside.first_gap c.args.handle.0 c.from.result c.self.invariant.placed c.from.ensures c.in-Some.slot.now
+        (read ∙ ap (λ (xs : _). get_or xs (c.from.result - 1) None) c.deref.ensures.value) (sym c.as_ref.ensures.variant ∙ some) in
+    handle_in c.args.handle.0 one last

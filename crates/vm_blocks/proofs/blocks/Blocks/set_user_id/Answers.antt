@@ -1,5 +1,5 @@
 use Rattle.std.proofs.Common.{◌-◌, refl, arith}
-use Rattle.vm_blocks.proofs.SlotLemmas.{live_from_one, live_within, live_not_none, live_changed, are_slots_full}
+use Rattle.vm_blocks.proofs.SlotLemmas.{live_from_one, live_within, live_not_none, live_changed, live_blocks}
 use Rattle.vm_blocks.proofs.blocks.Blocks.set_user_id.Goals as goal
 
 pub overflow_sub-place : goal.overflow_sub-place
@@ -14,9 +14,11 @@ pub unreachable-requires : goal.unreachable-requires
 unreachable-requires c = live_not_none c.self.inside.map_block.0 c.self.inside.slots.items c.args.self.now c.self.view_is c.args.handle.0 c.from-place.result c.from-place.ensures c.requires c.index_mut.result.now c.index_mut.ensures.value c.in-None.is
 
 pub invariant_of-self : goal.invariant_of-self
-invariant_of-self c = are_slots_full c.self.inside.map_block.0 c.self.inside.slots.items (c.from-place.result - 1) c.self.inside.first_gap (record { user_id = c.args.user_id; body = c.in-Some.block.body }) c.self.invariant
+invariant_of-self c =
+    live_blocks c.self.inside.map_block.0 c.self.inside.slots.items c.args.self.now c.self.view_is c.args.handle.0 c.from-place.result c.from-place.ensures c.requires c.index_mut.result.now c.in-Some.block c.index_mut.ensures.value c.in-Some.is
+    _ c.self.inside.first_gap c.self.invariant
 
 pub returns : goal.returns
 returns c =
     live_changed c.self.inside.map_block.0 c.self.inside.slots.items c.args.self.now c.self.view_is c.args.handle.0 c.from-place.result c.from-place.ensures c.requires c.index_mut.result.now c.in-Some.block c.index_mut.ensures.value c.in-Some.is
-    (λ b. record b { user_id = c.args.user_id }) (record { user_id = c.args.user_id; body = c.in-Some.block.body }) refl
+    (λ b. record b { user_id = c.args.user_id }) _ refl
