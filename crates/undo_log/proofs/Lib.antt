@@ -1,5 +1,6 @@
 pub mod Slots
 pub mod Lists
+pub mod Steps
 pub mod Order
 pub mod Refusals
 pub mod Changes

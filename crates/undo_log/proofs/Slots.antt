@@ -1,11 +1,11 @@
 -- A block put back where it was.
 use Rattle.std.specs.Option.{option_map_or}
-use Rattle.std.proofs.Common.{◌≡◌, ℕ, Bool, true, false, cond, Option, Some, None, length, ◌+◌, ◌≤◌, ◌==◌, nat_cmp, replicate, refl, sym, ap, ◌∙◌, arith}
+use Rattle.std.proofs.Common.{◌≡◌, ℕ, Bool, true, false, cond, Option, Some, None, is_some, length, ◌+◌, ◌≤◌, ◌==◌, nat_cmp, replicate, refl, sym, ap, ◌∙◌, arith}
 use Rattle.std.proofs.lemmas.Bool.{eqb-true, eq-eqb, le-ltb}
 use Rattle.std.proofs.lemmas.List.{length-replicate}
 use Rattle.std.specs.Cmp.{nat_cmp_total, unsigned_tied}
 use Rattle.std.specs.FinMap.{FinMap, get, insert, remove, same_map, nat_cmp-IsAntisymmetric, get-insert, get-remove}
-use Rattle.geos_model.specs.Document.{Block, Document, with_block, with_user_id, next_handle}
+use Rattle.geos_model.specs.Document.{Block, Document, is_live, with_block, with_user_id, next_handle}
 use Rattle.geos_model.specs.Refusal.{first_refusal}
 use Rattle.geos_model.specs.Meaning.{conditions, effect}
 use Rattle.geos_model.specs.Cost.{image_length}
@@ -67,6 +67,12 @@ user_id_back d h uid b e =
     ap (λ (x : Document). with_user_id x h b.user_id) (user_id-is d h uid b e)
     ∙ user_id-is (with_block d h there) h b.user_id there (get-with_slot d h there)
     ∙ slot_back d h (Some there) (Some b) (sym e)
+
+-- it is still live
+pub user_id_live : (d : Document) (h uid : ℕ) (b : Block) → get d.blocks h ≡ Some b → is_live (with_user_id d h uid) h ≡ true
+user_id_live d h uid b e =
+    let there : Block = record b { user_id = uid } in
+    ap (λ (x : Document). is_live x h) (user_id-is d h uid b e) ∙ ap is_some (get-with_slot d h there)
 
 -- a live block that isn't the map block may be freed
 pub free_accepted : (d : Document) (b : VmHandle) (block : Block) → get d.blocks b.0 ≡ Some block → (d.map_block == b.0) ≡ false → first_refusal (conditions (FreeBlock b) d) ≡ None

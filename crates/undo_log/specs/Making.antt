@@ -18,6 +18,7 @@ use Rattle.chunk_edits.specs.declared.splice.Splice.{Splice}
 use Rattle.vm_blocks.specs.declared.change.Change.{Change}
 use Rattle.vm_blocks.specs.Changes.{changed}
 use Rattle.undo_log.specs.declared.record.Record.{Record}
+use Rattle.undo_log.specs.Before.{IsLive}
 use Rattle.undo_log.specs.Records.{back}
 use Rattle.undo_log.specs.Found.{AreOwn}
 
@@ -29,6 +30,7 @@ pub record Makes (edit : Edit) (old new : Document) (done : Done) (r : Record) :
   pub kind : r.kind ≡ kind_of edit
   pub cost : r.cost ≡ cost edit old new
   pub undo : back r new ≡ old
+  pub live : IsLive r.before new
 
 -- The body of a block was changed, and the record takes it back.
 pub record ChangesBody (old new : Document) (h : VmHandle) (change : Change) (cost : ℕ) (r : Record) : Type 0 where
@@ -36,6 +38,7 @@ pub record ChangesBody (old new : Document) (h : VmHandle) (change : Change) (co
   pub kind : r.kind ≡ In h
   pub cost_is : r.cost ≡ cost
   pub undo : back r new ≡ old
+  pub live : IsLive r.before new
 
 -- want of memory, or the first refusal
 abbrev pub Refuses : Edit → Document → Fault → Type 0

@@ -1,4 +1,5 @@
-ghost use Rattle.std.specs.Prelude.{◌≡◌, ◌≤◌, IfOk, IsSome};
+ghost use Rattle.std.specs.Prelude.{◌≡◌, true, IfOk, IsSome};
+ghost use Rattle.geos_model.specs.Document.{is_vm_handle};
 ghost use Rattle.std.specs.Option.{option_map};
 ghost use Rattle.std.specs.FinMap.{get};
 ghost use Rattle.vm_blocks.specs.Blocks.{block_of};
@@ -27,7 +28,7 @@ pub fn saved(
     handle: VmHandle,
 ) -> Result<Option<SavedBlock>, AllocError>
     ensures block { IfOk result (λ saved. option_map saved_block saved ≡ get blocks.now.blocks handle.0) }
-    ensures within { IfOk result (λ saved. IsSome saved → (1 ≤ handle.0) × (handle.0 ≤ 2048)) }
+    ensures within { IfOk result (λ saved. IsSome saved → is_vm_handle handle.0 ≡ true) }
 {
     match blocks.block(handle) {
         Some(block) => Ok(Some(SavedBlock::of(alloc, block)?)),

@@ -35,7 +35,7 @@ pub fn make_raw(
         None => return Err(Fault::NoHandles),
     };
     let body = BlockBody::Raw(zeros(alloc, size as usize)?);
-    blocks.put(handle, Some(Block { user_id, body }));
+    blocks.put(handle, Some(Block::new(user_id, body)));
     let record = Record {
         kind: Kind::Made,
         cost: RAW_IMAGE + u64::from(size),
@@ -64,7 +64,7 @@ pub fn make_heap(alloc: Global, blocks: &mut Blocks, user_id: u16) -> Result<(Do
         None => return Err(Fault::NoHandles),
     };
     let body = BlockBody::Heap(Heap::new(alloc)?);
-    blocks.put(handle, Some(Block { user_id, body }));
+    blocks.put(handle, Some(Block::new(user_id, body)));
     let record = Record {
         kind: Kind::Made,
         cost: EMPTY_IMAGE,

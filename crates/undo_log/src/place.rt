@@ -1,4 +1,5 @@
-ghost use Rattle.std.specs.Prelude.{◌≤◌};
+ghost use Rattle.std.specs.Prelude.{◌≡◌, true};
+ghost use Rattle.geos_model.specs.Document.{is_vm_handle};
 
 use geos_model::VmHandle;
 
@@ -6,5 +7,5 @@ use geos_model::VmHandle;
 #[derive(Clone, Copy)]
 pub struct Place {
     pub handle: VmHandle,
-    ghost in_range: { (1 ≤ handle.0) × (handle.0 ≤ 2048) },
+    ghost in_range: { is_vm_handle handle.0 ≡ true },
 }

@@ -35,15 +35,13 @@ impl Model for Session {
     ghost coded = { machine_code };
 
     ghost use Rattle.std.specs.Prelude.{◌+◌, ◌≤◌, reverse, vec_len, vec_capacity};
-    ghost use Rattle.undo_log.specs.Records.{steps};
+    ghost use Rattle.undo_log.specs.Records.{machine_of, AreSteps};
 
-    ghost view = { λ s. record {
-      document = s.blocks;
-      past = steps (reverse s.undo.items) s.blocks;
-      future = steps (reverse s.redo.items) s.blocks;
-    } };
+    ghost view = { λ s. machine_of s.blocks (reverse s.undo.items) (reverse s.redo.items) };
 
-    ghost invariant = { λ s. (vec_len s.undo + vec_len s.redo ≤ vec_capacity s.undo) × (vec_len s.undo + vec_len s.redo ≤ vec_capacity s.redo) };
+    ghost invariant = { λ s. (vec_len s.undo + vec_len s.redo ≤ vec_capacity s.undo)
+        × (vec_len s.undo + vec_len s.redo ≤ vec_capacity s.redo)
+        × AreSteps s.blocks (reverse s.undo.items) (reverse s.redo.items) };
 }
 
 /// A block's user ID and size.

@@ -1,9 +1,9 @@
 ghost use Rattle.std.specs.Prelude.{◌≡◌, ◌+◌, ◌≤◌, true, IsTrue, IsOk, IfOk, OnErr, reverse, vec_len, vec_capacity};
 ghost use Rattle.std.specs.Option.{option_map};
-ghost use Rattle.geos_model.specs.Document.{with_user_id};
+ghost use Rattle.geos_model.specs.Document.{IsValid, is_live};
 ghost use Rattle.geos_model.specs.Machine.{is_plain_kind};
-ghost use Rattle.undo_log.specs.Before.{is_plain_before};
-ghost use Rattle.undo_log.specs.Records.{Swaps, TurnsBack};
+ghost use Rattle.undo_log.specs.Before.{is_plain_before, IsLive};
+ghost use Rattle.undo_log.specs.Records.{back, with_before, CanTurn, Swaps, TurnsBack};
 ghost use Rattle.undo_log.specs.Turning.{Turns, is_plain_record};
 ghost use Rattle.undo_log.specs.declared.before.Before.TheVariants as befores;
 
@@ -24,6 +24,7 @@ pub fn turn(
 ) -> Result<bool, AllocError>
     requires from_room { vec_len from.old ≤ vec_capacity from.old }
     requires to_room { vec_len from.old + vec_len to.old ≤ vec_capacity to.old }
+    requires steps { CanTurn blocks.old (reverse from.old.items) }
     ensures ok { IfOk result (λ turned. Turns turned blocks.old blocks.new (reverse from.old.items) (reverse to.old.items) (reverse from.new.items) (reverse to.new.items)) }
     ensures err { OnErr result ((blocks.new ≡ blocks.old) × (from.new.items ≡ from.old.items) × (to.new.items ≡ to.old.items)) }
     ensures plain { is_plain_record (reverse from.old.items) ≡ true → IsOk result }
@@ -48,6 +49,8 @@ pub fn turn(
 
 /// Takes a step back, and makes the record that takes this back.
 fn take_back(alloc: Global, blocks: &mut Blocks, step: &Record) -> Result<Record, AllocError>
+    requires valid { IsValid (back step.now blocks.old) }
+    requires live { IsLive step.now.before blocks.old }
     ensures ok { IfOk result (λ turned. TurnsBack step.now turned blocks.old blocks.new) }
     ensures err { OnErr result (blocks.new ≡ blocks.old) }
     ensures plain { is_plain_kind step.now.kind ≡ true → IsOk result }
@@ -71,6 +74,7 @@ fn put_back(
     place: Place,
     block: &Option<SavedBlock>,
 ) -> Result<Before, AllocError>
+    requires { IsValid (with_before (befores.Block place block.now) blocks.old) }
     ensures ok { IfOk result (λ now. Swaps (befores.Block place block.now) now blocks.old blocks.new × (is_plain_before now ≡ is_plain_before (befores.Block place block.now))) }
     ensures err { OnErr result (blocks.new ≡ blocks.old) }
 {
@@ -82,12 +86,13 @@ fn put_back(
 
 /// Sets a user ID back. It takes no memory.
 fn set_user_id_back(blocks: &mut Blocks, handle: VmHandle, user_id: u16) -> Before
+    requires { is_live blocks.old handle.0 ≡ true }
     ensures swaps { Swaps (befores.UserId handle user_id) result blocks.old blocks.new }
     ensures plain { is_plain_before result ≡ true }
 {
     let now = match blocks.block(handle) {
         Some(block) => block.user_id,
-        None => return Before::UserId(handle, user_id),
+        None => unreachable!(),
     };
     blocks.set_user_id(handle, user_id);
     Before::UserId(handle, now)
@@ -95,6 +100,7 @@ fn set_user_id_back(blocks: &mut Blocks, handle: VmHandle, user_id: u16) -> Befo
 
 /// Sets the map block back. It takes no memory.
 fn set_map_back(blocks: &mut Blocks, handle: VmHandle) -> Before
+    requires { IsValid (with_before (befores.Map handle) blocks.old) }
     ensures swaps { Swaps (befores.Map handle) result blocks.old blocks.new }
     ensures plain { is_plain_before result ≡ true }
 {

@@ -21,4 +21,5 @@ returns-clause-made c =
       kind = refl;
       cost = c.image_len.ensures ∙ ap (λ (b : DocumentBlock). length (image b.body)) c.in_ok-image.ensures ∙ sym (image_length-is d c.args.from.0 block live);
       undo = ap (λ (x : Document). with_slot x h None) made ∙ slot_back d h (Some block) None (sym c.in-Some-next_handle.ensures.free);
+      live = tt;
     }

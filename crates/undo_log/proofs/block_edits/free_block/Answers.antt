@@ -20,4 +20,5 @@ returns-clause-made c =
       cost = c.image_len-cost.ensures ∙ ap (λ (b : DocumentBlock). length (image b.body)) c.in_ok-before.ensures ∙ sym (image_length-is d h block live);
       undo = ap (λ (x : Document). with_slot x h (Some (saved_block c.in_ok-before.before))) c.put.ensures
           ∙ slot_back d h None (Some (saved_block c.in_ok-before.before)) (ap (λ (b : DocumentBlock). Some b) c.in_ok-before.ensures ∙ c.in-Some.ensures.value);
+      live = tt;
     }

@@ -14,7 +14,7 @@ returns-clause-made c =
     let d = c.args.blocks.now in
     let h = c.in-Some.handle in
     let new_is : unwrap_or (next_handle d) 0 ≡ h.0 = ap (λ (o : Option ℕ). unwrap_or o 0) (sym c.in-Some.ensures.value) in
-    let made = c.put.ensures ∙ ap (λ (m : ChunkMap). with_block d h.0 (record { user_id = c.args.user_id; body = Heap m })) c.in_ok-new.ensures in
+    let made = c.put.ensures ∙ ap (with_block d h.0) c.new-2.ensures ∙ ap (λ (m : ChunkMap). with_block d h.0 (record { user_id = c.args.user_id; body = Heap m })) c.in_ok-new.ensures in
     record {
       accepted = rw (← c.in-Some.ensures.value) refl;
       document = made ∙ ap (λ (k : ℕ). with_block d k (record { user_id = c.args.user_id; body = Heap empty })) (sym new_is);
@@ -23,4 +23,5 @@ returns-clause-made c =
       cost = sym length_image-empty;
       undo = ap (λ (x : Document). with_slot x h.0 None) made
           ∙ slot_back d h.0 (Some (record { user_id = c.args.user_id; body = Heap empty })) None (sym c.in-Some.ensures.free);
+      live = tt;
     }

@@ -11,7 +11,7 @@ returns-clause-made c =
     let d = c.args.blocks.now in
     let h = c.in-Some.handle in
     let new_is : unwrap_or (next_handle d) 0 ≡ h.0 = ap (λ (o : Option ℕ). unwrap_or o 0) (sym c.in-Some.ensures.value) in
-    let made = c.put.ensures ∙ ap (λ (bytes : List ℕ). with_block d h.0 (record { user_id = c.args.user_id; body = Raw bytes })) c.in_ok-zeros.ensures in
+    let made = c.put.ensures ∙ ap (with_block d h.0) c.new.ensures ∙ ap (λ (bytes : List ℕ). with_block d h.0 (record { user_id = c.args.user_id; body = Raw bytes })) c.in_ok-zeros.ensures in
     record {
       accepted = raw_accepted d c.args.user_id c.args.size h.0 (omega (arith, c.if-size-gt-SIZE.false)) (sym c.in-Some.ensures.value);
       document = made ∙ ap (λ (k : ℕ). with_block d k (record { user_id = c.args.user_id; body = Raw (replicate c.args.size 0) })) (sym new_is);
@@ -20,4 +20,5 @@ returns-clause-made c =
       cost = raw_cost c.args.size _ c.from.ensures;
       undo = ap (λ (x : Document). with_slot x h.0 None) made
           ∙ slot_back d h.0 (Some (record { user_id = c.args.user_id; body = Raw (replicate c.args.size 0) })) None (sym c.in-Some.ensures.free);
+      live = tt;
     }

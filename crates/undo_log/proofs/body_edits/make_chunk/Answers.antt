@@ -42,4 +42,5 @@ returns-clause-made c =
       kind = c.in_ok-record.ensures.ok.kind;
       cost = c.in_ok-record.ensures.ok.cost_is ∙ c.from.ensures;
       undo = c.in_ok-record.ensures.ok.undo;
+      live = c.in_ok-record.ensures.ok.live;
     }

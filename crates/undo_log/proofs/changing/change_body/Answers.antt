@@ -13,4 +13,5 @@ returns-clause-ok c =
       kind = refl;
       cost_is = refl;
       undo = ap (λ (x : Document). with_slot x h was) c.change.ensures ∙ changed_back d h c.args.change.now was c.requires c.in_ok-before.ensures.block;
+      live = tt;
     }

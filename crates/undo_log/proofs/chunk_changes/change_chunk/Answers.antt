@@ -26,4 +26,5 @@ returns-clause-made c = λ edit own to means builds.
       kind = r.kind ∙ sym means.kind;
       cost = r.cost_is ∙ c.byte_count-cost.ensures ∙ builds.leads.holds ∙ sym (cost_of edit d b chunk own to c.args.done means _ document);
       undo = r.undo;
+      live = r.live;
     }

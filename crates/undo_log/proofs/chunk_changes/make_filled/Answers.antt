@@ -58,4 +58,5 @@ returns-clause-made c = λ edit own to means first is.
       kind = r.kind ∙ sym means.kind;
       cost = r.cost_is ∙ c.from.ensures ∙ c.in-Ok.ensures.1 ∙ c.len.ensures ∙ c.args.bytes.ok.0 ∙ ap length is ∙ sym (means.cost _);
       undo = r.undo;
+      live = r.live;
     }

@@ -1,6 +1,7 @@
 use Rattle.std.proofs.Common.{sym, ap}
 use Rattle.geos_model.specs.Document.{is_heap_body}
-use Rattle.vm_blocks.specs.Blocks.{body_of, block_of}
+use Rattle.vm_blocks.specs.Bodies.{body_of}
+use Rattle.vm_blocks.specs.Blocks.{block_of}
 use Rattle.vm_blocks.specs.declared.block.BlockBody.{BlockBody}
 use Rattle.undo_log.proofs.Refusals.{no_block_raw, no_raw}
 use Rattle.undo_log.proofs.found.raw_at.Goals as goal

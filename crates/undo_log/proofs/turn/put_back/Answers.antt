@@ -14,6 +14,7 @@ returns-clause-ok c =
         new_is = new_is;
         old_is = ap (λ (x : Document). with_slot x h (option_map saved_block c.in_ok-now.now)) new_is
             ∙ slot_back d h (option_map saved_block c.args.block.now) (option_map saved_block c.in_ok-now.now) c.in_ok-now.ensures.block;
+        live = tt;
       },
       refl,
     )
