@@ -43,12 +43,14 @@ pub fn array_edits_law()
     ensures { ArrayEditsLaw }
 {}
 
-/// An accepted edit of an element array leaves one, and the elements of other tokens as they were.
+/// An accepted edit of an element array leaves one, with what the edit means under its token and the elements of other tokens
+/// as they were.
 pub fn element_edits_law()
     ensures { ElementEditsLaw }
 {}
 
-/// An accepted edit of a name array leaves one, the names of other tokens as they were, and distinct names distinct.
+/// An accepted edit of a name array leaves one, with what the edit means under its token, the names of other tokens as they
+/// were, and distinct names distinct.
 pub fn name_edits_law()
     ensures { NameEditsLaw }
 {}
