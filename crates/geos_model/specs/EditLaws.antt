@@ -44,7 +44,7 @@ dereferenced e = if e.count == 1 then None else Some (record e { count = e.count
 abbrev pub IsAbsent : Slots → List ℕ → Type 0
 IsAbsent s bytes = (u : ℕ) (e : Element) → element_at s u ≡ Some e → e.bytes ≡ bytes → ⊥
 
--- Bytes are added: the token's element has them and gets one reference more, or none has them and the token, which was free, gets a new one.
+-- Bytes are added: the token's element has them and gets one reference more, or none has them and the token, which was not in use, gets a new one.
 abbrev pub Adds : List ℕ → Slots → Slots → ℕ → Type 0
 Adds bytes s new t =
     ((bytes_at s t ≡ bytes) × Becomes referenced s new t)
@@ -77,7 +77,7 @@ abbrev pub HasName : NameArray → ℕ → ℕ → List ℕ → List ℕ → Typ
 HasName a t count part text = (length part ≡ a.part) × (element_at a.names t ≡ Some (record { count = count; bytes = part ++ text }))
 
 -- A name is added: it stands under the token and gets one reference more, and the new part only where it is to be set, or none
--- has it and the token, which was free, gets it.
+-- has it and the token, which was not in use, gets it.
 abbrev pub AddsName : List ℕ → List ℕ → Bool → NameArray → NameArray → ℕ → Type 0
 AddsName text part replace a new t =
     ((count : ℕ) × (old : List ℕ) × HasName a t count old text × HasName new t (count + 1) (if replace then part else old) text)
