@@ -2,12 +2,27 @@
 use Rattle.std.specs.Prelude.{◌≡◌, ◌⊎◌, ◌<◌, ◌+◌, ◌-◌, ◌++◌, ◌==◌, ℕ, List, [], ◌∷◌, Bool, Option, Some, None, length, get_or, if◌then◌else◌}
 use Rattle.geos_model.specs.Refusal.{Conditions, first_refusal}
 use Rattle.geos_model.specs.Bytes.{resized}
+use Rattle.geos_model.specs.Document.{Document, IsValid}
+use Rattle.geos_model.specs.Meaning.{chunk_at, with_chunk, new_chunk, makes_chunk, on_new_chunk, on_new_bytes}
 use Rattle.geos_model.specs.Array.{Array, array_bytes, array_of}
 use Rattle.geos_model.specs.ArrayEdits.{new_array, array_in, with_elements, element_inserted, element_set, element_resized, elements_deleted, array_zeroed, on_array, create_conditions, insert_conditions, set_conditions, resize_conditions, delete_conditions}
 use Rattle.geos_model.specs.ElementArray.{Element, Slots, element_at, element_bytes, element_array_of}
 use Rattle.geos_model.specs.ElementEdits.{no_slots, elements_in, count_at, bytes_at, with_element, without_element, unreferenced, added, element_added, token_added, reference_added, reference_removed, element_deleted, element_changed, on_token, create_elements_conditions, add_conditions, add_reference_conditions, change_conditions}
 use Rattle.geos_model.specs.NameArray.{NameArray, text_of, name_bytes, name_array_of}
 use Rattle.geos_model.specs.NameEdits.{no_names, names_in, part_at, added_name, name_added, name_token_added, name_changed, name_reference_removed, on_name_token, create_names_conditions, add_name_conditions, change_name_conditions}
+
+-- Bytes stand in this chunk, few enough and by an edit that its own conditions don't refuse, as the laws below ask for.
+pub record HasBytes (own : Conditions) (bytes : List ℕ) (d : Document) (b c : ℕ) : Type 0 where
+  pub accepted : first_refusal own ≡ None
+  pub few : length bytes < 65536
+  pub there : chunk_at d b c ≡ bytes
+
+-- What edits come to that make a chunk of some bytes, or leave them in the place of a chunk's, where nothing refuses them.
+pub record ChunkEditsLaw : Type 0 where
+  pub made : (d : Document) (b : ℕ) (own : Conditions) (bytes : List ℕ) → IsValid d → first_refusal (on_new_chunk d b own bytes) ≡ None
+      → HasBytes own bytes (makes_chunk d b bytes).0 b (new_chunk d b)
+  pub changed : (d : Document) (b c : ℕ) (own : Conditions) (bytes : List ℕ) → IsValid d → first_refusal (on_new_bytes d b c own bytes) ≡ None
+      → HasBytes own bytes (with_chunk d b c bytes) b c
 
 -- Where none of its own conditions refuses an edit of a chunk array, the bytes that it makes are this array.
 abbrev pub LeavesArray : Conditions → List ℕ → Array → Type 0

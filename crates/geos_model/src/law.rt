@@ -1,5 +1,5 @@
 ghost use Rattle.geos_model.specs.Laws.{WordLaw, NumberLaw, ChunkLaw, ImageLaw, ArrayLaw, ElementArrayLaw, NameArrayLaw};
-ghost use Rattle.geos_model.specs.EditLaws.{ArrayEditsLaw, ElementEditsLaw, NameEditsLaw};
+ghost use Rattle.geos_model.specs.EditLaws.{ChunkEditsLaw, ArrayEditsLaw, ElementEditsLaw, NameEditsLaw};
 ghost use Rattle.geos_model.specs.Undoing.{UndoLaw, RedoLaw};
 ghost use Rattle.geos_model.specs.Validity.{ValidityLaw};
 
@@ -36,6 +36,11 @@ pub fn element_array_law()
 /// What is read as a name array is the bytes of that one, and one with fewer than 65,536 bytes is read back from them.
 pub fn name_array_law()
     ensures { NameArrayLaw }
+{}
+
+/// Bytes that an accepted edit puts in a chunk of a valid document stand there, and are as the laws of array edits ask.
+pub fn chunk_edits_law()
+    ensures { ChunkEditsLaw }
 {}
 
 /// An accepted edit of a chunk array leaves a chunk array, of the elements that it means.
