@@ -13,7 +13,7 @@ use Rattle.geos_model.proofs.Table.{table_map}
 use Rattle.geos_model.proofs.Tables.{put_at, get-table_map_at, table_map-nil, table_map-put, next_chunk-table}
 use Rattle.geos_model.proofs.HeapTables.{live_slot, heap_map-table, need_le, need-table, chunk_length_le, space_of_some, trimmed-nil, trimmed-put}
 
-in_heap : (m : ChunkMap) (h : ℕ) (bytes : List ℕ) → is_heap_map m ≡ true → get m h ≡ Some bytes → length bytes ≤ longest_chunk
+pub in_heap : (m : ChunkMap) (h : ℕ) (bytes : List ℕ) → is_heap_map m ≡ true → get m h ≡ Some bytes → length bytes ≤ longest_chunk
 in_heap m h bytes heap there =
     let shown = heap_map-table m heap in
     let i : ℕ = (h - 16) / 2 in

@@ -1,20 +1,22 @@
 -- Edits of slots: they stay sound, and the slots of all other tokens stay as they were.
-use Rattle.std.proofs.Common.{◌≡◌, ℕ, zero, suc, ◌+◌, ◌-◌, ◌<◌, ◌≤◌, Bool, true, false, not, ◌&&◌, ◌||◌, ◌==◌, nat_lt, nat_le, cond, List, [], ◌∷◌, ◌++◌, length, set, get_or, Option, Some, None, is_some, is_none, count_by, refl, sym, ap, subst, ◌∙◌, arith, inl, inr, eqb-true, ltb-true, ltb-false, lt-ltb, unwrap_or, leb-false, le-leb, get_or-set_other, length-set}
-use Rattle.std.proofs.lemmas.Bool.{cases_Bool, cases_lt, eqb-false, and_parts, and_from, or_from, or_parts, not_from_false, not-true, true≢false, cond-true, cond-false}
-use Rattle.std.proofs.lemmas.List.{get_or-set_same}
-use Rattle.std.proofs.lemmas.List.Sums.{sum_by-set, sum_by_push}
+use Rattle.std.proofs.Common.{◌≡◌, ℕ, zero, suc, ◌+◌, ◌-◌, ◌<◌, ◌≤◌, Bool, true, false, not, ◌&&◌, ◌||◌, ◌==◌, nat_lt, nat_le, cond, List, [], ◌∷◌, ◌++◌, length, set, get_or, Option, Some, None, is_some, is_none, count_by, refl, sym, ap, subst, ◌∙◌, arith, inl, inr, eqb-true, ltb-true, ltb-false, lt-ltb, unwrap_or, leb-true, leb-false, le-leb, ap₂, if◌then◌else◌, get_or-set_other, length-set}
+use Rattle.std.proofs.lemmas.Bool.{cases_Bool, cases_lt, eqb-false, and_parts, and_from, or_from, or_parts, not_from_false, not-true, true≢false, cond-true, cond-false, eq-eqb, ne_eqb}
+use Rattle.std.proofs.lemmas.List.{get_or-set_same, get_or-append-add}
+use Rattle.std.proofs.lemmas.List.Sums.{sum_by-set, sum_by_push, fails_before_first}
 use Rattle.std.proofs.lemmas.List.Folds.{list_all-append}
 use Rattle.std.proofs.Math.ListN.{get_or-eq_default}
-use Rattle.std.specs.List.{list_all, list_any}
+use Rattle.std.specs.List.{list_all, list_any, position_or_len}
 use Rattle.std.specs.Option.{option_map_or}
 use Rattle.geos_model.specs.Refusal.{Conditions, one_order, applies, first_refusal}
 use Rattle.geos_model.specs.Bytes.{same_bytes}
+use Rattle.geos_model.specs.Array.{array_bytes}
 use Rattle.geos_model.specs.ArrayEdits.{is_missized}
-use Rattle.geos_model.specs.ElementArray.{Element, Slots, element_at, is_free, all_distinct, is_good_slot, is_sound, greatest_count, element_bytes, element_array_of}
+use Rattle.geos_model.specs.ElementArray.{Element, Slots, element_at, is_free, all_distinct, is_good_slot, is_sound, greatest_count, slots_array, element_bytes, element_array_of}
 use Rattle.geos_model.specs.ElementEdits.{no_slots, elements_in, count_at, bytes_at, with_element, without_element, with_new_at, with_new, unreferenced, token_of, token_of_bytes, added, on_token, is_count_full, create_elements_conditions, add_conditions, add_reference_conditions, change_conditions, element_added, reference_added, reference_removed, element_deleted, element_changed}
-use Rattle.geos_model.specs.EditLaws.{KeepsOthers, LeavesElements, ElementEditsLaw}
+use Rattle.geos_model.specs.EditLaws.{HasNone, KeepsOthers, Becomes, referenced, dereferenced, Adds, LeavesElements, ElementEditsLaw}
 use Rattle.geos_model.specs.declared.fault.Fault.{Fault}
 use Rattle.geos_model.specs.declared.fault.Fault.TheVariants.{Range, NotArray, NoElement, CountFull}
+use Rattle.geos_model.proofs.Arrays.{same_bytes-is, same_bytes-refl}
 use Rattle.geos_model.proofs.ElementArrays.{sound_parts, sound_from, element_bytes-of, element_array_again}
 use Rattle.geos_model.proofs.FreeLists.{free_in, all_free-set}
 use Rattle.geos_model.proofs.UsedElements.{used_element, count_at-is, bytes_at-is, counted, bounded, own_size, found_element}
@@ -258,6 +260,80 @@ sound-added s bytes = sound-added_at s bytes (token_of_bytes s bytes) refl
 sound-no_slots : (size : ℕ) → size ≤ 4096 → is_sound (no_slots size) ≡ true
 sound-no_slots size low = sound_from (no_slots size) (record { sized = omega (arith, low); good = refl; free = refl; distinct = refl; counted = refl })
 
+-- What stands under the token of an edit.
+
+-- a slot that is set
+slot_set : (s : Slots) (t : ℕ) (slot : Option Element) → is_some (element_at s t) ≡ true → get_or (set s.slots t slot) t None ≡ slot
+slot_set s t slot used = get_or-set_same s.slots t slot None (used_lt s.slots t used)
+
+becomes : (change : Element → Option Element) (s new : Slots) (t : ℕ) → is_some (element_at s t) ≡ true → ((e : Element) → element_at s t ≡ Some e → element_at new t ≡ change e)
+    → Becomes change s new t
+becomes change s new t used does = let there = used_element s t used in (there.0, there.1, does there.0 there.1)
+
+pub becomes_referenced : (s : Slots) (t : ℕ) → is_some (element_at s t) ≡ true → Becomes referenced s (with_element s t (count_at s t + 1) (bytes_at s t)) t
+becomes_referenced s t used = becomes referenced s (with_element s t (count_at s t + 1) (bytes_at s t)) t used (λ e at.
+    slot_set s t (Some (record { count = count_at s t + 1; bytes = bytes_at s t })) used
+    ∙ ap₂ (λ (n : ℕ) (bytes : List ℕ). Some (record { count = n + 1; bytes = bytes })) (count_at-is s t e at) (bytes_at-is s t e at))
+
+pub becomes_dereferenced : (s : Slots) (t : ℕ) → is_sound s ≡ true → is_some (element_at s t) ≡ true → Becomes dereferenced s (unreferenced s t) t
+becomes_dereferenced s t sound used = becomes dereferenced s (unreferenced s t) t used (λ e at.
+    let count = count_at-is s t e at in
+    let least = counted s sound t e at in
+    elim (cases_Bool (nat_le (count_at s t) 1)) [
+      | inl last ↦ (let one = leb-true (count_at s t) 1 last in
+          ap (λ (x : Slots). element_at x t) (cond-true (nat_le (count_at s t) 1) _ _ last)
+          ∙ slot_set s t None used
+          ∙ sym (cond-true (e.count == 1) None (Some (record e { count = e.count - 1 })) (eq-eqb e.count 1 (omega (arith, count, least, one)))))
+      | inr more ↦ (let many = leb-false (count_at s t) 1 more in
+          ap (λ (x : Slots). element_at x t) (cond-false (nat_le (count_at s t) 1) _ _ more)
+          ∙ slot_set s t (Some (record { count = count_at s t - 1; bytes = bytes_at s t })) used
+          ∙ ap₂ (λ (n : ℕ) (bytes : List ℕ). Some (record { count = n - 1; bytes = bytes })) count (bytes_at-is s t e at)
+          ∙ sym (cond-false (e.count == 1) None (Some (record e { count = e.count - 1 })) (ne_eqb e.count 1 (λ is. absurd (omega (arith, count, many, is))))))
+    ])
+
+-- no slot's element passes a test of which there is no token
+pub none_passes : (passes : Element → Bool) (s : Slots) (u : ℕ) (e : Element) → is_none (token_of passes s) ≡ true → element_at s u ≡ Some e → passes e ≡ true → ⊥
+none_passes passes s u e none at passed =
+    let test : Option Element → Bool = λ slot. option_map_or passes slot false in
+    let low = used_lt s.slots u (ap is_some at) in
+    elim (cases_lt (position_or_len test s.slots) (length s.slots)) [
+      | inl there ↦ (let odd : false ≡ true = sym (ap is_none (cond-true _ _ _ (lt-ltb (position_or_len test s.slots) (length s.slots) there))) ∙ none in absurd (cc odd))
+      | inr past ↦ (let odd : true ≡ false = sym (ap test at ∙ passed) ∙ fails_before_first test s.slots u None (omega (arith, past, low)) in absurd (cc odd))
+    ]
+
+none_there : (o : Option Element) → is_none o ≡ true → o ≡ None
+none_there None e = refl
+none_there (Some x) e = absurd (true≢false (sym e))
+
+-- the newest free token is that of a free slot
+first_free : (s : Slots) (t : ℕ) (ts : List ℕ) → s.free ≡ t ∷ ts → is_sound s ≡ true → is_free s t ≡ true
+first_free s t ts is sound = (and_parts (is_free s t) (list_all (is_free s) ts) (subst (λ us. list_all (is_free s) us ≡ true) is (sound_parts s sound).free)).0
+
+-- a new element's token was not in use
+pub new_unused : (free : List ℕ) (s : Slots) (slot : Option Element) → s.free ≡ free → is_sound s ≡ true → element_at s (with_new_at free s slot).1 ≡ None
+new_unused [] s slot is sound = get_or-eq_default s.slots None (omega arith)
+new_unused (t ∷ ts) s slot is sound = none_there (element_at s t) (and_parts (nat_lt t (length s.slots)) (is_none (element_at s t)) (first_free s t ts is sound)).1
+
+-- and has it now
+pub new_holds : (free : List ℕ) (s : Slots) (slot : Option Element) → s.free ≡ free → is_sound s ≡ true → element_at (with_new_at free s slot).0 (with_new_at free s slot).1 ≡ slot
+new_holds [] s slot is sound =
+    let place : length s.slots + 0 ≡ length s.slots = omega arith in
+    ap (λ (n : ℕ). get_or (s.slots ++ slot ∷ []) n None) (sym place) ∙ get_or-append-add s.slots (slot ∷ []) 0 None
+new_holds (t ∷ ts) s slot is sound =
+    get_or-set_same s.slots t slot None (ltb-true t (length s.slots) (and_parts (nat_lt t (length s.slots)) (is_none (element_at s t)) (first_free s t ts is sound)).0)
+
+adds_at : (s : Slots) (bytes : List ℕ) (found : Option ℕ) → token_of_bytes s bytes ≡ found → is_sound s ≡ true → Adds bytes s (added_at s bytes found).0 (added_at s bytes found).1
+adds_at s bytes None is sound =
+    let slot : Option Element = Some (record { count = 1; bytes = bytes }) in
+    inr (
+      λ u e at same. none_passes (λ x. same_bytes x.bytes bytes) s u e (ap is_none is) at (ap (λ (b : List ℕ). same_bytes b bytes) same ∙ same_bytes-refl bytes),
+      new_unused s.free s slot refl sound,
+      new_holds s.free s slot refl sound,
+    )
+adds_at s bytes (Some t) is sound =
+    let found = found_element (λ e. same_bytes e.bytes bytes) s t is in
+    inl (bytes_at-is s t found.0 found.1 ∙ same_bytes-is found.0.bytes bytes found.2, becomes_referenced s t (ap is_some found.1))
+
 -- an edit of a used element, whose conditions begin with those of a token
 module _ (bytes : List ℕ) (t : ℕ) (rest : Conditions) (none : first_refusal (on_token bytes t ++ rest) ≡ None) where
   past_all : (f : Fault) → stands_in f one_order ≡ true → applies (on_token bytes t ++ rest) f ≡ false
@@ -269,13 +345,22 @@ module _ (bytes : List ℕ) (t : ℕ) (rest : Conditions) (none : first_refusal 
   pub token-used : is_some (element_at (elements_in bytes) t) ≡ true
   token-used = used_from_not_none (element_at (elements_in bytes) t) (or_parts (is_none (element_at (elements_in bytes) t)) (applies rest NoElement) (past_all NoElement refl)).0
 
-edits-create : (size : ℕ) → LeavesElements (create_elements_conditions size) (element_bytes (no_slots size)) (no_slots size) (no_slots size) 0
-edits-create size none short =
+-- a new element array is short
+length-no_slots : (size : ℕ) → length (element_bytes (no_slots size)) ≡ 10
+unfolding element_bytes array_bytes slots_array
+length-no_slots size = elim (cases_Bool ((if size == 0 then 0 else size + 3) == 0)) [
+  | inl any ↦ rw any refl
+  | inr one ↦ rw one refl
+]
+
+edits-create : (size : ℕ) → first_refusal (create_elements_conditions size) ≡ None → (element_array_of (element_bytes (no_slots size)) ≡ Some (no_slots size)) × HasNone (no_slots size)
+edits-create size none =
     let cs : Conditions = create_elements_conditions size in
     let low : size ≤ 4096 = ltb-false 4096 size (or_none (none_applies cs none Range refl)).0 in
-    (element_array_again (no_slots size) (sound-no_slots size low) short, λ u other. refl)
+    let long = length-no_slots size in
+    (element_array_again (no_slots size) (sound-no_slots size low) (omega (arith, long)), λ t. refl)
 
-edits-add : (bytes element : List ℕ) → let s = elements_in bytes in LeavesElements (add_conditions bytes element) (element_added bytes element) s (added s element).0 (added s element).1
+edits-add : (bytes element : List ℕ) → let s = elements_in bytes in LeavesElements (add_conditions bytes element) (element_added bytes element) s (added s element).0 (added s element).1 (Adds element)
 edits-add bytes element none short =
     let s : Slots = elements_in bytes in
     let new : Slots = (added s element).0 in
@@ -283,9 +368,9 @@ edits-add bytes element none short =
     let sound : is_sound s ≡ true = elements-sound bytes (or_none (none_applies cs none NotArray refl)).0 in
     let room : is_count_full s (token_of_bytes s element) ≡ false = (or_none (none_applies cs none CountFull refl)).0 in
     let fits : is_missized s.size element ≡ false = (or_none (none_applies cs none Range refl)).0 in
-    (element_array_again new (sound-added s element sound room fits) short, others-added_at s element (token_of_bytes s element))
+    (element_array_again new (sound-added s element sound room fits) short, others-added_at s element (token_of_bytes s element), adds_at s element (token_of_bytes s element) refl sound)
 
-edits-add_reference : (bytes : List ℕ) (t : ℕ) → let s = elements_in bytes in LeavesElements (add_reference_conditions bytes t) (reference_added bytes t) s (with_element s t (count_at s t + 1) (bytes_at s t)) t
+edits-add_reference : (bytes : List ℕ) (t : ℕ) → let s = elements_in bytes in LeavesElements (add_reference_conditions bytes t) (reference_added bytes t) s (with_element s t (count_at s t + 1) (bytes_at s t)) t (Becomes referenced)
 edits-add_reference bytes t none short =
     let s : Slots = elements_in bytes in
     let new : Slots = with_element s t (count_at s t + 1) (bytes_at s t) in
@@ -293,28 +378,31 @@ edits-add_reference bytes t none short =
     let cs : Conditions = on_token bytes t ++ rest in
     let sound = token-sound bytes t rest none in
     let used = token-used bytes t rest none in
-    let room : (count_at s t == greatest_count) ≡ false = (or_none (none_applies cs none CountFull refl)).0 in
-    (element_array_again new (sound-referenced s t sound used room) short, others-set s t (Some (record { count = count_at s t + 1; bytes = bytes_at s t })))
+    let room : (count_at s t == greatest_count) ≡ false = (or_none (none_applies cs none CountFull refl)).0 in (
+      element_array_again new (sound-referenced s t sound used room) short,
+      others-set s t (Some (record { count = count_at s t + 1; bytes = bytes_at s t })),
+      becomes_referenced s t used,
+    )
 
-edits-remove_reference : (bytes : List ℕ) (t : ℕ) → let s = elements_in bytes in LeavesElements (on_token bytes t) (reference_removed bytes t) s (unreferenced s t) t
+edits-remove_reference : (bytes : List ℕ) (t : ℕ) → let s = elements_in bytes in LeavesElements (on_token bytes t) (reference_removed bytes t) s (unreferenced s t) t (Becomes dereferenced)
 edits-remove_reference bytes t none short =
     let s : Slots = elements_in bytes in
     let new : Slots = unreferenced s t in
     let rest : Conditions = [] in
     let sound = token-sound bytes t rest none in
     let used = token-used bytes t rest none in
-    (element_array_again new (sound-unreferenced s t sound used) short, others-unreferenced s t)
+    (element_array_again new (sound-unreferenced s t sound used) short, others-unreferenced s t, becomes_dereferenced s t sound used)
 
-edits-delete : (bytes : List ℕ) (t : ℕ) → let s = elements_in bytes in LeavesElements (on_token bytes t) (element_deleted bytes t) s (without_element s t) t
+edits-delete : (bytes : List ℕ) (t : ℕ) → let s = elements_in bytes in LeavesElements (on_token bytes t) (element_deleted bytes t) s (without_element s t) t (Becomes (λ e. None))
 edits-delete bytes t none short =
     let s : Slots = elements_in bytes in
     let new : Slots = without_element s t in
     let rest : Conditions = [] in
     let sound = token-sound bytes t rest none in
     let used = token-used bytes t rest none in
-    (element_array_again new (sound-without_element s t sound used) short, others-set s t None)
+    (element_array_again new (sound-without_element s t sound used) short, others-set s t None, becomes (λ e. None) s new t used (λ e at. slot_set s t None used))
 
-edits-change : (bytes : List ℕ) (t : ℕ) (element : List ℕ) → let s = elements_in bytes in LeavesElements (change_conditions bytes t element) (element_changed bytes t element) s (with_element s t (count_at s t) element) t
+edits-change : (bytes : List ℕ) (t : ℕ) (element : List ℕ) → let s = elements_in bytes in LeavesElements (change_conditions bytes t element) (element_changed bytes t element) s (with_element s t (count_at s t) element) t (Becomes (λ e. Some (record e { bytes = element })))
 edits-change bytes t element none short =
     let s : Slots = elements_in bytes in
     let new : Slots = with_element s t (count_at s t) element in
@@ -326,6 +414,9 @@ edits-change bytes t element none short =
     let fits : is_missized s.size element ≡ false = (or_none (none_applies cs none Range refl)).0 in (
       element_array_again new (sound-with_element s t (count_at s t) element sound used good.least good.most fits) short,
       others-set s t (Some (record { count = count_at s t; bytes = element })),
+      becomes (λ e. Some (record e { bytes = element })) s new t used (λ e at.
+          slot_set s t (Some (record { count = count_at s t; bytes = element })) used
+          ∙ ap (λ (n : ℕ). Some (record { count = n; bytes = element })) (count_at-is s t e at)),
     )
 
 -- What accepted edits of an element array leave.

@@ -18,3 +18,4 @@ pub mod ElementEdits
 pub mod NameEdits
 pub mod Undoing
 pub mod Validity
+pub mod ChunkEdits

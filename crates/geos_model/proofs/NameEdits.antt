@@ -1,25 +1,26 @@
 -- An accepted edit of a name array leaves one, and distinct names distinct.
-use Rattle.std.proofs.Common.{◌≡◌, ℕ, zero, suc, ◌+◌, ◌-◌, ◌<◌, ◌≤◌, Bool, true, false, ◌&&◌, not, ◌==◌, nat_lt, nat_le, if◌then◌else◌, List, [], ◌∷◌, ◌++◌, length, take, drop, set, get_or, is_some, Option, Some, None, unwrap_or, refl, sym, ap, subst, ◌∙◌, arith, inl, inr, leb-true, leb-false, eqb-true, le-leb, ltb-false, length-take-le, length-append, lt-ltb}
-use Rattle.std.proofs.lemmas.Bool.{cases_Bool, cases_lt, cases_eq, and_parts, and_from, cond-true, cond-false, eq-eqb}
-use Rattle.std.proofs.lemmas.List.{take-append-drop, get_or-append-add}
+use Rattle.std.proofs.Common.{◌≡◌, ℕ, zero, suc, ◌+◌, ◌-◌, ◌<◌, ◌≤◌, Bool, true, false, ◌&&◌, not, ◌==◌, nat_lt, nat_le, if◌then◌else◌, List, [], ◌∷◌, ◌++◌, length, take, drop, set, get_or, is_some, Option, Some, None, unwrap_or, refl, sym, ap, ap₂, subst, ◌∙◌, arith, inl, inr, leb-true, leb-false, eqb-true, le-leb, ltb-false, length-take-le, length-append}
+use Rattle.std.proofs.lemmas.Bool.{cases_Bool, cases_eq, and_parts, and_from, cond-true, cond-false, eq-eqb}
+use Rattle.std.proofs.lemmas.List.{take-append-drop, get_or-append-add, get_or-set_same}
 use Rattle.std.proofs.lemmas.List.Folds.{list_all-append}
-use Rattle.std.proofs.lemmas.List.Sums.{fails_before_first}
 use Rattle.std.proofs.Math.ListN.{get_or-eq_default}
 use Rattle.std.proofs.Math.Seq.{drop-append_seam}
-use Rattle.std.specs.List.{list_all, position, position_or_len}
+use Rattle.std.specs.List.{list_all}
 use Rattle.std.specs.Option.{is_none, option_map_or}
 use Rattle.geos_model.specs.Bytes.{same_bytes}
+use Rattle.geos_model.specs.Refusal.{first_refusal}
+use Rattle.geos_model.specs.Array.{array_bytes}
 use Rattle.geos_model.specs.ArrayEdits.{is_missized}
-use Rattle.geos_model.specs.ElementArray.{Element, Slots, element_at, is_sound, greatest_count}
-use Rattle.geos_model.specs.ElementEdits.{no_slots, count_at, bytes_at, with_element, without_element, with_new, with_new_at, unreferenced, is_count_full}
+use Rattle.geos_model.specs.ElementArray.{Element, Slots, element_at, is_sound, greatest_count, slots_array}
+use Rattle.geos_model.specs.ElementEdits.{count_at, bytes_at, with_element, without_element, with_new, with_new_at, unreferenced, is_count_full}
 use Rattle.geos_model.specs.NameArray.{NameArray, part_of, text_of, is_name, is_named, is_sound_names, name_bytes, name_array_of}
 use Rattle.geos_model.specs.NameEdits.{no_names, names_in, token_of_text, text_at, part_at, name_with_reference, added_name, on_name_token, is_name_in_use, create_names_conditions, add_name_conditions, change_name_conditions, name_added, name_token_added, name_changed, name_reference_removed}
-use Rattle.geos_model.specs.EditLaws.{KeepsOthers, AreDistinct, LeavesNames, NameEditsLaw}
+use Rattle.geos_model.specs.EditLaws.{HasNone, KeepsOthers, AreDistinct, HasName, AddsName, Renames, LosesReference, LeavesNames, NameEditsLaw}
 use Rattle.geos_model.specs.declared.fault.Fault.TheVariants.{NotArray, NoElement, NameInUse, CountFull, Range}
 use Rattle.geos_model.proofs.UsedElements.{used_element, count_at-is, bytes_at-is, counted, bounded, found_element}
 use Rattle.geos_model.proofs.Refusals.{none_applies, or_none}
 use Rattle.geos_model.proofs.Arrays.{same_bytes-is, same_bytes-refl}
-use Rattle.geos_model.proofs.ElementEdits.{all_set, below_full, used_lt, used_from_not_none, sound-with_element, sound-without_element, sound-with_new, others-set, others-with_new}
+use Rattle.geos_model.proofs.ElementEdits.{all_set, below_full, used_lt, used_from_not_none, sound-with_element, sound-without_element, sound-with_new, others-set, others-with_new, none_passes, new_unused, new_holds, becomes_dereferenced}
 use Rattle.geos_model.proofs.NameArrays.{IsSoundNames, sound_names_parts, name_bytes-of, name_array_again}
 
 -- the same array with other slots
@@ -52,19 +53,10 @@ set_is [] t slot x is = absurd (cc (is, get_or-eq_default {A = Option Element} [
 set_is (o ∷ slots) zero slot x is = is
 set_is (o ∷ slots) (suc t) slot x is = set_is slots t slot x is
 
--- none is found where one passes
-found_one : {X : Type 0} (p : X → Bool) (xs : List X) (u : ℕ) (d : X) → u < length xs → p (get_or xs u d) ≡ true → is_none (position p xs) ≡ true → ⊥
-found_one p xs u d l passes none = elim (cases_lt (position_or_len p xs) (length xs)) [
-  | inl there ↦ (let odd : false ≡ true = sym (ap is_none (cond-true _ _ _ (lt-ltb (position_or_len p xs) (length xs) there))) ∙ none in absurd (cc odd))
-  | inr past ↦ (let odd : true ≡ false = sym passes ∙ fails_before_first p xs u d (omega (arith, past, l)) in absurd (cc odd))
-]
-
 -- no slot has a name of which there is no token
 no_text : (a : NameArray) (text : List ℕ) (u : ℕ) (y : Element) → is_none (token_of_text a text) ≡ true → element_at a.names u ≡ Some y → text_of a y ≡ text → ⊥
 no_text a text u y none is same =
-    let test : Option Element → Bool = λ slot. option_map_or (λ e. same_bytes (text_of a e) text) slot false in
-    found_one test a.names.slots u None (used_lt a.names.slots u (ap is_some is))
-    (ap test is ∙ ap (λ (bytes : List ℕ). same_bytes bytes text) same ∙ same_bytes-refl text) none
+    none_passes (λ e. same_bytes (text_of a e) text) a.names u y none is (ap (λ (bytes : List ℕ). same_bytes bytes text) same ∙ same_bytes-refl text)
 
 -- Of the element of a token.
 module _ (a : NameArray) (t : ℕ) (e : Element) (is : element_at a.names t ≡ Some e) where
@@ -158,9 +150,9 @@ record Kept (a : NameArray) (s : Slots) (t : ℕ) : Type 0 where
   others : KeepsOthers a.names s t
   distinct : AreDistinct a → AreDistinct (holding a s)
 
-left : (a : NameArray) (s : Slots) (t : ℕ) → Kept a s t → length (name_bytes (holding a s)) < 65536
-    → (name_array_of (name_bytes (holding a s)) ≡ Some (holding a s)) × KeepsOthers a.names s t × (AreDistinct a → AreDistinct (holding a s))
-left a s t kept short = (name_array_again (holding a s) kept.sound short, kept.others, kept.distinct)
+left : (Changes : NameArray → NameArray → ℕ → Type 0) (a : NameArray) (s : Slots) (t : ℕ) → Kept a s t → Changes a (holding a s) t → length (name_bytes (holding a s)) < 65536
+    → (name_array_of (name_bytes (holding a s)) ≡ Some (holding a s)) × KeepsOthers a.names s t × (AreDistinct a → AreDistinct (holding a s)) × Changes a (holding a s) t
+left Changes a s t kept changes short = (name_array_again (holding a s) kept.sound short, kept.others, kept.distinct, changes)
 
 -- An element with a part and a name, in the place of one.
 module _ (a : NameArray) (was : IsSoundNames a) (t : ℕ) (e : Element) (is : element_at a.names t ≡ Some e)
@@ -272,20 +264,85 @@ kept_added_name a text part replace was room name long = by_token (token_of_text
         let found = found_element (λ e. same_bytes (text_of a e) text) a.names t is in
         kept_referenced a t found.0 part replace was found.1 long room
 
+-- What stands under the token of an edit.
+
+-- an element's name behind its part
+has_own : (a : NameArray) (t : ℕ) (e : Element) → IsSoundNames a → element_at a.names t ≡ Some e → HasName a t e.count (part_of a e) (text_of a e)
+has_own a t e was is =
+    (long_part a was t e is, is ∙ ap (λ (bytes : List ℕ). Some (record { count = e.count; bytes = bytes })) (sym (take-append-drop a.part e.bytes)))
+
+-- another one in its slot
+has_set : (a : NameArray) (t : ℕ) (e : Element) (count : ℕ) (part text : List ℕ) → element_at a.names t ≡ Some e → length part ≡ a.part
+    → HasName (holding a (with_element a.names t count (part ++ text))) t count part text
+has_set a t e count part text is long =
+    (long, get_or-set_same a.names.slots t (Some (record { count = count; bytes = part ++ text })) None (used_lt a.names.slots t (ap is_some is)))
+
+adds_name : (a : NameArray) (text part : List ℕ) (replace : Bool) → IsSoundNames a → length part ≡ a.part
+    → AddsName text part replace a (holding a (added_name a text part replace).0) (added_name a text part replace).1
+adds_name a text part replace was long = by_token (token_of_text a text) refl
+  where
+    chosen : Option ℕ → Slots × ℕ
+    chosen token = option_map_or (λ t. (name_with_reference a part replace t, t)) token (with_new a.names (part ++ text))
+
+    chosen_long : (replace : Bool) (front : List ℕ) → length front ≡ a.part → length (if replace then part else front) ≡ a.part
+    chosen_long true front own = long
+    chosen_long false front own = own
+
+    by_token : (token : Option ℕ) → token_of_text a text ≡ token → AddsName text part replace a (holding a (chosen token).0) (chosen token).1
+    by_token None is =
+        let slot : Option Element = Some (record { count = 1; bytes = part ++ text }) in
+        inr (
+          λ u e at same. no_text a text u e (ap is_none is) at same,
+          new_unused a.names.free a.names slot refl was.sound,
+          (long, new_holds a.names.free a.names slot refl was.sound),
+        )
+    by_token (Some t) is =
+        let found = found_element (λ e. same_bytes (text_of a e) text) a.names t is in
+        let e : Element = found.0 in
+        let at : element_at a.names t ≡ Some e = found.1 in
+        let own = has_own a t e was at in
+        let same : text_of a e ≡ text = same_bytes-is (text_of a e) text found.2 in
+        let front : List ℕ = if replace then part else part_of a e in
+        let set : name_with_reference a part replace t ≡ with_element a.names t (e.count + 1) (front ++ text) =
+        ap (λ (n : ℕ). with_element a.names t (n + 1) ((if replace then part else part_at a t) ++ text_at a t)) (count_at-is a.names t e at)
+        ∙ ap (λ (x : List ℕ). with_element a.names t (e.count + 1) ((if replace then part else x) ++ text_at a t)) (part_is a t e at)
+        ∙ ap (λ (x : List ℕ). with_element a.names t (e.count + 1) (front ++ x)) (text_is a t e at ∙ same) in
+        inl (
+          e.count,
+          part_of a e,
+          subst (λ (x : List ℕ). HasName a t e.count (part_of a e) x) same own,
+          subst (λ (x : Slots). HasName (holding a x) t (e.count + 1) front text) (sym set)
+              (has_set a t e (e.count + 1) front text at (chosen_long replace (part_of a e) own.0)),
+        )
+
+renames : (a : NameArray) (t : ℕ) (e : Element) (text : List ℕ) → IsSoundNames a → element_at a.names t ≡ Some e
+    → Renames text a (holding a (with_element a.names t (count_at a.names t) (part_at a t ++ text))) t
+renames a t e text was is =
+    let own = has_own a t e was is in
+    let set : with_element a.names t (count_at a.names t) (part_at a t ++ text) ≡ with_element a.names t e.count (part_of a e ++ text) =
+    ap₂ (λ (n : ℕ) (part : List ℕ). with_element a.names t n (part ++ text)) (count_at-is a.names t e is) (part_is a t e is) in (
+      e.count,
+      part_of a e,
+      text_of a e,
+      own,
+      subst (λ (x : Slots). HasName (holding a x) t e.count (part_of a e) text) (sym set) (has_set a t e e.count (part_of a e) text is own.0),
+    )
+
 leaves_add : (bytes text part : List ℕ) (replace : Bool) → let a = names_in bytes in
-    LeavesNames (add_name_conditions bytes text part) (name_added bytes text part replace) a (record a { names = (added_name a text part replace).0 }) (name_token_added bytes text part replace)
+    LeavesNames (add_name_conditions bytes text part) (name_added bytes text part replace) a (record a { names = (added_name a text part replace).0 }) (name_token_added bytes text part replace) (AddsName text part replace)
 leaves_add bytes text part replace none short =
     let a : NameArray = names_in bytes in
     let new = added_name a text part replace in
     let conditions = add_name_conditions bytes text part in
     let range = or_none (or_none (none_applies conditions none Range refl)).0 in
     let was = sound_names_parts a (names_sound bytes (or_none (none_applies conditions none NotArray refl)).0) in
-    left a new.0 new.1
-    (kept_added_name a text part replace was (or_none (none_applies conditions none CountFull refl)).0 (not_false (is_name text) range.0) (eqb-true (length part) a.part (not_false (length part == a.part) range.1)))
-    short
+    let long : length part ≡ a.part = eqb-true (length part) a.part (not_false (length part == a.part) range.1) in
+    left (AddsName text part replace) a new.0 new.1
+    (kept_added_name a text part replace was (or_none (none_applies conditions none CountFull refl)).0 (not_false (is_name text) range.0) long)
+    (adds_name a text part replace was long) short
 
 leaves_change : (bytes : List ℕ) (t : ℕ) (text : List ℕ) → let a = names_in bytes in
-    LeavesNames (change_name_conditions bytes t text) (name_changed bytes t text) a (record a { names = with_element a.names t (count_at a.names t) (part_at a t ++ text) }) t
+    LeavesNames (change_name_conditions bytes t text) (name_changed bytes t text) a (record a { names = with_element a.names t (count_at a.names t) (part_at a t ++ text) }) t (Renames text)
 leaves_change bytes t text none short =
     let a : NameArray = names_in bytes in
     let new : Slots = with_element a.names t (count_at a.names t) (part_at a t ++ text) in
@@ -293,28 +350,33 @@ leaves_change bytes t text none short =
     let was = sound_names_parts a (names_sound bytes (or_none (none_applies conditions none NotArray refl)).0) in
     let used = is_used a.names t (or_none (none_applies conditions none NoElement refl)).0 in
     let name = not_false (is_name text) (or_none (none_applies conditions none Range refl)).0 in
-    left a new t (kept_changed a t used.0 text was used.1 name (or_none (none_applies conditions none NameInUse refl)).0) short
+    left (Renames text) a new t (kept_changed a t used.0 text was used.1 name (or_none (none_applies conditions none NameInUse refl)).0)
+    (renames a t used.0 text was used.1) short
 
-leaves_remove : (bytes : List ℕ) (t : ℕ) → let a = names_in bytes in LeavesNames (on_name_token bytes t) (name_reference_removed bytes t) a (record a { names = unreferenced a.names t }) t
+leaves_remove : (bytes : List ℕ) (t : ℕ) → let a = names_in bytes in LeavesNames (on_name_token bytes t) (name_reference_removed bytes t) a (record a { names = unreferenced a.names t }) t LosesReference
 leaves_remove bytes t none short =
     let a : NameArray = names_in bytes in
     let conditions = on_name_token bytes t in
     let was = sound_names_parts a (names_sound bytes (or_none (none_applies conditions none NotArray refl)).0) in
     let used = is_used a.names t (or_none (none_applies conditions none NoElement refl)).0 in
-    left a (unreferenced a.names t) t (kept_unreferenced a t used.0 was used.1) short
+    left LosesReference a (unreferenced a.names t) t (kept_unreferenced a t used.0 was used.1) (becomes_dereferenced a.names t was.sound (ap is_some used.1)) short
 
 created_sound : (part : ℕ) → nat_lt 64 part ≡ false → is_sound_names (no_names part) ≡ true
 unfolding is_sound_names is_sound
 created_sound part small = and_from (nat_le part 64) true (le-leb part 64 (ltb-false 64 part small)) refl
 
-leaves_create : (part : ℕ) → LeavesNames (create_names_conditions part) (name_bytes (no_names part)) (no_names part) (no_names part) 0
-leaves_create part none short =
+-- a new name array is short
+length-no_names : (part : ℕ) → length (name_bytes (no_names part)) ≡ 12
+unfolding name_bytes array_bytes slots_array
+length-no_names part = refl
+
+leaves_create : (part : ℕ) → first_refusal (create_names_conditions part) ≡ None
+    → (name_array_of (name_bytes (no_names part)) ≡ Some (no_names part)) × HasNone (no_names part).names × AreDistinct (no_names part)
+leaves_create part none =
     let conditions = create_names_conditions part in
-    left (no_names part) (no_slots 0) 0 (record {
-      sound = created_sound part (or_none (none_applies conditions none Range refl)).0;
-      others = λ u other. refl;
-      distinct = λ d. d;
-    }) short
+    let sound = created_sound part (or_none (none_applies conditions none Range refl)).0 in
+    let long = length-no_names part in
+    (name_array_again (no_names part) sound (omega (arith, long)), λ t. refl, λ t u x y there. absurd (cc there))
 
 pub name_edits_law : NameEditsLaw
 name_edits_law = record { create = leaves_create; add = leaves_add; change_name = leaves_change; remove_reference = leaves_remove }

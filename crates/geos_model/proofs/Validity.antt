@@ -36,7 +36,7 @@ use Rattle.geos_model.proofs.HeapEdits.{get-put_same, get-put_other, get-taken, 
 use Rattle.geos_model.proofs.Undoing.{OnDone, IsAt, on_done, done_by-stays, same_machine}
 
 -- what isn't false
-not_false : (b : Bool) → not b ≡ false → b ≡ true
+pub not_false : (b : Bool) → not b ≡ false → b ≡ true
 not_false true e = refl
 not_false false e = absurd (cc e)
 
@@ -131,7 +131,7 @@ body-heap : (body : Body) → is_valid_body body ≡ true → is_heap_body body 
 body-heap (Raw bytes) valid heap = absurd (cc heap)
 body-heap (Heap m) valid heap = valid
 
-chunks-heap : (d : Document) (h : ℕ) → IsValid d → is_heap d h ≡ true → is_heap_map (chunks_of d h) ≡ true
+pub chunks-heap : (d : Document) (h : ℕ) → IsValid d → is_heap d h ≡ true → is_heap_map (chunks_of d h) ≡ true
 chunks-heap d h valid heap = by_block (get d.blocks h) (λ b is. (valid.blocks h b is).body) heap
   where
     by_block : (o : Option Block) → ((b : Block) → o ≡ Some b → is_valid_body b.body ≡ true) → option_map_or (λ b. is_heap_body b.body) o false ≡ true
@@ -170,7 +170,7 @@ length-deleted bytes at n within = let is = length-splice bytes at (at + n) [] (
 -- Edits of a chunk, which nothing refuses.
 
 -- behind any conditions, want of room is the last
-full_last : (own : Conditions) (room : Bool) → applies (own ++ (Full, not room) ∷ []) Full ≡ false → room ≡ true
+pub full_last : (own : Conditions) (room : Bool) → applies (own ++ (Full, not room) ∷ []) Full ≡ false → room ≡ true
 full_last own room none =
     let split = list_any-append (λ c. (number_of_fault c.0 == number_of_fault Full) && c.1) own ((Full, not room) ∷ []) in
     not_false room (or_none (or_none (sym split ∙ none)).1).0
@@ -183,7 +183,7 @@ module _ (d : Document) (valid : IsValid d) (b : ℕ) where
       with_body-valid d b (Heap (insert (chunks_of d b) c bytes)) valid live (heap-insert (chunks_of d b) c bytes (chunks-heap d b valid heap) handle room)
 
   -- a chunk that is there has a chunk handle
-  chunk_handle : (c : ℕ) → is_heap d b ≡ true → contains_key (chunks_of d b) c ≡ true → is_chunk_handle c ≡ true
+  pub chunk_handle : (c : ℕ) → is_heap d b ≡ true → contains_key (chunks_of d b) c ≡ true → is_chunk_handle c ≡ true
   chunk_handle c heap there = live_handle (chunks_of d b) c (chunks-heap d b valid heap) there
 
   -- a chunk is made

@@ -1,5 +1,5 @@
 ghost use Rattle.geos_model.specs.Laws.{WordLaw, NumberLaw, ChunkLaw, ImageLaw, ArrayLaw, ElementArrayLaw, NameArrayLaw};
-ghost use Rattle.geos_model.specs.EditLaws.{ArrayEditsLaw, ElementEditsLaw, NameEditsLaw};
+ghost use Rattle.geos_model.specs.EditLaws.{ChunkEditsLaw, ArrayEditsLaw, ElementEditsLaw, NameEditsLaw};
 ghost use Rattle.geos_model.specs.Undoing.{UndoLaw, RedoLaw};
 ghost use Rattle.geos_model.specs.Validity.{ValidityLaw};
 
@@ -38,17 +38,24 @@ pub fn name_array_law()
     ensures { NameArrayLaw }
 {}
 
+/// Bytes that an accepted edit puts in a chunk of a valid document stand there, and are as the laws of array edits ask.
+pub fn chunk_edits_law()
+    ensures { ChunkEditsLaw }
+{}
+
 /// An accepted edit of a chunk array leaves a chunk array, of the elements that it means.
 pub fn array_edits_law()
     ensures { ArrayEditsLaw }
 {}
 
-/// An accepted edit of an element array leaves one, and the elements of other tokens as they were.
+/// An accepted edit of an element array leaves one, with what the edit means under its token and the elements of other tokens
+/// as they were.
 pub fn element_edits_law()
     ensures { ElementEditsLaw }
 {}
 
-/// An accepted edit of a name array leaves one, the names of other tokens as they were, and distinct names distinct.
+/// An accepted edit of a name array leaves one, with what the edit means under its token, the names of other tokens as they
+/// were, and distinct names distinct.
 pub fn name_edits_law()
     ensures { NameEditsLaw }
 {}
