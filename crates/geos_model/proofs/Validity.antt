@@ -227,7 +227,7 @@ module _ (d : Document) (valid : IsValid d) (b : ℕ) where
       with_body-valid d b (Heap (remove (chunks_of d b) c)) valid live (heap-remove (chunks_of d b) c (chunks-heap d b valid heap))
 
 -- a heap without chunks is a heap
-empty-heap : is_heap_map empty ≡ true
+pub empty-heap : is_heap_map empty ≡ true
 empty-heap = ap is_heap_map (sym (table_map-nil {X = List ℕ} 2 16)) ∙ is_heap_map-trimmed [] (trimmed-nil (List ℕ)) (let is = need-table [] (trimmed-nil (List ℕ)) in omega (arith, is))
 
 -- An edit that nothing refuses keeps validity.
@@ -311,20 +311,20 @@ effect-valid (edits.RemoveName b c t) d low valid none =
 -- The machine.
 
 -- valid documents of steps, and of one more or one fewer
-abbrev AreValid : List UndoStep → Type 0
+abbrev pub AreValid : List UndoStep → Type 0
 AreValid steps = All (λ s. IsValid s.document) steps
 
-valid-push : (s : UndoStep) (steps : List UndoStep) → IsValid s.document → AreValid steps → AreValid (s ∷ steps)
+pub valid-push : (s : UndoStep) (steps : List UndoStep) → IsValid s.document → AreValid steps → AreValid (s ∷ steps)
 valid-push s steps valid all zero d l = valid
 valid-push s steps valid all (suc k) d l = all k d (omega arith)
 
-valid-first : (s : UndoStep) (steps : List UndoStep) → AreValid (s ∷ steps) → IsValid s.document
+pub valid-first : (s : UndoStep) (steps : List UndoStep) → AreValid (s ∷ steps) → IsValid s.document
 valid-first s steps all = all 0 s (omega arith)
 
-valid-rest : (s : UndoStep) (steps : List UndoStep) → AreValid (s ∷ steps) → AreValid steps
+pub valid-rest : (s : UndoStep) (steps : List UndoStep) → AreValid (s ∷ steps) → AreValid steps
 valid-rest s steps all k d l = all (suc k) d (omega arith)
 
-valid-none : AreValid []
+pub valid-none : AreValid []
 valid-none k d l = absurd (omega arith)
 
 -- the machine after an answer is valid

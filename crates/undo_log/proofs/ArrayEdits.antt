@@ -10,25 +10,25 @@ use Rattle.geos_model.specs.declared.handle.VmHandle.{VmHandle}
 use Rattle.undo_log.specs.Making.{EditsChunk, MakesChunk}
 
 pub created : (d : Document) (b : VmHandle) (size extra : ℕ) → MakesChunk (edits.CreateArray b size extra) d b (create_conditions size extra) (array_bytes (new_array size extra))
-created d b size extra = record { are_own = refl; refusals = refl; does = refl; kind = refl; cost = λ after. refl }
+created d b size extra = record { are_own = refl; refusals = refl; does = refl; kind = refl; cost = λ after. refl; no_user_id = refl }
 
 module _ (d : Document) (b : VmHandle) (c : ChunkHandle) where
   -- the element by the slice that code reads
   pub inserted : (i : ℕ) (element slice : List ℕ) → slice ≡ element → EditsChunk (edits.InsertElement b c i element) d b c (λ old. insert_conditions old i slice) (λ old. element_inserted old i slice) done.Nothing
   inserted i element slice is =
       subst (λ (x : List ℕ). EditsChunk (edits.InsertElement b c i x) d b c (λ old. insert_conditions old i slice) (λ old. element_inserted old i slice) done.Nothing) is
-      (record { are_own = λ old. refl; refusals = refl; does = refl; kind = refl; cost = λ after. refl })
+      (record { are_own = λ old. refl; refusals = refl; does = refl; kind = refl; cost = λ after. refl; no_user_id = refl })
 
   pub given : (i : ℕ) (element slice : List ℕ) → slice ≡ element → EditsChunk (edits.SetElement b c i element) d b c (λ old. set_conditions old i slice) (λ old. element_set old i slice) done.Nothing
   given i element slice is =
       subst (λ (x : List ℕ). EditsChunk (edits.SetElement b c i x) d b c (λ old. set_conditions old i slice) (λ old. element_set old i slice) done.Nothing) is
-      (record { are_own = λ old. refl; refusals = refl; does = refl; kind = refl; cost = λ after. refl })
+      (record { are_own = λ old. refl; refusals = refl; does = refl; kind = refl; cost = λ after. refl; no_user_id = refl })
 
   pub sized : (i n : ℕ) → EditsChunk (edits.ResizeElement b c i n) d b c (λ old. resize_conditions old i) (λ old. element_resized old i n) done.Nothing
-  sized i n = record { are_own = λ old. refl; refusals = refl; does = refl; kind = refl; cost = λ after. refl }
+  sized i n = record { are_own = λ old. refl; refusals = refl; does = refl; kind = refl; cost = λ after. refl; no_user_id = refl }
 
   pub deleted : (i k : ℕ) → EditsChunk (edits.DeleteElements b c i k) d b c (λ old. delete_conditions old i k) (λ old. elements_deleted old i k) done.Nothing
-  deleted i k = record { are_own = λ old. refl; refusals = refl; does = refl; kind = refl; cost = λ after. refl }
+  deleted i k = record { are_own = λ old. refl; refusals = refl; does = refl; kind = refl; cost = λ after. refl; no_user_id = refl }
 
   pub zeroed : EditsChunk (edits.ZeroArray b c) d b c on_array array_zeroed done.Nothing
-  zeroed = record { are_own = λ old. refl; refusals = refl; does = refl; kind = refl; cost = λ after. refl }
+  zeroed = record { are_own = λ old. refl; refusals = refl; does = refl; kind = refl; cost = λ after. refl; no_user_id = refl }

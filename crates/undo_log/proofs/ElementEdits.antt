@@ -12,7 +12,7 @@ use Rattle.geos_model.specs.declared.handle.VmHandle.{VmHandle}
 use Rattle.undo_log.specs.Making.{EditsChunk, MakesChunk}
 
 pub elements_created : (d : Document) (b : VmHandle) (size : ℕ) → MakesChunk (edits.CreateElementArray b size) d b (create_elements_conditions size) (element_bytes (no_slots size))
-elements_created d b size = record { are_own = refl; refusals = refl; does = refl; kind = refl; cost = λ after. refl }
+elements_created d b size = record { are_own = refl; refusals = refl; does = refl; kind = refl; cost = λ after. refl; no_user_id = refl }
 
 module _ (d : Document) (b : VmHandle) (c : ChunkHandle) where
   -- the element by the slice that code reads, and its token
@@ -21,19 +21,19 @@ module _ (d : Document) (b : VmHandle) (c : ChunkHandle) where
   element_added element slice is token t =
       subst (λ (x : List ℕ). EditsChunk (edits.AddElement b c x) d b c (λ old. add_conditions old slice) (λ old. bytes_added old slice) (done.Token token)) is
       (subst (λ (n : ℕ). EditsChunk (edits.AddElement b c slice) d b c (λ old. add_conditions old slice) (λ old. bytes_added old slice) (done.Token (record { 0 = n }))) (sym t)
-      (record { are_own = λ old. refl; refusals = refl; does = refl; kind = refl; cost = λ after. refl }))
+      (record { are_own = λ old. refl; refusals = refl; does = refl; kind = refl; cost = λ after. refl; no_user_id = refl }))
 
   pub referenced : (token : Token) → EditsChunk (edits.AddReference b c token) d b c (λ old. add_reference_conditions old token.0) (λ old. reference_added old token.0) done.Nothing
-  referenced token = record { are_own = λ old. refl; refusals = refl; does = refl; kind = refl; cost = λ after. refl }
+  referenced token = record { are_own = λ old. refl; refusals = refl; does = refl; kind = refl; cost = λ after. refl; no_user_id = refl }
 
   pub unreferenced : (token : Token) → EditsChunk (edits.RemoveReference b c token) d b c (λ old. on_token old token.0) (λ old. reference_removed old token.0) done.Nothing
-  unreferenced token = record { are_own = λ old. refl; refusals = refl; does = refl; kind = refl; cost = λ after. refl }
+  unreferenced token = record { are_own = λ old. refl; refusals = refl; does = refl; kind = refl; cost = λ after. refl; no_user_id = refl }
 
   pub freed : (token : Token) → EditsChunk (edits.DeleteElement b c token) d b c (λ old. on_token old token.0) (λ old. element_deleted old token.0) done.Nothing
-  freed token = record { are_own = λ old. refl; refusals = refl; does = refl; kind = refl; cost = λ after. refl }
+  freed token = record { are_own = λ old. refl; refusals = refl; does = refl; kind = refl; cost = λ after. refl; no_user_id = refl }
 
   pub element_changed : (token : Token) (element slice : List ℕ) → slice ≡ element
       → EditsChunk (edits.ChangeElement b c token element) d b c (λ old. change_conditions old token.0 slice) (λ old. bytes_changed old token.0 slice) done.Nothing
   element_changed token element slice is =
       subst (λ (x : List ℕ). EditsChunk (edits.ChangeElement b c token x) d b c (λ old. change_conditions old token.0 slice) (λ old. bytes_changed old token.0 slice) done.Nothing) is
-      (record { are_own = λ old. refl; refusals = refl; does = refl; kind = refl; cost = λ after. refl })
+      (record { are_own = λ old. refl; refusals = refl; does = refl; kind = refl; cost = λ after. refl; no_user_id = refl })

@@ -12,7 +12,7 @@ use Rattle.geos_model.specs.declared.handle.VmHandle.{VmHandle}
 use Rattle.undo_log.specs.Making.{EditsChunk, MakesChunk}
 
 pub names_created : (d : Document) (b : VmHandle) (part : ℕ) → MakesChunk (edits.CreateNameArray b part) d b (create_names_conditions part) (name_bytes (no_names part))
-names_created d b part = record { are_own = refl; refusals = refl; does = refl; kind = refl; cost = λ after. refl }
+names_created d b part = record { are_own = refl; refusals = refl; does = refl; kind = refl; cost = λ after. refl; no_user_id = refl }
 
 module _ (d : Document) (b : VmHandle) (c : ChunkHandle) where
   -- the name and the part by the slices that code reads, and the token
@@ -22,13 +22,13 @@ module _ (d : Document) (b : VmHandle) (c : ChunkHandle) where
       subst (λ (x : List ℕ). EditsChunk (edits.AddName b c x part replace) d b c (λ old. add_name_conditions old slice slice_2) (λ old. bytes_added old slice slice_2 replace) (done.Token token)) is
       (subst (λ (x : List ℕ). EditsChunk (edits.AddName b c slice x replace) d b c (λ old. add_name_conditions old slice slice_2) (λ old. bytes_added old slice slice_2 replace) (done.Token token)) is_2
       (subst (λ (n : ℕ). EditsChunk (edits.AddName b c slice slice_2 replace) d b c (λ old. add_name_conditions old slice slice_2) (λ old. bytes_added old slice slice_2 replace) (done.Token (record { 0 = n }))) (sym t)
-      (record { are_own = λ old. refl; refusals = refl; does = refl; kind = refl; cost = λ after. refl })))
+      (record { are_own = λ old. refl; refusals = refl; does = refl; kind = refl; cost = λ after. refl; no_user_id = refl })))
 
   pub renamed : (token : Token) (name slice : List ℕ) → slice ≡ name
       → EditsChunk (edits.ChangeName b c token name) d b c (λ old. change_name_conditions old token.0 slice) (λ old. name_changed old token.0 slice) done.Nothing
   renamed token name slice is =
       subst (λ (x : List ℕ). EditsChunk (edits.ChangeName b c token x) d b c (λ old. change_name_conditions old token.0 slice) (λ old. name_changed old token.0 slice) done.Nothing) is
-      (record { are_own = λ old. refl; refusals = refl; does = refl; kind = refl; cost = λ after. refl })
+      (record { are_own = λ old. refl; refusals = refl; does = refl; kind = refl; cost = λ after. refl; no_user_id = refl })
 
   pub name_unreferenced : (token : Token) → EditsChunk (edits.RemoveName b c token) d b c (λ old. on_name_token old token.0) (λ old. name_reference_removed old token.0) done.Nothing
-  name_unreferenced token = record { are_own = λ old. refl; refusals = refl; does = refl; kind = refl; cost = λ after. refl }
+  name_unreferenced token = record { are_own = λ old. refl; refusals = refl; does = refl; kind = refl; cost = λ after. refl; no_user_id = refl }

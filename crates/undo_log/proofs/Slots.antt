@@ -5,7 +5,7 @@ use Rattle.std.proofs.lemmas.Bool.{eqb-true, eq-eqb, le-ltb}
 use Rattle.std.proofs.lemmas.List.{length-replicate}
 use Rattle.std.specs.Cmp.{nat_cmp_total, unsigned_tied}
 use Rattle.std.specs.FinMap.{FinMap, get, insert, remove, same_map, nat_cmp-IsAntisymmetric, get-insert, get-remove}
-use Rattle.geos_model.specs.Document.{Block, Document, is_live, with_block, with_user_id, next_handle}
+use Rattle.geos_model.specs.Document.{Block, Document, IsValid, is_live, is_vm_handle, with_block, without_block, with_user_id, next_handle}
 use Rattle.geos_model.specs.Refusal.{first_refusal}
 use Rattle.geos_model.specs.Meaning.{conditions, effect}
 use Rattle.geos_model.specs.Cost.{image_length}
@@ -44,6 +44,14 @@ slot_back d h o was e =
     ap (λ (x : Document). with_slot x h was) (with_slot-blocks d h o)
     ∙ with_slot-blocks (record { blocks = blocks_with d.blocks h o; map_block = d.map_block }) h was
     ∙ ap (λ (m : FinMap nat_cmp Block). record { blocks = m; map_block = d.map_block }) (blocks_back d.blocks h o was (sym e))
+
+-- a valid document has no map block where no block is
+pub freed_not_map : (d : Document) (h : ℕ) → is_vm_handle h ≡ true → (o : Option Block) → o ≡ None → IsValid (with_slot d h o) → d.map_block ≡ h → ⊥
+freed_not_map d h handle None none valid same =
+    let some : d.map_block ≡ 0 → ⊥ = λ zero. (let no : is_vm_handle 0 ≡ true = ap is_vm_handle (sym zero ∙ same) ∙ handle in cc) in
+    let dead : is_live (without_block d h) d.map_block ≡ false = ap is_some (get-blocks_with d.blocks h None d.map_block) ∙ ap (λ (t : Bool). is_some (cond t None (get d.blocks d.map_block))) (eq-eqb d.map_block h same) in
+    let no : false ≡ true = sym dead ∙ valid.map_block some in cc
+freed_not_map d h handle (Some b) none valid same = absurd (cc none)
 
 -- a raw block that isn't too big is not refused where there is a handle
 pub raw_accepted : (d : Document) (uid size h : ℕ) → size ≤ 65520 → next_handle d ≡ Some h → first_refusal (conditions (NewRaw uid size) d) ≡ None

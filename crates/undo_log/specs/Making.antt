@@ -1,11 +1,12 @@
 -- What making an edit comes to.
-use Rattle.std.specs.Prelude.{◌≡◌, ◌⊎◌, ◌≤◌, ◌+◌, ◌++◌, ℕ, List, None, Some, length}
+use Rattle.std.specs.Prelude.{◌≡◌, ◌⊎◌, ◌<◌, ◌≤◌, ◌+◌, ◌++◌, ℕ, List, None, Some, length}
 use Rattle.geos_model.specs.Refusal.{Conditions, first_refusal}
 use Rattle.geos_model.specs.ArrayEdits.{too_long}
 use Rattle.geos_model.specs.Document.{Document}
 use Rattle.geos_model.specs.Meaning.{conditions, effect, chunk_at, with_chunk, makes_chunk, on_new_bytes, on_new_chunk}
 use Rattle.geos_model.specs.Cost.{cost, both_lengths}
 use Rattle.geos_model.specs.Machine.{kind_of}
+use Rattle.geos_model.specs.Validity.{user_id_given}
 use Rattle.geos_model.specs.declared.fault.Fault.{Fault}
 use Rattle.geos_model.specs.declared.fault.Fault.TheVariants.{Memory}
 use Rattle.geos_model.specs.declared.command.Done.{Done}
@@ -31,6 +32,7 @@ pub record Makes (edit : Edit) (old new : Document) (done : Done) (r : Record) :
   pub cost : r.cost ≡ cost edit old new
   pub undo : back r new ≡ old
   pub live : IsLive r.before new
+  pub word : user_id_given edit < 65536
 
 -- The body of a block was changed, and the record takes it back.
 pub record ChangesBody (old new : Document) (h : VmHandle) (change : Change) (cost : ℕ) (r : Record) : Type 0 where
@@ -51,6 +53,7 @@ pub record EditsChunk (edit : Edit) (d : Document) (b : VmHandle) (c : ChunkHand
   pub does : effect edit d ≡ (with_chunk d b.0 c.0 (to (chunk_at d b.0 c.0)), done)
   pub kind : kind_of edit ≡ In b
   pub cost : (after : Document) → cost edit d after ≡ both_lengths d after b.0 c.0
+  pub no_user_id : user_id_given edit ≡ 0
 
 -- The splice is what an edit builds for these bytes: nothing of its own refuses it, and what it makes of them is no longer than any chunk.
 abbrev pub BuildsFor : Splice → List ℕ → (List ℕ → Conditions) → (List ℕ → List ℕ) → Type 0
@@ -63,6 +66,7 @@ pub record MakesChunk (edit : Edit) (d : Document) (b : VmHandle) (own : Conditi
   pub does : effect edit d ≡ makes_chunk d b.0 bytes
   pub kind : kind_of edit ≡ In b
   pub cost : (after : Document) → cost edit d after ≡ length bytes
+  pub no_user_id : user_id_given edit ≡ 0
 
 -- The splice is one of a part of these bytes, and what it makes of them is no longer than any chunk.
 pub record IsBuilt (s : Splice) (bytes : List ℕ) : Type 0 where

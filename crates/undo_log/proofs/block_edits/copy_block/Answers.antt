@@ -1,4 +1,4 @@
-use Rattle.std.proofs.Common.{◌≡◌, None, Some, length, refl, sym, ap, ◌∙◌}
+use Rattle.std.proofs.Common.{◌≡◌, None, Some, length, refl, sym, ap, ◌∙◌, arith}
 use Rattle.geos_model.specs.Document.{Block as DocumentBlock, Document, with_block}
 use Rattle.geos_model.specs.Image.{image}
 use Rattle.vm_blocks.specs.Blocks.{block_of}
@@ -22,4 +22,5 @@ returns-clause-made c =
       cost = c.image_len.ensures ∙ ap (λ (b : DocumentBlock). length (image b.body)) c.in_ok-image.ensures ∙ sym (image_length-is d c.args.from.0 block live);
       undo = ap (λ (x : Document). with_slot x h None) made ∙ slot_back d h (Some block) None (sym c.in-Some-next_handle.ensures.free);
       live = tt;
+      word = omega arith;
     }

@@ -1,4 +1,4 @@
-use Rattle.std.proofs.Common.{ℕ, ◌==◌, None, Some, length, refl, sym, ap, ◌∙◌}
+use Rattle.std.proofs.Common.{ℕ, ◌==◌, None, Some, length, refl, sym, ap, ◌∙◌, arith}
 use Rattle.geos_model.specs.Document.{Block as DocumentBlock, Document}
 use Rattle.geos_model.specs.Image.{image}
 use Rattle.vm_blocks.specs.Blocks.{block_of}
@@ -21,4 +21,5 @@ returns-clause-made c =
       undo = ap (λ (x : Document). with_slot x h (Some (saved_block c.in_ok-before.before))) c.put.ensures
           ∙ slot_back d h None (Some (saved_block c.in_ok-before.before)) (ap (λ (b : DocumentBlock). Some b) c.in_ok-before.ensures ∙ c.in-Some.ensures.value);
       live = tt;
+      word = omega arith;
     }

@@ -1,6 +1,7 @@
-use Rattle.std.proofs.Common.{◌≡◌, ℕ, Option, unwrap_or, Some, None, refl, sym, ap, ◌∙◌}
+use Rattle.std.proofs.Common.{◌≡◌, ℕ, Option, unwrap_or, Some, None, refl, sym, ap, ◌∙◌, arith}
 use Rattle.std.specs.FinMap.{empty}
-use Rattle.geos_model.specs.Heap.{ChunkMap}
+use Rattle.geos_model.specs.Heap.{ChunkMap, is_heap_map}
+use Rattle.geos_model.proofs.Validity.{empty-heap}
 use Rattle.geos_model.specs.Document.{Document, next_handle, with_block}
 use Rattle.geos_model.specs.declared.command.Body.TheVariants.{Heap}
 use Rattle.geos_model.specs.declared.command.Done.TheVariants.{Block}
@@ -8,6 +9,9 @@ use Rattle.geos_model.proofs.Images.{length_image-empty}
 use Rattle.vm_blocks.specs.Saved.{with_slot}
 use Rattle.undo_log.proofs.Slots.{slot_back}
 use Rattle.undo_log.proofs.block_edits.make_heap.Goals as goal
+
+pub new-requires-2 : goal.new-requires-2
+new-requires-2 c = ap is_heap_map c.in_ok-new.ensures ∙ empty-heap
 
 pub returns-clause-made : goal.returns-clause-made
 returns-clause-made c =
@@ -24,4 +28,5 @@ returns-clause-made c =
       undo = ap (λ (x : Document). with_slot x h.0 None) made
           ∙ slot_back d h.0 (Some (record { user_id = c.args.user_id; body = Heap empty })) None (sym c.in-Some.ensures.free);
       live = tt;
+      word = omega (arith, c.ranges.user_id.fits);
     }

@@ -21,4 +21,5 @@ returns-clause-made c =
       undo = ap (λ (x : Document). with_slot x h.0 None) made
           ∙ slot_back d h.0 (Some (record { user_id = c.args.user_id; body = Raw (replicate c.args.size 0) })) None (sym c.in-Some.ensures.free);
       live = tt;
+      word = omega (arith, c.ranges.user_id.fits);
     }

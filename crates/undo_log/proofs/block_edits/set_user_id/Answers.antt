@@ -1,4 +1,4 @@
-use Rattle.std.proofs.Common.{refl, sym, ap, ◌∙◌}
+use Rattle.std.proofs.Common.{refl, sym, ap, ◌∙◌, arith}
 use Rattle.geos_model.specs.Document.{Document, is_live, with_user_id}
 use Rattle.vm_blocks.specs.Blocks.{block_of}
 use Rattle.undo_log.proofs.Slots.{user_id_accepted, user_id_back, user_id_live}
@@ -18,4 +18,5 @@ returns-clause-made c =
       cost = refl;
       undo = ap (λ (x : Document). with_user_id x h block.user_id) c.set_user_id.ensures ∙ user_id_back d h c.args.user_id block live;
       live = ap (λ (x : Document). is_live x h) c.set_user_id.ensures ∙ user_id_live d h c.args.user_id block live;
+      word = omega (arith, c.ranges.user_id.fits);
     }

@@ -1,4 +1,4 @@
-use Rattle.std.proofs.Common.{ℕ, [], ◌∷◌, not, replicate, refl, inr, sym, ap, ◌∙◌}
+use Rattle.std.proofs.Common.{ℕ, [], ◌∷◌, not, replicate, refl, inr, sym, ap, ◌∙◌, arith}
 use Rattle.geos_model.specs.Document.{chunks_of}
 use Rattle.geos_model.specs.Heap.{fits_new}
 use Rattle.geos_model.specs.declared.fault.Fault.TheVariants.{Full}
@@ -43,4 +43,5 @@ returns-clause-made c =
       cost = c.in_ok-record.ensures.ok.cost_is ∙ c.from.ensures;
       undo = c.in_ok-record.ensures.ok.undo;
       live = c.in_ok-record.ensures.ok.live;
+      word = omega arith;
     }

@@ -1,4 +1,4 @@
-use Rattle.std.proofs.Common.{ap, sym, ◌∙◌, inr}
+use Rattle.std.proofs.Common.{ap, sym, ◌∙◌, inr, arith}
 use Rattle.undo_log.proofs.Refusals.{carried}
 use Rattle.undo_log.proofs.ChunkChanges.{chunk_refused, full, accepted, new_bytes, cost_of}
 use Rattle.undo_log.proofs.chunk_changes.change_chunk.Goals as goal
@@ -27,4 +27,5 @@ returns-clause-made c = λ edit own to means builds.
       cost = r.cost_is ∙ c.byte_count-cost.ensures ∙ builds.leads.holds ∙ sym (cost_of edit d b chunk own to c.args.done means _ document);
       undo = r.undo;
       live = r.live;
+      word = omega (arith, means.no_user_id);
     }

@@ -59,4 +59,5 @@ returns-clause-made c = λ edit own to means first is.
       cost = r.cost_is ∙ c.from.ensures ∙ c.in-Ok.ensures.1 ∙ c.len.ensures ∙ c.args.bytes.ok.0 ∙ ap length is ∙ sym (means.cost _);
       undo = r.undo;
       live = r.live;
+      word = omega (arith, means.no_user_id);
     }

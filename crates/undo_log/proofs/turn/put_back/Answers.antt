@@ -1,9 +1,13 @@
-use Rattle.std.proofs.Common.{◌≡◌, refl, ap, ◌∙◌}
+use Rattle.std.proofs.Common.{◌≡◌, refl, sym, ap, ◌∙◌}
+use Rattle.vm_blocks.specs.Blocks.{block_of}
 use Rattle.geos_model.specs.Document.{Document}
 use Rattle.std.specs.Option.{option_map}
 use Rattle.vm_blocks.specs.Saved.{saved_block, with_slot}
-use Rattle.undo_log.proofs.Slots.{slot_back}
+use Rattle.undo_log.proofs.Slots.{slot_back, freed_not_map}
 use Rattle.undo_log.proofs.turn.put_back.Goals as goal
+
+pub put-requires-clause-map_block : goal.put-requires-clause-map_block
+put-requires-clause-map_block c = λ none. freed_not_map c.args.blocks.now c.args.place.handle.0 c.args.place.in_range (option_map saved_block c.args.block.now) (sym c.in_ok-before.ensures ∙ ap (option_map block_of) none) c.requires
 
 pub returns-clause-ok : goal.returns-clause-ok
 returns-clause-ok c =
