@@ -16,12 +16,8 @@ use Rattle.geos_model.proofs.HeapTables.{need-table, image-table, slot_size_word
 use Rattle.geos_model.specs.Words.{word, word_at}
 use Rattle.geos_model.proofs.Images.{word-reads_back}
 use Rattle.lmem_heap.specs.Packed.{Slots, heads, chunks, packed, slots_in}
-use Rattle.lmem_heap.specs.Slots.{space_in}
+use Rattle.lmem_heap.specs.Slots.{space_in, need_in}
 use Rattle.lmem_heap.proofs.Packing.{length-packed, slots_in-packed, slot_some, slot_length, length-chunks-set}
-
--- what a heap with this table needs
-abbrev pub need_in : Slots → ℕ
-need_in t = 16 + 4 * ((length t + 1) / 2) + space_in t
 
 pub need_is : (t : Slots) → IsTrimmed t → need (table_map 2 16 t) ≡ need_in t
 need_is t trimmed = need-table t trimmed
@@ -192,17 +188,27 @@ put_changed t n i b c change live is to =
 pub put_spliced : (t n : Slots) (i at end : ℕ) (new b : List ℕ) → Live t i b → n ≡ set t i (Some (list.splice (unwrap_or (get_or t i None) []) at end new)) → n ≡ put_at t i (list.splice b at end new)
 put_spliced t n i at end new b live is = put_changed t n i (list.splice b at end new) b (λ (l : List ℕ). list.splice l at end new) live is refl
 
--- what a heap keeps count of
+-- a heap's invariant
+abbrev pub IsKept : Slots → ℕ → ℕ → Type 0
+IsKept t space gap = IsTrimmed t × (space ≡ space_in t) × (gap ≡ first_gap t) × (is_heap_map (table_map 2 16 t) ≡ true)
+
+-- its last fact, as one of numbers
 abbrev pub IsCounted : Slots → ℕ → ℕ → Type 0
 IsCounted t space gap = IsTrimmed t × (space ≡ space_in t) × (gap ≡ first_gap t) × (16 + 4 * ((length t + 1) / 2) + space ≤ 65520)
 
-counted_put : (t n : Slots) (i space gap : ℕ) (b : List ℕ) → IsTrimmed t → need_in (put_at t i b) ≤ 65520 → n ≡ put_at t i b → space ≡ space_in (put_at t i b) → gap ≡ first_gap (put_at t i b) → IsCounted n space gap
-counted_put t n i space gap b trimmed room is takes first = subst (λ (x : Slots). IsCounted x space gap) (sym is) (trimmed-put t i b trimmed, takes, first, omega arith)
+pub counts : (t : Slots) (space gap : ℕ) → IsKept t space gap → IsCounted t space gap
+counts t space gap kept = (kept.0, kept.1, kept.2, omega (arith, need_is t kept.0, need_le (table_map 2 16 t) kept.3, kept.1))
 
-pub counted_new : (t n : Slots) (i space gap : ℕ) (b : List ℕ) → IsTrimmed t → get_or t i None ≡ None → need_in (put_at t i b) ≤ 65520 → n ≡ put_at t i b → space ≡ space_in t + space_of (length b) → gap ≡ first_gap (put_at t i b) → IsCounted n space gap
+pub keeps : (t : Slots) (space gap : ℕ) → IsCounted t space gap → IsKept t space gap
+keeps t space gap counted = (counted.0, counted.1, counted.2, is_heap t counted.0 (omega (arith, counted.1, counted.3)))
+
+counted_put : (t n : Slots) (i space gap : ℕ) (b : List ℕ) → IsTrimmed t → need_in (put_at t i b) ≤ 65520 → n ≡ put_at t i b → space ≡ space_in (put_at t i b) → gap ≡ first_gap (put_at t i b) → IsKept n space gap
+counted_put t n i space gap b trimmed room is takes first = keeps n space gap (subst (λ (x : Slots). IsCounted x space gap) (sym is) (trimmed-put t i b trimmed, takes, first, omega arith))
+
+pub counted_new : (t n : Slots) (i space gap : ℕ) (b : List ℕ) → IsTrimmed t → get_or t i None ≡ None → need_in (put_at t i b) ≤ 65520 → n ≡ put_at t i b → space ≡ space_in t + space_of (length b) → gap ≡ first_gap (put_at t i b) → IsKept n space gap
 counted_new t n i space gap b trimmed none room is takes first = counted_put t n i space gap b trimmed room is (omega (arith, space-put t i b, ap slot_space none)) first
 
-pub counted_changed : (t n : Slots) (i space more gap : ℕ) (b c : List ℕ) → Live t i c → IsCounted t space gap → need_in (put_at t i b) ≤ 65520 → n ≡ put_at t i b → more ≡ space - space_of (length c) + space_of (length b) → IsCounted n more gap
+pub counted_changed : (t n : Slots) (i space more gap : ℕ) (b c : List ℕ) → Live t i c → IsCounted t space gap → need_in (put_at t i b) ≤ 65520 → n ≡ put_at t i b → more ≡ space - space_of (length c) + space_of (length b) → IsKept n more gap
 counted_changed t n i space more gap b c live counted room is takes =
     let other : first_gap t ≢ i = λ e. let none : None ≡ Some c = sym (ap (λ (k : ℕ). get_or t k None) (sym e) ∙ first_gap_none t) ∙ live.holds in cc in
     let fewer = live.space in
@@ -227,12 +233,13 @@ module _ (t s n : Slots) (i k : ℕ) (c : List ℕ) (live : Live t i c) (cleared
       shows_cut ∙ (ap (table_map 2 16) cleared ∙ (table_map-clear (omega arith) 16 t i live.within
       ∙ (ap (λ (q : ℕ). remove (table_map 2 16 t) q) (sym at) ∙ ap (λ (x : ChunkMap). remove x h) shows)))
 
-  pub counted_freed : (space less gap first : ℕ) → IsCounted t space gap → IsTrimmed (take k s) → less ≡ space - space_of (length c) → first ≡ min (min gap i) k → IsCounted n less first
+  pub counted_freed : (space less gap first : ℕ) → IsCounted t space gap → IsTrimmed (take k s) → less ≡ space - space_of (length c) → first ≡ min (min gap i) k → IsKept n less first
   counted_freed space less gap first counted trimmed takes gap_is =
       let count : space_in n + space_of (length c) ≡ space_in t
       = omega (arith, space-same n s shows_cut, ap space_in cleared, sum_by-set slot_space t i None None live.within, ap slot_space live.holds) in
       let short : length n ≤ length t = omega (arith, ap length is, length-take k s, ap length cleared, length-set t i None) in
-      let next : first_gap n ≡ min (min (first_gap t) i) k = ap first_gap is ∙ (first_gap-take s k ∙ ap (λ (g : ℕ). min g k) (ap first_gap cleared ∙ first_gap-clear t i live.within)) in (
+      let next : first_gap n ≡ min (min (first_gap t) i) k = ap first_gap is ∙ (first_gap-take s k ∙ ap (λ (g : ℕ). min g k) (ap first_gap cleared ∙ first_gap-clear t i live.within)) in
+      keeps n less first (
         subst (λ (x : Slots). IsTrimmed x) (sym is) trimmed,
         omega (arith, counted.1),
         gap_is ∙ (ap (λ (g : ℕ). min (min g i) k) counted.2 ∙ sym next),

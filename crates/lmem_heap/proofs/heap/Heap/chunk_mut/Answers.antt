@@ -4,11 +4,12 @@ use Rattle.geos_model.proofs.Tables.{put_at}
 use Rattle.raw_region.specs.Bytes.{put}
 use Rattle.raw_region.proofs.Puts.{length-put}
 use Rattle.lmem_heap.specs.LendsChunk.{slots_written}
-use Rattle.lmem_heap.proofs.Heaps.{need_in, live_is, live_slot, shows_put, need_changed, put_changed, counted_changed}
+use Rattle.lmem_heap.specs.Slots.{need_in}
+use Rattle.lmem_heap.proofs.Heaps.{counts, live_is, live_slot, shows_put, need_changed, put_changed, counted_changed}
 use Rattle.lmem_heap.proofs.heap.Heap.chunk_mut.Goals as goal
 
 pub slot-requires : goal.slot-requires
-slot-requires c = let i = c.self.invariant in live_is c.self.inside.table c.args.h.0 c.args.self.now c.self.view_is i.0 (omega (arith, i.1, i.3)) c.requires
+slot-requires c = let i = counts _ _ _ c.self.invariant in live_is c.self.inside.table c.args.h.0 c.args.self.now c.self.view_is i.0 (omega (arith, i.1, i.3)) c.requires
 
 pub chunk_mut-requires : goal.chunk_mut-requires
 chunk_mut-requires c =
@@ -17,7 +18,7 @@ chunk_mut-requires c =
 
 pub invariant_of-self-lent : goal.invariant_of-self-lent
 invariant_of-self-lent c =
-    λ w. let s = c.self.inside in let t = s.table in let i = c.self.invariant in let k = c.slot.result in
+    λ w. let s = c.self.inside in let t = s.table in let i = counts _ _ _ c.self.invariant in let k = c.slot.result in
     let live = live_slot t k c.args.h.0 c.args.self.now c.self.view_is c.slot.ensures.at c.requires in
     let old : List ℕ = chunk_bytes c.args.self.now c.args.h.0 in let b : List ℕ = put old 0 w in
     let same : length b ≡ length old = length-put old w 0 in let space = live.space in
