@@ -23,6 +23,8 @@ impl Model for Region {
 
     ghost view = { λ r. r.raw.bytes };
 
+    // It has to hold whatever list a lent slice is left as, so that each byte is below 256 can't stand here. Whoever has a
+    // slice of the bytes knows it by the slice's type.
     ghost invariant = { λ r. length r.raw.bytes ≡ SIZE };
 }
 
