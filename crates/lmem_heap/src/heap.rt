@@ -1,18 +1,19 @@
-ghost use Rattle.std.specs.Prelude.{◌≡◌, ◌⊎◌, ◌+◌, ◌*◌, ◌/◌, ◌^◌, ◌≤◌, ◌<◌, ℕ, List, ◌∷◌, ◌++◌, true, Some, None, IsTrue, IfOk, IfErr, MatchOption, length, map, take, drop, replicate, get_or};
+ghost use Rattle.std.specs.Prelude.{◌≡◌, ◌⊎◌, ◌+◌, ◌^◌, ◌≤◌, ◌<◌, ℕ, List, ◌∷◌, ◌++◌, true, Some, None, IsTrue, IfOk, IfErr, MatchOption, length, map, take, drop, replicate, get_or};
 ghost use Rattle.std.specs.Borrow.{sem};
 ghost use Rattle.std.specs.List.{splice};
 ghost use Rattle.std.specs.Option.{option_map, option_copied};
 ghost use Rattle.std.specs.FinMap.{empty, get, insert, remove, keys, contains_key};
-ghost use Rattle.geos_model.specs.Heap.{ChunkMap, need, chunk_bytes, next_chunk, fits_new, fits_with, is_chunk_handle, is_heap_map, space_of};
+ghost use Rattle.geos_model.specs.Heap.{ChunkMap, need, capacity, most_chunks, chunk_bytes, next_chunk, fits_new, fits_with, is_chunk_handle, is_heap_map, space_of, handle_of};
 ghost use Rattle.geos_model.specs.Bytes.{resized};
 ghost use Rattle.geos_model.proofs.Table.{table_map, first_gap, IsTrimmed};
-ghost use Rattle.lmem_heap.specs.Slots.{space_in};
-ghost use Rattle.raw_region.specs.Bytes.{word_bytes};
+ghost use Rattle.lmem_heap.specs.Slots.{space_in, need_of, need_in};
+ghost use Rattle.geos_model.specs.Words.{word};
 ghost use Rattle.geos_model.specs.Image.{image};
 ghost use Rattle.geos_model.specs.declared.command.Body.TheVariants as bodies;
 
 use crate::table::Table;
 use geos_model::{ChunkHandle, Fault};
+use raw_region::SIZE;
 use std::alloc::{AllocError, Global};
 use std::marker::Model;
 
@@ -20,7 +21,7 @@ use std::marker::Model;
 const HEADER: usize = 16;
 
 /// How many bytes a heap has room for.
-const CAPACITY: usize = 65_520;
+const CAPACITY: usize = SIZE;
 
 /// How many chunks a heap can have: so many table entries fill it.
 const MOST_CHUNKS: usize = 32_752;
@@ -43,10 +44,11 @@ pub struct Heap {
 }
 
 impl Model for Heap {
-    ghost use Rattle.std.specs.Prelude.{◌≡◌, ◌+◌, ◌*◌, ◌/◌, ◌≤◌, List, ℕ, length};
+    ghost use Rattle.std.specs.Prelude.{◌≡◌, true, List, ℕ};
     ghost use Rattle.std.specs.Ordering.{nat_cmp};
     ghost use Rattle.std.specs.Coded.{coded_ℕ, coded_list};
     ghost use Rattle.std.specs.FinMap.{FinMap, code};
+    ghost use Rattle.geos_model.specs.Heap.{is_heap_map};
     ghost use Rattle.geos_model.proofs.Table.{table_map, first_gap, IsTrimmed};
     ghost use Rattle.lmem_heap.specs.Slots.{space_in};
 
@@ -59,7 +61,7 @@ impl Model for Heap {
     ghost invariant = { λ h. IsTrimmed h.table
         × (h.space ≡ space_in h.table)
         × (h.gap ≡ first_gap h.table)
-        × (16 + 4 * ((length h.table + 1) / 2) + h.space ≤ 65520) };
+        × (is_heap_map (table_map 2 16 h.table) ≡ true) };
 }
 
 impl Heap {
@@ -292,8 +294,8 @@ impl Heap {
     /// The heap of a table; None where the table is longer than it has to be or needs too many bytes.
     fn from_table(alloc: Global, table: Table) -> Option<Heap>
         ensures { MatchOption result
-            (IsTrimmed table → 16 + 4 * ((length table + 1) / 2) + space_in table ≤ 65520 → ⊥)
-            (λ h. (h ≡ table_map 2 16 table) × IsTrimmed table × (16 + 4 * ((length table + 1) / 2) + space_in table ≤ 65520)) }
+            (IsTrimmed table → need_in table ≤ capacity → ⊥)
+            (λ h. (h ≡ table_map 2 16 table) × IsTrimmed table × (need_in table ≤ capacity)) }
     {
         let slots = table.len();
         if slots > 0 && table.size(slots - 1).is_none() {
@@ -316,8 +318,8 @@ impl Heap {
 /// The table length that an image begins with; None where the bytes are no heap's image.
 fn image_slots(bytes: &[u8]) -> Option<usize>
     ensures { MatchOption result
-        ((n : ℕ) (rest : List ℕ) → bytes.now ≡ 1 ∷ word_bytes n ++ rest → ⊥)
-        (λ n. (n < 65536) × (bytes.now ≡ 1 ∷ word_bytes n ++ drop 3 bytes.now)) }
+        ((n : ℕ) (rest : List ℕ) → bytes.now ≡ 1 ∷ word n ++ rest → ⊥)
+        (λ n. (n < 2 ^ 16) × (bytes.now ≡ 1 ∷ word n ++ drop 3 bytes.now)) }
 {
     match bytes {
         [HEAP_KIND, low, high, ..] => Some(*low as usize + 256 * *high as usize),
@@ -337,15 +339,15 @@ fn space_of(n: usize) -> usize
 fn need_of(slots: usize, space: usize) -> usize
     requires small { slots < 2 ^ 16 }
     requires room { space < 2 ^ 33 }
-    ensures { result ≡ 16 + 4 * ((slots + 1) / 2) + space }
+    ensures { result ≡ need_of slots space }
 {
     HEADER + 4 * ((slots + 1) / 2) + space
 }
 
 /// The handle of a slot.
 fn handle_of(i: usize) -> ChunkHandle
-    requires { i < 32752 }
-    ensures { result.0 ≡ 16 + 2 * i }
+    requires { i < most_chunks }
+    ensures { result.0 ≡ handle_of i }
 {
     ChunkHandle((HEADER + 2 * i) as u16)
 }
@@ -353,8 +355,8 @@ fn handle_of(i: usize) -> ChunkHandle
 /// The slot of a handle, in a table this long.
 fn slot_of(h: ChunkHandle, slots: usize) -> Option<usize>
     ensures { MatchOption result
-        ((i : ℕ) → i < slots → h.0 ≡ 16 + 2 * i → ⊥)
-        (λ i. (i < slots) × (h.0 ≡ 16 + 2 * i)) }
+        ((i : ℕ) → i < slots → h.0 ≡ handle_of i → ⊥)
+        (λ i. (i < slots) × (h.0 ≡ handle_of i)) }
 {
     let offset = h.0 as usize;
     if offset < HEADER || offset % 2 == 1 {
@@ -367,8 +369,8 @@ fn slot_of(h: ChunkHandle, slots: usize) -> Option<usize>
 /// The slot of a handle that a chunk can have.
 fn slot(h: ChunkHandle) -> usize
     requires { IsTrue (is_chunk_handle h.0) }
-    ensures at { h.0 ≡ 16 + 2 * result }
-    ensures within { result < 32752 }
+    ensures at { h.0 ≡ handle_of result }
+    ensures within { result < most_chunks }
 {
     (h.0 as usize - HEADER) / 2
 }

@@ -1,7 +1,8 @@
-ghost use Rattle.std.specs.Prelude.{◌≡◌, ◌+◌, ◌-◌, ◌*◌, ◌≤◌, ◌<◌, ℕ, [], ◌++◌, Some, None, IfOk, MatchOption, IsSome, length, max, replicate, take, set, get_or, unwrap_or};
+ghost use Rattle.std.specs.Prelude.{◌≡◌, ◌+◌, ◌-◌, ◌*◌, ◌^◌, ◌≤◌, ◌<◌, ℕ, [], ◌++◌, Some, None, IfOk, MatchOption, IsSome, length, max, replicate, take, set, get_or, unwrap_or};
 ghost use Rattle.std.specs.Borrow.{sem};
 ghost use Rattle.std.specs.List.{splice};
 ghost use Rattle.std.specs.Option.{option_copied, option_map};
+ghost use Rattle.raw_region.specs.declared.TheConstants.{SIZE};
 ghost use Rattle.lmem_heap.specs.Packed.{Slots, packed, words, total, chunks};
 
 use raw_region::RawBody;
@@ -20,13 +21,14 @@ pub(crate) struct Table {
 
 impl Model for Table {
     ghost use Rattle.std.specs.Prelude.{◌≡◌, ◌≤◌, ℕ, List, Option, length};
+    ghost use Rattle.raw_region.specs.declared.TheConstants.{SIZE};
     ghost use Rattle.lmem_heap.specs.Packed.{packed, slots_in};
 
     ghost Value = { List (Option (List ℕ)) };
 
     ghost view = { λ t. slots_in t.slots t.body };
 
-    ghost invariant = { λ t. (t.body ≡ packed (slots_in t.slots t.body)) × (length t.body ≤ 65520) };
+    ghost invariant = { λ t. (t.body ≡ packed (slots_in t.slots t.body)) × (length t.body ≤ SIZE) };
 }
 
 impl Table {
@@ -45,7 +47,7 @@ impl Table {
         slots: usize,
         bytes: &[u8],
     ) -> Result<Option<Table>, AllocError>
-        requires { length bytes.now ≤ 65520 }
+        requires { length bytes.now ≤ SIZE }
         ensures { IfOk result (λ found. MatchOption found
             ((t : Slots) → length t ≡ slots → packed t ≡ bytes.now → ⊥)
             (λ t. (length t ≡ slots) × (packed t ≡ bytes.now))) }
@@ -64,7 +66,7 @@ impl Table {
     /// How many slots there are.
     pub(crate) fn len(&self) -> usize
         ensures value { result ≡ length self.now }
-        ensures room { 2 * length self.now + length (chunks self.now) ≤ 65520 }
+        ensures room { 2 * length self.now + length (chunks self.now) ≤ SIZE }
     {
         self.slots
     }
@@ -144,7 +146,7 @@ impl Table {
         requires slot { i < length self.old }
         requires live { IsSome (get_or self.old i None) }
         requires range { at + k ≤ length (unwrap_or (get_or self.old i None) []) }
-        requires room { 2 * length self.old + length (chunks self.old) + length new.now ≤ 65520 + k }
+        requires room { 2 * length self.old + length (chunks self.old) + length new.now ≤ SIZE + k }
         ensures { self.new ≡ set self.old i (Some (splice (unwrap_or (get_or self.old i None) []) at (at + k) new.now)) }
     {
         let size = self.chunk_size(i);
@@ -157,7 +159,7 @@ impl Table {
     pub(crate) fn lengthen(&mut self, i: usize, n: usize)
         requires slot { i < length self.old }
         requires live { IsSome (get_or self.old i None) }
-        requires room { 2 * length self.old + length (chunks self.old) + n ≤ 65520 }
+        requires room { 2 * length self.old + length (chunks self.old) + n ≤ SIZE }
         ensures { self.new ≡ set self.old i (Some (unwrap_or (get_or self.old i None) [] ++ replicate n 0)) }
     {
         let size = self.chunk_size(i);
@@ -190,7 +192,7 @@ impl Table {
 
     /// Sees that there are at least `n` slots. New ones have no chunk.
     pub(crate) fn open_slots(&mut self, n: usize)
-        requires { 2 * max (length self.old) n + length (chunks self.old) ≤ 65520 }
+        requires { 2 * max (length self.old) n + length (chunks self.old) ≤ SIZE }
         ensures { self.new ≡ self.old ++ replicate (n - length self.old) None }
     {
         let first = self.slots;
@@ -204,7 +206,7 @@ impl Table {
 
     /// More slots, each with an empty chunk.
     fn push_empty(&mut self, more: usize)
-        requires { 2 * (length self.old + more) + length (chunks self.old) ≤ 65520 }
+        requires { 2 * (length self.old + more) + length (chunks self.old) ≤ SIZE }
         ensures { self.new ≡ self.old ++ replicate more (Some []) }
     {
         self.body.insert_zeros(2 * self.slots, 2 * more);
@@ -224,7 +226,7 @@ impl Table {
     pub(crate) fn fill(&mut self, i: usize, n: usize)
         requires slot { i < length self.old }
         requires gap { get_or self.old i None ≡ None }
-        requires room { 2 * length self.old + length (chunks self.old) + n ≤ 65520 }
+        requires room { 2 * length self.old + length (chunks self.old) + n ≤ SIZE }
         ensures { self.new ≡ set self.old i (Some (replicate n 0)) }
     {
         let place = self.place(i);
@@ -236,7 +238,7 @@ impl Table {
 /// How many bytes the chunks of the first `i` slots have.
 fn bytes_before(body: &RawBody, i: usize) -> usize
     requires within { 2 * i ≤ length body.now }
-    requires small { i ≤ 65535 }
+    requires small { i < 2 ^ 16 }
     ensures { result ≡ total (words i body.now) }
 {
     let mut sum: usize = 0;

@@ -5,8 +5,8 @@ use Rattle.geos_model.proofs.Table.{first_gap}
 use Rattle.geos_model.proofs.Tables.{slots_to, length-slots_to, slot_at-slots_to, put_at, first_gap-put_first, first_gap-put_other}
 use Rattle.geos_model.proofs.HeapTables.{space_of_ge}
 use Rattle.lmem_heap.specs.Packed.{Slots, chunks}
-use Rattle.lmem_heap.specs.Slots.{space_in}
-use Rattle.lmem_heap.proofs.Heaps.{need_in, free_slot, room_put, shows_put, need_new, counted_new, space-slots_to, length-chunks_le}
+use Rattle.lmem_heap.specs.Slots.{space_in, need_in}
+use Rattle.lmem_heap.proofs.Heaps.{free_slot, room_put, shows_put, need_new, counted_new, space-slots_to, length-chunks_le, counts, space_of_at_most}
 use Rattle.lmem_heap.proofs.heap.Heap.alloc_at.Goals as goal
 
 -- the table with the slot opened has room for the bytes
@@ -66,3 +66,6 @@ pub returns-else-i-self : goal.returns-else-i-self
 returns-else-i-self c =
     let t = c.self.inside.table in let k = c.slot-i.result in let z : List ℕ = replicate c.args.n 0 in
     shows_put t k c.args.h.0 c.args.self.now c.self.view_is c.slot-i.ensures.at c.fill.new.self z (c.fill.ensures ∙ ap (λ (r : Slots). set r k (Some z)) c.open_slots.ensures)
+
+pub overflow_add-self : goal.overflow_add-self
+overflow_add-self c = let i = counts _ _ _ c.self.invariant in record { fits = omega (arith, c.space_of.ensures, space_of_at_most c.args.n, c.ranges.n.fits, i.3) }

@@ -1,10 +1,10 @@
 use Rattle.std.proofs.Common.{◌≡◌, Some, is_some, length, ap, sym, ◌∙◌, arith}
 use Rattle.geos_model.specs.Heap.{chunk_bytes}
-use Rattle.lmem_heap.proofs.Heaps.{live_is, live_size, live_slot}
+use Rattle.lmem_heap.proofs.Heaps.{counts, live_is, live_size, live_slot}
 use Rattle.lmem_heap.proofs.heap.Heap.size.Goals as goal
 
 pub slot-requires : goal.slot-requires
-slot-requires c = let i = c.self.invariant in live_is c.self.inside.table c.args.h.0 c.args.self.now c.self.view_is i.0 (omega (arith, i.1, i.3)) c.requires
+slot-requires c = let i = counts _ _ _ c.self.invariant in live_is c.self.inside.table c.args.h.0 c.args.self.now c.self.view_is i.0 (omega (arith, i.1, i.3)) c.requires
 
 pub size-requires : goal.size-requires
 size-requires c = (live_slot c.self.inside.table c.slot.result c.args.h.0 c.args.self.now c.self.view_is c.slot.ensures.at c.requires).within
