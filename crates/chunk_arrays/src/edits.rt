@@ -4,7 +4,7 @@ ghost use Rattle.geos_model.specs.Array.{array_bytes};
 ghost use Rattle.geos_model.specs.ArrayEdits.{new_array, element_inserted, element_set, element_resized, elements_deleted, array_zeroed, on_array, create_conditions, insert_conditions, set_conditions, resize_conditions, delete_conditions, too_long, is_missized};
 ghost use Rattle.geos_model.specs.Bytes.{resized};
 ghost use Rattle.chunk_arrays.specs.Rewriting.{bytes_of};
-ghost use Rattle.chunk_edits.specs.Splicing.{Refuses};
+ghost use Rattle.chunk_edits.specs.Splicing.{RefusesToBuild};
 ghost use Rattle.chunk_arrays.specs.Replacing.{Replaces, RefusesToReplace};
 
 use crate::rewriting::{NewElement, push_header, rewrite};
@@ -24,7 +24,7 @@ const GREATEST_EXTRA: u32 = 1024;
 pub fn create_bytes(alloc: Global, size: u32, extra: u32) -> Result<Vec<u8>, Fault>
     ensures { MatchResult result
         (λ bytes. (first_refusal (create_conditions size extra) ≡ None) × (bytes.items ≡ array_bytes (new_array size extra)))
-        (Refuses (create_conditions size extra)) }
+        (RefusesToBuild (create_conditions size extra)) }
 {
     if size > GREATEST_SIZE || extra > GREATEST_EXTRA {
         return Err(Fault::Range);

@@ -14,7 +14,7 @@ use Rattle.geos_model.specs.ElementEdits.{with_new, with_new_at}
 use Rattle.geos_model.specs.declared.fault.Fault.{Fault}
 use Rattle.geos_model.proofs.ArrayEdits.{even_with}
 use Rattle.geos_model.proofs.Images.{word-reads_back}
-use Rattle.chunk_edits.specs.Splicing.{Builds, Refuses}
+use Rattle.chunk_edits.specs.Splicing.{Builds, RefusesToBuild}
 use Rattle.chunk_arrays.specs.Rewriting.{extra_after}
 use Rattle.chunk_edits.specs.declared.splice.Splice.{Splice}
 use Rattle.element_arrays.specs.Slotted.{Slotted, slotted_array, slotted_bytes, GivesSlots, RefusesSlots}
@@ -165,13 +165,13 @@ gives s new v w x old to built =
     subst (λ a. Builds (too_long (array_bytes (slots_array s.more new))) x (array_bytes a) (array_bytes (slots_array s.more new)) (length (array_bytes a) + length (array_bytes (slots_array s.more new)))) old
     (subst (λ b. Builds (too_long (array_bytes b)) x (array_bytes v) (array_bytes b) (length (array_bytes v) + length (array_bytes b))) to built)
 
-pub refuses : (s : Slotted) (new : Slots) (w : Array) (fault : Fault) → w ≡ slots_array s.more new → Refuses (too_long (array_bytes w)) fault → RefusesSlots s new fault
+pub refuses : (s : Slotted) (new : Slots) (w : Array) (fault : Fault) → w ≡ slots_array s.more new → RefusesToBuild (too_long (array_bytes w)) fault → RefusesSlots s new fault
 unfolding slotted_bytes
-refuses s new w fault to refused = subst (λ b. Refuses (too_long (array_bytes b)) fault) to refused
+refuses s new w fault to refused = subst (λ b. RefusesToBuild (too_long (array_bytes b)) fault) to refused
 
 -- what `rewrite` answers
 abbrev pub Rewrites : Array → Array → Result Splice Fault → Type 0
-Rewrites v w r = MatchResult r (λ x. Builds (too_long (array_bytes w)) x (array_bytes v) (array_bytes w) (length (array_bytes v) + length (array_bytes w))) (Refuses (too_long (array_bytes w)))
+Rewrites v w r = MatchResult r (λ x. Builds (too_long (array_bytes w)) x (array_bytes v) (array_bytes w) (length (array_bytes v) + length (array_bytes w))) (RefusesToBuild (too_long (array_bytes w)))
 
 pub answers : (s : Slotted) (new : Slots) (v w : Array) (r : Result Splice Fault) → v ≡ slotted_array s → w ≡ slots_array s.more new → Rewrites v w r → MatchResult r (GivesSlots s new) (RefusesSlots s new)
 answers s new v w r old to h = MatchResult-weaker r h (λ x. gives s new v w x old to) (λ fault. refuses s new w fault to)

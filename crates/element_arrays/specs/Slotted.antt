@@ -4,7 +4,7 @@ use Rattle.geos_model.specs.Array.{Array, array_bytes}
 use Rattle.geos_model.specs.ArrayEdits.{too_long}
 use Rattle.geos_model.specs.ElementArray.{Slots, slots_array}
 use Rattle.geos_model.specs.declared.fault.Fault.{Fault}
-use Rattle.chunk_edits.specs.Splicing.{Builds, Refuses}
+use Rattle.chunk_edits.specs.Splicing.{Builds, RefusesToBuild}
 use Rattle.chunk_edits.specs.declared.splice.Splice.{Splice}
 
 pub record Slotted : Type 0 where
@@ -29,4 +29,4 @@ GivesSlots s slots splice =
 
 -- want of memory, or the new array would be longer than any chunk
 abbrev pub RefusesSlots : Slotted → Slots → Fault → Type 0
-RefusesSlots s slots fault = Refuses (too_long (slotted_bytes (with_slots s slots))) fault
+RefusesSlots s slots fault = RefusesToBuild (too_long (slotted_bytes (with_slots s slots))) fault

@@ -2,11 +2,11 @@ ghost use Rattle.std.specs.Prelude.{◌≡◌, None, true, MatchResult};
 ghost use Rattle.geos_model.specs.Refusal.{first_refusal};
 ghost use Rattle.geos_model.specs.ElementArray.{element_bytes, element_array_of, is_sound};
 ghost use Rattle.geos_model.specs.ElementEdits.{no_slots, element_added, token_added, reference_added, reference_removed, element_deleted, element_changed, on_token, create_elements_conditions, add_conditions, add_reference_conditions, change_conditions};
-ghost use Rattle.chunk_edits.specs.Splicing.{Refuses};
+ghost use Rattle.chunk_edits.specs.Splicing.{RefusesToBuild};
 ghost use Rattle.chunk_arrays.specs.Replacing.{Replaces, RefusesToReplace};
 ghost use Rattle.geos_model.specs.ArrayEdits.{is_missized};
 ghost use Rattle.element_arrays.specs.Slotted.{slotted_bytes, with_slots};
-ghost use Rattle.element_arrays.specs.Referencing.{referenced, referencing};
+ghost use Rattle.element_arrays.specs.Referencing.{element_with_reference, element_reference_conditions};
 
 use crate::SlotView;
 use crate::reading::{read, used_at};
@@ -25,7 +25,7 @@ const NO_TOKEN: [u8; 2] = [0xFF, 0xFF];
 pub fn create_bytes(alloc: Global, size: u32) -> Result<Vec<u8>, Fault>
     ensures { MatchResult result
         (λ bytes. (first_refusal (create_elements_conditions size) ≡ None) × (bytes.items ≡ element_bytes (no_slots size)))
-        (Refuses (create_elements_conditions size)) }
+        (RefusesToBuild (create_elements_conditions size)) }
 {
     if size > GREATEST_SIZE {
         return Err(Fault::Range);
@@ -117,8 +117,8 @@ pub fn change(alloc: Global, bytes: &[u8], token: Token, element: &[u8]) -> Resu
 fn with_reference(alloc: Global, slots: &SlotView<'_>, token: Token) -> Result<Splice, Fault>
     requires { is_sound slots.now.slots ≡ true }
     ensures { MatchResult result
-        (Replaces (referencing slots.now.slots token.0) (slotted_bytes slots.now) (slotted_bytes (with_slots slots.now (referenced slots.now.slots token.0))))
-        (RefusesToReplace (referencing slots.now.slots token.0) (slotted_bytes (with_slots slots.now (referenced slots.now.slots token.0)))) }
+        (Replaces (element_reference_conditions slots.now.slots token.0) (slotted_bytes slots.now) (slotted_bytes (with_slots slots.now (element_with_reference slots.now.slots token.0))))
+        (RefusesToReplace (element_reference_conditions slots.now.slots token.0) (slotted_bytes (with_slots slots.now (element_with_reference slots.now.slots token.0)))) }
 {
     let used = used_at(slots, token)?;
     if used.count == GREATEST_COUNT {

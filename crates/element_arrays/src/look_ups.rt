@@ -1,6 +1,6 @@
 ghost use Rattle.std.specs.Prelude.{◌≡◌, ◌≤◌, None, Some, is_some, MatchResult, count_by, length, take, get_or};
 ghost use Rattle.geos_model.specs.ElementEdits.{elements_in, count_at, bytes_at, used_in, used_from, used_below, on_elements, on_token, on_used};
-ghost use Rattle.element_arrays.specs.Answering.{Answers, IsRefused};
+ghost use Rattle.element_arrays.specs.Answering.{IsAnswered, IsRefused};
 
 use crate::SlotView;
 use crate::reading::{read, used_at};
@@ -9,7 +9,7 @@ use geos_model::{Fault, Token};
 /// How many references an element has. NotArray, NoElement.
 pub fn count_of(bytes: &[u8], token: Token) -> Result<u32, Fault>
     ensures { MatchResult result
-        (λ n. Answers (on_token bytes.now token.0) (count_at (elements_in bytes.now) token.0) n)
+        (λ n. IsAnswered (on_token bytes.now token.0) (count_at (elements_in bytes.now) token.0) n)
         (IsRefused (on_token bytes.now token.0)) }
 {
     let slots = read(bytes)?;
@@ -19,7 +19,7 @@ pub fn count_of(bytes: &[u8], token: Token) -> Result<u32, Fault>
 /// The bytes of an element. NotArray, NoElement.
 pub fn data_of(bytes: &[u8], token: Token) -> Result<&[u8], Fault>
     ensures { MatchResult result
-        (λ element. Answers (on_token bytes.now token.0) (bytes_at (elements_in bytes.now) token.0) element.now)
+        (λ element. IsAnswered (on_token bytes.now token.0) (bytes_at (elements_in bytes.now) token.0) element.now)
         (IsRefused (on_token bytes.now token.0)) }
 {
     let slots = read(bytes)?;
@@ -29,7 +29,7 @@ pub fn data_of(bytes: &[u8], token: Token) -> Result<&[u8], Fault>
 /// How many elements are used. NotArray.
 pub fn used_count(bytes: &[u8]) -> Result<usize, Fault>
     ensures { MatchResult result
-        (λ n. Answers (on_elements bytes.now) (used_in (elements_in bytes.now)) n)
+        (λ n. IsAnswered (on_elements bytes.now) (used_in (elements_in bytes.now)) n)
         (IsRefused (on_elements bytes.now)) }
 {
     let slots = read(bytes)?;
@@ -40,7 +40,7 @@ pub fn used_count(bytes: &[u8]) -> Result<usize, Fault>
 /// The token of the used element that has this number, from 0 on. NotArray, NoElement.
 pub fn token_of_used(bytes: &[u8], k: u32) -> Result<Token, Fault>
     ensures { MatchResult result
-        (λ token. Answers (on_used bytes.now k) (get_or (used_from 0 (elements_in bytes.now).slots) k 0) token.0)
+        (λ token. IsAnswered (on_used bytes.now k) (get_or (used_from 0 (elements_in bytes.now).slots) k 0) token.0)
         (IsRefused (on_used bytes.now k)) }
 {
     let slots = read(bytes)?;
@@ -61,7 +61,7 @@ pub fn token_of_used(bytes: &[u8], k: u32) -> Result<Token, Fault>
 /// How many used tokens are lower than this one. NotArray, NoElement.
 pub fn used_of_token(bytes: &[u8], token: Token) -> Result<usize, Fault>
     ensures { MatchResult result
-        (λ n. Answers (on_token bytes.now token.0) (used_below (elements_in bytes.now) token.0) n)
+        (λ n. IsAnswered (on_token bytes.now token.0) (used_below (elements_in bytes.now) token.0) n)
         (IsRefused (on_token bytes.now token.0)) }
 {
     let slots = read(bytes)?;

@@ -11,7 +11,7 @@ use Rattle.geos_model.specs.NameEdits.{no_names, names_in, token_of_text, part_a
 use Rattle.geos_model.specs.declared.fault.Fault.TheVariants.{NotArray, NoElement, NameInUse, CountFull, Range}
 use Rattle.element_arrays.specs.Slotted.{Slotted, slotted_bytes, with_slots}
 use Rattle.name_arrays.specs.Reading.{named_array, IsRead}
-use Rattle.name_arrays.specs.Referencing.{referenced}
+use Rattle.name_arrays.specs.Referencing.{name_bytes_with_reference}
 use Rattle.name_arrays.proofs.Found.{new_bytes, bytes_with}
 
 used_not_none : {T : Type 0} (o : Option T) → is_some o ≡ true → is_none o ≡ false
@@ -46,7 +46,7 @@ module _ (bytes : List ℕ) (s : Slotted) (size : ℕ) (read : IsRead bytes s si
 
   -- a name that is there
   module _ (text part : List ℕ) (replace : Bool) (t : ℕ) (found : token_of_text a text ≡ Some t) where
-    pub added_found : referenced a part replace t ≡ name_added bytes text part replace
+    pub added_found : name_bytes_with_reference a part replace t ≡ name_added bytes text part replace
     added_found = rw (names_are, found) refl
 
     pub token_found : t ≡ name_token_added bytes text part replace

@@ -4,7 +4,7 @@ use Rattle.geos_model.specs.ElementArray.{Slots, element_bytes}
 use Rattle.geos_model.specs.ElementEdits.{elements_in, element_added, token_added, added, with_new, add_conditions}
 use Rattle.geos_model.specs.declared.fault.Fault.TheVariants.{NotArray, Range}
 use Rattle.element_arrays.specs.Slotted.{slotted_bytes, with_slots}
-use Rattle.element_arrays.specs.Referencing.{referenced, referencing}
+use Rattle.element_arrays.specs.Referencing.{element_with_reference, element_reference_conditions}
 use Rattle.element_arrays.proofs.Adding.{equal-decides, equal-added, new-accepted, new-missized, new-added}
 use Rattle.element_arrays.proofs.Found.{elements_are, is_read_sound, new_bytes}
 use Rattle.element_arrays.proofs.Replacing.{carried, refuses_own, refuses_for, replaces_for, token_handed_on}
@@ -27,11 +27,11 @@ returns-in_err-splice-in-Some c =
     let s = c.in_ok-slots.slots in
     let read = c.in_ok-slots.ensures in
     let fault = c.in_err-splice-in-Some.field-0.0 in
-    let new : Slots = referenced s.slots t in
+    let new : Slots = element_with_reference s.slots t in
     let same : (new, t) ≡ added (elements_in bytes) element = sym (equal-added bytes element s read t (sym c.in-Some.ensures)) ∙ ap (λ (x : Slots). added x element) (sym (elements_are bytes s read)) in
     let to_is : slotted_bytes (with_slots s new) ≡ element_added bytes element = new_bytes bytes s read new ∙ ap (λ (x : Slots × ℕ). element_bytes x.0) same in
     carried c.from_residual-in_err-splice-in-Some.result _ _ fault c.from_residual-in_err-splice-in-Some.ensures.1
-    (refuses_for (add_conditions bytes element) (referencing s.slots t) bytes (element_added bytes element) (slotted_bytes s) (slotted_bytes (with_slots s new))
+    (refuses_for (add_conditions bytes element) (element_reference_conditions s.slots t) bytes (element_added bytes element) (slotted_bytes s) (slotted_bytes (with_slots s new))
     (equal-decides bytes element s read t (sym c.in-Some.ensures) (too_long (element_added bytes element))) to_is fault c.in_err-splice-in-Some.ensures)
 
 pub returns-in_ok-splice-in-Some : goal.returns-in_ok-splice-in-Some
@@ -41,10 +41,10 @@ returns-in_ok-splice-in-Some c =
     let t : ℕ = c.in-Some.token.0 in
     let s = c.in_ok-slots.slots in
     let read = c.in_ok-slots.ensures in
-    let new : Slots = referenced s.slots t in
+    let new : Slots = element_with_reference s.slots t in
     let same : (new, t) ≡ added (elements_in bytes) element = sym (equal-added bytes element s read t (sym c.in-Some.ensures)) ∙ ap (λ (x : Slots). added x element) (sym (elements_are bytes s read)) in
     let to_is : slotted_bytes (with_slots s new) ≡ element_added bytes element = new_bytes bytes s read new ∙ ap (λ (x : Slots × ℕ). element_bytes x.0) same in (
-      replaces_for (add_conditions bytes element) (referencing s.slots t) bytes (element_added bytes element) (slotted_bytes s) (slotted_bytes (with_slots s new))
+      replaces_for (add_conditions bytes element) (element_reference_conditions s.slots t) bytes (element_added bytes element) (slotted_bytes s) (slotted_bytes (with_slots s new))
           (equal-decides bytes element s read t (sym c.in-Some.ensures) (too_long (element_added bytes element))) to_is read.1 c.in_ok-splice-in-Some.splice c.in_ok-splice-in-Some.ensures,
       ap (λ (x : Slots × ℕ). x.1) same,
     )
