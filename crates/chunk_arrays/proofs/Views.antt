@@ -186,6 +186,12 @@ module _ (bytes : List ℕ) (has : HasParts bytes) where
   unfolding array_of
   array_of-parts = cond-true _ _ _ (and_from (is_even (array_read bytes)) (same_bytes (array_bytes (array_read bytes)) bytes) even-read (subst (λ l. same_bytes l bytes ≡ true) (sym bytes-read) (same_bytes-refl bytes)))
 
+  pub few-read : length (array_read bytes).elements < 65536
+  few-read = let is = length-elements_read bytes in let few = word_at-lt bytes has.are_bytes 0 in omega (arith, is, few)
+
+  pub are_bytes-read : AreBytes (array_bytes (array_read bytes))
+  are_bytes-read = subst AreBytes (sym bytes-read) has.are_bytes
+
 -- The second half: an array's bytes have these parts.
 module _ (bytes : List ℕ) (are : AreBytes bytes) (even : is_even (array_read bytes) ≡ true) (same : array_bytes (array_read bytes) ≡ bytes) where
   spells : spelled (array_read bytes) ≡ bytes

@@ -116,7 +116,7 @@ pub fn zero(alloc: Global, bytes: &[u8]) -> Result<Splice, Fault>
 
 /// Whether these bytes can't be an element of the array since its elements have another size.
 fn has_other_size(view: &View<'_>, element: &[u8]) -> bool
-    ensures { result ≡ is_missized view.now.size element.now }
+    ensures { result ≡ is_missized view.now.array.size element.now }
 {
     let size = view.element_size();
     size != 0 && element.len() != size

@@ -8,12 +8,12 @@ use Rattle.chunk_arrays.proofs.edits.set.Goals as goal
 
 pub rewrite-requires-clause-even : goal.rewrite-requires-clause-even
 rewrite-requires-clause-even c =
-    let sized : is_missized c.in_ok-view.view.size c.args.element.now ≡ false = sym c.if-has_other_size.ensures in
-    even_with_one c.in_ok-view.view (c.in_ok-view.view).extra c.args.i (c.args.i + 1) _ c.args.element.now (array_bytes-of c.args.bytes.now c.in_ok-view.view c.in_ok-view.ensures).0 c.whole.ensures sized
+    let sized : is_missized c.in_ok-view.view.array.size c.args.element.now ≡ false = sym c.if-has_other_size.ensures in
+    even_with_one c.in_ok-view.view.array c.in_ok-view.view.array.extra c.args.i (c.args.i + 1) _ c.args.element.now (array_bytes-of c.args.bytes.now c.in_ok-view.view.array c.in_ok-view.ensures).0 c.whole.ensures sized
 
 pub returns : goal.returns
 returns c =
-    let a : Array = c.in_ok-view.view in
+    let a : Array = c.in_ok-view.view.array in
     let bytes : List ℕ = c.args.bytes.now in
     let i : ℕ = c.args.i in
     let element : List ℕ = c.args.element.now in
