@@ -1,25 +1,21 @@
 -- The slots that are read of an element array's bytes, and what is found of a token there.
-use Rattle.std.proofs.Common.{◌≡◌, ℕ, List, [], ◌++◌, true, Option, Some, None, unwrap_or, refl, sym, ap, ◌∙◌}
+use Rattle.std.proofs.Common.{◌≡◌, ℕ, List, [], ◌++◌, Option, Some, None, unwrap_or, refl, sym, ap, ◌∙◌}
 use Rattle.std.specs.Option.{option_map_or}
 use Rattle.geos_model.specs.Refusal.{Conditions, first_refusal}
 use Rattle.geos_model.specs.Array.{array_bytes}
-use Rattle.geos_model.specs.ElementArray.{Element, Slots, slots_array, element_array_of, element_bytes, element_at, is_sound}
+use Rattle.geos_model.specs.ElementArray.{Element, Slots, slots_array, element_array_of, element_bytes, element_at}
 use Rattle.geos_model.specs.ElementEdits.{no_slots, elements_in, count_at, bytes_at, on_elements, on_token}
 use Rattle.geos_model.specs.declared.fault.Fault.{Fault}
 use Rattle.geos_model.specs.declared.fault.Fault.TheVariants.{NoElement}
-use Rattle.geos_model.proofs.ElementArrays.{element_bytes-of}
-use Rattle.element_arrays.specs.Slotted.{Slotted, slotted_bytes, with_slots}
+use Rattle.element_arrays.specs.Slotted.{Slotted, slotted_bytes}
 
 -- In bytes that are read as slots.
-module _ (bytes : List ℕ) (s : Slotted) (read : (element_array_of bytes ≡ Some s.slots) × (slotted_bytes s ≡ bytes) × (s.more ≡ [])) where
+module _ (bytes : List ℕ) (s : Slotted) (read : (element_array_of bytes ≡ Some s.slots) × (slotted_bytes s.more s.slots ≡ bytes) × (s.more ≡ [])) where
   pub elements_are : elements_in bytes ≡ s.slots
   elements_are = ap (λ o. unwrap_or o (no_slots 0)) read.0
 
-  pub is_read_sound : is_sound s.slots ≡ true
-  is_read_sound = (element_bytes-of bytes s.slots read.0).0
-
   -- the bytes with other slots
-  pub new_bytes : (slots : Slots) → slotted_bytes (with_slots s slots) ≡ element_bytes slots
+  pub new_bytes : (slots : Slots) → slotted_bytes s.more slots ≡ element_bytes slots
   unfolding slotted_bytes element_bytes
   new_bytes slots = ap (λ (more : List ℕ). array_bytes (slots_array more slots)) read.2
 

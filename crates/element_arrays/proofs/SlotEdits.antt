@@ -125,11 +125,11 @@ sized-slots n k sized one = elim (cases_Bool (n == 0)) [
   | inr some ↦ sized some ∙ sym (cond-false (n == 0) 0 (n + 3) some)
 ]
 
-pub is_even-slots : (more : List ℕ) (s : Slots) (v : Array) (extra : List ℕ) (from to : ℕ) (y : List ℕ) → v ≡ slots_array more s → is_even (slots_array more s) ≡ true → ((s.size == 0) ≡ false → length y ≡ s.size + 3) → is_even (put v extra from to y) ≡ true
+pub is_even-slots : (more : List ℕ) (s : Slots) (v : Array) (extra : List ℕ) (from to : ℕ) (y : List ℕ) → v ≡ slots_array more s → is_even v ≡ true → ((s.size == 0) ≡ false → length y ≡ s.size + 3) → is_even (put v extra from to y) ≡ true
 unfolding slots_array
 is_even-slots more s v extra from to y is even sized =
     subst (λ a. is_even (put a extra from to y) ≡ true) (sym is)
-    (is_even-put (slots_array more s) extra from to y even (sized-slots s.size (length y) sized))
+    (is_even-put (slots_array more s) extra from to y (ap is_even (sym is) ∙ even) (sized-slots s.size (length y) sized))
 
 -- Of the slots of an array.
 

@@ -5,7 +5,7 @@ ghost use Rattle.geos_model.specs.ElementEdits.{no_slots, element_added, token_a
 ghost use Rattle.chunk_edits.specs.Splicing.{RefusesToBuild};
 ghost use Rattle.chunk_arrays.specs.Replacing.{Replaces, RefusesToReplace};
 ghost use Rattle.geos_model.specs.ArrayEdits.{is_missized};
-ghost use Rattle.element_arrays.specs.Slotted.{slotted_bytes, with_slots};
+ghost use Rattle.element_arrays.specs.Slotted.{slotted_bytes};
 ghost use Rattle.element_arrays.specs.Referencing.{element_with_reference, element_reference_conditions};
 
 use crate::SlotView;
@@ -115,10 +115,9 @@ pub fn change(alloc: Global, bytes: &[u8], token: Token, element: &[u8]) -> Resu
 /// The splice that gives an element one more reference. NoElement; CountFull where it has as many as any can have; Full where
 /// the array is longer than any chunk.
 fn with_reference(alloc: Global, slots: &SlotView<'_>, token: Token) -> Result<Splice, Fault>
-    requires { is_sound slots.now.slots ≡ true }
     ensures { MatchResult result
-        (Replaces (element_reference_conditions slots.now.slots token.0) (slotted_bytes slots.now) (slotted_bytes (with_slots slots.now (element_with_reference slots.now.slots token.0))))
-        (RefusesToReplace (element_reference_conditions slots.now.slots token.0) (slotted_bytes (with_slots slots.now (element_with_reference slots.now.slots token.0)))) }
+        (Replaces (element_reference_conditions slots.now.slots token.0) (slotted_bytes slots.now.more slots.now.slots) (slotted_bytes slots.now.more (element_with_reference slots.now.slots token.0)))
+        (RefusesToReplace (element_reference_conditions slots.now.slots token.0) (slotted_bytes slots.now.more (element_with_reference slots.now.slots token.0))) }
 {
     let used = used_at(slots, token)?;
     if used.count == GREATEST_COUNT {

@@ -33,8 +33,7 @@ pub fn used_count(bytes: &[u8]) -> Result<usize, Fault>
         (IsRefused (on_elements bytes.now)) }
 {
     let slots = read(bytes)?;
-    let len = slots.len() as u16;
-    Ok(used_up_to(&slots, len))
+    Ok(used_up_to(&slots, slots.len()))
 }
 
 /// The token of the used element that has this number, from 0 on. NotArray, NoElement.
@@ -44,9 +43,8 @@ pub fn token_of_used(bytes: &[u8], k: u32) -> Result<Token, Fault>
         (IsRefused (on_used bytes.now k)) }
 {
     let slots = read(bytes)?;
-    let len = slots.len() as u16;
     let mut left = k;
-    for i in 0..len {
+    for i in 0..slots.len() {
         let token = Token(i);
         if slots.element(token).is_some() {
             if left == 0 {

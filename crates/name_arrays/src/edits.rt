@@ -111,7 +111,7 @@ fn with_reference(
 ) -> Result<Splice, Fault>
     requires { is_some (element_at names.now.slots.slots token.0) ≡ true }
     ensures { MatchResult result
-        (Replaces (name_reference_conditions (named_array names.now.slots names.now.part) part.now token.0) (slotted_bytes names.now.slots) (name_bytes_with_reference (named_array names.now.slots names.now.part) part.now replace token.0))
+        (Replaces (name_reference_conditions (named_array names.now.slots names.now.part) part.now token.0) (slotted_bytes names.now.slots.more names.now.slots.slots) (name_bytes_with_reference (named_array names.now.slots names.now.part) part.now replace token.0))
         (RefusesToReplace (name_reference_conditions (named_array names.now.slots names.now.part) part.now token.0) (name_bytes_with_reference (named_array names.now.slots names.now.part) part.now replace token.0)) }
 {
     let old = names.name(token)?;

@@ -40,7 +40,7 @@ returns-in_err-splice-in-Some c =
     let to : List ℕ = name_added bytes text part c.args.replace in
     let is : token_of_text a text ≡ Some t = sym c.in-Some.ensures in
     carried c.from_residual-in_err-splice-in-Some.result _ _ c.in_err-splice-in-Some.field-0.0 c.from_residual-in_err-splice-in-Some.ensures.1
-    (refuses_for (add_name_conditions bytes text part) (name_reference_conditions a part t) bytes to (slotted_bytes s) (name_bytes_with_reference a part c.args.replace t)
+    (refuses_for (add_name_conditions bytes text part) (name_reference_conditions a part t) bytes to (slotted_bytes s.more s.slots) (name_bytes_with_reference a part c.args.replace t)
     (decides bytes s size c.in_ok-names.ensures c.in_ok-names.names.sound text part to t is)
     (added_found bytes s size c.in_ok-names.ensures text part c.args.replace t is)
     c.in_err-splice-in-Some.field-0.0 c.in_err-splice-in-Some.ensures)
@@ -56,7 +56,7 @@ returns-in_ok-splice-in-Some c =
     let part : List ℕ = c.args.part.now in
     let to : List ℕ = name_added bytes text part c.args.replace in
     let is : token_of_text a text ≡ Some t = sym c.in-Some.ensures in (
-      replaces_for (add_name_conditions bytes text part) (name_reference_conditions a part t) bytes to (slotted_bytes s) (name_bytes_with_reference a part c.args.replace t)
+      replaces_for (add_name_conditions bytes text part) (name_reference_conditions a part t) bytes to (slotted_bytes s.more s.slots) (name_bytes_with_reference a part c.args.replace t)
           (decides bytes s size c.in_ok-names.ensures c.in_ok-names.names.sound text part to t is)
           (added_found bytes s size c.in_ok-names.ensures text part c.args.replace t is)
           c.in_ok-names.ensures.same

@@ -30,6 +30,6 @@ returns c =
       | then-replace w ↦ ap (λ r. r.now) w.head-is ∙ sym (cond-true c.args.replace part (part_at a t) w.if-replace.true)
       | else-replace w ↦ ap (λ r. r.now) w.head-is ∙ sym c.in_ok-old.ensures.part ∙ sym (cond-false c.args.replace part (part_at a t) w.if-replace.false)
     ] in
-    slots_handed_on (name_reference_conditions a part t) s (with_element s.slots t (c.in_ok-old.old.count + 1) (c.if-replace.head.now ++ c.in_ok-old.old.text.now)) (slotted_bytes s) (name_bytes_with_reference a part c.args.replace t) none refl
+    slots_handed_on (name_reference_conditions a part t) s (with_element s.slots t (c.in_ok-old.old.count + 1) (c.if-replace.head.now ++ c.in_ok-old.old.text.now)) (slotted_bytes s.more s.slots) (name_bytes_with_reference a part c.args.replace t) none refl
     (bytes_with s c.args.names.now.part c.args.names.now.more t _ _ _ _ (ap (λ (n : ℕ). n + 1) (sym c.in_ok-old.ensures.count)) (ap₂ (λ (x y : List ℕ). x ++ y) head (sym c.in_ok-old.ensures.text)))
     c.with_element.result c.with_element.ensures
