@@ -1,5 +1,5 @@
 -- A heap over its table: what each call does to the table is what it does to the finite map.
-use Rattle.std.proofs.Common.{◌≡◌, ℕ, ◌+◌, ◌-◌, ◌*◌, ◌/◌, ◌%◌, ◌<◌, ◌≤◌, ◌≢◌, true, false, nat_le, max, min, List, [], ◌∷◌, ◌++◌, map, length, get_or, set, take, drop, replicate, Option, Some, None, is_some, unwrap_or, flat_map, ◌==◌, refl, sym, ap, subst, ◌∙◌, inl, inr, arith, length-append}
+use Rattle.std.proofs.Common.{◌≡◌, ℕ, ◌+◌, ◌-◌, ◌*◌, ◌/◌, ◌<◌, ◌≤◌, ◌≢◌, true, false, nat_le, max, min, List, [], ◌∷◌, ◌++◌, map, length, get_or, set, take, drop, replicate, Option, Some, None, is_some, unwrap_or, flat_map, ◌==◌, refl, sym, ap, subst, ◌∙◌, inl, inr, arith, length-append}
 use Rattle.std.proofs.lemmas.Bool.{cases_lt, cases_eq, cond-true, cond-false, lt-ltb, le-ltb, leb-true, ne_eqb}
 use Rattle.std.proofs.lemmas.List.{length-replicate, length-set, append-nil, take_more, take_all, length-take, length-take-le, length-drop}
 use Rattle.std.proofs.lemmas.List.Sums.{sum_by-cons, sum_by-set, sum_by_more}
@@ -13,7 +13,8 @@ use Rattle.geos_model.specs.Image.{image}
 use Rattle.geos_model.specs.declared.command.Body.TheVariants as bodies
 use Rattle.geos_model.proofs.Tables.{slot_at_within, slots_to, length-slots_to, slot_at-slots_to, put_at, put_at-within, length-put_at, table_map-same, table_map-cut, table_map-put, table_map-clear, next_chunk-table, get-table_map_at, get-table_map_off, first_gap_none, first_gap-take, first_gap-clear, first_gap-put_other, keys-table_map}
 use Rattle.geos_model.proofs.HeapTables.{need-table, image-table, slot_size_word, slot_bytes, trimmed-put, is_heap_map-trimmed, live_handle, space-same, slot_space_le, is_chunk_handle-parts, need_le, heap_map-table, space_of_ge}
-use Rattle.raw_region.specs.Bytes.{word_bytes}
+use Rattle.geos_model.specs.Words.{word, word_at}
+use Rattle.geos_model.proofs.Images.{word-reads_back}
 use Rattle.lmem_heap.specs.Packed.{Slots, heads, chunks, packed, slots_in}
 use Rattle.lmem_heap.specs.Slots.{space_in}
 use Rattle.lmem_heap.proofs.Packing.{length-packed, slots_in-packed, slot_some, slot_length, length-chunks-set}
@@ -64,26 +65,21 @@ next_at t gap h b m shows first at fit =
 
 -- ---- the image
 
-heads-sizes : (t : Slots) → length (chunks t) < 65535 → flat_map slot_size_word t ≡ heads t
-heads-sizes [] small = refl
-heads-sizes (None ∷ t) small = ap (λ (l : List ℕ). 255 ∷ 255 ∷ l) (heads-sizes t small)
-heads-sizes (Some b ∷ t) small =
-    let both = length-append b (chunks t) in let n = length b in
-    let high : n / 256 % 256 ≡ n / 256 = omega arith in
-    ap (λ (x : ℕ). n % 256 ∷ x ∷ flat_map slot_size_word t) high ∙ ap (λ (l : List ℕ). n % 256 ∷ n / 256 ∷ l) (heads-sizes t (omega arith))
+heads-sizes : (t : Slots) → flat_map slot_size_word t ≡ heads t
+heads-sizes [] = refl
+heads-sizes (None ∷ t) = ap (λ (l : List ℕ). word 65535 ++ l) (heads-sizes t)
+heads-sizes (Some b ∷ t) = ap (λ (l : List ℕ). word (length b) ++ l) (heads-sizes t)
 
 chunks-bytes : (t : Slots) → flat_map slot_bytes t ≡ chunks t
 chunks-bytes [] = refl
 chunks-bytes (None ∷ t) = chunks-bytes t
 chunks-bytes (Some b ∷ t) = ap (λ (l : List ℕ). b ++ l) (chunks-bytes t)
 
-pub image_is : (t : Slots) → IsTrimmed t → need_in t ≤ 65520 → image (bodies.Heap (table_map 2 16 t)) ≡ 1 ∷ word_bytes (length t) ++ packed t
+pub image_is : (t : Slots) → IsTrimmed t → image (bodies.Heap (table_map 2 16 t)) ≡ 1 ∷ word (length t) ++ packed t
 unfolding packed
-image_is t trimmed room =
-    let small : length (chunks t) < 65535 = omega (arith, length-chunks_le t) in
-    let n = length t in let high : n / 256 % 256 ≡ n / 256 = omega arith in
-    image-table t trimmed ∙ (ap (λ (x : ℕ). 1 ∷ n % 256 ∷ x ∷ (flat_map slot_size_word t ++ flat_map slot_bytes t)) high
-    ∙ (ap (λ (l : List ℕ). 1 ∷ word_bytes n ++ (l ++ flat_map slot_bytes t)) (heads-sizes t small) ∙ ap (λ (l : List ℕ). 1 ∷ word_bytes n ++ (heads t ++ l)) (chunks-bytes t)))
+image_is t trimmed =
+    let front = 1 ∷ word (length t) in
+    image-table t trimmed ∙ (ap (λ (l : List ℕ). front ++ (l ++ flat_map slot_bytes t)) (heads-sizes t) ∙ ap (λ (l : List ℕ). front ++ (heads t ++ l)) (chunks-bytes t))
 
 -- tables with the same bytes are one
 pub packed_same : (s t : Slots) → length (chunks s) < 65535 → length (chunks t) < 65535 → length s ≡ length t → packed s ≡ packed t → s ≡ t
@@ -260,13 +256,11 @@ size_le t i size l is =
 
 -- ---- an image, part by part
 
-pub image_made : (t : Slots) (n : ℕ) (a b c d low bytes : List ℕ) → a ≡ [] → b ≡ a ++ 1 ∷ [] → c ≡ b ++ low → low ≡ n % 256 ∷ n / 256 % 256 ∷ [] → d ≡ c ++ bytes → bytes ≡ packed t → n ≡ length t
-    → IsTrimmed t → need_in t ≤ 65520 → d ≡ image (bodies.Heap (table_map 2 16 t))
-image_made t n a b c d low bytes a_is b_is c_is low_is d_is bytes_is count trimmed room =
-    let high : n / 256 % 256 ≡ n / 256 = omega arith in
-    let words : low ≡ word_bytes (length t) = low_is ∙ (ap (λ (x : ℕ). n % 256 ∷ x ∷ []) high ∙ ap word_bytes count) in
-    d_is ∙ (ap (λ (l : List ℕ). l ++ bytes) (c_is ∙ (ap (λ (l : List ℕ). l ++ low) (b_is ∙ ap (λ (l : List ℕ). l ++ 1 ∷ []) a_is) ∙ ap (λ (l : List ℕ). 1 ∷ l) words))
-    ∙ (ap (λ (l : List ℕ). (1 ∷ word_bytes (length t)) ++ l) bytes_is ∙ sym (image_is t trimmed room)))
+pub image_made : (t : Slots) (n : ℕ) (a b c d low bytes : List ℕ) → a ≡ [] → b ≡ a ++ 1 ∷ [] → c ≡ b ++ low → low ≡ word n → d ≡ c ++ bytes → bytes ≡ packed t → n ≡ length t
+    → IsTrimmed t → d ≡ image (bodies.Heap (table_map 2 16 t))
+image_made t n a b c d low bytes a_is b_is c_is low_is d_is bytes_is count trimmed =
+    d_is ∙ (ap (λ (l : List ℕ). l ++ bytes) (c_is ∙ (ap (λ (l : List ℕ). l ++ low) (b_is ∙ ap (λ (l : List ℕ). l ++ 1 ∷ []) a_is) ∙ ap (λ (l : List ℕ). 1 ∷ l) (low_is ∙ ap word count)))
+    ∙ (ap (λ (l : List ℕ). (1 ∷ word (length t)) ++ l) bytes_is ∙ sym (image_is t trimmed)))
 
 pub space_of_at_most : (n : ℕ) → space_of n ≤ n + 8
 space_of_at_most n = elim (cases_eq n 0) [
@@ -304,13 +298,13 @@ abbrev pub NoImage : List ℕ → Type 0
 NoImage bytes = (m : ChunkMap) → is_heap_map m ≡ true → image (bodies.Heap m) ≡ bytes → ⊥
 
 -- a heap's image, by its table
-image_parts : (m : ChunkMap) → is_heap_map m ≡ true → (t : Slots) × IsTrimmed t × (need_in t ≤ 65520) × (image (bodies.Heap m) ≡ 1 ∷ word_bytes (length t) ++ packed t)
+image_parts : (m : ChunkMap) → is_heap_map m ≡ true → (t : Slots) × IsTrimmed t × (need_in t ≤ 65520) × (image (bodies.Heap m) ≡ 1 ∷ word (length t) ++ packed t)
 image_parts m heap =
     let shown = heap_map-table m heap in let t = shown.0 in
     let room : need_in t ≤ 65520 = omega (arith, need_is t shown.1, ap need shown.2, need_le m heap) in
-    (t, shown.1, room, ap (λ (x : ChunkMap). image (bodies.Heap x)) shown.2 ∙ image_is t shown.1 room)
+    (t, shown.1, room, ap (λ (x : ChunkMap). image (bodies.Heap x)) shown.2 ∙ image_is t shown.1)
 
-pub no_image_begin : (bytes : List ℕ) → ((n : ℕ) (rest : List ℕ) → bytes ≡ 1 ∷ word_bytes n ++ rest → ⊥) → NoImage bytes
+pub no_image_begin : (bytes : List ℕ) → ((n : ℕ) (rest : List ℕ) → bytes ≡ 1 ∷ word n ++ rest → ⊥) → NoImage bytes
 no_image_begin bytes other m heap is = let parts = image_parts m heap in other (length parts.0) (packed parts.0) (sym is ∙ parts.3)
 
 packed_short : (t : Slots) → need_in t ≤ 65520 → length (packed t) ≤ 65504
@@ -322,31 +316,30 @@ no_image_long bytes long m heap is =
     absurd (omega (arith, packed_short parts.0 parts.2, ap length (sym is ∙ parts.3)))
 
 -- an image of a table of n slots
-same_parts : (n : ℕ) (bytes : List ℕ) (t : Slots) → bytes ≡ 1 ∷ word_bytes n ++ drop 3 bytes → bytes ≡ 1 ∷ word_bytes (length t) ++ packed t → (length t ≡ n) × (packed t ≡ drop 3 bytes)
-same_parts n bytes t begins is =
-    let e : 1 ∷ word_bytes (length t) ++ packed t ≡ 1 ∷ word_bytes n ++ drop 3 bytes = sym is ∙ begins in
-    let low : length t % 256 ≡ n % 256 = ap (λ (l : List ℕ). get_or l 1 0) e in
-    let high : length t / 256 ≡ n / 256 = ap (λ (l : List ℕ). get_or l 2 0) e in
-    (omega arith, sym (ap (drop 3) is))
+same_parts : (n : ℕ) (bytes : List ℕ) (t : Slots) → n < 65536 → length t < 65536 → bytes ≡ 1 ∷ word n ++ drop 3 bytes → bytes ≡ 1 ∷ word (length t) ++ packed t → (length t ≡ n) × (packed t ≡ drop 3 bytes)
+same_parts n bytes t n_word t_word begins is =
+    let e : 1 ∷ word (length t) ++ packed t ≡ 1 ∷ word n ++ drop 3 bytes = sym is ∙ begins in
+    let same : length t ≡ n = sym (word-reads_back (length t) (packed t) t_word) ∙ (ap (λ (l : List ℕ). word_at l 1) e ∙ word-reads_back n (drop 3 bytes) n_word) in
+    (same, sym (ap (drop 3) is))
 
-pub no_image_table : (n : ℕ) (bytes rest : List ℕ) → bytes ≡ 1 ∷ word_bytes n ++ drop 3 bytes → rest ≡ drop 3 bytes → ((t : Slots) → length t ≡ n → packed t ≡ rest → ⊥) → NoImage bytes
-no_image_table n bytes rest begins behind none m heap is =
-    let parts = image_parts m heap in
-    let same = same_parts n bytes parts.0 begins (sym is ∙ parts.3) in
+pub no_image_table : (n : ℕ) (bytes rest : List ℕ) → n < 65536 → bytes ≡ 1 ∷ word n ++ drop 3 bytes → rest ≡ drop 3 bytes → ((t : Slots) → length t ≡ n → packed t ≡ rest → ⊥) → NoImage bytes
+no_image_table n bytes rest n_word begins behind none m heap is =
+    let parts = image_parts m heap in let room = parts.2 in
+    let same = same_parts n bytes parts.0 n_word (omega arith) begins (sym is ∙ parts.3) in
     none parts.0 same.0 (same.1 ∙ sym behind)
 
-pub no_image_heap : (n : ℕ) (bytes rest : List ℕ) (t : Slots) → bytes ≡ 1 ∷ word_bytes n ++ drop 3 bytes → rest ≡ drop 3 bytes → length rest ≤ 65520 → length t ≡ n → packed t ≡ rest → (IsTrimmed t → need_in t ≤ 65520 → ⊥) → NoImage bytes
-no_image_heap n bytes rest t begins behind short count is_rest none m heap is =
-    let parts = image_parts m heap in let s = parts.0 in
-    let same = same_parts n bytes s begins (sym is ∙ parts.3) in
+pub no_image_heap : (n : ℕ) (bytes rest : List ℕ) (t : Slots) → n < 65536 → bytes ≡ 1 ∷ word n ++ drop 3 bytes → rest ≡ drop 3 bytes → length rest ≤ 65520 → length t ≡ n → packed t ≡ rest → (IsTrimmed t → need_in t ≤ 65520 → ⊥) → NoImage bytes
+no_image_heap n bytes rest t n_word begins behind short count is_rest none m heap is =
+    let parts = image_parts m heap in let s = parts.0 in let room = parts.2 in
+    let same = same_parts n bytes s n_word (omega arith) begins (sym is ∙ parts.3) in
     let both : packed s ≡ packed t = same.1 ∙ (sym behind ∙ sym is_rest) in
     let there : s ≡ t = packed_same s t (omega (arith, length-chunks_le s, parts.2)) (omega (arith, length-packed t, ap length is_rest)) (same.0 ∙ sym count) both in
     none (subst (λ (x : Slots). IsTrimmed x) there parts.1) (subst (λ (x : Slots). need_in x ≤ 65520) there parts.2)
 
 -- the heap of a table whose bytes stand behind the table's length
-pub image_again : (n : ℕ) (bytes rest : List ℕ) (t : Slots) (m : ChunkMap) → bytes ≡ 1 ∷ word_bytes n ++ drop 3 bytes → rest ≡ drop 3 bytes → length t ≡ n → packed t ≡ rest → m ≡ table_map 2 16 t → IsTrimmed t → need_in t ≤ 65520
+pub image_again : (n : ℕ) (bytes rest : List ℕ) (t : Slots) (m : ChunkMap) → bytes ≡ 1 ∷ word n ++ drop 3 bytes → rest ≡ drop 3 bytes → length t ≡ n → packed t ≡ rest → m ≡ table_map 2 16 t → IsTrimmed t → need_in t ≤ 65520
     → (image (bodies.Heap m) ≡ bytes) × (is_heap_map m ≡ true)
 image_again n bytes rest t m begins behind count is_rest shows trimmed room = (
-  ap (λ (x : ChunkMap). image (bodies.Heap x)) shows ∙ (image_is t trimmed room ∙ (ap (λ (k : ℕ). 1 ∷ word_bytes k ++ packed t) count ∙ (ap (λ (l : List ℕ). 1 ∷ word_bytes n ++ l) (is_rest ∙ behind) ∙ sym begins))),
+  ap (λ (x : ChunkMap). image (bodies.Heap x)) shows ∙ (image_is t trimmed ∙ (ap (λ (k : ℕ). 1 ∷ word k ++ packed t) count ∙ (ap (λ (l : List ℕ). 1 ∷ word n ++ l) (is_rest ∙ behind) ∙ sym begins))),
   ap is_heap_map shows ∙ is_heap t trimmed room,
 )

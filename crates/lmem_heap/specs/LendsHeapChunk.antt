@@ -7,8 +7,8 @@ use Rattle.raw_region.specs.Bytes.{put}
 use Rattle.lmem_heap.specs.contracts.heap.Heap.{the_row}
 
 -- the heap with bytes written over a chunk's
-abbrev pub with_chunk : ChunkMap → ℕ → List ℕ → ChunkMap
-with_chunk m h bytes = insert m h (put (chunk_bytes m h) 0 bytes)
+abbrev pub chunk_written : ChunkMap → ℕ → List ℕ → ChunkMap
+chunk_written m h bytes = insert m h (put (chunk_bytes m h) 0 bytes)
 
 abbrev pub lends_chunk : MutBor ChunkMap → ℕ → MutBor (List ℕ) → Fml
-lends_chunk heap h chunk = Lends the_row (Array u8 0) heap chunk (with_chunk heap.now h)
+lends_chunk heap h chunk = Lends the_row (Array u8 0) heap chunk (chunk_written heap.now h)

@@ -7,7 +7,7 @@ ghost use Rattle.geos_model.specs.Heap.{ChunkMap, need, chunk_bytes, next_chunk,
 ghost use Rattle.geos_model.specs.Bytes.{resized};
 ghost use Rattle.geos_model.proofs.Table.{table_map, first_gap, IsTrimmed};
 ghost use Rattle.lmem_heap.specs.Slots.{space_in};
-ghost use Rattle.raw_region.specs.Bytes.{word_bytes};
+ghost use Rattle.geos_model.specs.Words.{word};
 ghost use Rattle.geos_model.specs.Image.{image};
 ghost use Rattle.geos_model.specs.declared.command.Body.TheVariants as bodies;
 
@@ -316,8 +316,8 @@ impl Heap {
 /// The table length that an image begins with; None where the bytes are no heap's image.
 fn image_slots(bytes: &[u8]) -> Option<usize>
     ensures { MatchOption result
-        ((n : ℕ) (rest : List ℕ) → bytes.now ≡ 1 ∷ word_bytes n ++ rest → ⊥)
-        (λ n. (n < 65536) × (bytes.now ≡ 1 ∷ word_bytes n ++ drop 3 bytes.now)) }
+        ((n : ℕ) (rest : List ℕ) → bytes.now ≡ 1 ∷ word n ++ rest → ⊥)
+        (λ n. (n < 65536) × (bytes.now ≡ 1 ∷ word n ++ drop 3 bytes.now)) }
 {
     match bytes {
         [HEAP_KIND, low, high, ..] => Some(*low as usize + 256 * *high as usize),

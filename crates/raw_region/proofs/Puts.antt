@@ -1,11 +1,14 @@
--- What callers of a region need of `put`, `slice_range` and `word_at`.
-use Rattle.std.proofs.Common.{◌≡◌, ℕ, suc, ◌+◌, ◌-◌, ◌/◌, ◌%◌, ◌<◌, ◌≤◌, List, [], ◌∷◌, ◌++◌, length, take, drop, get_or, arith, refl, sym, ap, ◌∙◌, inl, inr, append_assoc, length-append, length-take, length-drop, slice_range, replicate}
-use Rattle.std.specs.List.{copy_within}
+-- What callers of a region need of `put`, `slice_range`, `splice` and `word_at`.
+use Rattle.std.proofs.Common.{◌≡◌, ℕ, suc, ◌+◌, ◌*◌, ◌-◌, ◌≤◌, List, [], ◌∷◌, ◌++◌, length, take, drop, get_or, arith, refl, sym, ap, ◌∙◌, inl, inr, append_assoc, length-append, length-take, length-drop, slice_range, replicate}
+use Rattle.std.specs.List.{copy_within, splice}
 use Rattle.std.proofs.lemmas.Bool.{cases_lt}
-use Rattle.std.proofs.lemmas.List.{take-append-drop, length-replicate, replicate-append-replicate, drop_all, take_all, append-nil, length-take-le, take_at, take-append-le, take-take, drop_at, drop-drop, drop-take, get_or_append_left, get_or-take, get_or-drop}
-use Rattle.std.proofs.lemmas.List.Edits.{length-between, split_between, get_or-between}
+use Rattle.std.proofs.lemmas.List.{length-replicate, drop_all, take_all, append-nil, length-take-le, take_at, take-append-le, take-take, drop_at, drop-drop, drop-take, get_or-take, get_or-drop}
+use Rattle.std.proofs.lemmas.List.Edits.{length-between}
 use Rattle.std.proofs.lemmas.Slice.{between_to_end, between_is}
-use Rattle.raw_region.specs.Bytes.{put, splice, word_at, word_bytes}
+use Rattle.byteorder.specs.Endian.{little_number}
+use Rattle.byteorder.specs.Numbers.{little_from-take}
+use Rattle.geos_model.specs.Words.{word_at}
+use Rattle.raw_region.specs.Bytes.{put}
 
 take-append-add : (xs ys : List ℕ) (k : ℕ) → take (length xs + k) (xs ++ ys) ≡ xs ++ take k ys
 take-append-add [] ys k = let e : 0 + k ≡ k = omega arith in ap (λ (n : ℕ). take n ys) e
@@ -50,35 +53,9 @@ module _ (xs ws : List ℕ) (at : ℕ) where
     pub slice-put_past : (i j : ℕ) → at + length ws ≤ i → slice_range (put xs at ws) i j ≡ slice_range xs i j
     slice-put_past i j past = ap (λ (l : List ℕ). take (j - i) l) (drop-put_past i past)
 
-    -- a byte before the run, in it and past it
-    pub get_or-put_before : (k d : ℕ) → k < at → get_or (put xs at ws) k d ≡ get_or xs k d
-    get_or-put_before k d before = ap (λ (l : List ℕ). get_or l k d) put_is ∙ (get_or_append_left (take at xs) (ws ++ drop (at + length ws) xs) d k (omega (arith, length-take at xs)) ∙ get_or-take at xs k d before)
-
-    pub get_or-put : (k d : ℕ) → k < length ws → get_or (put xs at ws) (at + k) d ≡ get_or ws k d
-    get_or-put k d inside = sym (get_or-drop at (put xs at ws) k d) ∙ (ap (λ (l : List ℕ). get_or l k d) drop-put ∙ get_or_append_left ws (drop (at + length ws) xs) d k inside)
-
-    pub get_or-put_past : (k d : ℕ) → at + length ws ≤ k → get_or (put xs at ws) k d ≡ get_or xs k d
-    get_or-put_past k d past = let is : k + 0 ≡ k = omega arith in
-        ap (λ (j : ℕ). get_or (put xs at ws) j d) (sym is) ∙ (sym (get_or-drop k (put xs at ws) 0 d) ∙ (ap (λ (l : List ℕ). get_or l 0 d) (drop-put_past k past) ∙ (get_or-drop k xs 0 d ∙ ap (λ (j : ℕ). get_or xs j d) is)))
-
-    -- a word before the run and past it
-    pub word-put_before : (i : ℕ) → i + 2 ≤ at → word_at (put xs at ws) i ≡ word_at xs i
-    word-put_before i before = rw (get_or-put_before i 0 (omega arith), get_or-put_before (i + 1) 0 (omega arith)) refl
-
-    pub word-put_past : (i : ℕ) → at + length ws ≤ i → word_at (put xs at ws) i ≡ word_at xs i
-    word-put_past i past = rw (get_or-put_past i 0 past, get_or-put_past (i + 1) 0 (omega arith)) refl
-
--- the next run, and the same run again
-module _ (xs ws vs : List ℕ) (at : ℕ) where
-  pub put-next : (n : ℕ) → n ≡ at + length ws → n + length vs ≤ length xs → put (put xs at ws) n vs ≡ put xs at (ws ++ vs)
-  put-next n e le =
-      let first : at + length ws ≤ length xs = omega arith in
-      let j_is : n + length vs ≡ at + length (ws ++ vs) = omega (arith, length-append ws vs) in
-      put_is (put xs at ws) vs n (omega (arith, length-put xs ws at)) ∙ rw (take-put_to xs ws at first n e, drop-put_past xs ws at first (n + length vs) (omega arith), put_is xs (ws ++ vs) at (omega arith))
-      (simp append_assoc (ap (λ (j : ℕ). take at xs ++ (ws ++ (vs ++ drop j xs))) j_is))
-
-  pub put-again : at + length ws ≤ length xs → length vs ≡ length ws → put (put xs at ws) at vs ≡ put xs at vs
-  put-again le same = put_is (put xs at ws) vs at (omega (arith, length-put xs ws at)) ∙ rw (take-put xs ws at le at (omega arith), drop-put_past xs ws at le (at + length vs) (omega arith), put_is xs vs at (omega arith)) refl
+-- two runs, one after the other
+pub length-put_twice : (xs ys zs vs ws : List ℕ) (i j : ℕ) → ys ≡ put xs i vs → zs ≡ put ys j ws → length zs ≡ length xs
+length-put_twice xs ys zs vs ws i j first second = ap length second ∙ (length-put ys ws j ∙ (ap length first ∙ length-put xs vs i))
 
 -- bytes over all others are cut to their length
 pub put-cut : (xs ws : List ℕ) → put xs 0 (take (length xs) ws) ≡ put xs 0 ws
@@ -90,30 +67,10 @@ put-cut xs ws = let n = length xs in let cut = take n ws in elim (cases_lt n (le
   | inr short ↦ ap (λ (l : List ℕ). take n (l ++ drop (0 + length l) xs)) (take_all n ws short)
 ]
 
--- no bytes, and more zeros behind zeros
-pub put-none : (xs : List ℕ) (at : ℕ) → put xs at [] ≡ xs
-unfolding put
-put-none xs at = ap (λ (l : List ℕ). take (length xs) l) (ap (λ (n : ℕ). take at xs ++ drop n xs) (omega arith) ∙ take-append-drop at xs) ∙ take_all (length xs) xs (omega arith)
-
-pub put-zeros : (xs : List ℕ) (at n k m : ℕ) → m ≡ at + n → m + k ≤ length xs → put (put xs at (replicate n 0)) m (replicate k 0) ≡ put xs at (replicate (n + k) 0)
-put-zeros xs at n k m e le = put-next xs (replicate n 0) (replicate k 0) at m (omega (arith, length-replicate {A = ℕ} n 0)) (omega (arith, length-replicate {A = ℕ} k 0)) ∙ ap (λ (l : List ℕ). put xs at l) (replicate-append-replicate n k 0)
-
--- a word reads back
-pub word-put_word : (xs : List ℕ) (at v : ℕ) → at + 2 ≤ length xs → word_at (put xs at (word_bytes v)) at ≡ v
-word-put_word xs at v within =
-    let P = put xs at (word_bytes v) in let is : at + 0 ≡ at = omega arith in
-    let low : get_or P at 0 ≡ v % 256 = ap (λ (j : ℕ). get_or P j 0) (sym is) ∙ get_or-put xs (word_bytes v) at within 0 0 (omega arith) in
-    let high : get_or P (at + 1) 0 ≡ v / 256 = get_or-put xs (word_bytes v) at within 1 0 (omega arith) in
-    omega (arith, low, high)
-
--- a run that is put back
-pub put-slice : (xs : List ℕ) (i j : ℕ) → i ≤ j → j ≤ length xs → put xs i (slice_range xs i j) ≡ xs
-put-slice xs i j le within = put_is xs (slice_range xs i j) i (omega (arith, length-between xs i j within)) ∙ (ap (λ (m : ℕ). take i xs ++ (slice_range xs i j ++ drop m xs)) (omega (arith, length-between xs i j within)) ∙ sym (split_between xs i j le))
-
 -- `splice`, done by a slide of the tail and a copy
 pub spliced : (xs ys zs ws b : List ℕ) (len at k n : ℕ) → len ≤ length xs → b ≡ take len xs → at + k ≤ len → len + length ws ≤ length xs + k
     → ys ≡ put xs (at + length ws) (slice_range xs (at + k) (at + k + (len - (at + k)))) → zs ≡ put ys at ws → n ≡ at + length ws + (len - (at + k))
-    → take n zs ≡ splice b at k ws
+    → take n zs ≡ splice b at (at + k) ws
 spliced xs ys zs ws b len at k n short is within room slid copied count =
     let m = length ws in let s = at + k in let A = take at xs in let T = slice_range xs s (s + (len - s)) in let D = drop (at + m + length T) xs in
     let end : s + (len - s) ≡ len = omega arith in let long = length-between xs s (s + (len - s)) (omega arith) in let le : at + m + length T ≤ length xs = omega arith in
@@ -147,21 +104,31 @@ slice-take xs b i j len short is within =
     let used : length b ≡ len = ap length is ∙ length-take-le len xs short in
     between_is xs i j ∙ (ap (λ (l : List ℕ). drop i l) (sym (take-take j len xs (omega arith)) ∙ ap (λ (l : List ℕ). take j l) (sym is)) ∙ sym (between_is b i j))
 
--- a word of the bytes in use
+-- a word is the sum of two bytes
+pub word_sum : (xs : List ℕ) (at : ℕ) → word_at xs at ≡ get_or xs at 0 + 256 * get_or xs (at + 1) 0
+word_sum xs at =
+    let is : at + 0 ≡ at = omega arith in
+    let low : get_or (drop at xs) 0 0 ≡ get_or xs at 0 = get_or-drop at xs 0 0 ∙ ap (λ (j : ℕ). get_or xs j 0) is in
+    omega (arith, low, get_or-drop at xs 1 0)
+
+-- a word of the bytes in use, and of the two bytes alone
 pub word-take : (xs : List ℕ) (at len : ℕ) → at + 2 ≤ len → word_at (take len xs) at ≡ word_at xs at
-word-take xs at len within = rw (get_or-take len xs at 0 (omega arith), get_or-take len xs (at + 1) 0 (omega arith)) refl
+word-take xs at len within = omega (arith, word_sum (take len xs) at, word_sum xs at, get_or-take len xs at 0 (omega arith), get_or-take len xs (at + 1) 0 (omega arith))
+
+pub word-slice : (xs : List ℕ) (at : ℕ) → little_number 2 (slice_range xs at (at + 2)) ≡ word_at xs at
+word-slice xs at = little_from-take 0 2 (at + 2 - at) (drop at xs) (omega arith)
 
 -- `splice` of zeros, done by a slide of the tail and a fill
 pub opened : (xs ys zs b : List ℕ) (len at n : ℕ) → len ≤ length xs → b ≡ take len xs → at ≤ length b → length b + n ≤ length xs
     → ys ≡ put xs (at + n) (slice_range xs at (at + (len - at))) → zs ≡ put ys at (replicate n 0)
-    → take (at + n + (len - at)) zs ≡ splice b at 0 (replicate n 0)
+    → take (at + n + (len - at)) zs ≡ splice b at at (replicate n 0)
 opened xs ys zs b len at n short is within room slid filled =
     let used : length b ≡ len = ap length is ∙ length-take-le len xs short in
     let Z = replicate n 0 in let count : length Z ≡ n = length-replicate {A = ℕ} n 0 in let at_is : at ≡ at + 0 = omega arith in
     let moved : ys ≡ put xs (at + length Z) (slice_range xs (at + 0) (at + 0 + (len - (at + 0)))) = slid
     ∙ (ap (λ (m : ℕ). put xs (at + m) (slice_range xs at (at + (len - at)))) (sym count)
     ∙ ap (λ (m : ℕ). put xs (at + length Z) (slice_range xs m (m + (len - m)))) at_is) in
-    spliced xs ys zs Z b len at 0 (at + n + (len - at)) short is (omega arith) (omega arith) moved filled (omega arith)
+    spliced xs ys zs Z b len at 0 (at + n + (len - at)) short is (omega arith) (omega arith) moved filled (omega arith) ∙ ap (λ (j : ℕ). splice b at j Z) (sym at_is)
 
 copied : (xs : List ℕ) (i j to : ℕ) → j ≤ length xs → to + (j - i) ≤ length xs → copy_within xs i j to ≡ put xs to (slice_range xs i j)
 copied xs i j to le fits = rw (put_is xs (slice_range xs i j) to (omega (arith, length-between xs i j le)), length-between xs i j le) (append_assoc (take to xs) (slice_range xs i j) (drop (to + (j - i)) xs))
@@ -177,14 +144,5 @@ slid xs ys zs size from to n long source target whole after =
     ap (λ (l : List ℕ). put xs 0 l) (take_all size zs (omega arith))
     ∙ (put_is xs zs 0 (omega arith) ∙ (ap (λ (l : List ℕ). zs ++ l) (drop_all (0 + length zs) xs (omega arith)) ∙ (append-nil zs ∙ is)))
 
--- a byte of a slice
-pub get_or-slice : (xs : List ℕ) (i j k d : ℕ) → i + k < j → get_or (slice_range xs i j) k d ≡ get_or xs (i + k) d
-get_or-slice xs i j k d inside = get_or-between xs i j k d inside
-
-pub slice_first : (xs : List ℕ) (i j d : ℕ) → i < j → get_or (slice_range xs i j) 0 d ≡ get_or xs i d
-slice_first xs i j d some = let is : i + 0 ≡ i = omega arith in get_or-between xs i j 0 d (omega arith) ∙ ap (λ (n : ℕ). get_or xs n d) is
-
 -- for `#[tactic(auto, using(raw_region::proofs::Puts::lengths))]` and the like
 pub ruleset lengths = (length-put)
-
-pub ruleset puts = (length-put, take-put, drop-put, take-put_to, drop-put_past, slice-put, slice-put_before, slice-put_past, get_or-put_before, get_or-put, get_or-put_past, word-put_before, word-put_past, word-put_word, put-next, put-again, put-slice, get_or-slice, slice_first, put-none, put-zeros)

@@ -1,6 +1,8 @@
 ghost use Rattle.std.specs.Prelude.{◌≡◌, ◌+◌, ◌≤◌, ℕ, IfOk, List, [], ◌++◌, length, take, drop, replicate, slice_index, slice_range};
 ghost use Rattle.std.specs.Borrow.{sem};
-ghost use Rattle.raw_region.specs.Bytes.{put, splice, word_at, word_bytes};
+ghost use Rattle.std.specs.List.{splice};
+ghost use Rattle.geos_model.specs.Words.{word, word_at};
+ghost use Rattle.raw_region.specs.Bytes.{put};
 ghost use Rattle.raw_region.specs.declared.TheConstants.{SIZE};
 
 use crate::SIZE;
@@ -23,6 +25,7 @@ impl Model for RawBody {
     ghost invariant = { λ b. (b.len ≤ SIZE) × (length b.region ≡ SIZE) };
 }
 
+#[tactic(auto, using(crate::proofs::Puts::lengths))]
 impl RawBody {
     ghost use Rattle.raw_region.specs.LendsBody.{lends_run};
 
@@ -53,7 +56,7 @@ impl RawBody {
     /// Writes a word at `at`, its low byte first.
     pub fn set_word(&mut self, at: usize, v: u16)
         requires { at + 2 ≤ length self.old }
-        ensures { self.new ≡ put self.old at (word_bytes v) }
+        ensures { self.new ≡ put self.old at (word v) }
     {
         self.region.set_word(at, v);
     }
@@ -79,7 +82,7 @@ impl RawBody {
     pub fn replace(&mut self, at: usize, k: usize, new: &[u8])
         requires within { at + k ≤ length self.old }
         requires room { length self.old + length new.now ≤ SIZE + k }
-        ensures { self.new ≡ splice self.old at k new.now }
+        ensures { self.new ≡ splice self.old at (at + k) new.now }
     {
         let tail = self.len - (at + k);
         self.region.slide(at + k, at + new.len(), tail);
@@ -91,7 +94,7 @@ impl RawBody {
     pub fn insert_zeros(&mut self, at: usize, n: usize)
         requires within { at ≤ length self.old }
         requires room { length self.old + n ≤ SIZE }
-        ensures { self.new ≡ splice self.old at 0 (replicate n 0) }
+        ensures { self.new ≡ splice self.old at at (replicate n 0) }
     {
         let tail = self.len - at;
         self.region.slide(at, at + n, tail);

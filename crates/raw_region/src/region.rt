@@ -1,6 +1,7 @@
-ghost use Rattle.std.specs.Prelude.{◌≡◌, ◌+◌, ◌<◌, ◌≤◌, ℕ, IfOk, length, replicate, slice_index, slice_range};
+ghost use Rattle.std.specs.Prelude.{◌≡◌, ◌+◌, ◌≤◌, IfOk, length, replicate, slice_range};
 ghost use Rattle.std.specs.Borrow.{sem};
-ghost use Rattle.raw_region.specs.Bytes.{put, word_at, word_bytes};
+ghost use Rattle.geos_model.specs.Words.{word, word_at};
+ghost use Rattle.raw_region.specs.Bytes.{put};
 
 use crate::SIZE;
 use crate::raw::Raw;
@@ -15,11 +16,14 @@ pub struct Region {
 }
 
 impl Model for Region {
-    ghost use Rattle.std.specs.Prelude.{ℕ, List};
+    ghost use Rattle.std.specs.Prelude.{◌≡◌, ℕ, List, length};
+    ghost use Rattle.raw_region.specs.declared.TheConstants.{SIZE};
 
     ghost Value = { List ℕ };
 
     ghost view = { λ r. r.raw.bytes };
+
+    ghost invariant = { λ r. length r.raw.bytes ≡ SIZE };
 }
 
 #[tactic(auto, using(crate::proofs::Puts::lengths))]
@@ -28,8 +32,7 @@ impl Region {
 
     /// A region of zeros.
     pub fn new(alloc: Global) -> Result<Region, AllocError>
-        ensures zeros { IfOk result (λ r. r ≡ replicate SIZE 0) }
-        ensures len { IfOk result (λ r. length r ≡ SIZE) }
+        ensures { IfOk result (λ r. r ≡ replicate SIZE 0) }
     {
         let raw = Raw::new(&alloc)?;
         Ok(Region { raw, alloc })
@@ -46,8 +49,7 @@ impl Region {
     /// Writes a word at `at`, its low byte first.
     pub fn set_word(&mut self, at: usize, v: u16)
         requires { at + 2 ≤ SIZE }
-        ensures bytes { self.new ≡ put self.old at (word_bytes v) }
-        ensures len { length self.new ≡ SIZE }
+        ensures { self.new ≡ put self.old at (word v) }
     {
         LittleEndian::write_u16(self.slice_mut(at, 2), v);
     }
@@ -57,12 +59,8 @@ impl Region {
         requires { at + n ≤ SIZE }
         ensures value { result.now ≡ slice_range self.now at (at + n) }
         ensures len { length result.now ≡ n }
-        ensures region_len { length self.now ≡ SIZE }
-        ensures region_bytes { (i : ℕ) → slice_index self.now i < 256 }
     {
-        let all = self.raw.view();
-        are_bytes(all);
-        &all[at..at + n]
+        &self.raw.view()[at..at + n]
     }
 
     /// The `n` bytes from `at` on, to be written. The region ends as it was, with what is left in them in their place.
@@ -71,7 +69,6 @@ impl Region {
         ensures* writes_back { sem 𝓛 (lends_run self.entry at n result) }
         ensures value { result.now ≡ slice_range self.old at (at + n) }
         ensures len { length result.now ≡ n }
-        ensures region_len { length self.old ≡ SIZE }
     {
         self.raw.slice_mut(at, n)
     }
@@ -80,17 +77,15 @@ impl Region {
     pub fn slide(&mut self, from: usize, to: usize, n: usize)
         requires source { from + n ≤ SIZE }
         requires target { to + n ≤ SIZE }
-        ensures bytes { self.new ≡ put self.old to (slice_range self.old from (from + n)) }
-        ensures len { length self.new ≡ SIZE }
+        ensures { self.new ≡ put self.old to (slice_range self.old from (from + n)) }
     {
-        self.slice_mut(0, SIZE).copy_within(from..from + n, to);
+        self.raw.slice_mut(0, SIZE).copy_within(from..from + n, to);
     }
 
     /// Writes `bytes` over the region's from `at` on.
     pub fn copy_in(&mut self, at: usize, bytes: &[u8])
         requires { at + length bytes.now ≤ SIZE }
-        ensures bytes { self.new ≡ put self.old at bytes.now }
-        ensures len { length self.new ≡ SIZE }
+        ensures { self.new ≡ put self.old at bytes.now }
     {
         self.slice_mut(at, bytes.len()).copy_from_slice(bytes);
     }
@@ -98,17 +93,11 @@ impl Region {
     /// Makes the `n` bytes from `at` on zero.
     pub fn zero(&mut self, at: usize, n: usize)
         requires { at + n ≤ SIZE }
-        ensures bytes { self.new ≡ put self.old at (replicate n 0) }
-        ensures len { length self.new ≡ SIZE }
+        ensures { self.new ≡ put self.old at (replicate n 0) }
     {
         self.slice_mut(at, n).fill(0);
     }
 }
-
-// It does nothing: its callers learn what a slice's type says.
-fn are_bytes(bytes: &[u8])
-    ensures { (i : ℕ) → slice_index bytes.now i < 256 }
-{}
 
 impl Drop for Region {
     fn drop(self) {

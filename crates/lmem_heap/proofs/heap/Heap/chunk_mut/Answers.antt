@@ -3,7 +3,7 @@ use Rattle.geos_model.specs.Heap.{chunk_bytes, space_of}
 use Rattle.geos_model.proofs.Tables.{put_at}
 use Rattle.raw_region.specs.Bytes.{put}
 use Rattle.raw_region.proofs.Puts.{length-put}
-use Rattle.lmem_heap.specs.LendsChunk.{with_chunk}
+use Rattle.lmem_heap.specs.LendsChunk.{slots_written}
 use Rattle.lmem_heap.proofs.Heaps.{need_in, live_is, live_slot, shows_put, need_changed, put_changed, counted_changed}
 use Rattle.lmem_heap.proofs.heap.Heap.chunk_mut.Goals as goal
 
@@ -22,13 +22,13 @@ invariant_of-self-lent c =
     let old : List ℕ = chunk_bytes c.args.self.now c.args.h.0 in let b : List ℕ = put old 0 w in
     let same : length b ≡ length old = length-put old w 0 in let space = live.space in
     let room : need_in (put_at t k b) ≤ 65520 = omega (arith, need_changed t k b old live, ap space_of same, i.1, i.3) in
-    counted_changed t (with_chunk t k w) k s.space s.space s.gap b old live i room (put_changed t (with_chunk t k w) k b old (λ (l : List ℕ). put l 0 w) live refl refl) (omega (arith, ap space_of same, i.1))
+    counted_changed t (slots_written t k w) k s.space s.space s.gap b old live i room (put_changed t (slots_written t k w) k b old (λ (l : List ℕ). put l 0 w) live refl refl) (omega (arith, ap space_of same, i.1))
 
 pub returns : goal.returns
 returns c =
     let t = c.self.inside.table in let k = c.slot.result in
     let live = live_slot t k c.args.h.0 c.args.self.now c.self.view_is c.slot.ensures.at c.requires in
     let old : List ℕ = chunk_bytes c.args.self.now c.args.h.0 in (
-      (refl, λ w. shows_put t k c.args.h.0 c.args.self.now c.self.view_is c.slot.ensures.at (with_chunk t k w) (put old 0 w) (put_changed t (with_chunk t k w) k (put old 0 w) old (λ (l : List ℕ). put l 0 w) live refl refl)),
+      (refl, λ w. shows_put t k c.args.h.0 c.args.self.now c.self.view_is c.slot.ensures.at (slots_written t k w) (put old 0 w) (put_changed t (slots_written t k w) k (put old 0 w) old (λ (l : List ℕ). put l 0 w) live refl refl)),
       record { writes_back = tt; value = c.chunk_mut.ensures.value ∙ ap (λ (o : Option (List ℕ)). unwrap_or o []) live.holds },
     )

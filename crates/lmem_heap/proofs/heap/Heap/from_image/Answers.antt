@@ -30,7 +30,7 @@ pub returns-in-Ok-None-clause-err : goal.returns-in-Ok-None-clause-err
 returns-in-Ok-None-clause-err c =
     let bytes = c.args.bytes.now in let rest = list.between 3 (length bytes) bytes in
     let behind : rest ≡ drop 3 bytes = between_to_end bytes 3 (length bytes) (omega arith) in
-    inr (refl, no_image_table c.in-Some.slots bytes rest c.in-Some.ensures.1 behind (rw c.in-Ok-None.field-0-is at c.in-Ok-None.ensures))
+    inr (refl, no_image_table c.in-Some.slots bytes rest c.in-Some.ensures.0 c.in-Some.ensures.1 behind (rw c.in-Ok-None.field-0-is at c.in-Ok-None.ensures))
 
 pub returns-in-Ok-Some-clause-ok : goal.returns-in-Ok-Some-clause-ok
 returns-in-Ok-Some-clause-ok c =
@@ -50,4 +50,4 @@ returns-in-Ok-Some-clause-err c =
     let table = rw c.in-Ok-Some.field-0-is at c.in-Ok-Some.ensures in
     let Q = λ (fault : Fault). (fault ≡ Memory) ⊎ ((fault ≡ Damaged) × NoImage bytes) in
     subst (λ (r : Result ChunkMap Fault). IfErr r Q) (sym c.ok_or.ensures.value)
-    (if_err c.from_table.result _ _ Q c.from_table.ensures (λ none. inr (refl, no_image_heap c.in-Some.slots bytes rest c.in-Ok-Some.table c.in-Some.ensures.1 behind short table.0 table.1 none)))
+    (if_err c.from_table.result _ _ Q c.from_table.ensures (λ none. inr (refl, no_image_heap c.in-Some.slots bytes rest c.in-Ok-Some.table c.in-Some.ensures.0 c.in-Some.ensures.1 behind short table.0 table.1 none)))

@@ -13,7 +13,7 @@ returns-in_err-image-clause-valid c =
 pub returns-clause-bytes : goal.returns-clause-bytes
 returns-clause-bytes c =
     let s = c.self.inside in let t = s.table in let i = c.self.invariant in
-    image_made t c.len-slots.result _ _ _ _ _ _ c.in_ok-image.ensures.items c.in_ok-push.ensures.items c.in_ok-extend_from_slice.ensures.items (c.as_slice.ensures ∙ c.to_le_bytes.ensures) c.in_ok-extend_from_slice-2.ensures.items c.bytes-bytes.ensures c.len-slots.ensures.value i.0 (omega (arith, i.1, i.3))
+    image_made t c.len-slots.result _ _ _ _ _ _ c.in_ok-image.ensures.items c.in_ok-push.ensures.items c.in_ok-extend_from_slice.ensures.items (c.as_slice.ensures ∙ c.to_le_bytes.ensures) c.in_ok-extend_from_slice-2.ensures.items c.bytes-bytes.ensures c.len-slots.ensures.value i.0
     ∙ ap (λ (m : ChunkMap). image (bodies.Heap m)) c.self.view_is
 
 pub returns-clause-valid : goal.returns-clause-valid

@@ -3,7 +3,7 @@ use Rattle.std.specs.List as list
 use Rattle.std.proofs.lemmas.List.{length-take}
 use Rattle.raw_region.specs.Bytes.{put}
 use Rattle.raw_region.proofs.Puts.{put_is, put-cut}
-use Rattle.lmem_heap.specs.LendsChunk.{with_chunk}
+use Rattle.lmem_heap.specs.LendsChunk.{slots_written}
 use Rattle.lmem_heap.specs.Packed.{Slots}
 use Rattle.lmem_heap.proofs.Packing.{Opened, opened, shows, holds, bytes_of, place_of, chunk_within, bytes_changed, chunk_is}
 use Rattle.lmem_heap.proofs.table.Table.chunk_mut.Goals.{After-place-at}
@@ -23,7 +23,7 @@ slice_mut-requires c =
     chunk_within t c.args.i c.requires.slot s.slots s.body o 0 c.chunk_size-size.result c.place-at.result (omega (arith, place p)) (omega (arith, size p))
 
 -- the table that is left, whatever is left in the chunk
-changed : (c : After-place-at) (w : List ℕ) → Opened c.self.inside.slots (put c.self.inside.body c.place-at.result (take c.chunk_size-size.result w)) (with_chunk c.args.self.now c.args.i w)
+changed : (c : After-place-at) (w : List ℕ) → Opened c.self.inside.slots (put c.self.inside.body c.place-at.result (take c.chunk_size-size.result w)) (slots_written c.args.self.now c.args.i w)
 changed c w =
     let s = c.self.inside in let t = c.args.self.now in let i = c.args.i in let b = bytes_of t i in let cut = take c.chunk_size-size.result w in
     let o = opened s.slots s.body t c.self.view_is c.self.invariant in

@@ -1,7 +1,7 @@
 use Rattle.std.proofs.Common.{◌≡◌, ◌+◌, ◌≤◌, [], ℕ, List, Option, Some, length, set, unwrap_or, replicate, arith, sym, ap, ◌∙◌}
 use Rattle.std.proofs.lemmas.List.{length-replicate, append-nil}
-use Rattle.raw_region.specs.Bytes.{splice}
-use Rattle.lmem_heap.proofs.Packing.{Opened, opened, shows, holds, bytes_of, chunk_within, both_changed, length-splice}
+use Rattle.std.specs.List.{splice}
+use Rattle.lmem_heap.proofs.Packing.{Opened, opened, shows, holds, bytes_of, chunk_within, both_changed, length-splice, none_gone}
 use Rattle.lmem_heap.proofs.table.Table.fill.Goals.{After-place-place, After-set_word}
 use Rattle.lmem_heap.proofs.table.Table.fill.Goals as goal
 
@@ -19,7 +19,7 @@ insert_zeros-requires c =
 pub set_word-requires : goal.set_word-requires
 set_word-requires c =
     let s = c.self.inside in let t = c.args.self.now in let o = opened s.slots s.body t c.self.view_is c.self.invariant in
-    omega (arith, o.long, c.requires.slot, ap length c.insert_zeros.ensures, length-splice s.body (replicate c.args.n 0) c.place-place.result 0 (within (goal.at.set_word-requires c).After-place-place))
+    omega (arith, o.long, c.requires.slot, ap length (c.insert_zeros.ensures ∙ none_gone s.body (replicate c.args.n 0) c.place-place.result), length-splice s.body (replicate c.args.n 0) c.place-place.result 0 (within (goal.at.set_word-requires c).After-place-place))
 
 -- the table that is left
 changed : (c : After-set_word) → Opened c.self.inside.slots c.set_word.new.self (set c.args.self.now c.args.i (Some (replicate c.args.n 0)))
@@ -27,7 +27,7 @@ changed c =
     let s = c.self.inside in let t = c.args.self.now in let o = opened s.slots s.body t c.self.view_is c.self.invariant in
     let Z : List ℕ = replicate c.args.n 0 in let count : length Z ≡ c.args.n = length-replicate {A = ℕ} c.args.n 0 in
     let none : bytes_of t c.args.i ≡ [] = ap (λ (slot : Option (List ℕ)). unwrap_or slot []) c.requires.gap in
-    both_changed t c.args.i c.requires.slot s.slots s.body o 0 0 c.args.n c.place-place.result _ _ Z (Some Z) c.insert_zeros.ensures c.set_word.ensures
+    both_changed t c.args.i c.requires.slot s.slots s.body o 0 0 c.args.n c.place-place.result _ _ Z (Some Z) (c.insert_zeros.ensures ∙ none_gone s.body Z c.place-place.result) c.set_word.ensures
     (omega (arith, c.place-place.ensures)) (omega arith) (omega (arith, o.long, c.requires.room)) (ap (λ (b : List ℕ). splice b 0 0 Z) none ∙ append-nil Z) (sym count)
 
 pub invariant_of-self : goal.invariant_of-self

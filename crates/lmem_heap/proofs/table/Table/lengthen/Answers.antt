@@ -1,7 +1,7 @@
 use Rattle.std.proofs.Common.{◌≡◌, ◌+◌, ◌≤◌, ◌++◌, ℕ, List, Some, length, drop, set, replicate, arith, ap, ◌∙◌}
 use Rattle.std.proofs.lemmas.List.{length-replicate, append-nil, take_all, drop_all, length-append}
-use Rattle.raw_region.specs.Bytes.{splice}
-use Rattle.lmem_heap.proofs.Packing.{Opened, opened, shows, holds, bytes_of, slot_length, chunk_within, both_changed, length-splice}
+use Rattle.std.specs.List.{splice}
+use Rattle.lmem_heap.proofs.Packing.{Opened, opened, shows, holds, bytes_of, slot_length, chunk_within, both_changed, length-splice, none_gone}
 use Rattle.lmem_heap.proofs.table.Table.lengthen.Goals.{After-place-place, After-set_word}
 use Rattle.lmem_heap.proofs.table.Table.lengthen.Goals as goal
 
@@ -12,7 +12,7 @@ within c =
     chunk_within t c.args.i c.requires.slot s.slots s.body o c.chunk_size-size.result 0 (c.place-place.result + c.chunk_size-size.result) (omega (arith, c.place-place.ensures)) (omega (arith, c.chunk_size-size.ensures))
 
 -- bytes that are put in at the end
-at_end : (b ws : List ℕ) → splice b (length b) 0 ws ≡ b ++ ws
+at_end : (b ws : List ℕ) → splice b (length b) (length b + 0) ws ≡ b ++ ws
 at_end b ws = ap (λ (l : List ℕ). l ++ (ws ++ drop (length b + 0) b)) (take_all (length b) b (omega arith)) ∙ (ap (λ (l : List ℕ). b ++ (ws ++ l)) (drop_all (length b + 0) b (omega arith)) ∙ ap (λ (l : List ℕ). b ++ l) (append-nil ws))
 
 pub overflow_add-place : goal.overflow_add-place
@@ -33,7 +33,7 @@ overflow_cast-size c = record { fits = omega (arith, c.requires.room, c.chunk_si
 pub set_word-requires : goal.set_word-requires
 set_word-requires c =
     let s = c.self.inside in let t = c.args.self.now in let o = opened s.slots s.body t c.self.view_is c.self.invariant in
-    omega (arith, o.long, c.requires.slot, ap length c.insert_zeros.ensures, length-splice s.body (replicate c.args.n 0) (c.place-place.result + c.chunk_size-size.result) 0 (within (goal.at.set_word-requires c).After-place-place))
+    omega (arith, o.long, c.requires.slot, ap length (c.insert_zeros.ensures ∙ none_gone s.body (replicate c.args.n 0) (c.place-place.result + c.chunk_size-size.result)), length-splice s.body (replicate c.args.n 0) (c.place-place.result + c.chunk_size-size.result) 0 (within (goal.at.set_word-requires c).After-place-place))
 
 -- the table that is left
 changed : (c : After-set_word) → Opened c.self.inside.slots c.set_word.new.self (set c.args.self.now c.args.i (Some (bytes_of c.args.self.now c.args.i ++ replicate c.args.n 0)))
@@ -41,8 +41,8 @@ changed c =
     let s = c.self.inside in let t = c.args.self.now in let o = opened s.slots s.body t c.self.view_is c.self.invariant in
     let b = bytes_of t c.args.i in let Z : List ℕ = replicate c.args.n 0 in let count : length Z ≡ c.args.n = length-replicate {A = ℕ} c.args.n 0 in
     let size : c.chunk_size-size.result + c.args.n ≡ length (b ++ Z) = omega (arith, c.chunk_size-size.ensures, length-append b Z) in
-    both_changed t c.args.i c.requires.slot s.slots s.body o c.chunk_size-size.result 0 _ (c.place-place.result + c.chunk_size-size.result) _ _ Z (Some (b ++ Z)) c.insert_zeros.ensures c.set_word.ensures
-    (omega (arith, c.place-place.ensures)) (omega (arith, c.chunk_size-size.ensures)) (omega (arith, o.long, c.requires.room)) (ap (λ (n : ℕ). splice b n 0 Z) c.chunk_size-size.ensures ∙ at_end b Z) size
+    both_changed t c.args.i c.requires.slot s.slots s.body o c.chunk_size-size.result 0 _ (c.place-place.result + c.chunk_size-size.result) _ _ Z (Some (b ++ Z)) (c.insert_zeros.ensures ∙ none_gone s.body Z (c.place-place.result + c.chunk_size-size.result)) c.set_word.ensures
+    (omega (arith, c.place-place.ensures)) (omega (arith, c.chunk_size-size.ensures)) (omega (arith, o.long, c.requires.room)) (ap (λ (n : ℕ). splice b n (n + 0) Z) c.chunk_size-size.ensures ∙ at_end b Z) size
 
 pub invariant_of-self : goal.invariant_of-self
 invariant_of-self c = holds (changed (goal.at.invariant_of-self c).After-set_word)

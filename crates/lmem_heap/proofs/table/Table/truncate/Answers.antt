@@ -1,6 +1,6 @@
 use Rattle.std.proofs.Common.{◌≡◌, ◌*◌, ◌+◌, ◌-◌, ◌++◌, [], ℕ, List, None, length, take, drop, arith, refl, sym, ap, ◌∙◌}
 use Rattle.std.proofs.lemmas.List.{length-take-le, length-drop, take-append-drop, get_or-drop, append-nil}
-use Rattle.raw_region.specs.Bytes.{splice}
+use Rattle.std.specs.List.{splice}
 use Rattle.lmem_heap.specs.Packed.{packed, chunks}
 use Rattle.lmem_heap.proofs.Packing.{Opened, opened, closed, shows, holds, end_replaced, chunks-gaps, length-splice}
 use Rattle.lmem_heap.proofs.table.Table.truncate.Goals.{After-replace}
@@ -26,9 +26,9 @@ changed c =
     let kept : length A ≡ n = length-take-le n t c.requires.within in
     let gone : length B ≡ s.slots - n = omega (arith, length-drop n t, o.count) in
     let gaps : chunks B ≡ [] = chunks-gaps B (λ i. get_or-drop n t i None ∙ c.requires.gaps (n + i) (omega arith)) in
-    let is : splice s.body (2 * n) (2 * (s.slots - n)) [] ≡ packed A =
-    ap (λ (l : List ℕ). splice l (2 * n) (2 * (s.slots - n)) []) (o.bytes ∙ ap packed (sym (take-append-drop n t)))
-    ∙ (ap (λ (m : ℕ). splice (packed (A ++ B)) (2 * m) (2 * (s.slots - n)) []) (sym kept) ∙ (ap (λ (m : ℕ). splice (packed (A ++ B)) (2 * length A) (2 * m) []) (sym gone)
+    let is : splice s.body (2 * n) (2 * n + 2 * (s.slots - n)) [] ≡ packed A =
+    ap (λ (l : List ℕ). splice l (2 * n) (2 * n + 2 * (s.slots - n)) []) (o.bytes ∙ ap packed (sym (take-append-drop n t)))
+    ∙ (ap (λ (m : ℕ). splice (packed (A ++ B)) (2 * m) (2 * m + 2 * (s.slots - n)) []) (sym kept) ∙ (ap (λ (m : ℕ). splice (packed (A ++ B)) (2 * length A) (2 * length A + 2 * m) []) (sym gone)
     ∙ (end_replaced A B [] gaps refl ∙ ap packed (append-nil A)))) in
     closed n c.replace.new.self A (sym kept) (c.replace.ensures ∙ is)
     (omega (arith, ap length c.replace.ensures, length-splice s.body [] (2 * n) (2 * (s.slots - n)) (omega (arith, o.long, o.count, c.requires.within)), o.long, o.room))

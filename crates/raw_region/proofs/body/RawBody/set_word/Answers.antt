@@ -5,4 +5,4 @@ use Rattle.raw_region.proofs.body.RawBody.set_word.Goals as goal
 pub returns : goal.returns
 returns c =
     let s = c.self.inside in
-    put_in s.region c.set_word.new.self _ c.args.self.now c.args.at s.len (omega (arith, c.self.invariant.0, c.self.invariant.1)) (sym c.self.view_is) c.requires c.set_word.ensures.bytes
+    put_in s.region c.set_word.new.self _ c.args.self.now c.args.at s.len (omega (arith, c.self.invariant.0, c.self.invariant.1)) (sym c.self.view_is) c.requires c.set_word.ensures

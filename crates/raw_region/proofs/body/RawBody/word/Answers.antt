@@ -1,6 +1,6 @@
 use Rattle.std.proofs.Common.{ℕ, List, length, arith, sym, ap, ◌∙◌}
 use Rattle.std.proofs.lemmas.List.{length-take}
-use Rattle.raw_region.specs.Bytes.{word_at}
+use Rattle.geos_model.specs.Words.{word_at}
 use Rattle.raw_region.proofs.Puts.{word-take}
 use Rattle.raw_region.proofs.body.RawBody.word.Goals as goal
 
