@@ -8,7 +8,7 @@ ghost use Rattle.chunk_edits.specs.Splicing.{RefusesToBuild};
 ghost use Rattle.chunk_arrays.specs.Replacing.{Replaces, RefusesToReplace};
 
 use crate::rewriting::{NewElement, push_header, rewrite};
-use crate::view::{View, check};
+use crate::view::check;
 use chunk_edits::Splice;
 use geos_model::Fault;
 use std::alloc::Global;
@@ -45,7 +45,7 @@ pub fn insert(alloc: Global, bytes: &[u8], i: u32, element: &[u8]) -> Result<Spl
 {
     let view = check(bytes)?;
     let at = i as usize;
-    if at > view.count() || has_other_size(&view, element) {
+    if at > view.count() || is_missized(view.element_size(), element) {
         return Err(Fault::Range);
     }
     rewrite(alloc, &view, &[], at, at, Some(whole(element)))
@@ -63,7 +63,7 @@ pub fn set(alloc: Global, bytes: &[u8], i: u32, element: &[u8]) -> Result<Splice
     if at >= view.count() {
         return Err(Fault::NoElement);
     }
-    if has_other_size(&view, element) {
+    if is_missized(view.element_size(), element) {
         return Err(Fault::Range);
     }
     rewrite(alloc, &view, &[], at, at + 1, Some(whole(element)))
@@ -114,11 +114,10 @@ pub fn zero(alloc: Global, bytes: &[u8]) -> Result<Splice, Fault>
     rewrite(alloc, &view, &[], 0, view.count(), None)
 }
 
-/// Whether these bytes can't be an element of the array since its elements have another size.
-fn has_other_size(view: &View<'_>, element: &[u8]) -> bool
-    ensures { result ≡ is_missized view.now.array.size element.now }
+/// Whether these bytes can't be an element where each has this size, 0 where sizes vary.
+pub fn is_missized(size: usize, element: &[u8]) -> bool
+    ensures { result ≡ is_missized size element.now }
 {
-    let size = view.element_size();
     size != 0 && element.len() != size
 }
 

@@ -1,8 +1,8 @@
-ghost use Rattle.std.specs.Prelude.{◌≡◌, ℕ, ◌<◌, ◌≤◌, ◌+◌, ◌-◌, ◌↔◌, Some, None, [], true, IsTrue, MatchResult, length, take, drop, get_or, slice_index};
+ghost use Rattle.std.specs.Prelude.{◌≡◌, ◌<◌, ◌≤◌, ◌+◌, ◌-◌, ◌↔◌, Some, None, [], true, IsTrue, MatchResult, length, take, drop, get_or};
 ghost use Rattle.std.specs.List.{flat_map};
 ghost use Rattle.geos_model.specs.Words.{word_at};
 ghost use Rattle.geos_model.specs.Array.{array_bytes, array_of, array_read, is_even};
-ghost use Rattle.chunk_arrays.specs.Parts.{IsTable, HasElements};
+ghost use Rattle.chunk_arrays.specs.Parts.{AreBytes, IsTable, HasElements};
 ghost use Rattle.chunk_arrays.specs.Reading.{place_of};
 
 use byteorder::{ByteOrder, LittleEndian};
@@ -21,7 +21,7 @@ pub struct View<'a> {
     start: usize,
     ghost even: { is_even (array_read bytes.now) ≡ true },
     ghost few: { length (array_read bytes.now).elements < 65536 },
-    ghost are_bytes: { (i : ℕ) → slice_index (array_bytes (array_read bytes.now)) i < 256 },
+    ghost are_bytes: { AreBytes (array_bytes (array_read bytes.now)) },
 }
 
 impl<'a> Model for View<'a> {

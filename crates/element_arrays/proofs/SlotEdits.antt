@@ -1,9 +1,8 @@
 -- What an edit of slots makes of the array that they are.
-use Rattle.std.proofs.Common.{◌≡◌, ℕ, zero, suc, ◌+◌, ◌<◌, ◌≤◌, Bool, true, false, not, ◌&&◌, ◌||◌, ◌==◌, nat_le, nat_lt, if◌then◌else◌, List, [], ◌∷◌, ◌++◌, map, length, take, drop, set, get_or, replicate, is_none, Option, Some, None, Result, Ok, Err, MatchResult, refl, sym, ap, ap₂, subst, ◌∙◌, arith, inl, inr, append_assoc, append-nil, length-append, eqb-true, ltb-true}
+use Rattle.std.proofs.Common.{◌≡◌, ℕ, zero, suc, ◌+◌, ◌<◌, ◌≤◌, Bool, true, false, not, ◌&&◌, ◌||◌, ◌==◌, nat_le, nat_lt, if◌then◌else◌, List, [], ◌∷◌, ◌++◌, map, length, take, drop, set, get_or, replicate, is_none, Option, Some, None, Result, MatchResult, refl, sym, ap, ap₂, subst, ◌∙◌, arith, inl, inr, append_assoc, append-nil, length-append, eqb-true, ltb-true}
 use Rattle.std.proofs.lemmas.Bool.{cases_Bool, and_parts, cond-true, cond-false, ne_eqb, eq-eqb}
 use Rattle.std.proofs.lemmas.List.{take_all, drop_all, length-replicate}
 use Rattle.std.proofs.lemmas.Result.{MatchResult-weaker}
-use Rattle.std.specs.Result.{IsErrAnd}
 use Rattle.std.specs.List.{list_all, count_by, enumerate_from, splice}
 use Rattle.byteorder.specs.Endian.{little_bytes, little_number}
 use Rattle.geos_model.specs.Words.{word}
@@ -313,8 +312,3 @@ put-some more s v t at extra element bytes is sound free place first spells =
     put-at more s v t at (fresh bytes) (drop 1 s.free) extra element is place (newest_lt s t sound free)
     (λ j other. sym (ap (λ (ts : List ℕ). token_after ts j) free ∙ token_after-other t (drop 1 s.free) j other)) first spells
     ∙ sym (ap (λ (p : Slots × ℕ). slots_array more p.0) (with_new-some s bytes t free))
-
--- a fault that `?` carries on
-pub carried : {T : Type 0} (r : Result T Fault) (P : T → Type 0) (Q : Fault → Type 0) (fault : Fault) → IsErrAnd r (λ e. e ≡ fault) → Q fault → MatchResult r P Q
-carried (Ok x) P Q fault is q = absurd is
-carried (Err e) P Q fault is q = subst Q (sym is) q

@@ -14,12 +14,9 @@ use Rattle.geos_model.proofs.Images.{word-reads_back}
 use Rattle.geos_model.proofs.Arrays.{head_of, table_of, joined, array_bytes-spelled, all_even}
 use Rattle.geos_model.proofs.FreeLists.{links, are_tokens, distinct_walk, all_free_met, walk_ends, length-walked, first_token-walked, links-walked, all-walked, walk_ends-links, token_after-link}
 use Rattle.geos_model.proofs.ElementArrays.{IsSound, sound_parts, sound_from, same_array-is, same_array-refl, size_read_le, elements_from, link_in, first_token-lt, links-token_after, links-same, free_read-walked, free_tokens, link-slots, all-weaker}
+use Rattle.chunk_arrays.specs.Parts.{AreBytes}
 use Rattle.chunk_arrays.specs.Viewed.{Viewed}
 use Rattle.element_arrays.specs.Tested.{is_freed, is_freed_at, is_slot, is_walk}
-
--- each is a byte
-abbrev pub AreBytes : List ℕ → Type 0
-AreBytes xs = (i : ℕ) → get_or xs i 0 < 256
 
 bytes_left : (xs ys : List ℕ) (i : ℕ) → AreBytes (xs ++ ys) → get_or xs i 0 < 256
 bytes_left [] ys i h = omega arith

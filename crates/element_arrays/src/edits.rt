@@ -4,13 +4,12 @@ ghost use Rattle.geos_model.specs.ElementArray.{element_bytes, element_array_of,
 ghost use Rattle.geos_model.specs.ElementEdits.{no_slots, element_added, token_added, reference_added, reference_removed, element_deleted, element_changed, on_token, create_elements_conditions, add_conditions, add_reference_conditions, change_conditions};
 ghost use Rattle.chunk_edits.specs.Splicing.{RefusesToBuild};
 ghost use Rattle.chunk_arrays.specs.Replacing.{Replaces, RefusesToReplace};
-ghost use Rattle.geos_model.specs.ArrayEdits.{is_missized};
 ghost use Rattle.element_arrays.specs.Slotted.{slotted_bytes};
 ghost use Rattle.element_arrays.specs.Referencing.{element_with_reference, element_reference_conditions};
 
 use crate::SlotView;
 use crate::reading::{read, used_at};
-use chunk_arrays::{GREATEST_SIZE, empty_bytes};
+use chunk_arrays::{GREATEST_SIZE, empty_bytes, is_missized};
 use chunk_edits::Splice;
 use geos_model::{Fault, Token};
 use std::alloc::Global;
@@ -50,7 +49,7 @@ pub fn add(alloc: Global, bytes: &[u8], element: &[u8]) -> Result<(Splice, Token
             Ok((splice, token))
         }
         None => {
-            if has_other_size(&slots, element) {
+            if is_missized(slots.element_size(), element) {
                 return Err(Fault::Range);
             }
             slots.with_new(alloc, element, &[])
@@ -106,7 +105,7 @@ pub fn change(alloc: Global, bytes: &[u8], token: Token, element: &[u8]) -> Resu
 {
     let slots = read(bytes)?;
     let used = used_at(&slots, token)?;
-    if has_other_size(&slots, element) {
+    if is_missized(slots.element_size(), element) {
         return Err(Fault::Range);
     }
     slots.with_element(alloc, token, used.count, element, &[])
@@ -124,12 +123,4 @@ fn with_reference(alloc: Global, slots: &SlotView<'_>, token: Token) -> Result<S
         return Err(Fault::CountFull);
     }
     slots.with_element(alloc, token, used.count + 1, used.bytes, &[])
-}
-
-/// Whether an element can't have these bytes because each has another number of them.
-fn has_other_size(slots: &SlotView<'_>, element: &[u8]) -> bool
-    ensures { result ≡ is_missized slots.now.slots.size element.now }
-{
-    let size = slots.element_size();
-    size != 0 && element.len() != size
 }

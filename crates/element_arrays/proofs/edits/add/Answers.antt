@@ -46,17 +46,17 @@ returns-in_ok-splice-in-Some c =
       ap (λ (x : Slots × ℕ). x.1) same,
     )
 
-pub returns-then-has_other_size : goal.returns-then-has_other_size
-returns-then-has_other_size c =
+pub returns-then-is_missized : goal.returns-then-is_missized
+returns-then-is_missized c =
     refuses_own (add_conditions c.args.bytes.now c.args.element.now) _ Range Range refl refl
-    (new-missized c.args.bytes.now c.args.element.now c.in_ok-slots.slots c.in_ok-slots.ensures (sym c.in-None.ensures) (sym c.has_other_size.ensures ∙ c.if-has_other_size.true))
+    (new-missized c.args.bytes.now c.args.element.now c.in_ok-slots.slots c.in_ok-slots.ensures (sym c.in-None.ensures) (ap (λ (n : ℕ). is_missized n c.args.element.now) (sym c.element_size.ensures) ∙ sym c.is_missized.ensures ∙ c.if-is_missized.true))
 
 pub with_new-requires : goal.with_new-requires
 with_new-requires c =
-    ap (is_missized c.in_ok-slots.slots.slots.size) (append-nil c.args.element.now) ∙ sym c.has_other_size.ensures ∙ c.if-has_other_size.false
+    ap (is_missized c.in_ok-slots.slots.slots.size) (append-nil c.args.element.now) ∙ ap (λ (n : ℕ). is_missized n c.args.element.now) (sym c.element_size.ensures) ∙ sym c.is_missized.ensures ∙ c.if-is_missized.false
 
-pub returns-else-has_other_size : goal.returns-else-has_other_size
-returns-else-has_other_size c =
+pub returns-else-is_missized : goal.returns-else-is_missized
+returns-else-is_missized c =
     let bytes : List ℕ = c.args.bytes.now in
     let element : List ℕ = c.args.element.now in
     let s = c.in_ok-slots.slots in
@@ -66,5 +66,5 @@ returns-else-has_other_size c =
     let here : added s.slots element ≡ added (elements_in bytes) element = ap (λ (x : Slots). added x element) (sym (elements_are bytes s read)) in
     let to_is : slotted_bytes s.more new.0 ≡ element_added bytes element = new_bytes bytes s read new.0 ∙ ap (λ (x : Slots × ℕ). element_bytes x.0) (same ∙ here) in
     token_handed_on (add_conditions bytes element) s new.0 bytes (element_added bytes element)
-    (new-accepted bytes element s read (sym c.in-None.ensures) (sym c.has_other_size.ensures ∙ c.if-has_other_size.false)) read.1 to_is
+    (new-accepted bytes element s read (sym c.in-None.ensures) (ap (λ (n : ℕ). is_missized n c.args.element.now) (sym c.element_size.ensures) ∙ sym c.is_missized.ensures ∙ c.if-is_missized.false)) read.1 to_is
     c.with_new.result (token_added bytes element) new.1 (ap (λ (x : Slots × ℕ). x.1) (same ∙ here)) c.with_new.ensures

@@ -23,9 +23,9 @@ returns-in_err-used c =
     carried c.from_residual-in_err-used.result _ _ fault c.from_residual-in_err-used.ensures.1
     (refuses_own (change_conditions c.args.bytes.now c.args.token.0 c.args.element.now) _ NoElement fault c.in_err-used.ensures.0 refl (rw (c.in_ok-slots.ensures.0, c.in_err-used.ensures.1) refl))
 
-pub returns-then-has_other_size : goal.returns-then-has_other_size
-returns-then-has_other_size c =
-    let missized = sym c.has_other_size.ensures ∙ c.if-has_other_size.true in
+pub returns-then-is_missized : goal.returns-then-is_missized
+returns-then-is_missized c =
+    let missized = ap (λ (n : ℕ). is_missized n c.args.element.now) (sym c.element_size.ensures) ∙ sym c.is_missized.ensures ∙ c.if-is_missized.true in
     refuses_own (change_conditions c.args.bytes.now c.args.token.0 c.args.element.now) _ Range Range refl refl (rw (c.in_ok-slots.ensures.0, c.in_ok-used.ensures, missized) refl)
 
 pub with_element-requires-clause-counted : goal.with_element-requires-clause-counted
@@ -38,7 +38,7 @@ with_element-requires-clause-bounded c =
 
 pub with_element-requires-clause-sized : goal.with_element-requires-clause-sized
 with_element-requires-clause-sized c =
-    ap (is_missized c.in_ok-slots.slots.slots.size) (append-nil c.args.element.now) ∙ sym c.has_other_size.ensures ∙ c.if-has_other_size.false
+    ap (is_missized c.in_ok-slots.slots.slots.size) (append-nil c.args.element.now) ∙ ap (λ (n : ℕ). is_missized n c.args.element.now) (sym c.element_size.ensures) ∙ sym c.is_missized.ensures ∙ c.if-is_missized.false
 
 pub returns : goal.returns
 returns c =
@@ -49,7 +49,7 @@ returns c =
     let read = c.in_ok-slots.ensures in
     let e = used_element c.in_ok-used.used in
     let at = c.in_ok-used.ensures in
-    let fits = sym c.has_other_size.ensures ∙ c.if-has_other_size.false in
+    let fits = ap (λ (n : ℕ). is_missized n c.args.element.now) (sym c.element_size.ensures) ∙ sym c.is_missized.ensures ∙ c.if-is_missized.false in
     let new : Slots = with_element s.slots t e.count (element ++ []) in
     let same : new ≡ with_element s.slots t (count_at s.slots t) element = whole_element s.slots t e.count _ element element (sym (count_at-is s.slots t e at)) refl in
     let to_is : slotted_bytes s.more new ≡ element_changed bytes t element =

@@ -6,7 +6,8 @@ use Rattle.geos_model.specs.ElementArray.{first_token, is_sound, slots_array}
 use Rattle.geos_model.specs.ElementEdits.{with_new}
 use Rattle.chunk_arrays.specs.Rewriting.{extra_after}
 use Rattle.element_arrays.specs.Slotted.{Slotted, slotted_array}
-use Rattle.element_arrays.proofs.SlotEdits.{is_even-slots, length-slots, extra-slots, extra_put, extra_room, spelled-parts, length-parts, newest_lt, newest_link, token-none, put-none, token-some, put-some, put, gives, refuses, carried}
+use Rattle.element_arrays.proofs.SlotEdits.{is_even-slots, length-slots, extra-slots, extra_put, extra_room, spelled-parts, length-parts, newest_lt, newest_link, token-none, put-none, token-some, put-some, put, gives, refuses}
+use Rattle.element_arrays.proofs.Replacing.{carried}
 use Rattle.element_arrays.proofs.slot_view.SlotView.with_new.Goals as goal
 
 -- the bytes that come in
