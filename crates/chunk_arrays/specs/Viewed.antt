@@ -1,5 +1,5 @@
 -- What callers see of an array that is read where it lies.
-use Rattle.std.specs.Prelude.{◌≡◌, ◌<◌, true, length}
+use Rattle.std.specs.Prelude.{◌≡◌, ◌^◌, ◌<◌, true, length}
 use Rattle.geos_model.specs.Array.{Array, array_bytes, is_even}
 use Rattle.chunk_arrays.specs.Parts.{AreBytes}
 
@@ -7,5 +7,5 @@ use Rattle.chunk_arrays.specs.Parts.{AreBytes}
 pub record Viewed : Type 0 where
   pub array : Array
   pub even : is_even array ≡ true
-  pub few : length array.elements < 65536
+  pub few : length array.elements < 2 ^ 16
   pub are_bytes : AreBytes (array_bytes array)

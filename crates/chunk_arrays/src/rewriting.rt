@@ -143,9 +143,9 @@ pub(crate) fn push_header(
     size: usize,
     start: usize,
 ) -> Result<(), AllocError>
-    requires count { count < 65536 }
-    requires size { size < 65536 }
-    requires start { start < 65536 }
+    requires count { count < 2 ^ 16 }
+    requires size { size < 2 ^ 16 }
+    requires start { start < 2 ^ 16 }
     ensures { IfOk result (λ _. out.new.items ≡ out.old.items ++ (word count ++ word size ++ word 0 ++ word start)) }
 {
     push_word(out, count)?;
@@ -174,7 +174,7 @@ fn push_table(
 ) -> Result<(), AllocError>
     requires order { from ≤ to }
     requires within { to ≤ length view.now.array.elements }
-    requires fits { start + length (place_table start (rewritten view.now.array view.now.array.extra from to new)) + length (flat_map (λ x. x) (splice view.now.array.elements from to (elements_of new))) < 65536 }
+    requires fits { start + length (place_table start (rewritten view.now.array view.now.array.extra from to new)) + length (flat_map (λ x. x) (splice view.now.array.elements from to (elements_of new))) < 2 ^ 16 }
     ensures { IfOk result (λ _. out.new.items ≡ out.old.items ++ place_table start (rewritten view.now.array view.now.array.extra from to new.entry)) }
 {
     if view.element_size() != 0 {
@@ -197,7 +197,7 @@ fn push_places(
 ) -> Result<usize, AllocError>
     requires order { from ≤ to }
     requires within { to ≤ length view.now.array.elements }
-    requires fits { place + length (flat_map (λ x. x) (take (to - from) (drop from view.now.array.elements))) < 65536 }
+    requires fits { place + length (flat_map (λ x. x) (take (to - from) (drop from view.now.array.elements))) < 2 ^ 16 }
     ensures { IfOk result (λ next.
         (out.new.items ≡ out.old.items ++ flat_map word (places_from place (take (to - from) (drop from view.now.array.elements))))
         × (next ≡ place + length (flat_map (λ x. x) (take (to - from) (drop from view.now.array.elements))))) }
@@ -216,7 +216,7 @@ fn push_place(
     place: usize,
     new: Option<NewElement<'_>>,
 ) -> Result<usize, AllocError>
-    requires { place + length (flat_map (λ x. x) (elements_of new)) < 65536 }
+    requires { place + length (flat_map (λ x. x) (elements_of new)) < 2 ^ 16 }
     ensures { IfOk result (λ next.
         (out.new.items ≡ out.old.items ++ flat_map word (places_from place (elements_of new.entry)))
         × (next ≡ place + length (flat_map (λ x. x) (elements_of new.entry)))) }
@@ -229,7 +229,7 @@ fn push_place(
 
 /// Adds a number as a word.
 fn push_word(out: &mut Vec<u8>, n: usize) -> Result<(), AllocError>
-    requires { n < 65536 }
+    requires { n < 2 ^ 16 }
     ensures { IfOk result (λ _. out.new.items ≡ out.old.items ++ word n) }
 {
     let word = n as u16;

@@ -1,4 +1,4 @@
-ghost use Rattle.std.specs.Prelude.{◌≡◌, ◌<◌, ◌≤◌, ◌+◌, ◌-◌, ◌↔◌, Some, None, [], true, IsTrue, MatchResult, length, take, drop, get_or};
+ghost use Rattle.std.specs.Prelude.{◌≡◌, ◌^◌, ◌<◌, ◌≤◌, ◌+◌, ◌-◌, ◌↔◌, Some, None, [], true, IsTrue, MatchResult, length, take, drop, get_or};
 ghost use Rattle.std.specs.List.{flat_map};
 ghost use Rattle.geos_model.specs.Words.{word_at};
 ghost use Rattle.geos_model.specs.Array.{array_bytes, array_of, array_read, is_even};
@@ -20,7 +20,7 @@ pub struct View<'a> {
     /// Where the extra bytes end.
     start: usize,
     ghost even: { is_even (array_read bytes.now) ≡ true },
-    ghost few: { length (array_read bytes.now).elements < 65536 },
+    ghost few: { length (array_read bytes.now).elements < 2 ^ 16 },
     ghost are_bytes: { AreBytes (array_bytes (array_read bytes.now)) },
 }
 
@@ -67,7 +67,7 @@ pub fn check(bytes: &[u8]) -> Result<View<'_>, Fault>
 fn word(bytes: &[u8], at: usize) -> usize
     requires { at + 2 ≤ length bytes.now }
     ensures value { result ≡ word_at bytes.now at }
-    ensures bound { result < 65536 }
+    ensures bound { result < 2 ^ 16 }
 {
     usize::from(LittleEndian::read_u16(&bytes[at..]))
 }
@@ -75,7 +75,7 @@ fn word(bytes: &[u8], at: usize) -> usize
 /// Whether elements fill the bytes from `start` on.
 fn has_elements(bytes: &[u8], count: usize, size: usize, start: usize) -> bool
     requires start { start ≤ length bytes.now }
-    requires words { (count < 65536) × (size < 65536) × (start < 65536) }
+    requires words { (count < 2 ^ 16) × (size < 2 ^ 16) × (start < 2 ^ 16) }
     ensures { IsTrue result ↔ HasElements bytes.now count size start }
 {
     if size == 0 {
@@ -88,7 +88,7 @@ fn has_elements(bytes: &[u8], count: usize, size: usize, start: usize) -> bool
 /// Whether a table of places begins at `start`, and the elements fill the bytes from there on.
 fn has_table(bytes: &[u8], count: usize, start: usize) -> bool
     requires start { start ≤ length bytes.now }
-    requires words { (count < 65536) × (start < 65536) }
+    requires words { (count < 2 ^ 16) × (start < 2 ^ 16) }
     ensures { IsTrue result ↔ IsTable bytes.now count start }
 {
     let len = bytes.len();
