@@ -1,5 +1,5 @@
 -- The slots that are read of an element array's bytes, and what is found of a token there.
-use Rattle.std.proofs.Common.{◌≡◌, ℕ, List, [], ◌++◌, Option, Some, None, unwrap_or, refl, sym, ap, ◌∙◌}
+use Rattle.std.proofs.Common.{◌≡◌, ℕ, List, [], ◌++◌, Option, Some, None, Result, Ok, Err, MatchResult, unwrap_or, refl, sym, ap, ◌∙◌}
 use Rattle.std.specs.Option.{option_map_or}
 use Rattle.geos_model.specs.Refusal.{Conditions, first_refusal}
 use Rattle.geos_model.specs.Array.{array_bytes}
@@ -7,6 +7,9 @@ use Rattle.geos_model.specs.ElementArray.{Element, Slots, slots_array, element_a
 use Rattle.geos_model.specs.ElementEdits.{no_slots, elements_in, count_at, bytes_at, on_elements, on_token}
 use Rattle.geos_model.specs.declared.fault.Fault.{Fault}
 use Rattle.geos_model.specs.declared.fault.Fault.TheVariants.{NoElement}
+use Rattle.element_arrays.specs.Answering.{IsAnswered, IsRefused}
+use Rattle.element_arrays.specs.Used.{used_element}
+use Rattle.element_arrays.specs.declared.slot_view.Used.{Used}
 use Rattle.element_arrays.specs.Slotted.{Slotted, slotted_bytes}
 
 -- In bytes that are read as slots.
@@ -38,3 +41,9 @@ module _ (bytes : List ℕ) (s : Slotted) (read : (element_array_of bytes ≡ So
 
   pub no_element-refused : (t : ℕ) (fault : Fault) → (fault ≡ NoElement) × (element_at s.slots t ≡ None) → first_refusal (on_token bytes t) ≡ Some fault
   no_element-refused t fault h = rw (read.0, h.1) (ap Some (sym h.0))
+
+  -- what is found of a token, or why nothing is
+  pub answers_element : (t : ℕ) (r : Result Used Fault) → MatchResult r (λ used. element_at s.slots t ≡ Some (used_element used)) (λ fault. (fault ≡ NoElement) × (element_at s.slots t ≡ None))
+      → MatchResult r (λ used. IsAnswered (on_token bytes t) (element_at (elements_in bytes) t) (Some (used_element used))) (IsRefused (on_token bytes t))
+  answers_element t (Ok used) at = record { accepted = past_token t (used_element used) at []; same = sym (element_is t (used_element used) at) }
+  answers_element t (Err fault) none = no_element-refused t fault none

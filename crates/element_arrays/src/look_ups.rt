@@ -1,9 +1,11 @@
 ghost use Rattle.std.specs.Prelude.{◌≡◌, ◌≤◌, None, Some, is_some, MatchResult, count_by, length, take, get_or};
 ghost use Rattle.geos_model.specs.ElementEdits.{elements_in, count_at, bytes_at, used_in, used_from, used_below, on_elements, on_token, on_used};
+ghost use Rattle.geos_model.specs.ElementArray.{element_at};
 ghost use Rattle.element_arrays.specs.Answering.{IsAnswered, IsRefused};
+ghost use Rattle.element_arrays.specs.Used.{used_element};
 
-use crate::SlotView;
 use crate::reading::{read, used_at};
+use crate::{SlotView, Used};
 use geos_model::{Fault, Token};
 
 /// How many references an element has. NotArray, NoElement.
@@ -12,8 +14,7 @@ pub fn count_of(bytes: &[u8], token: Token) -> Result<u32, Fault>
         (λ n. IsAnswered (on_token bytes.now token.0) (count_at (elements_in bytes.now) token.0) n)
         (IsRefused (on_token bytes.now token.0)) }
 {
-    let slots = read(bytes)?;
-    Ok(used_at(&slots, token)?.count)
+    Ok(element_of(bytes, token)?.count)
 }
 
 /// The bytes of an element. NotArray, NoElement.
@@ -22,8 +23,17 @@ pub fn data_of(bytes: &[u8], token: Token) -> Result<&[u8], Fault>
         (λ element. IsAnswered (on_token bytes.now token.0) (bytes_at (elements_in bytes.now) token.0) element.now)
         (IsRefused (on_token bytes.now token.0)) }
 {
+    Ok(element_of(bytes, token)?.bytes)
+}
+
+/// The element of a token. NotArray, NoElement.
+fn element_of(bytes: &[u8], token: Token) -> Result<Used<'_>, Fault>
+    ensures { MatchResult result
+        (λ used. IsAnswered (on_token bytes.now token.0) (element_at (elements_in bytes.now) token.0) (Some (used_element used)))
+        (IsRefused (on_token bytes.now token.0)) }
+{
     let slots = read(bytes)?;
-    Ok(used_at(&slots, token)?.bytes)
+    used_at(&slots, token)
 }
 
 /// How many elements are used. NotArray.
