@@ -1,10 +1,9 @@
 -- The slots that are read of an element array's bytes, and what is found of a token there.
-use Rattle.std.proofs.Common.{◌≡◌, ℕ, List, [], ◌++◌, Option, Some, None, Result, Ok, Err, MatchResult, unwrap_or, refl, sym, ap, ◌∙◌}
-use Rattle.std.specs.Option.{option_map_or}
+use Rattle.std.proofs.Common.{◌≡◌, ℕ, List, [], ◌++◌, Some, None, Result, Ok, Err, MatchResult, unwrap_or, refl, sym, ap, ◌∙◌}
 use Rattle.geos_model.specs.Refusal.{Conditions, first_refusal}
 use Rattle.geos_model.specs.Array.{array_bytes}
 use Rattle.geos_model.specs.ElementArray.{Element, Slots, slots_array, element_array_of, element_bytes, element_at}
-use Rattle.geos_model.specs.ElementEdits.{no_slots, elements_in, count_at, bytes_at, on_elements, on_token}
+use Rattle.geos_model.specs.ElementEdits.{no_slots, elements_in, on_elements, on_token}
 use Rattle.geos_model.specs.declared.fault.Fault.{Fault}
 use Rattle.geos_model.specs.declared.fault.Fault.TheVariants.{NoElement}
 use Rattle.element_arrays.specs.Answering.{IsAnswered, IsRefused}
@@ -29,12 +28,6 @@ module _ (bytes : List ℕ) (s : Slotted) (read : (element_array_of bytes ≡ So
   module _ (t : ℕ) (e : Element) (at : element_at s.slots t ≡ Some e) where
     pub element_is : element_at (elements_in bytes) t ≡ Some e
     element_is = ap (λ (x : Slots). element_at x t) elements_are ∙ at
-
-    pub count_is : count_at (elements_in bytes) t ≡ e.count
-    count_is = ap (λ (o : Option Element). option_map_or (λ x. x.count) o 0) element_is
-
-    pub bytes_are : bytes_at (elements_in bytes) t ≡ e.bytes
-    bytes_are = ap (λ (o : Option Element). option_map_or (λ x. x.bytes) o []) element_is
 
     pub past_token : (rest : Conditions) → first_refusal (on_token bytes t ++ rest) ≡ first_refusal rest
     past_token rest = rw (read.0, at) refl
