@@ -8,11 +8,7 @@ use Rattle.byteorder.specs.Numbers.{little_from-lt, little_from-bytes}
 use Rattle.geos_model.specs.Words.{word, word_at}
 use Rattle.geos_model.specs.Array.{places_from, cut_at, cut_evenly}
 use Rattle.geos_model.proofs.Arrays.{joined}
-use Rattle.chunk_arrays.specs.Parts.{place_at}
-
--- each number is a byte
-abbrev pub AreBytes : List ℕ → Type 0
-AreBytes bytes = (i : ℕ) → slice_index bytes i < 256
+use Rattle.chunk_arrays.specs.Parts.{AreBytes, place_at}
 
 drop_bytes : (bytes : List ℕ) → AreBytes bytes → (at i : ℕ) → slice_index (drop at bytes) i < 256
 drop_bytes bytes are at i = subst (λ n. n < 256) (sym (get_or-drop at bytes i 0)) (are (at + i))

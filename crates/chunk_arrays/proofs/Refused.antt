@@ -8,7 +8,7 @@ use Rattle.geos_model.specs.Array.{Array, array_of, array_bytes}
 use Rattle.geos_model.specs.ArrayEdits.{too_long, array_in, new_array, with_elements, array_zeroed, on_array, insert_conditions, set_conditions, resize_conditions, delete_conditions, is_missized}
 use Rattle.geos_model.specs.declared.fault.Fault.{Fault}
 use Rattle.geos_model.specs.declared.fault.Fault.TheVariants.{Full, NotArray, NoElement, Range}
-use Rattle.chunk_edits.specs.Splicing.{Leads, Builds, Refuses}
+use Rattle.chunk_edits.specs.Splicing.{Leads, Builds, RefusesToBuild}
 use Rattle.chunk_edits.specs.declared.splice.Splice.{Splice}
 
 pub refused-long : (bytes : List ℕ) → 65498 < length bytes → first_refusal (too_long bytes) ≡ Some Full
@@ -80,8 +80,8 @@ zero_decides bytes a to is = ap (λ (x : Bool). first_refusal ((NotArray, x) ∷
 
 -- what a rewritten array is answered by, where only its length decides
 pub handed_on : (r : Result Splice Fault) (conditions : Conditions) (from from′ to to′ : List ℕ) → first_refusal conditions ≡ first_refusal (too_long to) → from′ ≡ from → to′ ≡ to
-    → MatchResult r (λ s. Builds (too_long to′) s from′ to′ (length from′ + length to′)) (Refuses (too_long to′))
-    → MatchResult r (λ s. Builds conditions s from to (length from + length to)) (Refuses conditions)
+    → MatchResult r (λ s. Builds (too_long to′) s from′ to′ (length from′ + length to′)) (RefusesToBuild (too_long to′))
+    → MatchResult r (λ s. Builds conditions s from to (length from + length to)) (RefusesToBuild conditions)
 handed_on (Ok s) conditions from from′ to to′ decides from_is to_is built = record {
   accepted = decides ∙ ap (λ (l : List ℕ). first_refusal (too_long l)) (sym to_is) ∙ built.accepted;
   leads = subst (λ (l : List ℕ). Leads s l to (length l + length to)) from_is (subst (λ (l : List ℕ). Leads s from′ l (length from′ + length l)) to_is built.leads);

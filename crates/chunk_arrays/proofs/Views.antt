@@ -12,8 +12,8 @@ use Rattle.geos_model.specs.Words.{word, word_at}
 use Rattle.geos_model.specs.Array.{places_from, array_start, array_bytes, is_even, cut_at, cut_evenly, array_read, array_of}
 use Rattle.geos_model.proofs.Images.{word-reads_back}
 use Rattle.geos_model.proofs.Arrays.{joined, same_bytes-is, same_bytes-refl, length-joined, length-places, head_of, table_of, places_of, spelled, array_bytes-spelled, start-read, behind_extra, table-any, table-even, length_table-any, all_even, length-array_bytes}
-use Rattle.chunk_arrays.specs.Parts.{place_at, IsTable, HasElements, HasParts}
-use Rattle.chunk_arrays.proofs.Cutting.{AreBytes, word_at-lt, rejoin, word_rejoin, words_rejoin, word_in_words, length-cut_at, length-cut_evenly, even-cut_evenly, joined-cut_evenly, cut_from, places-cut, joined-cut, length-cut_at_le, place-next, place-le}
+use Rattle.chunk_arrays.specs.Parts.{AreBytes, place_at, IsTable, HasElements, HasParts}
+use Rattle.chunk_arrays.proofs.Cutting.{word_at-lt, rejoin, word_rejoin, words_rejoin, word_in_words, length-cut_at, length-cut_evenly, even-cut_evenly, joined-cut_evenly, cut_from, places-cut, joined-cut, length-cut_at_le, place-next, place-le}
 
 module _ (bytes : List ℕ) where
   -- the numbers of the header
@@ -185,6 +185,12 @@ module _ (bytes : List ℕ) (has : HasParts bytes) where
   pub array_of-parts : array_of bytes ≡ Some (array_read bytes)
   unfolding array_of
   array_of-parts = cond-true _ _ _ (and_from (is_even (array_read bytes)) (same_bytes (array_bytes (array_read bytes)) bytes) even-read (subst (λ l. same_bytes l bytes ≡ true) (sym bytes-read) (same_bytes-refl bytes)))
+
+  pub few-read : length (array_read bytes).elements < 65536
+  few-read = let is = length-elements_read bytes in let few = word_at-lt bytes has.are_bytes 0 in omega (arith, is, few)
+
+  pub are_bytes-read : AreBytes (array_bytes (array_read bytes))
+  are_bytes-read = subst AreBytes (sym bytes-read) has.are_bytes
 
 -- The second half: an array's bytes have these parts.
 module _ (bytes : List ℕ) (are : AreBytes bytes) (even : is_even (array_read bytes) ≡ true) (same : array_bytes (array_read bytes) ≡ bytes) where

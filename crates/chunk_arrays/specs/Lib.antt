@@ -1,5 +1,6 @@
 pub mod Rewriting
 pub mod Parts
 pub mod Reading
+pub mod Viewed
 pub mod Viewing
 pub mod Replacing

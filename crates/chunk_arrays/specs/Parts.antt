@@ -2,6 +2,10 @@
 use Rattle.std.specs.Prelude.{◌≡◌, ◌≢◌, ◌<◌, ◌≤◌, ℕ, ◌+◌, ◌*◌, List, length, slice_index}
 use Rattle.geos_model.specs.Words.{word_at}
 
+-- each is a byte
+abbrev pub AreBytes : List ℕ → Type 0
+AreBytes xs = (i : ℕ) → slice_index xs i < 256
+
 -- where an element begins, by a table of places that begins at start
 abbrev pub place_at : List ℕ → ℕ → ℕ → ℕ
 place_at bytes start i = word_at bytes (start + 2 * i)
@@ -21,7 +25,7 @@ pub record HasElements (bytes : List ℕ) (count size start : ℕ) : Type 0 wher
 
 -- the parts of an array
 pub record HasParts (bytes : List ℕ) : Type 0 where
-  pub are_bytes : (i : ℕ) → slice_index bytes i < 256
+  pub are_bytes : AreBytes bytes
   pub header : 8 ≤ length bytes
   pub third : word_at bytes 4 ≡ 0
   pub low : 8 ≤ word_at bytes 6

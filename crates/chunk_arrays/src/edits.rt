@@ -4,11 +4,11 @@ ghost use Rattle.geos_model.specs.Array.{array_bytes};
 ghost use Rattle.geos_model.specs.ArrayEdits.{new_array, element_inserted, element_set, element_resized, elements_deleted, array_zeroed, on_array, create_conditions, insert_conditions, set_conditions, resize_conditions, delete_conditions, too_long, is_missized};
 ghost use Rattle.geos_model.specs.Bytes.{resized};
 ghost use Rattle.chunk_arrays.specs.Rewriting.{bytes_of};
-ghost use Rattle.chunk_edits.specs.Splicing.{Refuses};
+ghost use Rattle.chunk_edits.specs.Splicing.{RefusesToBuild};
 ghost use Rattle.chunk_arrays.specs.Replacing.{Replaces, RefusesToReplace};
 
 use crate::rewriting::{NewElement, push_header, rewrite};
-use crate::view::{View, check};
+use crate::view::check;
 use chunk_edits::Splice;
 use geos_model::Fault;
 use std::alloc::Global;
@@ -24,7 +24,7 @@ const GREATEST_EXTRA: u32 = 1024;
 pub fn create_bytes(alloc: Global, size: u32, extra: u32) -> Result<Vec<u8>, Fault>
     ensures { MatchResult result
         (λ bytes. (first_refusal (create_conditions size extra) ≡ None) × (bytes.items ≡ array_bytes (new_array size extra)))
-        (Refuses (create_conditions size extra)) }
+        (RefusesToBuild (create_conditions size extra)) }
 {
     if size > GREATEST_SIZE || extra > GREATEST_EXTRA {
         return Err(Fault::Range);
@@ -45,7 +45,7 @@ pub fn insert(alloc: Global, bytes: &[u8], i: u32, element: &[u8]) -> Result<Spl
 {
     let view = check(bytes)?;
     let at = i as usize;
-    if at > view.count() || has_other_size(&view, element) {
+    if at > view.count() || is_missized(view.element_size(), element) {
         return Err(Fault::Range);
     }
     rewrite(alloc, &view, &[], at, at, Some(whole(element)))
@@ -63,7 +63,7 @@ pub fn set(alloc: Global, bytes: &[u8], i: u32, element: &[u8]) -> Result<Splice
     if at >= view.count() {
         return Err(Fault::NoElement);
     }
-    if has_other_size(&view, element) {
+    if is_missized(view.element_size(), element) {
         return Err(Fault::Range);
     }
     rewrite(alloc, &view, &[], at, at + 1, Some(whole(element)))
@@ -114,11 +114,10 @@ pub fn zero(alloc: Global, bytes: &[u8]) -> Result<Splice, Fault>
     rewrite(alloc, &view, &[], 0, view.count(), None)
 }
 
-/// Whether these bytes can't be an element of the array since its elements have another size.
-fn has_other_size(view: &View<'_>, element: &[u8]) -> bool
-    ensures { result ≡ is_missized view.now.size element.now }
+/// Whether these bytes can't be an element where each has this size, 0 where sizes vary.
+pub fn is_missized(size: usize, element: &[u8]) -> bool
+    ensures { result ≡ is_missized size element.now }
 {
-    let size = view.element_size();
     size != 0 && element.len() != size
 }
 

@@ -7,7 +7,7 @@ mod empty;
 mod rewriting;
 mod view;
 
-pub use edits::{GREATEST_SIZE, create_bytes, delete, insert, resize, set, zero};
+pub use edits::{GREATEST_SIZE, create_bytes, delete, insert, is_missized, resize, set, zero};
 pub use empty::empty_bytes;
 pub use rewriting::{NewElement, rewrite};
 pub use view::{View, check};

@@ -2,6 +2,7 @@ ghost use Rattle.std.specs.Prelude.{◌≡◌, ◌≤◌, ◌<◌, ◌+◌, ◌-
 ghost use Rattle.std.specs.List.{splice, flat_map};
 ghost use Rattle.geos_model.specs.Words.{word};
 ghost use Rattle.geos_model.specs.Array.{array_bytes, is_even, place_table, places_from};
+ghost use Rattle.geos_model.specs.Heap.{longest_chunk};
 ghost use Rattle.chunk_arrays.specs.Rewriting.{elements_of, extra_after, rewritten};
 ghost use Rattle.chunk_arrays.specs.Replacing.{Replaces, RefusesToReplace};
 
@@ -33,12 +34,12 @@ pub fn rewrite(
     new: Option<NewElement<'_>>,
 ) -> Result<Splice, Fault>
     requires order { from ≤ to }
-    requires within { to ≤ length view.now.elements }
-    requires extra { length first.now ≤ length view.now.extra }
-    requires even { is_even (rewritten view.now (extra_after view.now first.now) from to new) ≡ true }
+    requires within { to ≤ length view.now.array.elements }
+    requires extra { length first.now ≤ length view.now.array.extra }
+    requires even { is_even (rewritten view.now.array (extra_after view.now.array first.now) from to new) ≡ true }
     ensures { MatchResult result
-        (Replaces [] (array_bytes view.now) (array_bytes (rewritten view.now (extra_after view.now first.now) from to new.entry)))
-        (RefusesToReplace [] (array_bytes (rewritten view.now (extra_after view.now first.now) from to new.entry))) }
+        (Replaces [] (array_bytes view.now.array) (array_bytes (rewritten view.now.array (extra_after view.now.array first.now) from to new.entry)))
+        (RefusesToReplace [] (array_bytes (rewritten view.now.array (extra_after view.now.array first.now) from to new.entry))) }
 {
     let len = length_after(view, from, to, new);
     if len > LONGEST {
@@ -55,8 +56,8 @@ pub fn rewrite(
 /// How many bytes the array has then; the greatest number where they are more.
 fn length_after(view: &View<'_>, from: usize, to: usize, new: Option<NewElement<'_>>) -> usize
     requires order { from ≤ to }
-    requires within { to ≤ length view.now.elements }
-    ensures { result ≡ min (length (array_bytes (rewritten view.now view.now.extra from to new.entry))) (2 ^ 64 - 1) }
+    requires within { to ≤ length view.now.array.elements }
+    ensures { result ≡ min (length (array_bytes (rewritten view.now.array view.now.array.extra from to new.entry))) (2 ^ 64 - 1) }
 {
     let start = view.extra().len().saturating_add(8);
     let table = table_len(view, count_after(view, from, to, new));
@@ -69,8 +70,8 @@ fn length_after(view: &View<'_>, from: usize, to: usize, new: Option<NewElement<
 /// How many elements the array has then; the greatest number where they are more.
 fn count_after(view: &View<'_>, from: usize, to: usize, new: Option<NewElement<'_>>) -> usize
     requires order { from ≤ to }
-    requires within { to ≤ length view.now.elements }
-    ensures { result ≡ min (length (splice view.now.elements from to (elements_of new.entry))) (2 ^ 64 - 1) }
+    requires within { to ≤ length view.now.array.elements }
+    ensures { result ≡ min (length (splice view.now.array.elements from to (elements_of new.entry))) (2 ^ 64 - 1) }
 {
     let left = from + (view.count() - to);
     match new {
@@ -81,7 +82,7 @@ fn count_after(view: &View<'_>, from: usize, to: usize, new: Option<NewElement<'
 
 /// How many bytes the table of places of so many elements has; the greatest number where they are more.
 fn table_len(view: &View<'_>, count: usize) -> usize
-    ensures { result ≡ min (if view.now.size == 0 then 2 * count else 0) (2 ^ 64 - 1) }
+    ensures { result ≡ min (if view.now.array.size == 0 then 2 * count else 0) (2 ^ 64 - 1) }
 {
     if view.element_size() == 0 {
         count.saturating_add(count)
@@ -116,12 +117,12 @@ fn bytes_after(
     len: usize,
 ) -> Result<Vec<u8>, AllocError>
     requires order { from ≤ to }
-    requires within { to ≤ length view.now.elements }
-    requires extra { length first.now ≤ length view.now.extra }
-    requires even { is_even (rewritten view.now (extra_after view.now first.now) from to new) ≡ true }
-    requires len { len ≡ length (array_bytes (rewritten view.now (extra_after view.now first.now) from to new)) }
-    requires fits { len ≤ 65498 }
-    ensures { IfOk result (λ out. out.items ≡ array_bytes (rewritten view.now (extra_after view.now first.now) from to new.entry)) }
+    requires within { to ≤ length view.now.array.elements }
+    requires extra { length first.now ≤ length view.now.array.extra }
+    requires even { is_even (rewritten view.now.array (extra_after view.now.array first.now) from to new) ≡ true }
+    requires len { len ≡ length (array_bytes (rewritten view.now.array (extra_after view.now.array first.now) from to new)) }
+    requires fits { len ≤ longest_chunk }
+    ensures { IfOk result (λ out. out.items ≡ array_bytes (rewritten view.now.array (extra_after view.now.array first.now) from to new.entry)) }
 {
     let count = count_after(view, from, to, new);
     let start = 8 + view.extra().len();
@@ -142,9 +143,9 @@ pub(crate) fn push_header(
     size: usize,
     start: usize,
 ) -> Result<(), AllocError>
-    requires count { count < 65536 }
-    requires size { size < 65536 }
-    requires start { start < 65536 }
+    requires count { count < 2 ^ 16 }
+    requires size { size < 2 ^ 16 }
+    requires start { start < 2 ^ 16 }
     ensures { IfOk result (λ _. out.new.items ≡ out.old.items ++ (word count ++ word size ++ word 0 ++ word start)) }
 {
     push_word(out, count)?;
@@ -155,8 +156,8 @@ pub(crate) fn push_header(
 
 /// Adds the extra bytes, with these as the first.
 fn push_extra(out: &mut Vec<u8>, view: &View<'_>, first: &[u8]) -> Result<(), AllocError>
-    requires { length first.now ≤ length view.now.extra }
-    ensures { IfOk result (λ _. out.new.items ≡ out.old.items ++ extra_after view.now first.now) }
+    requires { length first.now ≤ length view.now.array.extra }
+    ensures { IfOk result (λ _. out.new.items ≡ out.old.items ++ extra_after view.now.array first.now) }
 {
     out.extend_from_slice(first)?;
     out.extend_from_slice(&view.extra()[first.len()..])
@@ -172,9 +173,9 @@ fn push_table(
     new: Option<NewElement<'_>>,
 ) -> Result<(), AllocError>
     requires order { from ≤ to }
-    requires within { to ≤ length view.now.elements }
-    requires fits { start + length (place_table start (rewritten view.now view.now.extra from to new)) + length (flat_map (λ x. x) (splice view.now.elements from to (elements_of new))) < 65536 }
-    ensures { IfOk result (λ _. out.new.items ≡ out.old.items ++ place_table start (rewritten view.now view.now.extra from to new.entry)) }
+    requires within { to ≤ length view.now.array.elements }
+    requires fits { start + length (place_table start (rewritten view.now.array view.now.array.extra from to new)) + length (flat_map (λ x. x) (splice view.now.array.elements from to (elements_of new))) < 2 ^ 16 }
+    ensures { IfOk result (λ _. out.new.items ≡ out.old.items ++ place_table start (rewritten view.now.array view.now.array.extra from to new.entry)) }
 {
     if view.element_size() != 0 {
         return Ok(());
@@ -195,11 +196,11 @@ fn push_places(
     to: usize,
 ) -> Result<usize, AllocError>
     requires order { from ≤ to }
-    requires within { to ≤ length view.now.elements }
-    requires fits { place + length (flat_map (λ x. x) (take (to - from) (drop from view.now.elements))) < 65536 }
+    requires within { to ≤ length view.now.array.elements }
+    requires fits { place + length (flat_map (λ x. x) (take (to - from) (drop from view.now.array.elements))) < 2 ^ 16 }
     ensures { IfOk result (λ next.
-        (out.new.items ≡ out.old.items ++ flat_map word (places_from place (take (to - from) (drop from view.now.elements))))
-        × (next ≡ place + length (flat_map (λ x. x) (take (to - from) (drop from view.now.elements))))) }
+        (out.new.items ≡ out.old.items ++ flat_map word (places_from place (take (to - from) (drop from view.now.array.elements))))
+        × (next ≡ place + length (flat_map (λ x. x) (take (to - from) (drop from view.now.array.elements))))) }
 {
     let mut next = place;
     for i in from..to {
@@ -215,7 +216,7 @@ fn push_place(
     place: usize,
     new: Option<NewElement<'_>>,
 ) -> Result<usize, AllocError>
-    requires { place + length (flat_map (λ x. x) (elements_of new)) < 65536 }
+    requires { place + length (flat_map (λ x. x) (elements_of new)) < 2 ^ 16 }
     ensures { IfOk result (λ next.
         (out.new.items ≡ out.old.items ++ flat_map word (places_from place (elements_of new.entry)))
         × (next ≡ place + length (flat_map (λ x. x) (elements_of new.entry)))) }
@@ -228,7 +229,7 @@ fn push_place(
 
 /// Adds a number as a word.
 fn push_word(out: &mut Vec<u8>, n: usize) -> Result<(), AllocError>
-    requires { n < 65536 }
+    requires { n < 2 ^ 16 }
     ensures { IfOk result (λ _. out.new.items ≡ out.old.items ++ word n) }
 {
     let word = n as u16;

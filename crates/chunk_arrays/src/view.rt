@@ -1,15 +1,15 @@
-ghost use Rattle.std.specs.Prelude.{◌≡◌, ◌<◌, ◌≤◌, ◌+◌, ◌-◌, ◌↔◌, Some, None, [], true, IsTrue, MatchResult, length, take, drop, get_or};
+ghost use Rattle.std.specs.Prelude.{◌≡◌, ◌^◌, ◌<◌, ◌≤◌, ◌+◌, ◌-◌, ◌↔◌, Some, None, [], true, IsTrue, MatchResult, length, take, drop, get_or};
 ghost use Rattle.std.specs.List.{flat_map};
 ghost use Rattle.geos_model.specs.Words.{word_at};
-ghost use Rattle.geos_model.specs.Array.{array_bytes, array_of, is_even};
-ghost use Rattle.chunk_arrays.specs.Parts.{IsTable, HasElements};
+ghost use Rattle.geos_model.specs.Array.{array_bytes, array_of, array_read, is_even};
+ghost use Rattle.chunk_arrays.specs.Parts.{AreBytes, IsTable, HasElements};
 ghost use Rattle.chunk_arrays.specs.Reading.{place_of};
 
 use byteorder::{ByteOrder, LittleEndian};
 use geos_model::Fault;
 use std::marker::Model;
 
-/// A chunk array, read where it lies. Contracts see it as the array.
+/// A chunk array, read where it lies. Contracts see it as the array, with what holds of each.
 #[derive(Drop)]
 pub struct View<'a> {
     bytes: &'a [u8],
@@ -19,16 +19,20 @@ pub struct View<'a> {
     size: usize,
     /// Where the extra bytes end.
     start: usize,
+    ghost even: { is_even (array_read bytes.now) ≡ true },
+    ghost few: { length (array_read bytes.now).elements < 2 ^ 16 },
+    ghost are_bytes: { AreBytes (array_bytes (array_read bytes.now)) },
 }
 
 impl<'a> Model for View<'a> {
-    ghost use Rattle.geos_model.specs.Array.{Array, array_read};
+    ghost use Rattle.geos_model.specs.Array.{array_read};
+    ghost use Rattle.chunk_arrays.specs.Viewed.{Viewed};
 
-    ghost Value = { Array };
+    ghost Value = { Viewed };
 
     ghost use Rattle.chunk_arrays.specs.Viewing.{IsView};
 
-    ghost view = { λ v. array_read v.bytes.now };
+    ghost view = { λ v. record { array = array_read v.bytes.now; even = v.even; few = v.few; are_bytes = v.are_bytes } };
 
     ghost invariant = { IsView };
 }
@@ -36,7 +40,7 @@ impl<'a> Model for View<'a> {
 /// The array that these bytes are: a header of four words, extra bytes, and elements without gaps. NotArray where they are
 /// none. It takes time in proportion to the number of elements, and no memory.
 pub fn check(bytes: &[u8]) -> Result<View<'_>, Fault>
-    ensures { MatchResult result (λ view. array_of bytes.now ≡ Some view) (λ fault. (fault ≡ Fault.NotArray) × (array_of bytes.now ≡ None)) }
+    ensures { MatchResult result (λ view. array_of bytes.now ≡ Some view.array) (λ fault. (fault ≡ Fault.NotArray) × (array_of bytes.now ≡ None)) }
 {
     if bytes.len() < 8 {
         return Err(Fault::NotArray);
@@ -63,7 +67,7 @@ pub fn check(bytes: &[u8]) -> Result<View<'_>, Fault>
 fn word(bytes: &[u8], at: usize) -> usize
     requires { at + 2 ≤ length bytes.now }
     ensures value { result ≡ word_at bytes.now at }
-    ensures bound { result < 65536 }
+    ensures bound { result < 2 ^ 16 }
 {
     usize::from(LittleEndian::read_u16(&bytes[at..]))
 }
@@ -71,7 +75,7 @@ fn word(bytes: &[u8], at: usize) -> usize
 /// Whether elements fill the bytes from `start` on.
 fn has_elements(bytes: &[u8], count: usize, size: usize, start: usize) -> bool
     requires start { start ≤ length bytes.now }
-    requires words { (count < 65536) × (size < 65536) × (start < 65536) }
+    requires words { (count < 2 ^ 16) × (size < 2 ^ 16) × (start < 2 ^ 16) }
     ensures { IsTrue result ↔ HasElements bytes.now count size start }
 {
     if size == 0 {
@@ -84,7 +88,7 @@ fn has_elements(bytes: &[u8], count: usize, size: usize, start: usize) -> bool
 /// Whether a table of places begins at `start`, and the elements fill the bytes from there on.
 fn has_table(bytes: &[u8], count: usize, start: usize) -> bool
     requires start { start ≤ length bytes.now }
-    requires words { (count < 65536) × (start < 65536) }
+    requires words { (count < 2 ^ 16) × (start < 2 ^ 16) }
     ensures { IsTrue result ↔ IsTable bytes.now count start }
 {
     let len = bytes.len();
@@ -112,40 +116,36 @@ fn has_table(bytes: &[u8], count: usize, start: usize) -> bool
 impl<'a> View<'a> {
     /// How many elements there are.
     pub fn count(&self) -> usize
-        ensures value { result ≡ length self.now.elements }
-        ensures short { result < 65536 }
+        ensures { result ≡ length self.now.array.elements }
     {
         self.count
     }
 
     /// How many bytes each element has, 0 where sizes vary.
     pub fn element_size(&self) -> usize
-        ensures { result ≡ self.now.size }
+        ensures { result ≡ self.now.array.size }
     {
         self.size
     }
 
     /// The bytes of an element.
     pub fn element(&self, i: usize) -> &'a [u8]
-        requires { i < length self.now.elements }
-        ensures { result.now ≡ get_or self.now.elements i [] }
+        requires { i < length self.now.array.elements }
+        ensures { result.now ≡ get_or self.now.array.elements i [] }
     {
-        // The type of the count tells the prover that there are fewer than 2^64 elements, so that the next place is a number.
-        let _ = &self.count;
         self.run(i, i + 1)
     }
 
     /// The extra bytes.
     pub fn extra(&self) -> &'a [u8]
-        ensures { result.now ≡ self.now.extra }
+        ensures { result.now ≡ self.now.array.extra }
     {
         &self.bytes[8..self.start]
     }
 
     /// All bytes of the array.
     pub fn bytes(&self) -> &'a [u8]
-        ensures value { result.now ≡ array_bytes self.now }
-        ensures even { is_even self.now ≡ true }
+        ensures { result.now ≡ array_bytes self.now.array }
     {
         self.bytes
     }
@@ -153,8 +153,8 @@ impl<'a> View<'a> {
     /// The bytes of the elements from one up to another, one after another.
     pub(crate) fn run(&self, from: usize, to: usize) -> &'a [u8]
         requires order { from ≤ to }
-        requires within { to ≤ length self.now.elements }
-        ensures { result.now ≡ flat_map (λ x. x) (take (to - from) (drop from self.now.elements)) }
+        requires within { to ≤ length self.now.array.elements }
+        ensures { result.now ≡ flat_map (λ x. x) (take (to - from) (drop from self.now.array.elements)) }
     {
         let start = self.place(from);
         let end = self.place(to);
@@ -163,8 +163,8 @@ impl<'a> View<'a> {
 
     /// Where an element begins, or where the last one ends.
     fn place(&self, i: usize) -> usize
-        requires { i ≤ length self.now.elements }
-        ensures { result ≡ place_of self.now i }
+        requires { i ≤ length self.now.array.elements }
+        ensures { result ≡ place_of self.now.array i }
     {
         if i == self.count {
             self.bytes.len()

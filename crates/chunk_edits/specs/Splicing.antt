@@ -30,8 +30,8 @@ pub record Builds (conditions : Conditions) (s : Splice) (from to : List ℕ) (h
   pub leads : Leads s from to held
 
 -- want of memory, or the first refusal
-abbrev pub Refuses : Conditions → Fault → Type 0
-Refuses conditions fault = (fault ≡ Memory) ⊎ (first_refusal conditions ≡ Some fault)
+abbrev pub RefusesToBuild : Conditions → Fault → Type 0
+RefusesToBuild conditions fault = (fault ≡ Memory) ⊎ (first_refusal conditions ≡ Some fault)
 
 -- Where a splice leads, its new part stands, and it leads back.
 abbrev pub SpliceLaw : Type 0

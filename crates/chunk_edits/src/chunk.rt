@@ -5,7 +5,7 @@ ghost use Rattle.geos_model.specs.Bytes.{written, resized, inserted, deleted};
 ghost use Rattle.geos_model.specs.Cost.{difference};
 ghost use Rattle.geos_model.specs.Heap.{chunk_bytes, fits_with, is_heap_map};
 ghost use Rattle.geos_model.specs.Meaning.{past_end, no_room};
-ghost use Rattle.chunk_edits.specs.Splicing.{Builds, Refuses, forwards, backwards};
+ghost use Rattle.chunk_edits.specs.Splicing.{Builds, RefusesToBuild, forwards, backwards};
 
 use crate::splice::{Splice, copied, zeros};
 use geos_model::{Bytes, ChunkHandle, Fault};
@@ -59,7 +59,7 @@ pub fn write(
     requires { IsTrue (contains_key heap.now h.0) }
     ensures built { MatchResult result
         (λ s. Builds (past_end (chunk_bytes heap.now h.0) (at + length bytes.now)) s (chunk_bytes heap.now h.0) (written (chunk_bytes heap.now h.0) at bytes.now) (2 * length bytes.now))
-        (Refuses (past_end (chunk_bytes heap.now h.0) (at + length bytes.now))) }
+        (RefusesToBuild (past_end (chunk_bytes heap.now h.0) (at + length bytes.now))) }
     ensures fits { IfOk result (λ s. IsTrue (fits_with heap.now h.0 (written (chunk_bytes heap.now h.0) at bytes.now))) }
 {
     let old = part(heap, h, at as usize, bytes.len())?;
@@ -76,7 +76,7 @@ pub fn insert(alloc: Global, heap: &Heap, h: ChunkHandle, at: u32, n: u32) -> Re
     requires { IsTrue (contains_key heap.now h.0) }
     ensures built { MatchResult result
         (λ s. Builds (past_end (chunk_bytes heap.now h.0) at ++ no_room heap.now h.0 (inserted (chunk_bytes heap.now h.0) at n)) s (chunk_bytes heap.now h.0) (inserted (chunk_bytes heap.now h.0) at n) n)
-        (Refuses (past_end (chunk_bytes heap.now h.0) at ++ no_room heap.now h.0 (inserted (chunk_bytes heap.now h.0) at n))) }
+        (RefusesToBuild (past_end (chunk_bytes heap.now h.0) at ++ no_room heap.now h.0 (inserted (chunk_bytes heap.now h.0) at n))) }
     ensures fits { IfOk result (λ s. IsTrue (fits_with heap.now h.0 (inserted (chunk_bytes heap.now h.0) at n))) }
 {
     if at as usize > chunk_of(heap, h).len() {
@@ -97,7 +97,7 @@ pub fn delete(alloc: Global, heap: &Heap, h: ChunkHandle, at: u32, n: u32) -> Re
     requires { IsTrue (contains_key heap.now h.0) }
     ensures built { MatchResult result
         (λ s. Builds (past_end (chunk_bytes heap.now h.0) (at + n)) s (chunk_bytes heap.now h.0) (deleted (chunk_bytes heap.now h.0) at n) n)
-        (Refuses (past_end (chunk_bytes heap.now h.0) (at + n))) }
+        (RefusesToBuild (past_end (chunk_bytes heap.now h.0) (at + n))) }
     ensures fits { IfOk result (λ s. IsTrue (fits_with heap.now h.0 (deleted (chunk_bytes heap.now h.0) at n))) }
 {
     let old = part(heap, h, at as usize, n as usize)?;
@@ -114,7 +114,7 @@ pub fn resize(alloc: Global, heap: &Heap, h: ChunkHandle, n: u32) -> Result<Spli
     requires { IsTrue (contains_key heap.now h.0) }
     ensures built { MatchResult result
         (λ s. Builds (no_room heap.now h.0 (resized (chunk_bytes heap.now h.0) n)) s (chunk_bytes heap.now h.0) (resized (chunk_bytes heap.now h.0) n) (difference n (length (chunk_bytes heap.now h.0))))
-        (Refuses (no_room heap.now h.0 (resized (chunk_bytes heap.now h.0) n))) }
+        (RefusesToBuild (no_room heap.now h.0 (resized (chunk_bytes heap.now h.0) n))) }
     ensures fits { IfOk result (λ s. IsTrue (fits_with heap.now h.0 (resized (chunk_bytes heap.now h.0) n))) }
 {
     if !heap.fits_resize(h, n) {

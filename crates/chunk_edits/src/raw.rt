@@ -1,8 +1,9 @@
 ghost use Rattle.std.specs.Prelude.{◌≡◌, ◌≤◌, ◌+◌, ◌*◌, IfOk, MatchResult, length};
 ghost use Rattle.std.specs.List.{splice};
 ghost use Rattle.geos_model.specs.Bytes.{written};
+ghost use Rattle.geos_model.specs.Heap.{capacity};
 ghost use Rattle.geos_model.specs.Meaning.{past_end, too_big};
-ghost use Rattle.chunk_edits.specs.Splicing.{Builds, Refuses, forwards, backwards};
+ghost use Rattle.chunk_edits.specs.Splicing.{Builds, RefusesToBuild, forwards, backwards};
 
 use crate::splice::{Splice, copied};
 use geos_model::Fault;
@@ -12,7 +13,7 @@ use std::alloc::Global;
 /// Puts the new part in the place of the old one.
 pub fn apply_raw(body: &mut RawBody, splice: &Splice)
     requires within { splice.now.at + length splice.now.old ≤ length body.old }
-    requires room { length (forwards splice.now body.old) ≤ 65520 }
+    requires room { length (forwards splice.now body.old) ≤ capacity }
     ensures { body.new ≡ forwards splice.now body.old }
 {
     let old = splice.old.as_slice().len();
@@ -22,7 +23,7 @@ pub fn apply_raw(body: &mut RawBody, splice: &Splice)
 /// Puts the old part in the place of the new one, which takes `apply_raw` back.
 pub fn apply_raw_back(body: &mut RawBody, splice: &Splice)
     requires within { splice.now.at + length splice.now.new ≤ length body.old }
-    requires room { length (backwards splice.now body.old) ≤ 65520 }
+    requires room { length (backwards splice.now body.old) ≤ capacity }
     ensures { body.new ≡ backwards splice.now body.old }
 {
     let new = splice.new.as_slice().len();
@@ -32,7 +33,7 @@ pub fn apply_raw_back(body: &mut RawBody, splice: &Splice)
 /// Puts bytes in the place of the `k` bytes at `at`. As many are written over without a move of others.
 fn put(body: &mut RawBody, at: usize, k: usize, bytes: &[u8])
     requires within { at + k ≤ length body.old }
-    requires room { length (splice body.old at (at + k) bytes.now) ≤ 65520 }
+    requires room { length (splice body.old at (at + k) bytes.now) ≤ capacity }
     ensures { body.new ≡ splice body.old at (at + k) bytes.now }
 {
     if bytes.len() == k {
@@ -46,8 +47,8 @@ fn put(body: &mut RawBody, at: usize, k: usize, bytes: &[u8])
 pub fn raw_write(alloc: Global, body: &RawBody, at: u32, bytes: &[u8]) -> Result<Splice, Fault>
     ensures built { MatchResult result
         (λ s. Builds (past_end body.now (at + length bytes.now)) s body.now (written body.now at bytes.now) (2 * length bytes.now))
-        (Refuses (past_end body.now (at + length bytes.now))) }
-    ensures room { IfOk result (λ s. length (written body.now at bytes.now) ≤ 65520) }
+        (RefusesToBuild (past_end body.now (at + length bytes.now))) }
+    ensures room { IfOk result (λ s. length (written body.now at bytes.now) ≤ capacity) }
 {
     let all = body.bytes();
     let start = at as usize;
@@ -65,7 +66,7 @@ pub fn raw_write(alloc: Global, body: &RawBody, at: u32, bytes: &[u8]) -> Result
 pub fn raw_replace(alloc: Global, body: &RawBody, bytes: &[u8]) -> Result<Splice, Fault>
     ensures { MatchResult result
         (λ s. Builds (too_big (length bytes.now)) s body.now bytes.now (length body.now + length bytes.now))
-        (Refuses (too_big (length bytes.now))) }
+        (RefusesToBuild (too_big (length bytes.now))) }
 {
     if bytes.len() > SIZE {
         return Err(Fault::TooBig);

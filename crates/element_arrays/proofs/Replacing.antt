@@ -10,7 +10,7 @@ use Rattle.geos_model.specs.declared.fault.Fault.{Fault}
 use Rattle.chunk_edits.specs.Splicing.{Leads}
 use Rattle.chunk_edits.specs.declared.splice.Splice.{Splice}
 use Rattle.chunk_arrays.specs.Replacing.{Replaces, RefusesToReplace}
-use Rattle.element_arrays.specs.Slotted.{Slotted, slotted_bytes, with_slots, GivesSlots, RefusesSlots}
+use Rattle.element_arrays.specs.Slotted.{Slotted, slotted_bytes, GivesSlots, RefusesSlots}
 use Rattle.geos_model.proofs.Order.{is_worn, accepted-room, refused-room}
 
 -- What is refused of its own is refused.
@@ -37,12 +37,12 @@ module _ (own few : Conditions) (from to from′ to′ : List ℕ) (decides : fi
     handed_on (Err fault) refused = refuses_for fault refused
 
 -- An edit of slots, and its refusals, are those of the bytes, where no other refusal applies.
-module _ (own : Conditions) (s : Slotted) (slots : Slots) (from to : List ℕ) (none : first_refusal own ≡ None) (from_is : slotted_bytes s ≡ from) (to_is : slotted_bytes (with_slots s slots) ≡ to) where
+module _ (own : Conditions) (s : Slotted) (slots : Slots) (from to : List ℕ) (none : first_refusal own ≡ None) (from_is : slotted_bytes s.more s.slots ≡ from) (to_is : slotted_bytes s.more slots ≡ to) where
   pub slots_refused : (fault : Fault) → RefusesSlots s slots fault → RefusesToReplace own to fault
-  slots_refused fault refused = refuses_for own [] from to (slotted_bytes s) (slotted_bytes (with_slots s slots)) (accepted-room own _ none) to_is fault refused
+  slots_refused fault refused = refuses_for own [] from to (slotted_bytes s.more s.slots) (slotted_bytes s.more slots) (accepted-room own _ none) to_is fault refused
 
   pub slots_given : (splice : Splice) → GivesSlots s slots splice → Replaces own from to splice
-  slots_given splice made = replaces_for own [] from to (slotted_bytes s) (slotted_bytes (with_slots s slots)) (accepted-room own _ none) to_is from_is splice made
+  slots_given splice made = replaces_for own [] from to (slotted_bytes s.more s.slots) (slotted_bytes s.more slots) (accepted-room own _ none) to_is from_is splice made
 
   pub slots_handed_on : (r : Result Splice Fault) → MatchResult r (GivesSlots s slots) (RefusesSlots s slots) → MatchResult r (Replaces own from to) (RefusesToReplace own to)
   slots_handed_on (Ok splice) made = slots_given splice made

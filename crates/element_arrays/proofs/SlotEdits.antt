@@ -1,9 +1,8 @@
 -- What an edit of slots makes of the array that they are.
-use Rattle.std.proofs.Common.{◌≡◌, ℕ, zero, suc, ◌+◌, ◌<◌, ◌≤◌, Bool, true, false, not, ◌&&◌, ◌||◌, ◌==◌, nat_le, nat_lt, if◌then◌else◌, List, [], ◌∷◌, ◌++◌, map, length, take, drop, set, get_or, replicate, is_none, Option, Some, None, Result, Ok, Err, MatchResult, refl, sym, ap, ap₂, subst, ◌∙◌, arith, inl, inr, append_assoc, append-nil, length-append, eqb-true, ltb-true}
+use Rattle.std.proofs.Common.{◌≡◌, ℕ, zero, suc, ◌+◌, ◌<◌, ◌≤◌, Bool, true, false, not, ◌&&◌, ◌||◌, ◌==◌, nat_le, nat_lt, if◌then◌else◌, List, [], ◌∷◌, ◌++◌, map, length, take, drop, set, get_or, replicate, is_none, Option, Some, None, Result, MatchResult, refl, sym, ap, ap₂, subst, ◌∙◌, arith, inl, inr, append_assoc, append-nil, length-append, eqb-true, ltb-true}
 use Rattle.std.proofs.lemmas.Bool.{cases_Bool, and_parts, cond-true, cond-false, ne_eqb, eq-eqb}
 use Rattle.std.proofs.lemmas.List.{take_all, drop_all, length-replicate}
 use Rattle.std.proofs.lemmas.Result.{MatchResult-weaker}
-use Rattle.std.specs.Result.{IsErrAnd}
 use Rattle.std.specs.List.{list_all, count_by, enumerate_from, splice}
 use Rattle.byteorder.specs.Endian.{little_bytes, little_number}
 use Rattle.geos_model.specs.Words.{word}
@@ -14,7 +13,7 @@ use Rattle.geos_model.specs.ElementEdits.{with_new, with_new_at}
 use Rattle.geos_model.specs.declared.fault.Fault.{Fault}
 use Rattle.geos_model.proofs.ArrayEdits.{even_with}
 use Rattle.geos_model.proofs.Images.{word-reads_back}
-use Rattle.chunk_edits.specs.Splicing.{Builds, Refuses}
+use Rattle.chunk_edits.specs.Splicing.{Builds, RefusesToBuild}
 use Rattle.chunk_arrays.specs.Rewriting.{extra_after}
 use Rattle.chunk_edits.specs.declared.splice.Splice.{Splice}
 use Rattle.element_arrays.specs.Slotted.{Slotted, slotted_array, slotted_bytes, GivesSlots, RefusesSlots}
@@ -125,11 +124,11 @@ sized-slots n k sized one = elim (cases_Bool (n == 0)) [
   | inr some ↦ sized some ∙ sym (cond-false (n == 0) 0 (n + 3) some)
 ]
 
-pub is_even-slots : (more : List ℕ) (s : Slots) (v : Array) (extra : List ℕ) (from to : ℕ) (y : List ℕ) → v ≡ slots_array more s → is_even (slots_array more s) ≡ true → ((s.size == 0) ≡ false → length y ≡ s.size + 3) → is_even (put v extra from to y) ≡ true
+pub is_even-slots : (more : List ℕ) (s : Slots) (v : Array) (extra : List ℕ) (from to : ℕ) (y : List ℕ) → v ≡ slots_array more s → is_even v ≡ true → ((s.size == 0) ≡ false → length y ≡ s.size + 3) → is_even (put v extra from to y) ≡ true
 unfolding slots_array
 is_even-slots more s v extra from to y is even sized =
     subst (λ a. is_even (put a extra from to y) ≡ true) (sym is)
-    (is_even-put (slots_array more s) extra from to y even (sized-slots s.size (length y) sized))
+    (is_even-put (slots_array more s) extra from to y (ap is_even (sym is) ∙ even) (sized-slots s.size (length y) sized))
 
 -- Of the slots of an array.
 
@@ -165,13 +164,13 @@ gives s new v w x old to built =
     subst (λ a. Builds (too_long (array_bytes (slots_array s.more new))) x (array_bytes a) (array_bytes (slots_array s.more new)) (length (array_bytes a) + length (array_bytes (slots_array s.more new)))) old
     (subst (λ b. Builds (too_long (array_bytes b)) x (array_bytes v) (array_bytes b) (length (array_bytes v) + length (array_bytes b))) to built)
 
-pub refuses : (s : Slotted) (new : Slots) (w : Array) (fault : Fault) → w ≡ slots_array s.more new → Refuses (too_long (array_bytes w)) fault → RefusesSlots s new fault
+pub refuses : (s : Slotted) (new : Slots) (w : Array) (fault : Fault) → w ≡ slots_array s.more new → RefusesToBuild (too_long (array_bytes w)) fault → RefusesSlots s new fault
 unfolding slotted_bytes
-refuses s new w fault to refused = subst (λ b. Refuses (too_long (array_bytes b)) fault) to refused
+refuses s new w fault to refused = subst (λ b. RefusesToBuild (too_long (array_bytes b)) fault) to refused
 
 -- what `rewrite` answers
 abbrev pub Rewrites : Array → Array → Result Splice Fault → Type 0
-Rewrites v w r = MatchResult r (λ x. Builds (too_long (array_bytes w)) x (array_bytes v) (array_bytes w) (length (array_bytes v) + length (array_bytes w))) (Refuses (too_long (array_bytes w)))
+Rewrites v w r = MatchResult r (λ x. Builds (too_long (array_bytes w)) x (array_bytes v) (array_bytes w) (length (array_bytes v) + length (array_bytes w))) (RefusesToBuild (too_long (array_bytes w)))
 
 pub answers : (s : Slotted) (new : Slots) (v w : Array) (r : Result Splice Fault) → v ≡ slotted_array s → w ≡ slots_array s.more new → Rewrites v w r → MatchResult r (GivesSlots s new) (RefusesSlots s new)
 answers s new v w r old to h = MatchResult-weaker r h (λ x. gives s new v w x old to) (λ fault. refuses s new w fault to)
@@ -313,8 +312,3 @@ put-some more s v t at extra element bytes is sound free place first spells =
     put-at more s v t at (fresh bytes) (drop 1 s.free) extra element is place (newest_lt s t sound free)
     (λ j other. sym (ap (λ (ts : List ℕ). token_after ts j) free ∙ token_after-other t (drop 1 s.free) j other)) first spells
     ∙ sym (ap (λ (p : Slots × ℕ). slots_array more p.0) (with_new-some s bytes t free))
-
--- a fault that `?` carries on
-pub carried : {T : Type 0} (r : Result T Fault) (P : T → Type 0) (Q : Fault → Type 0) (fault : Fault) → IsErrAnd r (λ e. e ≡ fault) → Q fault → MatchResult r P Q
-carried (Ok x) P Q fault is q = absurd is
-carried (Err e) P Q fault is q = subst Q (sym is) q

@@ -14,11 +14,9 @@ use Rattle.geos_model.proofs.Images.{word-reads_back}
 use Rattle.geos_model.proofs.Arrays.{head_of, table_of, joined, array_bytes-spelled, all_even}
 use Rattle.geos_model.proofs.FreeLists.{links, are_tokens, distinct_walk, all_free_met, walk_ends, length-walked, first_token-walked, links-walked, all-walked, walk_ends-links, token_after-link}
 use Rattle.geos_model.proofs.ElementArrays.{IsSound, sound_parts, sound_from, same_array-is, same_array-refl, size_read_le, elements_from, link_in, first_token-lt, links-token_after, links-same, free_read-walked, free_tokens, link-slots, all-weaker}
-use Rattle.element_arrays.specs.Tested.{IsRead, is_freed, is_freed_at, is_slot, is_walk}
-
--- each is a byte
-abbrev pub AreBytes : List ℕ → Type 0
-AreBytes xs = (i : ℕ) → get_or xs i 0 < 256
+use Rattle.chunk_arrays.specs.Parts.{AreBytes}
+use Rattle.chunk_arrays.specs.Viewed.{Viewed}
+use Rattle.element_arrays.specs.Tested.{is_freed, is_freed_at, is_slot, is_walk}
 
 bytes_left : (xs ys : List ℕ) (i : ℕ) → AreBytes (xs ++ ys) → get_or xs i 0 < 256
 bytes_left [] ys i h = omega arith
@@ -34,14 +32,14 @@ bytes_joined [] i h = λ j. omega arith
 bytes_joined (x ∷ xs) zero h = λ j. bytes_left x (joined xs) j h
 bytes_joined (x ∷ xs) (suc i) h = bytes_joined xs i (bytes_right x (joined xs) h)
 
-spelled_bytes : (a : Array) → IsRead a → AreBytes (head_of a ++ (a.extra ++ (table_of a ++ joined a.elements)))
-spelled_bytes a h = subst AreBytes (array_bytes-spelled a) h.bytes
+spelled_bytes : (v : Viewed) → let a = v.array in AreBytes (head_of a ++ (a.extra ++ (table_of a ++ joined a.elements)))
+spelled_bytes v = subst AreBytes (array_bytes-spelled v.array) v.are_bytes
 
-extra_bytes : (a : Array) → IsRead a → AreBytes a.extra
-extra_bytes a h = λ i. bytes_left a.extra (table_of a ++ joined a.elements) i (bytes_right (head_of a) _ (spelled_bytes a h))
+extra_bytes : (v : Viewed) → AreBytes v.array.extra
+extra_bytes v = let a = v.array in λ i. bytes_left a.extra (table_of a ++ joined a.elements) i (bytes_right (head_of a) _ (spelled_bytes v))
 
-element_bytes : (a : Array) → IsRead a → (i : ℕ) → AreBytes (get_or a.elements i [])
-element_bytes a h i = bytes_joined a.elements i (bytes_right (table_of a) _ (bytes_right a.extra _ (bytes_right (head_of a) _ (spelled_bytes a h))))
+element_bytes : (v : Viewed) (i : ℕ) → AreBytes (get_or v.array.elements i [])
+element_bytes v i = let a = v.array in bytes_joined a.elements i (bytes_right (table_of a) _ (bytes_right a.extra _ (bytes_right (head_of a) _ (spelled_bytes v))))
 
 -- two bytes are those of their word
 word_again : (xs : List ℕ) → AreBytes xs → 2 ≤ length xs → word (word_at xs 0) ++ drop 2 xs ≡ xs
@@ -210,79 +208,79 @@ pub record IsPassed (a : Array) : Type 0 where
   pub walk : is_walk (count_by is_freed a.elements) a.elements (word_at a.extra 0) ≡ true
 
 -- An array that passes them is one of slots.
-module _ (a : Array) (h : IsRead a) (long : 2 ≤ length a.extra) (p : IsPassed a) where
-  read : Walked a.elements (count_by is_freed a.elements) (word_at a.extra 0) (slots_read a).free
+module _ (v : Viewed) (long : 2 ≤ length v.array.extra) (p : IsPassed v.array) where
+  read : Walked v.array.elements (count_by is_freed v.array.elements) (word_at v.array.extra 0) (slots_read v.array).free
   read =
-      let few = h.few in
-      let most = count_by-le-length is_freed a.elements in
-      walk_read (count_by is_freed a.elements) (length a.elements) a.elements (word_at a.extra 0) few most p.walk
+      let few = v.few in
+      let most = count_by-le-length is_freed v.array.elements in
+      walk_read (count_by is_freed v.array.elements) (length v.array.elements) v.array.elements (word_at v.array.extra 0) few most p.walk
 
-  one_size : (i : ℕ) → i < length a.elements → (a.size - 3 ≡ 0) ⊎ (length (get_or a.elements i []) ≡ a.size - 3 + 3)
+  one_size : (i : ℕ) → i < length v.array.elements → (v.array.size - 3 ≡ 0) ⊎ (length (get_or v.array.elements i []) ≡ v.array.size - 3 + 3)
   one_size i l = elim p.sized [
     | inl any ↦ inl (omega arith)
     | inr some ↦
-        (let one : (a.size == 0) ≡ false = ne_eqb a.size 0 (λ e. absurd (omega arith)) in
-        let here : length (get_or a.elements i []) ≡ a.size = eqb-true _ a.size (each_passes (λ x. length x == a.size) a.elements i [] (all_even a h.even one) l) in
+        (let one : (v.array.size == 0) ≡ false = ne_eqb v.array.size 0 (λ e. absurd (omega arith)) in
+        let here : length (get_or v.array.elements i []) ≡ v.array.size = eqb-true _ v.array.size (each_passes (λ x. length x == v.array.size) v.array.elements i [] (all_even v.array v.even one) l) in
         inr (omega arith))
   ]
 
-  fits : (i : ℕ) → i < length a.elements → is_slot (a.size - 3) (get_or a.elements i []) ≡ true
-  fits i l = each_passes (is_slot (a.size - 3)) a.elements i [] p.each l
+  fits : (i : ℕ) → i < length v.array.elements → is_slot (v.array.size - 3) (get_or v.array.elements i []) ≡ true
+  fits i l = each_passes (is_slot (v.array.size - 3)) v.array.elements i [] p.each l
 
-  good : list_all (is_good_slot (a.size - 3)) (map slot_read a.elements) ≡ true
+  good : list_all (is_good_slot (v.array.size - 3)) (map slot_read v.array.elements) ≡ true
   good =
-      list_all-map (is_good_slot (a.size - 3)) slot_read a.elements
-      ∙ all_pass (λ x. is_good_slot (a.size - 3) (slot_read x)) a.elements [] (λ i l. good_read (a.size - 3) (get_or a.elements i []) (element_bytes a h i) (fits i l) (one_size i l))
+      list_all-map (is_good_slot (v.array.size - 3)) slot_read v.array.elements
+      ∙ all_pass (λ x. is_good_slot (v.array.size - 3) (slot_read x)) v.array.elements [] (λ i l. good_read (v.array.size - 3) (get_or v.array.elements i []) (element_bytes v i) (fits i l) (one_size i l))
 
-  free : list_all (is_free (slots_read a)) (slots_read a).free ≡ true
-  free = all-weaker (is_freed_at a.elements) (is_free (slots_read a)) (slots_read a).free (λ t f. free_is a t ∙ f) read.freed
+  free : list_all (is_free (slots_read v.array)) (slots_read v.array).free ≡ true
+  free = all-weaker (is_freed_at v.array.elements) (is_free (slots_read v.array)) (slots_read v.array).free (λ t f. free_is v.array t ∙ f) read.freed
 
-  tokens : are_tokens (slots_read a).free ≡ true
-  tokens = free_tokens (slots_read a) (let few = h.few in let same = length-map a.elements slot_read in omega (arith, same, few)) free
+  tokens : are_tokens (slots_read v.array).free ≡ true
+  tokens = free_tokens (slots_read v.array) (let few = v.few in let same = length-map v.array.elements slot_read in omega (arith, same, few)) free
 
-  is_soundly : IsSound (slots_read a)
+  is_soundly : IsSound (slots_read v.array)
   is_soundly = record {
-    sized = size_read_le a h.even;
+    sized = size_read_le v.array v.even;
     good = good;
     free = free;
-    distinct = distinct_walk (link_in a.elements) (slots_read a).free read.linked tokens;
-    counted = read.count ∙ sym (count_read a.elements);
+    distinct = distinct_walk (link_in v.array.elements) (slots_read v.array).free read.linked tokens;
+    counted = read.count ∙ sym (count_read v.array.elements);
   }
 
-  again : (i : ℕ) → i < length a.elements → slot_bytes (slots_read a) i (slot_read (get_or a.elements i [])) ≡ get_or a.elements i []
+  again : (i : ℕ) → i < length v.array.elements → slot_bytes (slots_read v.array) i (slot_read (get_or v.array.elements i [])) ≡ get_or v.array.elements i []
   again i l =
-      let x : List ℕ = get_or a.elements i [] in
-      let byte = element_bytes a h i in
-      let enough = slot_long (a.size - 3) x (fits i l) in
+      let x : List ℕ = get_or v.array.elements i [] in
+      let byte = element_bytes v i in
+      let enough = slot_long (v.array.size - 3) x (fits i l) in
       elim (cases_Bool (is_freed x)) [
         | inl so ↦
-            (let free_here : is_free (slots_read a) i ≡ true = free_is a i ∙ and_from _ _ (lt-ltb i (length a.elements) l) so in
-            let met = all_free_met (slots_read a) i free is_soundly.distinct is_soundly.counted free_here in
-            let next : token_after (slots_read a).free i ≡ word_at x 0 = token_after-link (link_in a.elements) (slots_read a).free i read.linked met in
-            ap (slot_bytes (slots_read a) i) (cond-true (is_freed x) _ _ so)
-            ∙ ap₂ (λ (n : ℕ) (r : List ℕ). word n ++ r) next (sym (free_rest (a.size - 3) x (fits i l) so))
+            (let free_here : is_free (slots_read v.array) i ≡ true = free_is v.array i ∙ and_from _ _ (lt-ltb i (length v.array.elements) l) so in
+            let met = all_free_met (slots_read v.array) i free is_soundly.distinct is_soundly.counted free_here in
+            let next : token_after (slots_read v.array).free i ≡ word_at x 0 = token_after-link (link_in v.array.elements) (slots_read v.array).free i read.linked met in
+            ap (slot_bytes (slots_read v.array) i) (cond-true (is_freed x) _ _ so)
+            ∙ ap₂ (λ (n : ℕ) (r : List ℕ). word n ++ r) next (sym (free_rest (v.array.size - 3) x (fits i l) so))
             ∙ word_again x byte (omega (arith, enough)))
-        | inr other ↦ ap (slot_bytes (slots_read a) i) (cond-false (is_freed x) _ _ other) ∙ three_again x byte enough
+        | inr other ↦ ap (slot_bytes (slots_read v.array) i) (cond-false (is_freed x) _ _ other) ∙ three_again x byte enough
       ]
 
-  size_again : (if a.size - 3 == 0 then 0 else a.size - 3 + 3) ≡ a.size
+  size_again : (if v.array.size - 3 == 0 then 0 else v.array.size - 3 + 3) ≡ v.array.size
   size_again = elim p.sized [
-    | inl any ↦ cond-true (a.size - 3 == 0) _ _ (eq-eqb (a.size - 3) 0 (omega arith)) ∙ sym any
-    | inr some ↦ cond-false (a.size - 3 == 0) _ _ (ne_eqb (a.size - 3) 0 (λ e. absurd (omega arith))) ∙ omega arith
+    | inl any ↦ cond-true (v.array.size - 3 == 0) _ _ (eq-eqb (v.array.size - 3) 0 (omega arith)) ∙ sym any
+    | inr some ↦ cond-false (v.array.size - 3 == 0) _ _ (ne_eqb (v.array.size - 3) 0 (λ e. absurd (omega arith))) ∙ omega arith
   ]
 
-  extra_again : word (first_token (slots_read a).free) ++ drop 2 a.extra ≡ a.extra
-  extra_again = ap (λ (t : ℕ). word t ++ drop 2 a.extra) read.first ∙ word_again a.extra (extra_bytes a h) long
+  extra_again : word (first_token (slots_read v.array).free) ++ drop 2 v.array.extra ≡ v.array.extra
+  extra_again = ap (λ (t : ℕ). word t ++ drop 2 v.array.extra) read.first ∙ word_again v.array.extra (extra_bytes v) long
 
-  pub passed_sound : is_sound (slots_read a) ≡ true
-  passed_sound = sound_from (slots_read a) is_soundly
+  pub passed_sound : is_sound (slots_read v.array) ≡ true
+  passed_sound = sound_from (slots_read v.array) is_soundly
 
-  pub passed_same : slots_array (drop 2 a.extra) (slots_read a) ≡ a
+  pub passed_same : slots_array (drop 2 v.array.extra) (slots_read v.array) ≡ v.array
   unfolding slots_array
   passed_same =
       let extra = extra_again in
       let size = size_again in
-      let elements = same_elements (slots_read a) 0 a.elements (λ i l. let place : i ≡ 0 + i = omega arith in subst (λ m. slot_bytes (slots_read a) m (slot_read (get_or a.elements i [])) ≡ get_or a.elements i []) place (again i l)) in
+      let elements = same_elements (slots_read v.array) 0 v.array.elements (λ i l. let place : i ≡ 0 + i = omega arith in subst (λ m. slot_bytes (slots_read v.array) m (slot_read (get_or v.array.elements i [])) ≡ get_or v.array.elements i []) place (again i l)) in
       λ i. record { extra = extra i; size = size i; elements = elements i }
 
 -- An array of slots passes them.
@@ -356,12 +354,13 @@ module _ (a : Array) (few : length a.elements < 65536) (sound : is_sound (slots_
 
 -- So the test is exact.
 
-pub slots_passed : (extra : ℕ) (a : Array) → IsRead a → 2 ≤ extra → length a.extra ≡ extra → IsPassed a → is_some (slots_of extra a) ≡ true
+pub slots_passed : (extra : ℕ) (v : Viewed) → 2 ≤ extra → length v.array.extra ≡ extra → IsPassed v.array → is_some (slots_of extra v.array) ≡ true
 unfolding slots_of
-slots_passed extra a h enough long p =
+slots_passed extra v enough long p =
+    let a : Array = v.array in
     let s : Slots = slots_read a in
-    let same : same_array (slots_array (drop 2 a.extra) s) a ≡ true = subst (λ b. same_array b a ≡ true) (sym (passed_same a h (omega arith) p)) (same_array-refl a) in
-    ap is_some (cond-true _ _ _ (and_from _ _ (and_from _ _ (eq-eqb (length a.extra) extra long) (passed_sound a h (omega arith) p)) same))
+    let same : same_array (slots_array (drop 2 a.extra) s) a ≡ true = subst (λ b. same_array b a ≡ true) (sym (passed_same v (omega arith) p)) (same_array-refl a) in
+    ap is_some (cond-true _ _ _ (and_from _ _ (and_from _ _ (eq-eqb (length a.extra) extra long) (passed_sound v (omega arith) p)) same))
 
 pub slots_refused : (extra : ℕ) (a : Array) → length a.elements < 65536 → (length a.extra ≡ extra → IsPassed a → ⊥) → is_some (slots_of extra a) ≡ false
 unfolding slots_of

@@ -4,7 +4,7 @@ use Rattle.geos_model.specs.Refusal.{Conditions, first_refusal}
 use Rattle.geos_model.specs.declared.fault.Fault.{Fault}
 
 -- nothing refuses it, and the answer is this
-pub record Answers {T : Type 0} (conditions : Conditions) (answer is : T) : Type 0 where
+pub record IsAnswered {T : Type 0} (conditions : Conditions) (answer is : T) : Type 0 where
   pub accepted : first_refusal conditions ≡ None
   pub same : is ≡ answer
 

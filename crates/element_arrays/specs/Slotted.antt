@@ -1,32 +1,30 @@
 -- An array of slots as it lies in a chunk, and what a splice makes of it.
-use Rattle.std.specs.Prelude.{ℕ, List, ◌+◌, length}
+use Rattle.std.specs.Prelude.{◌≡◌, ℕ, List, true, ◌+◌, length}
 use Rattle.geos_model.specs.Array.{Array, array_bytes}
 use Rattle.geos_model.specs.ArrayEdits.{too_long}
-use Rattle.geos_model.specs.ElementArray.{Slots, slots_array}
+use Rattle.geos_model.specs.ElementArray.{Slots, slots_array, is_sound}
 use Rattle.geos_model.specs.declared.fault.Fault.{Fault}
-use Rattle.chunk_edits.specs.Splicing.{Builds, Refuses}
+use Rattle.chunk_edits.specs.Splicing.{Builds, RefusesToBuild}
 use Rattle.chunk_edits.specs.declared.splice.Splice.{Splice}
 
 pub record Slotted : Type 0 where
   pub more : List ℕ  -- the extra bytes behind the newest free token
   pub slots : Slots
+  pub sound : is_sound slots ≡ true
 
 abbrev pub slotted_array : Slotted → Array
 slotted_array s = slots_array s.more s.slots
 
-unfoldable pub slotted_bytes : Slotted → List ℕ
-slotted_bytes s = array_bytes (slotted_array s)
-
--- the same array with other slots
-abbrev pub with_slots : Slotted → Slots → Slotted
-with_slots s slots = record s { slots = slots }
+-- the bytes of slots, with these extra bytes behind the newest free token
+unfoldable pub slotted_bytes : List ℕ → Slots → List ℕ
+slotted_bytes more slots = array_bytes (slots_array more slots)
 
 -- from the bytes of an array the splice leads to those with other slots, and it holds both
 abbrev pub GivesSlots : Slotted → Slots → Splice → Type 0
 GivesSlots s slots splice =
-    let new = slotted_bytes (with_slots s slots) in
-    Builds (too_long new) splice (slotted_bytes s) new (length (slotted_bytes s) + length new)
+    let new = slotted_bytes s.more slots in
+    Builds (too_long new) splice (slotted_bytes s.more s.slots) new (length (slotted_bytes s.more s.slots) + length new)
 
 -- want of memory, or the new array would be longer than any chunk
 abbrev pub RefusesSlots : Slotted → Slots → Fault → Type 0
-RefusesSlots s slots fault = Refuses (too_long (slotted_bytes (with_slots s slots))) fault
+RefusesSlots s slots fault = RefusesToBuild (too_long (slotted_bytes s.more slots)) fault

@@ -1,9 +1,8 @@
 -- What the elements of an array must be so that it is one of slots.
-use Rattle.std.specs.Prelude.{◌≡◌, ◌<◌, ℕ, List, [], zero, suc, ◌+◌, ◌==◌, ◌&&◌, Bool, true, slice_index, nat_lt, nat_le, length, drop, get_or, if◌then◌else◌}
+use Rattle.std.specs.Prelude.{ℕ, List, [], zero, suc, ◌+◌, ◌==◌, ◌&&◌, Bool, nat_lt, nat_le, length, drop, get_or, if◌then◌else◌}
 use Rattle.std.specs.List.{list_all}
 use Rattle.byteorder.specs.Endian.{little_number}
 use Rattle.geos_model.specs.Words.{word_at}
-use Rattle.geos_model.specs.Array.{Array, array_bytes, is_even}
 use Rattle.geos_model.specs.ElementArray.{no_token}
 
 -- the bytes of a free element
@@ -24,9 +23,3 @@ is_freed_at elements t = nat_lt t (length elements) && is_freed (get_or elements
 abbrev pub is_walk : ℕ → List (List ℕ) → ℕ → Bool
 is_walk zero elements t = t == no_token
 is_walk (suc steps) elements t = is_freed_at elements t && is_walk steps elements (word_at (get_or elements t []) 0)
-
--- an array whose bytes lie in a chunk
-pub record IsRead (a : Array) : Type 0 where
-  pub even : is_even a ≡ true
-  pub few : length a.elements < 65536
-  pub bytes : (i : ℕ) → slice_index (array_bytes a) i < 256

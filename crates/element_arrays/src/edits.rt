@@ -2,15 +2,14 @@ ghost use Rattle.std.specs.Prelude.{◌≡◌, None, true, MatchResult};
 ghost use Rattle.geos_model.specs.Refusal.{first_refusal};
 ghost use Rattle.geos_model.specs.ElementArray.{element_bytes, element_array_of, is_sound};
 ghost use Rattle.geos_model.specs.ElementEdits.{no_slots, element_added, token_added, reference_added, reference_removed, element_deleted, element_changed, on_token, create_elements_conditions, add_conditions, add_reference_conditions, change_conditions};
-ghost use Rattle.chunk_edits.specs.Splicing.{Refuses};
+ghost use Rattle.chunk_edits.specs.Splicing.{RefusesToBuild};
 ghost use Rattle.chunk_arrays.specs.Replacing.{Replaces, RefusesToReplace};
-ghost use Rattle.geos_model.specs.ArrayEdits.{is_missized};
-ghost use Rattle.element_arrays.specs.Slotted.{slotted_bytes, with_slots};
-ghost use Rattle.element_arrays.specs.Referencing.{referenced, referencing};
+ghost use Rattle.element_arrays.specs.Slotted.{slotted_bytes};
+ghost use Rattle.element_arrays.specs.Referencing.{element_with_reference, element_reference_conditions};
 
 use crate::SlotView;
 use crate::reading::{read, used_at};
-use chunk_arrays::{GREATEST_SIZE, empty_bytes};
+use chunk_arrays::{GREATEST_SIZE, empty_bytes, is_missized};
 use chunk_edits::Splice;
 use geos_model::{Fault, Token};
 use std::alloc::Global;
@@ -25,7 +24,7 @@ const NO_TOKEN: [u8; 2] = [0xFF, 0xFF];
 pub fn create_bytes(alloc: Global, size: u32) -> Result<Vec<u8>, Fault>
     ensures { MatchResult result
         (λ bytes. (first_refusal (create_elements_conditions size) ≡ None) × (bytes.items ≡ element_bytes (no_slots size)))
-        (Refuses (create_elements_conditions size)) }
+        (RefusesToBuild (create_elements_conditions size)) }
 {
     if size > GREATEST_SIZE {
         return Err(Fault::Range);
@@ -50,7 +49,7 @@ pub fn add(alloc: Global, bytes: &[u8], element: &[u8]) -> Result<(Splice, Token
             Ok((splice, token))
         }
         None => {
-            if has_other_size(&slots, element) {
+            if is_missized(slots.element_size(), element) {
                 return Err(Fault::Range);
             }
             slots.with_new(alloc, element, &[])
@@ -106,7 +105,7 @@ pub fn change(alloc: Global, bytes: &[u8], token: Token, element: &[u8]) -> Resu
 {
     let slots = read(bytes)?;
     let used = used_at(&slots, token)?;
-    if has_other_size(&slots, element) {
+    if is_missized(slots.element_size(), element) {
         return Err(Fault::Range);
     }
     slots.with_element(alloc, token, used.count, element, &[])
@@ -115,22 +114,13 @@ pub fn change(alloc: Global, bytes: &[u8], token: Token, element: &[u8]) -> Resu
 /// The splice that gives an element one more reference. NoElement; CountFull where it has as many as any can have; Full where
 /// the array is longer than any chunk.
 fn with_reference(alloc: Global, slots: &SlotView<'_>, token: Token) -> Result<Splice, Fault>
-    requires { is_sound slots.now.slots ≡ true }
     ensures { MatchResult result
-        (Replaces (referencing slots.now.slots token.0) (slotted_bytes slots.now) (slotted_bytes (with_slots slots.now (referenced slots.now.slots token.0))))
-        (RefusesToReplace (referencing slots.now.slots token.0) (slotted_bytes (with_slots slots.now (referenced slots.now.slots token.0)))) }
+        (Replaces (element_reference_conditions slots.now.slots token.0) (slotted_bytes slots.now.more slots.now.slots) (slotted_bytes slots.now.more (element_with_reference slots.now.slots token.0)))
+        (RefusesToReplace (element_reference_conditions slots.now.slots token.0) (slotted_bytes slots.now.more (element_with_reference slots.now.slots token.0))) }
 {
     let used = used_at(slots, token)?;
     if used.count == GREATEST_COUNT {
         return Err(Fault::CountFull);
     }
     slots.with_element(alloc, token, used.count + 1, used.bytes, &[])
-}
-
-/// Whether an element can't have these bytes because each has another number of them.
-fn has_other_size(slots: &SlotView<'_>, element: &[u8]) -> bool
-    ensures { result ≡ is_missized slots.now.slots.size element.now }
-{
-    let size = slots.element_size();
-    size != 0 && element.len() != size
 }

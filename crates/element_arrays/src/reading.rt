@@ -10,7 +10,7 @@ use geos_model::{Fault, Token};
 /// The slots of the element array that these bytes are. NotArray where they are none.
 pub(crate) fn read(bytes: &[u8]) -> Result<SlotView<'_>, Fault>
     ensures { MatchResult result
-        (λ s. (element_array_of bytes.now ≡ Some s.slots) × (slotted_bytes s ≡ bytes.now) × (s.more ≡ []))
+        (λ s. (element_array_of bytes.now ≡ Some s.slots) × (slotted_bytes s.more s.slots ≡ bytes.now) × (s.more ≡ []))
         (λ fault. (fault ≡ Fault.NotArray) × (element_array_of bytes.now ≡ None)) }
 {
     slots_in(check(bytes)?, 2)

@@ -1,6 +1,6 @@
 ghost use Rattle.std.specs.Prelude.{◌≡◌, ◌≤◌, ◌++◌, ◌∷◌, [], true, false, is_some, length, take, drop, IfOk, MatchOption, MatchResult};
 ghost use Rattle.geos_model.specs.ArrayEdits.{is_missized};
-ghost use Rattle.geos_model.specs.ElementArray.{element_at, greatest_count, is_sound};
+ghost use Rattle.geos_model.specs.ElementArray.{element_at, greatest_count};
 ghost use Rattle.geos_model.specs.ElementEdits.{with_element, without_element, with_new};
 ghost use Rattle.element_arrays.specs.Slotted.{GivesSlots, RefusesSlots};
 
@@ -83,9 +83,10 @@ impl<'a> SlotView<'a> {
         };
         match self.newest_free() {
             None => {
-                let len = self.len();
-                let splice = rewrite(alloc, array, &[], len, len, Some(element))?;
-                Ok((splice, Token(len as u16)))
+                let token = Token(self.len());
+                let at = usize::from(token.0);
+                let splice = rewrite(alloc, array, &[], at, at, Some(element))?;
+                Ok((splice, token))
             }
             Some(token) => {
                 let at = usize::from(token.0);
@@ -98,11 +99,10 @@ impl<'a> SlotView<'a> {
 
     /// The newest free token, if any is free.
     fn newest_free(&self) -> Option<Token>
-        ensures newest { MatchOption result (self.now.slots.free ≡ []) (λ t. self.now.slots.free ≡ t.0 ∷ drop 1 self.now.slots.free) }
-        ensures sound { is_sound self.now.slots ≡ true }
+        ensures { MatchOption result (self.now.slots.free ≡ []) (λ t. self.now.slots.free ≡ t.0 ∷ drop 1 self.now.slots.free) }
     {
         let first = LittleEndian::read_u16(self.array().extra());
-        if usize::from(first) < self.len() {
+        if first < self.len() {
             Some(Token(first))
         } else {
             None

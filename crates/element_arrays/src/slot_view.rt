@@ -1,13 +1,12 @@
-ghost use Rattle.std.specs.Prelude.{◌≡◌, ℕ, ◌==◌, ◌<◌, ◌≤◌, ◌+◌, None, Some, [], true, false, is_some, MatchOption, MatchResult, count_by, length, drop, get_or, slice_index};
+ghost use Rattle.std.specs.Prelude.{◌≡◌, ◌==◌, ◌≤◌, ◌+◌, None, Some, [], true, false, is_some, MatchOption, MatchResult, count_by, length, drop, get_or};
 ghost use Rattle.std.specs.List.{list_all};
 ghost use Rattle.std.specs.Option.{option_map};
 ghost use Rattle.geos_model.specs.Bytes.{same_bytes};
 ghost use Rattle.geos_model.specs.Words.{word_at};
-ghost use Rattle.geos_model.specs.Array.{is_even};
-ghost use Rattle.geos_model.specs.ElementArray.{slots_of, element_at, is_sound};
+ghost use Rattle.geos_model.specs.ElementArray.{slots_of, slots_read, element_at, is_sound};
 ghost use Rattle.geos_model.specs.ElementEdits.{token_of};
 ghost use Rattle.element_arrays.specs.Slotted.{slotted_array, slotted_bytes};
-ghost use Rattle.element_arrays.specs.Tested.{IsRead, is_freed, is_freed_at, is_slot, is_walk};
+ghost use Rattle.element_arrays.specs.Tested.{is_freed, is_freed_at, is_slot, is_walk};
 ghost use Rattle.element_arrays.specs.Used.{used_element};
 
 use byteorder::{ByteOrder, LittleEndian};
@@ -33,18 +32,19 @@ pub struct Used<'a> {
 #[derive(Drop)]
 pub struct SlotView<'a> {
     view: View<'a>,
+    ghost sound: { is_sound (slots_read view.array) ≡ true },
 }
 
 impl<'a> Model for SlotView<'a> {
-    ghost use Rattle.std.specs.Prelude.{◌≡◌, true, drop};
+    ghost use Rattle.std.specs.Prelude.{◌≡◌, drop};
     ghost use Rattle.element_arrays.specs.Slotted.{Slotted};
-    ghost use Rattle.geos_model.specs.ElementArray.{slots_read, slots_array, is_sound};
+    ghost use Rattle.geos_model.specs.ElementArray.{slots_read, slots_array};
 
     ghost Value = { Slotted };
 
-    ghost view = { λ v. record { more = drop 2 v.view.extra; slots = slots_read v.view } };
+    ghost view = { λ v. record { more = drop 2 v.view.array.extra; slots = slots_read v.view.array; sound = v.sound } };
 
-    ghost invariant = { λ v. (slots_array (drop 2 v.view.extra) (slots_read v.view) ≡ v.view) × (is_sound (slots_read v.view) ≡ true) };
+    ghost invariant = { λ v. slots_array (drop 2 v.view.array.extra) (slots_read v.view.array) ≡ v.view.array };
 }
 
 /// The slots of an array that has so many extra bytes, at least two. NotArray where it is none of slots. It takes time in
@@ -52,8 +52,8 @@ impl<'a> Model for SlotView<'a> {
 pub fn slots_in<'a>(view: View<'a>, extra: usize) -> Result<SlotView<'a>, Fault>
     requires { 2 ≤ extra }
     ensures { MatchResult result
-        (λ s. (slots_of extra view.entry ≡ Some s.slots) × (slotted_array s ≡ view.entry) × (length s.more + 2 ≡ extra))
-        (λ fault. (fault ≡ Fault.NotArray) × (slots_of extra view.entry ≡ None)) }
+        (λ s. (slots_of extra view.entry.array ≡ Some s.slots) × (slotted_array s ≡ view.entry.array) × (length s.more + 2 ≡ extra))
+        (λ fault. (fault ≡ Fault.NotArray) × (slots_of extra view.entry.array ≡ None)) }
 {
     if are_slots(&view, extra) {
         Ok(SlotView { view })
@@ -65,9 +65,8 @@ pub fn slots_in<'a>(view: View<'a>, extra: usize) -> Result<SlotView<'a>, Fault>
 /// Whether an array with so many extra bytes is one of slots.
 fn are_slots(view: &View<'_>, extra: usize) -> bool
     requires { 2 ≤ extra }
-    ensures { result ≡ is_some (slots_of extra view.now) }
+    ensures { result ≡ is_some (slots_of extra view.now.array) }
 {
-    array_law(view);
     let bytes = view.extra();
     let size = view.element_size();
     if bytes.len() != extra {
@@ -84,24 +83,11 @@ fn are_slots(view: &View<'_>, extra: usize) -> bool
     }
 }
 
-/// What holds of the array of each view. It does nothing.
-fn array_law(view: &View<'_>)
-    ensures { IsRead view.now }
-{
-    let _count = view.count();
-    bytes_law(view.bytes());
-}
-
-/// What holds of all bytes. It does nothing.
-fn bytes_law(bytes: &[u8])
-    ensures { (i : ℕ) → slice_index bytes.now i < 256 }
-{}
-
 /// How many elements are free, if the bytes of each are those of a slot.
 fn count_free(view: &View<'_>, size: usize) -> Option<usize>
     ensures { MatchOption result
-        (list_all (is_slot size) view.now.elements ≡ false)
-        (λ free. (list_all (is_slot size) view.now.elements ≡ true) × (free ≡ count_by is_freed view.now.elements)) }
+        (list_all (is_slot size) view.now.array.elements ≡ false)
+        (λ free. (list_all (is_slot size) view.now.array.elements ≡ true) × (free ≡ count_by is_freed view.now.array.elements)) }
 {
     let mut free = 0;
     for i in 0..view.count() {
@@ -140,7 +126,7 @@ fn are_zeros(bytes: &[u8]) -> bool
 /// Whether from a token on so many links lead over free elements to the end. A walk that ends meets no token twice, so one
 /// of as many steps as there are free elements meets each of them.
 fn is_walk(view: &View<'_>, first: u16, steps: usize) -> bool
-    ensures { result ≡ is_walk steps view.now.elements first }
+    ensures { result ≡ is_walk steps view.now.array.elements first }
 {
     let mut token = first;
     for _ in 0..steps {
@@ -155,8 +141,8 @@ fn is_walk(view: &View<'_>, first: u16, steps: usize) -> bool
 /// The token after this one, if this one's element is free.
 fn link_of(view: &View<'_>, token: u16) -> Option<u16>
     ensures { MatchOption result
-        (is_freed_at view.now.elements token ≡ false)
-        (λ next. (is_freed_at view.now.elements token ≡ true) × (next ≡ word_at (get_or view.now.elements token []) 0)) }
+        (is_freed_at view.now.array.elements token ≡ false)
+        (λ next. (is_freed_at view.now.array.elements token ≡ true) × (next ≡ word_at (get_or view.now.array.elements token []) 0)) }
 {
     let i = usize::from(token);
     if view.count() <= i {
@@ -171,12 +157,10 @@ fn link_of(view: &View<'_>, token: u16) -> Option<u16>
 
 impl<'a> SlotView<'a> {
     /// How many tokens there are, used and free.
-    pub fn len(&self) -> usize
-        ensures value { result ≡ length self.now.slots.slots }
-        ensures short { result < 65536 }
-        ensures sound { is_sound self.now.slots ≡ true }
+    pub fn len(&self) -> u16
+        ensures { result ≡ length self.now.slots.slots }
     {
-        self.view.count()
+        self.view.count() as u16
     }
 
     /// How many bytes each element has, 0 where sizes vary.
@@ -195,18 +179,15 @@ impl<'a> SlotView<'a> {
 
     /// All bytes of the array.
     pub fn bytes(&self) -> &'a [u8]
-        ensures { result.now ≡ slotted_bytes self.now }
+        ensures { result.now ≡ slotted_bytes self.now.more self.now.slots }
     {
         self.view.bytes()
     }
 
     /// The array that the slots are.
     pub(crate) fn array(&self) -> &View<'a>
-        ensures value { result.now ≡ slotted_array self.now }
-        ensures even { is_even (slotted_array self.now) ≡ true }
+        ensures { result.now.array ≡ slotted_array self.now }
     {
-        // That the array is even is said where its bytes are read.
-        let _ = self.view.bytes();
         &self.view
     }
 
@@ -232,7 +213,7 @@ impl<'a> SlotView<'a> {
     pub fn find(&self, skip: usize, bytes: &[u8]) -> Option<Token>
         ensures { option_map (λ t. t.0) result ≡ token_of (λ e. same_bytes (drop skip e.bytes) bytes.now) self.now.slots }
     {
-        for t in 0..self.len() as u16 {
+        for t in 0..self.len() {
             if let Some(used) = self.element(Token(t))
                 && behind(used.bytes, skip) == bytes
             {

@@ -9,9 +9,9 @@ use Rattle.geos_model.specs.ElementEdits.{count_at, bytes_at, with_element, with
 use Rattle.geos_model.specs.NameArray.{NameArray, name_bytes, is_name}
 use Rattle.geos_model.specs.NameEdits.{no_names, names_in, token_of_text, part_at, name_with_reference, added_name, name_added, name_token_added, name_changed, name_reference_removed, on_name_token, is_name_in_use, add_name_conditions, change_name_conditions}
 use Rattle.geos_model.specs.declared.fault.Fault.TheVariants.{NotArray, NoElement, NameInUse, CountFull, Range}
-use Rattle.element_arrays.specs.Slotted.{Slotted, slotted_bytes, with_slots}
+use Rattle.element_arrays.specs.Slotted.{Slotted, slotted_bytes}
 use Rattle.name_arrays.specs.Reading.{named_array, IsRead}
-use Rattle.name_arrays.specs.Referencing.{referenced}
+use Rattle.name_arrays.specs.Referencing.{name_bytes_with_reference}
 use Rattle.name_arrays.proofs.Found.{new_bytes, bytes_with}
 
 used_not_none : {T : Type 0} (o : Option T) → is_some o ≡ true → is_none o ≡ false
@@ -46,7 +46,7 @@ module _ (bytes : List ℕ) (s : Slotted) (size : ℕ) (read : IsRead bytes s si
 
   -- a name that is there
   module _ (text part : List ℕ) (replace : Bool) (t : ℕ) (found : token_of_text a text ≡ Some t) where
-    pub added_found : referenced a part replace t ≡ name_added bytes text part replace
+    pub added_found : name_bytes_with_reference a part replace t ≡ name_added bytes text part replace
     added_found = rw (names_are, found) refl
 
     pub token_found : t ≡ name_token_added bytes text part replace
@@ -60,7 +60,7 @@ module _ (bytes : List ℕ) (s : Slotted) (size : ℕ) (read : IsRead bytes s si
   module _ (more : s.more ≡ word size) where
     -- a new one
     module _ (text part : List ℕ) (replace : Bool) (none : token_of_text a text ≡ None) where
-      pub added_new : slotted_bytes (with_slots s (with_new s.slots (part ++ text)).0) ≡ name_added bytes text part replace
+      pub added_new : slotted_bytes s.more (with_new s.slots (part ++ text)).0 ≡ name_added bytes text part replace
       added_new = new_bytes s size more (with_new s.slots (part ++ text)).0 ∙ rw (names_are, none) refl
 
       pub token_new : (with_new s.slots (part ++ text)).1 ≡ name_token_added bytes text part replace
@@ -73,21 +73,21 @@ module _ (bytes : List ℕ) (s : Slotted) (size : ℕ) (read : IsRead bytes s si
 
     -- a name under a token
     module _ (t count : ℕ) (count_is : count_at a.names t ≡ count) where
-      pub changed : (text part : List ℕ) → part_at a t ≡ part → slotted_bytes (with_slots s (with_element s.slots t count (part ++ text))) ≡ name_changed bytes t text
+      pub changed : (text part : List ℕ) → part_at a t ≡ part → slotted_bytes s.more (with_element s.slots t count (part ++ text)) ≡ name_changed bytes t text
       changed text part part_is =
           bytes_with s size more t _ _ _ _ (sym count_is) (ap (λ (p : List ℕ). p ++ text) (sym part_is))
           ∙ ap (λ (b : NameArray). name_bytes (record b { names = with_element b.names t (count_at b.names t) (part_at b t ++ text) })) (sym names_are)
 
-      removed : (slots : Slots) → slots ≡ unreferenced s.slots t → slotted_bytes (with_slots s slots) ≡ name_reference_removed bytes t
+      removed : (slots : Slots) → slots ≡ unreferenced s.slots t → slotted_bytes s.more slots ≡ name_reference_removed bytes t
       removed slots is =
           new_bytes s size more slots
           ∙ ap (λ (x : Slots). name_bytes (record a { names = x })) is
           ∙ ap (λ (b : NameArray). name_bytes (record b { names = unreferenced b.names t })) (sym names_are)
 
-      pub removed_last : count ≡ 1 → slotted_bytes (with_slots s (without_element s.slots t)) ≡ name_reference_removed bytes t
+      pub removed_last : count ≡ 1 → slotted_bytes s.more (without_element s.slots t) ≡ name_reference_removed bytes t
       removed_last last = removed _ (sym (cond-true _ _ _ (ap (λ (n : ℕ). nat_le n 1) (count_is ∙ last))))
 
-      pub removed_one : (text : List ℕ) → nat_le count 1 ≡ false → bytes_at a.names t ≡ text → slotted_bytes (with_slots s (with_element s.slots t (count - 1) text)) ≡ name_reference_removed bytes t
+      pub removed_one : (text : List ℕ) → nat_le count 1 ≡ false → bytes_at a.names t ≡ text → slotted_bytes s.more (with_element s.slots t (count - 1) text) ≡ name_reference_removed bytes t
       removed_one text other bytes_is =
           removed _ (ap₂ (λ (n : ℕ) (l : List ℕ). with_element s.slots t (n - 1) l) (sym count_is) (sym bytes_is)
           ∙ sym (cond-false _ _ _ (ap (λ (n : ℕ). nat_le n 1) count_is ∙ other)))

@@ -16,7 +16,7 @@ use Rattle.geos_model.specs.NameEdits.{token_of_text, text_at, is_name_in_use}
 use Rattle.geos_model.proofs.Arrays.{same_bytes-is}
 use Rattle.geos_model.proofs.ElementArrays.{sound_parts}
 use Rattle.geos_model.proofs.NameArrays.{sound_names_parts}
-use Rattle.element_arrays.specs.Slotted.{Slotted, slotted_bytes, with_slots}
+use Rattle.element_arrays.specs.Slotted.{Slotted, slotted_bytes}
 use Rattle.name_arrays.specs.Reading.{named_array}
 use Rattle.name_arrays.specs.Naming.{IsNameAt}
 use Rattle.name_arrays.specs.declared.names.Name.{Name}
@@ -70,12 +70,12 @@ module _ (a : NameArray) (sound : is_sound_names a ≡ true) where
 
 -- The bytes of a name array with other slots.
 module _ (s : Slotted) (part : ℕ) (more : s.more ≡ word part) where
-  pub new_bytes : (slots : Slots) → slotted_bytes (with_slots s slots) ≡ name_bytes (record (named_array s part) { names = slots })
+  pub new_bytes : (slots : Slots) → slotted_bytes s.more slots ≡ name_bytes (record (named_array s part) { names = slots })
   unfolding slotted_bytes name_bytes
   new_bytes slots = ap (λ (m : List ℕ). array_bytes (slots_array m slots)) more
 
   pub bytes_with : (t count count′ : ℕ) (bytes bytes′ : List ℕ) → count ≡ count′ → bytes ≡ bytes′
-      → slotted_bytes (with_slots s (with_element s.slots t count bytes)) ≡ name_bytes (record (named_array s part) { names = with_element s.slots t count′ bytes′ })
+      → slotted_bytes s.more (with_element s.slots t count bytes) ≡ name_bytes (record (named_array s part) { names = with_element s.slots t count′ bytes′ })
   bytes_with t count count′ bytes bytes′ count_is bytes_is =
       new_bytes (with_element s.slots t count bytes)
       ∙ ap₂ (λ (n : ℕ) (l : List ℕ). name_bytes (record (named_array s part) { names = with_element s.slots t n l })) count_is bytes_is

@@ -5,10 +5,9 @@ use Rattle.std.specs.List.{list_all}
 use Rattle.byteorder.specs.Endian.{little_number}
 use Rattle.geos_model.specs.Words.{word, word_at}
 use Rattle.geos_model.specs.Array.{Array, array_bytes, array_of}
-use Rattle.geos_model.specs.ElementArray.{Slots, slots_array, slots_of, is_sound}
+use Rattle.geos_model.specs.ElementArray.{Slots, slots_array, slots_of}
 use Rattle.geos_model.specs.NameArray.{NameArray, is_named, is_sound_names, names_read, names_of, name_array_of}
 use Rattle.geos_model.proofs.Arrays.{array_bytes-of}
-use Rattle.geos_model.proofs.ElementArrays.{slots_of-is}
 use Rattle.geos_model.proofs.NameArrays.{word-small}
 use Rattle.element_arrays.specs.Slotted.{Slotted, slotted_array, slotted_bytes}
 use Rattle.name_arrays.specs.Reading.{named_array, IsRead}
@@ -17,9 +16,9 @@ use Rattle.name_arrays.specs.Reading.{named_array, IsRead}
 abbrev pub are_names : Slots → ℕ → Bool
 are_names s part = s.size == 0 && nat_le part 64 && list_all (is_named part) s.slots
 
-sound_is : (s : Slotted) (part : ℕ) → is_sound s.slots ≡ true → is_sound_names (named_array s part) ≡ are_names s.slots part
+sound_is : (s : Slotted) (part : ℕ) → is_sound_names (named_array s part) ≡ are_names s.slots part
 unfolding is_sound_names
-sound_is s part sound = rw sound refl
+sound_is s part = rw s.sound refl
 
 part_is : (s : Slotted) → word_at (slotted_array s).extra 2 ≡ little_number 2 s.more
 unfolding slots_array
@@ -43,7 +42,7 @@ module _ (bytes : List ℕ) (a : Array) (s : Slotted) (part : ℕ) (is : array_o
   names_is = ap (λ (p : ℕ). record { part = p; names = s.slots }) (ap (λ (b : Array). word_at b.extra 2) (sym array) ∙ part_is s ∙ sym read)
 
   test_is : is_sound_names (names_read a s.slots) ≡ are_names s.slots part
-  test_is = ap is_sound_names names_is ∙ sound_is s part (slots_of-is 4 a s.slots slots).1
+  test_is = ap is_sound_names names_is ∙ sound_is s part
 
   comes_to : name_array_of bytes ≡ accepted a s.slots
   unfolding name_array_of
@@ -54,7 +53,7 @@ module _ (bytes : List ℕ) (a : Array) (s : Slotted) (part : ℕ) (is : array_o
 
   module _ (tested : are_names s.slots part ≡ true) where
     pub is_sound_read : is_sound_names (named_array s part) ≡ true
-    is_sound_read = sound_is s part (slots_of-is 4 a s.slots slots).1 ∙ tested
+    is_sound_read = sound_is s part ∙ tested
 
     pub more_is : length s.more + 2 ≡ 4 → s.more ≡ word part
     more_is long =

@@ -6,8 +6,8 @@ use Rattle.geos_model.specs.NameArray.{NameArray, name_bytes}
 use Rattle.geos_model.specs.NameEdits.{name_with_reference}
 use Rattle.geos_model.specs.declared.fault.Fault.TheVariants.{Range, CountFull}
 
-abbrev pub referenced : NameArray → List ℕ → Bool → ℕ → List ℕ
-referenced a part replace t = name_bytes (record a { names = name_with_reference a part replace t })
+abbrev pub name_bytes_with_reference : NameArray → List ℕ → Bool → ℕ → List ℕ
+name_bytes_with_reference a part replace t = name_bytes (record a { names = name_with_reference a part replace t })
 
-abbrev pub referencing : NameArray → List ℕ → ℕ → Conditions
-referencing a part t = (CountFull, is_count_full a.names (Some t)) ∷ (Range, not (length part == a.part)) ∷ []
+abbrev pub name_reference_conditions : NameArray → List ℕ → ℕ → Conditions
+name_reference_conditions a part t = (CountFull, is_count_full a.names (Some t)) ∷ (Range, not (length part == a.part)) ∷ []

@@ -2,11 +2,11 @@ ghost use Rattle.std.specs.Prelude.{◌≡◌, None, true, is_some, MatchResult}
 ghost use Rattle.geos_model.specs.ElementArray.{element_at};
 ghost use Rattle.element_arrays.specs.Slotted.{slotted_bytes};
 ghost use Rattle.name_arrays.specs.Reading.{named_array};
-ghost use Rattle.name_arrays.specs.Referencing.{referenced, referencing};
+ghost use Rattle.name_arrays.specs.Referencing.{name_bytes_with_reference, name_reference_conditions};
 ghost use Rattle.geos_model.specs.Refusal.{first_refusal};
 ghost use Rattle.geos_model.specs.NameArray.{name_bytes};
 ghost use Rattle.geos_model.specs.NameEdits.{no_names, name_added, name_token_added, name_changed, name_reference_removed, on_name_token, create_names_conditions, add_name_conditions, change_name_conditions};
-ghost use Rattle.chunk_edits.specs.Splicing.{Refuses};
+ghost use Rattle.chunk_edits.specs.Splicing.{RefusesToBuild};
 ghost use Rattle.chunk_arrays.specs.Replacing.{Replaces, RefusesToReplace};
 
 use crate::names::{GREATEST_PART, Names, is_name, read};
@@ -20,7 +20,7 @@ use std::alloc::Global;
 pub fn create_bytes(alloc: Global, part: u32) -> Result<Vec<u8>, Fault>
     ensures { MatchResult result
         (λ bytes. (first_refusal (create_names_conditions part) ≡ None) × (bytes.items ≡ name_bytes (no_names part)))
-        (Refuses (create_names_conditions part)) }
+        (RefusesToBuild (create_names_conditions part)) }
 {
     if part as usize > GREATEST_PART {
         return Err(Fault::Range);
@@ -111,8 +111,8 @@ fn with_reference(
 ) -> Result<Splice, Fault>
     requires { is_some (element_at names.now.slots.slots token.0) ≡ true }
     ensures { MatchResult result
-        (Replaces (referencing (named_array names.now.slots names.now.part) part.now token.0) (slotted_bytes names.now.slots) (referenced (named_array names.now.slots names.now.part) part.now replace token.0))
-        (RefusesToReplace (referencing (named_array names.now.slots names.now.part) part.now token.0) (referenced (named_array names.now.slots names.now.part) part.now replace token.0)) }
+        (Replaces (name_reference_conditions (named_array names.now.slots names.now.part) part.now token.0) (slotted_bytes names.now.slots.more names.now.slots.slots) (name_bytes_with_reference (named_array names.now.slots names.now.part) part.now replace token.0))
+        (RefusesToReplace (name_reference_conditions (named_array names.now.slots names.now.part) part.now token.0) (name_bytes_with_reference (named_array names.now.slots names.now.part) part.now replace token.0)) }
 {
     let old = names.name(token)?;
     if old.count == GREATEST_COUNT {

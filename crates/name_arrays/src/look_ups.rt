@@ -1,7 +1,7 @@
 ghost use Rattle.std.specs.Prelude.{◌≡◌, MatchResult, unwrap_or};
 ghost use Rattle.geos_model.specs.ElementEdits.{count_at};
 ghost use Rattle.geos_model.specs.NameEdits.{names_in, token_of_text, text_at, part_at, on_name_token, find_conditions};
-ghost use Rattle.element_arrays.specs.Answering.{Answers, IsRefused};
+ghost use Rattle.element_arrays.specs.Answering.{IsAnswered, IsRefused};
 
 use crate::names::read;
 use geos_model::{Fault, Token};
@@ -9,7 +9,7 @@ use geos_model::{Fault, Token};
 /// The token of a name, the lowest that has it. NotArray, NoName.
 pub fn find(bytes: &[u8], name: &[u8]) -> Result<Token, Fault>
     ensures { MatchResult result
-        (λ token. Answers (find_conditions bytes.now name.now) (unwrap_or (token_of_text (names_in bytes.now) name.now) 0) token.0)
+        (λ token. IsAnswered (find_conditions bytes.now name.now) (unwrap_or (token_of_text (names_in bytes.now) name.now) 0) token.0)
         (IsRefused (find_conditions bytes.now name.now)) }
 {
     let names = read(bytes)?;
@@ -19,7 +19,7 @@ pub fn find(bytes: &[u8], name: &[u8]) -> Result<Token, Fault>
 /// How many references a name has. NotArray, NoElement.
 pub fn count_of(bytes: &[u8], token: Token) -> Result<u32, Fault>
     ensures { MatchResult result
-        (λ n. Answers (on_name_token bytes.now token.0) (count_at (names_in bytes.now).names token.0) n)
+        (λ n. IsAnswered (on_name_token bytes.now token.0) (count_at (names_in bytes.now).names token.0) n)
         (IsRefused (on_name_token bytes.now token.0)) }
 {
     let names = read(bytes)?;
@@ -30,7 +30,7 @@ pub fn count_of(bytes: &[u8], token: Token) -> Result<u32, Fault>
 /// The name of a token. NotArray, NoElement.
 pub fn name_of(bytes: &[u8], token: Token) -> Result<&[u8], Fault>
     ensures { MatchResult result
-        (λ name. Answers (on_name_token bytes.now token.0) (text_at (names_in bytes.now) token.0) name.now)
+        (λ name. IsAnswered (on_name_token bytes.now token.0) (text_at (names_in bytes.now) token.0) name.now)
         (IsRefused (on_name_token bytes.now token.0)) }
 {
     let names = read(bytes)?;
@@ -41,7 +41,7 @@ pub fn name_of(bytes: &[u8], token: Token) -> Result<&[u8], Fault>
 /// What stands before the name of a token. NotArray, NoElement.
 pub fn data_of(bytes: &[u8], token: Token) -> Result<&[u8], Fault>
     ensures { MatchResult result
-        (λ part. Answers (on_name_token bytes.now token.0) (part_at (names_in bytes.now) token.0) part.now)
+        (λ part. IsAnswered (on_name_token bytes.now token.0) (part_at (names_in bytes.now) token.0) part.now)
         (IsRefused (on_name_token bytes.now token.0)) }
 {
     let names = read(bytes)?;

@@ -72,8 +72,8 @@ fn are_names(slots: &SlotView<'_>, part: usize) -> bool
 fn have_names(slots: &SlotView<'_>, part: usize) -> bool
     ensures { result ≡ list_all (is_named part) slots.now.slots.slots }
 {
-    for i in 0..slots.len() {
-        if let Some(used) = slots.element(Token(i as u16))
+    for t in 0..slots.len() {
+        if let Some(used) = slots.element(Token(t))
             && !is_named(used.bytes, part)
         {
             return false;

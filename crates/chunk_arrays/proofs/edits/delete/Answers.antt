@@ -8,11 +8,11 @@ use Rattle.chunk_arrays.proofs.edits.delete.Goals as goal
 
 pub rewrite-requires-clause-even : goal.rewrite-requires-clause-even
 rewrite-requires-clause-even c =
-    even_with_none c.in_ok-view.view (c.in_ok-view.view).extra c.args.i (c.args.i + c.args.k) (array_bytes-of c.args.bytes.now c.in_ok-view.view c.in_ok-view.ensures).0
+    even_with_none c.in_ok-view.view.array c.in_ok-view.view.array.extra c.args.i (c.args.i + c.args.k) (array_bytes-of c.args.bytes.now c.in_ok-view.view.array c.in_ok-view.ensures).0
 
 pub returns : goal.returns
 returns c =
-    let a : Array = c.in_ok-view.view in
+    let a : Array = c.in_ok-view.view.array in
     let bytes : List ℕ = c.args.bytes.now in
     let i : ℕ = c.args.i in
     let k : ℕ = c.args.k in

@@ -1,4 +1,4 @@
-use Rattle.std.proofs.Common.{◌≡◌, ◌++◌, [], ◌∷◌, List, ℕ, false, ap, sym, arith}
+use Rattle.std.proofs.Common.{◌≡◌, ◌++◌, [], ◌∷◌, List, ℕ, false, ap, sym, ◌∙◌, arith}
 use Rattle.geos_model.specs.Array.{Array, array_bytes}
 use Rattle.geos_model.specs.ArrayEdits.{element_inserted, insert_conditions, is_missized, too_long}
 use Rattle.geos_model.proofs.Arrays.{array_bytes-of}
@@ -8,16 +8,16 @@ use Rattle.chunk_arrays.proofs.edits.insert.Goals as goal
 
 pub rewrite-requires-clause-even : goal.rewrite-requires-clause-even
 rewrite-requires-clause-even c =
-    let sized : is_missized c.in_ok-view.view.size c.args.element.now ≡ false = sym c.if-has_other_size.ensures in
-    even_with_one c.in_ok-view.view (c.in_ok-view.view).extra c.args.i c.args.i _ c.args.element.now (array_bytes-of c.args.bytes.now c.in_ok-view.view c.in_ok-view.ensures).0 c.whole.ensures sized
+    let sized : is_missized c.in_ok-view.view.array.size c.args.element.now ≡ false = ap (λ (n : ℕ). is_missized n c.args.element.now) (sym c.element_size.ensures) ∙ sym c.if-is_missized.ensures in
+    even_with_one c.in_ok-view.view.array c.in_ok-view.view.array.extra c.args.i c.args.i _ c.args.element.now (array_bytes-of c.args.bytes.now c.in_ok-view.view.array c.in_ok-view.ensures).0 c.whole.ensures sized
 
 pub returns : goal.returns
 returns c =
-    let a : Array = c.in_ok-view.view in
+    let a : Array = c.in_ok-view.view.array in
     let bytes : List ℕ = c.args.bytes.now in
     let i : ℕ = c.args.i in
     let element : List ℕ = c.args.element.now in
-    let sized : is_missized a.size element ≡ false = sym c.if-has_other_size.ensures in
+    let sized : is_missized a.size element ≡ false = ap (λ (n : ℕ). is_missized n c.args.element.now) (sym c.element_size.ensures) ∙ sym c.if-is_missized.ensures in
     let to : List ℕ = element_inserted bytes i element in
     handed_on c.rewrite.result (insert_conditions bytes i element ++ too_long to) bytes (array_bytes a) to _
     (insert_decides bytes a i element to c.in_ok-view.ensures (omega arith) sized)

@@ -8,7 +8,7 @@ use Rattle.chunk_arrays.proofs.edits.resize.Goals as goal
 
 pub returns : goal.returns
 returns c =
-    let a : Array = c.in_ok-view.view in
+    let a : Array = c.in_ok-view.view.array in
     let bytes : List ℕ = c.args.bytes.now in
     let i : ℕ = c.args.i in
     let to : List ℕ = element_resized bytes i c.args.n in

@@ -8,15 +8,15 @@ use Rattle.chunk_arrays.proofs.edits.zero.Goals as goal
 
 pub rewrite-requires-clause-even : goal.rewrite-requires-clause-even
 rewrite-requires-clause-even c =
-    even_with_none c.in_ok-view.view (c.in_ok-view.view).extra 0 c.count.result (array_bytes-of c.args.bytes.now c.in_ok-view.view c.in_ok-view.ensures).0
+    even_with_none c.in_ok-view.view.array c.in_ok-view.view.array.extra 0 c.count.result (array_bytes-of c.args.bytes.now c.in_ok-view.view.array c.in_ok-view.ensures).0
 
 pub returns : goal.returns
 returns c =
-    let a : Array = c.in_ok-view.view in
+    let a : Array = c.in_ok-view.view.array in
     let bytes : List ℕ = c.args.bytes.now in
     let to : List ℕ = array_zeroed bytes in
     handed_on c.rewrite.result (on_array bytes ++ too_long to) bytes (array_bytes a) to _
     (zero_decides bytes a to c.in_ok-view.ensures)
     (array_bytes-of bytes a c.in_ok-view.ensures).1
-    (made-zeroed bytes a c.count.result c.in_ok-view.ensures c.count.ensures.value)
+    (made-zeroed bytes a c.count.result c.in_ok-view.ensures c.count.ensures)
     c.rewrite.ensures

@@ -11,18 +11,18 @@ start_is a first extra short is = ap (λ (n : ℕ). 8 + n) (ap length is ∙ sym
 
 pub push_header-requires-clause-count : goal.push_header-requires-clause-count
 push_header-requires-clause-count c =
-    (head_room (rewritten c.args.view.now (extra_after c.args.view.now c.args.first.now) c.args.from c.args.to c.args.new) c.count_after-count.result c.requires.even (omega (arith, c.requires.len, c.requires.fits)) c.count_after-count.ensures).1
+    (head_room (rewritten c.args.view.now.array (extra_after c.args.view.now.array c.args.first.now) c.args.from c.args.to c.args.new) c.count_after-count.result c.requires.even (omega (arith, c.requires.len, c.requires.fits)) c.count_after-count.ensures).1
 
 pub push_header-requires-clause-start : goal.push_header-requires-clause-start
 push_header-requires-clause-start c =
-    let r = head_room (rewritten c.args.view.now (extra_after c.args.view.now c.args.first.now) c.args.from c.args.to c.args.new) c.count_after-count.result c.requires.even (omega (arith, c.requires.len, c.requires.fits)) c.count_after-count.ensures in
+    let r = head_room (rewritten c.args.view.now.array (extra_after c.args.view.now.array c.args.first.now) c.args.from c.args.to c.args.new) c.count_after-count.result c.requires.even (omega (arith, c.requires.len, c.requires.fits)) c.count_after-count.ensures in
     let room = r.2 in
-    let start = start_is c.args.view.now c.args.first.now c.extra.result.now c.requires.extra c.extra.ensures in
+    let start = start_is c.args.view.now.array c.args.first.now c.extra.result.now c.requires.extra c.extra.ensures in
     omega (arith, room, start)
 
 pub push_table-requires-clause-fits : goal.push_table-requires-clause-fits
 push_table-requires-clause-fits c =
-    let a : Array = c.args.view.now in
+    let a : Array = c.args.view.now.array in
     let b : Array = rewritten a (extra_after a c.args.first.now) c.args.from c.args.to c.args.new in
     let r = head_room b c.count_after-count.result c.requires.even (omega (arith, c.requires.len, c.requires.fits)) c.count_after-count.ensures in
     let room = r.2 in
@@ -32,7 +32,7 @@ push_table-requires-clause-fits c =
 
 pub push_new-requires : goal.push_new-requires
 push_new-requires c =
-    let a : Array = c.args.view.now in
+    let a : Array = c.args.view.now.array in
     let extra : List ℕ = extra_after a c.args.first.now in
     let ys : List (List ℕ) = elements_of c.args.new in
     let b : Array = rewritten a extra c.args.from c.args.to c.args.new in
@@ -50,7 +50,7 @@ push_new-requires c =
 
 pub returns : goal.returns
 returns c =
-    let a : Array = c.args.view.now in
+    let a : Array = c.args.view.now.array in
     let extra : List ℕ = extra_after a c.args.first.now in
     let ys : List (List ℕ) = elements_of c.args.new in
     let r = head_room (rewritten a extra c.args.from c.args.to c.args.new) c.count_after-count.result c.requires.even (omega (arith, c.requires.len, c.requires.fits)) c.count_after-count.ensures in
@@ -61,4 +61,4 @@ returns c =
     (c.in_ok-extend_from_slice.ensures.items ∙ ap (λ (l : List ℕ). c.push_table.new.out.items ++ l) (c.run.ensures ∙ joined-front a.elements c.args.from))
     c.in_ok-push_new.ensures
     (c.in_ok-extend_from_slice-2.ensures.items ∙ ap (λ (l : List ℕ). c.push_new.new.out.items ++ l) c.run-2.ensures)
-    c.count.ensures.value
+    c.count.ensures

@@ -8,7 +8,7 @@ use Rattle.chunk_arrays.proofs.rewriting.length_after.Goals as goal
 
 pub returns : goal.returns
 returns c =
-    let a : Array = c.args.view.now in
+    let a : Array = c.args.view.now.array in
     let ys : List (List ℕ) = elements_of c.args.new in
     let all : List (List ℕ) = splice a.elements c.args.from c.args.to ys in
     let front : ℕ = length (joined (take c.args.from a.elements)) in
@@ -20,7 +20,7 @@ returns c =
     cut_table (a.size == 0) (length all) c.count_after.result c.table_len-table.result c.count_after.ensures c.table_len-table.ensures in
     let before_is : length c.run-before.result.now ≡ front = ap length (c.run-before.ensures ∙ joined-front a.elements c.args.from) in
     let behind_is : length c.run-behind.result.now ≡ back =
-    ap length c.run-behind.ensures ∙ ap (λ (l : List (List ℕ)). length (joined l)) (run_back a.elements c.args.to c.count.result c.count.ensures.value) in
+    ap length c.run-behind.ensures ∙ ap (λ (l : List (List ℕ)). length (joined l)) (run_back a.elements c.args.to c.count.result c.count.ensures) in
     let before : length c.run-before.result.now ≡ cut front = let fits = c.run-before.type_inv in omega (arith, before_is, fits) in
     let behind : length c.run-behind.result.now ≡ cut back = let fits = c.run-behind.type_inv in omega (arith, behind_is, fits) in
     let one : c.saturating_add.result ≡ cut (front + length (joined ys)) = cut_sum _ _ front (length (joined ys)) _ before c.new_len.ensures c.saturating_add.ensures in

@@ -5,17 +5,17 @@ use Rattle.chunk_arrays.proofs.rewriting.push_places.Goals as goal
 
 pub push_word-requires : goal.push_word-requires
 push_word-requires c =
-    let fits = run_fits c.args.view.now.elements c.args.from c.loop-i.i c.args.to (omega arith) (omega arith) c.requires.within in
+    let fits = run_fits c.args.view.now.array.elements c.args.from c.loop-i.i c.args.to (omega arith) (omega arith) c.requires.within in
     omega (arith, fits)
 
 pub overflow_add-next : goal.overflow_add-next
 overflow_add-next c =
-    let fits = run_fits c.args.view.now.elements c.args.from c.loop-i.i c.args.to (omega arith) (omega arith) c.requires.within in
+    let fits = run_fits c.args.view.now.array.elements c.args.from c.loop-i.i c.args.to (omega arith) (omega arith) c.requires.within in
     omega (arith, fits, ap length c.element.ensures)
 
 pub loop-i-preserved : goal.loop-i-preserved
 loop-i-preserved c =
-    let xs : List (List ℕ) = c.args.view.now.elements in
+    let xs : List (List ℕ) = c.args.view.now.array.elements in
     let order : c.args.from ≤ c.loop-i.i = omega arith in
     let within : c.loop-i.i < length xs = omega (arith, c.requires.within) in
     let inv = c.loop-i.invariant in

@@ -13,21 +13,21 @@ as_long a first from to new short = length-other_extra (rewritten a a.extra from
 
 pub returns-then-len-gt-LONGEST : goal.returns-then-len-gt-LONGEST
 returns-then-len-gt-LONGEST c =
-    let a : Array = c.args.view.now in
+    let a : Array = c.args.view.now.array in
     let same = as_long a c.args.first.now c.args.from c.args.to c.args.new c.requires.extra in
     inr (refused-long (array_bytes (rewritten a (extra_after a c.args.first.now) c.args.from c.args.to c.args.new)) (omega (arith, same)))
 
 pub bytes_after-requires-clause-len : goal.bytes_after-requires-clause-len
 bytes_after-requires-clause-len c =
-    let same = as_long c.args.view.now c.args.first.now c.args.from c.args.to c.args.new c.requires.extra in
+    let same = as_long c.args.view.now.array c.args.first.now c.args.from c.args.to c.args.new c.requires.extra in
     omega (arith, same)
 
 pub returns : goal.returns
 returns c =
-    let a : Array = c.args.view.now in
+    let a : Array = c.args.view.now.array in
     let same = as_long a c.args.first.now c.args.from c.args.to c.args.new c.requires.extra in
     let to : List ℕ = array_bytes (rewritten a (extra_after a c.args.first.now) c.args.from c.args.to c.args.new) in
     record {
       accepted = accepted-short to (omega (arith, same));
-      leads = leads-whole _ _ (array_bytes a) to (c.in_ok-copied.ensures ∙ c.bytes.ensures.value) (c.from_vec.ensures ∙ c.in_ok-bytes.ensures);
+      leads = leads-whole _ _ (array_bytes a) to (c.in_ok-copied.ensures ∙ c.bytes.ensures) (c.from_vec.ensures ∙ c.in_ok-bytes.ensures);
     }

@@ -3,9 +3,9 @@ use Rattle.geos_model.specs.ArrayEdits.{is_missized}
 use Rattle.geos_model.specs.ElementArray.{Slots, element_bytes}
 use Rattle.geos_model.specs.ElementEdits.{element_changed, with_element, count_at, change_conditions}
 use Rattle.geos_model.specs.declared.fault.Fault.TheVariants.{NotArray, NoElement, Range}
-use Rattle.element_arrays.specs.Slotted.{slotted_bytes, with_slots}
+use Rattle.element_arrays.specs.Slotted.{slotted_bytes}
 use Rattle.element_arrays.specs.Used.{used_element}
-use Rattle.element_arrays.proofs.Found.{elements_are, is_read_sound, new_bytes}
+use Rattle.element_arrays.proofs.Found.{elements_are, new_bytes}
 use Rattle.geos_model.proofs.UsedElements.{counted, bounded, count_at-is}
 use Rattle.element_arrays.proofs.UsedElements.{whole_element}
 use Rattle.element_arrays.proofs.Replacing.{carried, refuses_own, slots_handed_on}
@@ -23,22 +23,22 @@ returns-in_err-used c =
     carried c.from_residual-in_err-used.result _ _ fault c.from_residual-in_err-used.ensures.1
     (refuses_own (change_conditions c.args.bytes.now c.args.token.0 c.args.element.now) _ NoElement fault c.in_err-used.ensures.0 refl (rw (c.in_ok-slots.ensures.0, c.in_err-used.ensures.1) refl))
 
-pub returns-then-has_other_size : goal.returns-then-has_other_size
-returns-then-has_other_size c =
-    let missized = sym c.has_other_size.ensures ∙ c.if-has_other_size.true in
+pub returns-then-is_missized : goal.returns-then-is_missized
+returns-then-is_missized c =
+    let missized = ap (λ (n : ℕ). is_missized n c.args.element.now) (sym c.element_size.ensures) ∙ sym c.is_missized.ensures ∙ c.if-is_missized.true in
     refuses_own (change_conditions c.args.bytes.now c.args.token.0 c.args.element.now) _ Range Range refl refl (rw (c.in_ok-slots.ensures.0, c.in_ok-used.ensures, missized) refl)
 
 pub with_element-requires-clause-counted : goal.with_element-requires-clause-counted
 with_element-requires-clause-counted c =
-    counted c.in_ok-slots.slots.slots (is_read_sound c.args.bytes.now c.in_ok-slots.slots c.in_ok-slots.ensures) c.args.token.0 (used_element c.in_ok-used.used) c.in_ok-used.ensures
+    counted c.in_ok-slots.slots.slots c.in_ok-slots.slots.sound c.args.token.0 (used_element c.in_ok-used.used) c.in_ok-used.ensures
 
 pub with_element-requires-clause-bounded : goal.with_element-requires-clause-bounded
 with_element-requires-clause-bounded c =
-    bounded c.in_ok-slots.slots.slots (is_read_sound c.args.bytes.now c.in_ok-slots.slots c.in_ok-slots.ensures) c.args.token.0 (used_element c.in_ok-used.used) c.in_ok-used.ensures
+    bounded c.in_ok-slots.slots.slots c.in_ok-slots.slots.sound c.args.token.0 (used_element c.in_ok-used.used) c.in_ok-used.ensures
 
 pub with_element-requires-clause-sized : goal.with_element-requires-clause-sized
 with_element-requires-clause-sized c =
-    ap (is_missized c.in_ok-slots.slots.slots.size) (append-nil c.args.element.now) ∙ sym c.has_other_size.ensures ∙ c.if-has_other_size.false
+    ap (is_missized c.in_ok-slots.slots.slots.size) (append-nil c.args.element.now) ∙ ap (λ (n : ℕ). is_missized n c.args.element.now) (sym c.element_size.ensures) ∙ sym c.is_missized.ensures ∙ c.if-is_missized.false
 
 pub returns : goal.returns
 returns c =
@@ -49,10 +49,10 @@ returns c =
     let read = c.in_ok-slots.ensures in
     let e = used_element c.in_ok-used.used in
     let at = c.in_ok-used.ensures in
-    let fits = sym c.has_other_size.ensures ∙ c.if-has_other_size.false in
+    let fits = ap (λ (n : ℕ). is_missized n c.args.element.now) (sym c.element_size.ensures) ∙ sym c.is_missized.ensures ∙ c.if-is_missized.false in
     let new : Slots = with_element s.slots t e.count (element ++ []) in
     let same : new ≡ with_element s.slots t (count_at s.slots t) element = whole_element s.slots t e.count _ element element (sym (count_at-is s.slots t e at)) refl in
-    let to_is : slotted_bytes (with_slots s new) ≡ element_changed bytes t element =
+    let to_is : slotted_bytes s.more new ≡ element_changed bytes t element =
     new_bytes bytes s read new ∙ ap element_bytes same ∙ ap (λ (x : Slots). element_bytes (with_element x t (count_at x t) element)) (sym (elements_are bytes s read)) in
     slots_handed_on (change_conditions bytes t element) s new bytes (element_changed bytes t element)
     (rw (read.0, at, fits) refl) read.1 to_is c.with_element.result c.with_element.ensures

@@ -2,7 +2,7 @@ use Rattle.std.proofs.Common.{◌≡◌, ℕ, List, refl, sym, ap, ◌∙◌}
 use Rattle.geos_model.specs.ElementArray.{Slots, element_bytes}
 use Rattle.geos_model.specs.ElementEdits.{element_deleted, without_element, on_token}
 use Rattle.geos_model.specs.declared.fault.Fault.TheVariants.{NotArray, NoElement}
-use Rattle.element_arrays.specs.Slotted.{slotted_bytes, with_slots}
+use Rattle.element_arrays.specs.Slotted.{slotted_bytes}
 use Rattle.element_arrays.proofs.Found.{elements_are, new_bytes}
 use Rattle.element_arrays.proofs.Replacing.{carried, refuses_own, slots_handed_on}
 use Rattle.element_arrays.proofs.edits.delete.Goals as goal
@@ -30,6 +30,6 @@ returns c =
     let t : ℕ = c.args.token.0 in
     let s = c.in_ok-slots.slots in
     let read = c.in_ok-slots.ensures in
-    let to_is : slotted_bytes (with_slots s (without_element s.slots t)) ≡ element_deleted bytes t = new_bytes bytes s read (without_element s.slots t) ∙ ap (λ (x : Slots). element_bytes (without_element x t)) (sym (elements_are bytes s read)) in
+    let to_is : slotted_bytes s.more (without_element s.slots t) ≡ element_deleted bytes t = new_bytes bytes s read (without_element s.slots t) ∙ ap (λ (x : Slots). element_bytes (without_element x t)) (sym (elements_are bytes s read)) in
     slots_handed_on (on_token bytes t) s (without_element s.slots t) bytes (element_deleted bytes t)
     (rw (read.0, c.in_ok-used_at.ensures) refl) read.1 to_is c.without_element.result c.without_element.ensures

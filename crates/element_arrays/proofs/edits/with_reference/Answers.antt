@@ -4,9 +4,9 @@ use Rattle.geos_model.specs.ElementArray.{Slots, greatest_count}
 use Rattle.geos_model.specs.ElementEdits.{with_element}
 use Rattle.geos_model.specs.ArrayEdits.{is_missized}
 use Rattle.geos_model.specs.declared.fault.Fault.TheVariants.{NoElement}
-use Rattle.element_arrays.specs.Slotted.{slotted_bytes, with_slots}
+use Rattle.element_arrays.specs.Slotted.{slotted_bytes}
 use Rattle.element_arrays.specs.Used.{used_element}
-use Rattle.element_arrays.specs.Referencing.{referenced, referencing}
+use Rattle.element_arrays.specs.Referencing.{element_with_reference, element_reference_conditions}
 use Rattle.geos_model.proofs.UsedElements.{bounded, own_size, count_at-is, bytes_at-is}
 use Rattle.element_arrays.proofs.UsedElements.{whole_element}
 use Rattle.element_arrays.proofs.Replacing.{carried, refuses_own, slots_handed_on}
@@ -17,23 +17,23 @@ returns-in_err-used c =
     let s = c.args.slots.now.slots in
     let fault = c.in_err-used.field-0.0 in
     carried c.from_residual.result _ _ fault c.from_residual.ensures.1
-    (refuses_own (referencing s c.args.token.0) _ NoElement fault c.in_err-used.ensures.0 refl (rw c.in_err-used.ensures.1 refl))
+    (refuses_own (element_reference_conditions s c.args.token.0) _ NoElement fault c.in_err-used.ensures.0 refl (rw c.in_err-used.ensures.1 refl))
 
 pub overflow_add-used : goal.overflow_add-used
 overflow_add-used c =
-    let most = bounded c.args.slots.now.slots c.requires c.args.token.0 (used_element c.in_ok-used.used) c.in_ok-used.ensures in
+    let most = bounded c.args.slots.now.slots c.args.slots.now.sound c.args.token.0 (used_element c.in_ok-used.used) c.in_ok-used.ensures in
     omega (arith, most)
 
 pub with_element-requires-clause-bounded : goal.with_element-requires-clause-bounded
 with_element-requires-clause-bounded c =
-    let most = bounded c.args.slots.now.slots c.requires c.args.token.0 (used_element c.in_ok-used.used) c.in_ok-used.ensures in
+    let most = bounded c.args.slots.now.slots c.args.slots.now.sound c.args.token.0 (used_element c.in_ok-used.used) c.in_ok-used.ensures in
     omega (arith, most, c.if-used-eq-GREATEST_COUNT.false)
 
 pub with_element-requires-clause-sized : goal.with_element-requires-clause-sized
 with_element-requires-clause-sized c =
     let s = c.args.slots.now.slots in
     let e = used_element c.in_ok-used.used in
-    ap (is_missized s.size) (append-nil e.bytes) ∙ own_size s c.requires c.args.token.0 e c.in_ok-used.ensures
+    ap (is_missized s.size) (append-nil e.bytes) ∙ own_size s c.args.slots.now.sound c.args.token.0 e c.in_ok-used.ensures
 
 pub returns : goal.returns
 returns c =
@@ -43,7 +43,7 @@ returns c =
     let e = used_element c.in_ok-used.used in
     let at = c.in_ok-used.ensures in
     let few : (e.count == greatest_count) ≡ false = ne_eqb e.count greatest_count c.if-used-eq-GREATEST_COUNT.false in
-    let accepted : first_refusal (referencing s t) ≡ None = rw (at, few) refl in
-    let same : with_element s t (e.count + 1) (e.bytes ++ []) ≡ referenced s t = whole_element s t (e.count + 1) _ e.bytes _ (ap (λ (n : ℕ). n + 1) (sym (count_at-is s t e at))) (sym (bytes_at-is s t e at)) in
-    slots_handed_on (referencing s t) all (with_element s t (e.count + 1) (e.bytes ++ [])) (slotted_bytes all) (slotted_bytes (with_slots all (referenced s t)))
-    accepted refl (ap (λ (x : Slots). slotted_bytes (with_slots all x)) same) c.with_element.result c.with_element.ensures
+    let accepted : first_refusal (element_reference_conditions s t) ≡ None = rw (at, few) refl in
+    let same : with_element s t (e.count + 1) (e.bytes ++ []) ≡ element_with_reference s t = whole_element s t (e.count + 1) _ e.bytes _ (ap (λ (n : ℕ). n + 1) (sym (count_at-is s t e at))) (sym (bytes_at-is s t e at)) in
+    slots_handed_on (element_reference_conditions s t) all (with_element s t (e.count + 1) (e.bytes ++ [])) (slotted_bytes all.more all.slots) (slotted_bytes all.more (element_with_reference s t))
+    accepted refl (ap (λ (x : Slots). slotted_bytes all.more x) same) c.with_element.result c.with_element.ensures

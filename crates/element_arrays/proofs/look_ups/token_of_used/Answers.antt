@@ -11,7 +11,7 @@ pub loop-i-preserved : goal.loop-i-preserved
 loop-i-preserved c =
     let slots = c.in_ok-slots.slots.slots.slots in
     let i = c.loop-i.i in
-    let within : i < length slots = omega (arith, c.len-len.ensures.value) in
+    let within : i < length slots = omega (arith, c.len-i-end.ensures) in
     let used = is_used_slot c.element.result (get_or slots i None) c.is_some.result c.is_some.ensures c.element.ensures in
     elim c.if-is_some.branch [
       | then-is_some+else-left-eq0 w ↦ (
@@ -30,7 +30,7 @@ loop-i-preserved c =
 pub returns : goal.returns
 returns c =
     let slots = c.in_ok-slots.slots.slots.slots in
-    let none : drop c.loop-i.i slots ≡ [] = drop_of_length-le slots {i = c.loop-i.i} (omega (arith, c.len-len.ensures.value, c.loop-i-test.false)) in
+    let none : drop c.loop-i.i slots ≡ [] = drop_of_length-le slots {i = c.loop-i.i} (omega (arith, c.len-i-end.ensures, c.loop-i-test.false)) in
     let few : count_by is_some slots ≤ c.args.k = omega (arith, c.loop-i.invariant.1, ap (count_by is_some) none) in
     let no_such : nat_le (count_by is_some slots) c.args.k ≡ true = le-leb (count_by is_some slots) c.args.k few in
     rw (c.in_ok-slots.ensures.0, no_such) refl
@@ -40,7 +40,7 @@ returns-then-left-eq0 c =
     let s = c.in_ok-slots.slots in
     let slots = s.slots.slots in
     let i = c.loop-i.i in
-    let within : i < length slots = omega (arith, c.len-len.ensures.value) in
+    let within : i < length slots = omega (arith, c.len-i-end.ensures) in
     let used = is_used_slot c.element.result (get_or slots i None) c.is_some.result c.is_some.ensures c.element.ensures ∙ c.if-is_some.true in
     let one = count-used slots i within used in
     let more : c.args.k < count_by is_some slots = omega (arith, one, c.if-left-eq0.true, c.loop-i.invariant.1) in

@@ -11,15 +11,15 @@ use Rattle.element_arrays.proofs.slot_view.are_slots.Goals.{else-size-gt0-via-th
 
 pub returns-then-bytes-extra : goal.returns-then-bytes-extra
 returns-then-bytes-extra c =
-    sym (slots_refused c.args.extra c.args.view.now c.array_law.ensures.few (λ long p. c.if-bytes-extra.true (ap length c.extra-bytes.ensures ∙ long)))
+    sym (slots_refused c.args.extra c.args.view.now.array c.args.view.now.few (λ long p. c.if-bytes-extra.true (ap length c.extra-bytes.ensures ∙ long)))
 
 pub returns-then-size-lt4 : goal.returns-then-size-lt4
 returns-then-size-lt4 c =
-    sym (slots_refused c.args.extra c.args.view.now c.array_law.ensures.few (λ long p. let sized = p.sized in omega arith))
+    sym (slots_refused c.args.extra c.args.view.now.array c.args.view.now.few (λ long p. let sized = p.sized in omega arith))
 
 pub returns-in-Some : goal.returns-in-Some
 returns-in-Some c =
-    let a : Array = c.args.view.now in
+    let a : Array = c.args.view.now.array in
     let walk : c.is_walk.result ≡ is_walk (count_by is_freed a.elements) a.elements (word_at a.extra 0) =
     c.is_walk.ensures ∙ ap₂ (λ (n t : ℕ). is_walk n a.elements t) c.in-Some.ensures.1 (c.read_u16-first.ensures ∙ ap (λ (l : List ℕ). word_at l 0) c.extra-bytes.ensures) in
     let size : a.size - 3 ≡ c.saturating_sub.result = sym (c.saturating_sub.ensures ∙ ap (λ (n : ℕ). n - 3) c.element_size-size.ensures) in
@@ -27,13 +27,13 @@ returns-in-Some c =
     let sized : (a.size ≡ 0) ⊎ (4 ≤ a.size) = elim c.else-size-gt0.branch [ else-size-gt0-via-then-size-gt0+else-size-lt4 w ↦ inr (omega arith) | else-size-gt0-via-else-size-gt0 w ↦ inl (omega arith) ] in
     let long : length a.extra ≡ c.args.extra = sym (ap length c.extra-bytes.ensures) ∙ c.if-bytes-extra.false in
     elim (cases_Bool c.is_walk.result) [
-      | inl so ↦ so ∙ sym (slots_passed c.args.extra a c.array_law.ensures c.requires long (record { sized = sized; each = each; walk = sym walk ∙ so }))
-      | inr other ↦ other ∙ sym (slots_refused c.args.extra a c.array_law.ensures.few (λ same p. absurd (true≢false (sym p.walk ∙ sym walk ∙ other))))
+      | inl so ↦ so ∙ sym (slots_passed c.args.extra c.args.view.now c.requires long (record { sized = sized; each = each; walk = sym walk ∙ so }))
+      | inr other ↦ other ∙ sym (slots_refused c.args.extra a c.args.view.now.few (λ same p. absurd (true≢false (sym p.walk ∙ sym walk ∙ other))))
     ]
 
 pub returns-in-None : goal.returns-in-None
 returns-in-None c =
-    let a : Array = c.args.view.now in
+    let a : Array = c.args.view.now.array in
     let size : a.size - 3 ≡ c.saturating_sub.result = sym (c.saturating_sub.ensures ∙ ap (λ (n : ℕ). n - 3) c.element_size-size.ensures) in
     let each : list_all (is_slot (a.size - 3)) a.elements ≡ false = ap (λ (n : ℕ). list_all (is_slot n) a.elements) size ∙ c.in-None.ensures in
-    sym (slots_refused c.args.extra a c.array_law.ensures.few (λ long p. true≢false (sym p.each ∙ each)))
+    sym (slots_refused c.args.extra a c.args.view.now.few (λ long p. true≢false (sym p.each ∙ each)))

@@ -5,6 +5,6 @@ use Rattle.element_arrays.proofs.slot_view.count_free.Given as goal
 
 abbrev pub invariant-loop-i : goal.invariant-loop-i
 invariant-loop-i l = record {
-  slots : list_all (is_slot l.size) (take l.i l.view.elements) ≡ true;
-  free : l.free ≡ count_by is_freed (take l.i l.view.elements);
+  slots : list_all (is_slot l.size) (take l.i l.view.array.elements) ≡ true;
+  free : l.free ≡ count_by is_freed (take l.i l.view.array.elements);
 }

@@ -8,5 +8,5 @@ loop-preserved c =
     let left : ℕ = c.args.steps - (c.loop.counter + 1) in
     let step : c.args.steps - c.loop.counter ≡ suc left = omega arith in
     c.loop.invariant
-    ∙ ap (λ (n : ℕ). is_walk n c.args.view.now.elements c.loop.token) step
-    ∙ ap₂ (λ (b : Bool) (t : ℕ). b && is_walk left c.args.view.now.elements t) c.in-Some.ensures.0 (sym c.in-Some.ensures.1)
+    ∙ ap (λ (n : ℕ). is_walk n c.args.view.now.array.elements c.loop.token) step
+    ∙ ap₂ (λ (b : Bool) (t : ℕ). b && is_walk left c.args.view.now.array.elements t) c.in-Some.ensures.0 (sym c.in-Some.ensures.1)

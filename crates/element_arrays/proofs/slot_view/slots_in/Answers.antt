@@ -8,14 +8,19 @@ use Rattle.element_arrays.proofs.slot_view.slots_in.Goals as goal
 
 pub invariant_of-result : goal.invariant_of-result
 invariant_of-result c =
-    let a : Array = c.args.view in
+    let a : Array = c.args.view.array in
     let read : slots_of c.args.extra a ≡ Some (slots_read a) = slots_read-is c.args.extra a (sym c.are_slots.ensures ∙ c.if-are_slots.true) in
     let is = slots_of-is c.args.extra a (slots_read a) read in
-    (is.2, is.1)
+    (is.1, tt)
+
+pub invariant_of-result-then-are_slots : goal.invariant_of-result-then-are_slots
+invariant_of-result-then-are_slots c =
+    let a : Array = c.args.view.array in
+    (slots_of-is c.args.extra a (slots_read a) (slots_read-is c.args.extra a (sym c.are_slots.ensures ∙ c.if-are_slots.true))).2
 
 pub returns-then-are_slots : goal.returns-then-are_slots
 returns-then-are_slots c =
-    let a : Array = c.args.view in
+    let a : Array = c.args.view.array in
     let enough = c.requires in
     let read : slots_of c.args.extra a ≡ Some (slots_read a) = slots_read-is c.args.extra a (sym c.are_slots.ensures ∙ c.if-are_slots.true) in
     let is = slots_of-is c.args.extra a (slots_read a) read in
@@ -25,4 +30,4 @@ returns-then-are_slots c =
     (read, is.2, more)
 
 pub returns-else-are_slots : goal.returns-else-are_slots
-returns-else-are_slots c = (refl, slots_none c.args.extra c.args.view (sym c.are_slots.ensures ∙ c.if-are_slots.false))
+returns-else-are_slots c = (refl, slots_none c.args.extra c.args.view.array (sym c.are_slots.ensures ∙ c.if-are_slots.false))

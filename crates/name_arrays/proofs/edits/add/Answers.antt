@@ -7,7 +7,7 @@ use Rattle.geos_model.specs.NameEdits.{token_of_text, add_name_conditions, name_
 use Rattle.element_arrays.specs.Slotted.{Slotted, slotted_bytes}
 use Rattle.element_arrays.proofs.Replacing.{replaces_for, refuses_for, token_handed_on, carried}
 use Rattle.name_arrays.specs.Reading.{named_array, IsRead}
-use Rattle.name_arrays.specs.Referencing.{referenced, referencing}
+use Rattle.name_arrays.specs.Referencing.{name_bytes_with_reference, name_reference_conditions}
 use Rattle.name_arrays.proofs.Found.{any_size, found}
 use Rattle.name_arrays.proofs.Editing.{add_refusals, added_found, token_found, full_found, added_new, token_new, full_new}
 use Rattle.name_arrays.proofs.edits.add.Goals as goal
@@ -22,7 +22,7 @@ with_new-requires c = any_size (named_array c.in_ok-names.names.slots c.in_ok-na
 
 -- where the name is found, the part's length decides
 decides : (bytes : List ℕ) (s : Slotted) (size : ℕ) → IsRead bytes s size → is_sound_names (named_array s size) ≡ true → (text part to : List ℕ) (t : ℕ) → token_of_text (named_array s size) text ≡ Some t
-    → first_refusal (add_name_conditions bytes text part ++ too_long to) ≡ first_refusal (referencing (named_array s size) part t ++ too_long to)
+    → first_refusal (add_name_conditions bytes text part ++ too_long to) ≡ first_refusal (name_reference_conditions (named_array s size) part t ++ too_long to)
 decides bytes s size read sound text part to t is =
     let a : NameArray = named_array s size in
     let good : is_name text ≡ true = (found a sound t text is).1 in
@@ -40,7 +40,7 @@ returns-in_err-splice-in-Some c =
     let to : List ℕ = name_added bytes text part c.args.replace in
     let is : token_of_text a text ≡ Some t = sym c.in-Some.ensures in
     carried c.from_residual-in_err-splice-in-Some.result _ _ c.in_err-splice-in-Some.field-0.0 c.from_residual-in_err-splice-in-Some.ensures.1
-    (refuses_for (add_name_conditions bytes text part) (referencing a part t) bytes to (slotted_bytes s) (referenced a part c.args.replace t)
+    (refuses_for (add_name_conditions bytes text part) (name_reference_conditions a part t) bytes to (slotted_bytes s.more s.slots) (name_bytes_with_reference a part c.args.replace t)
     (decides bytes s size c.in_ok-names.ensures c.in_ok-names.names.sound text part to t is)
     (added_found bytes s size c.in_ok-names.ensures text part c.args.replace t is)
     c.in_err-splice-in-Some.field-0.0 c.in_err-splice-in-Some.ensures)
@@ -56,7 +56,7 @@ returns-in_ok-splice-in-Some c =
     let part : List ℕ = c.args.part.now in
     let to : List ℕ = name_added bytes text part c.args.replace in
     let is : token_of_text a text ≡ Some t = sym c.in-Some.ensures in (
-      replaces_for (add_name_conditions bytes text part) (referencing a part t) bytes to (slotted_bytes s) (referenced a part c.args.replace t)
+      replaces_for (add_name_conditions bytes text part) (name_reference_conditions a part t) bytes to (slotted_bytes s.more s.slots) (name_bytes_with_reference a part c.args.replace t)
           (decides bytes s size c.in_ok-names.ensures c.in_ok-names.names.sound text part to t is)
           (added_found bytes s size c.in_ok-names.ensures text part c.args.replace t is)
           c.in_ok-names.ensures.same

@@ -9,7 +9,7 @@ use Rattle.geos_model.specs.declared.fault.Fault.TheVariants.{CountFull, Range}
 use Rattle.element_arrays.specs.Slotted.{Slotted, slotted_bytes}
 use Rattle.element_arrays.proofs.Replacing.{slots_handed_on}
 use Rattle.name_arrays.specs.Reading.{named_array}
-use Rattle.name_arrays.specs.Referencing.{referenced, referencing}
+use Rattle.name_arrays.specs.Referencing.{name_bytes_with_reference, name_reference_conditions}
 use Rattle.name_arrays.proofs.Found.{any_size, bytes_with}
 use Rattle.name_arrays.proofs.edits.with_reference.Goals as goal
 use Rattle.name_arrays.proofs.edits.with_reference.Goals.{then-replace, else-replace}
@@ -25,11 +25,11 @@ returns c =
     let part : List ℕ = c.args.part.now in
     let count : (count_at a.names t == greatest_count) ≡ false = ne_eqb (count_at a.names t) greatest_count (λ e. c.if-old-eq-GREATEST_COUNT.false (sym c.in_ok-old.ensures.count ∙ e)) in
     let long : not (length part == a.part) ≡ false = ap not (eq-eqb (length part) a.part c.if-part-names.false) in
-    let none : first_refusal (referencing a part t) ≡ None = ap₂ (λ (x y : Bool). first_refusal ((CountFull, x) ∷ (Range, y) ∷ [])) count long in
+    let none : first_refusal (name_reference_conditions a part t) ≡ None = ap₂ (λ (x y : Bool). first_refusal ((CountFull, x) ∷ (Range, y) ∷ [])) count long in
     let head : c.if-replace.head.now ≡ (if c.args.replace then part else part_at a t) = elim c.if-replace.branch [
       | then-replace w ↦ ap (λ r. r.now) w.head-is ∙ sym (cond-true c.args.replace part (part_at a t) w.if-replace.true)
       | else-replace w ↦ ap (λ r. r.now) w.head-is ∙ sym c.in_ok-old.ensures.part ∙ sym (cond-false c.args.replace part (part_at a t) w.if-replace.false)
     ] in
-    slots_handed_on (referencing a part t) s (with_element s.slots t (c.in_ok-old.old.count + 1) (c.if-replace.head.now ++ c.in_ok-old.old.text.now)) (slotted_bytes s) (referenced a part c.args.replace t) none refl
+    slots_handed_on (name_reference_conditions a part t) s (with_element s.slots t (c.in_ok-old.old.count + 1) (c.if-replace.head.now ++ c.in_ok-old.old.text.now)) (slotted_bytes s.more s.slots) (name_bytes_with_reference a part c.args.replace t) none refl
     (bytes_with s c.args.names.now.part c.args.names.now.more t _ _ _ _ (ap (λ (n : ℕ). n + 1) (sym c.in_ok-old.ensures.count)) (ap₂ (λ (x y : List ℕ). x ++ y) head (sym c.in_ok-old.ensures.text)))
     c.with_element.result c.with_element.ensures

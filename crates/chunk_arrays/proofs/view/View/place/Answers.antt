@@ -1,26 +1,22 @@
 use Rattle.std.proofs.Common.{◌≡◌, ◌≢◌, ◌≤◌, ◌<◌, ◌+◌, ◌*◌, ◌∙◌, sym, ap, arith, ℕ, length}
 use Rattle.std.proofs.Math.Nat.{mul-le-mul_right}
-use Rattle.geos_model.specs.Array.{Array}
 use Rattle.geos_model.specs.Words.{word_at}
 use Rattle.chunk_arrays.specs.Reading.{place_of}
 use Rattle.chunk_arrays.proofs.Cutting.{word_at-lt}
 use Rattle.chunk_arrays.proofs.Views.{length-elements_read}
 use Rattle.chunk_arrays.proofs.Places.{place-last, place-any, place-even}
+use Rattle.chunk_arrays.specs.Viewed.{Viewed}
 use Rattle.chunk_arrays.proofs.view.View.place.Goals as goal
 
 pub overflow_mul-i : goal.overflow_mul-i
-overflow_mul-i c =
-    let few = word_at-lt c.self.inside.bytes.now c.self.invariant.parts.are_bytes 0 in
-    let count : length c.args.self.now.elements ≡ word_at c.self.inside.bytes.now 0 = ap (λ (a : Array). length a.elements) (sym c.self.view_is) ∙ length-elements_read c.self.inside.bytes.now in
-    omega (arith, few, count)
+overflow_mul-i c = let few = c.args.self.now.few in omega (arith, few)
 
 pub overflow_add-self-inside : goal.overflow_add-self-inside
 overflow_add-self-inside c =
-    let few = word_at-lt c.self.inside.bytes.now c.self.invariant.parts.are_bytes 0 in
+    let few = c.args.self.now.few in
     let near = word_at-lt c.self.inside.bytes.now c.self.invariant.parts.are_bytes 6 in
     let start = c.self.invariant.start in
-    let count : length c.args.self.now.elements ≡ word_at c.self.inside.bytes.now 0 = ap (λ (a : Array). length a.elements) (sym c.self.view_is) ∙ length-elements_read c.self.inside.bytes.now in
-    omega (arith, few, near, start, count)
+    omega (arith, few, near, start)
 
 pub word-requires : goal.word-requires
 word-requires c =
@@ -28,7 +24,7 @@ word-requires c =
     let room = (c.self.invariant.parts.elements.table any).room in
     let start = c.self.invariant.start in
     let there = c.self.invariant.count in
-    let count : length c.args.self.now.elements ≡ word_at c.self.inside.bytes.now 0 = ap (λ (a : Array). length a.elements) (sym c.self.view_is) ∙ length-elements_read c.self.inside.bytes.now in
+    let count : length c.args.self.now.array.elements ≡ word_at c.self.inside.bytes.now 0 = ap (λ (v : Viewed). length v.array.elements) (sym c.self.view_is) ∙ length-elements_read c.self.inside.bytes.now in
     let least = c.requires in
     let other = c.if-i-self.false in
     let below : c.args.i < word_at c.self.inside.bytes.now 0 = omega (arith, there, count, least, other) in
@@ -36,46 +32,44 @@ word-requires c =
 
 pub overflow_mul-result : goal.overflow_mul-result
 overflow_mul-result c =
-    let few = word_at-lt c.self.inside.bytes.now c.self.invariant.parts.are_bytes 0 in
+    let few = c.args.self.now.few in
     let small = word_at-lt c.self.inside.bytes.now c.self.invariant.parts.are_bytes 2 in
     let size = c.self.invariant.size in
-    let count : length c.args.self.now.elements ≡ word_at c.self.inside.bytes.now 0 = ap (λ (a : Array). length a.elements) (sym c.self.view_is) ∙ length-elements_read c.self.inside.bytes.now in
-    let most : c.args.i * c.self.inside.size ≤ 65536 * c.self.inside.size = mul-le-mul_right c.self.inside.size (omega (arith, few, count)) in
+    let most : c.args.i * c.self.inside.size ≤ 65536 * c.self.inside.size = mul-le-mul_right c.self.inside.size (omega (arith, few)) in
     omega (arith, small, size, most)
 
 pub overflow_add-result : goal.overflow_add-result
 overflow_add-result c =
-    let few = word_at-lt c.self.inside.bytes.now c.self.invariant.parts.are_bytes 0 in
+    let few = c.args.self.now.few in
     let small = word_at-lt c.self.inside.bytes.now c.self.invariant.parts.are_bytes 2 in
     let near = word_at-lt c.self.inside.bytes.now c.self.invariant.parts.are_bytes 6 in
     let size = c.self.invariant.size in
     let start = c.self.invariant.start in
-    let count : length c.args.self.now.elements ≡ word_at c.self.inside.bytes.now 0 = ap (λ (a : Array). length a.elements) (sym c.self.view_is) ∙ length-elements_read c.self.inside.bytes.now in
-    let most : c.args.i * c.self.inside.size ≤ 65536 * c.self.inside.size = mul-le-mul_right c.self.inside.size (omega (arith, few, count)) in
+    let most : c.args.i * c.self.inside.size ≤ 65536 * c.self.inside.size = mul-le-mul_right c.self.inside.size (omega (arith, few)) in
     omega (arith, small, near, size, start, most)
 
 pub returns-then-i-self : goal.returns-then-i-self
-returns-then-i-self c = sym (place-last c.self.inside.bytes.now c.self.invariant.parts c.args.i (c.if-i-self.true ∙ c.self.invariant.count)) ∙ ap (λ (a : Array). place_of a c.args.i) c.self.view_is
+returns-then-i-self c = sym (place-last c.self.inside.bytes.now c.self.invariant.parts c.args.i (c.if-i-self.true ∙ c.self.invariant.count)) ∙ ap (λ (v : Viewed). place_of v.array c.args.i) c.self.view_is
 
 pub returns-then-self-eq0 : goal.returns-then-self-eq0
 returns-then-self-eq0 c =
     let any : word_at c.self.inside.bytes.now 2 ≡ 0 = sym c.self.invariant.size ∙ c.if-self-eq0.true in
     let there = c.self.invariant.count in
-    let count : length c.args.self.now.elements ≡ word_at c.self.inside.bytes.now 0 = ap (λ (a : Array). length a.elements) (sym c.self.view_is) ∙ length-elements_read c.self.inside.bytes.now in
+    let count : length c.args.self.now.array.elements ≡ word_at c.self.inside.bytes.now 0 = ap (λ (v : Viewed). length v.array.elements) (sym c.self.view_is) ∙ length-elements_read c.self.inside.bytes.now in
     let least = c.requires in
     let other = c.if-i-self.false in
     let below : c.args.i < word_at c.self.inside.bytes.now 0 = omega (arith, there, count, least, other) in
     c.word.ensures.value
     ∙ ap (λ (s : ℕ). word_at c.self.inside.bytes.now (s + 2 * c.args.i)) c.self.invariant.start
     ∙ sym (place-any c.self.inside.bytes.now c.self.invariant.parts any c.args.i below)
-    ∙ ap (λ (a : Array). place_of a c.args.i) c.self.view_is
+    ∙ ap (λ (v : Viewed). place_of v.array c.args.i) c.self.view_is
 
 pub returns-else-self-eq0 : goal.returns-else-self-eq0
 returns-else-self-eq0 c =
     let one : word_at c.self.inside.bytes.now 2 ≢ 0 = λ e. c.if-self-eq0.false (c.self.invariant.size ∙ e) in
-    let count : length c.args.self.now.elements ≡ word_at c.self.inside.bytes.now 0 = ap (λ (a : Array). length a.elements) (sym c.self.view_is) ∙ length-elements_read c.self.inside.bytes.now in
+    let count : length c.args.self.now.array.elements ≡ word_at c.self.inside.bytes.now 0 = ap (λ (v : Viewed). length v.array.elements) (sym c.self.view_is) ∙ length-elements_read c.self.inside.bytes.now in
     let least = c.requires in
     ap (λ (s : ℕ). s + c.args.i * c.self.inside.size) c.self.invariant.start
     ∙ ap (λ (s : ℕ). word_at c.self.inside.bytes.now 6 + c.args.i * s) c.self.invariant.size
     ∙ sym (place-even c.self.inside.bytes.now c.self.invariant.parts one c.args.i (omega (arith, count, least)))
-    ∙ ap (λ (a : Array). place_of a c.args.i) c.self.view_is
+    ∙ ap (λ (v : Viewed). place_of v.array c.args.i) c.self.view_is

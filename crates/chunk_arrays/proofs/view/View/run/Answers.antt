@@ -3,25 +3,26 @@ use Rattle.geos_model.specs.Array.{Array, array_bytes}
 use Rattle.chunk_arrays.specs.Reading.{place_of}
 use Rattle.chunk_arrays.proofs.Places.{place-order, place-within, run-is}
 use Rattle.chunk_arrays.proofs.Views.{bytes-read}
+use Rattle.chunk_arrays.specs.Viewed.{Viewed}
 use Rattle.chunk_arrays.proofs.view.View.run.Goals as goal
 
 pub slice_bounds-result-count : goal.slice_bounds-result-count
-slice_bounds-result-count c = let up = place-order c.args.self.now c.args.from c.args.to c.requires.order in omega (arith, up)
+slice_bounds-result-count c = let up = place-order c.args.self.now.array c.args.from c.args.to c.requires.order in omega (arith, up)
 
 pub slice_bounds-result-start : goal.slice_bounds-result-start
-slice_bounds-result-start c = let up = place-order c.args.self.now c.args.from c.args.to c.requires.order in omega (arith, up)
+slice_bounds-result-start c = let up = place-order c.args.self.now.array c.args.from c.args.to c.requires.order in omega (arith, up)
 
 pub slice_bounds-result-end : goal.slice_bounds-result-end
 slice_bounds-result-end c =
-    let within = place-within c.args.self.now c.args.to c.requires.within in
-    let same : length (array_bytes c.args.self.now) ≡ length c.self.inside.bytes.now = ap (λ (a : Array). length (array_bytes a)) (sym c.self.view_is) ∙ ap length (bytes-read c.self.inside.bytes.now c.self.invariant.parts) in
+    let within = place-within c.args.self.now.array c.args.to c.requires.within in
+    let same : length (array_bytes c.args.self.now.array) ≡ length c.self.inside.bytes.now = ap (λ (v : Viewed). length (array_bytes v.array)) (sym c.self.view_is) ∙ ap length (bytes-read c.self.inside.bytes.now c.self.invariant.parts) in
     omega (arith, within, same)
 
 pub returns : goal.returns
 returns c =
-    let a : Array = c.args.self.now in
+    let a : Array = c.args.self.now.array in
     let bytes : List ℕ = c.self.inside.bytes.now in
-    let same : bytes ≡ array_bytes a = sym (bytes-read bytes c.self.invariant.parts) ∙ ap array_bytes c.self.view_is in
+    let same : bytes ≡ array_bytes a = sym (bytes-read bytes c.self.invariant.parts) ∙ ap (λ (v : Viewed). array_bytes v.array) c.self.view_is in
     ap (λ (n : ℕ). take (n - c.place-start.result) (drop c.place-start.result bytes)) c.place-end.ensures
     ∙ ap (λ (n : ℕ). take (place_of a c.args.to - n) (drop n bytes)) c.place-start.ensures
     ∙ ap (λ (l : List ℕ). take (place_of a c.args.to - place_of a c.args.from) (drop (place_of a c.args.from) l)) same

@@ -6,4 +6,4 @@ use Rattle.element_arrays.proofs.slot_view.SlotView.bytes.Goals as goal
 
 pub returns : goal.returns
 unfolding slotted_bytes
-returns c = c.bytes.ensures.value ∙ ap array_bytes (sym c.self.invariant.0 ∙ ap slotted_array c.self.view_is)
+returns c = c.bytes.ensures ∙ ap array_bytes (sym c.self.invariant ∙ ap slotted_array c.self.view_is)

@@ -7,8 +7,8 @@ use Rattle.element_arrays.proofs.slot_view.SlotView.more.Goals as goal
 
 pub slice_bounds-result-count : goal.slice_bounds-result-count
 slice_bounds-result-count c =
-    let a : Array = c.self.inside.view in
-    let long : 2 ≤ length a.extra = extra_long (drop 2 a.extra) (slots_read a) a c.self.invariant.0 in
+    let a : Array = c.self.inside.view.array in
+    let long : 2 ≤ length a.extra = extra_long (drop 2 a.extra) (slots_read a) a c.self.invariant in
     let same = ap length c.extra.ensures in
     omega (arith, long, same)
 

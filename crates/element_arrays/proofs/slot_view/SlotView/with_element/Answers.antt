@@ -13,7 +13,7 @@ bytes_in count number head tail e = spelled-parts count (take 3 number) head tai
 pub rewrite-requires-clause-within : goal.rewrite-requires-clause-within
 rewrite-requires-clause-within c =
     let s : Slotted = c.args.self.now in
-    let len = length-slots s.more s.slots c.array-array.result.now c.array-array.ensures.value in
+    let len = length-slots s.more s.slots c.array-array.result.now.array c.array-array.ensures in
     let used = used_lt s.slots.slots c.args.token.0 c.requires.used in
     omega (arith, len, used, c.from-at.ensures)
 
@@ -21,7 +21,7 @@ pub rewrite-requires-clause-even : goal.rewrite-requires-clause-even
 rewrite-requires-clause-even c =
     let s : Slotted = c.args.self.now in
     let element : List ℕ = take 3 c.to_le_bytes-number.result ++ c.args.head.now ++ c.args.tail.now ++ replicate 0 0 in
-    is_even-slots s.more s.slots c.array-array.result.now c.array-array.result.now.extra c.from-at.result (c.from-at.result + 1) element c.array-array.ensures.value c.array-array.ensures.even
+    is_even-slots s.more s.slots c.array-array.result.now.array c.array-array.result.now.array.extra c.from-at.result (c.from-at.result + 1) element c.array-array.ensures c.array-array.result.now.even
     (length-parts s.slots.size c.args.count element (c.args.head.now ++ c.args.tail.now) (bytes_in c.args.count c.to_le_bytes-number.result c.args.head.now c.args.tail.now c.to_le_bytes-number.ensures) c.requires.sized)
 
 pub returns : goal.returns
@@ -30,9 +30,9 @@ returns c =
     let t : ℕ = c.args.token.0 in
     let bytes : List ℕ = c.args.head.now ++ c.args.tail.now in
     let element : List ℕ = take 3 c.to_le_bytes-number.result ++ c.args.head.now ++ c.args.tail.now ++ replicate 0 0 in
-    let v = c.array-array.result.now in
-    let is = c.array-array.ensures.value in
-    answers s (with_element s.slots t c.args.count bytes) v (put v c.array-array.result.now.extra c.from-at.result (c.from-at.result + 1) element) c.rewrite.result is
-    (put-at s.more s.slots v t c.from-at.result (Some (record { count = c.args.count; bytes = bytes })) s.slots.free c.array-array.result.now.extra element is c.from-at.ensures
+    let v = c.array-array.result.now.array in
+    let is = c.array-array.ensures in
+    answers s (with_element s.slots t c.args.count bytes) v (put v c.array-array.result.now.array.extra c.from-at.result (c.from-at.result + 1) element) c.rewrite.result is
+    (put-at s.more s.slots v t c.from-at.result (Some (record { count = c.args.count; bytes = bytes })) s.slots.free c.array-array.result.now.array.extra element is c.from-at.ensures
     (used_lt s.slots.slots t c.requires.used) (λ j other. refl) (extra-slots s.more s.slots v is) (bytes_in c.args.count c.to_le_bytes-number.result c.args.head.now c.args.tail.now c.to_le_bytes-number.ensures))
     c.rewrite.ensures

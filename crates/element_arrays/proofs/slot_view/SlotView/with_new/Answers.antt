@@ -6,7 +6,8 @@ use Rattle.geos_model.specs.ElementArray.{first_token, is_sound, slots_array}
 use Rattle.geos_model.specs.ElementEdits.{with_new}
 use Rattle.chunk_arrays.specs.Rewriting.{extra_after}
 use Rattle.element_arrays.specs.Slotted.{Slotted, slotted_array}
-use Rattle.element_arrays.proofs.SlotEdits.{is_even-slots, length-slots, extra-slots, extra_put, extra_room, spelled-parts, length-parts, newest_lt, newest_link, token-none, put-none, token-some, put-some, put, gives, refuses, carried}
+use Rattle.element_arrays.proofs.SlotEdits.{is_even-slots, length-slots, extra-slots, extra_put, extra_room, spelled-parts, length-parts, newest_lt, newest_link, token-none, put-none, token-some, put-some, put, gives, refuses}
+use Rattle.element_arrays.proofs.Replacing.{carried}
 use Rattle.element_arrays.proofs.slot_view.SlotView.with_new.Goals as goal
 
 -- the bytes that come in
@@ -19,22 +20,22 @@ coming_is head tail = spelled-parts 1 (1 ∷ 0 ∷ 0 ∷ []) head tail refl
 pub rewrite-requires-clause-within : goal.rewrite-requires-clause-within
 rewrite-requires-clause-within c =
     let s : Slotted = c.args.self.now in
-    let len = length-slots s.more s.slots c.array-array.result.now c.array-array.ensures.value in
-    omega (arith, len, c.len-len.ensures.value)
+    let len = length-slots s.more s.slots c.array-array.result.now.array c.array-array.ensures in
+    omega (arith, len, (c.from-at.ensures ∙ c.len.ensures))
 
 pub rewrite-requires-clause-even : goal.rewrite-requires-clause-even
 rewrite-requires-clause-even c =
     let s : Slotted = c.args.self.now in
     let head = c.args.head.now in let tail = c.args.tail.now in
-    is_even-slots s.more s.slots c.array-array.result.now c.array-array.result.now.extra c.len-len.result c.len-len.result (coming head tail) c.array-array.ensures.value c.array-array.ensures.even
+    is_even-slots s.more s.slots c.array-array.result.now.array c.array-array.result.now.array.extra c.from-at.result c.from-at.result (coming head tail) c.array-array.ensures c.array-array.result.now.even
     (length-parts s.slots.size 1 (coming head tail) (head ++ tail) (coming_is head tail) c.requires)
 
 pub element-requires : goal.element-requires
 element-requires c =
     let s : Slotted = c.args.self.now in
-    let len = length-slots s.more s.slots c.array-array.result.now c.array-array.ensures.value in
-    let low = newest_lt s.slots c.in-Some.token.0 c.newest_free.ensures.sound c.in-Some.ensures.newest in
-    omega (arith, len, low, c.from-at.ensures)
+    let len = length-slots s.more s.slots c.array-array.result.now.array c.array-array.ensures in
+    let low = newest_lt s.slots c.in-Some.token.0 c.args.self.now.sound c.in-Some.ensures in
+    omega (arith, len, low, c.from-at-in-Some.ensures)
 
 -- the link in the slot of the newest free token, in its two parts
 link_at : (s : Slotted) (v : Array) (t at : ℕ) (element : List ℕ) → v ≡ slotted_array s → is_sound s.slots ≡ true → s.slots.free ≡ t ∷ drop 1 s.slots.free → at ≡ t → element ≡ get_or v.elements at [] → (2 ≤ length element) × (take 2 element ≡ word (first_token (drop 1 s.slots.free)))
@@ -44,28 +45,28 @@ link_at s v t at element is sound free place e =
 
 pub first_word-next-requires : goal.first_word-next-requires
 first_word-next-requires c =
-    (link_at c.args.self.now c.array-array.result.now c.in-Some.token.0 c.from-at.result c.element.result.now c.array-array.ensures.value c.newest_free.ensures.sound c.in-Some.ensures.newest c.from-at.ensures c.element.ensures).0
+    (link_at c.args.self.now c.array-array.result.now.array c.in-Some.token.0 c.from-at-in-Some.result c.element.result.now c.array-array.ensures c.args.self.now.sound c.in-Some.ensures c.from-at-in-Some.ensures c.element.ensures).0
 
 pub rewrite-requires-in-Some-clause-within : goal.rewrite-requires-in-Some-clause-within
 rewrite-requires-in-Some-clause-within c =
     let s : Slotted = c.args.self.now in
-    let len = length-slots s.more s.slots c.array-array.result.now c.array-array.ensures.value in
-    let low = newest_lt s.slots c.in-Some.token.0 c.newest_free.ensures.sound c.in-Some.ensures.newest in
-    omega (arith, len, low, c.from-at.ensures)
+    let len = length-slots s.more s.slots c.array-array.result.now.array c.array-array.ensures in
+    let low = newest_lt s.slots c.in-Some.token.0 c.args.self.now.sound c.in-Some.ensures in
+    omega (arith, len, low, c.from-at-in-Some.ensures)
 
 pub rewrite-requires-in-Some-clause-extra : goal.rewrite-requires-in-Some-clause-extra
 rewrite-requires-in-Some-clause-extra c =
     let s : Slotted = c.args.self.now in
-    let v = c.array-array.result.now in
-    let is = c.array-array.ensures.value in
-    let link = link_at s v c.in-Some.token.0 c.from-at.result c.element.result.now is c.newest_free.ensures.sound c.in-Some.ensures.newest c.from-at.ensures c.element.ensures in
+    let v = c.array-array.result.now.array in
+    let is = c.array-array.ensures in
+    let link = link_at s v c.in-Some.token.0 c.from-at-in-Some.result c.element.result.now is c.args.self.now.sound c.in-Some.ensures c.from-at-in-Some.ensures c.element.ensures in
     extra_room s.more s.slots v (first_token (drop 1 s.slots.free)) c.first_word-next.result.now is (c.first_word-next.ensures ∙ link.1)
 
 pub rewrite-requires-in-Some-clause-even : goal.rewrite-requires-in-Some-clause-even
 rewrite-requires-in-Some-clause-even c =
     let s : Slotted = c.args.self.now in
     let head = c.args.head.now in let tail = c.args.tail.now in
-    is_even-slots s.more s.slots c.array-array.result.now (extra_after c.array-array.result.now c.first_word-next.result.now) c.from-at.result (c.from-at.result + 1) (coming head tail) c.array-array.ensures.value c.array-array.ensures.even
+    is_even-slots s.more s.slots c.array-array.result.now.array (extra_after c.array-array.result.now.array c.first_word-next.result.now) c.from-at-in-Some.result (c.from-at-in-Some.result + 1) (coming head tail) c.array-array.ensures c.array-array.result.now.even
     (length-parts s.slots.size 1 (coming head tail) (head ++ tail) (coming_is head tail) c.requires)
 
 -- what comes out where no token is free
@@ -76,26 +77,26 @@ next_is s v n extra head tail is free all same =
 pub returns-in_err-splice-in-None : goal.returns-in_err-splice-in-None
 returns-in_err-splice-in-None c =
     let s : Slotted = c.args.self.now in
-    let v = c.array-array.result.now in
+    let v = c.array-array.result.now.array in
     let head = c.args.head.now in let tail = c.args.tail.now in
-    let n = c.len-len.result in
-    let extra = c.array-array.result.now.extra in
+    let n = c.from-at.result in
+    let extra = c.array-array.result.now.array.extra in
     carried c.from_residual.result _ _ c.in_err-splice-in-None.field-0.0 c.from_residual.ensures.1
     (refuses s (with_new s.slots (head ++ tail)).0 (put v extra n n (coming head tail)) c.in_err-splice-in-None.field-0.0
-    (next_is s v n extra head tail c.array-array.ensures.value c.in-None.ensures.newest c.len-len.ensures.value refl)
+    (next_is s v n extra head tail c.array-array.ensures c.in-None.ensures (c.from-at.ensures ∙ c.len.ensures) refl)
     c.in_err-splice-in-None.ensures)
 
 pub returns-in_ok-splice-in-None : goal.returns-in_ok-splice-in-None
 returns-in_ok-splice-in-None c =
     let s : Slotted = c.args.self.now in
-    let v = c.array-array.result.now in
+    let v = c.array-array.result.now.array in
     let head = c.args.head.now in let tail = c.args.tail.now in
-    let n = c.len-len.result in
-    let extra = c.array-array.result.now.extra in (
-      gives s (with_new s.slots (head ++ tail)).0 v (put v extra n n (coming head tail)) c.in_ok-splice-in-None.splice c.array-array.ensures.value
-          (next_is s v n extra head tail c.array-array.ensures.value c.in-None.ensures.newest c.len-len.ensures.value refl)
+    let n = c.from-at.result in
+    let extra = c.array-array.result.now.array.extra in (
+      gives s (with_new s.slots (head ++ tail)).0 v (put v extra n n (coming head tail)) c.in_ok-splice-in-None.splice c.array-array.ensures
+          (next_is s v n extra head tail c.array-array.ensures c.in-None.ensures (c.from-at.ensures ∙ c.len.ensures) refl)
           c.in_ok-splice-in-None.ensures,
-      token-none s.slots (head ++ tail) n c.in-None.ensures.newest c.len-len.ensures.value,
+      token-none s.slots (head ++ tail) c.len.result c.in-None.ensures c.len.ensures,
     )
 
 -- what comes out where one is
@@ -106,32 +107,32 @@ reused_is s v t at extra head tail is sound free place first =
 pub returns-in_err-splice-in-Some : goal.returns-in_err-splice-in-Some
 returns-in_err-splice-in-Some c =
     let s : Slotted = c.args.self.now in
-    let v = c.array-array.result.now in
-    let is = c.array-array.ensures.value in
+    let v = c.array-array.result.now.array in
+    let is = c.array-array.ensures in
     let t : ℕ = c.in-Some.token.0 in
-    let at = c.from-at.result in
+    let at = c.from-at-in-Some.result in
     let head = c.args.head.now in let tail = c.args.tail.now in
-    let extra = (extra_after c.array-array.result.now c.first_word-next.result.now) in
-    let link = link_at s v t at c.element.result.now is c.newest_free.ensures.sound c.in-Some.ensures.newest c.from-at.ensures c.element.ensures in
+    let extra = (extra_after c.array-array.result.now.array c.first_word-next.result.now) in
+    let link = link_at s v t at c.element.result.now is c.args.self.now.sound c.in-Some.ensures c.from-at-in-Some.ensures c.element.ensures in
     let first = extra_put s.more s.slots v (first_token (drop 1 s.slots.free)) c.first_word-next.result.now is (c.first_word-next.ensures ∙ link.1) in
     carried c.from_residual-in_err-splice-in-Some.result _ _ c.in_err-splice-in-Some.field-0.0 c.from_residual-in_err-splice-in-Some.ensures.1
     (refuses s (with_new s.slots (head ++ tail)).0 (put v extra at (at + 1) (coming head tail)) c.in_err-splice-in-Some.field-0.0
-    (reused_is s v t at extra head tail is c.newest_free.ensures.sound c.in-Some.ensures.newest c.from-at.ensures first)
+    (reused_is s v t at extra head tail is c.args.self.now.sound c.in-Some.ensures c.from-at-in-Some.ensures first)
     c.in_err-splice-in-Some.ensures)
 
 pub returns-in_ok-splice-in-Some : goal.returns-in_ok-splice-in-Some
 returns-in_ok-splice-in-Some c =
     let s : Slotted = c.args.self.now in
-    let v = c.array-array.result.now in
-    let is = c.array-array.ensures.value in
+    let v = c.array-array.result.now.array in
+    let is = c.array-array.ensures in
     let t : ℕ = c.in-Some.token.0 in
-    let at = c.from-at.result in
+    let at = c.from-at-in-Some.result in
     let head = c.args.head.now in let tail = c.args.tail.now in
-    let extra = (extra_after c.array-array.result.now c.first_word-next.result.now) in
-    let link = link_at s v t at c.element.result.now is c.newest_free.ensures.sound c.in-Some.ensures.newest c.from-at.ensures c.element.ensures in
+    let extra = (extra_after c.array-array.result.now.array c.first_word-next.result.now) in
+    let link = link_at s v t at c.element.result.now is c.args.self.now.sound c.in-Some.ensures c.from-at-in-Some.ensures c.element.ensures in
     let first = extra_put s.more s.slots v (first_token (drop 1 s.slots.free)) c.first_word-next.result.now is (c.first_word-next.ensures ∙ link.1) in (
       gives s (with_new s.slots (head ++ tail)).0 v (put v extra at (at + 1) (coming head tail)) c.in_ok-splice-in-Some.splice is
-          (reused_is s v t at extra head tail is c.newest_free.ensures.sound c.in-Some.ensures.newest c.from-at.ensures first)
+          (reused_is s v t at extra head tail is c.args.self.now.sound c.in-Some.ensures c.from-at-in-Some.ensures first)
           c.in_ok-splice-in-Some.ensures,
-      token-some s.slots (head ++ tail) t c.in-Some.ensures.newest,
+      token-some s.slots (head ++ tail) t c.in-Some.ensures,
     )
