@@ -17,7 +17,7 @@ use Rattle.geos_model.specs.declared.fault.Fault.{Fault}
 use Rattle.geos_model.specs.declared.fault.Fault.TheVariants.{NotArray, NoElement, NoName}
 use Rattle.geos_model.specs.declared.handle.ChunkHandle.{ChunkHandle}
 use Rattle.geos_model.specs.declared.handle.VmHandle.{VmHandle}
-use Rattle.element_arrays.specs.Answering.{Answers, IsRefused}
+use Rattle.element_arrays.specs.Answering.{IsAnswered, IsRefused}
 use Rattle.undo_log.specs.Found.{AreLate, IsChunkAt}
 use Rattle.undo_log.proofs.Refusals.{past_chunk, refused_look_up}
 
@@ -44,7 +44,7 @@ module _ (m : Machine) (d : Document) (same : d ≡ m.document) (b : VmHandle) (
   pub answered_where : {X T : Type 0} (command : Command) (own : List ℕ → Conditions) (f : T → Reply) (g : X → T) (v : List ℕ → T) (r : Result X Fault)
       → command_conditions command m ≡ on_chunk m.document b.0 c.0 ++ own (chunk_at m.document b.0 c.0)
       → ((x : List ℕ) → x ≡ chunk_at m.document b.0 c.0 → first_refusal (own x) ≡ None → done_by command m ≡ reply_at m (f (v x)))
-      → MatchResult r (λ x. Answers (own bytes) (v bytes) (g x)) (IsRefused (own bytes))
+      → MatchResult r (λ x. IsAnswered (own bytes) (v bytes) (g x)) (IsRefused (own bytes))
       → Step m (Some command) (reply_by (λ x. f (g x)) r) m
   answered_where command own f g v (Ok x) asks does answers =
       accepted_look_up m command (f (g x)) (ap first_refusal asks ∙ past own ∙ answers.accepted)
@@ -56,7 +56,7 @@ module _ (m : Machine) (d : Document) (same : d ≡ m.document) (b : VmHandle) (
   pub answered : {X T : Type 0} (command : Command) (own : List ℕ → Conditions) (f : T → Reply) (g : X → T) (v : List ℕ → T) (r : Result X Fault)
       → command_conditions command m ≡ on_chunk m.document b.0 c.0 ++ own (chunk_at m.document b.0 c.0)
       → done_by command m ≡ reply_at m (f (v (chunk_at m.document b.0 c.0)))
-      → MatchResult r (λ x. Answers (own bytes) (v bytes) (g x)) (IsRefused (own bytes))
+      → MatchResult r (λ x. IsAnswered (own bytes) (v bytes) (g x)) (IsRefused (own bytes))
       → Step m (Some command) (reply_by (λ x. f (g x)) r) m
   answered command own f g v r asks does answers =
       answered_where command own f g v r asks (λ x same_bytes accepted. does ∙ ap (λ (y : List ℕ). reply_at m (f (v y))) (sym same_bytes)) answers

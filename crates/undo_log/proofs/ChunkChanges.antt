@@ -21,7 +21,7 @@ use Rattle.geos_model.specs.declared.handle.VmHandle.{VmHandle}
 use Rattle.geos_model.proofs.HeapTables.{heap_map-table, live_handle, is_chunk_handle-parts, trimmed-put, chunk_length_le}
 use Rattle.geos_model.proofs.Tables.{put_at, slot_at-put_same, table_map-put}
 use Rattle.chunk_edits.specs.Splicing.{Builds, forwards}
-use Rattle.chunk_edits.specs.Splicing.{Refuses as BuildRefuses}
+use Rattle.chunk_edits.specs.Splicing.{RefusesToBuild}
 use Rattle.chunk_edits.specs.declared.splice.Splice.{Splice}
 use Rattle.vm_blocks.specs.Changes.{changed}
 use Rattle.vm_blocks.specs.declared.change.Change.TheVariants as changes
@@ -122,7 +122,7 @@ module _ (edit : Edit) (d : Document) (b : VmHandle) (c : ChunkHandle) (own : Li
 
   -- The same from the bytes that were read.
   module _ (bytes : List ℕ) (there : IsChunkAt d b.0 c.0 bytes) where
-    pub built_refused : (fault : Fault) → BuildRefuses (own bytes ++ too_long (to bytes)) fault → Refuses edit d fault
+    pub built_refused : (fault : Fault) → RefusesToBuild (own bytes ++ too_long (to bytes)) fault → Refuses edit d fault
     built_refused fault (inl memory) = inl memory
     built_refused fault (inr first) =
         inr (refused_built (chunks_of d b.0) there.heap there.live there.valid fault (subst (λ (x : List ℕ). first_refusal (own x ++ too_long (to x)) ≡ Some fault) there.value first))
@@ -147,7 +147,7 @@ module _ (edit : Edit) (d : Document) (b : VmHandle) (own : Conditions) (to : Li
         ∙ ap (λ (x : ChunkMap). first_refusal (own ++ no_place x to)) (chunks_are d b.0 m live)
 
     -- the builder refuses it
-    pub new_refused : (fault : Fault) → BuildRefuses own fault → Refuses edit d fault
+    pub new_refused : (fault : Fault) → RefusesToBuild own fault → Refuses edit d fault
     new_refused fault (inl memory) = inl memory
     new_refused fault (inr first) = inr (past_own ∙ own_refused own means.are_own (not (fits_new m to)) fault first)
 

@@ -23,4 +23,4 @@ returns-in_err-view c =
 pub returns : goal.returns
 returns c =
     let m = c.args.self.now in let b = c.args.block in let chunk = c.args.chunk in
-    count_answers m c.self.inside.blocks (ap (λ (x : Machine). x.document) c.self.view_is) b chunk c.in_ok-bytes.bytes.now c.in_ok-bytes.ensures c.in_ok-view.view c.in_ok-view.ensures c.count.result c.count.ensures.value
+    count_answers m c.self.inside.blocks (ap (λ (x : Machine). x.document) c.self.view_is) b chunk c.in_ok-bytes.bytes.now c.in_ok-bytes.ensures c.in_ok-view.view.array c.in_ok-view.ensures c.count.result c.count.ensures

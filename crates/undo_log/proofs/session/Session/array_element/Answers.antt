@@ -26,10 +26,10 @@ pub returns-then-i-count : goal.returns-then-i-count
 returns-then-i-count c =
     let m = c.args.self.now in let b = c.args.block in let chunk = c.args.chunk in let i = c.args.i in
     refused_look_up m (commands.ArrayElement b chunk i) NumberIs (Err NoElement) NoElement refl
-    (no_such_element m c.self.inside.blocks (ap (λ (x : Machine). x.document) c.self.view_is) b chunk c.in_ok-bytes.bytes.now c.in_ok-bytes.ensures c.in_ok-view.view c.in_ok-view.ensures i (omega (arith, c.count.ensures.value, c.if-i-count.true)))
+    (no_such_element m c.self.inside.blocks (ap (λ (x : Machine). x.document) c.self.view_is) b chunk c.in_ok-bytes.bytes.now c.in_ok-bytes.ensures c.in_ok-view.view.array c.in_ok-view.ensures i (omega (arith, c.count.ensures, c.if-i-count.true)))
 
 pub returns : goal.returns
 returns c =
     let m = c.args.self.now in let b = c.args.block in let chunk = c.args.chunk in let i = c.args.i in
-    element_answers m c.self.inside.blocks (ap (λ (x : Machine). x.document) c.self.view_is) b chunk c.in_ok-bytes.bytes.now c.in_ok-bytes.ensures c.in_ok-view.view c.in_ok-view.ensures i c.element.result.now
-    (omega (arith, c.count.ensures.value, c.if-i-count.false)) c.element.ensures
+    element_answers m c.self.inside.blocks (ap (λ (x : Machine). x.document) c.self.view_is) b chunk c.in_ok-bytes.bytes.now c.in_ok-bytes.ensures c.in_ok-view.view.array c.in_ok-view.ensures i c.element.result.now
+    (omega (arith, c.count.ensures, c.if-i-count.false)) c.element.ensures
