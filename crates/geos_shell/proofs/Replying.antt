@@ -42,7 +42,7 @@ pub answered_bad : (machine : Machine) (line before text after : List ℕ)
     → command line ≡ None → text ≡ before ++ reply_text (Refused BadCommand) → after ≡ text ++ line_feed ∷ []
     → (written : List ℕ) × Answered machine (line ∷ []) written machine × (after ≡ before ++ written)
 answered_bad machine line before text after none said ended =
-    let step : Step machine None (Refused BadCommand) machine = inl (record { says = refl; goes = refl }) in
+    let step : Step machine None (Refused BadCommand) machine = inl refl in
     let r = responds_by machine machine None (Refused BadCommand) before text after refl step said ended in
     (r.0, answered_by machine machine line r.0 None none r.1, r.2)
 
