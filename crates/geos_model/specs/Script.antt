@@ -230,7 +230,7 @@ reply_line reply = reply_text reply ++ line_feed ∷ []
 abbrev pub output : List Reply → List ℕ
 output replies = flat_map reply_line replies
 
--- From old, these may be the reply lines to what is asked, some of which gets none, and lead to new.
+-- From old, this may be written for what is asked, and lead to new. What gets no reply is passed over.
 pub record Answered (old : Machine) (asked : List Request) (written : List ℕ) (new : Machine) : Type 0 where
   pub replies : List Reply
   pub run : Run old (filter gets_reply asked) replies new

@@ -1,5 +1,5 @@
 -- What a call that appends leaves, and which commands are looked up by which call.
-use Rattle.std.specs.Prelude.{ℕ, List, [], ◌∷◌, ◌++◌, ◌≡◌, Bool, true, false, Some, length, take}
+use Rattle.std.specs.Prelude.{ℕ, List, ◌++◌, ◌≡◌, Bool, true, false, Some, length, take}
 use Rattle.geos_model.specs.Reply.{Reply}
 use Rattle.geos_model.specs.Machine.{Machine, Step}
 use Rattle.geos_model.specs.Script.{reply_text}

@@ -23,7 +23,7 @@ pub enum RunFault {
     Read,
     /// The writer failed. How much of the replies went out is not known.
     Write,
-    /// A line, its parse or the text of a reply found no memory.
+    /// A line, the bytes of its command or the text of a reply found no memory.
     Memory,
 }
 

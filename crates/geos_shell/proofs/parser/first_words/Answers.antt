@@ -1,4 +1,4 @@
-use Rattle.std.proofs.Common.{◌≡◌, sym, ◌∙◌, ap, ◌-◌, ◌<◌, ◌≤◌, List, ℕ, Bor, map, length, take, drop, arith}
+use Rattle.std.proofs.Common.{◌≡◌, sym, ◌∙◌, ap, ◌-◌, ◌<◌, List, ℕ, Bor, map, length, take, drop, arith}
 use Rattle.std.proofs.lemmas.List.{append-nil, length-map, take_at, take_all}
 use Rattle.std.proofs.lemmas.Bool.Decides.{nat_tests}
 use Rattle.geos_model.specs.Script.{words}

@@ -6,7 +6,7 @@ use Rattle.geos_model.specs.Script.{bytes, is_set}
 use Rattle.geos_model.specs.declared.command.Edit.TheVariants as edits
 use Rattle.geos_model.specs.declared.command.Command.TheVariants as commands
 use Rattle.geos_shell.proofs.Counted.{three_taken}
-use Rattle.geos_shell.proofs.Failing.{fails_first, fails_second, third_missing, some_of, name_keeps, part_keeps}
+use Rattle.geos_shell.proofs.Failing.{fails_first, fails_second, third_missing, some_of, name_has, part_has}
 use Rattle.geos_shell.proofs.Outcome.{spelled, unspelled}
 use Rattle.geos_shell.proofs.shapes.add_name.Goals as goal
 use Rattle.geos_shell.proofs.shapes.add_name.Goals.{in_default-via-then-rest-lt3, in_default-via-else-rest-lt3+else-rest-lt4}
@@ -34,7 +34,7 @@ returns-in_err-name c =
     let part = some_of _ c.if-not-spells_bytes.ensures in
     rw (p.1, p.2)
     (fails_first bytes is_set _ c.args.rest.now _ _ _ _ c.in-len3.len_at_least c.in-len3.len_below
-    part.1 (spelled _ _ (sym c.in_ok-replace.was ∙ c.is_set.ensures)) (name_keeps c.args.block c.args.chunk part.0 c.in_ok-replace.replace) c.in_err-name.ensures)
+    part.1 (spelled _ _ (sym c.in_ok-replace.was ∙ c.is_set.ensures)) (name_has c.args.block c.args.chunk part.0 c.in_ok-replace.replace) c.in_err-name.ensures)
 
 pub returns-in_err-part : goal.returns-in_err-part
 returns-in_err-part c =
@@ -42,4 +42,4 @@ returns-in_err-part c =
     let p = err_from_is_err_and r.result r.ensures.1 in
     rw (p.1, p.2)
     (fails_second bytes is_set _ c.args.rest.now _ _ _ _ c.in-len3.len_at_least c.in-len3.len_below
-    c.in_ok-name.ensures (spelled _ _ (sym c.in_ok-replace.was ∙ c.is_set.ensures)) (part_keeps c.args.block c.args.chunk _ c.in_ok-replace.replace) c.in_err-part.ensures)
+    c.in_ok-name.ensures (spelled _ _ (sym c.in_ok-replace.was ∙ c.is_set.ensures)) (part_has c.args.block c.args.chunk _ c.in_ok-replace.replace) c.in_err-part.ensures)

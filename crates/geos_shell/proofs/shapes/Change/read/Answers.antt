@@ -5,7 +5,7 @@ use Rattle.std.proofs.lemmas.Result.{err_from_is_err_and}
 use Rattle.geos_model.specs.Script.{token, bytes}
 use Rattle.geos_shell.specs.Verbs.{change}
 use Rattle.geos_shell.proofs.Counted.{two_taken}
-use Rattle.geos_shell.proofs.Failing.{fails_2, change_keeps}
+use Rattle.geos_shell.proofs.Failing.{fails_2, change_has}
 use Rattle.geos_shell.proofs.Outcome.{spelled, unspelled}
 use Rattle.geos_shell.proofs.Taken.{two_spelled, first_missing}
 use Rattle.geos_shell.proofs.shapes.Change.read.Goals as goal
@@ -32,7 +32,7 @@ returns-in_err-bytes c =
     let p = err_from_is_err_and r.result r.ensures.1 in
     rw (p.1, p.2)
     (fails_2 token token _ c.args.rest.now _ _ _ c.in-len2.len_at_least c.in-len2.len_below
-    (spelled _ _ (sym c.in_ok-token.was ∙ c.token.ensures)) (change_keeps c.args.self c.args.block c.args.chunk _) c.in_err-bytes.ensures)
+    (spelled _ _ (sym c.in_ok-token.was ∙ c.token.ensures)) (change_has c.args.self c.args.block c.args.chunk _) c.in_err-bytes.ensures)
 
 pub returns : goal.returns
 returns c =
