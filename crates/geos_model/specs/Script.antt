@@ -194,9 +194,9 @@ abbrev pub gets_reply : Request → Bool
 gets_reply (Some commands.Blank) = false
 gets_reply _ = true
 
--- what the lines ask, those aside that get no reply
+-- what the lines ask
 abbrev pub requests : List (List ℕ) → List Request
-requests lines = filter gets_reply (map command lines)
+requests lines = map command lines
 
 -- The text of a reply.
 
@@ -230,10 +230,10 @@ reply_line reply = reply_text reply ++ line_feed ∷ []
 abbrev pub output : List Reply → List ℕ
 output replies = flat_map reply_line replies
 
--- From old, these lines may be answered so, and lead to new.
-pub record Answered (old : Machine) (lines : List (List ℕ)) (written : List ℕ) (new : Machine) : Type 0 where
+-- From old, this may be written for what is asked, and lead to new. What gets no reply is passed over.
+pub record Answered (old : Machine) (asked : List Request) (written : List ℕ) (new : Machine) : Type 0 where
   pub replies : List Reply
-  pub run : Run old (requests lines) replies new
+  pub run : Run old (filter gets_reply asked) replies new
   pub text : written ≡ output replies
 
 -- x goes before the first of these lines, if there is one
@@ -246,10 +246,10 @@ abbrev pub finished_lines : List ℕ → List (List ℕ)
 finished_lines [] = []
 finished_lines (x ∷ xs) = if x == line_feed then [] ∷ finished_lines xs else begin_finished x (finished_lines xs)
 
--- Of what was read, a part of the finished lines is answered, the first ones, and no other.
-pub record Stopped (old : Machine) (read written : List ℕ) : Type 0 where
+-- The first ones of these lines are answered, and no other.
+pub record Stopped (old : Machine) (lines : List (List ℕ)) (written : List ℕ) : Type 0 where
   pub answered : List (List ℕ)
   pub others : List (List ℕ)
-  pub parts : finished_lines read ≡ answered ++ others
+  pub parts : lines ≡ answered ++ others
   pub new : Machine
-  pub run : Answered old answered written new
+  pub run : Answered old (requests answered) written new

@@ -1,5 +1,5 @@
 -- Lemmas on the results of calls.
-use Rattle.std.proofs.Common.{◌≡◌, Result, Ok, Err, OnOk, OnErr, IfErr, is_ok, if◌then◌else◌}
+use Rattle.std.proofs.Common.{◌≡◌, Result, Ok, Err, OnOk, OnErr, is_ok, if◌then◌else◌}
 
 -- what a call leaves where it went well
 pub on_ok_if : {T E X : Type 0} (r : Result T E) (new good bad : X) → new ≡ (if is_ok r then good else bad) → OnOk r (new ≡ good)
@@ -10,8 +10,3 @@ on_ok_if (Err x) new good bad e = tt
 pub on_err_always : {T E P : Type 0} (r : Result T E) → P → OnErr r P
 on_err_always (Ok x) h = tt
 on_err_always (Err x) h = h
-
--- the same, for each error
-pub if_err_always : {T E : Type 0} (r : Result T E) (P : E → Type 0) → ((e : E) → P e) → IfErr r P
-if_err_always (Ok x) P h = tt
-if_err_always (Err e) P h = h e

@@ -1,6 +1,8 @@
 pub mod Calls
 pub mod Composed
+pub mod Counted
 pub mod Extending
+pub mod Failing
 pub mod Lines
 pub mod LookUps
 pub mod Names

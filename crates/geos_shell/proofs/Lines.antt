@@ -1,8 +1,8 @@
 -- Lemmas on the lines of bytes, and on lines that are too long.
-use Rattle.std.proofs.Common.{◌≡◌, ℕ, ◌+◌, ◌<◌, ◌≤◌, min, Bool, true, false, ◌==◌, List, [], ◌∷◌, ◌++◌, length, slice_index, take, refl, sym, ap, ◌∙◌, arith, length-append, length-take, suc, inl, inr, drop}
+use Rattle.std.proofs.Common.{◌≡◌, ℕ, ◌+◌, ◌<◌, ◌≤◌, min, Bool, true, false, cond, ◌==◌, List, [], ◌∷◌, ◌++◌, length, slice_index, take, refl, sym, ap, ◌∙◌, arith, length-append, length-take, suc, inl, inr, drop}
 use Rattle.std.proofs.lemmas.List.{take_all, get_or-take, append_assoc, nil_from_length, drop_more, take-append-drop}
 use Rattle.std.proofs.lemmas.Bool.{cases_lt, eqb-true}
-use Rattle.geos_model.specs.Script.{lines, finished_lines, command}
+use Rattle.geos_model.specs.Script.{lines, begin_line, finished_lines, command}
 use Rattle.geos_shell.specs.Progress.{HasNoFeed, StandsFor}
 use Rattle.geos_shell.proofs.Words.{command-long}
 
@@ -21,6 +21,24 @@ pub lines-one : (line : List ℕ) → 0 < length line → HasNoFeed line → lin
 lines-one [] some h = absurd (omega arith)
 lines-one (x ∷ []) some h = rw h.0
 lines-one (x ∷ y ∷ line) some h = rw (h.0, lines-one (y ∷ line) (omega arith) h.1)
+
+-- bytes with no line feed have no finished line
+pub finished_lines-none : (line : List ℕ) → HasNoFeed line → finished_lines line ≡ []
+finished_lines-none [] h = refl
+finished_lines-none (x ∷ line) h = rw (h.0, finished_lines-none line h.1)
+
+begin_line-some : (x : ℕ) (rest : List (List ℕ)) → 0 < length (begin_line x rest)
+begin_line-some x [] = omega arith
+begin_line-some x (line ∷ rest) = omega arith
+
+first_line-some : (feed : Bool) (x : ℕ) (rest : List (List ℕ)) → 0 < length (cond feed ([] ∷ rest) (begin_line x rest))
+first_line-some true x rest = omega arith
+first_line-some false x rest = begin_line-some x rest
+
+-- bytes have a line
+pub lines-some : (bytes : List ℕ) → 0 < length bytes → 0 < length (lines bytes)
+lines-some [] some = absurd (omega arith)
+lines-some (x ∷ bytes) some = first_line-some (x == 10) x (lines bytes)
 
 pub HasNoFeed-append : (xs ys : List ℕ) → HasNoFeed xs → HasNoFeed ys → HasNoFeed (xs ++ ys)
 HasNoFeed-append [] ys h k = k

@@ -10,17 +10,17 @@ use Rattle.geos_model.specs.declared.command.Command.TheVariants as commands
 pub find_step : (m : Machine) (user_id : ℕ) (start : VmHandle) (block : Option VmHandle)
     → option_map (λ (h : VmHandle). h.0) block ≡ found m.document user_id start.0
     → Step m (Some (commands.Find user_id start)) (BlockIs (unwrap_or (option_map (λ (h : VmHandle). h.0) block) 0)) m
-find_step m user_id start block e = inl (record { says = rw e refl; goes = refl })
+find_step m user_id start block e = inl (rw e refl)
 
 -- the map block
 pub map_block_step : (m : Machine) (block : VmHandle) → block.0 ≡ m.document.map_block
     → Step m (Some commands.MapBlock) (BlockIs block.0) m
-map_block_step m block e = inl (record { says = rw e refl; goes = refl })
+map_block_step m block e = inl (rw e refl)
 
 -- how many edits can be undone
 pub undos_step : (m : Machine) (count : ℕ) → count ≡ length m.past → Step m (Some commands.Undos) (NumberIs count) m
-undos_step m count e = inl (record { says = rw e refl; goes = refl })
+undos_step m count e = inl (rw e refl)
 
 -- how many edits can be redone
 pub redos_step : (m : Machine) (count : ℕ) → count ≡ length m.future → Step m (Some commands.Redos) (NumberIs count) m
-redos_step m count e = inl (record { says = rw e refl; goes = refl })
+redos_step m count e = inl (rw e refl)

@@ -1,5 +1,5 @@
 -- Looking a name up among the verbs.
-use Rattle.std.proofs.Common.{cond, nat_eq, ◌==◌, ◌&&◌, ◌≡◌, ℕ, ◌+◌, ◌<◌, ◌≤◌, true, false, List, [], ◌∷◌, length, drop, get_or, map, None, refl, ap, ◌∙◌, arith}
+use Rattle.std.proofs.Common.{cond, nat_eq, ◌==◌, ◌&&◌, ◌≡◌, ℕ, ◌+◌, ◌<◌, ◌≤◌, true, false, List, [], ◌∷◌, length, take, drop, get_or, map, None, refl, sym, ap, ◌∙◌, arith}
 use Rattle.std.specs.Borrow.{Bor}
 use Rattle.std.proofs.lemmas.Bool.Decides.{nat_tests}
 use Rattle.std.specs.List.{starts_with}
@@ -36,10 +36,24 @@ unfolding command_named
 command_of_words-named [] operands h = refl
 command_of_words-named (x ∷ name) operands h = cond-other x _ _ h
 
--- the same of words behind references
-pub command_of_words-split : (words : List (Bor (List ℕ))) (name : Bor (List ℕ)) (operands : List (Bor (List ℕ))) → words ≡ name ∷ operands
-    → false ≡ starts_with nat_eq name.now (35 ∷ [])
-    → command_of_words (map (λ (w : Bor (List ℕ)). w.now) words) ≡ command_named name.now (map (λ (w : Bor (List ℕ)). w.now) operands)
-command_of_words-split words name operands e h =
-    ap (λ (ws : List (Bor (List ℕ))). command_of_words (map (λ (w : Bor (List ℕ)). w.now) ws)) e
-    ∙ command_of_words-named name.now (map (λ (w : Bor (List ℕ)). w.now) operands) h
+-- What the first words of a line show of all: the name, and the first operands.
+pub record NamedByFirst (name : List ℕ) (first : List (Bor (List ℕ))) (words : List (List ℕ)) : Type 0 where
+  pub operands : List (List ℕ)
+  pub front : map (λ (w : Bor (List ℕ)). w.now) first ≡ take 6 operands
+  pub named : command_of_words words ≡ command_named name operands
+
+first_named : (name : Bor (List ℕ)) (first : List (Bor (List ℕ))) (words : List (List ℕ)) → false ≡ starts_with nat_eq name.now (35 ∷ [])
+    → map (λ (w : Bor (List ℕ)). w.now) (name ∷ first) ≡ take 7 words → NamedByFirst name.now first words
+first_named name first [] h front = cc front
+first_named name first (word ∷ words) h front =
+    let same : name.now ≡ word = cc front in
+    let rest : map (λ (w : Bor (List ℕ)). w.now) first ≡ take 6 words = cc front in
+    record {
+      operands = words;
+      front = rest;
+      named = ap (λ (w : List ℕ). command_of_words (w ∷ words)) (sym same) ∙ command_of_words-named name.now words h;
+    }
+
+pub named_by_first : (all : List (Bor (List ℕ))) (name : Bor (List ℕ)) (first : List (Bor (List ℕ))) (words : List (List ℕ)) → all ≡ name ∷ first
+    → false ≡ starts_with nat_eq name.now (35 ∷ []) → map (λ (w : Bor (List ℕ)). w.now) all ≡ take 7 words → NamedByFirst name.now first words
+named_by_first all name first words e h front = first_named name first words h (ap (map (λ (w : Bor (List ℕ)). w.now)) (sym e) ∙ front)

@@ -1,23 +1,40 @@
 -- What the answer of a part of a parse shows of the whole.
-use Rattle.std.proofs.Common.{◌≡◌, ◌⊎◌, inl, inr, Option, Some, None, Result, Ok, Err, ◌∙◌}
-use Rattle.std.specs.Prelude.{ok_or, IfOk, IfErr}
+use Rattle.std.proofs.Common.{◌≡◌, ◌⊎◌, inl, inr, Option, Some, None, Result, Ok, Err, IfOk, IfErr, refl, sym, ap, ◌∙◌}
+use Rattle.std.specs.Prelude.{ok_or, ◌↔◌, IsSomeAnd, IsTrue}
 use Rattle.geos_model.specs.declared.command.Command.{Command}
 use Rattle.geos_model.specs.declared.fault.Fault.{Fault}
 use Rattle.geos_model.specs.declared.fault.Fault.TheVariants as faults
+use Rattle.geos_shell.specs.Reading.{Reads, Fails, command_has_bytes}
 
 -- the value that a word spells, where its operand was read
 pub spelled : {A : Type 0} (o : Option A) (a : A) → Ok a ≡ ok_or o faults.BadCommand → o ≡ Some a
 spelled None a h = cc
 spelled (Some x) a h = cc
 
--- what a parse that gave a command shows, of a line that stands for the same
-pub same_ok : (r : Result Command Fault) (o p : Option Command) → o ≡ p → IfOk r (λ c. p ≡ Some c) → IfOk r (λ c. o ≡ Some c)
-same_ok (Ok c) o p e h = e ∙ h
-same_ok (Err fault) o p e h = h
+-- and that it spells none, where it wasn't
+pub unspelled : {A : Type 0} (o : Option A) (fault : Fault) → Err fault ≡ ok_or o faults.BadCommand → (fault ≡ faults.BadCommand) × (o ≡ None)
+unspelled None fault h = (cc, refl)
+unspelled (Some x) fault h = (cc, cc)
 
--- what a parse that failed shows
-pub same_err : (r : Result Command Fault) (o p : Option Command) → o ≡ p
-    → IfErr r (λ fault. (fault ≡ faults.Memory) ⊎ ((fault ≡ faults.BadCommand) × (p ≡ None)))
-    → IfErr r (λ fault. (fault ≡ faults.Memory) ⊎ ((fault ≡ faults.BadCommand) × (o ≡ None)))
-same_err (Ok c) o p e h = h
-same_err (Err fault) o p e h = elim h [ inl memory ↦ inl memory | inr bad ↦ inr (bad.0, e ∙ bad.1) ]
+module _ (o : Option Command) where
+  pub reads_ok : (r : Result Command Fault) → Reads command_has_bytes o r → IfOk r (λ c. o ≡ Some c)
+  reads_ok (Ok c) h = h
+  reads_ok (Err fault) h = tt
+
+  none_is_bad : (fault : Fault) → Fails command_has_bytes o fault → o ≡ None → fault ≡ faults.BadCommand
+  none_is_bad fault (inl bad) none = bad.0
+  none_is_bad fault (inr memory) none = absurd (rw none at (memory.1))
+
+  bad_is_none : (fault : Fault) → Fails command_has_bytes o fault → fault ≡ faults.BadCommand → o ≡ None
+  bad_is_none fault (inl bad) e = bad.1
+  bad_is_none fault (inr memory) e = cc (sym e ∙ memory.0)
+
+  pub reads_bad : (r : Result Command Fault) → Reads command_has_bytes o r → (r ≡ Err faults.BadCommand) ↔ (o ≡ None)
+  reads_bad (Ok c) h = (λ e. cc, λ none. cc (sym h ∙ none))
+  reads_bad (Err fault) h = (λ e. bad_is_none fault h (cc), λ none. ap Err (none_is_bad fault h none))
+
+  pub reads_memory : (r : Result Command Fault) → Reads command_has_bytes o r
+      → IfErr r (λ fault. (fault ≡ faults.BadCommand) ⊎ ((fault ≡ faults.Memory) × IsSomeAnd o (λ c. IsTrue (command_has_bytes c))))
+  reads_memory (Ok c) h = tt
+  reads_memory (Err fault) (inl bad) = inl (bad.0)
+  reads_memory (Err fault) (inr memory) = inr memory

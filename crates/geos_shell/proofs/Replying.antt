@@ -8,14 +8,14 @@ use Rattle.geos_model.specs.Machine.{Machine, Request, Step}
 use Rattle.geos_model.specs.Script.{Answered, command, gets_reply, reply_line, reply_text, line_feed}
 use Rattle.geos_model.specs.declared.command.Command.{Command}
 use Rattle.geos_model.specs.declared.command.Command.TheVariants as commands
-use Rattle.geos_shell.specs.Replies.{Responds, Told}
+use Rattle.geos_shell.specs.Replies.{Told}
 
 -- one step of the machine, and its reply's text and a line feed put behind what was there
-pub responds_by : (old new : Machine) (request : Request) (reply : Reply) (before text after : List ℕ)
+pub answered_by : (old new : Machine) (request : Request) (reply : Reply) (before text after : List ℕ)
     → gets_reply request ≡ true → Step old request reply new
     → text ≡ before ++ reply_text reply → after ≡ text ++ line_feed ∷ []
-    → (written : List ℕ) × Responds old request written new × (after ≡ before ++ written)
-responds_by old new request reply before text after asks step said ended =
+    → (written : List ℕ) × Answered old (request ∷ []) written new × (after ≡ before ++ written)
+answered_by old new request reply before text after asks step said ended =
     let one : filter gets_reply (request ∷ []) ≡ request ∷ [] = rw asks refl in (
       reply_line reply,
       record { replies = reply ∷ []; run = rw one (new, step, refl); text = sym (append-nil (reply_line reply)) },
@@ -23,28 +23,21 @@ responds_by old new request reply before text after asks step said ended =
     )
 
 -- the same, where a call that may fail put the text
-pub responds_on_ok : {T E : Type 0} (put : Result T E) (x : T) (old new : Machine) (request : Request) (reply : Reply) (before text after : List ℕ)
+pub answered_on_ok : {T E : Type 0} (put : Result T E) (x : T) (old new : Machine) (request : Request) (reply : Reply) (before text after : List ℕ)
     → gets_reply request ≡ true → Step old request reply new
     → put ≡ Ok x → OnOk put (text ≡ before ++ reply_text reply) → after ≡ text ++ line_feed ∷ []
-    → (written : List ℕ) × Responds old request written new × (after ≡ before ++ written)
-responds_on_ok put x old new request reply before text after asks step was said ended =
+    → (written : List ℕ) × Answered old (request ∷ []) written new × (after ≡ before ++ written)
+answered_on_ok put x old new request reply before text after asks step was said ended =
     let text_said : text ≡ before ++ reply_text reply = IfOk-at_ok (λ _. text ≡ before ++ reply_text reply) was said in
-    responds_by old new request reply before text after asks step text_said ended
-
--- the answer to a line is that to its request
-pub answered_by : (old new : Machine) (line written : List ℕ) (request : Request)
-    → command line ≡ request → Responds old request written new → Answered old (line ∷ []) written new
-answered_by old new line written request is r =
-    record { replies = r.replies; run = rw is r.run; text = r.text }
+    answered_by old new request reply before text after asks step text_said ended
 
 -- a line that is no command leaves the machine as it is
 pub answered_bad : (machine : Machine) (line before text after : List ℕ)
     → command line ≡ None → text ≡ before ++ reply_text (Refused BadCommand) → after ≡ text ++ line_feed ∷ []
-    → (written : List ℕ) × Answered machine (line ∷ []) written machine × (after ≡ before ++ written)
+    → (written : List ℕ) × Answered machine (command line ∷ []) written machine × (after ≡ before ++ written)
 answered_bad machine line before text after none said ended =
-    let step : Step machine None (Refused BadCommand) machine = inl (record { says = refl; goes = refl }) in
-    let r = responds_by machine machine None (Refused BadCommand) before text after refl step said ended in
-    (r.0, answered_by machine machine line r.0 None none r.1, r.2)
+    let step : Step machine None (Refused BadCommand) machine = inl refl in
+    rw none (answered_by machine machine None (Refused BadCommand) before text after refl step said ended)
 
 -- where a call that may fail put the text of a look-up's reply
 pub told : {T E : Type 0} (put : Result T E) (machine : Machine) (c : Command) (reply : Reply) (before after : List ℕ)
@@ -58,9 +51,9 @@ gets_one commands.Blank other = absurd (other refl)
 gets_one _ other = refl
 
 -- what was told of a look-up, and a line feed put behind it
-pub responds_told : {T E : Type 0} (put : Result T E) (x : T) (machine : Machine) (c : Command) (before text after : List ℕ)
+pub answered_told : {T E : Type 0} (put : Result T E) (x : T) (machine : Machine) (c : Command) (before text after : List ℕ)
     → (c ≡ commands.Blank → ⊥) → put ≡ Ok x → OnOk put (Told machine c before text) → after ≡ text ++ line_feed ∷ []
-    → (written : List ℕ) × Responds machine (Some c) written machine × (after ≡ before ++ written)
-responds_told put x machine c before text after other was told_it ended =
+    → (written : List ℕ) × Answered machine (Some c ∷ []) written machine × (after ≡ before ++ written)
+answered_told put x machine c before text after other was told_it ended =
     let t : Told machine c before text = IfOk-at_ok (λ _. Told machine c before text) was told_it in
-    responds_by machine machine (Some c) t.reply before text after (gets_one c other) t.step t.text ended
+    answered_by machine machine (Some c) t.reply before text after (gets_one c other) t.step t.text ended

@@ -1,14 +1,15 @@
 -- What a run has read and written.
-use Rattle.std.proofs.Common.{◌⊎◌, inl, inr, ◌≡◌, ℕ, List, [], ◌++◌, Option, IfSome}
+use Rattle.std.proofs.Common.{◌⊎◌, inl, inr, ◌≡◌, ℕ, ◌<◌, List, [], ◌++◌, length, length-append, Option, arith}
 use Rattle.std.proofs.lemmas.List.{append-nil}
-use Rattle.std.proofs.KnownBytes.{Appends-nil, Appends-trans, Consumes-nil, Consumes-trans, Consumes-kept, Consumes-whole}
+use Rattle.std.proofs.KnownBytes.{Appends-nil, Appends-trans, Consumes-nil, Consumes-trans, Consumes-kept}
 use Rattle.std.specs.Io.KnownBytes.{Appends, Consumes, Keeps, IsAtEnd}
 use Rattle.geos_model.specs.Machine.{Machine}
-use Rattle.geos_model.specs.Script.{Stopped}
 use Rattle.geos_shell.specs.declared.answering.Answering.{Answering}
-use Rattle.geos_shell.specs.Progress.{ProgressOf, AnswersPiece, StopsPiece, AnswersRest}
-use Rattle.geos_shell.specs.Runs.{AnswersAll, AnswersSome}
-use Rattle.geos_shell.proofs.Steps.{Progress-none, Stopped-after}
+use Rattle.geos_shell.specs.Progress.{ProgressOf, AnswersPiece, StopsPiece, AnswersRest, StopsRest}
+use Rattle.geos_shell.specs.Runs.{AnswersAll, AnswersFinished, AnswersSome, EndsBy}
+use Rattle.geos_shell.specs.declared.runner.RunFault.{RunFault}
+use Rattle.geos_shell.specs.declared.runner.RunFault.TheVariants as faults
+use Rattle.geos_shell.proofs.Steps.{Progress-none, Progress-some, Answered-finished, Stopped-after}
 
 -- the bytes that were read, the replies that were written, and the state that they led to
 pub record Ran (start : Machine) (from to before after : Option (List ℕ)) (state : Answering) : Type 0 where
@@ -32,6 +33,9 @@ Ran-none reader writer state begun replies =
     }
 
 module _ {start : Machine} {from mid before out : Option (List ℕ)} {state : Answering} (ran : Ran start from mid before out state) where
+  same_replies : ran.written ++ state.replies.items ≡ ran.written
+  same_replies = rw ran.none_left (append-nil ran.written)
+
   -- a read gave nothing
   pub Ran-kept : (to : Option (List ℕ)) → Keeps mid to → Ran start from to before out state
   Ran-kept to kept =
@@ -56,42 +60,56 @@ module _ {start : Machine} {from mid before out : Option (List ℕ)} {state : An
         none_left = answers.none_left;
       }
 
-  -- the run stops before a read
-  pub AnswersSome-now : AnswersSome start from mid before out
-  AnswersSome-now =
-      let same : ran.written ++ state.replies.items ≡ ran.written = rw ran.none_left (append-nil ran.written) in
-      let stopped : Stopped start (ran.read ++ []) (ran.written ++ state.replies.items) = Stopped-after ran.progress [] in
+  -- a read failed
+  pub AnswersFinished-now : (to : Option (List ℕ)) → Keeps mid to → AnswersFinished start from to before out
+  AnswersFinished-now to kept =
       record {
         read = ran.read;
-        consumed = ran.consumed;
+        consumed = Consumes-kept from mid to ran.read ran.consumed kept;
         written = ran.written;
-        answered = rw (append-nil ran.read, same) at stopped;
+        new = state.session;
+        answered = rw (same_replies) at (Answered-finished ran.progress);
         appended = ran.appended;
       }
 
-  -- the run stops in a piece
-  pub AnswersSome-piece : (to after : Option (List ℕ)) (bytes : List ℕ) → Consumes mid to bytes → StopsPiece state bytes out after → AnswersSome start from to before after
-  AnswersSome-piece to after bytes consumed stops =
+  -- the run stops in a piece that was read
+  pub AnswersSome-piece : (to after : Option (List ℕ)) (bytes : List ℕ) → 0 < length bytes → Consumes mid to bytes → StopsPiece state bytes out after → AnswersSome start from to before after
+  AnswersSome-piece to after bytes some consumed stops =
       record {
         read = ran.read ++ bytes;
+        some = omega (arith, length-append ran.read bytes);
         consumed = Consumes-trans from mid to ran.read bytes ran.consumed consumed;
         written = ran.written ++ stops.written;
         answered = stops.stops start ran.read ran.written ran.progress;
         appended = Appends-trans before out after ran.written stops.written ran.appended stops.appended;
       }
 
-  -- the same, unless the run failed by P
-  pub AnswersSome-or : {P : Type 0} (to after : Option (List ℕ)) (bytes : List ℕ) → Consumes mid to bytes → P ⊎ StopsPiece state bytes out after → P ⊎ AnswersSome start from to before after
-  AnswersSome-or to after bytes consumed (inl failed) = inl failed
-  AnswersSome-or to after bytes consumed (inr stops) = inr (AnswersSome-piece to after bytes consumed stops)
+  -- the run stops at the last line
+  pub AnswersSome-rest : (to after : Option (List ℕ)) → Consumes mid to [] → StopsRest state out after → AnswersSome start from to before after
+  AnswersSome-rest to after none stops =
+      record {
+        read = ran.read;
+        some = Progress-some ran.progress stops.begun;
+        consumed = rw (append-nil) at (Consumes-trans from mid to ran.read [] ran.consumed none);
+        written = ran.written ++ state.replies.items;
+        answered = rw (append-nil) at (Stopped-after ran.progress []);
+        appended = Appends-trans before out after ran.written state.replies.items ran.appended stops.appended;
+      }
 
   -- the run ends with the script
-  pub AnswersAll-end : (to after : Option (List ℕ)) (new : Machine) → Consumes mid to [] → IsAtEnd to → AnswersRest state new out after → IfSome from (λ script. AnswersAll start script before after new)
+  pub AnswersAll-end : (to after : Option (List ℕ)) (new : Machine) → Consumes mid to [] → IsAtEnd to → AnswersRest state new out after → AnswersAll start from to before after new
   AnswersAll-end to after new none end rest =
-      let consumed : Consumes from to ran.read = rw (append-nil) at (Consumes-trans from mid to ran.read [] ran.consumed none) in
-      Consumes-whole from to ran.read (λ script. AnswersAll start script before after new) consumed end
-      (record {
+      record {
+        script = ran.read;
+        consumed = rw (append-nil) at (Consumes-trans from mid to ran.read [] ran.consumed none);
+        ended = end;
         written = ran.written ++ rest.written;
         answered = rest.answered start ran.read ran.written ran.progress;
         appended = Appends-trans before out after ran.written rest.written ran.appended rest.appended;
-      })
+      }
+
+-- how the run ends where a piece or the last line stopped it
+pub EndsBy-or : {P : Type 0} (fault : RunFault) (old : Machine) (from to before after : Option (List ℕ)) → (P → AnswersSome old from to before after)
+    → (fault ≡ faults.Write) ⊎ ((fault ≡ faults.Memory) × P) → EndsBy fault old from to before after
+EndsBy-or fault old from to before after stopped (inl failed) = rw failed tt
+EndsBy-or fault old from to before after stopped (inr stops) = rw (stops.0) (stopped stops.1)

@@ -1,10 +1,16 @@
 -- What the operands' texts come to.
-use Rattle.std.proofs.Common.{◌≡◌, ℕ, ◌+◌, ◌*◌, ◌^◌, ◌<◌, ◌≤◌, List, [], ◌∷◌, length, None, Result, Ok, Err, refl, sym, ◌∙◌, arith}
+use Rattle.std.proofs.Common.{◌≡◌, ℕ, ◌+◌, ◌*◌, ◌^◌, ◌%◌, ◌==◌, ◌<◌, ◌≤◌, true, false, List, [], ◌∷◌, length, None, is_some, Result, Ok, Err, refl, sym, ap, ◌∙◌, arith, inl, inr}
+use Rattle.std.specs.Prelude.{IsSomeAnd, IsTrue, codes}
+use Rattle.std.specs.List.{list_all}
+use Rattle.std.proofs.lemmas.Bool.{cases_Bool, eqb-true}
+use Rattle.std.proofs.lemmas.Bool.Decides.{nat_tests}
+use Rattle.std.proofs.lemmas.List.Sums.{AllPass-from_list_all, list_all-from_AllPass}
+use Rattle.geos_shell.specs.Reading.{has_bytes}
 use Rattle.std.proofs.Math.Nat.{pow-le-pow_right}
-use Rattle.hex.specs.Hex.{decode_of, decode_sized}
+use Rattle.hex.specs.Hex.{decode_of, decode_sized, is_hex_digit}
 use Rattle.hex.specs.declared.error.FromHexError.{FromHexError}
-use Rattle.hex.proofs.HexLemmas.{decode_of-ok, decode_sized-twice}
-use Rattle.geos_model.specs.Script.{handle, two_bytes, if_spelled}
+use Rattle.hex.proofs.HexLemmas.{decode_of-ok, decode_of-digits, decode_sized-twice}
+use Rattle.geos_model.specs.Script.{bytes, handle, two_bytes, if_spelled, same_bytes}
 use Rattle.std.specs.Prelude.{option_and_then}
 
 -- a number of at most eight digits has room for a further byte
@@ -32,3 +38,38 @@ two_bytes-refused word (Ok bytes) is e h = two_bytes-other bytes (λ two.
 -- a word that isn't four digits is no handle
 pub handle-refused : (word : List ℕ) (e : FromHexError) → decode_sized word 2 ≡ Err e → handle word ≡ None
 handle-refused word e h = two_bytes-refused word (decode_of word) refl e h
+
+none_spelled : (word : List ℕ) (r : Result (List ℕ) FromHexError) → decode_of word ≡ r → list_all is_hex_digit word ≡ false → false ≡ is_some (if_spelled r)
+none_spelled word (Err e) is not = refl
+none_spelled word (Ok bs) is not = cc (sym not ∙ list_all-from_AllPass is_hex_digit word (decode_of-ok word bs is).1)
+
+-- pairs of digits spell bytes, and nothing else of an even length does
+pairs_spelled : (word : List ℕ) → length word % 2 ≡ 0 → list_all is_hex_digit word ≡ is_some (if_spelled (decode_of word))
+pairs_spelled word even =
+    elim (cases_Bool (list_all is_hex_digit word)) [
+      | inl all ↦
+          let decoded = decode_of-digits word even (AllPass-from_list_all is_hex_digit word all) in
+          all ∙ sym (ap (λ r. is_some (if_spelled r)) decoded.1)
+      | inr not ↦ not ∙ none_spelled word (decode_of word) refl not
+    ]
+
+-- a word of some bytes that is no dash spells bytes where it is pairs of digits
+pub spelled_digits : (word : List ℕ) → same_bytes word (codes "-") ≡ false → length word == 0 ≡ false → length word % 2 == 0 ≡ true
+    → list_all is_hex_digit word ≡ is_some (bytes word)
+spelled_digits word no_dash some even = rw (no_dash, some) (pairs_spelled word (eqb-true _ _ even))
+
+some_decoded : (word : List ℕ) (r : Result (List ℕ) FromHexError) → decode_of word ≡ r → 0 < length word → is_some (if_spelled r) ≡ true → IsSomeAnd (if_spelled r) (λ bs. IsTrue (has_bytes bs))
+some_decoded word (Err e) is some there = cc there
+some_decoded word (Ok []) is some there = let ok = decode_of-ok word [] is in absurd (omega (arith, ok.2))
+some_decoded word (Ok (x ∷ bs)) is some there = refl
+
+-- what a word spells that is no dash has bytes
+pub spelled_some : (word : List ℕ) → same_bytes word (codes "-") ≡ false → is_some (bytes word) ≡ true → IsSomeAnd (bytes word) (λ bs. IsTrue (has_bytes bs))
+spelled_some word no_dash there =
+    elim (cases_Bool (length word == 0)) [
+      | inl none ↦ cc (rw (no_dash, none) at there)
+      | inr some ↦
+          let long : 0 < length word = grind (arith, nat_tests) in
+          let decoded : is_some (if_spelled (decode_of word)) ≡ true = rw (no_dash, some) at there in
+          rw (no_dash, some) (some_decoded word (decode_of word) refl long decoded)
+    ]

@@ -1,13 +1,13 @@
 -- Each step of a run keeps its progress.
-use Rattle.std.proofs.Common.{◌≡◌, ℕ, ◌<◌, List, [], ◌∷◌, ◌++◌, length, refl, sym, ap, ◌∙◌, arith, inl, inr}
-use Rattle.std.proofs.lemmas.List.{append_assoc, append-nil, nil_from_length}
+use Rattle.std.proofs.Common.{◌≡◌, ℕ, ◌<◌, List, [], ◌∷◌, ◌++◌, ◌+◌, length, length-append, refl, sym, ap, ◌∙◌, arith, inl, inr}
+use Rattle.std.proofs.lemmas.List.{append_assoc, append-nil, map-append, nil_from_length}
 use Rattle.std.proofs.lemmas.Bool.{cases_lt}
 use Rattle.geos_model.specs.Machine.{Machine}
-use Rattle.geos_model.specs.Script.{lines, finished_lines, command, Answered, Stopped}
+use Rattle.geos_model.specs.Script.{lines, finished_lines, requests, command, Answered, Stopped}
 use Rattle.geos_shell.specs.declared.answering.Answering.{Answering}
 use Rattle.geos_shell.specs.Progress.{HasNoFeed, StandsFor, Progress, GoesOver, StopsIn}
-use Rattle.geos_shell.proofs.Lines.{lines-at_feed, lines-one, finished_lines-at_feed, HasNoFeed-append, StandsFor-same, StandsFor-trans}
-use Rattle.geos_shell.proofs.Composed.{Answered-append, Answered-same_command}
+use Rattle.geos_shell.proofs.Lines.{lines-at_feed, lines-one, lines-some, finished_lines-at_feed, finished_lines-none, HasNoFeed-append, StandsFor-same, StandsFor-trans}
+use Rattle.geos_shell.proofs.Composed.{Answered-append}
 
 -- nothing was read
 pub Progress-none : (start : Machine) → Progress start [] [] start []
@@ -26,6 +26,14 @@ above_none : (m n : ℕ) → (m ≡ 0 → n ≡ 0) → 0 < n → 0 < m
 above_none m n same some =
     elim (cases_lt 0 m) [ inl above ↦ above | inr none ↦ let zero_is : n ≡ 0 = same (omega arith) in omega arith ]
 
+-- a line that has begun is one of what was read
+read_some : (read : List ℕ) (answered : List (List ℕ)) (begun : List ℕ) → 0 < length begun → lines (read ++ []) ≡ answered ++ lines (begun ++ []) → 0 < length read
+read_some (x ∷ read) answered begun long e = omega arith
+read_some [] answered begun long e =
+    let counted : 0 ≡ length answered + length (lines (begun ++ [])) = ap length e ∙ length-append answered (lines (begun ++ [])) in
+    let one = lines-some (begun ++ []) (omega (arith, length-append begun [])) in
+    absurd (omega arith)
+
 module _ {start now : Machine} {read replies kept : List ℕ} (p : Progress start read replies now kept) where
   -- bytes with no line feed
   pub Progress-part : (part new : List ℕ) → HasNoFeed part → StandsFor (kept ++ part) new → Progress start (read ++ part) replies now new
@@ -41,7 +49,7 @@ module _ {start now : Machine} {read replies kept : List ℕ} (p : Progress star
       }
 
   -- the end of a line
-  pub Progress-feed : {new : Machine} (written : List ℕ) → Answered now (kept ∷ []) written new → Progress start (read ++ 10 ∷ []) (replies ++ written) new []
+  pub Progress-feed : {new : Machine} (written : List ℕ) → Answered now (command kept ∷ []) written new → Progress start (read ++ 10 ∷ []) (replies ++ written) new []
   Progress-feed {new} written a =
       let line = p.begun in
       let same : command kept ≡ command line = ap command (sym (append-nil kept)) ∙ p.stands.same_command [] ∙ ap command (append-nil line) in
@@ -54,36 +62,49 @@ module _ {start now : Machine} {read replies kept : List ℕ} (p : Progress star
             ap finished_lines (append_assoc read (10 ∷ []) more) ∙ p.in_finished (10 ∷ more) ∙ ap (λ l. p.answered ++ l) (finished_lines-at_feed line more p.unfinished) ∙ sym (append_assoc p.answered (line ∷ []) (finished_lines more));
         unfinished = tt;
         stands = StandsFor-same [];
-        run = Answered-append p.run (Answered-same_command kept line same a);
+        run = rw (map-append command p.answered (line ∷ [])) (Answered-append p.run (rw same at a));
       }
 
   -- a run that stops, whatever else was read
-  pub Stopped-after : (more : List ℕ) → Stopped start (read ++ more) replies
+  pub Stopped-after : (more : List ℕ) → Stopped start (finished_lines (read ++ more)) replies
   Stopped-after more =
       record { answered = p.answered; others = finished_lines (p.begun ++ more); parts = p.in_finished more; new = now; run = p.run }
+
+  -- what has begun has no finished line
+  pub Answered-finished : Answered start (requests (finished_lines read)) replies now
+  Answered-finished =
+      let all : finished_lines read ≡ p.answered =
+      sym (ap finished_lines (append-nil read)) ∙ p.in_finished [] ∙ ap (λ l. p.answered ++ finished_lines l) (append-nil p.begun) ∙ ap (λ l. p.answered ++ l) (finished_lines-none p.begun p.unfinished) ∙ append-nil p.answered in
+      rw all p.run
+
+  -- where a line has begun something was read
+  pub Progress-some : 0 < length kept → 0 < length read
+  Progress-some some =
+      let long = above_none (length p.begun) (length kept) p.stands.same_emptiness.1 some in
+      read_some read p.answered p.begun long (p.in_lines [])
 
   begun_none : length kept ≡ 0 → p.begun ≡ []
   begun_none e = nil_from_length p.begun (p.stands.same_emptiness.0 e)
 
   -- the end of a script, behind a line feed
-  pub Answered-all : length kept ≡ 0 → Answered start (lines read) replies now
+  pub Answered-all : length kept ≡ 0 → Answered start (requests (lines read)) replies now
   Answered-all e =
       let all : lines read ≡ p.answered = sym (ap lines (append-nil read)) ∙ p.in_lines [] ∙ ap (λ l. p.answered ++ lines (l ++ [])) (begun_none e) ∙ append-nil p.answered in
       rw all p.run
 
   -- the end of a script within a line
-  pub Answered-last : {new : Machine} (written : List ℕ) → 0 < length kept → Answered now (kept ∷ []) written new → Answered start (lines read) (replies ++ written) new
+  pub Answered-last : {new : Machine} (written : List ℕ) → 0 < length kept → Answered now (command kept ∷ []) written new → Answered start (requests (lines read)) (replies ++ written) new
   Answered-last {new} written some a =
       let line = p.begun in
       let long = above_none (length line) (length kept) p.stands.same_emptiness.1 some in
       let same : command kept ≡ command line = ap command (sym (append-nil kept)) ∙ p.stands.same_command [] ∙ ap command (append-nil line) in
       let all : lines read ≡ p.answered ++ line ∷ [] =
       sym (ap lines (append-nil read)) ∙ p.in_lines [] ∙ ap (λ l. p.answered ++ lines l) (append-nil line) ∙ ap (λ l. p.answered ++ l) (lines-one line long p.unfinished) in
-      rw all (Answered-append p.run (Answered-same_command kept line same a))
+      rw (all, map-append command p.answered (line ∷ [])) (Answered-append p.run (rw same at a))
 
 -- a whole line, whose front may have been kept before, and which the bytes in full stand for
 pub Progress-line : {start now new : Machine} {read kept written : List ℕ} (sent old tail full replies rest : List ℕ) → StandsFor (kept ++ tail) full
-    → Answered now (full ∷ []) written new → replies ≡ old ++ written → length rest ≡ 0
+    → Answered now (command full ∷ []) written new → replies ≡ old ++ written → length rest ≡ 0
     → HasNoFeed tail → Progress start read (sent ++ old) now kept → Progress start (read ++ (tail ++ 10 ∷ [])) (sent ++ replies) new rest
 Progress-line {start} {now} {new} {read} {kept} {written} sent old tail full replies rest stands a grown none free p =
     let q = Progress-feed (Progress-part p tail full free stands) written a in

@@ -1,12 +1,12 @@
 -- What words make, where they are operands.
 use Rattle.std.proofs.Common.{◌≡◌, ℕ, ◌<◌, ◌≤◌, List, [], ◌∷◌, length, map, get_or, take, drop, ◌-◌, Option, Some, None, Bor, refl, arith}
 use Rattle.std.proofs.lemmas.List.{take_all}
-use Rattle.std.specs.Option.{option_and_then}
-use Rattle.geos_model.specs.Script.{block, chunk, with_3}
+use Rattle.geos_model.specs.Script.{block, chunk, with_2, with_3}
 use Rattle.geos_model.specs.declared.command.Command.{Command}
 use Rattle.geos_model.specs.declared.handle.VmHandle.{VmHandle}
 use Rattle.geos_model.specs.declared.handle.ChunkHandle.{ChunkHandle}
 use Rattle.geos_shell.specs.Verbs.{takes, takes_on_chunk}
+use Rattle.geos_shell.proofs.Counted.{none_then}
 use Rattle.geos_shell.specs.declared.shapes.OnChunk.{OnChunk}
 use Rattle.geos_shell.specs.declared.verbs.Verb.TheVariants as verbs
 
@@ -21,9 +21,20 @@ three_spelled p q r f (x ∷ []) none a b c least most first second third = absu
 three_spelled p q r f (x ∷ y ∷ []) none a b c least most first second third = absurd (omega arith)
 three_spelled p q r f (x ∷ y ∷ z ∷ w ∷ ws) none a b c least most first second third = absurd (omega arith)
 
-none_then : {A B : Type 0} (f : A → Option B) → ((a : A) → f a ≡ None) → (o : Option A) → option_and_then f o ≡ None
-none_then f none None = refl
-none_then f none (Some a) = none a
+-- two words, each of which spells its operand
+pub two_spelled : {A B : Type 0} (p : List ℕ → Option A) (q : List ℕ → Option B) (f : A → B → Command)
+    (ws : List (Bor (List ℕ))) (none : Bor (List ℕ)) (a : A) (b : B) → 2 ≤ length ws → length ws < 3
+    → p (get_or ws 0 none).now ≡ Some a → q (get_or ws 1 none).now ≡ Some b → with_2 p q f (map (λ (w : Bor (List ℕ)). w.now) ws) ≡ Some (f a b)
+two_spelled p q f (x ∷ y ∷ []) none a b least most first second = rw (first, second) refl
+two_spelled p q f [] none a b least most first second = absurd (omega arith)
+two_spelled p q f (x ∷ []) none a b least most first second = absurd (omega arith)
+two_spelled p q f (x ∷ y ∷ z ∷ ws) none a b least most first second = absurd (omega arith)
+
+-- two words, of which the first doesn't
+pub first_missing : {A B : Type 0} (p : List ℕ → Option A) (q : List ℕ → Option B) (f : A → B → Command)
+    (ws : List (Bor (List ℕ))) (none : Bor (List ℕ)) → 2 ≤ length ws → p (get_or ws 0 none).now ≡ None → with_2 p q f (map (λ (w : Bor (List ℕ)). w.now) ws) ≡ None
+first_missing p q f (x ∷ ws) none least missing = rw missing refl
+first_missing p q f [] none least missing = refl
 
 -- fewer than two words, where a block and a chunk are wanted
 pub too_few : (verb : OnChunk) (ws : List (Bor (List ℕ))) → length ws < 2 → takes (verbs.Chunk verb) (map (λ (w : Bor (List ℕ)). w.now) ws) ≡ None

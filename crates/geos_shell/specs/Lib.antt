@@ -1,5 +1,6 @@
 pub mod Given
 pub mod Progress
+pub mod Reading
 pub mod Replies
 pub mod Runs
 pub mod Verbs

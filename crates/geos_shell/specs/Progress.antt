@@ -1,8 +1,8 @@
 -- How far a run has come between two of its reads.
-use Rattle.std.specs.Prelude.{◌≡◌, ◌↔◌, ℕ, List, [], ◌∷◌, ◌++◌, false, ◌==◌, length, Option}
+use Rattle.std.specs.Prelude.{◌≡◌, ◌↔◌, ℕ, ◌<◌, List, [], ◌∷◌, ◌++◌, false, ◌==◌, length, Option}
 use Rattle.std.specs.Io.KnownBytes.{Appends}
 use Rattle.geos_model.specs.Machine.{Machine}
-use Rattle.geos_model.specs.Script.{line_feed, command, lines, finished_lines, Answered, Stopped}
+use Rattle.geos_model.specs.Script.{line_feed, command, lines, finished_lines, requests, Answered, Stopped}
 use Rattle.geos_shell.specs.declared.answering.Answering.{Answering}
 
 abbrev pub HasNoFeed : List ℕ → Type 0
@@ -23,7 +23,7 @@ pub record Progress (start : Machine) (read replies : List ℕ) (now : Machine) 
   pub in_finished : (more : List ℕ) → finished_lines (read ++ more) ≡ answered ++ finished_lines (begun ++ more)
   pub unfinished : HasNoFeed begun
   pub stands : StandsFor begun kept
-  pub run : Answered start answered replies now
+  pub run : Answered start (requests answered) replies now
 
 -- the same of a state, after replies that were sent before
 abbrev pub ProgressOf : Machine → List ℕ → List ℕ → Answering → Type 0
@@ -35,7 +35,7 @@ GoesOver old bytes new = (start : Machine) (read sent : List ℕ) → ProgressOf
 
 -- In these bytes the run stopped, and its replies are right so far.
 abbrev pub StopsIn : Answering → List ℕ → Answering → Type 0
-StopsIn old bytes new = (start : Machine) (read sent : List ℕ) → ProgressOf start read sent old → Stopped start (read ++ bytes) (sent ++ new.replies.items)
+StopsIn old bytes new = (start : Machine) (read sent : List ℕ) → ProgressOf start read sent old → Stopped start (finished_lines (read ++ bytes)) (sent ++ new.replies.items)
 
 -- The run goes over these bytes, and then writes its replies.
 pub record AnswersPiece (old : Answering) (bytes : List ℕ) (new : Answering) (before after : Option (List ℕ)) : Type 0 where
@@ -48,10 +48,15 @@ pub record AnswersPiece (old : Answering) (bytes : List ℕ) (new : Answering) (
 pub record StopsPiece (old : Answering) (bytes : List ℕ) (before after : Option (List ℕ)) : Type 0 where
   pub written : List ℕ
   pub appended : Appends before after written
-  pub stops : (start : Machine) (read sent : List ℕ) → ProgressOf start read sent old → Stopped start (read ++ bytes) (sent ++ written)
+  pub stops : (start : Machine) (read sent : List ℕ) → ProgressOf start read sent old → Stopped start (finished_lines (read ++ bytes)) (sent ++ written)
+
+-- The run stopped at the last line, which no line feed ends, and wrote no reply to it.
+pub record StopsRest (old : Answering) (before after : Option (List ℕ)) : Type 0 where
+  pub begun : 0 < length old.begun.items
+  pub appended : Appends before after old.replies.items
 
 -- The run answered the last line too, and wrote its replies.
 pub record AnswersRest (old : Answering) (new : Machine) (before after : Option (List ℕ)) : Type 0 where
   pub written : List ℕ
   pub appended : Appends before after written
-  pub answered : (start : Machine) (read sent : List ℕ) → ProgressOf start read sent old → Answered start (lines read) (sent ++ written) new
+  pub answered : (start : Machine) (read sent : List ℕ) → ProgressOf start read sent old → Answered start (requests (lines read)) (sent ++ written) new

@@ -1,9 +1,7 @@
 -- The verbs that begin a command, and what the operands of each make.
-use Rattle.std.specs.Prelude.{◌≡◌, ◌⊎◌, ℕ, List, Option, None, Some, Result, MatchResult, map}
+use Rattle.std.specs.Prelude.{ℕ, List, Option, map}
 use Rattle.std.specs.Borrow.{Bor}
 use Rattle.geos_model.specs.Script.{by_name, commands_by_name, with_none, with_1, with_2, with_3, operand, user_id, block, chunk, token, number, bytes, is_set}
-use Rattle.geos_model.specs.declared.fault.Fault.{Fault}
-use Rattle.geos_model.specs.declared.fault.Fault.TheVariants as faults
 use Rattle.geos_model.specs.declared.handle.VmHandle.{VmHandle}
 use Rattle.geos_model.specs.declared.handle.ChunkHandle.{ChunkHandle}
 use Rattle.geos_model.specs.declared.handle.Token.{Token}
@@ -125,10 +123,6 @@ takes (verbs.Alone verb) = with_none (alone verb)
 takes (verbs.Block verb) = with_1 block (on_block verb)
 takes (verbs.Make verb) = with_2 block number (make verb)
 takes (verbs.Chunk verb) = operand block (λ b. operand chunk (λ c. takes_on_chunk verb b c))
-
--- What reading operands answers: the command that they mean, BadCommand where they mean none, or want of memory.
-abbrev pub Reads : Option Command → Result Command Fault → Type 0
-Reads meant result = MatchResult result (λ c. meant ≡ Some c) (λ fault. (fault ≡ faults.Memory) ⊎ ((fault ≡ faults.BadCommand) × (meant ≡ None)))
 
 -- the command that a name and its operands are
 unfoldable pub command_named : List ℕ → List (List ℕ) → Option Command

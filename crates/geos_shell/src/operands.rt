@@ -1,9 +1,12 @@
 //! What a word spells, where an operand of some kind is wanted.
-ghost use Rattle.std.specs.Prelude.{◌≡◌, ◌⊎◌, None, Some, IfOk, IfErr, ok_or};
+ghost use Rattle.std.specs.Prelude.{◌≡◌, is_some, ok_or};
+ghost use Rattle.std.specs.List.{list_all};
+ghost use Rattle.hex.specs.Hex.{is_hex_digit};
 ghost use Rattle.geos_model.specs.Script as script;
+ghost use Rattle.geos_shell.specs.Reading.{Reads, has_bytes};
 
 use geos_model::{Bytes, ChunkHandle, Fault, Token, VmHandle};
-use hex::{FromHex, FromHexError};
+use hex::FromHex;
 use std::alloc::Global;
 
 /// The most digits of a number.
@@ -73,20 +76,31 @@ pub(crate) fn is_set(word: &[u8]) -> Result<bool, Fault>
     Err(Fault::BadCommand)
 }
 
+fn are_digits(word: &[u8]) -> bool
+    ensures { result ≡ list_all is_hex_digit word.now }
+{
+    word.iter().all(|digit| digit.is_ascii_hexdigit())
+}
+
+/// Whether a word spells bytes, which is told without memory.
+pub(crate) fn spells_bytes(word: &[u8]) -> bool
+    ensures { result ≡ is_some (script.bytes word.now) }
+{
+    word == b"-".as_slice() || (!word.is_empty() && word.len() % 2 == 0 && are_digits(word))
+}
+
 /// Bytes in hexadecimal digits, or a dash for none.
 pub(crate) fn bytes(alloc: Global, word: &[u8]) -> Result<Bytes, Fault>
-    ensures ok { IfOk result (λ b. script.bytes word.now ≡ Some b) }
-    ensures err { IfErr result (λ fault. (fault ≡ Fault.Memory) ⊎ ((fault ≡ Fault.BadCommand) × (script.bytes word.now ≡ None))) }
+    ensures { Reads has_bytes (script.bytes word.now) result }
 {
+    if !spells_bytes(word) {
+        return Err(Fault::BadCommand);
+    }
     if word == b"-".as_slice() {
         return Ok(Bytes::from_vec(Vec::new(alloc)));
     }
-    if word.is_empty() {
-        return Err(Fault::BadCommand);
-    }
     match hex::decode(alloc, word) {
         Ok(items) => Ok(Bytes::from_vec(items)),
-        Err(FromHexError::OutOfMemory) => Err(Fault::Memory),
-        Err(_) => Err(Fault::BadCommand),
+        Err(_) => Err(Fault::Memory),
     }
 }

@@ -1,11 +1,13 @@
-ghost use Rattle.std.specs.Prelude.{◌≡◌, ◌⊎◌, None, Some, IfOk, IfErr, map};
+ghost use Rattle.std.specs.Prelude.{◌≡◌, ◌⊎◌, ◌↔◌, None, Some, IfOk, IfErr, IsSomeAnd, IsTrue, List, ℕ, map, take};
 ghost use Rattle.geos_model.specs.Script.{command};
 ghost use Rattle.geos_model.specs.Script as script;
+ghost use Rattle.geos_shell.specs.Reading.{Reads, command_has_bytes};
 
 use crate::verbs::{Verb, command_of};
+use arrayvec::ArrayVec;
 use bstr::ByteSlice;
 use geos_model::{Command, Fault};
-use std::alloc::{AllocError, Global};
+use std::alloc::Global;
 
 /// The bytes that part the words of a line.
 const BLANKS: &[u8; 3] = b" \t\r";
@@ -13,23 +15,29 @@ const BLANKS: &[u8; 3] = b" \t\r";
 /// A line of more bytes is no command.
 const LONGEST_LINE: usize = 140_000;
 
+/// One word more than the longest command has: more words are no command, however many.
+const MOST_WORDS: usize = 7;
+
 /// The command that a line is, without its line feed. A line that is none, or longer than 140,000 bytes, is a BadCommand.
+/// Only for the bytes that a command is given is memory taken.
 pub fn parse(alloc: Global, line: &[u8]) -> Result<Command, Fault>
     ensures ok { IfOk result (λ c. command line.now ≡ Some c) }
-    ensures err { IfErr result (λ fault. (fault ≡ Fault.Memory) ⊎ ((fault ≡ Fault.BadCommand) × (command line.now ≡ None))) }
+    ensures bad { (result ≡ Err Fault.BadCommand) ↔ (command line.now ≡ None) }
+    ensures memory { IfErr result (λ fault. (fault ≡ Fault.BadCommand)
+        ⊎ ((fault ≡ Fault.Memory) × IsSomeAnd (command line.now) (λ c. IsTrue (command_has_bytes c)))) }
 {
     if line.len() > LONGEST_LINE {
         return Err(Fault::BadCommand);
     }
-    command_of_words(alloc, words(alloc, line)?.as_slice())
+    command_of_words(alloc, first_words(line).as_slice())
 }
 
-/// The command that the words of a line are.
-fn command_of_words(alloc: Global, words: &[&[u8]]) -> Result<Command, Fault>
-    ensures ok { IfOk result (λ c. script.command_of_words (map (λ w. w.now) words.now) ≡ Some c) }
-    ensures err { IfErr result (λ fault. (fault ≡ Fault.Memory) ⊎ ((fault ≡ Fault.BadCommand) × (script.command_of_words (map (λ w. w.now) words.now) ≡ None))) }
+/// The command that the words of a line are, of which these are the first ones, or all.
+fn command_of_words(alloc: Global, first: &[&[u8]]) -> Result<Command, Fault>
+    ensures { (words : List (List ℕ)) → map (λ w. w.now) first.now ≡ take MOST_WORDS words
+        → Reads command_has_bytes (script.command_of_words words) result }
 {
-    let Some((name, operands)) = words.split_first() else {
+    let Some((name, operands)) = first.split_first() else {
         return Ok(Command::Blank);
     };
     if name.starts_with(b"#") {
@@ -41,17 +49,20 @@ fn command_of_words(alloc: Global, words: &[&[u8]]) -> Result<Command, Fault>
     }
 }
 
-/// The longest runs of bytes that aren't blanks.
-fn words<'a>(alloc: Global, line: &'a [u8]) -> Result<Vec<&'a [u8]>, AllocError>
-    ensures { IfOk result (λ v. map (λ w. w.now) v.items ≡ script.words line.now) }
+/// The first of the longest runs of bytes that aren't blanks, at most so many.
+fn first_words<'a>(line: &'a [u8]) -> ArrayVec<&'a [u8], MOST_WORDS>
+    ensures { map (λ w. w.now) result.items ≡ take MOST_WORDS (script.words line.now) }
 {
-    let mut words = Vec::new(alloc);
+    let mut words = ArrayVec::new();
     let mut rest = line;
     while let Some(start) = rest.find_not_byteset(BLANKS) {
+        if words.is_full() {
+            return words;
+        }
         let tail = &rest[start..];
         let end = tail.find_byteset(BLANKS).unwrap_or(tail.len());
-        words.push(&tail[..end])?;
+        words.push(&tail[..end]);
         rest = &tail[end..];
     }
-    Ok(words)
+    words
 }

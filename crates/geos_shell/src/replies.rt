@@ -1,6 +1,6 @@
 ghost use Rattle.std.specs.Prelude.{◌≡◌, ◌++◌, List, ℕ, [], ◌∷◌, OnOk, OnErr, Some, IsTrue};
-ghost use Rattle.geos_model.specs.Script.{Answered};
-ghost use Rattle.geos_shell.specs.Replies.{Extends, Responds, Told, asks_array, asks_names, asks_slots, is_look_up};
+ghost use Rattle.geos_model.specs.Script.{command, Answered};
+ghost use Rattle.geos_shell.specs.Replies.{Extends, Told, asks_array, asks_names, asks_slots, is_look_up};
 
 use crate::parser::parse;
 use crate::text;
@@ -123,7 +123,7 @@ fn respond(
     command: &Command,
     out: &mut Vec<u8>,
 ) -> Result<(), AllocError>
-    ensures ok { OnOk result ((written : List ℕ) × Responds session.old (Some command.now) written session.new
+    ensures ok { OnOk result ((written : List ℕ) × Answered session.old (Some command.now ∷ []) written session.new
         × (out.new.items ≡ out.old.items ++ written)) }
     ensures err { OnErr result (Extends out.old.items out.new.items) }
 {
@@ -145,7 +145,7 @@ fn push_answer(
     line: &[u8],
     out: &mut Vec<u8>,
 ) -> Result<(), AllocError>
-    ensures ok { OnOk result ((written : List ℕ) × Answered session.old (line.now ∷ []) written session.new
+    ensures ok { OnOk result ((written : List ℕ) × Answered session.old (command line.now ∷ []) written session.new
         × (out.new.items ≡ out.old.items ++ written)) }
     ensures err { OnErr result (Extends out.old.items out.new.items) }
 {
@@ -168,7 +168,7 @@ pub(crate) fn answer_line(
     line: &[u8],
     out: &mut Vec<u8>,
 ) -> Result<(), AllocError>
-    ensures ok { OnOk result ((written : List ℕ) × Answered session.old (line.now ∷ []) written session.new
+    ensures ok { OnOk result ((written : List ℕ) × Answered session.old (command line.now ∷ []) written session.new
         × (out.new.items ≡ out.old.items ++ written)) }
     ensures err { OnErr result (out.new.items ≡ out.old.items) }
 {

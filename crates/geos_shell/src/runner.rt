@@ -1,8 +1,8 @@
 ghost use Rattle.std.specs.Prelude.{◌≡◌, ◌⊎◌, ℕ, [], IfSome, IfOk, IfErr, OnOk, OnErr, ◌<◌, ◌≤◌, length};
 ghost use Rattle.std.specs.Io.KnownBytes.{Appends, IsAtEnd, Keeps};
-ghost use Rattle.geos_shell.specs.Runs.{AnswersAll, AnswersSome};
+ghost use Rattle.geos_shell.specs.Runs.{AnswersAll, EndsBy};
 ghost use Rattle.geos_shell.specs.Given.{Gives};
-ghost use Rattle.geos_shell.specs.Progress.{AnswersPiece, StopsPiece, AnswersRest};
+ghost use Rattle.geos_shell.specs.Progress.{AnswersPiece, StopsPiece, AnswersRest, StopsRest};
 
 use crate::answering::Answering;
 use std::alloc::Global;
@@ -23,7 +23,7 @@ pub enum RunFault {
     Read,
     /// The writer failed. How much of the replies went out is not known.
     Write,
-    /// A line, its parse or the text of a reply found no memory.
+    /// A line, the bytes of its command or the text of a reply found no memory.
     Memory,
 }
 
@@ -45,12 +45,12 @@ pub fn run<R: Read, W: Write>(
     reader: &mut R,
     writer: &mut W,
 ) -> Result<Session, RunFault>
-    // Where the run ends well, the whole script was read and each line of it answered.
-    ensures ok { IfOk result (λ after. IfSome (R.remaining reader.old) (λ script.
-        AnswersAll session script (W.contents writer.old) (W.contents writer.new) after)) }
-    ensures end { OnOk result (IsAtEnd (R.remaining reader.new)) }
-    ensures err { IfErr result (λ fault. (fault ≡ RunFault.Write)
-        ⊎ AnswersSome session (R.remaining reader.old) (R.remaining reader.new) (W.contents writer.old) (W.contents writer.new)) }
+    // Where the run ends well, a whole script was read and each line of it answered.
+    ensures ok { IfOk result (λ after.
+        AnswersAll session (R.remaining reader.old) (R.remaining reader.new) (W.contents writer.old) (W.contents writer.new) after) }
+    // Where reading fails, each line that had ended is answered; where memory runs out, the first ones.
+    ensures err { IfErr result (λ fault.
+        EndsBy fault session (R.remaining reader.old) (R.remaining reader.new) (W.contents writer.old) (W.contents writer.new)) }
 {
     let mut answering = Answering {
         session,
@@ -82,7 +82,7 @@ enum Given {
 fn read_piece<R: Read>(reader: &mut R, piece: &mut [u8]) -> Result<Given, RunFault>
     requires { 0 < length piece.old }
     ensures ok { IfOk result (λ given. Gives (R.remaining reader.old) (R.remaining reader.new) piece.new given) }
-    ensures err { OnErr result (Keeps (R.remaining reader.old) (R.remaining reader.new)) }
+    ensures err { IfErr result (λ fault. (fault ≡ RunFault.Read) × Keeps (R.remaining reader.old) (R.remaining reader.new)) }
 {
     match reader.read(piece) {
         Ok(0) => Ok(Given::End),
@@ -101,7 +101,7 @@ fn answer_piece<W: Write>(
 ) -> Result<(), RunFault>
     ensures ok { OnOk result (AnswersPiece answering.old piece.now answering.new (W.contents writer.old) (W.contents writer.new)) }
     ensures err { IfErr result (λ fault. (fault ≡ RunFault.Write)
-        ⊎ StopsPiece answering.old piece.now (W.contents writer.old) (W.contents writer.new)) }
+        ⊎ ((fault ≡ RunFault.Memory) × StopsPiece answering.old piece.now (W.contents writer.old) (W.contents writer.new))) }
 {
     let fed = answering.feed(alloc, piece);
     send(&mut answering.replies, writer)?;
@@ -119,7 +119,7 @@ fn answer_rest<W: Write>(
 ) -> Result<Session, RunFault>
     ensures ok { IfOk result (λ after. AnswersRest answering after (W.contents writer.old) (W.contents writer.new)) }
     ensures err { IfErr result (λ fault. (fault ≡ RunFault.Write)
-        ⊎ StopsPiece answering [] (W.contents writer.old) (W.contents writer.new)) }
+        ⊎ ((fault ≡ RunFault.Memory) × StopsRest answering (W.contents writer.old) (W.contents writer.new))) }
 {
     let ended = answering.end(alloc);
     send(&mut answering.replies, writer)?;

@@ -1,10 +1,11 @@
 //! The commands by the kinds of operands that they take.
 ghost use Rattle.std.specs.Prelude.{◌≡◌, map};
-ghost use Rattle.geos_shell.specs.Verbs.{Reads, takes, takes_on_chunk, alone, on_block, make, plain, single, on_token, with_bytes, pair, put, change};
+ghost use Rattle.geos_shell.specs.Reading.{Reads, command_has_bytes};
+ghost use Rattle.geos_shell.specs.Verbs.{takes, takes_on_chunk, alone, on_block, make, plain, single, on_token, with_bytes, pair, put, change};
 ghost use Rattle.geos_shell.specs.declared.shapes.OnChunk.TheVariants as on_chunks;
 ghost use Rattle.geos_shell.specs.declared.verbs.Verb.TheVariants as verbs;
 
-use crate::operands::{block, bytes, chunk, is_set, number, token, user_id};
+use crate::operands::{block, bytes, chunk, is_set, number, spells_bytes, token, user_id};
 use geos_model::{Bytes, ChunkHandle, Command, Edit, Fault, Token, VmHandle};
 use std::alloc::Global;
 
@@ -34,7 +35,7 @@ impl Alone {
     }
 
     pub(crate) fn read(self, operands: &[&[u8]]) -> Result<Command, Fault>
-        ensures { Reads (takes (verbs.Alone self) (map (λ w. w.now) operands.now)) result }
+        ensures { Reads command_has_bytes (takes (verbs.Alone self) (map (λ w. w.now) operands.now)) result }
     {
         let [] = operands else {
             return Err(Fault::BadCommand);
@@ -69,7 +70,7 @@ impl OnBlock {
     }
 
     pub(crate) fn read(self, operands: &[&[u8]]) -> Result<Command, Fault>
-        ensures { Reads (takes (verbs.Block self) (map (λ w. w.now) operands.now)) result }
+        ensures { Reads command_has_bytes (takes (verbs.Block self) (map (λ w. w.now) operands.now)) result }
     {
         let [first] = operands else {
             return Err(Fault::BadCommand);
@@ -98,7 +99,7 @@ impl Make {
     }
 
     pub(crate) fn read(self, operands: &[&[u8]]) -> Result<Command, Fault>
-        ensures { Reads (takes (verbs.Make self) (map (λ w. w.now) operands.now)) result }
+        ensures { Reads command_has_bytes (takes (verbs.Make self) (map (λ w. w.now) operands.now)) result }
     {
         let [first, second] = operands else {
             return Err(Fault::BadCommand);
@@ -122,7 +123,7 @@ pub(crate) enum OnChunk {
 
 impl OnChunk {
     pub(crate) fn read(self, alloc: Global, operands: &[&[u8]]) -> Result<Command, Fault>
-        ensures { Reads (takes (verbs.Chunk self) (map (λ w. w.now) operands.now)) result }
+        ensures { Reads command_has_bytes (takes (verbs.Chunk self) (map (λ w. w.now) operands.now)) result }
     {
         let [first, second, rest @ ..] = operands else {
             return Err(Fault::BadCommand);
@@ -137,7 +138,7 @@ impl OnChunk {
         chunk: ChunkHandle,
         rest: &[&[u8]],
     ) -> Result<Command, Fault>
-        ensures { Reads (takes_on_chunk self block chunk (map (λ w. w.now) rest.now)) result }
+        ensures { Reads command_has_bytes (takes_on_chunk self block chunk (map (λ w. w.now) rest.now)) result }
     {
         match self {
             Self::Plain(verb) => verb.read(block, chunk, rest),
@@ -176,7 +177,7 @@ impl Plain {
     }
 
     fn read(self, block: VmHandle, chunk: ChunkHandle, rest: &[&[u8]]) -> Result<Command, Fault>
-        ensures { Reads (takes_on_chunk (on_chunks.Plain self) block chunk (map (λ w. w.now) rest.now)) result }
+        ensures { Reads command_has_bytes (takes_on_chunk (on_chunks.Plain self) block chunk (map (λ w. w.now) rest.now)) result }
     {
         let [] = rest else {
             return Err(Fault::BadCommand);
@@ -205,7 +206,7 @@ impl Single {
     }
 
     fn read(self, block: VmHandle, chunk: ChunkHandle, rest: &[&[u8]]) -> Result<Command, Fault>
-        ensures { Reads (takes_on_chunk (on_chunks.Single self) block chunk (map (λ w. w.now) rest.now)) result }
+        ensures { Reads command_has_bytes (takes_on_chunk (on_chunks.Single self) block chunk (map (λ w. w.now) rest.now)) result }
     {
         let [third] = rest else {
             return Err(Fault::BadCommand);
@@ -248,7 +249,7 @@ impl OnToken {
     }
 
     fn read(self, block: VmHandle, chunk: ChunkHandle, rest: &[&[u8]]) -> Result<Command, Fault>
-        ensures { Reads (takes_on_chunk (on_chunks.Token self) block chunk (map (λ w. w.now) rest.now)) result }
+        ensures { Reads command_has_bytes (takes_on_chunk (on_chunks.Token self) block chunk (map (λ w. w.now) rest.now)) result }
     {
         let [third] = rest else {
             return Err(Fault::BadCommand);
@@ -281,7 +282,7 @@ impl WithBytes {
         chunk: ChunkHandle,
         rest: &[&[u8]],
     ) -> Result<Command, Fault>
-        ensures { Reads (takes_on_chunk (on_chunks.Bytes self) block chunk (map (λ w. w.now) rest.now)) result }
+        ensures { Reads command_has_bytes (takes_on_chunk (on_chunks.Bytes self) block chunk (map (λ w. w.now) rest.now)) result }
     {
         let [third] = rest else {
             return Err(Fault::BadCommand);
@@ -312,7 +313,7 @@ impl Pair {
     }
 
     fn read(self, block: VmHandle, chunk: ChunkHandle, rest: &[&[u8]]) -> Result<Command, Fault>
-        ensures { Reads (takes_on_chunk (on_chunks.Pair self) block chunk (map (λ w. w.now) rest.now)) result }
+        ensures { Reads command_has_bytes (takes_on_chunk (on_chunks.Pair self) block chunk (map (λ w. w.now) rest.now)) result }
     {
         let [third, fourth] = rest else {
             return Err(Fault::BadCommand);
@@ -347,7 +348,7 @@ impl Put {
         chunk: ChunkHandle,
         rest: &[&[u8]],
     ) -> Result<Command, Fault>
-        ensures { Reads (takes_on_chunk (on_chunks.Put self) block chunk (map (λ w. w.now) rest.now)) result }
+        ensures { Reads command_has_bytes (takes_on_chunk (on_chunks.Put self) block chunk (map (λ w. w.now) rest.now)) result }
     {
         let [third, fourth] = rest else {
             return Err(Fault::BadCommand);
@@ -380,7 +381,7 @@ impl Change {
         chunk: ChunkHandle,
         rest: &[&[u8]],
     ) -> Result<Command, Fault>
-        ensures { Reads (takes_on_chunk (on_chunks.Change self) block chunk (map (λ w. w.now) rest.now)) result }
+        ensures { Reads command_has_bytes (takes_on_chunk (on_chunks.Change self) block chunk (map (λ w. w.now) rest.now)) result }
     {
         let [third, fourth] = rest else {
             return Err(Fault::BadCommand);
@@ -396,18 +397,23 @@ fn add_name(
     chunk: ChunkHandle,
     rest: &[&[u8]],
 ) -> Result<Command, Fault>
-    ensures { Reads (takes_on_chunk on_chunks.AddName block chunk (map (λ w. w.now) rest.now)) result }
+    ensures { Reads command_has_bytes (takes_on_chunk on_chunks.AddName block chunk (map (λ w. w.now) rest.now)) result }
 {
     let [third, fourth, fifth] = rest else {
         return Err(Fault::BadCommand);
     };
+    let replace = is_set(fifth)?;
+    // A line that is no command takes no memory, not even for its first byte text.
+    if !spells_bytes(fourth) {
+        return Err(Fault::BadCommand);
+    }
     let name = bytes(alloc, third)?;
     let part = bytes(alloc, fourth)?;
-    Ok(Command::Edit(Edit::AddName(block, chunk, name, part, is_set(fifth)?)))
+    Ok(Command::Edit(Edit::AddName(block, chunk, name, part, replace)))
 }
 
 pub(crate) fn new_raw(operands: &[&[u8]]) -> Result<Command, Fault>
-    ensures { Reads (takes verbs.NewRaw (map (λ w. w.now) operands.now)) result }
+    ensures { Reads command_has_bytes (takes verbs.NewRaw (map (λ w. w.now) operands.now)) result }
 {
     let [first, second] = operands else {
         return Err(Fault::BadCommand);
@@ -416,7 +422,7 @@ pub(crate) fn new_raw(operands: &[&[u8]]) -> Result<Command, Fault>
 }
 
 pub(crate) fn new_heap(operands: &[&[u8]]) -> Result<Command, Fault>
-    ensures { Reads (takes verbs.NewHeap (map (λ w. w.now) operands.now)) result }
+    ensures { Reads command_has_bytes (takes verbs.NewHeap (map (λ w. w.now) operands.now)) result }
 {
     let [first] = operands else {
         return Err(Fault::BadCommand);
@@ -425,7 +431,7 @@ pub(crate) fn new_heap(operands: &[&[u8]]) -> Result<Command, Fault>
 }
 
 pub(crate) fn write_raw(alloc: Global, operands: &[&[u8]]) -> Result<Command, Fault>
-    ensures { Reads (takes verbs.WriteRaw (map (λ w. w.now) operands.now)) result }
+    ensures { Reads command_has_bytes (takes verbs.WriteRaw (map (λ w. w.now) operands.now)) result }
 {
     let [first, second, third] = operands else {
         return Err(Fault::BadCommand);
@@ -434,7 +440,7 @@ pub(crate) fn write_raw(alloc: Global, operands: &[&[u8]]) -> Result<Command, Fa
 }
 
 pub(crate) fn attach(alloc: Global, operands: &[&[u8]]) -> Result<Command, Fault>
-    ensures { Reads (takes verbs.Attach (map (λ w. w.now) operands.now)) result }
+    ensures { Reads command_has_bytes (takes verbs.Attach (map (λ w. w.now) operands.now)) result }
 {
     let [first, second] = operands else {
         return Err(Fault::BadCommand);
@@ -443,7 +449,7 @@ pub(crate) fn attach(alloc: Global, operands: &[&[u8]]) -> Result<Command, Fault
 }
 
 pub(crate) fn set_user_id(operands: &[&[u8]]) -> Result<Command, Fault>
-    ensures { Reads (takes verbs.SetUserId (map (λ w. w.now) operands.now)) result }
+    ensures { Reads command_has_bytes (takes verbs.SetUserId (map (λ w. w.now) operands.now)) result }
 {
     let [first, second] = operands else {
         return Err(Fault::BadCommand);
@@ -452,7 +458,7 @@ pub(crate) fn set_user_id(operands: &[&[u8]]) -> Result<Command, Fault>
 }
 
 pub(crate) fn create_array(operands: &[&[u8]]) -> Result<Command, Fault>
-    ensures { Reads (takes verbs.CreateArray (map (λ w. w.now) operands.now)) result }
+    ensures { Reads command_has_bytes (takes verbs.CreateArray (map (λ w. w.now) operands.now)) result }
 {
     let [first, second, third] = operands else {
         return Err(Fault::BadCommand);
@@ -461,7 +467,7 @@ pub(crate) fn create_array(operands: &[&[u8]]) -> Result<Command, Fault>
 }
 
 pub(crate) fn find(operands: &[&[u8]]) -> Result<Command, Fault>
-    ensures { Reads (takes verbs.Find (map (λ w. w.now) operands.now)) result }
+    ensures { Reads command_has_bytes (takes verbs.Find (map (λ w. w.now) operands.now)) result }
 {
     let [first, second] = operands else {
         return Err(Fault::BadCommand);

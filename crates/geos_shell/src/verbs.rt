@@ -1,4 +1,5 @@
-ghost use Rattle.std.specs.Prelude.{◌≡◌, ◌⊎◌, None, Some, IfOk, IfErr, MatchOption, List, ℕ, map};
+ghost use Rattle.std.specs.Prelude.{◌≡◌, None, MatchOption, List, ℕ, map};
+ghost use Rattle.geos_shell.specs.Reading.{Reads, command_has_bytes};
 ghost use Rattle.geos_shell.specs.Verbs.{command_named, rows, takes};
 ghost use Rattle.geos_model.specs.Script.{by_name};
 
@@ -118,8 +119,7 @@ fn look_up(table: &[(&[u8], Verb)], name: &[u8]) -> Option<Verb>
 
 /// The command that a verb and its operands are.
 pub(crate) fn command_of(alloc: Global, verb: Verb, operands: &[&[u8]]) -> Result<Command, Fault>
-    ensures ok { IfOk result (λ c. takes verb (map (λ w. w.now) operands.now) ≡ Some c) }
-    ensures err { IfErr result (λ fault. (fault ≡ Fault.Memory) ⊎ ((fault ≡ Fault.BadCommand) × (takes verb (map (λ w. w.now) operands.now) ≡ None))) }
+    ensures { Reads command_has_bytes (takes verb (map (λ w. w.now) operands.now)) result }
 {
     match verb {
         Verb::NewRaw => shapes::new_raw(operands),

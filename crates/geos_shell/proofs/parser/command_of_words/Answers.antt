@@ -1,19 +1,18 @@
-use Rattle.std.proofs.Common.{◌∙◌, refl, inr}
-use Rattle.geos_shell.proofs.Names.{command_of_words-split}
-use Rattle.geos_shell.proofs.Outcome.{same_ok, same_err}
+use Rattle.std.proofs.Common.{refl, inl, subst, sym, ap, ◌∙◌}
+use Rattle.geos_shell.specs.Reading.{Reads, command_has_bytes}
+use Rattle.geos_shell.specs.Verbs.{takes}
+use Rattle.geos_shell.proofs.Counted.{takes_first}
+use Rattle.geos_shell.proofs.Names.{named_by_first}
 use Rattle.geos_shell.proofs.parser.command_of_words.Goals as goal
 
-pub returns-in-Some-named-clause-ok : goal.returns-in-Some-named-clause-ok
-returns-in-Some-named-clause-ok c =
-    let named = command_of_words-split c.args.words.now c.in-Some.name.now c.in-Some.operands.now c.in-Some.ensures.cases.0 c.if-starts_with.ensures.value in
-    same_ok c.command_of.result _ _ (named ∙ c.in-Some-named.ensures _) c.command_of.ensures.ok
+pub returns-in-Some-named : goal.returns-in-Some-named
+returns-in-Some-named c words front =
+    let verb = c.in-Some-named.verb in
+    let n = named_by_first c.args.first.now c.in-Some.name.now c.in-Some.operands.now words c.in-Some.ensures.cases.0 c.if-starts_with.ensures.value front in
+    let same = ap (takes verb) n.front ∙ takes_first verb n.operands ∙ sym (c.in-Some-named.ensures n.operands) ∙ sym n.named in
+    subst (λ o. Reads command_has_bytes o c.command_of.result) same c.command_of.ensures
 
-pub returns-in-Some-named-clause-err : goal.returns-in-Some-named-clause-err
-returns-in-Some-named-clause-err c =
-    let named = command_of_words-split c.args.words.now c.in-Some.name.now c.in-Some.operands.now c.in-Some.ensures.cases.0 c.if-starts_with.ensures.value in
-    same_err c.command_of.result _ _ (named ∙ c.in-Some-named.ensures _) c.command_of.ensures.err
-
-pub returns-in-None-clause-err : goal.returns-in-None-clause-err
-returns-in-None-clause-err c =
-    let named = command_of_words-split c.args.words.now c.in-Some.name.now c.in-Some.operands.now c.in-Some.ensures.cases.0 c.if-starts_with.ensures.value in
-    inr (refl, named ∙ c.in-None.ensures _)
+pub returns-in-None : goal.returns-in-None
+returns-in-None c words front =
+    let n = named_by_first c.args.first.now c.in-Some.name.now c.in-Some.operands.now words c.in-Some.ensures.cases.0 c.if-starts_with.ensures.value front in
+    inl (refl, n.named ∙ c.in-None.ensures n.operands)

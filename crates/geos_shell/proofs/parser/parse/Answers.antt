@@ -1,21 +1,25 @@
-use Rattle.std.proofs.Common.{◌≡◌, ◌∙◌, sym, ap, map, List, ℕ, Bor, arith, refl, inr}
-use Rattle.geos_model.specs.Script.{command, command_of_words}
-use Rattle.geos_shell.proofs.Outcome.{same_ok, same_err}
+use Rattle.std.proofs.Common.{◌∙◌, sym, ap, map, List, ℕ, Bor, arith, refl, subst}
+use Rattle.geos_model.specs.Script.{command, words}
+use Rattle.geos_shell.specs.Reading.{Reads, command_has_bytes}
+use Rattle.geos_shell.proofs.Outcome.{reads_ok, reads_bad, reads_memory}
 use Rattle.geos_shell.proofs.Words.{command-long, command-short}
 use Rattle.geos_shell.proofs.parser.parse.Goals as goal
 
-pub returns-then-line-gt-LONGEST_LINE-clause-err : goal.returns-then-line-gt-LONGEST_LINE-clause-err
-returns-then-line-gt-LONGEST_LINE-clause-err c = inr (refl, command-long c.args.line.now (omega arith))
+pub returns-then-line-gt-LONGEST_LINE-clause-bad : goal.returns-then-line-gt-LONGEST_LINE-clause-bad
+returns-then-line-gt-LONGEST_LINE-clause-bad c = (λ e. command-long c.args.line.now (omega arith), λ none. refl)
 
--- the line's command is that of its words
-of_its_words : (c : goal.After-drop-branch)
-    → command c.args.line.now ≡ command_of_words (map (λ (w : Bor (List ℕ)). w.now) c.as_slice.result.now)
-of_its_words c =
-    command-short c.args.line.now (omega arith)
-    ∙ ap command_of_words (sym c.in_ok-words.ensures ∙ ap (map (λ (w : Bor (List ℕ)). w.now)) (sym c.as_slice.ensures.value))
+-- what was read is the line's command
+reads : (c : goal.After-command_of_words) → Reads command_has_bytes (command c.args.line.now) c.command_of_words.result
+reads c =
+    let line = c.args.line.now in
+    let front = ap (map (λ (w : Bor (List ℕ)). w.now)) c.as_slice.ensures.value ∙ c.first_words.ensures in
+    subst (λ o. Reads command_has_bytes o c.command_of_words.result) (sym (command-short line (omega arith))) (c.command_of_words.ensures (words line) front)
 
 pub returns-clause-ok : goal.returns-clause-ok
-returns-clause-ok c = same_ok c.command_of_words.result _ _ (of_its_words c) c.command_of_words.ensures.ok
+returns-clause-ok c = reads_ok _ c.command_of_words.result (reads c)
 
-pub returns-clause-err : goal.returns-clause-err
-returns-clause-err c = same_err c.command_of_words.result _ _ (of_its_words c) c.command_of_words.ensures.err
+pub returns-clause-bad : goal.returns-clause-bad
+returns-clause-bad c = reads_bad _ c.command_of_words.result (reads c)
+
+pub returns-clause-memory : goal.returns-clause-memory
+returns-clause-memory c = reads_memory _ c.command_of_words.result (reads c)

@@ -1,10 +1,10 @@
-use Rattle.std.proofs.Common.{◌∙◌, refl, sym, inr}
+use Rattle.std.proofs.Common.{◌∙◌, refl, sym, inl}
 use Rattle.geos_shell.proofs.Outcome.{spelled}
 use Rattle.geos_shell.proofs.Taken.{on_chunk_spelled, too_few}
 use Rattle.geos_shell.proofs.shapes.OnChunk.read.Goals as goal
 
 pub returns-in_default : goal.returns-in_default
-returns-in_default c = inr (refl, too_few c.args.self c.args.operands.now c.in_default.len_below)
+returns-in_default c = inl (refl, too_few c.args.self c.args.operands.now c.in_default.len_below)
 
 pub returns : goal.returns
 returns c =

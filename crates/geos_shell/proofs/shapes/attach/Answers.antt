@@ -1,0 +1,14 @@
+use Rattle.std.proofs.Common.{sym, ◌∙◌}
+use Rattle.std.proofs.lemmas.Result.{err_from_is_err_and}
+use Rattle.geos_model.specs.Script.{block}
+use Rattle.geos_shell.proofs.Failing.{fails_2}
+use Rattle.geos_shell.proofs.Outcome.{spelled}
+use Rattle.geos_shell.proofs.shapes.attach.Goals as goal
+
+pub returns-in_err-bytes : goal.returns-in_err-bytes
+returns-in_err-bytes c =
+    let r = c.from_residual-in_err-bytes in
+    let p = err_from_is_err_and r.result r.ensures.1 in
+    rw (p.1, p.2)
+    (fails_2 block block _ c.args.operands.now _ _ _ c.in-len2.len_at_least c.in-len2.len_below
+    (spelled _ _ (sym c.in_ok-block.was ∙ c.block.ensures)) (λ bs has. has) c.in_err-bytes.ensures)

@@ -1,0 +1,38 @@
+-- What reading a command answers.
+use Rattle.std.specs.Prelude.{◌≡◌, ◌⊎◌, ℕ, List, [], ◌∷◌, Bool, true, false, ◌||◌, Option, Some, None, IsSomeAnd, IsTrue, Result, MatchResult}
+use Rattle.geos_model.specs.declared.fault.Fault.{Fault}
+use Rattle.geos_model.specs.declared.fault.Fault.TheVariants as faults
+use Rattle.geos_model.specs.declared.command.Edit.{Edit}
+use Rattle.geos_model.specs.declared.command.Edit.TheVariants as edits
+use Rattle.geos_model.specs.declared.command.Command.{Command}
+use Rattle.geos_model.specs.declared.command.Command.TheVariants as commands
+
+abbrev pub has_bytes : List ℕ → Bool
+has_bytes [] = false
+has_bytes (x ∷ xs) = true
+
+abbrev pub edit_has_bytes : Edit → Bool
+edit_has_bytes (edits.WriteRaw b at bytes) = has_bytes bytes
+edit_has_bytes (edits.Attach b bytes) = has_bytes bytes
+edit_has_bytes (edits.Write b c at bytes) = has_bytes bytes
+edit_has_bytes (edits.InsertElement b c i element) = has_bytes element
+edit_has_bytes (edits.SetElement b c i element) = has_bytes element
+edit_has_bytes (edits.AddElement b c element) = has_bytes element
+edit_has_bytes (edits.ChangeElement b c t element) = has_bytes element
+edit_has_bytes (edits.AddName b c name part replace) = has_bytes name || has_bytes part
+edit_has_bytes (edits.ChangeName b c t name) = has_bytes name
+edit_has_bytes _ = false
+
+-- Whether a command has bytes to be kept: reading it takes memory for these and for nothing else.
+abbrev pub command_has_bytes : Command → Bool
+command_has_bytes (commands.Edit e) = edit_has_bytes e
+command_has_bytes (commands.NameFind b c name) = has_bytes name
+command_has_bytes _ = false
+
+-- why reading fails: BadCommand where nothing is meant, or Memory where what is meant has bytes
+abbrev pub Fails : {A : Type 0} → (A → Bool) → Option A → Fault → Type 0
+Fails has meant fault = ((fault ≡ faults.BadCommand) × (meant ≡ None)) ⊎ ((fault ≡ faults.Memory) × IsSomeAnd meant (λ x. IsTrue (has x)))
+
+-- what reading answers: what is meant, or why it fails
+abbrev pub Reads : {A : Type 0} → (A → Bool) → Option A → Result A Fault → Type 0
+Reads has meant result = MatchResult result (λ x. meant ≡ Some x) (Fails has meant)
