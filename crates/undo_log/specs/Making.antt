@@ -2,6 +2,7 @@
 use Rattle.std.specs.Prelude.{◌≡◌, ◌⊎◌, ◌<◌, ◌≤◌, ◌+◌, ◌++◌, ℕ, List, None, Some, length}
 use Rattle.geos_model.specs.Refusal.{Conditions, first_refusal}
 use Rattle.geos_model.specs.ArrayEdits.{too_long}
+use Rattle.geos_model.specs.Heap.{longest_chunk}
 use Rattle.geos_model.specs.Document.{Document}
 use Rattle.geos_model.specs.Meaning.{conditions, effect, chunk_at, with_chunk, makes_chunk, on_new_bytes, on_new_chunk}
 use Rattle.geos_model.specs.Cost.{cost, both_lengths}
@@ -71,4 +72,4 @@ pub record MakesChunk (edit : Edit) (d : Document) (b : VmHandle) (own : Conditi
 -- The splice is one of a part of these bytes, and what it makes of them is no longer than any chunk.
 pub record IsBuilt (s : Splice) (bytes : List ℕ) : Type 0 where
   pub within : s.at + length s.old ≤ length bytes
-  pub short : length (forwards s bytes) ≤ 65498
+  pub short : length (forwards s bytes) ≤ longest_chunk

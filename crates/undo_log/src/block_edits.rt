@@ -46,7 +46,7 @@ pub fn make_raw(
 
 /// A raw body of zeros.
 fn zeros(alloc: Global, size: usize) -> Result<RawBody, AllocError>
-    requires { size ≤ 65520 }
+    requires { size ≤ SIZE }
     ensures { IfOk result (λ body. body ≡ replicate size 0) }
 {
     let mut body = RawBody::new(alloc)?;
