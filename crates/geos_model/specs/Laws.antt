@@ -6,7 +6,7 @@ use Rattle.geos_model.specs.Words.{word}
 use Rattle.geos_model.specs.Array.{Array, array_bytes, array_of, is_even}
 use Rattle.geos_model.specs.ElementArray.{Slots, is_sound, element_bytes, element_array_of}
 use Rattle.geos_model.specs.NameArray.{NameArray, is_sound_names, name_bytes, name_array_of}
-use Rattle.geos_model.specs.Heap.{ChunkMap, is_heap_map, fits_new, longest_chunk}
+use Rattle.geos_model.specs.Heap.{ChunkMap, capacity, is_heap_map, fits_new, longest_chunk}
 use Rattle.geos_model.specs.Document.{Document, IsValid, is_valid_body}
 use Rattle.geos_model.specs.Meaning.{chunk_at}
 use Rattle.geos_model.specs.Image.{image, body_read}
@@ -36,7 +36,7 @@ abbrev pub ImageLaw : Type 0
 ImageLaw =
     ((a b : Body) → is_valid_body a ≡ true → is_valid_body b ≡ true → image a ≡ image b → a ≡ b)
     × ((b : Body) → is_valid_body b ≡ true → body_read (image b) ≡ b)
-    × ((b : Body) → is_valid_body b ≡ true → length (image b) ≤ 65521)
+    × ((b : Body) → is_valid_body b ≡ true → length (image b) ≤ capacity + 1)
 
 -- What is read as an array is the bytes of that one, and one that isn't too long is read back from its bytes.
 abbrev pub ArrayLaw : Type 0
