@@ -2,7 +2,9 @@
 use dialogues::{Departure, hold};
 
 #[test]
-fn references_are_counted_and_a_freed_token_is_taken_again(rt: HostRuntime) -> Result<(), Departure> {
+fn references_are_counted_and_a_freed_token_is_taken_again(
+    rt: HostRuntime,
+) -> Result<(), Departure> {
     hold(
         rt.alloc(),
         "

@@ -52,7 +52,9 @@ fn a_freed_chunk_handle_is_taken_again_and_undone(rt: HostRuntime) -> Result<(),
 }
 
 #[test]
-fn undo_of_free_gives_the_chunk_back_under_its_own_handle(rt: HostRuntime) -> Result<(), Departure> {
+fn undo_of_free_gives_the_chunk_back_under_its_own_handle(
+    rt: HostRuntime,
+) -> Result<(), Departure> {
     hold(
         rt.alloc(),
         "
@@ -78,7 +80,9 @@ fn undo_of_free_gives_the_chunk_back_under_its_own_handle(rt: HostRuntime) -> Re
 }
 
 #[test]
-fn bytes_are_inserted_deleted_and_cut_and_all_of_it_is_undone(rt: HostRuntime) -> Result<(), Departure> {
+fn bytes_are_inserted_deleted_and_cut_and_all_of_it_is_undone(
+    rt: HostRuntime,
+) -> Result<(), Departure> {
     hold(
         rt.alloc(),
         "
@@ -162,7 +166,9 @@ fn what_does_not_fit_a_heap_is_refused_as_full(rt: HostRuntime) -> Result<(), De
 }
 
 #[test]
-fn edits_of_chunks_ask_first_for_the_block_then_its_kind_then_the_chunk(rt: HostRuntime) -> Result<(), Departure> {
+fn edits_of_chunks_ask_first_for_the_block_then_its_kind_then_the_chunk(
+    rt: HostRuntime,
+) -> Result<(), Departure> {
     hold(
         rt.alloc(),
         "

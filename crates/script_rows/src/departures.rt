@@ -13,12 +13,17 @@ fn a_told_text_is_a_script_and_its_replies(rt: HostRuntime) -> Result<(), Fail> 
 
 #[test]
 fn a_reply_that_differs_is_shown(rt: HostRuntime) -> Result<(), Fail> {
-    match hold(rt.alloc(), "newraw 0 1 = block 0001\nvread 0001 = bytes 00*2") {
-        Err(Departure::Reply {
-            number,
-            wanted,
-            given,
-        }) => {
+    match hold(
+        rt.alloc(),
+        "newraw 0 1 = block 0001\nvread 0001 = bytes 00*2",
+    ) {
+        Err(
+            Departure::Reply {
+                number,
+                wanted,
+                given,
+            },
+        ) => {
             assert_eq!(rt; number, 1);
             assert_eq!(rt; wanted.as_str(), "bytes 0000");
             assert_eq!(rt; given.as_str(), "bytes 00");
@@ -30,7 +35,15 @@ fn a_reply_that_differs_is_shown(rt: HostRuntime) -> Result<(), Fail> {
 
 #[test]
 fn a_reply_too_many_or_too_few_is_noticed(rt: HostRuntime) {
-    for text in ["list", "# note = ok", "list = blocks\nlist", "list = blocks\n# note = ok"] {
-        assert!(rt; matches!(hold(rt.alloc(), text), Err(Departure::ReplyCount)), "{text}");
+    for text in [
+        "list",
+        "# note = ok",
+        "list = blocks\nlist",
+        "list = blocks\n# note = ok",
+    ] {
+        assert!(rt;
+            matches!(hold(rt.alloc(), text), Err(Departure::ReplyCount)),
+            "{text}"
+        );
     }
 }

@@ -2,7 +2,9 @@
 use dialogues::{Departure, Dialogue, hold};
 
 #[test]
-fn a_refused_edit_of_a_missing_block_leaves_what_can_be_redone(rt: HostRuntime) -> Result<(), Departure> {
+fn a_refused_edit_of_a_missing_block_leaves_what_can_be_redone(
+    rt: HostRuntime,
+) -> Result<(), Departure> {
     hold(
         rt.alloc(),
         "
