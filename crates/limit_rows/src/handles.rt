@@ -30,9 +30,7 @@ fn all_blocks_are_listed_and_the_last_is_found(rt: HostRuntime) -> Result<(), De
 }
 
 #[test]
-fn a_heap_has_room_for_an_empty_chunk_under_each_handle(
-    rt: HostRuntime,
-) -> Result<(), Departure> {
+fn a_heap_has_room_for_an_empty_chunk_under_each_handle(rt: HostRuntime) -> Result<(), Departure> {
     let mut dialogue = Dialogue::new(rt.alloc());
     dialogue.say("newheap 0", "block 0001")?;
     let mut chunks = String::from_str(rt.alloc(), "chunks")?;
