@@ -81,25 +81,23 @@ impl Dialogue {
         self.put("\n", "\n")
     }
 
-    /// Lines, each a command, then ` = ` and its reply, or one that gets no reply. Blanks round each are left out. In a word
+    /// Lines, each a command, then ` = ` and its reply, or one that gets no reply. Spaces round each are left out. In a word
     /// `61+00*4` stands for `6100000000`.
     pub fn tell(&mut self, text: &str) -> Result<(), AllocError> {
         for line in text.lines() {
             match line.split_once(" = ") {
-                Some((command, reply)) => self.tell_one(command.trim(), reply.trim())?,
+                Some((command, reply)) => {
+                    push_told(&mut self.script, command)?;
+                    push_told(&mut self.replies, reply)?;
+                    self.put("\n", "\n")?;
+                }
                 None => {
-                    self.put(line.trim(), "")?;
+                    push_told(&mut self.script, line)?;
                     self.put("\n", "")?;
                 }
             }
         }
         Ok(())
-    }
-
-    fn tell_one(&mut self, command: &str, reply: &str) -> Result<(), AllocError> {
-        push_told(&mut self.script, command)?;
-        push_told(&mut self.replies, reply)?;
-        self.put("\n", "\n")
     }
 
     /// The text of the script.

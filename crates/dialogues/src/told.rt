@@ -1,9 +1,9 @@
 //! Texts in which a word may say how often its parts stand.
 use std::alloc::AllocError;
 
-/// Puts in a text, each word of it told out.
+/// Puts in a text, each word of it told out, but for the spaces round it.
 pub(crate) fn push_told(out: &mut String, text: &str) -> Result<(), AllocError> {
-    for (i, word) in text.split(' ').enumerate() {
+    for (i, word) in text.trim_matches(' ').split(' ').enumerate() {
         if i != 0 {
             out.push(' ')?;
         }
