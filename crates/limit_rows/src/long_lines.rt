@@ -55,7 +55,9 @@ fn a_line_of_the_greatest_length_is_carried_out(rt: HostRuntime) -> Result<(), D
 }
 
 #[test]
-fn a_note_or_a_blank_line_is_a_bad_command_where_it_is_too_long(rt: HostRuntime) -> Result<(), Departure> {
+fn a_note_or_a_blank_line_is_a_bad_command_where_it_is_too_long(
+    rt: HostRuntime,
+) -> Result<(), Departure> {
     hold(
         rt.alloc(),
         "
