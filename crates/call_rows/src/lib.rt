@@ -1,0 +1,15 @@
+//! Tests of calls that no script reaches: regions, heaps, splices, views of arrays, images and tables of blocks.
+#![tactic(auto)]
+
+#[cfg(test)]
+mod arrays;
+#[cfg(test)]
+mod calls;
+#[cfg(test)]
+mod heaps;
+#[cfg(test)]
+mod memory;
+#[cfg(test)]
+mod regions;
+#[cfg(test)]
+mod splices;

@@ -1,0 +1,156 @@
+//! A dialogue, and whether a run goes as it is written.
+ghost use Rattle.std.specs.Prelude.{◌≡◌, ◌++◌, ◌∷◌, [], OnOk};
+ghost use Rattle.geos_model.specs.Script.{line_feed};
+ghost use Rattle.dialogues.specs.Dialogues.{Goes};
+
+use crate::told::push_told;
+use geos_shell::{RunFault, run};
+use std::alloc::{AllocError, Global};
+use std::marker::Model;
+use undo_log::Session;
+
+/// Why a run did not go as the dialogue is written.
+#[derive(Debug, Drop)]
+pub enum Departure {
+    /// Memory ran out.
+    Memory,
+    /// The run ended before the script did.
+    Run(RunFault),
+    /// The first reply that differs: its number from 0 on, the one that is wanted and the one that came.
+    Reply {
+        number: usize,
+        wanted: String,
+        given: String,
+    },
+    /// There are too many replies or too few, or they are cut off.
+    ReplyCount,
+}
+
+impl From<AllocError> for Departure {
+    fn from(_: AllocError) -> Departure {
+        Departure::Memory
+    }
+}
+
+impl From<RunFault> for Departure {
+    fn from(fault: RunFault) -> Departure {
+        Departure::Run(fault)
+    }
+}
+
+/// The lines of a script, and the replies that they must get. Contracts see it as the bytes of both.
+#[derive(Drop)]
+pub struct Dialogue {
+    alloc: Global,
+    script: String,
+    replies: String,
+}
+
+impl Model for Dialogue {
+    ghost use Rattle.std.specs.Prelude.{List, ℕ, string_bytes};
+
+    ghost Value = { List ℕ × List ℕ };
+
+    ghost view = { λ d. (string_bytes d.script, string_bytes d.replies) };
+}
+
+impl Dialogue {
+    pub fn new(alloc: Global) -> Self
+        ensures { result ≡ ([], []) }
+    {
+        Dialogue {
+            alloc,
+            script: String::new(alloc),
+            replies: String::new(alloc),
+        }
+    }
+
+    /// Text behind the script, and behind the replies, as it stands.
+    pub fn put(&mut self, script: &str, replies: &str) -> Result<(), AllocError>
+        ensures { OnOk result (self.new ≡ (self.old.0 ++ script.now, self.old.1 ++ replies.now)) }
+    {
+        self.script.push_str(script)?;
+        self.replies.push_str(replies)
+    }
+
+    /// A command and its reply.
+    pub fn say(&mut self, command: &str, reply: &str) -> Result<(), AllocError>
+        ensures { OnOk result (self.new ≡ ((self.old.0 ++ command.now) ++ line_feed ∷ [], (self.old.1 ++ reply.now) ++ line_feed ∷ [])) }
+    {
+        self.put(command, reply)?;
+        self.put("\n", "\n")
+    }
+
+    /// Lines, each a command, then ` = ` and its reply, or one that gets no reply. Spaces round each are left out. In a word
+    /// `61+00*4` stands for `6100000000`.
+    pub fn tell(&mut self, text: &str) -> Result<(), AllocError> {
+        for line in text.lines() {
+            match line.split_once(" = ") {
+                Some((command, reply)) => {
+                    push_told(&mut self.script, command)?;
+                    push_told(&mut self.replies, reply)?;
+                    self.put("\n", "\n")?;
+                }
+                None => {
+                    push_told(&mut self.script, line)?;
+                    self.put("\n", "")?;
+                }
+            }
+        }
+        Ok(())
+    }
+
+    /// The text of the script.
+    pub fn script(&self) -> &str
+        ensures { result.now ≡ self.now.0 }
+    {
+        self.script.as_str()
+    }
+
+    /// The text of the replies.
+    pub fn replies(&self) -> &str
+        ensures { result.now ≡ self.now.1 }
+    {
+        self.replies.as_str()
+    }
+
+    /// Runs the script on an empty document, and compares the replies.
+    pub fn hold(&self) -> Result<(), Departure>
+        ensures { OnOk result (Goes self.now.0 self.now.1) }
+    {
+        let session = Session::new(self.alloc)?;
+        let mut written = Vec::new(self.alloc);
+        run(
+            self.alloc,
+            session,
+            &mut self.script.as_bytes(),
+            &mut written,
+        )?;
+        if written.as_slice() == self.replies.as_bytes() {
+            return Ok(());
+        }
+        Err(first_departure(self.alloc, &self.replies, &written)?)
+    }
+}
+
+/// Runs a dialogue that is told in lines, as by `tell`.
+pub fn hold(alloc: Global, text: &str) -> Result<(), Departure> {
+    let mut dialogue = Dialogue::new(alloc);
+    dialogue.tell(text)?;
+    dialogue.hold()
+}
+
+// Finds the first reply that differs.
+fn first_departure(alloc: Global, wanted: &str, given: &[u8]) -> Result<Departure, AllocError> {
+    let given = String::from_utf8_lossy(alloc, given)?;
+    for (number, (want, give)) in wanted.lines().zip(given.lines()).enumerate() {
+        if want != give {
+            return Ok(Departure::Reply {
+                number,
+                wanted: want.to_string(alloc)?,
+                given: give.to_string(alloc)?,
+            });
+        }
+    }
+    Ok(Departure::ReplyCount)
+}

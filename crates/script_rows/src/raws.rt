@@ -1,0 +1,145 @@
+// Scripts of raw blocks, each with the replies that it must get.
+use dialogues::{Departure, Dialogue, hold};
+
+#[test]
+fn a_refused_edit_of_a_missing_block_leaves_what_can_be_redone(
+    rt: HostRuntime,
+) -> Result<(), Departure> {
+    hold(
+        rt.alloc(),
+        "
+        newraw 0 1       = block 0001
+        undo             = ok
+        vwrite 0009 0 61 = no 5 NoBlock
+        redo             = ok
+        vwrite 0001 0 61 = ok
+        redo             = no 23 NothingToRedo
+        vwrite 0001 1 61 = no 11 Range
+        ",
+    )
+}
+
+#[test]
+fn blocks_are_attached_copied_found_and_freed_together(rt: HostRuntime) -> Result<(), Departure> {
+    hold(
+        rt.alloc(),
+        "
+        newraw 9 2         = block 0001
+        attach 0001 616263 = ok
+        vcopy 0001         = block 0002
+        uid 0002 10        = ok
+        find 9 0000        = block 0001
+        find 9 0001        = block 0000
+        find 10 0000       = block 0002
+        map 0002           = ok
+        vfree 0002         = no 18 IsMap
+        vfree 0001         = ok
+        undo               = ok
+        info 0001          = raw 9 3
+        mapblock           = block 0002
+        undos              = number 5
+        redos              = number 1
+        ",
+    )
+}
+
+#[test]
+fn raw_bytes_are_written_replaced_and_undone(rt: HostRuntime) -> Result<(), Departure> {
+    hold(
+        rt.alloc(),
+        "
+        newraw 7 4             = block 0001
+        vread 0001             = bytes 00000000
+        vwrite 0001 1 6162     = ok
+        vread 0001             = bytes 00616200
+        attach 0001 -          = ok
+        info 0001              = raw 7 0
+        vread 0001             = bytes -
+        vwrite 0001 0 -        = ok
+        vwrite 0001 1 -        = no 11 Range
+        vwrite 0001 0 61       = no 11 Range
+        attach 0001 7172737475 = ok
+        vwrite 0001 4 79       = ok
+        vwrite 0001 4 797a     = no 11 Range
+        vread 0001             = bytes 7172737479
+        undo                   = ok
+        vread 0001             = bytes 7172737475
+        undo                   = ok
+        undo                   = ok
+        undo                   = ok
+        vread 0001             = bytes 00616200
+        undo                   = ok
+        vread 0001             = bytes 00000000
+        redo                   = ok
+        redo                   = ok
+        redo                   = ok
+        redo                   = ok
+        redo                   = ok
+        vread 0001             = bytes 7172737479
+        undos                  = number 6
+        ",
+    )
+}
+
+#[test]
+fn raw_edits_ask_first_for_the_block_then_its_kind(rt: HostRuntime) -> Result<(), Departure> {
+    hold(
+        rt.alloc(),
+        "
+        vread 0001            = no 5 NoBlock
+        attach 0001 -         = no 5 NoBlock
+        newheap 0             = block 0001
+        vread 0001            = no 7 WrongKind
+        vwrite 0001 9999999 - = no 7 WrongKind
+        attach 0001 61        = no 7 WrongKind
+        vread 0801            = no 5 NoBlock
+        undos                 = number 1
+        ",
+    )
+}
+
+#[test]
+fn raw_bodies_and_block_handles_end_at_their_limits(rt: HostRuntime) -> Result<(), Departure> {
+    let mut dialogue = Dialogue::new(rt.alloc());
+    dialogue.tell(
+        "
+        newraw 0 65521 = no 9 TooBig
+        newraw 0 65520 = block 0001
+        ",
+    )?;
+    for i in 2..2_049_u32 {
+        let reply = format!(in rt.alloc(); "block {i:04x}")?;
+        dialogue.say("newraw 0 0", &reply)?;
+    }
+    dialogue.tell(
+        "
+        newraw 0 0           = no 10 NoHandles
+        newheap 0            = no 10 NoHandles
+        newraw 0 65521       = no 9 TooBig
+        vcopy 0002           = no 10 NoHandles
+        vwrite 0001 65520 -  = ok
+        vwrite 0001 65520 61 = no 11 Range
+        info 0001            = raw 0 65520
+        vfree 0800           = ok
+        newraw 5 1           = block 0800
+        ",
+    )?;
+    dialogue.hold()
+}
+
+#[test]
+fn a_body_of_the_greatest_size_is_attached_and_one_byte_more_is_not(
+    rt: HostRuntime,
+) -> Result<(), Departure> {
+    hold(
+        rt.alloc(),
+        "
+        newraw 3 1           = block 0001
+        attach 0001 61*65520 = ok
+        info 0001            = raw 3 65520
+        attach 0001 61*65521 = no 9 TooBig
+        undo                 = ok
+        info 0001            = raw 3 1
+        ",
+    )
+}
