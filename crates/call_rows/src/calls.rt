@@ -1,5 +1,8 @@
 // Faults, laws, images, and documents of blocks.
-use geos_model::{Fault, VmHandle, image_law, redo_law, undo_law, word_law};
+use geos_model::{
+    Fault, VmHandle, chunk_edits_law, chunk_law, image_law, number_law, redo_law, undo_law,
+    validity_law, word_law,
+};
 use lmem_heap::Heap;
 use std::test::Fail;
 use vm_blocks::{Block, BlockBody, Blocks, SavedBlock};
@@ -12,7 +15,11 @@ fn a_fault_has_a_number_and_a_name(rt: HostRuntime) {
     assert_eq!(rt; Fault::Worn.number(), 27);
     assert_eq!(rt; Fault::NothingToUndo.name(), "NothingToUndo");
     word_law();
+    number_law();
     image_law();
+    chunk_law();
+    chunk_edits_law();
+    validity_law();
     undo_law();
     redo_law();
 }
@@ -47,16 +54,16 @@ fn blocks_are_put_changed_and_saved(rt: HostRuntime) -> Result<(), Fail> {
     let mut blocks = Blocks::new(rt.alloc())?;
     assert_eq!(rt; blocks.next_handle(), Some(BLOCK));
     let body = BlockBody::Heap(Heap::new(rt.alloc())?);
-    blocks.put(BLOCK, Some(Block { user_id: 7, body }));
+    blocks.put(BLOCK, Some(Block::new(7, body)));
     assert_eq!(rt; blocks.list()?.as_slice(), [BLOCK].as_slice());
     assert_eq!(rt; blocks.next_handle(), Some(VmHandle(2)));
     assert!(rt; blocks.block(VmHandle(2)).is_none());
     assert_eq!(rt; blocks.find(7, VmHandle(0)), Some(BLOCK));
-    blocks.set_map(BLOCK);
-    assert_eq!(rt; blocks.map_block(), BLOCK);
     let block = blocks.block(BLOCK).ok_or("no block")?;
     let saved = SavedBlock::of(rt.alloc(), block)?;
     assert_eq!(rt; saved.restore(rt.alloc())?.user_id, 7);
     assert_eq!(rt; saved.image_len(), 3);
+    blocks.set_map(BLOCK);
+    assert_eq!(rt; blocks.map_block(), BLOCK);
     Ok(())
 }
