@@ -40,4 +40,3 @@ valid-changed_body (changes.FilledChunk c bytes) (Raw body) valid allows = absur
 valid-changed_body (changes.FilledChunk c bytes) (Heap m) valid allows = heap-insert m c.0 bytes valid allows.handle allows.fits
 valid-changed_body (changes.FreeChunk c) (Raw bytes) valid allows = absurd allows
 valid-changed_body (changes.FreeChunk c) (Heap m) valid allows = heap-remove m c.0 valid
-

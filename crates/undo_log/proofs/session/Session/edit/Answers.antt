@@ -14,7 +14,7 @@ invariant_of-self-2 c =
     let undo = reverse c.self.inside.undo.items in
     let valid : IsValid new = subst IsValid (sym made.document) (effect-valid c.args.edit.now old made.word c.self.invariant.2.valid.document made.accepted) in
     let pushed : reverse c.push_reserved.new.self.items ≡ c.in_ok-done.record ∷ undo =
-        ap reverse (c.push_reserved.ensures.items ∙ ap (λ (rs : List Record). rs ++ c.in_ok-done.record ∷ []) c.in_ok-reserve.ensures.items) ∙ reverse-append c.self.inside.undo.items (c.in_ok-done.record ∷ []) in
+    ap reverse (c.push_reserved.ensures.items ∙ ap (λ (rs : List Record). rs ++ c.in_ok-done.record ∷ []) c.in_ok-reserve.ensures.items) ∙ reverse-append c.self.inside.undo.items (c.in_ok-done.record ∷ []) in
     let steps = edited_steps old new undo (reverse c.self.inside.redo.items) c.in_ok-done.record c.self.invariant.2 valid made.undo made.live in (
       search rules,
       search rules,

@@ -7,7 +7,7 @@ turn-requires-clause-steps c = can_turn c.self.inside.blocks (reverse c.self.ins
 
 pub invariant_of-self-2 : goal.invariant_of-self-2
 invariant_of-self-2 c = (
-      search rules,
-      search rules,
-      kept_steps c.in_ok-turn.field-0 c.self.inside.blocks c.turn.new.blocks (reverse c.self.inside.undo.items) (reverse c.self.inside.redo.items) (reverse c.turn.new.from.items) (reverse c.turn.new.to.items) c.in_ok-turn.ensures.ok c.self.invariant.2,
-    )
+  search rules,
+  search rules,
+  kept_steps c.in_ok-turn.field-0 c.self.inside.blocks c.turn.new.blocks (reverse c.self.inside.undo.items) (reverse c.self.inside.redo.items) (reverse c.turn.new.from.items) (reverse c.turn.new.to.items) c.in_ok-turn.ensures.ok c.self.invariant.2,
+)
