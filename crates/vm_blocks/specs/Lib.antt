@@ -1,4 +1,4 @@
 pub mod Bodies
 pub mod Blocks
-pub mod Changes
+pub mod BodyChanges
 pub mod Saved

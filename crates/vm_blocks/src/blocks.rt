@@ -5,10 +5,10 @@ ghost use Rattle.geos_model.specs.Document.{empty_document, next_handle, is_live
 ghost use Rattle.geos_model.specs.Reply.{found};
 ghost use Rattle.geos_model.proofs.Table.{table_entries, first_gap};
 ghost use Rattle.vm_blocks.specs.Blocks.{block_of, table_of, document_of, start_after};
-ghost use Rattle.vm_blocks.specs.Changes.{AllowsIn, changed};
+ghost use Rattle.vm_blocks.specs.BodyChanges.{AllowsIn, changed};
 ghost use Rattle.vm_blocks.specs.Saved.{with_slot};
 
-use crate::{Block, Change};
+use crate::{Block, BodyChange};
 use geos_model::VmHandle;
 use std::alloc::{AllocError, Global};
 use std::marker::Model;
@@ -206,7 +206,7 @@ impl Blocks {
     }
 
     /// Makes a change of a block's body in place.
-    pub fn change(&mut self, handle: VmHandle, change: &Change)
+    pub fn change(&mut self, handle: VmHandle, change: &BodyChange)
         requires { AllowsIn self.old handle.0 change.now }
         ensures { self.new ≡ changed self.old handle.0 change.now }
     {

@@ -3,10 +3,10 @@
 
 mod block;
 mod blocks;
-mod change;
+mod body_change;
 mod saved;
 
 pub use block::{Block, BlockBody};
 pub use blocks::Blocks;
-pub use change::Change;
+pub use body_change::BodyChange;
 pub use saved::{SavedBlock, SavedBody, SavedHeap, SavedRaw};

@@ -8,8 +8,8 @@ use Rattle.geos_model.specs.declared.command.Body.{Body}
 use Rattle.geos_model.specs.declared.command.Body.TheVariants.{Raw, Heap}
 use Rattle.chunk_edits.specs.Splicing.{forwards}
 use Rattle.chunk_edits.specs.declared.splice.Splice.{Splice}
-use Rattle.vm_blocks.specs.declared.change.Change.{Change}
-use Rattle.vm_blocks.specs.declared.change.Change.TheVariants as changes
+use Rattle.vm_blocks.specs.declared.body_change.BodyChange.{BodyChange}
+use Rattle.vm_blocks.specs.declared.body_change.BodyChange.TheVariants as changes
 
 -- a raw body has the part that is replaced, and room for what comes
 pub record AllowsRaw (bytes : List ℕ) (s : Splice) : Type 0 where
@@ -29,7 +29,7 @@ pub record AllowsNewChunk (m : ChunkMap) (c : ℕ) (bytes : List ℕ) : Type 0 w
   pub fits : IsTrue (fits_with m c bytes)
 
 -- a change that a body can take
-abbrev pub Allows : Change → Body → Type 0
+abbrev pub Allows : BodyChange → Body → Type 0
 Allows (changes.Raw s) (Raw bytes) = AllowsRaw bytes s
 Allows (changes.Raw s) (Heap m) = ⊥
 Allows (changes.Chunk c s) (Raw bytes) = ⊥
@@ -42,7 +42,7 @@ Allows (changes.FreeChunk c) (Raw bytes) = ⊥
 Allows (changes.FreeChunk c) (Heap m) = IsTrue (contains_key m c.0)
 
 -- the body after it; one that can't take it stays
-abbrev pub changed_body : Change → Body → Body
+abbrev pub changed_body : BodyChange → Body → Body
 changed_body (changes.Raw s) (Raw bytes) = Raw (forwards s bytes)
 changed_body (changes.Raw s) (Heap m) = Heap m
 changed_body (changes.Chunk c s) (Raw bytes) = Raw bytes
@@ -56,8 +56,8 @@ changed_body (changes.FreeChunk c) (Heap m) = Heap (remove m c.0)
 
 -- The same of the block under a handle.
 
-abbrev pub AllowsIn : Document → ℕ → Change → Type 0
+abbrev pub AllowsIn : Document → ℕ → BodyChange → Type 0
 AllowsIn d h change = MatchOption (get d.blocks h) ⊥ (λ b. Allows change b.body)
 
-abbrev pub changed : Document → ℕ → Change → Document
+abbrev pub changed : Document → ℕ → BodyChange → Document
 changed d h change = option_map_or (λ b. with_block d h (record b { body = changed_body change b.body })) (get d.blocks h) d

@@ -3,7 +3,7 @@ use geos_model::{Bytes, ChunkHandle};
 
 /// A change of the body of a block.
 #[derive(Drop)]
-pub enum Change {
+pub enum BodyChange {
     /// A part of a raw body is replaced.
     Raw(Splice),
     /// A part of a chunk is replaced.
