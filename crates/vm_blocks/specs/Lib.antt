@@ -1,4 +1,5 @@
 pub mod Bodies
 pub mod Blocks
 pub mod BodyChanges
+pub mod Changes
 pub mod Saved

@@ -4,9 +4,13 @@
 mod block;
 mod blocks;
 mod body_change;
+mod change;
+mod law;
 mod saved;
 
 pub use block::{Block, BlockBody};
 pub use blocks::Blocks;
 pub use body_change::BodyChange;
+pub use change::{Change, Content, Direction, PartChange};
+pub use law::change_law;
 pub use saved::{SavedBlock, SavedBody, SavedHeap, SavedRaw};

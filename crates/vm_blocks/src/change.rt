@@ -1,0 +1,47 @@
+use crate::SavedBlock;
+use chunk_edits::Splice;
+use geos_model::{Bytes, ChunkHandle, VmHandle};
+
+/// Which way a change is carried out.
+#[derive(Clone, Copy, Debug, PartialEq, Eq)]
+pub enum Direction {
+    Forwards,
+    Backwards,
+}
+
+/// One edit of a document, with all that carrying it out takes in either direction.
+#[derive(Drop)]
+pub enum Change {
+    /// A block comes in under a free handle.
+    BlockIn(VmHandle, SavedBlock),
+    /// A block goes that isn't the map block.
+    BlockOut(VmHandle, SavedBlock),
+    /// The body of a block changes.
+    Part(VmHandle, PartChange),
+    /// A block gets another user ID.
+    UserId { handle: VmHandle, old: u16, new: u16 },
+    /// Another block becomes the map block; 0 stands for none.
+    Map { old: VmHandle, new: VmHandle },
+}
+
+/// A change of a part of a block's body.
+#[derive(Drop)]
+pub enum PartChange {
+    /// A part of a raw body is replaced.
+    Raw(Splice),
+    /// A part of a chunk is replaced.
+    Chunk(ChunkHandle, Splice),
+    /// A chunk comes in under a free handle.
+    ChunkIn(ChunkHandle, Content),
+    /// A chunk goes.
+    ChunkOut(ChunkHandle, Content),
+}
+
+/// What is in a chunk that comes in or goes.
+#[derive(Drop)]
+pub enum Content {
+    /// These bytes.
+    Bytes(Bytes),
+    /// So many zeros.
+    Zeros(u32),
+}
