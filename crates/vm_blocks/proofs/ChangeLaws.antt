@@ -1,12 +1,11 @@
 -- A change of a valid document leaves a valid one, and the same change the other way round takes it back.
-use Rattle.std.proofs.Common.{◌≡◌, ◌≢◌, ◌≤◌, ◌<◌, ◌+◌, ℕ, List, Bool, true, false, not, length, nat_le, Option, Some, None, is_some, nat_cmp, refl, sym, ap, subst, ◌∙◌, inl, inr, arith}
+use Rattle.std.proofs.Common.{◌≡◌, ◌≢◌, ◌≤◌, ◌<◌, ◌+◌, ℕ, List, true, false, not, length, Option, Some, None, is_some, nat_cmp, refl, sym, ap, subst, ◌∙◌, inl, inr, arith}
 use Rattle.std.proofs.lemmas.Bool.{cases_eq, and_parts, leb-true, le-leb, true≢false, not-true}
-use Rattle.std.proofs.lemmas.List.{length-replicate}
 use Rattle.std.specs.Option.{option_map_or}
 use Rattle.std.specs.Cmp.{nat_cmp_total}
 use Rattle.std.specs.List.{list_all}
 use Rattle.std.specs.FinMap.{FinMap, get, insert, remove, keys, contains_key, same_map, nat_cmp-IsAntisymmetric}
-use Rattle.geos_model.specs.Heap.{ChunkMap, capacity, chunk_bytes, fits, fits_with, is_chunk_handle, is_heap_map}
+use Rattle.geos_model.specs.Heap.{ChunkMap, capacity, fits, fits_with, is_chunk_handle, is_heap_map}
 use Rattle.geos_model.specs.Document.{Block, Document, IsValid, is_heap, is_heap_body, is_live, is_raw, is_valid_body, is_vm_handle, with_block, without_block, with_user_id}
 use Rattle.geos_model.specs.Meaning.{chunk_at, with_chunk, without_chunk}
 use Rattle.geos_model.specs.declared.command.Body.{Body}
@@ -15,7 +14,7 @@ use Rattle.geos_model.specs.declared.handle.ChunkHandle.{ChunkHandle}
 use Rattle.geos_model.proofs.HeapEdits.{get-put_same, get-put_other, get-taken_same, get-taken_other, heap-insert, heap-remove}
 use Rattle.geos_model.proofs.HeapTables.{live_handle}
 use Rattle.geos_model.proofs.Validity.{with_block-valid, without_block-valid}
-use Rattle.chunk_edits.specs.Splicing.{Stands, Leads, forwards, backwards}
+use Rattle.chunk_edits.specs.Splicing.{Stands, forwards, backwards}
 use Rattle.chunk_edits.specs.declared.splice.Splice.{Splice}
 use Rattle.chunk_edits.proofs.Splices.{leads_back}
 use Rattle.vm_blocks.specs.Saved.{saved_block}

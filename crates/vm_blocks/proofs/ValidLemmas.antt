@@ -1,10 +1,10 @@
 -- What is done to blocks leaves the document valid.
-use Rattle.std.proofs.Common.{◌≡◌, ◌≢◌, ◌≤◌, ◌<◌, ℕ, List, true, nat_le, replicate, length, Option, Some, None, refl}
+use Rattle.std.proofs.Common.{◌≡◌, ◌≢◌, ◌≤◌, ℕ, true, nat_le, replicate, Option, Some, None, refl}
 use Rattle.std.proofs.lemmas.Bool.{and_parts, leb-true, le-leb}
 use Rattle.std.specs.Option.{option_map}
-use Rattle.geos_model.specs.Document.{Block as DocumentBlock, Document, IsValid, is_vm_handle, is_valid_body}
+use Rattle.geos_model.specs.Document.{Document, IsValid, is_vm_handle, is_valid_body}
 use Rattle.geos_model.proofs.Validity.{with_block-valid, without_block-valid}
-use Rattle.geos_model.specs.Heap.{ChunkMap, chunk_bytes}
+use Rattle.geos_model.specs.Heap.{chunk_bytes}
 use Rattle.geos_model.specs.declared.command.Body.{Body}
 use Rattle.geos_model.specs.declared.command.Body.TheVariants.{Raw, Heap}
 use Rattle.geos_model.proofs.HeapTables.{live_handle}
@@ -40,4 +40,3 @@ valid-changed_body (changes.FilledChunk c bytes) (Raw body) valid allows = absur
 valid-changed_body (changes.FilledChunk c bytes) (Heap m) valid allows = heap-insert m c.0 bytes valid allows.handle allows.fits
 valid-changed_body (changes.FreeChunk c) (Raw bytes) valid allows = absurd allows
 valid-changed_body (changes.FreeChunk c) (Heap m) valid allows = heap-remove m c.0 valid
-

@@ -1,5 +1,6 @@
 -- What a change makes of a document, the same change the other way round, and in which documents it can be made.
 use Rattle.std.specs.Prelude.{◌≡◌, ◌≢◌, ◌≤◌, ◌<◌, ◌+◌, ℕ, List, true, Option, Some, None, length, replicate}
+use Rattle.std.specs.Option.{option_map}
 use Rattle.std.specs.FinMap.{get, contains_key}
 use Rattle.geos_model.specs.Heap.{capacity, fits_with, is_chunk_handle}
 use Rattle.geos_model.specs.Document.{Block, Document, IsValid, is_vm_handle, is_live, is_heap, is_raw, chunks_of, raw_bytes_of, user_id_of, with_block, without_block, with_body, with_user_id}
@@ -8,7 +9,9 @@ use Rattle.geos_model.specs.Meaning.{chunk_at, with_chunk, without_chunk}
 use Rattle.geos_model.specs.declared.command.Body.TheVariants.{Raw}
 use Rattle.chunk_edits.specs.Splicing.{Stands, forwards}
 use Rattle.chunk_edits.specs.declared.splice.Splice.{Splice}
+use Rattle.vm_blocks.specs.Blocks.{block_of}
 use Rattle.vm_blocks.specs.Saved.{saved_block}
+use Rattle.vm_blocks.specs.declared.prepared.Prepared.{Prepared}
 use Rattle.vm_blocks.specs.declared.change.Change.{Change}
 use Rattle.vm_blocks.specs.declared.change.Change.TheVariants as changes
 use Rattle.vm_blocks.specs.declared.change.PartChange.{PartChange}
@@ -141,6 +144,10 @@ block_in (changes.BlockOut b block) = None
 block_in (changes.Part b part) = None
 block_in (changes.UserId b old new) = None
 block_in (changes.Map old new) = None
+
+-- it was prepared for this change
+abbrev pub IsFor : Prepared → Change → Type 0
+IsFor prepared change = option_map block_of prepared.block ≡ block_in change
 
 -- How many content bytes a change holds.
 

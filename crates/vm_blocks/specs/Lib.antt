@@ -2,4 +2,5 @@ pub mod Bodies
 pub mod Blocks
 pub mod BodyChanges
 pub mod Changes
+pub mod Parts
 pub mod Saved

@@ -82,7 +82,7 @@ fn change_heap(heap: &mut Heap, change: &BodyChange)
 }
 
 /// A new chunk of these bytes, under a free handle.
-fn fill_chunk(heap: &mut Heap, chunk: ChunkHandle, bytes: &[u8])
+pub(crate) fn fill_chunk(heap: &mut Heap, chunk: ChunkHandle, bytes: &[u8])
     requires { AllowsNewChunk heap.old chunk.0 bytes.now }
     ensures { heap.new ≡ insert heap.old chunk.0 bytes.now }
 {

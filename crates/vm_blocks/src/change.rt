@@ -1,3 +1,6 @@
+ghost use Rattle.std.specs.Prelude.{◌≡◌};
+ghost use Rattle.vm_blocks.specs.Changes.{weight, part_weight, content_weight};
+
 use crate::SavedBlock;
 use chunk_edits::Splice;
 use geos_model::{Bytes, ChunkHandle, VmHandle};
@@ -19,9 +22,16 @@ pub enum Change {
     /// The body of a block changes.
     Part(VmHandle, PartChange),
     /// A block gets another user ID.
-    UserId { handle: VmHandle, old: u16, new: u16 },
+    UserId {
+        handle: VmHandle,
+        old: u16,
+        new: u16,
+    },
     /// Another block becomes the map block; 0 stands for none.
-    Map { old: VmHandle, new: VmHandle },
+    Map {
+        old: VmHandle,
+        new: VmHandle,
+    },
 }
 
 /// A change of a part of a block's body.
@@ -44,4 +54,41 @@ pub enum Content {
     Bytes(Bytes),
     /// So many zeros.
     Zeros(u32),
+}
+
+impl Change {
+    /// How many content bytes it holds.
+    pub fn weight(&self) -> u64
+        ensures { result ≡ weight self.now }
+    {
+        match self {
+            Change::BlockIn(_, block) | Change::BlockOut(_, block) => block.image_len() as u64,
+            Change::Part(_, part) => part.weight(),
+            Change::UserId { .. } | Change::Map { .. } => 0,
+        }
+    }
+}
+
+impl PartChange {
+    /// How many content bytes it holds.
+    fn weight(&self) -> u64
+        ensures { result ≡ part_weight self.now }
+    {
+        match self {
+            PartChange::Raw(splice) | PartChange::Chunk(_, splice) => splice.byte_count() as u64,
+            PartChange::ChunkIn(_, content) | PartChange::ChunkOut(_, content) => content.weight(),
+        }
+    }
+}
+
+impl Content {
+    /// How many bytes it holds; zeros are only counted, not held.
+    fn weight(&self) -> u64
+        ensures { result ≡ content_weight self.now }
+    {
+        match self {
+            Content::Bytes(bytes) => bytes.as_slice().len() as u64,
+            Content::Zeros(_) => 0,
+        }
+    }
 }

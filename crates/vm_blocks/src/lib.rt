@@ -6,6 +6,8 @@ mod blocks;
 mod body_change;
 mod change;
 mod law;
+mod part;
+mod prepared;
 mod saved;
 
 pub use block::{Block, BlockBody};
@@ -13,4 +15,5 @@ pub use blocks::Blocks;
 pub use body_change::BodyChange;
 pub use change::{Change, Content, Direction, PartChange};
 pub use law::change_law;
+pub use prepared::Prepared;
 pub use saved::{SavedBlock, SavedBody, SavedHeap, SavedRaw};

@@ -1,4 +1,4 @@
-use Rattle.std.proofs.Common.{◌-◌, ◌∙◌, refl, ap, arith}
+use Rattle.std.proofs.Common.{◌∙◌, ap, arith}
 use Rattle.geos_model.specs.Document.{is_valid_body}
 use Rattle.geos_model.specs.declared.command.Body.{Body}
 use Rattle.vm_blocks.specs.Bodies.{body_of}
