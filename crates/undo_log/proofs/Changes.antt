@@ -13,23 +13,23 @@ use Rattle.geos_model.specs.declared.command.Edit.TheVariants.{Alloc}
 use Rattle.chunk_edits.specs.Splicing.{Leads}
 use Rattle.chunk_edits.specs.declared.splice.Splice.{Splice}
 use Rattle.vm_blocks.specs.Saved.{with_slot}
-use Rattle.vm_blocks.specs.Changes.{AllowsIn, Allows, AllowsRaw, changed, changed_body}
-use Rattle.vm_blocks.specs.declared.change.Change.{Change}
-use Rattle.vm_blocks.specs.declared.change.Change.TheVariants as changes
+use Rattle.vm_blocks.specs.BodyChanges.{AllowsIn, Allows, AllowsRaw, changed, changed_body}
+use Rattle.vm_blocks.specs.declared.body_change.BodyChange.{BodyChange}
+use Rattle.vm_blocks.specs.declared.body_change.BodyChange.TheVariants as changes
 use Rattle.undo_log.specs.Found.{IsRawAt, IsHeapAt}
 use Rattle.undo_log.proofs.Slots.{slot_back}
 use Rattle.undo_log.proofs.Refusals.{past_heap}
 
-changed-some : (d : Document) (h : ℕ) (change : Change) (b : Block) → get d.blocks h ≡ Some b → changed d h change ≡ with_block d h (record b { body = changed_body change b.body })
+changed-some : (d : Document) (h : ℕ) (change : BodyChange) (b : Block) → get d.blocks h ≡ Some b → changed d h change ≡ with_block d h (record b { body = changed_body change b.body })
 changed-some d h change b live = rw live refl
 
-back_by : (d : Document) (h : ℕ) (change : Change) (was o : Option Block) → get d.blocks h ≡ o → MatchOption o ⊥ (λ b. Allows change b.body) → was ≡ get d.blocks h → with_slot (changed d h change) h was ≡ d
+back_by : (d : Document) (h : ℕ) (change : BodyChange) (was o : Option Block) → get d.blocks h ≡ o → MatchOption o ⊥ (λ b. Allows change b.body) → was ≡ get d.blocks h → with_slot (changed d h change) h was ≡ d
 back_by d h change was None live allowed e = absurd allowed
 back_by d h change was (Some b) live allowed e =
     ap (λ (x : Document). with_slot x h was) (changed-some d h change b live) ∙ slot_back d h (Some (record b { body = changed_body change b.body })) was e
 
 -- the block that was there, put there again, takes a change back
-pub changed_back : (d : Document) (h : ℕ) (change : Change) (was : Option Block) → AllowsIn d h change → was ≡ get d.blocks h → with_slot (changed d h change) h was ≡ d
+pub changed_back : (d : Document) (h : ℕ) (change : BodyChange) (was : Option Block) → AllowsIn d h change → was ≡ get d.blocks h → with_slot (changed d h change) h was ≡ d
 changed_back d h change was allowed e = back_by d h change was (get d.blocks h) refl allowed e
 
 -- Of a heap.
@@ -37,10 +37,10 @@ module _ (d : Document) (h : ℕ) (m : ChunkMap) (live : IsHeapAt d h m) where
   pub chunks_are : chunks_of d h ≡ m
   chunks_are = rw live refl
 
-  pub allows : (change : Change) → Allows change (Heap m) → AllowsIn d h change
+  pub allows : (change : BodyChange) → Allows change (Heap m) → AllowsIn d h change
   allows change allowed = subst (λ (o : Option Block). MatchOption o ⊥ (λ b. Allows change b.body)) (sym live) allowed
 
-  pub document_is : (change : Change) (n : ChunkMap) → changed_body change (Heap m) ≡ Heap n → changed d h change ≡ with_body d h (Heap n)
+  pub document_is : (change : BodyChange) (n : ChunkMap) → changed_body change (Heap m) ≡ Heap n → changed d h change ≡ with_body d h (Heap n)
   document_is change n is = changed-some d h change _ live ∙ ap (with_body d h) is
 
 -- Of a raw body.

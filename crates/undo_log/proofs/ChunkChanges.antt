@@ -23,8 +23,8 @@ use Rattle.geos_model.proofs.Tables.{put_at, slot_at-put_same, table_map-put}
 use Rattle.chunk_edits.specs.Splicing.{Builds, forwards}
 use Rattle.chunk_edits.specs.Splicing.{RefusesToBuild}
 use Rattle.chunk_edits.specs.declared.splice.Splice.{Splice}
-use Rattle.vm_blocks.specs.Changes.{changed}
-use Rattle.vm_blocks.specs.declared.change.Change.TheVariants as changes
+use Rattle.vm_blocks.specs.BodyChanges.{changed}
+use Rattle.vm_blocks.specs.declared.body_change.BodyChange.TheVariants as changes
 use Rattle.vm_blocks.proofs.RoomLemmas.{bytes-put, fits_few}
 use Rattle.lmem_heap.proofs.Heaps.{fits_new-some, fits_new-none}
 use Rattle.undo_log.specs.Found.{IsHeapAt, IsChunkAt, AreOwn, AreLate}

@@ -17,8 +17,8 @@ use Rattle.geos_model.specs.declared.handle.VmHandle.{VmHandle}
 use Rattle.geos_model.specs.declared.handle.ChunkHandle.{ChunkHandle}
 use Rattle.chunk_edits.specs.Splicing.{Builds, forwards}
 use Rattle.chunk_edits.specs.declared.splice.Splice.{Splice}
-use Rattle.vm_blocks.specs.declared.change.Change.{Change}
-use Rattle.vm_blocks.specs.Changes.{changed}
+use Rattle.vm_blocks.specs.declared.body_change.BodyChange.{BodyChange}
+use Rattle.vm_blocks.specs.BodyChanges.{changed}
 use Rattle.undo_log.specs.declared.record.Record.{Record}
 use Rattle.undo_log.specs.Before.{IsLive}
 use Rattle.undo_log.specs.Records.{back}
@@ -36,7 +36,7 @@ pub record Makes (edit : Edit) (old new : Document) (done : Done) (r : Record) :
   pub word : user_id_given edit < 65536
 
 -- The body of a block was changed, and the record takes it back.
-pub record ChangesBody (old new : Document) (h : VmHandle) (change : Change) (cost : ℕ) (r : Record) : Type 0 where
+pub record ChangesBody (old new : Document) (h : VmHandle) (change : BodyChange) (cost : ℕ) (r : Record) : Type 0 where
   pub document : new ≡ changed old h.0 change
   pub kind : r.kind ≡ In h
   pub cost_is : r.cost ≡ cost

@@ -8,7 +8,7 @@ use crate::record::Record;
 use chunk_edits::{raw_replace, raw_write};
 use geos_model::{Bytes, ChunkHandle, Done, Fault, VmHandle};
 use std::alloc::Global;
-use vm_blocks::{Blocks, Change};
+use vm_blocks::{Blocks, BodyChange};
 
 /// Writes over the bytes of a raw block.
 pub fn write_raw(
@@ -24,7 +24,7 @@ pub fn write_raw(
     let body = raw_at(blocks, handle)?;
     let splice = raw_write(alloc, body, at, bytes.as_slice())?;
     let cost = splice.byte_count() as u64;
-    let record = change_body(alloc, blocks, handle, &Change::Raw(splice), cost)?;
+    let record = change_body(alloc, blocks, handle, &BodyChange::Raw(splice), cost)?;
     Ok((Done::Nothing, record))
 }
 
@@ -41,7 +41,7 @@ pub fn attach(
     let body = raw_at(blocks, handle)?;
     let splice = raw_replace(alloc, body, bytes.as_slice())?;
     let cost = splice.byte_count() as u64;
-    let record = change_body(alloc, blocks, handle, &Change::Raw(splice), cost)?;
+    let record = change_body(alloc, blocks, handle, &BodyChange::Raw(splice), cost)?;
     Ok((Done::Nothing, record))
 }
 
@@ -67,7 +67,7 @@ pub fn make_chunk(
         alloc,
         blocks,
         handle,
-        &Change::NewChunk(chunk, size),
+        &BodyChange::NewChunk(chunk, size),
         u64::from(size),
     )?;
     Ok((Done::Chunk(chunk), record))
@@ -88,6 +88,6 @@ pub fn free_chunk(
         Some(bytes) => bytes.len() as u64,
         None => return Err(Fault::NoChunk),
     };
-    let record = change_body(alloc, blocks, handle, &Change::FreeChunk(chunk), size)?;
+    let record = change_body(alloc, blocks, handle, &BodyChange::FreeChunk(chunk), size)?;
     Ok((Done::Nothing, record))
 }

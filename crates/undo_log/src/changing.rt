@@ -1,5 +1,5 @@
 ghost use Rattle.std.specs.Prelude.{◌≡◌, IfOk, OnErr};
-ghost use Rattle.vm_blocks.specs.Changes.{AllowsIn};
+ghost use Rattle.vm_blocks.specs.BodyChanges.{AllowsIn};
 ghost use Rattle.undo_log.specs.Making.{ChangesBody};
 
 use crate::before::{Before, saved};
@@ -7,14 +7,14 @@ use crate::place::Place;
 use crate::record::Record;
 use geos_model::{Kind, VmHandle};
 use std::alloc::{AllocError, Global};
-use vm_blocks::{Blocks, Change};
+use vm_blocks::{Blocks, BodyChange};
 
 /// Changes the body of a block, and makes the record that takes this back; `cost` is what the record is charged for.
 pub fn change_body(
     alloc: Global,
     blocks: &mut Blocks,
     handle: VmHandle,
-    change: &Change,
+    change: &BodyChange,
     cost: u64,
 ) -> Result<Record, AllocError>
     requires { AllowsIn blocks.old handle.0 change.now }

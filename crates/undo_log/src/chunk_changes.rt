@@ -14,7 +14,7 @@ use chunk_edits::Splice;
 use geos_model::{Bytes, ChunkHandle, Done, Fault, VmHandle};
 use lmem_heap::Heap;
 use std::alloc::Global;
-use vm_blocks::{Blocks, Change};
+use vm_blocks::{Blocks, BodyChange};
 
 /// Changes the bytes of a chunk by a splice that was built for an edit, which answers `done`: Full where the heap has no
 /// room for them.
@@ -37,7 +37,7 @@ pub fn change_chunk(
         return Err(Fault::Full);
     }
     let cost = splice.byte_count() as u64;
-    let record = change_body(alloc, blocks, handle, &Change::Chunk(chunk, splice), cost)?;
+    let record = change_body(alloc, blocks, handle, &BodyChange::Chunk(chunk, splice), cost)?;
     Ok((done, record))
 }
 
@@ -78,7 +78,7 @@ pub fn make_filled(
     if !heap.fits_at(chunk, size) {
         return Err(Fault::Full);
     }
-    let change = Change::FilledChunk(chunk, Bytes::from_vec(bytes));
+    let change = BodyChange::FilledChunk(chunk, Bytes::from_vec(bytes));
     let record = change_body(alloc, blocks, handle, &change, u64::from(size))?;
     Ok((Done::Chunk(chunk), record))
 }

@@ -7,7 +7,7 @@ use crate::found::heap_with;
 use crate::record::Record;
 use geos_model::{Bytes, ChunkHandle, Done, Fault, VmHandle};
 use std::alloc::Global;
-use vm_blocks::{Blocks, Change};
+use vm_blocks::{Blocks, BodyChange};
 
 /// Writes over the bytes of a chunk.
 pub fn write(
@@ -24,7 +24,7 @@ pub fn write(
     let heap = heap_with(blocks, handle, chunk)?;
     let splice = chunk_edits::write(alloc, heap, chunk, at, bytes.as_slice())?;
     let cost = splice.byte_count() as u64;
-    let record = change_body(alloc, blocks, handle, &Change::Chunk(chunk, splice), cost)?;
+    let record = change_body(alloc, blocks, handle, &BodyChange::Chunk(chunk, splice), cost)?;
     Ok((Done::Nothing, record))
 }
 
@@ -43,7 +43,7 @@ pub fn insert(
     let heap = heap_with(blocks, handle, chunk)?;
     let splice = chunk_edits::insert(alloc, heap, chunk, at, n)?;
     let cost = splice.byte_count() as u64;
-    let record = change_body(alloc, blocks, handle, &Change::Chunk(chunk, splice), cost)?;
+    let record = change_body(alloc, blocks, handle, &BodyChange::Chunk(chunk, splice), cost)?;
     Ok((Done::Nothing, record))
 }
 
@@ -62,7 +62,7 @@ pub fn delete(
     let heap = heap_with(blocks, handle, chunk)?;
     let splice = chunk_edits::delete(alloc, heap, chunk, at, n)?;
     let cost = splice.byte_count() as u64;
-    let record = change_body(alloc, blocks, handle, &Change::Chunk(chunk, splice), cost)?;
+    let record = change_body(alloc, blocks, handle, &BodyChange::Chunk(chunk, splice), cost)?;
     Ok((Done::Nothing, record))
 }
 
@@ -80,6 +80,6 @@ pub fn resize(
     let heap = heap_with(blocks, handle, chunk)?;
     let splice = chunk_edits::resize(alloc, heap, chunk, size)?;
     let cost = splice.byte_count() as u64;
-    let record = change_body(alloc, blocks, handle, &Change::Chunk(chunk, splice), cost)?;
+    let record = change_body(alloc, blocks, handle, &BodyChange::Chunk(chunk, splice), cost)?;
     Ok((Done::Nothing, record))
 }

@@ -199,9 +199,9 @@ module _ (mb : ℕ) where
           record {
             placed = are_slots_full slots (p - 1) gap new are.placed;
             valid = subst IsValid (sym (
-              ap (λ (q : ℕ). shown_by (set slots (q - 1) (Some new))) place
-              ∙ put-document slots h (Some new) there.1.from_one there.1.within
-              ∙ ap (λ (x : Document). with_block x h (block_of new)) shown)) kept;
+                ap (λ (q : ℕ). shown_by (set slots (q - 1) (Some new))) place
+                ∙ put-document slots h (Some new) there.1.from_one there.1.within
+                ∙ ap (λ (x : Document). with_block x h (block_of new)) shown)) kept;
           }
 
   -- the handles of the document

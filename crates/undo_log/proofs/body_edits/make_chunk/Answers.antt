@@ -4,7 +4,7 @@ use Rattle.geos_model.specs.Heap.{fits_new}
 use Rattle.geos_model.specs.declared.fault.Fault.TheVariants.{Full}
 use Rattle.geos_model.specs.declared.command.Done.TheVariants.{Chunk}
 use Rattle.geos_model.proofs.HeapTables.{next_chunk-free}
-use Rattle.vm_blocks.specs.declared.change.Change.TheVariants as changes
+use Rattle.vm_blocks.specs.declared.body_change.BodyChange.TheVariants as changes
 use Rattle.undo_log.proofs.Refusals.{carried}
 use Rattle.undo_log.proofs.Changes.{allows, no_handle, no_place, new_accepted, new_handle, new_document}
 use Rattle.undo_log.proofs.body_edits.make_chunk.Goals as goal

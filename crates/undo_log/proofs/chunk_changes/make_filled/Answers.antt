@@ -3,8 +3,8 @@ use Rattle.std.proofs.lemmas.Bool.{cases_lt}
 use Rattle.std.proofs.lemmas.List.{length-replicate}
 use Rattle.geos_model.proofs.HeapTables.{next_chunk-free}
 use Rattle.vm_blocks.proofs.RoomLemmas.{fits_as}
-use Rattle.vm_blocks.specs.Changes.{changed}
-use Rattle.vm_blocks.specs.declared.change.Change.TheVariants as changes
+use Rattle.vm_blocks.specs.BodyChanges.{changed}
+use Rattle.vm_blocks.specs.declared.body_change.BodyChange.TheVariants as changes
 use Rattle.undo_log.proofs.Refusals.{carried}
 use Rattle.undo_log.proofs.Changes.{allows}
 use Rattle.undo_log.proofs.ChunkChanges.{heap_refused, no_handle_left, no_room_left, too_many, filled_accepted, filled_document, filled_answer}

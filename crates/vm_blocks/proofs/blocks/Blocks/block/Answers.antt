@@ -30,5 +30,5 @@ returns-in-Some-clause-within c = λ some.
     let here : c.from.result - 1 ≤ c.from.result - 1 = omega arith in
     let read = c.in-Some.ensures.lookup.4 here None in
     let last : c.args.handle.0 ≤ 2048 = block-within c.self.inside.map_block.0 c.self.inside.slots.items c.self.inside.first_gap c.args.handle.0 c.from.result c.self.invariant.placed c.from.ensures c.in-Some.slot.now
-        (read ∙ ap (λ (xs : _). get_or xs (c.from.result - 1) None) c.deref.ensures.value) (sym c.as_ref.ensures.variant ∙ some) in
+    (read ∙ ap (λ (xs : _). get_or xs (c.from.result - 1) None) c.deref.ensures.value) (sym c.as_ref.ensures.variant ∙ some) in
     handle_in c.args.handle.0 one last

@@ -15,7 +15,6 @@ invariant_of-result c =
       valid = subst IsValid (sym shown) empty_document-valid;
     }
 
-
 pub returns : goal.returns
 returns c =
     let none = ap (table_map 1 1) c.in_ok-empty_slots.ensures.1 ∙ table_map-nones {X = DocumentBlock} 1 1 2048 in
