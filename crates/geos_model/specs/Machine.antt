@@ -39,12 +39,6 @@ pub record IsValidMachine (m : Machine) : Type 0 where
 abbrev pub Request : Type 0
 Request = Option Command
 
-abbrev pub is_plain_kind : Kind → Bool
-is_plain_kind Plain = true
-is_plain_kind (In b) = false
-is_plain_kind Made = false
-is_plain_kind Freed = false
-
 -- what kind of step an edit makes
 abbrev pub kind_of : Edit → Kind
 kind_of (edits.NewRaw uid size) = Made
@@ -116,19 +110,19 @@ abbrev pub next : Request → Machine → Option (Reply × Machine)
 next None m = Some (Refused BadCommand, m)
 next (Some c) m = option_map_or (λ fault. Some (Refused fault, m)) (first_refusal (command_conditions c m)) (done_by c m)
 
--- Whether taking a step of this kind back may take memory, and bringing it back.
+-- Whether taking a step of this kind back may take memory, and bringing it back: only a block that comes in takes any.
 
 abbrev pub undo_takes : Kind → Bool
 undo_takes Plain = false
-undo_takes (In b) = true
-undo_takes Made = true
+undo_takes (In b) = false
+undo_takes Made = false
 undo_takes Freed = true
 
 abbrev pub redo_takes : Kind → Bool
 redo_takes Plain = false
-redo_takes (In b) = true
+redo_takes (In b) = false
 redo_takes Made = true
-redo_takes Freed = true
+redo_takes Freed = false
 
 -- so of the newest step of a list; where there is none, nothing is taken
 abbrev pub newest_takes : (Kind → Bool) → List UndoStep → Bool

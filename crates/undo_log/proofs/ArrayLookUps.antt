@@ -5,7 +5,7 @@ use Rattle.std.specs.Option.{option_map, option_map_or}
 use Rattle.geos_model.specs.Array.{Array, array_of}
 use Rattle.geos_model.specs.ArrayEdits.{array_in, new_array, on_array, on_element}
 use Rattle.geos_model.specs.Document.{Document, chunks_of}
-use Rattle.geos_model.specs.Machine.{Machine, Step, next, done_by, command_conditions}
+use Rattle.geos_model.specs.Machine.{Machine, Step, done_by, command_conditions}
 use Rattle.geos_model.specs.Meaning.{chunk_at, on_chunk}
 use Rattle.geos_model.specs.Refusal.{Conditions, first_refusal}
 use Rattle.geos_model.specs.Reply.{Reply, Refused, NumberIs, BytesAre, TokenIs, reply_by}

@@ -1,11 +1,7 @@
-pub mod Slots
 pub mod Lists
 pub mod Steps
+pub mod Answers
+pub mod Weights
 pub mod Order
 pub mod Refusals
-pub mod Changes
-pub mod ChunkChanges
-pub mod ArrayEdits
 pub mod ArrayLookUps
-pub mod ElementEdits
-pub mod NameEdits

@@ -1,66 +1,97 @@
--- Documents stay valid along the records, and each record can be taken back.
-use Rattle.std.proofs.Common.{◌≡◌, ◌≢◌, ℕ, Bool, true, false, List, [], ◌∷◌, Option, Some, None, is_some, refl, sym, ap, subst, ◌∙◌}
+-- A change that was carried out can be carried out the other way round, and documents stay valid along the records.
+use Rattle.std.proofs.Common.{◌≡◌, Bool, true, false, List, [], ◌∷◌, None, refl, sym, ap, subst, ◌∙◌}
 use Rattle.geos_model.specs.Document.{Document, IsValid}
-use Rattle.geos_model.specs.Machine.{UndoStep}
-use Rattle.geos_model.proofs.Validity.{AreValid, valid-push, valid-first, valid-rest, valid-none}
-use Rattle.undo_log.specs.Before.{IsLive}
-use Rattle.undo_log.specs.Records.{back, steps, machine_of, AreLive, AreSteps, CanTurn, TurnsBack}
-use Rattle.undo_log.specs.Turning.{Moves, Turns}
-use Rattle.undo_log.specs.declared.record.Record.{Record}
+use Rattle.geos_model.specs.Machine.{IsValidMachine}
+use Rattle.geos_model.proofs.Validity.{AreValid, valid-push, valid-none}
+use Rattle.vm_blocks.specs.Changes.{made, flipped, turned, block_in, Applies}
+use Rattle.vm_blocks.specs.declared.change.Change.{Change}
+use Rattle.vm_blocks.specs.declared.change.Change.TheVariants as changes
+use Rattle.vm_blocks.specs.declared.change.Direction.{Direction}
+use Rattle.vm_blocks.specs.declared.change.Direction.TheVariants.{Forwards, Backwards}
+use Rattle.vm_blocks.proofs.ChangeLaws.{change_back, flip_twice}
+use Rattle.doc_edits.specs.Planning.{kind_of_change}
+use Rattle.undo_log.specs.Records.{opposite, after, step, steps, machine_of, CanTake, AreSteps}
+use Rattle.undo_log.specs.Turning.{takes, Moves, Turns}
 
--- the step that a record is, from a document on
-abbrev step_of : Record → Document → UndoStep
-step_of r d = record { kind = r.kind; cost = r.cost; document = back r d }
+-- what holds of a change that was carried out
+pub record IsBack (direction : Direction) (c : Change) (d : Document) : Type 0 where
+  pub valid : IsValid (after direction c d)
+  pub applies : Applies (turned (opposite direction) c) (after direction c d)
+  pub gives : after (opposite direction) c (after direction c d) ≡ d
 
--- the documents that records give back from this one are valid
-abbrev GiveValid : List Record → Document → Type 0
-GiveValid rs d = AreValid (steps rs d)
+pub goes_back : (direction : Direction) (c : Change) (d : Document) → IsValid d → Applies (turned direction c) d → IsBack direction c d
+goes_back Forwards c d valid applies = let law = change_back c d valid applies in record { valid = law.0; applies = law.1; gives = law.2 }
+goes_back Backwards c d valid applies =
+    let law = change_back (flipped c) d valid applies in
+    record {
+      valid = law.0;
+      applies = subst (λ (x : Change). Applies x (made (flipped c) d)) (flip_twice c) law.1;
+      gives = ap (λ (x : Change). made x (made (flipped c) d)) (sym (flip_twice c)) ∙ law.2;
+    }
 
--- an edit puts its record before the others, and nothing is left to redo
-pub edited_steps : (old new : Document) (undo redo : List Record) (r : Record) → AreSteps old undo redo → IsValid new → back r new ≡ old → IsLive r.before new → AreSteps new (r ∷ undo) []
-edited_steps old new undo redo r are valid is live = record {
-  valid = record {
-    document = valid;
-    past = valid-push (step_of r new) (steps undo (back r new)) (subst IsValid (sym is) are.valid.document) (subst (GiveValid undo) (sym is) are.valid.past);
-    future = valid-none;
-  };
-  undo_live = (live, subst (AreLive undo) (sym is) are.undo_live);
-  redo_live = tt;
+-- only a block that comes in takes memory
+pub takes_block : (direction : Direction) (c : Change) → (block_in (turned direction c) ≡ None → ⊥) → takes direction (kind_of_change c) ≡ true
+takes_block Forwards (changes.BlockIn b block) some = refl
+takes_block Forwards (changes.BlockOut b block) some = absurd (some refl)
+takes_block Forwards (changes.Part b part) some = absurd (some refl)
+takes_block Forwards (changes.UserId b old new) some = absurd (some refl)
+takes_block Forwards (changes.Map old new) some = absurd (some refl)
+takes_block Backwards (changes.BlockIn b block) some = absurd (some refl)
+takes_block Backwards (changes.BlockOut b block) some = refl
+takes_block Backwards (changes.Part b part) some = absurd (some refl)
+takes_block Backwards (changes.UserId b old new) some = absurd (some refl)
+takes_block Backwards (changes.Map old new) some = absurd (some refl)
+
+-- each document along the changes is valid
+steps-valid : (direction : Direction) (cs : List Change) (d : Document) → IsValid d → CanTake direction cs d → AreValid (steps direction cs d)
+steps-valid direction [] d valid can = valid-none
+steps-valid direction (c ∷ cs) d valid can =
+    let back = goes_back direction c d valid can.0 in
+    valid-push (step direction c d) (steps direction cs (after direction c d)) back.valid (steps-valid direction cs (after direction c d) back.valid can.1)
+
+pub machine-valid : (d : Document) (undo redo : List Change) → AreSteps Backwards d undo redo → IsValidMachine (machine_of d undo redo)
+machine-valid d undo redo are = record {
+  document = are.valid;
+  past = steps-valid Backwards undo d are.valid are.first;
+  future = steps-valid Forwards redo d are.valid are.second;
 }
 
--- the two lists may change places
-pub swapped : (d : Document) (undo redo : List Record) → AreSteps d undo redo → AreSteps d redo undo
-swapped d undo redo are = record {
-  valid = record { document = are.valid.document; past = are.valid.future; future = are.valid.past };
-  undo_live = are.redo_live;
-  redo_live = are.undo_live;
-}
+-- The two lists in the other order.
+pub swapped : (d : Document) (undo redo : List Change) → AreSteps Backwards d undo redo → AreSteps Forwards d redo undo
+swapped d undo redo are = record { valid = are.valid; first = are.second; second = are.first }
 
--- the newest record can be taken back
-pub can_turn : (d : Document) (from to : List Record) → AreSteps d from to → CanTurn d from
-can_turn d [] to are = tt
-can_turn d (r ∷ rs) to are = (valid-first (step_of r d) (steps rs (back r d)) are.valid.past, are.undo_live.0)
+pub swapped_back : (d : Document) (undo redo : List Change) → AreSteps Forwards d redo undo → AreSteps Backwards d undo redo
+swapped_back d undo redo are = record { valid = are.valid; first = are.second; second = are.first }
 
-turned_steps : (old new : Document) (from to : List Record) (newest turned : Record) → TurnsBack newest turned old new → AreSteps old (newest ∷ from) to → AreSteps new from (turned ∷ to)
-turned_steps old new from to newest turned turns are = record {
-  valid = record {
-    document = subst IsValid (sym turns.new_is) (valid-first (step_of newest old) (steps from (back newest old)) are.valid.past);
-    past = subst (GiveValid from) (sym turns.new_is) (valid-rest (step_of newest old) (steps from (back newest old)) are.valid.past);
-    future = valid-push (step_of turned new) (steps to (back turned new)) (subst IsValid (sym turns.old_is) are.valid.document) (subst (GiveValid to) (sym turns.old_is) are.valid.future);
-  };
-  undo_live = subst (AreLive from) (sym turns.new_is) are.undo_live.1;
-  redo_live = (turns.live, subst (AreLive to) (sym turns.old_is) are.redo_live);
-}
+-- an edit puts its change before the others, and nothing is left to redo
+pub edited_steps : (old new : Document) (undo redo : List Change) (c : Change) → AreSteps Backwards old undo redo → Applies c old → new ≡ made c old → AreSteps Backwards new (c ∷ undo) []
+edited_steps old new undo redo c are applies is =
+    let back = goes_back Forwards c old are.valid applies in
+    subst (λ (d : Document). AreSteps Backwards d (c ∷ undo) []) (sym is) (record {
+      valid = back.valid;
+      first = (back.applies, subst (CanTake Backwards undo) (sym back.gives) are.first);
+      second = tt;
+    })
+
+carried_steps : (direction : Direction) (d : Document) (from to : List Change) (c : Change) → AreSteps direction d (c ∷ from) to → AreSteps direction (after direction c d) from (c ∷ to)
+carried_steps direction d from to c are =
+    let back = goes_back direction c d are.valid are.first.0 in
+    record {
+      valid = back.valid;
+      first = are.first.1;
+      second = (back.applies, subst (CanTake (opposite direction) to) (sym back.gives) are.second);
+    }
+
+moved_steps : (direction : Direction) (old new : Document) (from to from' to' : List Change) → Moves direction old new from to from' to' → AreSteps direction old from to → AreSteps direction new from' to'
+moved_steps direction old new from to from' to' moves are =
+    subst (λ (d : Document). AreSteps direction d from' to') (sym moves.document)
+    (subst (λ (cs : List Change). AreSteps direction (after direction moves.change old) from' cs) (sym moves.to_is)
+    (carried_steps direction old from' to moves.change (subst (λ (cs : List Change). AreSteps direction old cs to) moves.from_was are)))
 
 -- a step from one list to the other keeps all that
-pub moved_steps : (old new : Document) (from to from' to' : List Record) → Moves old new from to from' to' → AreSteps old from to → AreSteps new from' to'
-moved_steps old new from to from' to' moves are =
-    subst (λ (rs : List Record). AreSteps new from' rs) (sym moves.to_is)
-    (turned_steps old new from' to moves.newest moves.turned moves.turns (subst (λ (rs : List Record). AreSteps old rs to) moves.from_was are))
-
-pub kept_steps : (turned : Bool) (old new : Document) (from to from' to' : List Record) → Turns turned old new from to from' to' → AreSteps old from to → AreSteps new from' to'
-kept_steps true old new from to from' to' moves are = moved_steps old new from to from' to' moves are
-kept_steps false old new from to from' to' stays are =
-    subst (λ (d : Document). AreSteps d from' to') (sym stays.document)
-    (subst (λ (rs : List Record). AreSteps old rs to') (stays.from_was ∙ sym stays.from_is)
-    (subst (λ (rs : List Record). AreSteps old from rs) (sym stays.to_is) are))
+pub kept_steps : (turned : Bool) (direction : Direction) (old new : Document) (from to from' to' : List Change) → Turns turned direction old new from to from' to' → AreSteps direction old from to → AreSteps direction new from' to'
+kept_steps true direction old new from to from' to' moves are = moved_steps direction old new from to from' to' moves are
+kept_steps false direction old new from to from' to' stays are =
+    subst (λ (d : Document). AreSteps direction d from' to') (sym stays.document)
+    (subst (λ (cs : List Change). AreSteps direction old cs to') (stays.from_was ∙ sym stays.from_is)
+    (subst (λ (cs : List Change). AreSteps direction old from cs) (sym stays.to_is) are))

@@ -42,6 +42,3 @@ late_faults = NoChunk ∷ own_faults ++ TooBig ∷ NoHandles ∷ Full ∷ []
 
 abbrev pub AreLate : Conditions → Type 0
 AreLate conditions = list_all (λ c. is_among late_faults c.0) conditions ≡ true
-
-abbrev pub AreOwn : Conditions → Type 0
-AreOwn conditions = list_all (λ c. is_among own_faults c.0) conditions ≡ true

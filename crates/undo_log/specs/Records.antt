@@ -1,59 +1,50 @@
--- What records give back.
-use Rattle.std.specs.Prelude.{◌≡◌, List, [], ◌∷◌}
-use Rattle.std.specs.Option.{option_map}
-use Rattle.undo_log.specs.Before.{IsLive}
-use Rattle.geos_model.specs.Document.{Document, IsValid, with_user_id}
-use Rattle.geos_model.specs.Machine.{Machine, UndoStep, IsValidMachine}
-use Rattle.vm_blocks.specs.Saved.{saved_block, with_slot}
-use Rattle.undo_log.specs.declared.before.Before.{Before}
-use Rattle.undo_log.specs.declared.before.Before.TheVariants as befores
-use Rattle.undo_log.specs.declared.record.Record.{Record}
+-- The records of a session are changes. What steps they are, and that each can be taken.
+use Rattle.std.specs.Prelude.{ℕ, List, [], ◌∷◌}
+use Rattle.std.specs.List.{sum_by}
+use Rattle.geos_model.specs.Document.{Document, IsValid}
+use Rattle.geos_model.specs.Machine.{Machine, UndoStep}
+use Rattle.vm_blocks.specs.Changes.{made, turned, weight, Applies}
+use Rattle.vm_blocks.specs.declared.change.Change.{Change}
+use Rattle.vm_blocks.specs.declared.change.Direction.{Direction}
+use Rattle.vm_blocks.specs.declared.change.Direction.TheVariants.{Forwards, Backwards}
+use Rattle.doc_edits.specs.Planning.{kind_of_change, change_cost}
 
--- the document with what was before
-abbrev pub with_before : Before → Document → Document
-with_before (befores.Block place block) d = with_slot d place.handle.0 (option_map saved_block block)
-with_before (befores.UserId h uid) d = with_user_id d h.0 uid
-with_before (befores.Map h) d = record d { map_block = h.0 }
+abbrev pub opposite : Direction → Direction
+opposite Forwards = Backwards
+opposite Backwards = Forwards
 
--- the document before the record's step
-abbrev pub back : Record → Document → Document
-back r d = with_before r.before d
+-- the document after a change is carried out in a direction
+abbrev pub after : Direction → Change → Document → Document
+after direction c d = made (turned direction c) d
 
--- what the records give back from a document, one after another
-abbrev pub steps : List Record → Document → List UndoStep
-steps [] d = []
-steps (r ∷ rs) d = record { kind = r.kind; cost = r.cost; document = back r d } ∷ steps rs (back r d)
+-- the step that a change is, carried out in a direction
+abbrev pub step : Direction → Change → Document → UndoStep
+step direction c d = record { kind = kind_of_change c; cost = change_cost c; document = after direction c d }
 
--- the machine of a document and two lists of records, the newest first
-abbrev pub machine_of : Document → List Record → List Record → Machine
-machine_of d undo redo = record { document = d; past = steps undo d; future = steps redo d }
+-- the steps that changes are, carried out in a direction one after another
+abbrev pub steps : Direction → List Change → Document → List UndoStep
+steps direction [] d = []
+steps direction (c ∷ cs) d = step direction c d ∷ steps direction cs (after direction c d)
 
--- each record can be taken back, one after another
-abbrev pub AreLive : List Record → Document → Type 0
-AreLive [] d = Unit {0}
-AreLive (r ∷ rs) d = IsLive r.before d × AreLive rs (back r d)
+-- The machine of a document and two lists of records, the newest first: the past takes changes back, the future makes them again.
+abbrev pub machine_of : Document → List Change → List Change → Machine
+machine_of d undo redo = record { document = d; past = steps Backwards undo d; future = steps Forwards redo d }
 
--- What is so of a document and its records: each document is valid, and each record can be taken back.
-pub record AreSteps (d : Document) (undo redo : List Record) : Type 0 where
-  pub valid : IsValidMachine (machine_of d undo redo)
-  pub undo_live : AreLive undo d
-  pub redo_live : AreLive redo d
+-- each change can be carried out in a direction, one after another
+abbrev pub CanTake : Direction → List Change → Document → Type 0
+CanTake direction [] d = Unit {0}
+CanTake direction (c ∷ cs) d = Applies (turned direction c) d × CanTake direction cs (after direction c d)
 
--- The newest record of a list can be taken back, if there is one.
-abbrev pub CanTurn : Document → List Record → Type 0
-CanTurn d [] = Unit {0}
-CanTurn d (r ∷ rs) = IsValid (back r d) × IsLive r.before d
+-- The document is valid, each change of one list can be carried out in this direction, and each of the other one in the opposite one.
+pub record AreSteps (direction : Direction) (d : Document) (from to : List Change) : Type 0 where
+  pub valid : IsValid d
+  pub first : CanTake direction from d
+  pub second : CanTake (opposite direction) to d
 
--- What was before is there, and what was there is before.
-pub record Swaps (before now : Before) (old new : Document) : Type 0 where
-  pub new_is : new ≡ with_before before old
-  pub old_is : with_before now new ≡ old
-  pub live : IsLive now new
+-- how many content bytes changes hold together
+abbrev pub total_weight : List Change → ℕ
+total_weight cs = sum_by weight cs
 
--- a record that takes another one back
-pub record TurnsBack (r turned : Record) (old new : Document) : Type 0 where
-  pub new_is : new ≡ back r old
-  pub old_is : back turned new ≡ old
-  pub live : IsLive turned.before new
-  pub kind : turned.kind ≡ r.kind
-  pub cost : turned.cost ≡ r.cost
+-- how many bytes steps are charged for together
+abbrev pub total_cost : List UndoStep → ℕ
+total_cost steps = sum_by (λ s. s.cost) steps

@@ -1,5 +1,4 @@
-ghost use Rattle.std.specs.Prelude.{◌≡◌, ◌++◌, true, MatchResult, Some};
-ghost use Rattle.std.specs.FinMap.{contains_key};
+ghost use Rattle.std.specs.Prelude.{◌≡◌, ◌++◌, MatchResult, Some};
 ghost use Rattle.geos_model.specs.Refusal.{Conditions, first_refusal};
 ghost use Rattle.geos_model.specs.Meaning.{on_raw, on_heap, on_chunk};
 ghost use Rattle.undo_log.specs.Found.{AreLate, IsRawAt, IsHeapAt, IsChunkAt};
@@ -37,19 +36,6 @@ pub fn heap_at(blocks: &Blocks, handle: VmHandle) -> Result<&Heap, Fault>
         },
         None => Err(Fault::NoBlock),
     }
-}
-
-/// The heap under a handle, in which a chunk is live: NoBlock, WrongKind, or NoChunk where it isn't.
-pub fn heap_with(blocks: &Blocks, handle: VmHandle, chunk: ChunkHandle) -> Result<&Heap, Fault>
-    ensures { MatchResult result
-        (λ heap. IsHeapAt blocks.now handle.0 heap.now × (contains_key heap.now chunk.0 ≡ true))
-        (λ fault. (rest : Conditions) → AreLate rest → first_refusal (on_chunk blocks.now handle.0 chunk.0 ++ rest) ≡ Some fault) }
-{
-    let heap = heap_at(blocks, handle)?;
-    if heap.chunk(chunk).is_none() {
-        return Err(Fault::NoChunk);
-    }
-    Ok(heap)
 }
 
 /// The bytes of a chunk: NoBlock, WrongKind, or NoChunk where it isn't live.

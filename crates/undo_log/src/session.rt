@@ -1,18 +1,19 @@
-ghost use Rattle.std.specs.Prelude.{◌≡◌, ℕ, Some, IfOk, length};
+ghost use Rattle.std.specs.Prelude.{◌≡◌, ◌+◌, ◌≤◌, ℕ, Some, IfOk, length};
 ghost use Rattle.std.specs.Option.{option_map};
 ghost use Rattle.geos_model.specs.Reply.{Accepted, BytesAre, NumberIs, TokenIs, reply_by, reply_of_done, body_info, info_is, blocks_are, chunks_are, found};
-ghost use Rattle.geos_model.specs.Machine.{Step, empty_machine};
+ghost use Rattle.geos_model.specs.Machine.{IsValidMachine, Step, empty_machine};
 ghost use Rattle.geos_model.specs.declared.command.Command.TheVariants as commands;
-ghost use Rattle.vm_blocks.specs.Blocks.{block_of};
+ghost use Rattle.vm_blocks.specs.Blocks.{block_of, is_resident};
+ghost use Rattle.undo_log.specs.Records.{total_cost};
 
-use crate::edits::make;
 use crate::found::{bytes_at, heap_at, raw_at};
-use crate::record::Record;
-use crate::turn::turn;
+use crate::turn::{take, turn};
+use crate::weighing::total_weight;
+use doc_edits::plan;
 use geos_model::{Bytes, ChunkHandle, Done, Edit, Fault, Info, Token, VmHandle};
 use std::alloc::{AllocError, Global};
 use std::marker::Model;
-use vm_blocks::{Block, BlockBody, Blocks};
+use vm_blocks::{Block, BlockBody, Blocks, Change, Direction};
 
 /// A document that is edited, with what undo needs. Contracts see it as the machine of documents: each call is one step
 /// of it, refused or not.
@@ -20,10 +21,10 @@ use vm_blocks::{Block, BlockBody, Blocks};
 pub struct Session {
     alloc: Global,
     blocks: Blocks,
-    /// What takes the newest edit back is the last. There is room for all records of both lists.
-    undo: Vec<Record>,
-    /// What makes the next edit again is the last. There is room for all records of both lists.
-    redo: Vec<Record>,
+    /// The newest edit is the last. There is room for the changes of both lists.
+    undo: Vec<Change>,
+    /// The next edit to make again is the last. There is room for the changes of both lists.
+    redo: Vec<Change>,
 }
 
 impl Model for Session {
@@ -35,13 +36,14 @@ impl Model for Session {
     ghost coded = { machine_code };
 
     ghost use Rattle.std.specs.Prelude.{◌+◌, ◌≤◌, reverse, vec_len, vec_capacity};
+    ghost use Rattle.vm_blocks.specs.declared.change.Direction.TheVariants.{Backwards};
     ghost use Rattle.undo_log.specs.Records.{machine_of, AreSteps};
 
     ghost view = { λ s. machine_of s.blocks (reverse s.undo.items) (reverse s.redo.items) };
 
     ghost invariant = { λ s. (vec_len s.undo + vec_len s.redo ≤ vec_capacity s.undo)
         × (vec_len s.undo + vec_len s.redo ≤ vec_capacity s.redo)
-        × AreSteps s.blocks (reverse s.undo.items) (reverse s.redo.items) };
+        × AreSteps Backwards s.blocks (reverse s.undo.items) (reverse s.redo.items) };
 }
 
 /// A block's user ID and size.
@@ -73,9 +75,10 @@ impl Session {
     {
         self.undo.reserve(self.redo.len() + 1)?;
         self.redo.reserve(self.undo.len() + 1)?;
-        let (done, record) = make(self.alloc, &mut self.blocks, edit)?;
+        let (change, done) = plan(self.alloc, &mut self.blocks, edit)?;
+        take(&mut self.blocks, &change, Direction::Forwards)?;
         self.redo.clear();
-        self.undo.push_reserved(record);
+        self.undo.push_reserved(change);
         Ok(done)
     }
 
@@ -83,7 +86,12 @@ impl Session {
     pub fn undo(&mut self) -> Result<(), Fault>
         ensures { Step self.old (Some commands.Undo) (reply_by (λ _. Accepted) result) self.new }
     {
-        if turn(self.alloc, &mut self.blocks, &mut self.undo, &mut self.redo)? {
+        if turn(
+            &mut self.blocks,
+            &mut self.undo,
+            &mut self.redo,
+            Direction::Backwards,
+        )? {
             Ok(())
         } else {
             Err(Fault::NothingToUndo)
@@ -94,7 +102,12 @@ impl Session {
     pub fn redo(&mut self) -> Result<(), Fault>
         ensures { Step self.old (Some commands.Redo) (reply_by (λ _. Accepted) result) self.new }
     {
-        if turn(self.alloc, &mut self.blocks, &mut self.redo, &mut self.undo)? {
+        if turn(
+            &mut self.blocks,
+            &mut self.redo,
+            &mut self.undo,
+            Direction::Forwards,
+        )? {
             Ok(())
         } else {
             Err(Fault::NothingToRedo)
@@ -113,6 +126,28 @@ impl Session {
         ensures { result ≡ length self.now.future }
     {
         self.redo.len()
+    }
+
+    /// It does nothing: its caller learns that each document of the machine is valid, as it always is.
+    pub fn validity(&self)
+        ensures { IsValidMachine self.now }
+    {
+        // What is always so of the fields is known where one is named.
+        let _ = &self.undo;
+    }
+
+    /// How many content bytes the records of undo and redo hold, 2^64 - 1 where these are more.
+    pub fn weight(&self) -> u64
+        ensures { result ≤ total_cost self.now.past + total_cost self.now.future }
+    {
+        total_weight(self.undo.as_slice()).saturating_add(total_weight(self.redo.as_slice()))
+    }
+
+    /// Whether a block is in memory.
+    pub fn is_resident(&self, block: VmHandle) -> bool
+        ensures { result ≡ is_resident self.now.document block.0 }
+    {
+        self.blocks.is_resident(block)
     }
 
     /// A block's user ID and size.

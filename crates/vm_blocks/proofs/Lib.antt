@@ -1,5 +1,7 @@
 pub mod SlotLemmas
 pub mod ChangeLemmas
+pub mod ChangeLaws
+pub mod PartLemmas
 pub mod RoomLemmas
 pub mod SavedLemmas
 pub mod ValidLemmas

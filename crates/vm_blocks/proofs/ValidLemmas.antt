@@ -1,18 +1,18 @@
 -- What is done to blocks leaves the document valid.
-use Rattle.std.proofs.Common.{◌≡◌, ◌≢◌, ◌≤◌, ◌<◌, ℕ, List, true, nat_le, replicate, length, Option, Some, None, refl}
+use Rattle.std.proofs.Common.{◌≡◌, ◌≢◌, ◌≤◌, ℕ, true, nat_le, replicate, Option, Some, None, refl}
 use Rattle.std.proofs.lemmas.Bool.{and_parts, leb-true, le-leb}
 use Rattle.std.specs.Option.{option_map}
-use Rattle.geos_model.specs.Document.{Block as DocumentBlock, Document, IsValid, is_vm_handle, is_valid_body}
+use Rattle.geos_model.specs.Document.{Document, IsValid, is_vm_handle, is_valid_body}
 use Rattle.geos_model.proofs.Validity.{with_block-valid, without_block-valid}
-use Rattle.geos_model.specs.Heap.{ChunkMap, chunk_bytes}
+use Rattle.geos_model.specs.Heap.{chunk_bytes}
 use Rattle.geos_model.specs.declared.command.Body.{Body}
 use Rattle.geos_model.specs.declared.command.Body.TheVariants.{Raw, Heap}
 use Rattle.geos_model.proofs.HeapTables.{live_handle}
 use Rattle.geos_model.proofs.HeapEdits.{heap-insert, heap-remove}
 use Rattle.chunk_edits.specs.Splicing.{forwards}
-use Rattle.vm_blocks.specs.declared.change.Change.{Change}
-use Rattle.vm_blocks.specs.declared.change.Change.TheVariants as changes
-use Rattle.vm_blocks.specs.Changes.{Allows, changed_body}
+use Rattle.vm_blocks.specs.declared.body_change.BodyChange.{BodyChange}
+use Rattle.vm_blocks.specs.declared.body_change.BodyChange.TheVariants as changes
+use Rattle.vm_blocks.specs.BodyChanges.{Allows, changed_body}
 use Rattle.vm_blocks.specs.Blocks.{block_of}
 use Rattle.vm_blocks.specs.Saved.{with_slot}
 use Rattle.vm_blocks.specs.declared.block.Block.{Block}
@@ -28,7 +28,7 @@ valid-with_slot d h None valid handle other = without_block-valid d h valid (oth
 valid-with_slot d h (Some b) valid handle other = with_block-valid d h (block_of b) valid (record { handle = handle; user_id = b.word; body = b.valid })
 
 -- what a body allows leaves a body that can be
-pub valid-changed_body : (change : Change) (body : Body) → is_valid_body body ≡ true → Allows change body → is_valid_body (changed_body change body) ≡ true
+pub valid-changed_body : (change : BodyChange) (body : Body) → is_valid_body body ≡ true → Allows change body → is_valid_body (changed_body change body) ≡ true
 valid-changed_body (changes.Raw s) (Raw bytes) valid allows = le-leb _ _ allows.room
 valid-changed_body (changes.Raw s) (Heap m) valid allows = absurd allows
 valid-changed_body (changes.Chunk c s) (Raw bytes) valid allows = absurd allows

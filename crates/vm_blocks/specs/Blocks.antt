@@ -1,7 +1,7 @@
 -- What callers see of blocks in memory.
 use Rattle.std.specs.Prelude.{◌≡◌, ◌≤◌, ◌+◌, ℕ, Bool, ◌==◌, if◌then◌else◌, min, List, length, map, Option}
 use Rattle.std.specs.Option.{option_map}
-use Rattle.geos_model.specs.Document.{Block as DocumentBlock, Document, IsValid, most_blocks}
+use Rattle.geos_model.specs.Document.{Block as DocumentBlock, Document, IsValid, is_live, most_blocks}
 use Rattle.geos_model.proofs.Table.{table_map, first_gap}
 use Rattle.vm_blocks.specs.Bodies.{body_of}
 use Rattle.vm_blocks.specs.declared.block.Block.{Block}
@@ -26,6 +26,10 @@ pub record AreSlots (slots : List (Option Block)) (gap : ℕ) : Type 0 where
 pub record AreBlocks (slots : List (Option Block)) (gap map_block : ℕ) : Type 0 where
   pub placed : AreSlots slots gap
   pub valid : IsValid (document_of slots map_block)
+
+-- Whether a block is in memory: every live one is.
+abbrev pub is_resident : Document → ℕ → Bool
+is_resident d h = is_live d h
 
 -- where a search for a gap may start after a place was filled or freed
 abbrev pub start_after : ℕ → ℕ → Bool → ℕ

@@ -1,63 +1,169 @@
--- What a change of the body of a block comes to.
-use Rattle.std.specs.Prelude.{◌≡◌, ◌≤◌, ◌+◌, ℕ, List, IsTrue, MatchOption, None, length, replicate}
-use Rattle.std.specs.Option.{option_map_or}
-use Rattle.std.specs.FinMap.{get, insert, remove, contains_key}
-use Rattle.geos_model.specs.Heap.{ChunkMap, chunk_bytes, fits_with, is_chunk_handle, capacity}
-use Rattle.geos_model.specs.Document.{Document, with_block}
-use Rattle.geos_model.specs.declared.command.Body.{Body}
-use Rattle.geos_model.specs.declared.command.Body.TheVariants.{Raw, Heap}
-use Rattle.chunk_edits.specs.Splicing.{forwards}
+-- What a change makes of a document, the same change the other way round, and in which documents it can be made.
+use Rattle.std.specs.Prelude.{◌≡◌, ◌≢◌, ◌≤◌, ◌<◌, ◌+◌, ℕ, List, true, Option, Some, None, length, replicate}
+use Rattle.std.specs.Option.{option_map}
+use Rattle.std.specs.FinMap.{get, contains_key}
+use Rattle.geos_model.specs.Heap.{capacity, fits_with, is_chunk_handle}
+use Rattle.geos_model.specs.Document.{Block, Document, IsValid, is_vm_handle, is_live, is_heap, is_raw, chunks_of, raw_bytes_of, user_id_of, with_block, without_block, with_body, with_user_id}
+use Rattle.geos_model.specs.Image.{image}
+use Rattle.geos_model.specs.Meaning.{chunk_at, with_chunk, without_chunk}
+use Rattle.geos_model.specs.declared.command.Body.TheVariants.{Raw}
+use Rattle.chunk_edits.specs.Splicing.{Stands, forwards}
 use Rattle.chunk_edits.specs.declared.splice.Splice.{Splice}
+use Rattle.vm_blocks.specs.Blocks.{block_of}
+use Rattle.vm_blocks.specs.Saved.{saved_block}
+use Rattle.vm_blocks.specs.declared.prepared.Prepared.{Prepared}
 use Rattle.vm_blocks.specs.declared.change.Change.{Change}
 use Rattle.vm_blocks.specs.declared.change.Change.TheVariants as changes
+use Rattle.vm_blocks.specs.declared.change.PartChange.{PartChange}
+use Rattle.vm_blocks.specs.declared.change.PartChange.TheVariants as parts
+use Rattle.vm_blocks.specs.declared.change.Content.{Content}
+use Rattle.vm_blocks.specs.declared.change.Content.TheVariants as contents
+use Rattle.vm_blocks.specs.declared.change.Direction.{Direction}
+use Rattle.vm_blocks.specs.declared.change.Direction.TheVariants.{Forwards, Backwards}
 
--- a raw body has the part that is replaced, and room for what comes
-pub record AllowsRaw (bytes : List ℕ) (s : Splice) : Type 0 where
-  pub within : s.at + length s.old ≤ length bytes
-  pub room : length (forwards s bytes) ≤ capacity
+-- the bytes of a chunk that comes in or goes
+abbrev pub bytes_of : Content → List ℕ
+bytes_of (contents.Bytes bytes) = bytes
+bytes_of (contents.Zeros n) = replicate n 0
 
--- so has a chunk in its heap
-pub record AllowsChunk (m : ChunkMap) (c : ℕ) (s : Splice) : Type 0 where
-  pub live : IsTrue (contains_key m c)
-  pub within : s.at + length s.old ≤ length (chunk_bytes m c)
-  pub fits : IsTrue (fits_with m c (forwards s (chunk_bytes m c)))
+-- What a change makes of a document.
 
--- there is room for a chunk of these bytes under a handle that is free
-pub record AllowsNewChunk (m : ChunkMap) (c : ℕ) (bytes : List ℕ) : Type 0 where
-  pub handle : IsTrue (is_chunk_handle c)
-  pub free : get m c ≡ None
-  pub fits : IsTrue (fits_with m c bytes)
+abbrev pub part_made : ℕ → PartChange → Document → Document
+part_made b (parts.Raw s) d = with_body d b (Raw (forwards s (raw_bytes_of d b)))
+part_made b (parts.Chunk c s) d = with_chunk d b c.0 (forwards s (chunk_at d b c.0))
+part_made b (parts.ChunkIn c content) d = with_chunk d b c.0 (bytes_of content)
+part_made b (parts.ChunkOut c content) d = without_chunk d b c.0
 
--- a change that a body can take
-abbrev pub Allows : Change → Body → Type 0
-Allows (changes.Raw s) (Raw bytes) = AllowsRaw bytes s
-Allows (changes.Raw s) (Heap m) = ⊥
-Allows (changes.Chunk c s) (Raw bytes) = ⊥
-Allows (changes.Chunk c s) (Heap m) = AllowsChunk m c.0 s
-Allows (changes.NewChunk c n) (Raw bytes) = ⊥
-Allows (changes.NewChunk c n) (Heap m) = AllowsNewChunk m c.0 (replicate n 0)
-Allows (changes.FilledChunk c bytes) (Raw body) = ⊥
-Allows (changes.FilledChunk c bytes) (Heap m) = AllowsNewChunk m c.0 bytes
-Allows (changes.FreeChunk c) (Raw bytes) = ⊥
-Allows (changes.FreeChunk c) (Heap m) = IsTrue (contains_key m c.0)
+abbrev pub made : Change → Document → Document
+made (changes.BlockIn b block) d = with_block d b.0 (saved_block block)
+made (changes.BlockOut b block) d = without_block d b.0
+made (changes.Part b part) d = part_made b.0 part d
+made (changes.UserId b old new) d = with_user_id d b.0 new
+made (changes.Map old new) d = record d { map_block = new.0 }
 
--- the body after it; one that can't take it stays
-abbrev pub changed_body : Change → Body → Body
-changed_body (changes.Raw s) (Raw bytes) = Raw (forwards s bytes)
-changed_body (changes.Raw s) (Heap m) = Heap m
-changed_body (changes.Chunk c s) (Raw bytes) = Raw bytes
-changed_body (changes.Chunk c s) (Heap m) = Heap (insert m c.0 (forwards s (chunk_bytes m c.0)))
-changed_body (changes.NewChunk c n) (Raw bytes) = Raw bytes
-changed_body (changes.NewChunk c n) (Heap m) = Heap (insert m c.0 (replicate n 0))
-changed_body (changes.FilledChunk c bytes) (Raw body) = Raw body
-changed_body (changes.FilledChunk c bytes) (Heap m) = Heap (insert m c.0 bytes)
-changed_body (changes.FreeChunk c) (Raw bytes) = Raw bytes
-changed_body (changes.FreeChunk c) (Heap m) = Heap (remove m c.0)
+-- The same change the other way round.
 
--- The same of the block under a handle.
+abbrev pub flipped_splice : Splice → Splice
+flipped_splice s = record { at = s.at; old = s.new; new = s.old }
 
-abbrev pub AllowsIn : Document → ℕ → Change → Type 0
-AllowsIn d h change = MatchOption (get d.blocks h) ⊥ (λ b. Allows change b.body)
+abbrev pub flipped_part : PartChange → PartChange
+flipped_part (parts.Raw s) = parts.Raw (flipped_splice s)
+flipped_part (parts.Chunk c s) = parts.Chunk c (flipped_splice s)
+flipped_part (parts.ChunkIn c content) = parts.ChunkOut c content
+flipped_part (parts.ChunkOut c content) = parts.ChunkIn c content
 
-abbrev pub changed : Document → ℕ → Change → Document
-changed d h change = option_map_or (λ b. with_block d h (record b { body = changed_body change b.body })) (get d.blocks h) d
+abbrev pub flipped : Change → Change
+flipped (changes.BlockIn b block) = changes.BlockOut b block
+flipped (changes.BlockOut b block) = changes.BlockIn b block
+flipped (changes.Part b part) = changes.Part b (flipped_part part)
+flipped (changes.UserId b old new) = changes.UserId b new old
+flipped (changes.Map old new) = changes.Map new old
+
+-- the change that is made by carrying one out in a direction
+abbrev pub turned_part : Direction → PartChange → PartChange
+turned_part Forwards part = part
+turned_part Backwards part = flipped_part part
+
+abbrev pub turned : Direction → Change → Change
+turned Forwards change = change
+turned Backwards change = flipped change
+
+-- In which documents a change can be made.
+
+-- a handle that a block can have, and none has
+pub record IsFree (d : Document) (b : ℕ) : Type 0 where
+  pub handle : is_vm_handle b ≡ true
+  pub free : get d.blocks b ≡ None
+
+-- the block stands there, and isn't the map block
+pub record CanGo (d : Document) (b : ℕ) (block : Block) : Type 0 where
+  pub stands : get d.blocks b ≡ Some block
+  pub other : d.map_block ≢ b
+
+-- the part stands in a raw body, and the result fits
+pub record FitsRaw (d : Document) (b : ℕ) (s : Splice) : Type 0 where
+  pub raw : is_raw d b ≡ true
+  pub stands : Stands (raw_bytes_of d b) s.at s.old
+  pub fits : length (forwards s (raw_bytes_of d b)) ≤ capacity
+
+-- the part stands in a chunk, and the result fits
+pub record FitsChunk (d : Document) (b c : ℕ) (s : Splice) : Type 0 where
+  pub heap : is_heap d b ≡ true
+  pub live : contains_key (chunks_of d b) c ≡ true
+  pub stands : Stands (chunk_at d b c) s.at s.old
+  pub fits : fits_with (chunks_of d b) c (forwards s (chunk_at d b c)) ≡ true
+
+-- a handle that a chunk can have, and none has, and the heap has room for a chunk of these bytes there
+pub record FitsNewChunk (d : Document) (b c : ℕ) (bytes : List ℕ) : Type 0 where
+  pub heap : is_heap d b ≡ true
+  pub handle : is_chunk_handle c ≡ true
+  pub free : get (chunks_of d b) c ≡ None
+  pub fits : fits_with (chunks_of d b) c bytes ≡ true
+
+-- the chunk stands with exactly these bytes
+pub record HasChunk (d : Document) (b c : ℕ) (bytes : List ℕ) : Type 0 where
+  pub heap : is_heap d b ≡ true
+  pub stands : get (chunks_of d b) c ≡ Some bytes
+
+-- the block has this user ID, and the new one is a word
+pub record HasUserId (d : Document) (b old new : ℕ) : Type 0 where
+  pub live : is_live d b ≡ true
+  pub stands : user_id_of d b ≡ old
+  pub word : new < 65536
+
+-- the map block is this one, and the new one is 0 or live
+pub record HasMap (d : Document) (old new : ℕ) : Type 0 where
+  pub stands : d.map_block ≡ old
+  pub live : new ≢ 0 → is_live d new ≡ true
+
+abbrev pub PartApplies : ℕ → PartChange → Document → Type 0
+PartApplies b (parts.Raw s) d = FitsRaw d b s
+PartApplies b (parts.Chunk c s) d = FitsChunk d b c.0 s
+PartApplies b (parts.ChunkIn c content) d = FitsNewChunk d b c.0 (bytes_of content)
+PartApplies b (parts.ChunkOut c content) d = HasChunk d b c.0 (bytes_of content)
+
+abbrev pub Applies : Change → Document → Type 0
+Applies (changes.BlockIn b block) d = IsFree d b.0
+Applies (changes.BlockOut b block) d = CanGo d b.0 (saved_block block)
+Applies (changes.Part b part) d = PartApplies b.0 part d
+Applies (changes.UserId b old new) d = HasUserId d b.0 old new
+Applies (changes.Map old new) d = HasMap d old.0 new.0
+
+-- A change of a valid document leaves a valid one, to which the same change the other way round applies and gives back the first.
+abbrev pub ChangeLaw : Type 0
+ChangeLaw = (c : Change) (d : Document) → IsValid d → Applies c d → IsValid (made c d) × Applies (flipped c) (made c d) × (made (flipped c) (made c d) ≡ d)
+
+-- The other way round twice is the change itself.
+abbrev pub FlipLaw : Type 0
+FlipLaw = (c : Change) → flipped (flipped c) ≡ c
+
+-- the block that a change brings in, if it brings one in
+abbrev pub block_in : Change → Option Block
+block_in (changes.BlockIn b block) = Some (saved_block block)
+block_in (changes.BlockOut b block) = None
+block_in (changes.Part b part) = None
+block_in (changes.UserId b old new) = None
+block_in (changes.Map old new) = None
+
+-- it was prepared for this change
+abbrev pub IsFor : Prepared → Change → Type 0
+IsFor prepared change = option_map block_of prepared.block ≡ block_in change
+
+-- How many content bytes a change holds.
+
+abbrev pub content_weight : Content → ℕ
+content_weight (contents.Bytes bytes) = length bytes
+content_weight (contents.Zeros n) = 0
+
+abbrev pub part_weight : PartChange → ℕ
+part_weight (parts.Raw s) = length s.old + length s.new
+part_weight (parts.Chunk c s) = length s.old + length s.new
+part_weight (parts.ChunkIn c content) = content_weight content
+part_weight (parts.ChunkOut c content) = content_weight content
+
+abbrev pub weight : Change → ℕ
+weight (changes.BlockIn b block) = length (image (saved_block block).body)
+weight (changes.BlockOut b block) = length (image (saved_block block).body)
+weight (changes.Part b part) = part_weight part
+weight (changes.UserId b old new) = 0
+weight (changes.Map old new) = 0

@@ -3,10 +3,8 @@ use Rattle.std.specs.Prelude.{◌≡◌, ℕ, List, true, Option, Some, None}
 use Rattle.geos_model.specs.Heap.{ChunkMap, is_heap_map}
 use Rattle.geos_model.specs.Image.{image, body_read}
 use Rattle.geos_model.specs.Document.{Block, Document, chunks_of_body, with_block, without_block}
-use Rattle.geos_model.specs.declared.command.Body.{Body}
-use Rattle.geos_model.specs.declared.command.Body.TheVariants.{Raw, Heap}
-use Rattle.vm_blocks.specs.declared.saved.SavedBody.{SavedBody}
-use Rattle.vm_blocks.specs.declared.saved.SavedBody.TheVariants as saved_bodies
+use Rattle.geos_model.specs.declared.command.Body.TheVariants.{Heap}
+use Rattle.vm_blocks.specs.Bodies.{saved_body}
 use Rattle.vm_blocks.specs.declared.saved.SavedBlock.{SavedBlock}
 
 -- the chunks of which bytes are the image
@@ -18,11 +16,7 @@ pub record IsSaved (bytes : List ℕ) : Type 0 where
   pub image_is : image (Heap (chunks_saved bytes)) ≡ bytes
   pub valid : is_heap_map (chunks_saved bytes) ≡ true
 
--- a saved body, and a saved block, as the document had them
-abbrev pub saved_body : SavedBody → Body
-saved_body (saved_bodies.Raw bytes) = Raw bytes
-saved_body (saved_bodies.Heap m) = Heap m
-
+-- a saved block, as the document had it
 abbrev pub saved_block : SavedBlock → Block
 saved_block s = record { user_id = s.user_id; body = saved_body s.body }
 

@@ -3,9 +3,9 @@ ghost use Rattle.std.specs.FinMap.{insert};
 ghost use Rattle.geos_model.specs.declared.command.Body.TheVariants as bodies;
 ghost use Rattle.geos_model.specs.Document.{is_valid_body};
 ghost use Rattle.vm_blocks.specs.Bodies.{body_of};
-ghost use Rattle.vm_blocks.specs.Changes.{Allows, AllowsNewChunk, changed_body};
+ghost use Rattle.vm_blocks.specs.BodyChanges.{Allows, AllowsNewChunk, changed_body};
 
-use crate::Change;
+use crate::BodyChange;
 use chunk_edits::{apply, apply_raw};
 use geos_model::ChunkHandle;
 use lmem_heap::Heap;
@@ -42,7 +42,7 @@ impl Block {
 
 impl BlockBody {
     /// Makes a change in place.
-    pub(crate) fn change(&mut self, change: &Change)
+    pub(crate) fn change(&mut self, change: &BodyChange)
         requires { Allows change.now (body_of self.old) }
         ensures { body_of self.new ≡ changed_body change.now (body_of self.old) }
     {
@@ -54,35 +54,35 @@ impl BlockBody {
 }
 
 /// Makes a change of a raw body.
-fn change_raw(body: &mut RawBody, change: &Change)
+fn change_raw(body: &mut RawBody, change: &BodyChange)
     requires { Allows change.now (bodies.Raw body.old) }
     ensures { bodies.Raw body.new ≡ changed_body change.now (bodies.Raw body.old) }
 {
     match change {
-        Change::Raw(splice) => apply_raw(body, splice),
-        Change::Chunk(_, _)
-        | Change::NewChunk(_, _)
-        | Change::FilledChunk(_, _)
-        | Change::FreeChunk(_) => unreachable!(),
+        BodyChange::Raw(splice) => apply_raw(body, splice),
+        BodyChange::Chunk(_, _)
+        | BodyChange::NewChunk(_, _)
+        | BodyChange::FilledChunk(_, _)
+        | BodyChange::FreeChunk(_) => unreachable!(),
     }
 }
 
 /// Makes a change of a heap.
-fn change_heap(heap: &mut Heap, change: &Change)
+fn change_heap(heap: &mut Heap, change: &BodyChange)
     requires { Allows change.now (bodies.Heap heap.old) }
     ensures { bodies.Heap heap.new ≡ changed_body change.now (bodies.Heap heap.old) }
 {
     match change {
-        Change::Chunk(chunk, splice) => apply(heap, *chunk, splice),
-        Change::NewChunk(chunk, size) => heap.alloc_at(*chunk, *size),
-        Change::FilledChunk(chunk, bytes) => fill_chunk(heap, *chunk, bytes.as_slice()),
-        Change::FreeChunk(chunk) => heap.free(*chunk),
-        Change::Raw(_) => unreachable!(),
+        BodyChange::Chunk(chunk, splice) => apply(heap, *chunk, splice),
+        BodyChange::NewChunk(chunk, size) => heap.alloc_at(*chunk, *size),
+        BodyChange::FilledChunk(chunk, bytes) => fill_chunk(heap, *chunk, bytes.as_slice()),
+        BodyChange::FreeChunk(chunk) => heap.free(*chunk),
+        BodyChange::Raw(_) => unreachable!(),
     }
 }
 
 /// A new chunk of these bytes, under a free handle.
-fn fill_chunk(heap: &mut Heap, chunk: ChunkHandle, bytes: &[u8])
+pub(crate) fn fill_chunk(heap: &mut Heap, chunk: ChunkHandle, bytes: &[u8])
     requires { AllowsNewChunk heap.old chunk.0 bytes.now }
     ensures { heap.new ≡ insert heap.old chunk.0 bytes.now }
 {

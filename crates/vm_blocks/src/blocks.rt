@@ -1,15 +1,18 @@
-ghost use Rattle.std.specs.Prelude.{◌≡◌, ◌≢◌, ◌+◌, ◌≤◌, ℕ, Some, None, true, IsTrue, IfOk, IfSome, IsSome, length, map, replicate, unwrap_or};
+ghost use Rattle.std.specs.Prelude.{◌≡◌, ◌≢◌, ◌+◌, ◌≤◌, ℕ, Some, None, true, false, IsTrue, IsOk, IfOk, IfErr, IfSome, IsSome, length, map, replicate, unwrap_or};
 ghost use Rattle.std.specs.Option.{option_map, option_copied};
 ghost use Rattle.std.specs.FinMap.{get, keys};
-ghost use Rattle.geos_model.specs.Document.{empty_document, next_handle, is_live, is_vm_handle, most_blocks, with_user_id};
+ghost use Rattle.geos_model.specs.Document.{IsValid, empty_document, next_handle, is_live, is_vm_handle, most_blocks, with_user_id};
 ghost use Rattle.geos_model.specs.Reply.{found};
 ghost use Rattle.geos_model.proofs.Table.{table_entries, first_gap};
-ghost use Rattle.vm_blocks.specs.Blocks.{block_of, table_of, document_of, start_after};
-ghost use Rattle.vm_blocks.specs.Changes.{AllowsIn, changed};
+ghost use Rattle.vm_blocks.specs.Blocks.{block_of, table_of, document_of, start_after, is_resident};
+ghost use Rattle.vm_blocks.specs.Bodies.{body_of};
+ghost use Rattle.vm_blocks.specs.BodyChanges.{AllowsIn, changed};
+ghost use Rattle.vm_blocks.specs.Changes.{made, part_made, turned, turned_part, Applies, PartApplies, block_in, IsFor};
 ghost use Rattle.vm_blocks.specs.Saved.{with_slot};
 
-use crate::{Block, Change};
-use geos_model::VmHandle;
+use crate::part::carry_out;
+use crate::{Block, BlockBody, BodyChange, Change, Direction, PartChange, Prepared};
+use geos_model::{Fault, VmHandle};
 use std::alloc::{AllocError, Global};
 use std::marker::Model;
 
@@ -123,6 +126,14 @@ impl Blocks {
         })
     }
 
+    /// It does nothing: its caller learns that the document is valid, as it always is.
+    pub fn validity(&self)
+        ensures { IsValid self.now }
+    {
+        // What is always so of the fields is known where one is named.
+        let _ = &self.slots;
+    }
+
     /// The block under a handle.
     pub fn block(&self, handle: VmHandle) -> Option<&Block>
         ensures value { option_map block_of (option_copied result) ≡ get self.now.blocks handle.0 }
@@ -135,6 +146,37 @@ impl Blocks {
         match slots.get(usize::from(handle.0) - 1) {
             Some(slot) => slot.as_ref(),
             None => None,
+        }
+    }
+
+    /// Whether a block is in memory, so that its body can be read.
+    pub fn is_resident(&self, handle: VmHandle) -> bool
+        ensures { result ≡ is_resident self.now handle.0 }
+    {
+        self.block(handle).is_some()
+    }
+
+    /// Brings a block into memory. NoBlock where it isn't live.
+    pub fn load(&mut self, handle: VmHandle) -> Result<(), Fault>
+        ensures same { self.new ≡ self.old }
+        ensures ok { IfOk result (λ _. is_resident self.new handle.0 ≡ true) }
+        ensures err { IfErr result (λ fault. (fault ≡ Fault.NoBlock) × (is_live self.old handle.0 ≡ false)) }
+    {
+        if self.is_resident(handle) {
+            Ok(())
+        } else {
+            Err(Fault::NoBlock)
+        }
+    }
+
+    /// The body of a block that is in memory.
+    pub fn body(&self, handle: VmHandle) -> &BlockBody
+        requires { is_resident self.now handle.0 ≡ true }
+        ensures { option_map (λ b. b.body) (get self.now.blocks handle.0) ≡ Some (body_of result.now) }
+    {
+        match self.block(handle) {
+            Some(block) => &block.body,
+            None => unreachable!(),
         }
     }
 
@@ -206,7 +248,7 @@ impl Blocks {
     }
 
     /// Makes a change of a block's body in place.
-    pub fn change(&mut self, handle: VmHandle, change: &Change)
+    pub fn change(&mut self, handle: VmHandle, change: &BodyChange)
         requires { AllowsIn self.old handle.0 change.now }
         ensures { self.new ≡ changed self.old handle.0 change.now }
     {
@@ -214,6 +256,63 @@ impl Blocks {
         let place = usize::from(handle.0) - 1;
         match &mut slots[place] {
             Some(block) => block.body.change(change),
+            None => unreachable!(),
+        }
+    }
+
+    /// Takes what memory carrying a change out will need: that of a block that comes in. Memory where there is none.
+    pub fn prepare(&self, change: &Change, direction: Direction) -> Result<Prepared, Fault>
+        ensures ok { IfOk result (λ prepared. IsFor prepared (turned direction change.now)) }
+        ensures err { IfErr result (λ fault. fault ≡ Fault.Memory) }
+        ensures sure { block_in (turned direction change.now) ≡ None → IsOk result }
+    {
+        match change {
+            Change::BlockIn(_, block) => match direction {
+                Direction::Forwards => Prepared::block(self.alloc, block),
+                Direction::Backwards => Ok(Prepared::nothing()),
+            },
+            Change::BlockOut(_, block) => match direction {
+                Direction::Forwards => Ok(Prepared::nothing()),
+                Direction::Backwards => Prepared::block(self.alloc, block),
+            },
+            Change::Part(_, _) | Change::UserId { .. } | Change::Map { .. } => {
+                Ok(Prepared::nothing())
+            }
+        }
+    }
+
+    /// Carries a change out in place, with what was prepared for it.
+    pub fn carry_out(&mut self, change: &Change, direction: Direction, prepared: Prepared)
+        requires applies { Applies (turned direction change.now) self.old }
+        requires prepared { IsFor prepared (turned direction change.now) }
+        ensures { self.new ≡ made (turned direction change.now) self.old }
+    {
+        self.validity();
+        match change {
+            Change::BlockIn(handle, _) | Change::BlockOut(handle, _) => {
+                self.put(*handle, prepared.into_block())
+            }
+            Change::Part(handle, part) => self.carry_out_part(*handle, part, direction),
+            Change::UserId { handle, old, new } => match direction {
+                Direction::Forwards => self.set_user_id(*handle, *new),
+                Direction::Backwards => self.set_user_id(*handle, *old),
+            },
+            Change::Map { old, new } => match direction {
+                Direction::Forwards => self.set_map(*new),
+                Direction::Backwards => self.set_map(*old),
+            },
+        }
+    }
+
+    /// Carries a change of a part of a block out.
+    fn carry_out_part(&mut self, handle: VmHandle, part: &PartChange, direction: Direction)
+        requires { PartApplies handle.0 (turned_part direction part.now) self.old }
+        ensures { self.new ≡ part_made handle.0 (turned_part direction part.now) self.old }
+    {
+        let slots = &mut self.slots;
+        let place = usize::from(handle.0) - 1;
+        match &mut slots[place] {
+            Some(block) => carry_out(&mut block.body, part, direction),
             None => unreachable!(),
         }
     }

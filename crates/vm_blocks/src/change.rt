@@ -1,17 +1,94 @@
-use chunk_edits::Splice;
-use geos_model::{Bytes, ChunkHandle};
+ghost use Rattle.std.specs.Prelude.{◌≡◌};
+ghost use Rattle.vm_blocks.specs.Changes.{weight, part_weight, content_weight};
 
-/// A change of the body of a block.
+use crate::SavedBlock;
+use chunk_edits::Splice;
+use geos_model::{Bytes, ChunkHandle, VmHandle};
+
+/// Which way a change is carried out.
+#[derive(Clone, Copy, Debug, PartialEq, Eq)]
+pub enum Direction {
+    Forwards,
+    Backwards,
+}
+
+/// One edit of a document, with all that carrying it out takes in either direction.
 #[derive(Drop)]
 pub enum Change {
+    /// A block comes in under a free handle.
+    BlockIn(VmHandle, SavedBlock),
+    /// A block goes that isn't the map block.
+    BlockOut(VmHandle, SavedBlock),
+    /// The body of a block changes.
+    Part(VmHandle, PartChange),
+    /// A block gets another user ID.
+    UserId {
+        handle: VmHandle,
+        old: u16,
+        new: u16,
+    },
+    /// Another block becomes the map block; 0 stands for none.
+    Map {
+        old: VmHandle,
+        new: VmHandle,
+    },
+}
+
+/// A change of a part of a block's body.
+#[derive(Drop)]
+pub enum PartChange {
     /// A part of a raw body is replaced.
     Raw(Splice),
     /// A part of a chunk is replaced.
     Chunk(ChunkHandle, Splice),
-    /// A chunk of so many zeros comes under a free handle.
-    NewChunk(ChunkHandle, u32),
-    /// A chunk of these bytes comes under a free handle.
-    FilledChunk(ChunkHandle, Bytes),
+    /// A chunk comes in under a free handle.
+    ChunkIn(ChunkHandle, Content),
     /// A chunk goes.
-    FreeChunk(ChunkHandle),
+    ChunkOut(ChunkHandle, Content),
+}
+
+/// What is in a chunk that comes in or goes.
+#[derive(Drop)]
+pub enum Content {
+    /// These bytes.
+    Bytes(Bytes),
+    /// So many zeros.
+    Zeros(u32),
+}
+
+impl Change {
+    /// How many content bytes it holds.
+    pub fn weight(&self) -> u64
+        ensures { result ≡ weight self.now }
+    {
+        match self {
+            Change::BlockIn(_, block) | Change::BlockOut(_, block) => block.image_len() as u64,
+            Change::Part(_, part) => part.weight(),
+            Change::UserId { .. } | Change::Map { .. } => 0,
+        }
+    }
+}
+
+impl PartChange {
+    /// How many content bytes it holds.
+    fn weight(&self) -> u64
+        ensures { result ≡ part_weight self.now }
+    {
+        match self {
+            PartChange::Raw(splice) | PartChange::Chunk(_, splice) => splice.byte_count() as u64,
+            PartChange::ChunkIn(_, content) | PartChange::ChunkOut(_, content) => content.weight(),
+        }
+    }
+}
+
+impl Content {
+    /// How many bytes it holds; zeros are only counted, not held.
+    fn weight(&self) -> u64
+        ensures { result ≡ content_weight self.now }
+    {
+        match self {
+            Content::Bytes(bytes) => bytes.as_slice().len() as u64,
+            Content::Zeros(_) => 0,
+        }
+    }
 }

@@ -3,10 +3,17 @@
 
 mod block;
 mod blocks;
+mod body_change;
 mod change;
+mod law;
+mod part;
+mod prepared;
 mod saved;
 
 pub use block::{Block, BlockBody};
 pub use blocks::Blocks;
-pub use change::Change;
+pub use body_change::BodyChange;
+pub use change::{Change, Content, Direction, PartChange};
+pub use law::change_law;
+pub use prepared::Prepared;
 pub use saved::{SavedBlock, SavedBody, SavedHeap, SavedRaw};

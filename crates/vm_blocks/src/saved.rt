@@ -1,8 +1,10 @@
-ghost use Rattle.std.specs.Prelude.{◌≡◌, ◌≤◌, true, IfOk, length};
+ghost use Rattle.std.specs.Prelude.{◌≡◌, ◌≤◌, ◌<◌, true, IfOk, length};
+ghost use Rattle.geos_model.specs.Document.{is_valid_body};
 ghost use Rattle.geos_model.specs.Heap.{capacity, is_heap_map};
 ghost use Rattle.geos_model.specs.Image.{image};
 ghost use Rattle.geos_model.specs.declared.command.Body.TheVariants as bodies;
 ghost use Rattle.vm_blocks.specs.Blocks.{block_of};
+ghost use Rattle.vm_blocks.specs.Bodies.{saved_body};
 
 use crate::{Block, BlockBody};
 use geos_model::{Bytes, Fault};
@@ -118,9 +120,7 @@ pub enum SavedBody {
 }
 
 impl SavedBody {
-    ghost use Rattle.geos_model.specs.Document.{is_valid_body};
     ghost use Rattle.vm_blocks.specs.Bodies.{body_of};
-    ghost use Rattle.vm_blocks.specs.Saved.{saved_body};
 
     /// The body as it was.
     fn restore(&self, alloc: Global) -> Result<BlockBody, AllocError>
@@ -134,11 +134,14 @@ impl SavedBody {
     }
 }
 
-/// A block as it was.
+/// A block as it was: one that a document can have.
 #[derive(Drop)]
 pub struct SavedBlock {
     pub user_id: u16,
     pub body: SavedBody,
+    // The law of changes has it from here, since there a number has no range.
+    ghost word: { user_id < 65536 },
+    ghost valid: { is_valid_body (saved_body body) ≡ true },
 }
 
 impl SavedBlock {

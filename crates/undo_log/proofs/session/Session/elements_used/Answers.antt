@@ -1,4 +1,4 @@
-use Rattle.std.proofs.Common.{Some, refl, sym, ap, ◌∙◌}
+use Rattle.std.proofs.Common.{refl, sym, ap, ◌∙◌}
 use Rattle.geos_model.specs.ElementEdits.{elements_in, on_elements, used_in}
 use Rattle.geos_model.specs.Refusal.{first_refusal}
 use Rattle.geos_model.specs.Reply.{NumberIs}

@@ -1,4 +1,4 @@
-use Rattle.std.proofs.Common.{Some, refl, sym, ap, ◌∙◌, ℕ, List, unwrap_or}
+use Rattle.std.proofs.Common.{refl, sym, ap, ◌∙◌, ℕ, List, unwrap_or}
 use Rattle.geos_model.specs.NameEdits.{find_conditions, names_in, token_of_text}
 use Rattle.geos_model.specs.Refusal.{first_refusal}
 use Rattle.geos_model.specs.Reply.{TokenIs}

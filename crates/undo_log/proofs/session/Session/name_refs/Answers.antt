@@ -1,4 +1,4 @@
-use Rattle.std.proofs.Common.{Some, refl, sym, ap, ◌∙◌}
+use Rattle.std.proofs.Common.{refl, sym, ap, ◌∙◌}
 use Rattle.geos_model.specs.ElementEdits.{count_at}
 use Rattle.geos_model.specs.NameEdits.{names_in, on_name_token}
 use Rattle.geos_model.specs.Refusal.{first_refusal}

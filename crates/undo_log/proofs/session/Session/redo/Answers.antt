@@ -1,15 +1,28 @@
-use Rattle.std.proofs.Common.{reverse, rules}
-use Rattle.undo_log.proofs.Steps.{can_turn, kept_steps, swapped}
+use Rattle.std.proofs.Common.{Some, reverse, subst, rules}
+use Rattle.geos_model.specs.Machine.{Machine, Step}
+use Rattle.geos_model.specs.Reply.{Accepted, reply_by}
+use Rattle.geos_model.specs.declared.command.Command.TheVariants as commands
+use Rattle.vm_blocks.specs.declared.change.Direction.TheVariants.{Forwards}
+use Rattle.undo_log.specs.Records.{machine_of}
+use Rattle.undo_log.proofs.Answers.{redo_answers}
+use Rattle.undo_log.proofs.Steps.{kept_steps, swapped, swapped_back}
 use Rattle.undo_log.proofs.session.Session.redo.Goals as goal
-
-pub turn-requires-clause-steps : goal.turn-requires-clause-steps
-turn-requires-clause-steps c = can_turn c.self.inside.blocks (reverse c.self.inside.redo.items) (reverse c.self.inside.undo.items) (swapped c.self.inside.blocks (reverse c.self.inside.undo.items) (reverse c.self.inside.redo.items) c.self.invariant.2)
+use Rattle.undo_log.proofs.session.Session.redo.Goals.{then-branch, else-branch}
 
 pub invariant_of-self-2 : goal.invariant_of-self-2
 invariant_of-self-2 c = (
   search rules,
   search rules,
-  swapped c.turn.new.blocks (reverse c.turn.new.from.items) (reverse c.turn.new.to.items)
-      (kept_steps c.in_ok-turn.field-0 c.self.inside.blocks c.turn.new.blocks (reverse c.self.inside.redo.items) (reverse c.self.inside.undo.items) (reverse c.turn.new.from.items) (reverse c.turn.new.to.items) c.in_ok-turn.ensures.ok
+  swapped_back c.turn.new.blocks (reverse c.turn.new.to.items) (reverse c.turn.new.from.items)
+      (kept_steps c.in_ok-turn.field-0 Forwards c.self.inside.blocks c.turn.new.blocks (reverse c.self.inside.redo.items) (reverse c.self.inside.undo.items) (reverse c.turn.new.from.items) (reverse c.turn.new.to.items) c.in_ok-turn.ensures.ok
       (swapped c.self.inside.blocks (reverse c.self.inside.undo.items) (reverse c.self.inside.redo.items) c.self.invariant.2)),
 )
+
+pub returns : goal.returns
+returns c =
+    let new = machine_of c.turn.new.blocks (reverse c.turn.new.to.items) (reverse c.turn.new.from.items) in
+    let answers = redo_answers c.in_ok-turn.field-0 c.self.inside.blocks c.turn.new.blocks (reverse c.self.inside.undo.items) (reverse c.self.inside.redo.items) (reverse c.turn.new.to.items) (reverse c.turn.new.from.items) (swapped c.self.inside.blocks (reverse c.self.inside.undo.items) (reverse c.self.inside.redo.items) c.self.invariant.2) c.in_ok-turn.ensures.ok in
+    subst (λ (m : Machine). Step m (Some commands.Redo) (reply_by (λ _. Accepted) c.if-branch.result) new) c.self.view_is (elim c.if-branch.branch [
+      | then-branch w ↦ rw w.result-is (rw w.if-branch.true at answers)
+      | else-branch w ↦ rw w.result-is (rw w.if-branch.false at answers)
+    ])

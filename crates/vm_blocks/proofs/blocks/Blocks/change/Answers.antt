@@ -1,10 +1,10 @@
-use Rattle.std.proofs.Common.{◌-◌, ◌∙◌, refl, ap, arith}
+use Rattle.std.proofs.Common.{◌∙◌, ap, arith}
 use Rattle.geos_model.specs.Document.{is_valid_body}
 use Rattle.geos_model.specs.declared.command.Body.{Body}
 use Rattle.vm_blocks.specs.Bodies.{body_of}
 use Rattle.vm_blocks.specs.Blocks.{block_of}
 use Rattle.vm_blocks.proofs.ValidLemmas.{valid-changed_body}
-use Rattle.vm_blocks.specs.Changes.{changed_body}
+use Rattle.vm_blocks.specs.BodyChanges.{changed_body}
 use Rattle.vm_blocks.proofs.SlotLemmas.{live_from_one, live_within, live_not_none, live_block, live_changed, live_blocks}
 use Rattle.vm_blocks.proofs.ChangeLemmas.{allowed_live, allowed_body}
 use Rattle.vm_blocks.proofs.blocks.Blocks.change.Goals as goal

@@ -1,10 +1,7 @@
-use Rattle.std.proofs.Common.{◌≡◌, ℕ, ◌-◌, ◌<◌, ◌≤◌, true, Option, Some, None, length, nat_le, sym, ap, subst, ◌∙◌, arith}
+use Rattle.std.proofs.Common.{ℕ, ◌-◌, ◌<◌, ◌≤◌, length, sym, ap, subst, ◌∙◌, arith}
 use Rattle.std.proofs.Math.ListN.{set}
-use Rattle.std.proofs.lemmas.Bool.{and_parts, leb-true}
-use Rattle.std.specs.Option.{option_map}
-use Rattle.geos_model.specs.Document.{Document, IsValid, is_vm_handle}
-use Rattle.vm_blocks.specs.Blocks.{AreSlots, block_of, document_of, start_after}
-use Rattle.vm_blocks.specs.Saved.{with_slot}
+use Rattle.geos_model.specs.Document.{IsValid}
+use Rattle.vm_blocks.specs.Blocks.{AreSlots, start_after}
 use Rattle.vm_blocks.proofs.SlotLemmas.{are_slots_put, gap_le, put-read}
 use Rattle.vm_blocks.proofs.ValidLemmas.{handle_bounds, valid-with_slot}
 use Rattle.vm_blocks.proofs.blocks.Blocks.put.Goals as goal

@@ -1,4 +1,4 @@
-use Rattle.std.proofs.Common.{◌-◌, refl, arith}
+use Rattle.std.proofs.Common.{refl, arith}
 use Rattle.vm_blocks.proofs.SlotLemmas.{live_from_one, live_within, live_not_none, live_changed, live_blocks}
 use Rattle.vm_blocks.proofs.blocks.Blocks.set_user_id.Goals as goal
 

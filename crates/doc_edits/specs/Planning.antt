@@ -1,0 +1,56 @@
+-- What planning an edit comes to.
+use Rattle.std.specs.Prelude.{◌≡◌, ◌⊎◌, ◌+◌, ℕ, List, None, Some, length}
+use Rattle.geos_model.specs.Refusal.{first_refusal}
+use Rattle.geos_model.specs.Document.{Document}
+use Rattle.geos_model.specs.Meaning.{conditions, effect}
+use Rattle.geos_model.specs.Cost.{cost}
+use Rattle.geos_model.specs.Machine.{kind_of}
+use Rattle.geos_model.specs.Image.{image}
+use Rattle.geos_model.specs.declared.fault.Fault.{Fault}
+use Rattle.geos_model.specs.declared.fault.Fault.TheVariants.{Memory}
+use Rattle.geos_model.specs.declared.command.Done.{Done}
+use Rattle.geos_model.specs.declared.command.Edit.{Edit}
+use Rattle.geos_model.specs.declared.command.Kind.{Kind}
+use Rattle.geos_model.specs.declared.command.Kind.TheVariants.{Plain, In, Made, Freed}
+use Rattle.vm_blocks.specs.Saved.{saved_block}
+use Rattle.vm_blocks.specs.Changes.{made, bytes_of, Applies}
+use Rattle.vm_blocks.specs.declared.change.Change.{Change}
+use Rattle.vm_blocks.specs.declared.change.Change.TheVariants as changes
+use Rattle.vm_blocks.specs.declared.change.PartChange.{PartChange}
+use Rattle.vm_blocks.specs.declared.change.PartChange.TheVariants as parts
+
+-- what kind of step a change is
+abbrev pub kind_of_change : Change → Kind
+kind_of_change (changes.BlockIn b block) = Made
+kind_of_change (changes.BlockOut b block) = Freed
+kind_of_change (changes.Part b part) = In b
+kind_of_change (changes.UserId b old new) = Plain
+kind_of_change (changes.Map old new) = Plain
+
+-- How many bytes a step is charged for: those that its change holds, and the zeros that it need not hold.
+
+abbrev pub part_cost : PartChange → ℕ
+part_cost (parts.Raw s) = length s.old + length s.new
+part_cost (parts.Chunk c s) = length s.old + length s.new
+part_cost (parts.ChunkIn c content) = length (bytes_of content)
+part_cost (parts.ChunkOut c content) = length (bytes_of content)
+
+abbrev pub change_cost : Change → ℕ
+change_cost (changes.BlockIn b block) = length (image (saved_block block).body)
+change_cost (changes.BlockOut b block) = length (image (saved_block block).body)
+change_cost (changes.Part b part) = part_cost part
+change_cost (changes.UserId b old new) = 0
+change_cost (changes.Map old new) = 0
+
+-- Nothing refuses the edit, and the change can be made in the document and means the edit.
+pub record Plans (edit : Edit) (d : Document) (change : Change) (done : Done) : Type 0 where
+  pub accepted : first_refusal (conditions edit d) ≡ None
+  pub applies : Applies change d
+  pub document : made change d ≡ (effect edit d).0
+  pub answer : done ≡ (effect edit d).1
+  pub kind : kind_of_change change ≡ kind_of edit
+  pub cost : change_cost change ≡ cost edit d (effect edit d).0
+
+-- want of memory, or the first refusal
+abbrev pub Refuses : Edit → Document → Fault → Type 0
+Refuses edit d fault = (fault ≡ Memory) ⊎ (first_refusal (conditions edit d) ≡ Some fault)

@@ -1,0 +1,309 @@
+-- A change of a valid document leaves a valid one, and the same change the other way round takes it back.
+use Rattle.std.proofs.Common.{◌≡◌, ◌≢◌, ◌≤◌, ◌<◌, ◌+◌, ℕ, List, true, false, not, length, Option, Some, None, is_some, nat_cmp, refl, sym, ap, subst, ◌∙◌, inl, inr, arith}
+use Rattle.std.proofs.lemmas.Bool.{cases_eq, and_parts, leb-true, le-leb, true≢false, not-true}
+use Rattle.std.specs.Option.{option_map_or}
+use Rattle.std.specs.Cmp.{nat_cmp_total}
+use Rattle.std.specs.List.{list_all}
+use Rattle.std.specs.FinMap.{FinMap, get, insert, remove, keys, contains_key, same_map, nat_cmp-IsAntisymmetric}
+use Rattle.geos_model.specs.Heap.{ChunkMap, capacity, fits, fits_with, is_chunk_handle, is_heap_map}
+use Rattle.geos_model.specs.Document.{Block, Document, IsValid, is_heap, is_heap_body, is_live, is_raw, is_valid_body, is_vm_handle, with_block, without_block, with_user_id}
+use Rattle.geos_model.specs.Meaning.{chunk_at, with_chunk, without_chunk}
+use Rattle.geos_model.specs.declared.command.Body.{Body}
+use Rattle.geos_model.specs.declared.command.Body.TheVariants.{Raw, Heap}
+use Rattle.geos_model.specs.declared.handle.ChunkHandle.{ChunkHandle}
+use Rattle.geos_model.proofs.HeapEdits.{get-put_same, get-put_other, get-taken_same, get-taken_other, heap-insert, heap-remove}
+use Rattle.geos_model.proofs.HeapTables.{live_handle}
+use Rattle.geos_model.proofs.Validity.{with_block-valid, without_block-valid}
+use Rattle.chunk_edits.specs.Splicing.{Stands, forwards, backwards}
+use Rattle.chunk_edits.specs.declared.splice.Splice.{Splice}
+use Rattle.chunk_edits.proofs.Splices.{leads_back}
+use Rattle.vm_blocks.specs.Saved.{saved_block}
+use Rattle.vm_blocks.specs.declared.saved.SavedBlock.{SavedBlock}
+use Rattle.vm_blocks.specs.declared.change.Change.{Change}
+use Rattle.vm_blocks.specs.declared.change.Change.TheVariants as changes
+use Rattle.vm_blocks.specs.declared.change.Content.{Content}
+use Rattle.vm_blocks.specs.declared.change.PartChange.{PartChange}
+use Rattle.vm_blocks.specs.declared.change.PartChange.TheVariants as parts
+use Rattle.vm_blocks.specs.Changes.{bytes_of, part_made, made, flipped_splice, flipped_part, flipped, IsFree, CanGo, FitsRaw, FitsChunk, FitsNewChunk, HasChunk, HasUserId, HasMap, PartApplies, Applies, ChangeLaw, FlipLaw}
+
+-- What is put in and taken out of a finite map, the other way round.
+module _ {X : Type 0} (m : FinMap nat_cmp X) (h : ℕ) where
+  pub put_back : (x y : X) → get m h ≡ Some x → insert (insert m h y) h x ≡ m
+  put_back x y is = same_map nat_cmp_total nat_cmp-IsAntisymmetric _ _ (λ q. elim (cases_eq q h) [
+    | inl e ↦ get-put_same (insert m h y) h x q e ∙ (sym is ∙ ap (get m) (sym e))
+    | inr other ↦ get-put_other (insert m h y) h x q other ∙ get-put_other m h y q other
+  ])
+
+  pub put_taken : (x : X) → get m h ≡ Some x → insert (remove m h) h x ≡ m
+  put_taken x is = same_map nat_cmp_total nat_cmp-IsAntisymmetric _ _ (λ q. elim (cases_eq q h) [
+    | inl e ↦ get-put_same (remove m h) h x q e ∙ (sym is ∙ ap (get m) (sym e))
+    | inr other ↦ get-put_other (remove m h) h x q other ∙ get-taken_other m h q other
+  ])
+
+  pub taken_put : (x : X) → get m h ≡ None → remove (insert m h x) h ≡ m
+  taken_put x is = same_map nat_cmp_total nat_cmp-IsAntisymmetric _ _ (λ q. elim (cases_eq q h) [
+    | inl e ↦ get-taken_same (insert m h x) h q e ∙ (sym is ∙ ap (get m) (sym e))
+    | inr other ↦ get-taken_other (insert m h x) h q other ∙ get-put_other m h x q other
+  ])
+
+-- A change of a document leads back.
+abbrev Undone : Change → Document → Type 0
+Undone c d = IsValid (made c d) × Applies (flipped c) (made c d) × (made (flipped c) (made c d) ≡ d)
+
+abbrev PartUndone : ℕ → PartChange → Document → Type 0
+PartUndone b p d = IsValid (part_made b p d) × PartApplies b (flipped_part p) (part_made b p d) × (part_made b (flipped_part p) (part_made b p d) ≡ d)
+
+-- so from the document that it makes
+part_undone : (b : ℕ) (p : PartChange) (d after : Document) → part_made b p d ≡ after → IsValid after → PartApplies b (flipped_part p) after → part_made b (flipped_part p) after ≡ d → PartUndone b p d
+part_undone b p d after is valid applies back =
+    subst (λ (x : Document). IsValid x × PartApplies b (flipped_part p) x × (part_made b (flipped_part p) x ≡ d)) (sym is) (valid, applies, back)
+
+-- A block comes in or goes.
+module _ (d : Document) (b : ℕ) (valid : IsValid d) where
+  free_not_map : IsFree d b → d.map_block ≢ b
+  free_not_map free same =
+      let some : d.map_block ≢ 0 = λ none. (let no : is_vm_handle 0 ≡ true = ap is_vm_handle (sym none ∙ same) ∙ free.handle in cc) in
+      let dead : is_live d d.map_block ≡ false = ap (λ (h : ℕ). is_some (get d.blocks h)) same ∙ ap is_some free.free in
+      true≢false (sym (valid.map_block some) ∙ dead)
+
+  block_in_undone : (block : SavedBlock) → IsFree d b → IsValid (with_block d b (saved_block block)) × CanGo (with_block d b (saved_block block)) b (saved_block block) × (without_block (with_block d b (saved_block block)) b ≡ d)
+  block_in_undone block free = (
+    with_block-valid d b (saved_block block) valid (record { handle = free.handle; user_id = block.word; body = block.valid }),
+    record { stands = get-put_same d.blocks b (saved_block block) b refl; other = free_not_map free },
+    ap (λ (m : FinMap nat_cmp Block). record d { blocks = m }) (taken_put d.blocks b (saved_block block) free.free),
+  )
+
+  block_out_undone : (block : Block) → CanGo d b block → IsValid (without_block d b) × IsFree (without_block d b) b × (with_block (without_block d b) b block ≡ d)
+  block_out_undone block goes = (
+    without_block-valid d b valid goes.other,
+    record { handle = (valid.blocks b block goes.stands).handle; free = get-taken_same d.blocks b b refl },
+    ap (λ (m : FinMap nat_cmp Block). record d { blocks = m }) (put_taken d.blocks b block goes.stands),
+  )
+
+-- A block changes in place.
+module _ (d : Document) (b : ℕ) (old new : Block) (there : get d.blocks b ≡ Some old) where
+  new_there : get (with_block d b new).blocks b ≡ Some new
+  new_there = get-put_same d.blocks b new b refl
+
+  old_back : with_block (with_block d b new) b old ≡ d
+  old_back = ap (λ (m : FinMap nat_cmp Block). record d { blocks = m }) (put_back d.blocks b old new there)
+
+  new_valid : IsValid d → new.user_id < 65536 → is_valid_body new.body ≡ true → IsValid (with_block d b new)
+  new_valid valid word good = with_block-valid d b new valid (record { handle = (valid.blocks b old there).handle; user_id = word; body = good })
+
+-- Of a raw body.
+abbrev raw_block : ℕ → List ℕ → Block
+raw_block u bytes = record { user_id = u; body = Raw bytes }
+
+raw_at : (d : Document) (b : ℕ) → is_raw d b ≡ true → (u : ℕ) × (bytes : List ℕ) × (get d.blocks b ≡ Some (raw_block u bytes))
+raw_at d b raw = by_block (get d.blocks b) refl raw
+  where
+    by_body : (u : ℕ) (body : Body) → get d.blocks b ≡ Some (record { user_id = u; body = body }) → is_heap_body body ≡ false → (u : ℕ) × (bytes : List ℕ) × (get d.blocks b ≡ Some (raw_block u bytes))
+    by_body u (Raw bytes) is raw = (u, bytes, is)
+    by_body u (Heap m) is raw = absurd (cc raw)
+
+    by_block : (o : Option Block) → get d.blocks b ≡ o → option_map_or (λ b. not (is_heap_body b.body)) o false ≡ true → (u : ℕ) × (bytes : List ℕ) × (get d.blocks b ≡ Some (raw_block u bytes))
+    by_block None is raw = absurd (cc raw)
+    by_block (Some block) is raw = by_body block.user_id block.body is (not-true (is_heap_body block.body) raw)
+
+module _ (d : Document) (b u : ℕ) (bytes : List ℕ) (there : get d.blocks b ≡ Some (raw_block u bytes)) where
+  raw_made : (s : Splice) → part_made b (parts.Raw s) d ≡ with_block d b (raw_block u (forwards s bytes))
+  raw_made s = rw there refl
+
+  raw_fits : (s : Splice) → Stands bytes s.at s.old → length (forwards s bytes) ≤ capacity → FitsRaw d b s
+  raw_fits s stands fits = record { raw = rw there refl; stands = rw there stands; fits = rw there fits }
+
+  raw_stands : (s : Splice) → FitsRaw d b s → Stands bytes s.at s.old
+  raw_stands s fits = rw there at fits.stands
+
+  raw_few : (s : Splice) → FitsRaw d b s → length (forwards s bytes) ≤ capacity
+  raw_few s fits = rw there at fits.fits
+
+-- bytes that are spliced, and back
+spliced_back : (s : Splice) (bytes : List ℕ) → Stands bytes s.at s.old → Stands (forwards s bytes) s.at s.new × (backwards s (forwards s bytes) ≡ bytes)
+spliced_back s bytes stands = leads_back s bytes (forwards s bytes) (length s.old + length s.new) (record { stands = stands; gives = refl; holds = refl })
+
+raw_undone : (d : Document) (b : ℕ) (s : Splice) → IsValid d → FitsRaw d b s → PartUndone b (parts.Raw s) d
+raw_undone d b s valid fits =
+    let found = raw_at d b fits.raw in
+    let u : ℕ = found.0 in
+    let bytes : List ℕ = found.1 in
+    let old : Block = raw_block u bytes in
+    let new : Block = raw_block u (forwards s bytes) in
+    let there : get d.blocks b ≡ Some old = found.2 in
+    let now : get (with_block d b new).blocks b ≡ Some new = new_there d b old new there in
+    let back = spliced_back s bytes (raw_stands d b u bytes there s fits) in
+    let few : length bytes ≤ capacity = leb-true (length bytes) capacity (valid.blocks b old there).body in
+    part_undone b (parts.Raw s) d (with_block d b new) (raw_made d b u bytes there s)
+    (new_valid d b old new there valid (valid.blocks b old there).user_id (le-leb _ _ (raw_few d b u bytes there s fits)))
+    (raw_fits (with_block d b new) b u (forwards s bytes) now (flipped_splice s) back.0 (omega (arith, few, ap length back.1)))
+    (raw_made (with_block d b new) b u (forwards s bytes) now (flipped_splice s) ∙ ap (λ (x : List ℕ). with_block (with_block d b new) b (raw_block u x)) back.1 ∙ old_back d b old new there)
+
+-- Of a heap.
+abbrev heap_block : ℕ → ChunkMap → Block
+heap_block u m = record { user_id = u; body = Heap m }
+
+heap_at : (d : Document) (b : ℕ) → is_heap d b ≡ true → (u : ℕ) × (m : ChunkMap) × (get d.blocks b ≡ Some (heap_block u m))
+heap_at d b heap = by_block (get d.blocks b) refl heap
+  where
+    by_body : (u : ℕ) (body : Body) → get d.blocks b ≡ Some (record { user_id = u; body = body }) → is_heap_body body ≡ true → (u : ℕ) × (m : ChunkMap) × (get d.blocks b ≡ Some (heap_block u m))
+    by_body u (Raw bytes) is heap = absurd (cc heap)
+    by_body u (Heap m) is heap = (u, m, is)
+
+    by_block : (o : Option Block) → get d.blocks b ≡ o → option_map_or (λ b. is_heap_body b.body) o false ≡ true → (u : ℕ) × (m : ChunkMap) × (get d.blocks b ≡ Some (heap_block u m))
+    by_block None is heap = absurd (cc heap)
+    by_block (Some block) is heap = by_body block.user_id block.body is heap
+
+module _ (d : Document) (b u : ℕ) (m : ChunkMap) (there : get d.blocks b ≡ Some (heap_block u m)) where
+  chunk_made : (c : ℕ) (bytes : List ℕ) → with_chunk d b c bytes ≡ with_block d b (heap_block u (insert m c bytes))
+  chunk_made c bytes = rw there refl
+
+  chunk_taken : (c : ℕ) → without_chunk d b c ≡ with_block d b (heap_block u (remove m c))
+  chunk_taken c = rw there refl
+
+  splice_made : (c : ℕ) (s : Splice) (bytes : List ℕ) → get m c ≡ Some bytes → with_chunk d b c (forwards s (chunk_at d b c)) ≡ with_block d b (heap_block u (insert m c (forwards s bytes)))
+  splice_made c s bytes is = rw (there, is) refl
+
+  chunk_fits : (c : ℕ) (s : Splice) (bytes : List ℕ) → get m c ≡ Some bytes → Stands bytes s.at s.old → fits_with m c (forwards s bytes) ≡ true → FitsChunk d b c s
+  chunk_fits c s bytes is stands fits = record { heap = rw there refl; live = rw (there, is) refl; stands = rw (there, is) stands; fits = rw (there, is) fits }
+
+  new_chunk_fits : (c : ℕ) (bytes : List ℕ) → is_chunk_handle c ≡ true → get m c ≡ None → fits_with m c bytes ≡ true → FitsNewChunk d b c bytes
+  new_chunk_fits c bytes handle free fits = record { heap = rw there refl; handle = handle; free = rw there free; fits = rw there fits }
+
+  has_chunk : (c : ℕ) (bytes : List ℕ) → get m c ≡ Some bytes → HasChunk d b c bytes
+  has_chunk c bytes is = record { heap = rw there refl; stands = rw there is }
+
+  -- the block with other chunks, and the document from before
+  module _ (n : ChunkMap) where
+    heap_now : get (with_block d b (heap_block u n)).blocks b ≡ Some (heap_block u n)
+    heap_now = new_there d b (heap_block u m) (heap_block u n) there
+
+    heap_valid : IsValid d → is_heap_map n ≡ true → IsValid (with_block d b (heap_block u n))
+    heap_valid valid heap = new_valid d b (heap_block u m) (heap_block u n) there valid (valid.blocks b (heap_block u m) there).user_id heap
+
+    heap_back : (k : ChunkMap) → k ≡ m → with_block (with_block d b (heap_block u n)) b (heap_block u k) ≡ d
+    heap_back k is = ap (λ (x : ChunkMap). with_block (with_block d b (heap_block u n)) b (heap_block u x)) is ∙ old_back d b (heap_block u m) (heap_block u n) there
+
+-- a chunk put back fits where the heap it gives is one that can be
+fits_again : (m n : ChunkMap) (c : ℕ) (bytes : List ℕ) → insert n c bytes ≡ m → is_heap_map m ≡ true → fits_with n c bytes ≡ true
+unfolding fits_with is_heap_map
+fits_again m n c bytes is heap = ap fits is ∙ (and_parts (list_all is_chunk_handle (keys m)) (fits m) heap).1
+
+some_bytes : (o : Option (List ℕ)) → is_some o ≡ true → (bytes : List ℕ) × (o ≡ Some bytes)
+some_bytes None h = absurd (cc h)
+some_bytes (Some bytes) h = (bytes, refl)
+
+chunk_undone : (d : Document) (b : ℕ) (c : ChunkHandle) (s : Splice) → IsValid d → FitsChunk d b c.0 s → PartUndone b (parts.Chunk c s) d
+chunk_undone d b c s valid fits =
+    let found = heap_at d b fits.heap in
+    let u : ℕ = found.0 in
+    let m : ChunkMap = found.1 in
+    let there : get d.blocks b ≡ Some (heap_block u m) = found.2 in
+    let heap : is_heap_map m ≡ true = (valid.blocks b (heap_block u m) there).body in
+    let live : contains_key m c.0 ≡ true = rw there at fits.live in
+    let chunk = some_bytes (get m c.0) live in
+    let bytes : List ℕ = chunk.0 in
+    let is : get m c.0 ≡ Some bytes = chunk.1 in
+    let stands : Stands bytes s.at s.old = rw (there, is) at fits.stands in
+    let room : fits_with m c.0 (forwards s bytes) ≡ true = rw (there, is) at fits.fits in
+    let back = spliced_back s bytes stands in
+    let n : ChunkMap = insert m c.0 (forwards s bytes) in
+    let is_now : get n c.0 ≡ Some (forwards s bytes) = get-put_same m c.0 (forwards s bytes) c.0 refl in
+    let given : insert n c.0 (backwards s (forwards s bytes)) ≡ m = ap (insert n c.0) back.1 ∙ put_back m c.0 bytes (forwards s bytes) is in
+    let now = heap_now d b u m there n in
+    part_undone b (parts.Chunk c s) d (with_block d b (heap_block u n)) (splice_made d b u m there c.0 s bytes is)
+    (heap_valid d b u m there n valid (heap-insert m c.0 (forwards s bytes) heap (live_handle m c.0 heap live) room))
+    (chunk_fits (with_block d b (heap_block u n)) b u n now c.0 (flipped_splice s) (forwards s bytes) is_now back.0 (fits_again m n c.0 (backwards s (forwards s bytes)) given heap))
+    (splice_made (with_block d b (heap_block u n)) b u n now c.0 (flipped_splice s) (forwards s bytes) is_now ∙ heap_back d b u m there n _ given)
+
+chunk_in_undone : (d : Document) (b : ℕ) (c : ChunkHandle) (content : Content) → IsValid d → FitsNewChunk d b c.0 (bytes_of content) → PartUndone b (parts.ChunkIn c content) d
+chunk_in_undone d b c content valid fits =
+    let found = heap_at d b fits.heap in
+    let u : ℕ = found.0 in
+    let m : ChunkMap = found.1 in
+    let there : get d.blocks b ≡ Some (heap_block u m) = found.2 in
+    let heap : is_heap_map m ≡ true = (valid.blocks b (heap_block u m) there).body in
+    let bytes : List ℕ = bytes_of content in
+    let free : get m c.0 ≡ None = rw there at fits.free in
+    let room : fits_with m c.0 bytes ≡ true = rw there at fits.fits in
+    let n : ChunkMap = insert m c.0 bytes in
+    let now = heap_now d b u m there n in
+    part_undone b (parts.ChunkIn c content) d (with_block d b (heap_block u n)) (chunk_made d b u m there c.0 bytes)
+    (heap_valid d b u m there n valid (heap-insert m c.0 bytes heap fits.handle room))
+    (has_chunk (with_block d b (heap_block u n)) b u n now c.0 bytes (get-put_same m c.0 bytes c.0 refl))
+    (chunk_taken (with_block d b (heap_block u n)) b u n now c.0 ∙ heap_back d b u m there n _ (taken_put m c.0 bytes free))
+
+chunk_out_undone : (d : Document) (b : ℕ) (c : ChunkHandle) (content : Content) → IsValid d → HasChunk d b c.0 (bytes_of content) → PartUndone b (parts.ChunkOut c content) d
+chunk_out_undone d b c content valid has =
+    let found = heap_at d b has.heap in
+    let u : ℕ = found.0 in
+    let m : ChunkMap = found.1 in
+    let there : get d.blocks b ≡ Some (heap_block u m) = found.2 in
+    let heap : is_heap_map m ≡ true = (valid.blocks b (heap_block u m) there).body in
+    let bytes : List ℕ = bytes_of content in
+    let is : get m c.0 ≡ Some bytes = rw there at has.stands in
+    let n : ChunkMap = remove m c.0 in
+    let now = heap_now d b u m there n in
+    let given = put_taken m c.0 bytes is in
+    part_undone b (parts.ChunkOut c content) d (with_block d b (heap_block u n)) (chunk_taken d b u m there c.0)
+    (heap_valid d b u m there n valid (heap-remove m c.0 heap))
+    (new_chunk_fits (with_block d b (heap_block u n)) b u n now c.0 bytes (live_handle m c.0 heap (ap is_some is)) (get-taken_same m c.0 c.0 refl) (fits_again m n c.0 bytes given heap))
+    (chunk_made (with_block d b (heap_block u n)) b u n now c.0 bytes ∙ heap_back d b u m there n _ given)
+
+part_back : (b : ℕ) (p : PartChange) (d : Document) → IsValid d → PartApplies b p d → PartUndone b p d
+part_back b (parts.Raw s) d valid applies = raw_undone d b s valid applies
+part_back b (parts.Chunk c s) d valid applies = chunk_undone d b c s valid applies
+part_back b (parts.ChunkIn c content) d valid applies = chunk_in_undone d b c content valid applies
+part_back b (parts.ChunkOut c content) d valid applies = chunk_out_undone d b c content valid applies
+
+-- A user ID, and the map block.
+user_id_made : (d : Document) (b uid : ℕ) (block : Block) → get d.blocks b ≡ Some block → with_user_id d b uid ≡ with_block d b (record block { user_id = uid })
+user_id_made d b uid block there = rw there refl
+
+some_block : (o : Option Block) → is_some o ≡ true → (block : Block) × (o ≡ Some block)
+some_block None h = absurd (cc h)
+some_block (Some block) h = (block, refl)
+
+user_id_undone : (d : Document) (b old new : ℕ) → IsValid d → HasUserId d b old new
+    → IsValid (with_user_id d b new) × HasUserId (with_user_id d b new) b new old × (with_user_id (with_user_id d b new) b old ≡ d)
+user_id_undone d b old new valid has =
+    let found = some_block (get d.blocks b) has.live in
+    let was : Block = found.0 in
+    let there : get d.blocks b ≡ Some was = found.1 in
+    let had : was.user_id ≡ old = rw there at has.stands in
+    let after : Block = record was { user_id = new } in
+    let now : get (with_block d b after).blocks b ≡ Some after = new_there d b was after there in
+    let good = valid.blocks b was there in
+    subst (λ (x : Document). IsValid x × HasUserId x b new old × (with_user_id x b old ≡ d)) (sym (user_id_made d b new was there)) (
+      new_valid d b was after there valid has.word good.body,
+      record { live = ap is_some now; stands = rw now refl; word = rw (← had) good.user_id },
+      user_id_made (with_block d b after) b old after now ∙ ap (λ (x : ℕ). with_block (with_block d b after) b (record was { user_id = x })) (sym had) ∙ old_back d b was after there,
+    )
+
+map_undone : (d : Document) (old new : ℕ) → IsValid d → HasMap d old new
+    → IsValid (record d { map_block = new }) × HasMap (record d { map_block = new }) new old × (record d { map_block = old } ≡ d)
+map_undone d old new valid has = (
+  record { blocks = valid.blocks; map_block = has.live },
+  record { stands = refl; live = λ some. subst (λ (h : ℕ). is_live d h ≡ true) has.stands (valid.map_block (λ none. some (sym has.stands ∙ none))) },
+  ap (λ (h : ℕ). record d { map_block = h }) (sym has.stands),
+)
+
+pub change_back : ChangeLaw
+change_back (changes.BlockIn b block) d valid applies = block_in_undone d b.0 valid block applies
+change_back (changes.BlockOut b block) d valid applies = block_out_undone d b.0 valid (saved_block block) applies
+change_back (changes.Part b part) d valid applies = part_back b.0 part d valid applies
+change_back (changes.UserId b old new) d valid applies = user_id_undone d b.0 old new valid applies
+change_back (changes.Map old new) d valid applies = map_undone d old.0 new.0 valid applies
+
+part_twice : (p : PartChange) → flipped_part (flipped_part p) ≡ p
+part_twice (parts.Raw s) = refl
+part_twice (parts.Chunk c s) = refl
+part_twice (parts.ChunkIn c content) = refl
+part_twice (parts.ChunkOut c content) = refl
+
+pub flip_twice : FlipLaw
+flip_twice (changes.BlockIn b block) = refl
+flip_twice (changes.BlockOut b block) = refl
+flip_twice (changes.Part b part) = ap (changes.Part b) (part_twice part)
+flip_twice (changes.UserId b old new) = refl
+flip_twice (changes.Map old new) = refl

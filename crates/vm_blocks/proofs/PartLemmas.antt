@@ -1,0 +1,82 @@
+-- What applies to a document: a change of a part is one of a live block, whose body takes it, and a block comes or goes under a VM handle.
+use Rattle.std.proofs.Common.{◌≡◌, ℕ, List, true, false, not, Option, Some, None, is_some, refl}
+use Rattle.std.proofs.lemmas.Bool.{le-leb}
+use Rattle.std.specs.Option.{option_map_or}
+use Rattle.std.specs.FinMap.{get}
+use Rattle.geos_model.specs.Heap.{chunk_bytes}
+use Rattle.geos_model.specs.Document.{Block, Document, IsValid, is_heap_body, is_live, is_valid_body, is_vm_handle, with_block}
+use Rattle.geos_model.specs.declared.command.Body.{Body}
+use Rattle.geos_model.specs.declared.command.Body.TheVariants.{Raw, Heap}
+use Rattle.geos_model.specs.declared.handle.VmHandle.{VmHandle}
+use Rattle.geos_model.proofs.HeapTables.{live_handle}
+use Rattle.geos_model.proofs.HeapEdits.{heap-insert, heap-remove}
+use Rattle.chunk_edits.specs.Splicing.{forwards}
+use Rattle.vm_blocks.specs.declared.saved.SavedBlock.{SavedBlock}
+use Rattle.vm_blocks.specs.declared.change.Direction.{Direction}
+use Rattle.vm_blocks.specs.declared.change.Direction.TheVariants.{Forwards, Backwards}
+use Rattle.vm_blocks.specs.declared.change.Change.TheVariants as changes
+use Rattle.vm_blocks.specs.declared.change.PartChange.{PartChange}
+use Rattle.vm_blocks.specs.declared.change.PartChange.TheVariants as parts
+use Rattle.vm_blocks.specs.Changes.{bytes_of, part_made, turned, PartApplies, Applies}
+use Rattle.vm_blocks.specs.Saved.{saved_block}
+use Rattle.vm_blocks.specs.Parts.{Takes, body_made}
+
+-- a block of either kind is live
+raw_live : (o : Option Block) → option_map_or (λ b. not (is_heap_body b.body)) o false ≡ true → is_some o ≡ true
+raw_live None raw = absurd (cc raw)
+raw_live (Some block) raw = refl
+
+heap_live : (o : Option Block) → option_map_or (λ b. is_heap_body b.body) o false ≡ true → is_some o ≡ true
+heap_live None heap = absurd (cc heap)
+heap_live (Some block) heap = refl
+
+pub part_live : (b : ℕ) (p : PartChange) (d : Document) → PartApplies b p d → is_live d b ≡ true
+part_live b (parts.Raw s) d fits = raw_live (get d.blocks b) fits.raw
+part_live b (parts.Chunk c s) d fits = heap_live (get d.blocks b) fits.heap
+part_live b (parts.ChunkIn c content) d fits = heap_live (get d.blocks b) fits.heap
+part_live b (parts.ChunkOut c content) d has = heap_live (get d.blocks b) has.heap
+
+-- Its body takes the change.
+module _ (d : Document) (b u : ℕ) where
+  takes : (p : PartChange) (body : Body) → get d.blocks b ≡ Some (record { user_id = u; body = body }) → PartApplies b p d → Takes p body
+  takes (parts.Raw s) (Raw bytes) is fits = record { within = rw is at fits.stands.within; room = rw is at fits.fits }
+  takes (parts.Raw s) (Heap m) is fits = let no : false ≡ true = rw is at fits.raw in cc
+  takes (parts.Chunk c s) (Raw bytes) is fits = let no : false ≡ true = rw is at fits.heap in cc
+  takes (parts.Chunk c s) (Heap m) is fits = record { live = rw is at fits.live; within = rw is at fits.stands.within; fits = rw is at fits.fits }
+  takes (parts.ChunkIn c content) (Raw bytes) is fits = let no : false ≡ true = rw is at fits.heap in cc
+  takes (parts.ChunkIn c content) (Heap m) is fits = record { handle = fits.handle; free = rw is at fits.free; fits = rw is at fits.fits }
+  takes (parts.ChunkOut c content) (Raw bytes) is has = let no : false ≡ true = rw is at has.heap in cc
+  takes (parts.ChunkOut c content) (Heap m) is has = live_of (get m c.0) (rw is at has.stands)
+    where
+      live_of : (o : Option (List ℕ)) → o ≡ Some (bytes_of content) → is_some o ≡ true
+      live_of o some = rw some refl
+
+pub part_takes : (b : ℕ) (p : PartChange) (d : Document) (block : Block) → get d.blocks b ≡ Some block → PartApplies b p d → Takes p block.body
+part_takes b p d block is applies = takes d b block.user_id p block.body is applies
+
+-- the document then
+pub part_is : (b : ℕ) (p : PartChange) (d : Document) (block : Block) → get d.blocks b ≡ Some block → part_made b p d ≡ option_map_or (λ x. with_block d b (record x { body = body_made p x.body })) (get d.blocks b) d
+part_is b (parts.Raw s) d block is = rw is refl
+part_is b (parts.Chunk c s) d block is = rw is refl
+part_is b (parts.ChunkIn c content) d block is = rw is refl
+part_is b (parts.ChunkOut c content) d block is = rw is refl
+
+-- what a body takes leaves a body that can be
+pub part_valid : (p : PartChange) (body : Body) → is_valid_body body ≡ true → Takes p body → is_valid_body (body_made p body) ≡ true
+part_valid (parts.Raw s) (Raw bytes) valid takes = le-leb _ _ takes.room
+part_valid (parts.Raw s) (Heap m) valid takes = absurd takes
+part_valid (parts.Chunk c s) (Raw bytes) valid takes = absurd takes
+part_valid (parts.Chunk c s) (Heap m) valid takes = heap-insert m c.0 (forwards s (chunk_bytes m c.0)) valid (live_handle m c.0 valid takes.live) takes.fits
+part_valid (parts.ChunkIn c content) (Raw bytes) valid takes = absurd takes
+part_valid (parts.ChunkIn c content) (Heap m) valid takes = heap-insert m c.0 (bytes_of content) valid takes.handle takes.fits
+part_valid (parts.ChunkOut c content) (Raw bytes) valid takes = absurd takes
+part_valid (parts.ChunkOut c content) (Heap m) valid takes = heap-remove m c.0 valid
+
+-- a block comes in or goes under a handle that a block can have
+pub handle_in : (direction : Direction) (b : VmHandle) (block : SavedBlock) (d : Document) → IsValid d → Applies (turned direction (changes.BlockIn b block)) d → is_vm_handle b.0 ≡ true
+handle_in Forwards b block d valid free = free.handle
+handle_in Backwards b block d valid goes = (valid.blocks b.0 (saved_block block) goes.stands).handle
+
+pub handle_out : (direction : Direction) (b : VmHandle) (block : SavedBlock) (d : Document) → IsValid d → Applies (turned direction (changes.BlockOut b block)) d → is_vm_handle b.0 ≡ true
+handle_out Forwards b block d valid goes = (valid.blocks b.0 (saved_block block) goes.stands).handle
+handle_out Backwards b block d valid free = free.handle
