@@ -1,0 +1,9 @@
+pub mod Order
+pub mod Refusals
+pub mod Documents
+pub mod Splicing
+pub mod ArrayEdits
+pub mod ElementEdits
+pub mod NameEdits
+pub mod First
+pub mod ChunkPlans

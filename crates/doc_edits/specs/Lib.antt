@@ -1,1 +1,3 @@
 pub mod Planning
+pub mod Found
+pub mod Building

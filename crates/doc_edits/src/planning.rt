@@ -1,7 +1,14 @@
-ghost use Rattle.std.specs.Prelude.{◌≡◌, MatchResult};
+ghost use Rattle.std.specs.Prelude.{◌≡◌, true, MatchResult, MatchOption};
+ghost use Rattle.vm_blocks.specs.Blocks.{is_resident};
+ghost use Rattle.doc_edits.specs.Building.{block_read};
 ghost use Rattle.doc_edits.specs.Planning.{Plans, Refuses};
 
-use geos_model::{Done, Edit, Fault};
+use crate::block_plans::{
+    plan_copy_block, plan_free_block, plan_new_heap, plan_new_raw, plan_set_map, plan_set_user_id,
+};
+use crate::chunk_plans::{plan_free_chunk, plan_in_chunk, plan_new_chunk};
+use crate::raw_plans::{plan_attach, plan_write_raw};
+use geos_model::{Done, Edit, Fault, VmHandle};
 use std::alloc::Global;
 use vm_blocks::{Blocks, Change};
 
@@ -11,5 +18,84 @@ pub fn plan(alloc: Global, blocks: &mut Blocks, edit: &Edit) -> Result<(Change, 
     ensures planned { MatchResult result (λ p. Plans edit.now blocks.old p.0 p.1) (Refuses edit.now blocks.old) }
     ensures stays { blocks.new ≡ blocks.old }
 {
-    Err(Fault::Memory)
+    if let Some(handle) = block_read(edit) {
+        blocks.load(handle)?;
+    }
+    plan_loaded(alloc, blocks, edit)
+}
+
+/// The block into whose body an edit looks.
+fn block_read(edit: &Edit) -> Option<VmHandle>
+    ensures { result ≡ block_read edit.now }
+{
+    match edit {
+        Edit::NewRaw(_, _) | Edit::NewHeap(_) | Edit::SetUserId(_, _) | Edit::SetMap(_) => None,
+        Edit::FreeBlock(handle)
+        | Edit::CopyBlock(handle)
+        | Edit::WriteRaw(handle, _, _)
+        | Edit::Attach(handle, _)
+        | Edit::Alloc(handle, _)
+        | Edit::Free(handle, _)
+        | Edit::Resize(handle, _, _)
+        | Edit::Insert(handle, _, _, _)
+        | Edit::Delete(handle, _, _, _)
+        | Edit::Write(handle, _, _, _)
+        | Edit::CreateArray(handle, _, _)
+        | Edit::InsertElement(handle, _, _, _)
+        | Edit::SetElement(handle, _, _, _)
+        | Edit::ResizeElement(handle, _, _, _)
+        | Edit::DeleteElements(handle, _, _, _)
+        | Edit::ZeroArray(handle, _)
+        | Edit::CreateElementArray(handle, _)
+        | Edit::AddElement(handle, _, _)
+        | Edit::AddReference(handle, _, _)
+        | Edit::RemoveReference(handle, _, _)
+        | Edit::DeleteElement(handle, _, _)
+        | Edit::ChangeElement(handle, _, _, _)
+        | Edit::CreateNameArray(handle, _)
+        | Edit::AddName(handle, _, _, _, _)
+        | Edit::ChangeName(handle, _, _, _)
+        | Edit::RemoveName(handle, _, _) => Some(*handle),
+    }
+}
+
+/// The same where the block into whose body the edit looks is in memory.
+fn plan_loaded(alloc: Global, blocks: &Blocks, edit: &Edit) -> Result<(Change, Done), Fault>
+    requires { MatchOption (block_read edit.now) (Unit {0}) (λ b. is_resident blocks.now b.0 ≡ true) }
+    ensures { MatchResult result (λ p. Plans edit.now blocks.now p.0 p.1) (Refuses edit.now blocks.now) }
+{
+    match edit {
+        Edit::NewRaw(user_id, size) => plan_new_raw(alloc, blocks, *user_id, *size),
+        Edit::NewHeap(user_id) => plan_new_heap(alloc, blocks, *user_id),
+        Edit::FreeBlock(handle) => plan_free_block(alloc, blocks, *handle),
+        Edit::CopyBlock(handle) => plan_copy_block(alloc, blocks, *handle),
+        Edit::WriteRaw(handle, at, bytes) => plan_write_raw(alloc, blocks, *handle, *at, bytes),
+        Edit::Attach(handle, bytes) => plan_attach(alloc, blocks, *handle, bytes),
+        Edit::SetUserId(handle, user_id) => plan_set_user_id(blocks, *handle, *user_id),
+        Edit::SetMap(handle) => plan_set_map(blocks, *handle),
+        Edit::Free(handle, chunk) => plan_free_chunk(alloc, blocks, *handle, *chunk),
+        Edit::Alloc(handle, _)
+        | Edit::CreateArray(handle, _, _)
+        | Edit::CreateElementArray(handle, _)
+        | Edit::CreateNameArray(handle, _) => { plan_new_chunk(alloc, blocks, *handle, edit) }
+        Edit::Resize(handle, chunk, _)
+        | Edit::Insert(handle, chunk, _, _)
+        | Edit::Delete(handle, chunk, _, _)
+        | Edit::Write(handle, chunk, _, _)
+        | Edit::InsertElement(handle, chunk, _, _)
+        | Edit::SetElement(handle, chunk, _, _)
+        | Edit::ResizeElement(handle, chunk, _, _)
+        | Edit::DeleteElements(handle, chunk, _, _)
+        | Edit::ZeroArray(handle, chunk)
+        | Edit::AddElement(handle, chunk, _)
+        | Edit::AddReference(handle, chunk, _)
+        | Edit::RemoveReference(handle, chunk, _)
+        | Edit::DeleteElement(handle, chunk, _)
+        | Edit::ChangeElement(handle, chunk, _, _)
+        | Edit::AddName(handle, chunk, _, _, _)
+        | Edit::ChangeName(handle, chunk, _, _)
+        | Edit::RemoveName(handle, chunk, _) => {
+            plan_in_chunk(alloc, blocks, *handle, *chunk, edit)
+        }
+    }
 }

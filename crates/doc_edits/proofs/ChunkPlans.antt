@@ -1,0 +1,147 @@
+-- Plans of edits of a chunk, from what was built for them.
+use Rattle.std.proofs.Common.{◌≡◌, ◌≤◌, ℕ, List, [], ◌∷◌, ◌++◌, Bool, true, false, not, cond, Option, Some, None, MatchOption, unwrap_or, length, replicate, refl, sym, ap, subst, ◌∙◌, inl, inr, arith}
+use Rattle.std.proofs.lemmas.Bool.{cases_Bool}
+use Rattle.std.proofs.lemmas.List.{length-replicate}
+use Rattle.std.specs.FinMap.{contains_key}
+use Rattle.geos_model.specs.Document.{Document, chunks_of}
+use Rattle.geos_model.specs.Heap.{ChunkMap, chunk_bytes, fits_with, fits_new, is_heap_map, next_chunk}
+use Rattle.geos_model.specs.Meaning.{conditions, with_chunk, new_chunk, no_place, on_heap, on_chunk}
+use Rattle.geos_model.specs.Refusal.{Conditions, first_refusal}
+use Rattle.geos_model.specs.declared.command.Done.{Done}
+use Rattle.geos_model.specs.declared.command.Done.TheVariants.{Chunk}
+use Rattle.geos_model.specs.declared.command.Edit.{Edit}
+use Rattle.geos_model.specs.declared.fault.Fault.{Fault}
+use Rattle.geos_model.specs.declared.fault.Fault.TheVariants.{Full, NoChunk}
+use Rattle.geos_model.specs.declared.handle.ChunkHandle.{ChunkHandle}
+use Rattle.geos_model.specs.declared.handle.VmHandle.{VmHandle}
+use Rattle.chunk_edits.specs.Splicing.{forwards}
+use Rattle.chunk_edits.specs.declared.splice.Splice.{Splice}
+use Rattle.lmem_heap.proofs.Heaps.{fits_new-some, fits_new-none}
+use Rattle.vm_blocks.proofs.RoomLemmas.{fits_as, fits_few}
+use Rattle.vm_blocks.specs.BodyChanges.{AllowsNewChunk}
+use Rattle.vm_blocks.specs.Changes.{bytes_of}
+use Rattle.vm_blocks.specs.declared.change.Change.TheVariants as changes
+use Rattle.vm_blocks.specs.declared.change.Content.{Content}
+use Rattle.vm_blocks.specs.declared.change.PartChange.TheVariants as parts
+use Rattle.doc_edits.specs.Found.{IsHeapAt, IsChunkAt, AreLate}
+use Rattle.doc_edits.specs.Building.{place_of, new_in, IsAt, IsIn, IsHeapFor, SplicesAt, CreatesAt, Splices, Creates, IsBuilt}
+use Rattle.doc_edits.specs.Planning.{Plans}
+use Rattle.doc_edits.proofs.Documents.{chunks_are, heap_there, heap_here}
+use Rattle.doc_edits.proofs.First.{chunk_first, heap_first}
+
+-- An edit of a chunk's bytes.
+module _ (edit : Edit) (d : Document) (b : VmHandle) (c : ChunkHandle) (is : place_of edit ≡ Some (b, c)) where
+  pub heap_refused : (fault : Fault) → ((rest : Conditions) → AreLate rest → first_refusal (on_heap d b.0 ++ rest) ≡ Some fault) → first_refusal (conditions edit d) ≡ Some fault
+  heap_refused fault refused =
+      let first = chunk_first edit d (b, c) is in
+      ap first_refusal first.2 ∙ refused ((NoChunk, not (contains_key (chunks_of d b.0) c.0)) ∷ first.0) first.1
+
+  pub chunk_refused : (fault : Fault) → ((rest : Conditions) → AreLate rest → first_refusal (on_chunk d b.0 c.0 ++ rest) ≡ Some fault) → first_refusal (conditions edit d) ≡ Some fault
+  chunk_refused fault refused =
+      let first = chunk_first edit d (b, c) is in
+      ap first_refusal first.2 ∙ refused first.0 first.1
+
+  module _ (m : ChunkMap) (live : IsHeapAt d b.0 m) (bytes : List ℕ) (there : IsChunkAt d b.0 c.0 bytes) where
+    same : chunks_of d b.0 ≡ m
+    same = chunks_are d b.0 m live
+
+    pub is_in : IsIn edit d m c.0
+    is_in = subst (λ (o : Option (VmHandle × ChunkHandle)). MatchOption o ⊥ (λ p. IsHeapAt d p.0.0 m × (c.0 ≡ p.1.0) × (is_heap_map m ≡ true))) (sym is) (live, refl, subst (λ (x : ChunkMap). is_heap_map x ≡ true) same there.valid)
+
+    pub is_at : IsAt edit d bytes
+    is_at = subst (λ (o : Option (VmHandle × ChunkHandle)). MatchOption o ⊥ (λ p. IsChunkAt d p.0.0 p.1.0 bytes)) (sym is) there
+
+    module _ (s : Splice) (done : Done) (built : SplicesAt edit d done s) where
+      splices : Splices edit d b c s done
+      splices = subst (λ (o : Option (VmHandle × ChunkHandle)). MatchOption o ⊥ (λ p. Splices edit d p.0 p.1 s done)) is built
+
+      pub is_built : IsBuilt s (chunk_bytes m c.0)
+      is_built = subst (λ (x : ChunkMap). IsBuilt s (chunk_bytes x c.0)) same (record { within = splices.stands.within; short = splices.short })
+
+      by_room : (fit : Bool) → fit ≡ fits_with m c.0 (forwards s (chunk_bytes m c.0)) → first_refusal (conditions edit d) ≡ cond fit None (Some Full)
+      by_room fit e = splices.refusal ∙ ap (λ (x : ChunkMap). cond (fits_with x c.0 (forwards s (chunk_bytes x c.0))) None (Some Full)) same ∙ ap (λ (t : Bool). cond t None (Some Full)) (sym e)
+
+      pub full : false ≡ fits_with m c.0 (forwards s (chunk_bytes m c.0)) → first_refusal (conditions edit d) ≡ Some Full
+      full e = by_room false e
+
+      pub planned : true ≡ fits_with m c.0 (forwards s (chunk_bytes m c.0)) → Plans edit d (changes.Part b (parts.Chunk c s)) done
+      planned e = record {
+        accepted = by_room true e;
+        applies = record {
+          heap = heap_there d b.0 m live;
+          live = there.live;
+          stands = splices.stands;
+          fits = ap (λ (x : ChunkMap). fits_with x c.0 (forwards s (chunk_bytes x c.0))) same ∙ sym e;
+        };
+        document = splices.document;
+        answer = splices.answer;
+        kind = sym splices.kind;
+        cost = splices.cost;
+      }
+
+-- Whether a new chunk finds a place.
+module _ (m : ChunkMap) (bytes : List ℕ) where
+  pub no_handle : None ≡ next_chunk m → fits_new m bytes ≡ false
+  no_handle none = fits_new-none m bytes (sym none)
+
+  module _ (k : ℕ) (next : Some k ≡ next_chunk m) where
+    pub too_many : 4294967296 ≤ length bytes → fits_new m bytes ≡ false
+    too_many many = elim (cases_Bool (fits_new m bytes)) [
+      | inl fit ↦ let few = fits_few k bytes m (sym (fits_new-some m k bytes (sym next)) ∙ fit) in absurd (omega (arith, few, many))
+      | inr none ↦ none
+    ]
+
+    as_zeros : (n : ℕ) → n ≡ length bytes → fits_with m k bytes ≡ fits_with m k (replicate n 0)
+    as_zeros n is = fits_as k bytes (replicate n 0) m (sym is ∙ sym (length-replicate {A = ℕ} n 0))
+
+    pub place_full : (n : ℕ) → n ≡ length bytes → false ≡ fits_with m k (replicate n 0) → fits_new m bytes ≡ false
+    place_full n is full = fits_new-some m k bytes (sym next) ∙ as_zeros n is ∙ sym full
+
+    pub place_fits : (n : ℕ) → n ≡ length bytes → true ≡ fits_with m k (replicate n 0) → fits_with m k bytes ≡ true
+    place_fits n is fit = as_zeros n is ∙ sym fit
+
+-- An edit that makes a chunk.
+module _ (edit : Edit) (d : Document) (b : VmHandle) (is : new_in edit ≡ Some b) where
+  pub new_heap_refused : (fault : Fault) → ((rest : Conditions) → AreLate rest → first_refusal (on_heap d b.0 ++ rest) ≡ Some fault) → first_refusal (conditions edit d) ≡ Some fault
+  new_heap_refused fault refused =
+      let first = heap_first edit d b is in
+      ap first_refusal first.2 ∙ refused first.0 first.1
+
+  module _ (m : ChunkMap) (live : IsHeapAt d b.0 m) where
+    pub is_heap_for : IsHeapFor edit d
+    is_heap_for = subst (λ (o : Option VmHandle). MatchOption o ⊥ (λ b. IsHeapAt d b.0 (chunks_of d b.0))) (sym is) (heap_here d b.0 m live)
+
+    module _ (content : Content) (built : CreatesAt edit d (bytes_of content)) where
+      creates : Creates edit d b (bytes_of content)
+      creates = subst (λ (o : Option VmHandle). MatchOption o ⊥ (λ b. Creates edit d b (bytes_of content))) is built
+
+      by_place : (fit : Bool) → fits_new m (bytes_of content) ≡ fit → first_refusal (conditions edit d) ≡ cond fit None (Some Full)
+      by_place fit e =
+          creates.refusal ∙ ap (λ (x : ChunkMap). first_refusal (no_place x (bytes_of content))) (chunks_are d b.0 m live) ∙ ap (λ (t : Bool). first_refusal ((Full, not t) ∷ [])) e
+          ∙ decides fit
+        where
+          decides : (fit : Bool) → first_refusal ((Full, not fit) ∷ []) ≡ cond fit None (Some Full)
+          decides true = refl
+          decides false = refl
+
+      pub new_full : fits_new m (bytes_of content) ≡ false → first_refusal (conditions edit d) ≡ Some Full
+      new_full e = by_place false e
+
+      module _ (c : ChunkHandle) (next : next_chunk m ≡ Some c.0) (allows : AllowsNewChunk m c.0 (bytes_of content)) where
+        handle_is : new_chunk d b.0 ≡ c.0
+        handle_is = ap (λ (x : ChunkMap). unwrap_or (next_chunk x) 0) (chunks_are d b.0 m live) ∙ ap (λ (o : Option ℕ). unwrap_or o 0) next
+
+        pub new_planned : Plans edit d (changes.Part b (parts.ChunkIn c content)) (Chunk c)
+        new_planned = record {
+          accepted = by_place true (fits_new-some m c.0 (bytes_of content) next ∙ allows.fits);
+          applies = record {
+            heap = heap_there d b.0 m live;
+            handle = allows.handle;
+            free = rw (chunks_are d b.0 m live) allows.free;
+            fits = rw (chunks_are d b.0 m live) allows.fits;
+          };
+          document = ap (λ (k : ℕ). with_chunk d b.0 k (bytes_of content)) (sym handle_is) ∙ ap (λ p. p.0) (sym creates.does);
+          answer = ap (λ (k : ℕ). Chunk (record { 0 = k })) (sym handle_is) ∙ ap (λ p. p.1) (sym creates.does);
+          kind = sym creates.kind;
+          cost = sym creates.cost;
+        }

@@ -1,0 +1,105 @@
+-- An edit's own refusals come before want of room.
+use Rattle.std.proofs.Common.{◌≡◌, ◌⊎◌, ℕ, [], ◌∷◌, ◌++◌, Bool, true, false, cond, ◌||◌, ◌&&◌, List, Option, Some, None, ◌==◌, find, refl, sym, ap, ◌∙◌, inl, inr}
+use Rattle.std.proofs.lemmas.Bool.{eqb-true, cases_Bool}
+use Rattle.std.proofs.lemmas.List.Folds.{list_any-append}
+use Rattle.std.proofs.Math.Bool.{or-true}
+use Rattle.std.specs.List.{list_any, list_all}
+use Rattle.geos_model.specs.Refusal.{Conditions, applies, one_order, first_refusal, number_of_fault}
+use Rattle.geos_model.specs.declared.fault.Fault.{Fault}
+use Rattle.geos_model.specs.declared.fault.Fault.TheVariants.{TooBig, NoHandles, Full, Worn}
+use Rattle.geos_model.proofs.Order.{is_worn, accepted-room, refused-room}
+use Rattle.doc_edits.specs.Found.{is_among, own_faults, late_faults, AreOwn, AreLate}
+
+-- where nothing else is refused, room decides
+abbrev pub room : Bool → Option Fault
+room full = cond full (Some Full) None
+
+among-number : (faults : List Fault) (f g : Fault) → number_of_fault f ≡ number_of_fault g → is_among faults f ≡ is_among faults g
+among-number faults f g e = ap (λ (n : ℕ). list_any (λ h. number_of_fault h == n) faults) e
+
+-- where all conditions are of some refusals, no other one applies
+pub not_among : (faults : List Fault) (rest : Conditions) (f : Fault) → list_all (λ c. is_among faults c.0) rest ≡ true → is_among faults f ≡ false → applies rest f ≡ false
+not_among faults [] f are other = refl
+not_among faults ((g, holds) ∷ rest) f are other = elim (cases_Bool (is_among faults g)) [
+  | inl e ↦ elim (cases_Bool (number_of_fault g == number_of_fault f)) [
+    | inl same ↦ let no : false ≡ true = sym other ∙ sym (among-number faults g f (eqb-true (number_of_fault g) (number_of_fault f) same)) ∙ e in cc
+    | inr apart ↦ rw apart (not_among faults rest f (rw e at are) other)
+  ]
+  | inr e ↦ let no : false ≡ true = rw e at are in cc
+]
+
+not_own : (own : Conditions) (f : Fault) → AreOwn own → is_among own_faults f ≡ false → applies own f ≡ false
+not_own own f are other = not_among own_faults own f are other
+
+late_own : (g : Fault) → is_among own_faults g ≡ true → is_among late_faults g ≡ true
+late_own g e =
+    ap (λ (b : Bool). (6 == number_of_fault g) || b) (list_any-append (λ f. number_of_fault f == number_of_fault g) own_faults (TooBig ∷ NoHandles ∷ Full ∷ []) ∙ rw e refl)
+    ∙ or-true (6 == number_of_fault g)
+
+-- an edit's own refusals come late enough, and so does want of room
+pub own_late : (own : Conditions) (full : Bool) → AreOwn own → AreLate (own ++ (Full, full) ∷ [])
+own_late [] full are = refl
+own_late ((g, holds) ∷ own) full are = elim (cases_Bool (is_among own_faults g)) [
+  | inl e ↦ rw (late_own g e) (own_late own full (rw e at are))
+  | inr e ↦ let no : false ≡ true = rw e at are in cc
+]
+
+room_decides : (full : Bool) → first_refusal ((Full, full) ∷ []) ≡ room full
+room_decides true = refl
+room_decides false = refl
+
+-- what is found passes
+found_passes : (p : Fault → Bool) (faults : List Fault) (f : Fault) → find p faults ≡ Some f → p f ≡ true
+found_passes p [] f is = absurd (cc is)
+found_passes p (g ∷ faults) f is = elim (cases_Bool (p g)) [
+  | inl e ↦ let same : g ≡ f = cc (rw e at is) in ap p (sym same) ∙ e
+  | inr e ↦ found_passes p faults f (rw e at is)
+]
+
+-- a refusal or none
+which : (o : Option Fault) → (o ≡ None) ⊎ ((f : Fault) × (o ≡ Some f))
+which None = inl refl
+which (Some f) = inr (f, refl)
+
+module _ (own : Conditions) (are : AreOwn own) where
+  early : (f : Fault) → first_refusal own ≡ Some f → is_worn f ≡ false
+  early f first = elim (cases_Bool (is_worn f)) [
+    | inl e ↦ let none : applies own f ≡ false = ap (λ (n : ℕ). list_any (λ c. (number_of_fault c.0 == n) && c.1) own) (sym (eqb-true 27 (number_of_fault f) e)) ∙ not_own own Worn are refl in
+        let no : true ≡ false = sym (found_passes (applies own) one_order f first) ∙ none in cc
+    | inr e ↦ e
+  ]
+
+  -- what is refused of its own stays refused
+  pub own_refused : (full : Bool) (f : Fault) → first_refusal own ≡ Some f → first_refusal (own ++ (Full, full) ∷ []) ≡ Some f
+  own_refused full f first = refused-room own full f (early f first) first
+
+  -- where nothing is, room decides
+  pub own_accepted : (full : Bool) → first_refusal own ≡ None → first_refusal (own ++ (Full, full) ∷ []) ≡ room full
+  own_accepted full first = accepted-room own full first ∙ room_decides full
+
+  -- what is refused where there is less room
+  pub more_refused : (few full : Bool) (f : Fault) → (few ≡ true → full ≡ true) → first_refusal (own ++ (Full, few) ∷ []) ≡ Some f → first_refusal (own ++ (Full, full) ∷ []) ≡ Some f
+  more_refused few full f less first = elim (which (first_refusal own)) [
+    | inl none ↦ own_accepted full none ∙ less_room few full f less (sym (own_accepted few none) ∙ first)
+    | inr some ↦ own_refused full some.0 some.1 ∙ sym (own_refused few some.0 some.1) ∙ first
+  ]
+    where
+      less_room : (few full : Bool) (f : Fault) → (few ≡ true → full ≡ true) → room few ≡ Some f → room full ≡ Some f
+      less_room true full f less is = ap room (less refl) ∙ is
+      less_room false full f less is = absurd (cc is)
+
+  pub more_accepted : (few full : Bool) → first_refusal (own ++ (Full, few) ∷ []) ≡ None → first_refusal (own ++ (Full, full) ∷ []) ≡ room full
+  more_accepted few full first = elim (which (first_refusal own)) [
+    | inl none ↦ own_accepted full none
+    | inr some ↦ let no : Some some.0 ≡ None = sym (own_refused few some.0 some.1) ∙ first in absurd (cc no)
+  ]
+
+  pub has_room : (full : Bool) → first_refusal (own ++ (Full, full) ∷ []) ≡ None → full ≡ false
+  has_room full first = elim (which (first_refusal own)) [
+    | inl none ↦ room_left full (sym (own_accepted full none) ∙ first)
+    | inr some ↦ let no : Some some.0 ≡ None = sym (own_refused full some.0 some.1) ∙ first in absurd (cc no)
+  ]
+    where
+      room_left : (full : Bool) → room full ≡ None → full ≡ false
+      room_left true is = absurd (cc is)
+      room_left false is = refl

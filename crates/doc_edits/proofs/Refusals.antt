@@ -1,0 +1,41 @@
+-- Which refusal is the first.
+use Rattle.std.proofs.Common.{◌≡◌, ℕ, Result, Ok, Err, MatchResult, subst, ◌++◌, true, false, Some, refl, sym}
+use Rattle.std.specs.Result.{IsErrAnd}
+use Rattle.std.specs.FinMap.{get, contains_key}
+use Rattle.geos_model.specs.Refusal.{Conditions, applies, first_refusal}
+use Rattle.geos_model.specs.Heap.{ChunkMap}
+use Rattle.geos_model.specs.Document.{Block, Document, is_heap_body}
+use Rattle.geos_model.specs.Meaning.{on_raw, on_heap, on_chunk}
+use Rattle.geos_model.specs.declared.fault.Fault.{Fault}
+use Rattle.geos_model.specs.declared.fault.Fault.TheVariants.{BadCommand, Locked, NothingToUndo, NothingToRedo, NoTarget, NoBlock, WrongKind, NotLocked, LockLimit, CacheFull, NoChunk}
+use Rattle.doc_edits.specs.Found.{is_among, late_faults, AreLate, IsHeapAt}
+use Rattle.doc_edits.proofs.Order.{not_among}
+
+not_late : (rest : Conditions) (f : Fault) → AreLate rest → is_among late_faults f ≡ false → applies rest f ≡ false
+not_late rest f late early = not_among late_faults rest f late early
+
+-- a block of the other kind
+pub no_heap : (d : Document) (h : ℕ) (b : Block) (rest : Conditions) → get d.blocks h ≡ Some b → is_heap_body b.body ≡ false → AreLate rest → first_refusal (on_heap d h ++ rest) ≡ Some WrongKind
+no_heap d h b rest live raw late =
+    rw (live, raw, not_late rest BadCommand late refl, not_late rest Locked late refl, not_late rest NothingToUndo late refl, not_late rest NothingToRedo late refl, not_late rest NoTarget late refl, not_late rest NoBlock late refl) refl
+
+pub no_raw : (d : Document) (h : ℕ) (b : Block) (rest : Conditions) → get d.blocks h ≡ Some b → is_heap_body b.body ≡ true → AreLate rest → first_refusal (on_raw d h ++ rest) ≡ Some WrongKind
+no_raw d h b rest live heap late =
+    rw (live, heap, not_late rest BadCommand late refl, not_late rest Locked late refl, not_late rest NothingToUndo late refl, not_late rest NothingToRedo late refl, not_late rest NoTarget late refl, not_late rest NoBlock late refl) refl
+
+-- no such chunk in the heap
+pub no_chunk : (d : Document) (h c : ℕ) (m : ChunkMap) (rest : Conditions) → IsHeapAt d h m → contains_key m c ≡ false → AreLate rest → first_refusal (on_chunk d h c ++ rest) ≡ Some NoChunk
+no_chunk d h c m rest live free late =
+    rw (live, free, not_late rest BadCommand late refl, not_late rest Locked late refl, not_late rest NothingToUndo late refl, not_late rest NothingToRedo late refl, not_late rest NoTarget late refl, not_late rest NoBlock late refl, not_late rest WrongKind late refl, not_late rest NotLocked late refl, not_late rest LockLimit late refl, not_late rest CacheFull late refl) refl
+
+-- where the heap is there, the other refusals decide
+pub past_heap : (d : Document) (h : ℕ) (m : ChunkMap) (rest : Conditions) → IsHeapAt d h m → first_refusal (on_heap d h ++ rest) ≡ first_refusal rest
+past_heap d h m rest live = rw live refl
+
+pub past_chunk : (d : Document) (h c : ℕ) (m : ChunkMap) (rest : Conditions) → IsHeapAt d h m → contains_key m c ≡ true → first_refusal (on_chunk d h c ++ rest) ≡ first_refusal rest
+past_chunk d h c m rest live there = rw (live, there) refl
+
+-- the fault that `?` hands on
+pub carried : {T : Type 0} (r : Result T Fault) (P : T → Type 0) (Q : Fault → Type 0) (fault : Fault) → IsErrAnd r (λ e. e ≡ fault) → Q fault → MatchResult r P Q
+carried (Ok x) P Q fault is q = absurd is
+carried (Err e) P Q fault is q = subst Q (sym is) q

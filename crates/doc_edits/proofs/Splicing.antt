@@ -1,0 +1,162 @@
+-- Edits of a chunk's bytes by a splice, and of a heap by a chunk of given bytes.
+use Rattle.std.proofs.Common.{◌≡◌, ◌≤◌, ◌+◌, ◌-◌, ◌*◌, ◌/◌, ℕ, List, ◌++◌, Bool, true, false, not, cond, Option, Some, None, Result, Ok, Err, MatchResult, length, nat_lt, refl, sym, ap, subst, ◌∙◌, inl, inr, arith}
+use Rattle.std.proofs.lemmas.Bool.{leb-true, le-ltb, lt-ltb, cases_lt, cases_Bool}
+use Rattle.std.specs.Result.{IfOk}
+use Rattle.std.specs.FinMap.{empty, insert, contains_key}
+use Rattle.std.specs.Option.{option_map_or}
+use Rattle.geos_model.specs.ArrayEdits.{too_long}
+use Rattle.geos_model.specs.Cost.{cost}
+use Rattle.geos_model.specs.Document.{Block, Document, chunks_of, chunks_of_body, user_id_of}
+use Rattle.geos_model.specs.Heap.{ChunkMap, chunk_bytes, fits, fits_with, is_heap_map, need}
+use Rattle.geos_model.specs.Machine.{kind_of}
+use Rattle.geos_model.specs.Meaning.{conditions, effect, chunk_at, with_chunk, on_chunk, no_room}
+use Rattle.geos_model.specs.Refusal.{Conditions, first_refusal}
+use Rattle.geos_model.proofs.Table.{table_map}
+use Rattle.geos_model.specs.declared.command.Body.TheVariants.{Heap}
+use Rattle.geos_model.specs.declared.command.Done.{Done}
+use Rattle.geos_model.specs.declared.command.Done.TheVariants as done
+use Rattle.geos_model.specs.declared.command.Edit.{Edit}
+use Rattle.geos_model.specs.declared.command.Kind.TheVariants.{In}
+use Rattle.geos_model.specs.declared.fault.Fault.{Fault}
+use Rattle.geos_model.specs.declared.fault.Fault.TheVariants.{Full}
+use Rattle.geos_model.specs.declared.handle.ChunkHandle.{ChunkHandle}
+use Rattle.geos_model.specs.declared.handle.VmHandle.{VmHandle}
+use Rattle.geos_model.proofs.HeapTables.{heap_map-table, live_handle, is_chunk_handle-parts, trimmed-put, chunk_length_le}
+use Rattle.geos_model.proofs.HeapEdits.{get-put_same}
+use Rattle.geos_model.proofs.Tables.{put_at, slot_at-put_same, table_map-put}
+use Rattle.chunk_edits.specs.Splicing.{Builds, RefusesToBuild, forwards}
+use Rattle.chunk_edits.specs.declared.splice.Splice.{Splice}
+use Rattle.vm_blocks.proofs.RoomLemmas.{bytes-put}
+use Rattle.doc_edits.specs.Found.{IsHeapAt, IsChunkAt}
+use Rattle.doc_edits.specs.Building.{IsAt, IsIn, SplicesAt, EditsChunk, BuildsFor, Splices}
+use Rattle.doc_edits.specs.Planning.{Refuses}
+use Rattle.doc_edits.proofs.Order.{more_refused, more_accepted, has_room}
+use Rattle.doc_edits.proofs.Refusals.{past_chunk}
+
+-- no heap has room for more bytes than these in a chunk
+pub fits_short : (m : ChunkMap) (h : ℕ) (bytes : List ℕ) → is_heap_map m ≡ true → contains_key m h ≡ true → fits_with m h bytes ≡ true → length bytes ≤ 65498
+unfolding fits_with fits
+fits_short m h bytes heap live fit =
+    let shown = heap_map-table m heap in
+    let t = shown.0 in
+    let i : ℕ = (h - 16) / 2 in
+    let parts = is_chunk_handle-parts h (live_handle m h heap live) in
+    let at : 16 + 2 * i ≡ h = omega (arith, parts.0, parts.2) in
+    let is : table_map 2 16 (put_at t i bytes) ≡ insert m h bytes = table_map-put (omega arith) 16 t i bytes ∙ ap (λ (k : ℕ). insert (table_map 2 16 t) k bytes) at ∙ ap (λ (x : ChunkMap). insert x h bytes) (sym shown.2) in
+    let most : need (insert m h bytes) ≤ 65520 = leb-true _ _ fit in
+    chunk_length_le (put_at t i bytes) (trimmed-put t i bytes shown.1) (omega (arith, most, ap need is)) i bytes (slot_at-put_same t i bytes)
+
+long_full : (m : ChunkMap) (h : ℕ) (bytes : List ℕ) → is_heap_map m ≡ true → contains_key m h ≡ true → nat_lt 65498 (length bytes) ≡ true → not (fits_with m h bytes) ≡ true
+long_full m h bytes heap live long = elim (cases_Bool (fits_with m h bytes)) [
+  | inl fit ↦ let no : false ≡ true = sym (le-ltb 65498 (length bytes) (fits_short m h bytes heap live fit)) ∙ long in cc
+  | inr full ↦ rw full refl
+]
+
+-- the bytes that a chunk was given
+pub chunk_with : (d : Document) (b c : ℕ) (bytes : List ℕ) → chunk_at (with_chunk d b c bytes) b c ≡ bytes
+chunk_with d b c bytes =
+    ap (λ (o : Option Block). chunk_bytes (option_map_or (λ (k : Block). chunks_of_body k.body) o empty) c) (get-put_same d.blocks b (record { user_id = user_id_of d b; body = Heap (insert (chunks_of d b) c bytes) }) b refl)
+    ∙ bytes-put (chunks_of d b) c bytes
+
+short_by : (n k : ℕ) → k ≡ n → nat_lt 65498 n ≡ false → k ≤ 65498
+short_by n k same e = elim (cases_lt 65498 n) [
+  | inl l ↦ let no : false ≡ true = sym e ∙ lt-ltb 65498 n l in cc
+  | inr l ↦ omega arith
+]
+
+module _ (edit : Edit) (d : Document) (b : VmHandle) (c : ChunkHandle) (own : List ℕ → Conditions) (to : List ℕ → List ℕ) (done : Done) (means : EditsChunk edit d b c own to done) where
+  abbrev old : List ℕ
+  old = chunk_at d b.0 c.0
+
+  abbrev m : ChunkMap
+  m = chunks_of d b.0
+
+  module _ (bytes : List ℕ) (there : IsChunkAt d b.0 c.0 bytes) where
+    past : first_refusal (conditions edit d) ≡ first_refusal (own old ++ no_room m c.0 (to old))
+    past = ap first_refusal means.refusals ∙ past_chunk d b.0 c.0 m (own old ++ no_room m c.0 (to old)) there.heap there.live
+
+    -- the builder refuses it
+    built_refused : (fault : Fault) → RefusesToBuild (own bytes ++ too_long (to bytes)) fault → Refuses edit d fault
+    built_refused fault (inl memory) = inl memory
+    built_refused fault (inr first) =
+        let here : first_refusal (own old ++ too_long (to old)) ≡ Some fault = subst (λ (x : List ℕ). first_refusal (own x ++ too_long (to x)) ≡ Some fault) there.value first in
+        inr (past ∙ more_refused (own old) (means.are_own old) (nat_lt 65498 (length (to old))) (not (fits_with m c.0 (to old))) fault (long_full m c.0 (to old) there.valid there.live) here)
+
+    module _ (s : Splice) (builds : BuildsFor s old own to) where
+      refusal_is : first_refusal (conditions edit d) ≡ cond (fits_with m c.0 (forwards s old)) None (Some Full)
+      refusal_is =
+          past ∙ more_accepted (own old) (means.are_own old) (nat_lt 65498 (length (to old))) (not (fits_with m c.0 (to old))) builds.accepted
+          ∙ turned (fits_with m c.0 (to old)) ∙ ap (λ (x : List ℕ). cond (fits_with m c.0 x) None (Some Full)) (sym builds.leads.gives)
+        where
+          turned : (fit : Bool) → cond (not fit) (Some Full) None ≡ cond fit None (Some Full)
+          turned true = refl
+          turned false = refl
+
+      cost_is : length s.old + length s.new ≡ cost edit d (effect edit d).0
+      cost_is =
+          builds.leads.holds ∙ ap (λ (x : List ℕ). length old + length x) (sym (chunk_with d b.0 c.0 (to old))) ∙ ap (λ (p : Document × Done). length old + length (chunk_at p.0 b.0 c.0)) (sym means.does)
+          ∙ sym (means.cost (effect edit d).0)
+
+      splices : Splices edit d b c s done
+      splices = record {
+        stands = builds.leads.stands;
+        short = short_by (length (to old)) (length (forwards s old)) (ap length builds.leads.gives) (has_room (own old) (means.are_own old) (nat_lt 65498 (length (to old))) builds.accepted);
+        refusal = refusal_is;
+        document = ap (with_chunk d b.0 c.0) builds.leads.gives ∙ ap (λ p. p.0) (sym means.does);
+        answer = ap (λ p. p.1) (sym means.does);
+        kind = means.kind;
+        cost = cost_is;
+      }
+
+    pub splices_built : (s : Splice) → BuildsFor s bytes own to → Splices edit d b c s done
+    splices_built s builds = splices s (subst (λ (x : List ℕ). BuildsFor s x own to) there.value builds)
+
+    -- what a builder answers
+    pub built : (r : Result Splice Fault) → MatchResult r (λ s. BuildsFor s bytes own to) (RefusesToBuild (own bytes ++ too_long (to bytes))) → MatchResult r (λ s. Splices edit d b c s done) (Refuses edit d)
+    built (Ok s) builds = splices_built s builds
+    built (Err fault) refuses = built_refused fault refuses
+
+    pub refuses_built : (fault : Fault) → RefusesToBuild (own bytes ++ too_long (to bytes)) fault → Refuses edit d fault
+    refuses_built fault refuses = built_refused fault refuses
+
+-- An edit that isn't one of an array.
+module _ (edit : Edit) (d : Document) (b : VmHandle) (c : ChunkHandle) (rest : Conditions) (to : List ℕ) (held : ℕ) (heap : IsHeapAt d b.0 (chunks_of d b.0)) (live : contains_key (chunks_of d b.0) c.0 ≡ true) (valid : is_heap_map (chunks_of d b.0) ≡ true)
+    (refusals : conditions edit d ≡ on_chunk d b.0 c.0 ++ rest) (does : effect edit d ≡ (with_chunk d b.0 c.0 to, done.Nothing)) (kind : kind_of edit ≡ In b) (costs : held ≡ cost edit d (effect edit d).0) where
+  plain_past : first_refusal (conditions edit d) ≡ first_refusal rest
+  plain_past = ap first_refusal refusals ∙ past_chunk d b.0 c.0 (chunks_of d b.0) rest heap live
+
+  plain_splices : (s : Splice) → Builds rest s (chunk_at d b.0 c.0) to held → fits_with (chunks_of d b.0) c.0 to ≡ true → Splices edit d b c s done.Nothing
+  plain_splices s builds fit =
+      let fits_then : fits_with (chunks_of d b.0) c.0 (forwards s (chunk_at d b.0 c.0)) ≡ true = ap (fits_with (chunks_of d b.0) c.0) builds.leads.gives ∙ fit in
+      record {
+        stands = builds.leads.stands;
+        short = fits_short (chunks_of d b.0) c.0 _ valid live fits_then;
+        refusal = plain_past ∙ builds.accepted ∙ ap (λ (t : Bool). cond t None (Some Full)) (sym fits_then);
+        document = ap (with_chunk d b.0 c.0) builds.leads.gives ∙ ap (λ p. p.0) (sym does);
+        answer = ap (λ p. p.1) (sym does);
+        kind = kind;
+        cost = builds.leads.holds ∙ costs;
+      }
+
+  plain_refuses : (fault : Fault) → RefusesToBuild rest fault → Refuses edit d fault
+  plain_refuses fault (inl memory) = inl memory
+  plain_refuses fault (inr first) = inr (plain_past ∙ first)
+
+  pub plain_built : (r : Result Splice Fault) → MatchResult r (λ s. Builds rest s (chunk_at d b.0 c.0) to held) (RefusesToBuild rest) → IfOk r (λ s. fits_with (chunks_of d b.0) c.0 to ≡ true)
+      → MatchResult r (λ s. Splices edit d b c s done.Nothing) (Refuses edit d)
+  plain_built (Ok s) builds fit = plain_splices s builds fit
+  plain_built (Err fault) refuses fit = plain_refuses fault refuses
+
+-- What a builder answers, of the place that an edit names.
+
+abbrev pub BuildsOf : List ℕ → Done → Result Splice Fault → Edit → Type 0
+BuildsOf bytes done r edit = (d : Document) → IsAt edit d bytes → MatchResult r (SplicesAt edit d done) (Refuses edit d)
+
+abbrev pub BuildsPlain : ChunkMap → ℕ → Result Splice Fault → Edit → Type 0
+BuildsPlain m h r edit = (d : Document) → IsIn edit d m h → MatchResult r (SplicesAt edit d done.Nothing) (Refuses edit d)
+
+abbrev pub SplicesOf : List ℕ → Done → Splice → Edit → Type 0
+SplicesOf bytes done s edit = (d : Document) → IsAt edit d bytes → SplicesAt edit d done s
+
+abbrev pub RefusesOf : List ℕ → Fault → Edit → Type 0
+RefusesOf bytes fault edit = (d : Document) → IsAt edit d bytes → Refuses edit d fault

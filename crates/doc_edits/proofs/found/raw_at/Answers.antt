@@ -1,0 +1,12 @@
+use Rattle.std.proofs.Common.{ap, refl, ◌∙◌, Some}
+use Rattle.vm_blocks.specs.Bodies.{body_of}
+use Rattle.vm_blocks.specs.declared.block.BlockBody.{BlockBody}
+use Rattle.doc_edits.proofs.Documents.{body_at}
+use Rattle.doc_edits.proofs.Refusals.{no_raw}
+use Rattle.doc_edits.proofs.found.raw_at.Goals as goal
+
+pub returns-in-Heap : goal.returns-in-Heap
+returns-in-Heap c = λ rest late. no_raw c.args.blocks.now c.args.handle.0 _ rest (body_at c.args.blocks.now c.args.handle.0 _ (c.body.ensures ∙ ap (λ (b : BlockBody). Some (body_of b)) c.in-Heap.is)) refl late
+
+pub returns-in-Raw : goal.returns-in-Raw
+returns-in-Raw c = body_at c.args.blocks.now c.args.handle.0 _ (c.body.ensures ∙ ap (λ (b : BlockBody). Some (body_of b)) c.in-Raw.is)

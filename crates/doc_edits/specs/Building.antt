@@ -1,0 +1,152 @@
+-- What is built for an edit of a chunk: a splice of its bytes, or the bytes of a new one.
+use Rattle.std.specs.Prelude.{◌≡◌, ◌≤◌, ◌+◌, ◌++◌, ℕ, List, Bool, true, false, Option, None, Some, MatchOption, length, if◌then◌else◌}
+use Rattle.geos_model.specs.ArrayEdits.{too_long}
+use Rattle.geos_model.specs.Refusal.{Conditions, first_refusal}
+use Rattle.geos_model.specs.Heap.{ChunkMap, is_heap_map, longest_chunk, fits_with}
+use Rattle.geos_model.specs.Document.{Document, chunks_of}
+use Rattle.geos_model.specs.Meaning.{conditions, effect, chunk_at, with_chunk, makes_chunk, no_place, on_new_bytes}
+use Rattle.geos_model.specs.Cost.{cost, both_lengths}
+use Rattle.geos_model.specs.Machine.{kind_of}
+use Rattle.geos_model.specs.declared.fault.Fault.TheVariants.{Full}
+use Rattle.geos_model.specs.declared.command.Done.{Done}
+use Rattle.geos_model.specs.declared.command.Edit.{Edit}
+use Rattle.geos_model.specs.declared.command.Edit.TheVariants as edits
+use Rattle.geos_model.specs.declared.command.Kind.TheVariants.{In}
+use Rattle.geos_model.specs.declared.handle.VmHandle.{VmHandle}
+use Rattle.geos_model.specs.declared.handle.ChunkHandle.{ChunkHandle}
+use Rattle.chunk_edits.specs.Splicing.{Stands, Builds, forwards}
+use Rattle.chunk_edits.specs.declared.splice.Splice.{Splice}
+use Rattle.doc_edits.specs.Found.{AreOwn, IsHeapAt, IsChunkAt}
+
+-- the block and the chunk of an edit of a chunk's bytes
+abbrev pub place_of : Edit → Option (VmHandle × ChunkHandle)
+place_of (edits.Resize b c n) = Some (b, c)
+place_of (edits.Insert b c at n) = Some (b, c)
+place_of (edits.Delete b c at n) = Some (b, c)
+place_of (edits.Write b c at bytes) = Some (b, c)
+place_of (edits.InsertElement b c i element) = Some (b, c)
+place_of (edits.SetElement b c i element) = Some (b, c)
+place_of (edits.ResizeElement b c i n) = Some (b, c)
+place_of (edits.DeleteElements b c i k) = Some (b, c)
+place_of (edits.ZeroArray b c) = Some (b, c)
+place_of (edits.AddElement b c element) = Some (b, c)
+place_of (edits.AddReference b c t) = Some (b, c)
+place_of (edits.RemoveReference b c t) = Some (b, c)
+place_of (edits.DeleteElement b c t) = Some (b, c)
+place_of (edits.ChangeElement b c t element) = Some (b, c)
+place_of (edits.AddName b c name part replace) = Some (b, c)
+place_of (edits.ChangeName b c t name) = Some (b, c)
+place_of (edits.RemoveName b c t) = Some (b, c)
+place_of edit = None
+
+-- whether it is no edit of an array
+abbrev pub is_plain : Edit → Bool
+is_plain (edits.Resize b c n) = true
+is_plain (edits.Insert b c at n) = true
+is_plain (edits.Delete b c at n) = true
+is_plain (edits.Write b c at bytes) = true
+is_plain edit = false
+
+-- whether it answers a token
+abbrev pub answers_token : Edit → Bool
+answers_token (edits.AddElement b c element) = true
+answers_token (edits.AddName b c name part replace) = true
+answers_token edit = false
+
+-- the block of an edit that makes a chunk, and whether the chunk is an array
+abbrev pub new_in : Edit → Option VmHandle
+new_in (edits.Alloc b n) = Some b
+new_in (edits.CreateArray b size extra) = Some b
+new_in (edits.CreateElementArray b size) = Some b
+new_in (edits.CreateNameArray b part) = Some b
+new_in edit = None
+
+abbrev pub creates_array : Edit → Bool
+creates_array (edits.CreateArray b size extra) = true
+creates_array (edits.CreateElementArray b size) = true
+creates_array (edits.CreateNameArray b part) = true
+creates_array edit = false
+
+-- the block into whose body an edit looks
+abbrev pub block_read : Edit → Option VmHandle
+block_read (edits.NewRaw uid size) = None
+block_read (edits.NewHeap uid) = None
+block_read (edits.SetUserId b uid) = None
+block_read (edits.SetMap b) = None
+block_read (edits.FreeBlock b) = Some b
+block_read (edits.CopyBlock b) = Some b
+block_read (edits.WriteRaw b at bytes) = Some b
+block_read (edits.Attach b bytes) = Some b
+block_read (edits.Alloc b n) = Some b
+block_read (edits.Free b c) = Some b
+block_read (edits.CreateArray b size extra) = Some b
+block_read (edits.CreateElementArray b size) = Some b
+block_read (edits.CreateNameArray b part) = Some b
+block_read (edits.Resize b c n) = Some b
+block_read (edits.Insert b c at n) = Some b
+block_read (edits.Delete b c at n) = Some b
+block_read (edits.Write b c at bytes) = Some b
+block_read (edits.InsertElement b c i element) = Some b
+block_read (edits.SetElement b c i element) = Some b
+block_read (edits.ResizeElement b c i n) = Some b
+block_read (edits.DeleteElements b c i k) = Some b
+block_read (edits.ZeroArray b c) = Some b
+block_read (edits.AddElement b c element) = Some b
+block_read (edits.AddReference b c t) = Some b
+block_read (edits.RemoveReference b c t) = Some b
+block_read (edits.DeleteElement b c t) = Some b
+block_read (edits.ChangeElement b c t element) = Some b
+block_read (edits.AddName b c name part replace) = Some b
+block_read (edits.ChangeName b c t name) = Some b
+block_read (edits.RemoveName b c t) = Some b
+
+-- The splice is what an edit comes to in a chunk: nothing but want of room refuses it.
+pub record Splices (edit : Edit) (d : Document) (b : VmHandle) (c : ChunkHandle) (s : Splice) (done : Done) : Type 0 where
+  pub stands : Stands (chunk_at d b.0 c.0) s.at s.old
+  pub short : length (forwards s (chunk_at d b.0 c.0)) ≤ longest_chunk
+  pub refusal : first_refusal (conditions edit d) ≡ (if fits_with (chunks_of d b.0) c.0 (forwards s (chunk_at d b.0 c.0)) then None else Some Full)
+  pub document : with_chunk d b.0 c.0 (forwards s (chunk_at d b.0 c.0)) ≡ (effect edit d).0
+  pub answer : done ≡ (effect edit d).1
+  pub kind : kind_of edit ≡ In b
+  pub cost : length s.old + length s.new ≡ cost edit d (effect edit d).0
+
+-- The bytes are those of the chunk that an edit makes: nothing but want of room refuses it.
+pub record Creates (edit : Edit) (d : Document) (b : VmHandle) (bytes : List ℕ) : Type 0 where
+  pub refusal : first_refusal (conditions edit d) ≡ first_refusal (no_place (chunks_of d b.0) bytes)
+  pub does : effect edit d ≡ makes_chunk d b.0 bytes
+  pub kind : kind_of edit ≡ In b
+  pub cost : cost edit d (effect edit d).0 ≡ length bytes
+
+-- The same of the place that the edit names.
+
+abbrev pub IsAt : Edit → Document → List ℕ → Type 0
+IsAt edit d bytes = MatchOption (place_of edit) ⊥ (λ p. IsChunkAt d p.0.0 p.1.0 bytes)
+
+abbrev pub IsIn : Edit → Document → ChunkMap → ℕ → Type 0
+IsIn edit d m k = MatchOption (place_of edit) ⊥ (λ p. IsHeapAt d p.0.0 m × (k ≡ p.1.0) × (is_heap_map m ≡ true))
+
+abbrev pub SplicesAt : Edit → Document → Done → Splice → Type 0
+SplicesAt edit d done s = MatchOption (place_of edit) ⊥ (λ p. Splices edit d p.0 p.1 s done)
+
+abbrev pub IsHeapFor : Edit → Document → Type 0
+IsHeapFor edit d = MatchOption (new_in edit) ⊥ (λ b. IsHeapAt d b.0 (chunks_of d b.0))
+
+abbrev pub CreatesAt : Edit → Document → List ℕ → Type 0
+CreatesAt edit d bytes = MatchOption (new_in edit) ⊥ (λ b. Creates edit d b bytes)
+
+-- An edit of a chunk's bytes: its own refusals of them, what it makes of them, and what it answers.
+pub record EditsChunk (edit : Edit) (d : Document) (b : VmHandle) (c : ChunkHandle) (own : List ℕ → Conditions) (to : List ℕ → List ℕ) (done : Done) : Type 0 where
+  pub are_own : (bytes : List ℕ) → AreOwn (own bytes)
+  pub refusals : let old = chunk_at d b.0 c.0 in conditions edit d ≡ on_new_bytes d b.0 c.0 (own old) (to old)
+  pub does : effect edit d ≡ (with_chunk d b.0 c.0 (to (chunk_at d b.0 c.0)), done)
+  pub kind : kind_of edit ≡ In b
+  pub cost : (after : Document) → cost edit d after ≡ both_lengths d after b.0 c.0
+
+-- The splice is what an edit builds for these bytes: nothing of its own refuses it, and what it makes of them is no longer than any chunk.
+abbrev pub BuildsFor : Splice → List ℕ → (List ℕ → Conditions) → (List ℕ → List ℕ) → Type 0
+BuildsFor s bytes own to = Builds (own bytes ++ too_long (to bytes)) s bytes (to bytes) (length bytes + length (to bytes))
+
+-- The splice is one of a part of these bytes, and what it makes of them is no longer than any chunk.
+pub record IsBuilt (s : Splice) (bytes : List ℕ) : Type 0 where
+  pub within : s.at + length s.old ≤ length bytes
+  pub short : length (forwards s bytes) ≤ longest_chunk

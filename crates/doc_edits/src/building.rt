@@ -1,0 +1,137 @@
+ghost use Rattle.std.specs.Prelude.{◌≡◌, true, false, IsSome, IsTrue, MatchResult};
+ghost use Rattle.std.specs.FinMap.{contains_key};
+ghost use Rattle.geos_model.specs.Document.{Document};
+ghost use Rattle.geos_model.specs.declared.command.Done.TheVariants as done;
+ghost use Rattle.vm_blocks.specs.Changes.{bytes_of};
+ghost use Rattle.doc_edits.specs.Building.{place_of, is_plain, answers_token, new_in, creates_array, IsAt, IsIn, SplicesAt, IsHeapFor, CreatesAt};
+ghost use Rattle.doc_edits.specs.Planning.{Refuses};
+
+use chunk_edits::Splice;
+use geos_model::{Bytes, ChunkHandle, Done, Edit, Fault};
+use lmem_heap::Heap;
+use std::alloc::Global;
+use vm_blocks::Content;
+
+/// What an edit of a chunk's bytes replaces, and what it answers. Whether the heap has room for what an edit of an array makes
+/// isn't looked at.
+pub fn build(
+    alloc: Global,
+    heap: &Heap,
+    chunk: ChunkHandle,
+    bytes: &[u8],
+    edit: &Edit,
+) -> Result<(Splice, Done), Fault>
+    requires live { IsTrue (contains_key heap.now chunk.0) }
+    requires place { IsSome (place_of edit.now) }
+    ensures { (d : Document) → IsIn edit.now d heap.now chunk.0 → IsAt edit.now d bytes.now → MatchResult result (λ built. SplicesAt edit.now d built.1 built.0) (Refuses edit.now d) }
+{
+    match edit {
+        Edit::Resize(_, _, _)
+        | Edit::Insert(_, _, _, _)
+        | Edit::Delete(_, _, _, _)
+        | Edit::Write(_, _, _, _) => {
+            let splice = build_plain(alloc, heap, chunk, edit)?;
+            Ok((splice, Done::Nothing))
+        }
+        _ => build_in_array(alloc, bytes, edit),
+    }
+}
+
+/// Of an edit that doesn't look at the chunk as an array.
+fn build_plain(alloc: Global, heap: &Heap, chunk: ChunkHandle, edit: &Edit) -> Result<Splice, Fault>
+    requires live { IsTrue (contains_key heap.now chunk.0) }
+    requires plain { is_plain edit.now ≡ true }
+    ensures { (d : Document) → IsIn edit.now d heap.now chunk.0 → MatchResult result (SplicesAt edit.now d done.Nothing) (Refuses edit.now d) }
+{
+    match edit {
+        Edit::Resize(_, _, n) => chunk_edits::resize(alloc, heap, chunk, *n),
+        Edit::Insert(_, _, at, n) => chunk_edits::insert(alloc, heap, chunk, *at, *n),
+        Edit::Delete(_, _, at, n) => chunk_edits::delete(alloc, heap, chunk, *at, *n),
+        Edit::Write(_, _, at, bytes) => {
+            chunk_edits::write(alloc, heap, chunk, *at, bytes.as_slice())
+        }
+        _ => unreachable!(),
+    }
+}
+
+/// Of an edit of an array.
+fn build_in_array(alloc: Global, bytes: &[u8], edit: &Edit) -> Result<(Splice, Done), Fault>
+    requires place { IsSome (place_of edit.now) }
+    requires array { is_plain edit.now ≡ false }
+    ensures { (d : Document) → IsAt edit.now d bytes.now → MatchResult result (λ built. SplicesAt edit.now d built.1 built.0) (Refuses edit.now d) }
+{
+    match edit {
+        Edit::AddElement(_, _, element) => {
+            let (splice, token) = element_arrays::add(alloc, bytes, element.as_slice())?;
+            Ok((splice, Done::Token(token)))
+        }
+        Edit::AddName(_, _, name, part, replace) => {
+            let (splice, token) = name_arrays::add(
+                alloc,
+                bytes,
+                name.as_slice(),
+                part.as_slice(),
+                *replace,
+            )?;
+            Ok((splice, Done::Token(token)))
+        }
+        _ => {
+            let splice = build_silent(alloc, bytes, edit)?;
+            Ok((splice, Done::Nothing))
+        }
+    }
+}
+
+/// Of an edit that answers nothing.
+fn build_silent(alloc: Global, bytes: &[u8], edit: &Edit) -> Result<Splice, Fault>
+    requires place { IsSome (place_of edit.now) }
+    requires array { is_plain edit.now ≡ false }
+    requires silent { answers_token edit.now ≡ false }
+    ensures { (d : Document) → IsAt edit.now d bytes.now → MatchResult result (SplicesAt edit.now d done.Nothing) (Refuses edit.now d) }
+{
+    match edit {
+        Edit::InsertElement(_, _, i, new) => chunk_arrays::insert(alloc, bytes, *i, new.as_slice()),
+        Edit::SetElement(_, _, i, new) => chunk_arrays::set(alloc, bytes, *i, new.as_slice()),
+        Edit::ResizeElement(_, _, i, n) => chunk_arrays::resize(alloc, bytes, *i, *n),
+        Edit::DeleteElements(_, _, i, k) => chunk_arrays::delete(alloc, bytes, *i, *k),
+        Edit::ZeroArray(_, _) => chunk_arrays::zero(alloc, bytes),
+        Edit::AddReference(_, _, token) => element_arrays::add_ref(alloc, bytes, *token),
+        Edit::RemoveReference(_, _, token) => element_arrays::remove_ref(alloc, bytes, *token),
+        Edit::DeleteElement(_, _, token) => element_arrays::delete(alloc, bytes, *token),
+        Edit::ChangeElement(_, _, token, new) => {
+            element_arrays::change(alloc, bytes, *token, new.as_slice())
+        }
+        Edit::ChangeName(_, _, token, name) => {
+            name_arrays::change_name(alloc, bytes, *token, name.as_slice())
+        }
+        Edit::RemoveName(_, _, token) => name_arrays::remove_ref(alloc, bytes, *token),
+        _ => unreachable!(),
+    }
+}
+
+/// What is in the chunk that an edit makes.
+pub fn build_chunk(alloc: Global, edit: &Edit) -> Result<Content, Fault>
+    requires { IsSome (new_in edit.now) }
+    ensures { (d : Document) → IsHeapFor edit.now d → MatchResult result (λ content. CreatesAt edit.now d (bytes_of content)) (Refuses edit.now d) }
+{
+    match edit {
+        Edit::Alloc(_, n) => Ok(Content::Zeros(*n)),
+        _ => {
+            let bytes = build_array(alloc, edit)?;
+            Ok(Content::Bytes(Bytes::from_vec(bytes)))
+        }
+    }
+}
+
+/// The bytes of the array that an edit makes.
+fn build_array(alloc: Global, edit: &Edit) -> Result<Vec<u8>, Fault>
+    requires { creates_array edit.now ≡ true }
+    ensures { (d : Document) → IsHeapFor edit.now d → MatchResult result (λ bytes. CreatesAt edit.now d bytes.items) (Refuses edit.now d) }
+{
+    match edit {
+        Edit::CreateArray(_, size, extra) => chunk_arrays::create_bytes(alloc, *size, *extra),
+        Edit::CreateElementArray(_, size) => element_arrays::create_bytes(alloc, *size),
+        Edit::CreateNameArray(_, part) => name_arrays::create_bytes(alloc, *part),
+        _ => unreachable!(),
+    }
+}

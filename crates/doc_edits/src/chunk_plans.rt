@@ -1,0 +1,121 @@
+ghost use Rattle.std.specs.Prelude.{◌≡◌, ◌<◌, ◌≤◌, true, false, IsTrue, MatchOption, MatchResult, None, Some, length};
+ghost use Rattle.std.specs.FinMap.{contains_key, get};
+ghost use Rattle.geos_model.specs.Heap.{chunk_bytes, fits_with, fits_new, is_chunk_handle, next_chunk};
+ghost use Rattle.geos_model.specs.declared.command.Edit.TheVariants as edits;
+ghost use Rattle.chunk_edits.specs.Splicing.{forwards};
+ghost use Rattle.vm_blocks.specs.Blocks.{is_resident};
+ghost use Rattle.vm_blocks.specs.BodyChanges.{AllowsNewChunk};
+ghost use Rattle.vm_blocks.specs.Changes.{bytes_of};
+ghost use Rattle.doc_edits.specs.Building.{place_of, new_in, IsBuilt};
+ghost use Rattle.doc_edits.specs.Planning.{Plans, Refuses};
+
+use crate::building::{build, build_chunk};
+use crate::found::{bytes_in, heap_at};
+use chunk_edits::{Splice, copied};
+use geos_model::{ChunkHandle, Done, Edit, Fault, VmHandle};
+use lmem_heap::Heap;
+use std::alloc::Global;
+use vm_blocks::{Blocks, Change, Content, PartChange};
+
+/// Of an edit of a chunk's bytes: Full where the heap has no room for them.
+pub fn plan_in_chunk(
+    alloc: Global,
+    blocks: &Blocks,
+    handle: VmHandle,
+    chunk: ChunkHandle,
+    edit: &Edit,
+) -> Result<(Change, Done), Fault>
+    requires resident { is_resident blocks.now handle.0 ≡ true }
+    requires place { place_of edit.now ≡ Some (handle, chunk) }
+    ensures { MatchResult result (λ p. Plans edit.now blocks.now p.0 p.1) (Refuses edit.now blocks.now) }
+{
+    let heap = heap_at(blocks, handle)?;
+    let bytes = bytes_in(heap, chunk)?;
+    let (splice, done) = build(alloc, heap, chunk, bytes, edit)?;
+    if !has_room(heap, chunk, &splice) {
+        return Err(Fault::Full);
+    }
+    Ok((Change::Part(handle, PartChange::Chunk(chunk, splice)), done))
+}
+
+/// Whether the heap has room for what a splice makes of the bytes of a chunk.
+fn has_room(heap: &Heap, chunk: ChunkHandle, splice: &Splice) -> bool
+    requires live { IsTrue (contains_key heap.now chunk.0) }
+    requires built { IsBuilt splice.now (chunk_bytes heap.now chunk.0) }
+    ensures { result ≡ fits_with heap.now chunk.0 (forwards splice.now (chunk_bytes heap.now chunk.0)) }
+{
+    let size = match heap.chunk(chunk) {
+        Some(bytes) => bytes.len(),
+        None => unreachable!(),
+    };
+    let kept = size - splice.old.as_slice().len();
+    heap.fits_resize(chunk, (kept + splice.new.as_slice().len()) as u32)
+}
+
+/// Of an edit that makes a chunk: Full where the heap has no handle or no room for it.
+pub fn plan_new_chunk(
+    alloc: Global,
+    blocks: &Blocks,
+    handle: VmHandle,
+    edit: &Edit,
+) -> Result<(Change, Done), Fault>
+    requires resident { is_resident blocks.now handle.0 ≡ true }
+    requires new { new_in edit.now ≡ Some handle }
+    ensures { MatchResult result (λ p. Plans edit.now blocks.now p.0 p.1) (Refuses edit.now blocks.now) }
+{
+    let heap = heap_at(blocks, handle)?;
+    let content = build_chunk(alloc, edit)?;
+    match free_place(heap, &content) {
+        Some(chunk) => Ok((
+            Change::Part(handle, PartChange::ChunkIn(chunk, content)),
+            Done::Chunk(chunk),
+        )),
+        None => Err(Fault::Full),
+    }
+}
+
+/// The least free handle of a heap, if it has room for a new chunk there.
+fn free_place(heap: &Heap, content: &Content) -> Option<ChunkHandle>
+    ensures { MatchOption result (fits_new heap.now (bytes_of content.now) ≡ false)
+        (λ chunk. (next_chunk heap.now ≡ Some chunk.0) × AllowsNewChunk heap.now chunk.0 (bytes_of content.now)) }
+{
+    let chunk = heap.next_handle()?;
+    let size = size_of(content)?;
+    if heap.fits_at(chunk, size) {
+        Some(chunk)
+    } else {
+        None
+    }
+}
+
+/// How many bytes a new chunk has, if a word of 32 bits holds their number.
+fn size_of(content: &Content) -> Option<u32>
+    ensures { MatchOption result (4294967296 ≤ length (bytes_of content.now)) (λ n. n ≡ length (bytes_of content.now)) }
+{
+    match content {
+        Content::Zeros(n) => Some(*n),
+        Content::Bytes(bytes) => match u32::try_from(bytes.as_slice().len()) {
+            Ok(n) => Some(n),
+            Err(_) => None,
+        },
+    }
+}
+
+/// Of the edit that frees a chunk.
+pub fn plan_free_chunk(
+    alloc: Global,
+    blocks: &Blocks,
+    handle: VmHandle,
+    chunk: ChunkHandle,
+) -> Result<(Change, Done), Fault>
+    requires { is_resident blocks.now handle.0 ≡ true }
+    ensures { MatchResult result (λ p. Plans (edits.Free handle chunk) blocks.now p.0 p.1) (Refuses (edits.Free handle chunk) blocks.now) }
+{
+    let heap = heap_at(blocks, handle)?;
+    let bytes = bytes_in(heap, chunk)?;
+    let content = Content::Bytes(copied(alloc, bytes)?);
+    Ok((
+        Change::Part(handle, PartChange::ChunkOut(chunk, content)),
+        Done::Nothing,
+    ))
+}

@@ -1,0 +1,46 @@
+ghost use Rattle.std.specs.Prelude.{◌≡◌, ◌++◌, ℕ, true, MatchResult, Some};
+ghost use Rattle.geos_model.specs.Document.{Document};
+ghost use Rattle.geos_model.specs.Refusal.{Conditions, first_refusal};
+ghost use Rattle.geos_model.specs.Meaning.{on_raw, on_heap, on_chunk};
+ghost use Rattle.vm_blocks.specs.Blocks.{is_resident};
+ghost use Rattle.doc_edits.specs.Found.{AreLate, IsRawAt, IsHeapAt, IsChunkAt};
+
+use geos_model::{ChunkHandle, Fault, VmHandle};
+use lmem_heap::Heap;
+use raw_region::RawBody;
+use vm_blocks::{BlockBody, Blocks};
+
+/// The raw body of a block in memory: WrongKind where it is a heap.
+pub fn raw_at(blocks: &Blocks, handle: VmHandle) -> Result<&RawBody, Fault>
+    requires { is_resident blocks.now handle.0 ≡ true }
+    ensures { MatchResult result
+        (λ body. IsRawAt blocks.now handle.0 body.now)
+        (λ fault. (rest : Conditions) → AreLate rest → first_refusal (on_raw blocks.now handle.0 ++ rest) ≡ Some fault) }
+{
+    match blocks.body(handle) {
+        BlockBody::Raw(body) => Ok(body),
+        BlockBody::Heap(_) => Err(Fault::WrongKind),
+    }
+}
+
+/// The heap of a block in memory: WrongKind where it is raw.
+pub fn heap_at(blocks: &Blocks, handle: VmHandle) -> Result<&Heap, Fault>
+    requires { is_resident blocks.now handle.0 ≡ true }
+    ensures { MatchResult result
+        (λ heap. IsHeapAt blocks.now handle.0 heap.now)
+        (λ fault. (rest : Conditions) → AreLate rest → first_refusal (on_heap blocks.now handle.0 ++ rest) ≡ Some fault) }
+{
+    match blocks.body(handle) {
+        BlockBody::Heap(heap) => Ok(heap),
+        BlockBody::Raw(_) => Err(Fault::WrongKind),
+    }
+}
+
+/// The bytes of a chunk of a heap, which is that of a block: NoChunk where it isn't live.
+pub fn bytes_in(heap: &Heap, chunk: ChunkHandle) -> Result<&[u8], Fault>
+    ensures { (d : Document) (b : ℕ) → IsHeapAt d b heap.now → MatchResult result
+        (λ bytes. IsChunkAt d b chunk.0 bytes.now)
+        (λ fault. (rest : Conditions) → AreLate rest → first_refusal (on_chunk d b chunk.0 ++ rest) ≡ Some fault) }
+{
+    heap.chunk(chunk).ok_or(Fault::NoChunk)
+}

@@ -1,0 +1,41 @@
+ghost use Rattle.std.specs.Prelude.{◌≡◌, true, MatchResult};
+ghost use Rattle.geos_model.specs.declared.command.Edit.TheVariants as edits;
+ghost use Rattle.vm_blocks.specs.Blocks.{is_resident};
+ghost use Rattle.doc_edits.specs.Planning.{Plans, Refuses};
+
+use crate::found::raw_at;
+use chunk_edits::{raw_replace, raw_write};
+use geos_model::{Bytes, Done, Fault, VmHandle};
+use std::alloc::Global;
+use vm_blocks::{Blocks, Change, PartChange};
+
+/// Of the edit that writes over the bytes of a raw block.
+pub fn plan_write_raw(
+    alloc: Global,
+    blocks: &Blocks,
+    handle: VmHandle,
+    at: u32,
+    bytes: &Bytes,
+) -> Result<(Change, Done), Fault>
+    requires { is_resident blocks.now handle.0 ≡ true }
+    ensures { MatchResult result (λ p. Plans (edits.WriteRaw handle at bytes.now) blocks.now p.0 p.1) (Refuses (edits.WriteRaw handle at bytes.now) blocks.now) }
+{
+    let body = raw_at(blocks, handle)?;
+    let splice = raw_write(alloc, body, at, bytes.as_slice())?;
+    Ok((Change::Part(handle, PartChange::Raw(splice)), Done::Nothing))
+}
+
+/// Of the edit that replaces the bytes of a raw block.
+pub fn plan_attach(
+    alloc: Global,
+    blocks: &Blocks,
+    handle: VmHandle,
+    bytes: &Bytes,
+) -> Result<(Change, Done), Fault>
+    requires { is_resident blocks.now handle.0 ≡ true }
+    ensures { MatchResult result (λ p. Plans (edits.Attach handle bytes.now) blocks.now p.0 p.1) (Refuses (edits.Attach handle bytes.now) blocks.now) }
+{
+    let body = raw_at(blocks, handle)?;
+    let splice = raw_replace(alloc, body, bytes.as_slice())?;
+    Ok((Change::Part(handle, PartChange::Raw(splice)), Done::Nothing))
+}
