@@ -28,10 +28,7 @@ pub no_chunk : (d : Document) (h c : ℕ) (m : ChunkMap) (rest : Conditions) →
 no_chunk d h c m rest live free late =
     rw (live, free, not_late rest BadCommand late refl, not_late rest Locked late refl, not_late rest NothingToUndo late refl, not_late rest NothingToRedo late refl, not_late rest NoTarget late refl, not_late rest NoBlock late refl, not_late rest WrongKind late refl, not_late rest NotLocked late refl, not_late rest LockLimit late refl, not_late rest CacheFull late refl) refl
 
--- where the heap is there, the other refusals decide
-pub past_heap : (d : Document) (h : ℕ) (m : ChunkMap) (rest : Conditions) → IsHeapAt d h m → first_refusal (on_heap d h ++ rest) ≡ first_refusal rest
-past_heap d h m rest live = rw live refl
-
+-- where the chunk is there, the other refusals decide
 pub past_chunk : (d : Document) (h c : ℕ) (m : ChunkMap) (rest : Conditions) → IsHeapAt d h m → contains_key m c ≡ true → first_refusal (on_chunk d h c ++ rest) ≡ first_refusal rest
 past_chunk d h c m rest live there = rw (live, there) refl
 

@@ -5,11 +5,11 @@ use Rattle.std.specs.Result.{IfOk}
 use Rattle.std.specs.FinMap.{empty, insert, contains_key}
 use Rattle.std.specs.Option.{option_map_or}
 use Rattle.geos_model.specs.ArrayEdits.{too_long}
-use Rattle.geos_model.specs.Cost.{cost}
+use Rattle.geos_model.specs.Cost.{cost, both_lengths}
 use Rattle.geos_model.specs.Document.{Block, Document, chunks_of, chunks_of_body, user_id_of}
 use Rattle.geos_model.specs.Heap.{ChunkMap, chunk_bytes, fits, fits_with, is_heap_map, need}
 use Rattle.geos_model.specs.Machine.{kind_of}
-use Rattle.geos_model.specs.Meaning.{conditions, effect, chunk_at, with_chunk, on_chunk, no_room}
+use Rattle.geos_model.specs.Meaning.{conditions, effect, chunk_at, with_chunk, on_chunk, on_new_bytes, no_room}
 use Rattle.geos_model.specs.Refusal.{Conditions, first_refusal}
 use Rattle.geos_model.proofs.Table.{table_map}
 use Rattle.geos_model.specs.declared.command.Body.TheVariants.{Heap}
@@ -27,11 +27,23 @@ use Rattle.geos_model.proofs.Tables.{put_at, slot_at-put_same, table_map-put}
 use Rattle.chunk_edits.specs.Splicing.{Builds, RefusesToBuild, forwards}
 use Rattle.chunk_edits.specs.declared.splice.Splice.{Splice}
 use Rattle.vm_blocks.proofs.RoomLemmas.{bytes-put}
-use Rattle.doc_edits.specs.Found.{IsHeapAt, IsChunkAt}
-use Rattle.doc_edits.specs.Building.{IsAt, IsIn, SplicesAt, EditsChunk, BuildsFor, Splices}
+use Rattle.doc_edits.specs.Found.{AreOwn, IsHeapAt, IsChunkAt}
+use Rattle.doc_edits.specs.Building.{IsAt, IsIn, SplicesAt, Splices}
 use Rattle.doc_edits.specs.Planning.{Refuses}
 use Rattle.doc_edits.proofs.Order.{more_refused, more_accepted, has_room}
 use Rattle.doc_edits.proofs.Refusals.{past_chunk}
+
+-- An edit of a chunk's bytes: its own refusals of them, what it makes of them, and what it answers.
+pub record EditsChunk (edit : Edit) (d : Document) (b : VmHandle) (c : ChunkHandle) (own : List ℕ → Conditions) (to : List ℕ → List ℕ) (done : Done) : Type 0 where
+  pub are_own : (bytes : List ℕ) → AreOwn (own bytes)
+  pub refusals : let old = chunk_at d b.0 c.0 in conditions edit d ≡ on_new_bytes d b.0 c.0 (own old) (to old)
+  pub does : effect edit d ≡ (with_chunk d b.0 c.0 (to (chunk_at d b.0 c.0)), done)
+  pub kind : kind_of edit ≡ In b
+  pub cost : (after : Document) → cost edit d after ≡ both_lengths d after b.0 c.0
+
+-- The splice is what an edit builds for these bytes: nothing of its own refuses it, and what it makes of them is no longer than any chunk.
+abbrev pub BuildsFor : Splice → List ℕ → (List ℕ → Conditions) → (List ℕ → List ℕ) → Type 0
+BuildsFor s bytes own to = Builds (own bytes ++ too_long (to bytes)) s bytes (to bytes) (length bytes + length (to bytes))
 
 -- no heap has room for more bytes than these in a chunk
 pub fits_short : (m : ChunkMap) (h : ℕ) (bytes : List ℕ) → is_heap_map m ≡ true → contains_key m h ≡ true → fits_with m h bytes ≡ true → length bytes ≤ 65498

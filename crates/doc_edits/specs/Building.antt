@@ -1,11 +1,10 @@
 -- What is built for an edit of a chunk: a splice of its bytes, or the bytes of a new one.
-use Rattle.std.specs.Prelude.{◌≡◌, ◌≤◌, ◌+◌, ◌++◌, ℕ, List, Bool, true, false, Option, None, Some, MatchOption, length, if◌then◌else◌}
-use Rattle.geos_model.specs.ArrayEdits.{too_long}
-use Rattle.geos_model.specs.Refusal.{Conditions, first_refusal}
+use Rattle.std.specs.Prelude.{◌≡◌, ◌≤◌, ◌+◌, ℕ, List, Bool, true, false, Option, None, Some, MatchOption, length, if◌then◌else◌}
+use Rattle.geos_model.specs.Refusal.{first_refusal}
 use Rattle.geos_model.specs.Heap.{ChunkMap, is_heap_map, longest_chunk, fits_with}
 use Rattle.geos_model.specs.Document.{Document, chunks_of}
-use Rattle.geos_model.specs.Meaning.{conditions, effect, chunk_at, with_chunk, makes_chunk, no_place, on_new_bytes}
-use Rattle.geos_model.specs.Cost.{cost, both_lengths}
+use Rattle.geos_model.specs.Meaning.{conditions, effect, chunk_at, with_chunk, makes_chunk, no_place}
+use Rattle.geos_model.specs.Cost.{cost}
 use Rattle.geos_model.specs.Machine.{kind_of}
 use Rattle.geos_model.specs.declared.fault.Fault.TheVariants.{Full}
 use Rattle.geos_model.specs.declared.command.Done.{Done}
@@ -14,9 +13,9 @@ use Rattle.geos_model.specs.declared.command.Edit.TheVariants as edits
 use Rattle.geos_model.specs.declared.command.Kind.TheVariants.{In}
 use Rattle.geos_model.specs.declared.handle.VmHandle.{VmHandle}
 use Rattle.geos_model.specs.declared.handle.ChunkHandle.{ChunkHandle}
-use Rattle.chunk_edits.specs.Splicing.{Stands, Builds, forwards}
+use Rattle.chunk_edits.specs.Splicing.{Stands, forwards}
 use Rattle.chunk_edits.specs.declared.splice.Splice.{Splice}
-use Rattle.doc_edits.specs.Found.{AreOwn, IsHeapAt, IsChunkAt}
+use Rattle.doc_edits.specs.Found.{IsHeapAt, IsChunkAt}
 
 -- the block and the chunk of an edit of a chunk's bytes
 abbrev pub place_of : Edit → Option (VmHandle × ChunkHandle)
@@ -69,10 +68,6 @@ creates_array edit = false
 
 -- the block into whose body an edit looks
 abbrev pub block_read : Edit → Option VmHandle
-block_read (edits.NewRaw uid size) = None
-block_read (edits.NewHeap uid) = None
-block_read (edits.SetUserId b uid) = None
-block_read (edits.SetMap b) = None
 block_read (edits.FreeBlock b) = Some b
 block_read (edits.CopyBlock b) = Some b
 block_read (edits.WriteRaw b at bytes) = Some b
@@ -99,6 +94,7 @@ block_read (edits.ChangeElement b c t element) = Some b
 block_read (edits.AddName b c name part replace) = Some b
 block_read (edits.ChangeName b c t name) = Some b
 block_read (edits.RemoveName b c t) = Some b
+block_read edit = None
 
 -- The splice is what an edit comes to in a chunk: nothing but want of room refuses it.
 pub record Splices (edit : Edit) (d : Document) (b : VmHandle) (c : ChunkHandle) (s : Splice) (done : Done) : Type 0 where
@@ -133,18 +129,6 @@ IsHeapFor edit d = MatchOption (new_in edit) ⊥ (λ b. IsHeapAt d b.0 (chunks_o
 
 abbrev pub CreatesAt : Edit → Document → List ℕ → Type 0
 CreatesAt edit d bytes = MatchOption (new_in edit) ⊥ (λ b. Creates edit d b bytes)
-
--- An edit of a chunk's bytes: its own refusals of them, what it makes of them, and what it answers.
-pub record EditsChunk (edit : Edit) (d : Document) (b : VmHandle) (c : ChunkHandle) (own : List ℕ → Conditions) (to : List ℕ → List ℕ) (done : Done) : Type 0 where
-  pub are_own : (bytes : List ℕ) → AreOwn (own bytes)
-  pub refusals : let old = chunk_at d b.0 c.0 in conditions edit d ≡ on_new_bytes d b.0 c.0 (own old) (to old)
-  pub does : effect edit d ≡ (with_chunk d b.0 c.0 (to (chunk_at d b.0 c.0)), done)
-  pub kind : kind_of edit ≡ In b
-  pub cost : (after : Document) → cost edit d after ≡ both_lengths d after b.0 c.0
-
--- The splice is what an edit builds for these bytes: nothing of its own refuses it, and what it makes of them is no longer than any chunk.
-abbrev pub BuildsFor : Splice → List ℕ → (List ℕ → Conditions) → (List ℕ → List ℕ) → Type 0
-BuildsFor s bytes own to = Builds (own bytes ++ too_long (to bytes)) s bytes (to bytes) (length bytes + length (to bytes))
 
 -- The splice is one of a part of these bytes, and what it makes of them is no longer than any chunk.
 pub record IsBuilt (s : Splice) (bytes : List ℕ) : Type 0 where
