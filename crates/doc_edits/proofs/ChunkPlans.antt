@@ -18,7 +18,7 @@ use Rattle.chunk_edits.specs.Splicing.{forwards}
 use Rattle.chunk_edits.specs.declared.splice.Splice.{Splice}
 use Rattle.lmem_heap.proofs.Heaps.{fits_new-some, fits_new-none}
 use Rattle.vm_blocks.proofs.RoomLemmas.{fits_as, fits_few}
-use Rattle.vm_blocks.specs.BodyChanges.{AllowsNewChunk}
+use Rattle.vm_blocks.specs.Allowing.{AllowsNewChunk}
 use Rattle.vm_blocks.specs.Changes.{bytes_of}
 use Rattle.vm_blocks.specs.declared.change.Change.TheVariants as changes
 use Rattle.vm_blocks.specs.declared.change.Content.{Content}

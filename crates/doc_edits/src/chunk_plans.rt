@@ -4,7 +4,7 @@ ghost use Rattle.geos_model.specs.Heap.{chunk_bytes, fits_with, fits_new, is_chu
 ghost use Rattle.geos_model.specs.declared.command.Edit.TheVariants as edits;
 ghost use Rattle.chunk_edits.specs.Splicing.{forwards};
 ghost use Rattle.vm_blocks.specs.Blocks.{is_resident};
-ghost use Rattle.vm_blocks.specs.BodyChanges.{AllowsNewChunk};
+ghost use Rattle.vm_blocks.specs.Allowing.{AllowsNewChunk};
 ghost use Rattle.vm_blocks.specs.Changes.{bytes_of};
 ghost use Rattle.doc_edits.specs.Building.{place_of, new_in, IsBuilt};
 ghost use Rattle.doc_edits.specs.Planning.{Plans, Refuses};

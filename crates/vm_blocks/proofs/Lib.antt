@@ -1,5 +1,4 @@
 pub mod SlotLemmas
-pub mod ChangeLemmas
 pub mod ChangeLaws
 pub mod PartLemmas
 pub mod RoomLemmas

@@ -1,6 +1,6 @@
 pub mod Bodies
 pub mod Blocks
-pub mod BodyChanges
+pub mod Allowing
 pub mod Changes
 pub mod Parts
 pub mod Saved

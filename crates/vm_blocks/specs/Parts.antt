@@ -6,7 +6,7 @@ use Rattle.geos_model.specs.Document.{bytes_of_body, chunks_of_body}
 use Rattle.geos_model.specs.declared.command.Body.{Body}
 use Rattle.geos_model.specs.declared.command.Body.TheVariants.{Raw, Heap}
 use Rattle.chunk_edits.specs.Splicing.{forwards}
-use Rattle.vm_blocks.specs.BodyChanges.{AllowsRaw, AllowsChunk, AllowsNewChunk}
+use Rattle.vm_blocks.specs.Allowing.{AllowsRaw, AllowsChunk, AllowsNewChunk}
 use Rattle.vm_blocks.specs.Changes.{bytes_of}
 use Rattle.vm_blocks.specs.declared.change.PartChange.{PartChange}
 use Rattle.vm_blocks.specs.declared.change.PartChange.TheVariants as parts

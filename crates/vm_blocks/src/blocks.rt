@@ -6,12 +6,11 @@ ghost use Rattle.geos_model.specs.Reply.{found};
 ghost use Rattle.geos_model.proofs.Table.{table_entries, first_gap};
 ghost use Rattle.vm_blocks.specs.Blocks.{block_of, table_of, document_of, start_after, is_resident};
 ghost use Rattle.vm_blocks.specs.Bodies.{body_of};
-ghost use Rattle.vm_blocks.specs.BodyChanges.{AllowsIn, changed};
 ghost use Rattle.vm_blocks.specs.Changes.{made, part_made, turned, turned_part, Applies, PartApplies, block_in, IsFor};
 ghost use Rattle.vm_blocks.specs.Saved.{with_slot};
 
 use crate::part::carry_out;
-use crate::{Block, BlockBody, BodyChange, Change, Direction, PartChange, Prepared};
+use crate::{Block, BlockBody, Change, Direction, PartChange, Prepared};
 use geos_model::{Fault, VmHandle};
 use std::alloc::{AllocError, Global};
 use std::marker::Model;
@@ -243,19 +242,6 @@ impl Blocks {
         let place = usize::from(handle.0) - 1;
         match &mut slots[place] {
             Some(block) => block.user_id = user_id,
-            None => unreachable!(),
-        }
-    }
-
-    /// Makes a change of a block's body in place.
-    pub fn change(&mut self, handle: VmHandle, change: &BodyChange)
-        requires { AllowsIn self.old handle.0 change.now }
-        ensures { self.new ≡ changed self.old handle.0 change.now }
-    {
-        let slots = &mut self.slots;
-        let place = usize::from(handle.0) - 1;
-        match &mut slots[place] {
-            Some(block) => block.body.change(change),
             None => unreachable!(),
         }
     }

@@ -3,7 +3,6 @@
 
 mod block;
 mod blocks;
-mod body_change;
 mod change;
 mod law;
 mod part;
@@ -12,7 +11,6 @@ mod saved;
 
 pub use block::{Block, BlockBody};
 pub use blocks::Blocks;
-pub use body_change::BodyChange;
 pub use change::{Change, Content, Direction, PartChange};
 pub use law::change_law;
 pub use prepared::Prepared;

@@ -2,7 +2,7 @@ ghost use Rattle.std.specs.Prelude.{◌≡◌};
 ghost use Rattle.std.specs.FinMap.{insert};
 ghost use Rattle.geos_model.specs.declared.command.Body.TheVariants as bodies;
 ghost use Rattle.vm_blocks.specs.Bodies.{body_of};
-ghost use Rattle.vm_blocks.specs.BodyChanges.{AllowsNewChunk};
+ghost use Rattle.vm_blocks.specs.Allowing.{AllowsNewChunk};
 ghost use Rattle.vm_blocks.specs.Changes.{bytes_of, turned_part};
 ghost use Rattle.vm_blocks.specs.Parts.{Takes, RawTakes, HeapTakes, body_made};
 

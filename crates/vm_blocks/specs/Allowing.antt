@@ -1,0 +1,23 @@
+-- When a part of a body can be changed.
+use Rattle.std.specs.Prelude.{◌≡◌, ◌≤◌, ◌+◌, ℕ, List, IsTrue, None, length}
+use Rattle.std.specs.FinMap.{get, contains_key}
+use Rattle.geos_model.specs.Heap.{ChunkMap, chunk_bytes, fits_with, is_chunk_handle, capacity}
+use Rattle.chunk_edits.specs.Splicing.{forwards}
+use Rattle.chunk_edits.specs.declared.splice.Splice.{Splice}
+
+-- a raw body has the part that is replaced, and room for what comes
+pub record AllowsRaw (bytes : List ℕ) (s : Splice) : Type 0 where
+  pub within : s.at + length s.old ≤ length bytes
+  pub room : length (forwards s bytes) ≤ capacity
+
+-- so has a chunk in its heap
+pub record AllowsChunk (m : ChunkMap) (c : ℕ) (s : Splice) : Type 0 where
+  pub live : IsTrue (contains_key m c)
+  pub within : s.at + length s.old ≤ length (chunk_bytes m c)
+  pub fits : IsTrue (fits_with m c (forwards s (chunk_bytes m c)))
+
+-- there is room for a chunk of these bytes under a handle that is free
+pub record AllowsNewChunk (m : ChunkMap) (c : ℕ) (bytes : List ℕ) : Type 0 where
+  pub handle : IsTrue (is_chunk_handle c)
+  pub free : get m c ≡ None
+  pub fits : IsTrue (fits_with m c bytes)
