@@ -44,5 +44,16 @@ fn a_heap_has_room_for_an_empty_chunk_under_each_handle(rt: HostRuntime) -> Resu
     dialogue.say("alloc 0001 0", "no 8 Full")?;
     dialogue.say("info 0001", "heap 0 65520")?;
     dialogue.say("chunks 0001", &chunks)?;
+    undo_each_chunk(&mut dialogue)?;
+    dialogue.say("chunks 0001", "chunks")?;
+    dialogue.say("undos", "number 1")?;
     dialogue.hold()
+}
+
+// Takes back as many edits as a heap can have chunks.
+fn undo_each_chunk(dialogue: &mut Dialogue) -> Result<(), Departure> {
+    for _ in 0..32_752_u32 {
+        dialogue.put("undo\n", "ok\n")?;
+    }
+    Ok(())
 }

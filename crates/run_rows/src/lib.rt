@@ -1,4 +1,4 @@
-//! Tests of runs, with readers and writers that are slow, are interrupted or fail.
+//! Tests of runs, with readers and writers that are slow, are interrupted or fail, and of what the records of a session weigh.
 #![tactic(auto)]
 
 #[cfg(test)]
@@ -9,3 +9,5 @@ mod faults;
 mod reading;
 #[cfg(test)]
 mod writing;
+#[cfg(test)]
+mod weights;
