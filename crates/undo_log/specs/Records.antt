@@ -1,5 +1,5 @@
 -- The records of a session are changes. What steps they are, and that each can be taken.
-use Rattle.std.specs.Prelude.{ℕ, List, [], ◌∷◌}
+use Rattle.std.specs.Prelude.{◌≡◌, ◌+◌, ◌-◌, ◌^◌, ℕ, min, List, [], ◌∷◌}
 use Rattle.std.specs.List.{sum_by}
 use Rattle.geos_model.specs.Document.{Document, IsValid}
 use Rattle.geos_model.specs.Machine.{Machine, UndoStep}
@@ -48,3 +48,10 @@ total_weight cs = sum_by weight cs
 -- how many bytes steps are charged for together
 abbrev pub total_cost : List UndoStep → ℕ
 total_cost steps = sum_by (λ s. s.cost) steps
+
+-- So many content bytes do the records of a machine hold, or 2 ^ 64 - 1 where these are more.
+pub record Weighs (m : Machine) (n : ℕ) : Type 0 where
+  pub undo : List Change
+  pub redo : List Change
+  pub records : machine_of m.document undo redo ≡ m
+  pub weight : n ≡ min (total_weight undo + total_weight redo) (2 ^ 64 - 1)

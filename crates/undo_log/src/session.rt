@@ -4,7 +4,7 @@ ghost use Rattle.geos_model.specs.Reply.{Accepted, BytesAre, NumberIs, TokenIs, 
 ghost use Rattle.geos_model.specs.Machine.{IsValidMachine, Step, empty_machine};
 ghost use Rattle.geos_model.specs.declared.command.Command.TheVariants as commands;
 ghost use Rattle.vm_blocks.specs.Blocks.{block_of, is_resident};
-ghost use Rattle.undo_log.specs.Records.{total_cost};
+ghost use Rattle.undo_log.specs.Records.{total_cost, Weighs};
 
 use crate::found::{bytes_at, heap_at, raw_at};
 use crate::turn::{take, turn};
@@ -138,7 +138,8 @@ impl Session {
 
     /// How many content bytes the records of undo and redo hold, 2^64 - 1 where these are more.
     pub fn weight(&self) -> u64
-        ensures { result ≤ total_cost self.now.past + total_cost self.now.future }
+        ensures exact { Weighs self.now result }
+        ensures charged { result ≤ total_cost self.now.past + total_cost self.now.future }
     {
         total_weight(self.undo.as_slice()).saturating_add(total_weight(self.redo.as_slice()))
     }
