@@ -8,6 +8,6 @@ mod faults;
 #[cfg(test)]
 mod reading;
 #[cfg(test)]
-mod writing;
-#[cfg(test)]
 mod weights;
+#[cfg(test)]
+mod writing;
