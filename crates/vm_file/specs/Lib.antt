@@ -1,2 +1,6 @@
 pub mod Ranges
 pub mod Slots
+pub mod Documents
+pub mod Disk
+pub mod Sound
+pub mod Calls

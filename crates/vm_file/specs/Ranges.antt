@@ -1,6 +1,7 @@
 -- Ranges of a file: the bytes of extents, and what a write leaves of them.
-use Rattle.std.specs.Prelude.{◌≡◌, ◌⊎◌, ℕ, ◌+◌, ◌*◌, ◌/◌, ◌<◌, ◌≤◌, List, length, All}
+use Rattle.std.specs.Prelude.{◌≡◌, ◌⊎◌, ℕ, ◌+◌, ◌*◌, ◌<◌, ◌≤◌, List, length, All}
 use Rattle.vm_store.specs.Facts.{byte}
+use Rattle.geos_model.specs.File.{end_page, last_page}
 use Rattle.geos_model.specs.declared.file.Extent.{Extent}
 
 -- where an extent begins; pages have 512 bytes
@@ -11,14 +12,12 @@ start_of e = 512 * e.page
 abbrev pub end_of : Extent → ℕ
 end_of e = start_of e + e.length
 
--- how many pages it takes
-abbrev pub pages_of : Extent → ℕ
-pages_of e = (e.length + 511) / 512
-
--- an extent that can be: behind the slots, and below the last page
+-- an extent that can be: behind the slots, below the last page, of 1 to 128 pages
 pub record IsPlaced (e : Extent) : Type 0 where
   pub behind : 2 ≤ e.page
-  pub within : e.page + pages_of e ≤ 4194304
+  pub within : end_page e ≤ last_page
+  pub some : 1 ≤ e.length
+  pub short : e.length ≤ 65536
 
 -- the extent's bytes are in both files, and are the same
 pub record SameIn (file c : List ℕ) (e : Extent) : Type 0 where

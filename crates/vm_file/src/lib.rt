@@ -1,8 +1,13 @@
 //! A document file over a store: the blocks as they are now, as they were last updated and as they were saved.
 #![tactic(auto)]
 
+mod file;
+mod put;
+mod refused;
 mod slots;
 mod table;
 
-pub use slots::{Other, Pair, Slots, Stored};
-pub use table::{Place, Table};
+pub use file::VmFile;
+pub use put::PutBlock;
+pub use refused::Refused;
+pub use table::Place;
