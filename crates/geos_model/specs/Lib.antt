@@ -11,6 +11,7 @@ pub mod Heap
 pub mod Document
 pub mod Meaning
 pub mod Image
+pub mod File
 pub mod Cost
 pub mod Reply
 pub mod Machine

@@ -1,31 +1,36 @@
 use crate::VmHandle;
 
-/// Bytes of a file: whole pages of 512 but for the last, which needn't be whole.
+/// How many bytes of a file make a page.
+pub const PAGE: u32 = 512;
+
+/// Bytes of a file: all of its pages but for the end of the last, which may lie past the file's end.
 #[derive(Clone, Copy, Debug, PartialEq, Eq)]
 pub struct Extent {
-    /// The number of the first page.
+    /// The first page, in pages of 512 bytes from the file's start. Pages 0 and 1 are the slots'.
     pub page: u32,
-    /// How many bytes there are.
+    /// In bytes.
     pub length: u32,
 }
 
-/// A block of a document in a file.
+/// What a directory says of one block.
 #[derive(Clone, Copy, Debug, PartialEq, Eq)]
 pub struct Entry {
     pub handle: VmHandle,
     pub user_id: u16,
-    /// Where its image lies.
+    /// Where the image of its body lies.
     pub extent: Extent,
 }
 
-/// What one of the two slots of a file says.
+/// One of the two records at a file's start, of which one counts. A slot's text has 32 bytes.
 #[derive(Clone, Copy, Debug, PartialEq, Eq)]
 pub struct Slot {
-    /// 1 is open, any other value closed.
+    /// 1 is open; any other value is closed.
     pub gate: u8,
+    /// That of the file's format: 1.
     pub version: u8,
+    /// Zero.
     pub reserved: u16,
-    /// From 1 on; the open slot with the greater one counts.
+    /// From 1 on, one more with each commit.
     pub sequence: u64,
     /// The directory of the updated document.
     pub working: Extent,

@@ -12,7 +12,7 @@ mod law;
 pub use bytes::{Bytes, Chunks};
 pub use command::{Body, Command, Done, Edit, Info, Kind};
 pub use fault::Fault;
-pub use file::{Entry, Extent, Slot};
+pub use file::{Entry, Extent, PAGE, Slot};
 pub use handle::{ChunkHandle, Token, VmHandle};
 pub use law::{
     array_edits_law, array_law, chunk_edits_law, chunk_law, element_array_law, element_edits_law,
