@@ -1,3 +1,4 @@
 pub mod Passing
 pub mod Stands
+pub mod Written
 mod Crashes
