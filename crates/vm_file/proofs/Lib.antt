@@ -1,0 +1,3 @@
+pub mod KeptBytes
+pub mod Outcomes
+pub mod Steps
