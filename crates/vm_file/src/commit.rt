@@ -10,8 +10,10 @@ use byteorder::{ByteOrder, LittleEndian};
 use geos_model::Extent;
 use vm_store::{Store, StoreFault};
 
+/// How many bytes a page has.
 const PAGE: u64 = 512;
 
+/// What a slot begins with.
 const MARK: [u8; 4] = [b'G', b'V', b'M', b'F'];
 
 /// Writes these bytes, and syncs.
@@ -26,7 +28,7 @@ pub fn write_through<S: Store>(store: &mut S, at: u64, bytes: &[u8]) -> Result<(
     store.sync()
 }
 
-/// The bytes of a slot behind its gate: its version, its number and where its directories lie.
+/// The bytes of a slot behind its gate: its version, its number, and the directories of the updated and the saved document.
 #[tactic(auto, unfolding(crate::specs::Slots::gate_text))]
 pub fn behind_gate_bytes(sequence: u64, working: Extent, saved: Extent) -> [u8; 27]
     ensures { result ≡ gate_text sequence working saved }
@@ -41,7 +43,8 @@ pub fn behind_gate_bytes(sequence: u64, working: Extent, saved: Extent) -> [u8; 
     bytes
 }
 
-/// Writes an image or a directory where nothing lies that the slots stand on. Doesn't sync.
+/// Writes an image or a directory where nothing lies that the slots stand on. Doesn't sync: until something does, a crash may
+/// leave any bytes there.
 pub fn write_extent<S: Store>(
     store: &mut S,
     slots: &Slots,
@@ -159,8 +162,9 @@ fn open_gate<S: Store>(store: &mut S, slots: &mut Slots, pair: Pair) -> Result<(
     }
 }
 
-/// Makes the slots lead to a pair whose directories and images lie in the file. On an error what the slot that counts leads
-/// to is as it was, and a crash leaves that or, where only the last step failed, perhaps the pair.
+/// Makes the slots lead to a pair whose directories and images lie in the file: the other slot is shut where it may be open,
+/// filled, and opened, each with a sync. On an error the slot that counts is the same, and so is what it leads to. Where only
+/// the last step failed, the pair may be found after a crash, and `slots` holds it.
 pub fn commit<S: Store>(store: &mut S, slots: &mut Slots, pair: Pair) -> Result<(), StoreFault>
     requires sequence { slots.old.sequence < 18446744073709551615 }
     requires kept { AreKept slots.old }
@@ -170,6 +174,7 @@ pub fn commit<S: Store>(store: &mut S, slots: &mut Slots, pair: Pair) -> Result<
     ensures ok { OnOk result (slots.new ≡ turned slots.old pair) }
     ensures err { OnErr result (Failed slots.old pair slots.new) }
     ensures elsewhere { IsTrue (S.facts store.old).honest → Torn 0 1024 (S.facts store.old).content (S.facts store.new).content }
+    // `file` is a content that has the bytes of all extents: that at the call, or an earlier one
     ensures crash { (file : List ℕ) → IsTrue (S.facts store.old).honest → Leaves (S.facts store.old) slots.old file → Keeps (pair_extents pair) file (S.facts store.old).content
         → Outlives (S.facts store.old) (S.facts store.new) file (λ s. Failed slots.old pair s) }
     ensures leaves { (file : List ℕ) → IsTrue (S.facts store.old).honest → Leaves (S.facts store.old) slots.old file → Keeps (pair_extents pair) file (S.facts store.old).content
