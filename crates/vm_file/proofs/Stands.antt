@@ -69,7 +69,7 @@ keeps_in file c e same = record {
       ap (byte c) at ∙ same.each (i - start_of e) (omega arith) ∙ sym (ap (byte file) at);
 }
 
-keeps_entries : (file c : List ℕ) (h : ℕ) (places : List (Option Place)) → Keeps (block_extents places) file c → All (λ entry. laws.Keeps file c entry.extent) (entries_of h places)
+pub keeps_entries : (file c : List ℕ) (h : ℕ) (places : List (Option Place)) → Keeps (block_extents places) file c → All (λ entry. laws.Keeps file c entry.extent) (entries_of h places)
 keeps_entries file c h [] keeps k d within = absurd (omega arith)
 keeps_entries file c h (None ∷ places) keeps k d within = keeps_entries file c (h + 1) places keeps k d within
 keeps_entries file c h (Some place ∷ places) keeps zero d within = keeps_in file c place.extent (keeps 0 place.extent (omega arith))
@@ -276,7 +276,7 @@ outcome_stands slots file c are was =
     one_stands slots.other slots.second slots.sequence slots.committed file c (fits_pair slots.sequence slots.committed are.some are.in_range (first_part IsPlaced (pair_extents slots.committed) (held_extents slots.other) are.placed))
     are.committed (second_part IsPlaced (pair_extents slots.committed) (held_extents slots.other) are.placed) are.held was.gate was.counts was.beside
 
-held_readable : (file : List ℕ) (sequence : ℕ) (other : Other) → IsHeldFormed sequence other → IsHeldStored file other → IsHeldReadable file sequence other
+pub held_readable : (file : List ℕ) (sequence : ℕ) (other : Other) → IsHeldFormed sequence other → IsHeldStored file other → IsHeldReadable file sequence other
 held_readable file sequence Shut formed stored = tt
 held_readable file sequence Stale formed stored = tt
 held_readable file sequence (Held pair) formed stored = (stored, formed.1)

@@ -7,8 +7,10 @@ ghost use Rattle.vm_file.specs.Disk.{FileState, Drifts, Passes, Commits, IsSettl
 ghost use Rattle.vm_file.specs.Documents.{sequence_in};
 ghost use Rattle.vm_file.specs.Calls.{IsPut, put_all, remove_all, IsSupply, IsCommitRefusal, IsOpenRefusal, last_sequence};
 
+use crate::copies::{copy_table, twice};
 use crate::put::PutBlock;
 use crate::refused::Refused;
+use crate::settle::settle;
 use crate::slots::Slots;
 use crate::table::{Place, Table};
 use geos_model::{Fault, VmHandle};
@@ -208,7 +210,12 @@ impl<S: Store> VmFile<S> {
         if self.slots.sequence == u64::MAX {
             return Err(Fault::Worn);
         }
-        Err(Fault::Memory)
+        let saved = &self.slots.committed.saved;
+        let live = copy_table(self.alloc, &saved.table)?;
+        let pair = twice(self.alloc, saved)?;
+        settle(&mut self.store, &mut self.slots, pair, &self.live)?;
+        self.live = live;
+        Ok(())
     }
 
     /// Makes another store a new file of the document as it is now, updated and saved, whatever was in it. What is read

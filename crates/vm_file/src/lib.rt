@@ -2,10 +2,12 @@
 #![tactic(auto)]
 
 mod commit;
+mod copies;
 mod file;
 mod law;
 mod put;
 mod refused;
+mod settle;
 mod slots;
 mod table;
 
