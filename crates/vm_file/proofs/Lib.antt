@@ -1,1 +1,3 @@
-
+pub mod Imaged
+pub mod Live
+pub mod Tables
