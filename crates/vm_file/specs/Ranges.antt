@@ -19,12 +19,12 @@ pub record IsPlaced (e : Extent) : Type 0 where
   pub some : 1 ≤ e.length
   pub short : e.length ≤ 65536
 
--- the extent's bytes are in both files, and are the same
+-- the extent's bytes lie in c, and are those of the file
 pub record SameIn (file c : List ℕ) (e : Extent) : Type 0 where
   pub within : end_of e ≤ length c
   pub each : (i : ℕ) → i < e.length → byte c (start_of e + i) ≡ byte file (start_of e + i)
 
--- so it is of each of them
+-- so it is with each of them
 abbrev pub Keeps : List Extent → List ℕ → List ℕ → Type 0
 Keeps extents file c = All (SameIn file c) extents
 

@@ -58,9 +58,12 @@ mark = 0x47 ∷ 0x56 ∷ 0x4d ∷ 0x46 ∷ []
 abbrev pub extent_bytes : Extent → List ℕ
 extent_bytes e = little_bytes 4 e.page ++ little_bytes 4 e.length
 
--- a slot behind its gate: version, two zeros, sequence number, the two directories
-unfoldable pub behind_gate : ℕ → Pair → List ℕ
-behind_gate sequence pair = 1 ∷ 0 ∷ 0 ∷ little_bytes 8 sequence ++ extent_bytes pair.updated.directory ++ extent_bytes pair.saved.directory
+-- what stands behind the gate of a slot: version, two zeros, sequence number, the directories of the updated and the saved document
+unfoldable pub gate_text : ℕ → Extent → Extent → List ℕ
+gate_text sequence updated saved = 1 ∷ 0 ∷ 0 ∷ little_bytes 8 sequence ++ extent_bytes updated ++ extent_bytes saved
+
+abbrev pub behind_gate : ℕ → Pair → List ℕ
+behind_gate sequence pair = gate_text sequence pair.updated.directory pair.saved.directory
 
 -- Whatever its gate, the slot has this number and leads to this pair, whose bytes are those of the file.
 pub record Leads (slot sequence : ℕ) (pair : Pair) (file c : List ℕ) : Type 0 where

@@ -1,6 +1,7 @@
 //! A document file over a store: the blocks as they are now, as they were last updated and as they were saved.
 #![tactic(auto)]
 
+mod commit;
 mod file;
 mod put;
 mod refused;
