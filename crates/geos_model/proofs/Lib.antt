@@ -6,6 +6,9 @@ pub mod HeapEdits
 pub mod ChunkLengths
 pub mod Numbers
 pub mod Images
+pub mod Files
+pub mod FileDocuments
+pub mod FileStands
 pub mod Arrays
 pub mod FreeLists
 pub mod ElementArrays

@@ -12,6 +12,7 @@ pub mod Document
 pub mod Meaning
 pub mod Image
 pub mod File
+pub mod FileLaws
 pub mod Cost
 pub mod Reply
 pub mod Machine

@@ -1,6 +1,9 @@
+mod Crashes
 pub mod Imaged
 pub mod KeptBytes
 pub mod Live
 pub mod Outcomes
+pub mod Passing
+pub mod Stands
 pub mod Steps
 pub mod Tables

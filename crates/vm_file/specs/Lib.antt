@@ -4,3 +4,4 @@ pub mod Documents
 pub mod Disk
 pub mod Sound
 pub mod Calls
+pub mod Crashes

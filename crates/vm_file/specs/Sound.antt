@@ -1,5 +1,5 @@
 -- What always holds of a document file.
-use Rattle.std.specs.Prelude.{◌≡◌, ◌⊎◌, ℕ, ◌-◌, ◌≤◌, true, IsTrue, List, Option, None, is_some, length, All, get_or}
+use Rattle.std.specs.Prelude.{◌≡◌, ◌⊎◌, ℕ, ◌+◌, ◌-◌, ◌^◌, ◌<◌, ◌≤◌, true, IsTrue, List, Option, None, is_some, length, All, get_or}
 use Rattle.vm_store.specs.Facts.{StoreFacts}
 use Rattle.geos_model.specs.Document.{most_blocks}
 use Rattle.vm_file.specs.Ranges.{IsPlaced, end_of}
@@ -24,19 +24,21 @@ pub record AreTables (pair : Pair) : Type 0 where
   pub updated : IsTable pair.updated.table
   pub saved : IsTable pair.saved.table
 
-abbrev pub IsHeldTables : Other → Type 0
-IsHeldTables Shut = Unit {0}
-IsHeldTables Stale = Unit {0}
-IsHeldTables (Held pair) = AreTables pair
+-- and those of a commit that failed in its last step, whose number is the next
+abbrev pub IsHeldFormed : ℕ → Other → Type 0
+IsHeldFormed sequence Shut = Unit {0}
+IsHeldFormed sequence Stale = Unit {0}
+IsHeldFormed sequence (Held pair) = AreTables pair × (sequence + 1 < 2 ^ 64)
 
 -- over any store
 pub record IsFormed (live : Table) (slots : Slots) : Type 0 where
   pub table : IsTable live
   pub placed : All IsPlaced (block_extents live.places.items)
   pub committed : AreTables slots.committed
-  pub held : IsHeldTables slots.other
+  pub held : IsHeldFormed slots.sequence slots.other
   pub kept : AreKept slots
   pub numbered : 1 ≤ slots.sequence
+  pub in_range : slots.sequence < 2 ^ 64
 
 -- over an honest one
 pub record IsWhole (store : StoreFacts) (live : Table) (slots : Slots) : Type 0 where

@@ -3,12 +3,14 @@
 
 mod commit;
 mod file;
+mod law;
 mod put;
 mod refused;
 mod slots;
 mod table;
 
 pub use file::VmFile;
+pub use law::crash_law;
 pub use put::PutBlock;
 pub use refused::Refused;
 pub use table::Place;
