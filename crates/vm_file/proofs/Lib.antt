@@ -1,3 +1,4 @@
+pub mod Carried
 mod Crashes
 pub mod Imaged
 pub mod KeptBytes

@@ -21,8 +21,8 @@ EndsIn file e = end_of e ≤ length file
 pub sound_live : (store : StoreFacts) (live new : Table) (slots : Slots) → IsSound store live slots → IsTable new → All IsPlaced (block_extents new.places.items) → (IsTrue store.honest → AreImaged store.content new.places.items)
     → (IsTrue store.honest → All (EndsIn store.content) (block_extents new.places.items)) → IsSound store new slots
 sound_live store live new slots sound table placed images within = record {
-  formed = record { table = table; placed = placed; committed = sound.formed.committed; held = sound.formed.held; kept = sound.formed.kept; numbered = sound.formed.numbered };
-  whole = λ yes. let was = sound.whole yes in record { images = images yes; within = within yes; committed = was.committed; held = was.held; leaves = was.leaves };
+  formed = record { table = table; placed = placed; committed = sound.formed.committed; held = sound.formed.held; kept = sound.formed.kept; numbered = sound.formed.numbered; in_range = sound.formed.in_range };
+  whole = λ so. let was = sound.whole so in record { images = images so; within = within so; committed = was.committed; held = was.held; leaves = was.leaves };
 }
 
 -- one place has another block
@@ -45,11 +45,11 @@ sound_user_id store live new slots h user_id place sound at map_block is =
     let kept = λ (Q : Extent → Type 0) (all : All Q (block_extents old)).
       subst (λ ps. All Q (block_extents ps)) (sym is) (extents_of Q (set old i (Some one)) (each_set (λ p. Q p.extent) old i (Some one) (each_at (λ p. Q p.extent) old i place at (places_of Q old all)) (places_of Q old all))) in
     sound_live store live new slots sound (table_set live new i one sound.formed.table map_block is) (kept IsPlaced sound.formed.placed)
-    (λ yes.
-      let images = (sound.whole yes).images in
+    (λ so.
+      let images = (sound.whole so).images in
       let was = each_at (IsImaged store.content) old i place at images in
       subst (AreImaged store.content) (sym is) (each_set (IsImaged store.content) old i (Some one) (record { image = was.image; kind = was.kind }) images))
-    (λ yes. kept (EndsIn store.content) (sound.whole yes).within)
+    (λ so. kept (EndsIn store.content) (sound.whole so).within)
 
 -- another map block
 pub sound_map : (store : StoreFacts) (live new : Table) (slots : Slots) → IsSound store live slots → new.places.items ≡ live.places.items → (new.map_block ≡ 0) ⊎ (Lies live.places.items new.map_block) → IsSound store new slots
@@ -64,5 +64,5 @@ sound_map store live new slots sound is map_block =
       ];
     })
     (subst (λ ps. All IsPlaced (block_extents ps)) (sym is) sound.formed.placed)
-    (λ yes. subst (AreImaged store.content) (sym is) (sound.whole yes).images)
-    (λ yes. subst (λ ps. All (EndsIn store.content) (block_extents ps)) (sym is) (sound.whole yes).within)
+    (λ so. subst (AreImaged store.content) (sym is) (sound.whole so).images)
+    (λ so. subst (λ ps. All (EndsIn store.content) (block_extents ps)) (sym is) (sound.whole so).within)

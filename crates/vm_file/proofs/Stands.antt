@@ -69,7 +69,7 @@ keeps_in file c e same = record {
       ap (byte c) at ∙ same.each (i - start_of e) (omega arith) ∙ sym (ap (byte file) at);
 }
 
-keeps_entries : (file c : List ℕ) (h : ℕ) (places : List (Option Place)) → Keeps (block_extents places) file c → All (λ entry. laws.Keeps file c entry.extent) (entries_of h places)
+pub keeps_entries : (file c : List ℕ) (h : ℕ) (places : List (Option Place)) → Keeps (block_extents places) file c → All (λ entry. laws.Keeps file c entry.extent) (entries_of h places)
 keeps_entries file c h [] keeps k d within = absurd (omega arith)
 keeps_entries file c h (None ∷ places) keeps k d within = keeps_entries file c (h + 1) places keeps k d within
 keeps_entries file c h (Some place ∷ places) keeps zero d within = keeps_in file c place.extent (keeps 0 place.extent (omega arith))
@@ -94,7 +94,7 @@ slot_size c slot within = omega (arith, length-take 32 (drop (512 * slot) c), le
 
 -- a slot that is open has its text
 pub slot_written : (slot sequence : ℕ) (pair : Pair) (file c : List ℕ) → byte c (512 * slot + 4) ≡ 1 → Leads slot sequence pair file c → slot_bytes c slot ≡ slot_text (slot_value sequence pair)
-unfolding behind_gate
+unfolding slots_are.gate_text
 slot_written slot sequence pair file c gate leads =
     let rest = behind_gate sequence pair in
     let long : 512 * slot + 5 + 27 ≤ length c = leads.rest.within in

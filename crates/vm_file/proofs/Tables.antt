@@ -1,10 +1,10 @@
 -- Tables of places as documents, place by place.
-use Rattle.std.proofs.Common.{◌≡◌, ◌≢◌, ◌⊎◌, ℕ, zero, suc, ◌+◌, ◌-◌, ◌*◌, ◌<◌, ◌≤◌, Bool, true, false, IsTrue, List, [], ◌∷◌, All, map, take, drop, set, length, Option, None, Some, is_some, refl, sym, ap, subst, ◌∙◌, arith, inl, inr, length-take, length-drop}
+use Rattle.std.proofs.Common.{◌≡◌, ◌≢◌, ◌⊎◌, ℕ, zero, suc, ◌+◌, ◌-◌, ◌*◌, ◌<◌, ◌≤◌, Bool, true, false, IsTrue, List, [], ◌∷◌, ◌++◌, All, map, take, drop, set, length, Option, None, Some, is_some, refl, sym, ap, subst, ◌∙◌, arith, inl, inr, length-take, length-drop}
 use Rattle.std.specs.Prelude.{IfSome, unwrap_or}
 use Rattle.std.specs.Option.{option_map, option_map_or}
 use Rattle.std.specs.FinMap.{get, insert, remove}
 use Rattle.std.proofs.lemmas.Bool.Decides.{nat_tests}
-use Rattle.std.proofs.lemmas.List.{ext_get_or, get_or-drop, get_or-take}
+use Rattle.std.proofs.lemmas.List.{append-nil, drop_all, take_all, ext_get_or, get_or-drop, get_or-take}
 use Rattle.vm_store.specs.Facts.{byte}
 use Rattle.geos_model.specs.Document.{Block, Document, is_heap_body, is_live, is_vm_handle, user_id_of, block_at, with_block, without_block, with_user_id}
 use Rattle.geos_model.specs.declared.command.Body.TheVariants.{Raw}
@@ -120,7 +120,7 @@ places_drift honest file c places map_block same = record {
   live = λ h. drifts_live file c places map_block h;
   user_ids = λ h. drifts_user_ids file c places map_block h;
   map_block = refl;
-  same = λ yes. ap (λ (t : List (Option Block)). record { blocks = table_map 1 1 t; map_block = map_block }) (same yes);
+  same = λ so. ap (λ (t : List (Option Block)). record { blocks = table_map 1 1 t; map_block = map_block }) (same so);
 }
 
 -- the bytes of an extent, where they are the same
@@ -219,9 +219,9 @@ block_at_is file places map_block h place low at = ap (λ o. unwrap_or o (record
 pub entry_kind : (H : Type 0) (file : List ℕ) (places : List (Option Place)) (map_block h : ℕ) (result : Option Place) → (H → AreImaged file places) → IsPlaceOf places h result
     → IfSome result (λ place. H → place.is_heap ≡ is_heap_body (block_at (shown file places map_block) h).body)
 entry_kind H file places map_block h None images is = tt
-entry_kind H file places map_block h (Some place) images is = λ yes.
+entry_kind H file places map_block h (Some place) images is = λ so.
     let at = entry_lies places h place is in
-    (each_at (IsImaged file) places (h - 1) place at.1 (images yes)).kind ∙ ap (λ b. is_heap_body b.body) (sym (block_at_is file places map_block h place at.0 at.1))
+    (each_at (IsImaged file) places (h - 1) place at.1 (images so)).kind ∙ ap (λ b. is_heap_body b.body) (sym (block_at_is file places map_block h place at.0 at.1))
 
 pub entry_handle : (places : List (Option Place)) (h : ℕ) (result : Option Place) → length places ≡ 2048 → IsPlaceOf places h result → IfSome result (λ place. is_vm_handle h ≡ true)
 entry_handle places h None size is = tt
@@ -247,3 +247,7 @@ full_set (x ∷ xs) zero zero place full = refl
 full_set (x ∷ xs) zero (suc k) place full = full
 full_set (x ∷ xs) (suc i) zero place full = full
 full_set (x ∷ xs) (suc i) (suc k) place full = full_set xs i k place full
+
+-- a vector with as many elements of another list
+pub items_kept : {X : Type 0} (n : ℕ) (ws xs : List X) → n ≡ length xs → length ws ≡ length xs → take n (ws ++ drop (length ws) xs) ≡ ws
+items_kept n ws xs is same = ap (λ l. take n (ws ++ l)) (drop_all (length ws) xs (omega arith)) ∙ ap (take n) (append-nil ws) ∙ take_all n ws (omega arith)

@@ -8,6 +8,7 @@ ghost use Rattle.vm_file.specs.Documents.{sequence_in};
 ghost use Rattle.vm_file.specs.Calls.{IsPut, put_all, remove_all, IsSupply, IsCommitRefusal, IsOpenRefusal, last_sequence};
 
 use crate::put::PutBlock;
+use crate::reading::read_extent;
 use crate::refused::Refused;
 use crate::slots::Slots;
 use crate::table::{Place, Table, place_of, set_user_id};
@@ -119,7 +120,10 @@ impl<S: Store> VmFile<S> {
         ensures file { IsErrOf result Fault.File → Raised (S.facts self.old.disk.store) (S.facts self.new.disk.store) }
         ensures refusals { IfErr result IsSupply }
     {
-        Err(Fault::Memory)
+        match place_of(&self.live.places, block) {
+            Some(place) => read_extent(self.alloc, &mut self.store, place.extent),
+            None => unreachable!(),
+        }
     }
 
     /// Sets the user ID of a block.
