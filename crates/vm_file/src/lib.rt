@@ -6,6 +6,7 @@ mod copies;
 mod file;
 mod law;
 mod put;
+mod reading;
 mod refused;
 mod settle;
 mod slots;
