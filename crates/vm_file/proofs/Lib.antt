@@ -2,6 +2,7 @@ pub mod Carried
 pub mod Committed
 pub mod Copied
 mod Crashes
+pub mod Drafted
 pub mod Imaged
 pub mod KeptBytes
 pub mod Live

@@ -7,7 +7,8 @@ ghost use Rattle.vm_file.specs.Disk.{FileState, Drifts, Passes, Commits, IsSettl
 ghost use Rattle.vm_file.specs.Documents.{sequence_in};
 ghost use Rattle.vm_file.specs.Calls.{IsPut, put_all, remove_all, IsSupply, IsCommitRefusal, IsOpenRefusal, last_sequence};
 
-use crate::copies::{copy_table, twice};
+use crate::copies::{copy_stored, copy_table, twice};
+use crate::directory::{commit_draft, draft_of};
 use crate::put::PutBlock;
 use crate::reading::read_extent;
 use crate::refused::Refused;
@@ -174,7 +175,9 @@ impl<S: Store> VmFile<S> {
         if self.slots.sequence == u64::MAX {
             return Err(Fault::Worn);
         }
-        Err(Fault::Memory)
+        let draft = draft_of(self.alloc, &self.live, &self.slots)?;
+        let saved = copy_stored(self.alloc, &self.slots.committed.saved)?;
+        commit_draft(&mut self.store, &mut self.slots, &self.live, draft, saved)
     }
 
     /// Makes the document as it is now the updated and the saved one. Refused as an update is.
@@ -189,7 +192,9 @@ impl<S: Store> VmFile<S> {
         if self.slots.sequence == u64::MAX {
             return Err(Fault::Worn);
         }
-        Err(Fault::Memory)
+        let draft = draft_of(self.alloc, &self.live, &self.slots)?;
+        let saved = copy_stored(self.alloc, &draft.stored)?;
+        commit_draft(&mut self.store, &mut self.slots, &self.live, draft, saved)
     }
 
     /// Makes the saved document the updated one and the document as it is now. Refused as an update is.

@@ -3,8 +3,10 @@
 
 mod commit;
 mod copies;
+mod directory;
 mod file;
 mod law;
+mod placing;
 mod put;
 mod reading;
 mod refused;
