@@ -1,10 +1,14 @@
 pub mod Carried
 mod Crashes
+pub mod Filled
+pub mod Found
 pub mod Imaged
 pub mod KeptBytes
 pub mod Live
 pub mod Outcomes
 pub mod Passing
+pub mod Puts
 pub mod Stands
 pub mod Steps
 pub mod Tables
+pub mod Writes

@@ -4,11 +4,13 @@
 mod commit;
 mod file;
 mod law;
+mod placing;
 mod put;
 mod reading;
 mod refused;
 mod slots;
 mod table;
+mod writing;
 
 pub use file::VmFile;
 pub use law::crash_law;
