@@ -14,7 +14,8 @@ use crate::reading::read_extent;
 use crate::refused::Refused;
 use crate::settle::settle;
 use crate::slots::Slots;
-use crate::table::{Place, Table, place_of, set_user_id};
+use crate::table::{Place, Table, place_of, put_places, remove_places, set_user_id};
+use crate::writing::write_puts;
 use geos_model::{Fault, VmHandle};
 use std::alloc::Global;
 use std::marker::Model;
@@ -159,7 +160,16 @@ impl<S: Store> VmFile<S> {
         ensures file { IsErrOf result Fault.File → Raised (S.facts self.old.disk.store) (S.facts self.new.disk.store) }
         ensures refusals { IfErr result IsSupply }
     {
-        Err(Fault::Memory)
+        let extents = write_puts(
+            self.alloc,
+            &mut self.store,
+            &self.live.places,
+            &self.slots,
+            puts,
+        )?;
+        put_places(&mut self.live.places, puts, &extents);
+        remove_places(&mut self.live.places, removals);
+        Ok(())
     }
 
     /// Makes the document as it is now the updated one. Worn where the sequence number can't rise, before anything else is

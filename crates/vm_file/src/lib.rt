@@ -13,6 +13,7 @@ mod refused;
 mod settle;
 mod slots;
 mod table;
+mod writing;
 
 pub use file::VmFile;
 pub use law::crash_law;
