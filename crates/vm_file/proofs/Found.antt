@@ -52,7 +52,7 @@ pages_hold : (n : ℕ) → n ≤ 512 * pages_of n
 pages_hold n = let whole = div-add-mod (n + 511) 512 in let rest : (n + 511) % 512 < 512 = mod-lt (n + 511) (omega arith) in omega (arith, whole, rest)
 
 -- extents that share no page share no byte
-apart_out : (page n : ℕ) (e : Extent) → IsApart (record { page = page; length = n }) e → IsOut (512 * page) n (start_of e) (end_of e)
+pub apart_out : (page n : ℕ) (e : Extent) → IsApart (record { page = page; length = n }) e → IsOut (512 * page) n (start_of e) (end_of e)
 apart_out page n e apart =
     let mine = pages_hold n in
     let other = pages_hold e.length in

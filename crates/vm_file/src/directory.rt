@@ -2,7 +2,7 @@
 ghost use Rattle.std.specs.Prelude.{◌≡◌, ◌⊎◌, ◌<◌, ◌≤◌, ◌++◌, All, IsTrue, IfOk, IfErr, OnOk, IsErrOf, length};
 ghost use Rattle.vm_store.specs.Facts.{Raised};
 ghost use Rattle.geos_model.specs.File.{directory_text};
-ghost use Rattle.vm_space.specs.Placing.{IsFirstFit};
+ghost use Rattle.vm_file.specs.Ranges.{start_of, IsPlaced, IsClear};
 ghost use Rattle.vm_file.specs.Slots.{block_extents, kept_extents};
 ghost use Rattle.vm_file.specs.Documents.{entries_of, directory_of_table, document_in, IsStored};
 ghost use Rattle.vm_file.specs.Disk.{Passes, Commits};
@@ -64,7 +64,9 @@ fn place_directory(
     requires formed { IsFormed live.now slots.now }
     requires some { 1 ≤ len }
     requires short { len ≤ 32784 }
-    ensures { IfOk result (λ extent. IsFirstFit (block_extents live.now.places.items ++ kept_extents slots.now) len extent) }
+    ensures size { IfOk result (λ extent. extent.length ≡ len) }
+    ensures placed { IfOk result IsPlaced }
+    ensures clear { IfOk result (λ extent. IsClear (start_of extent) extent.length (block_extents live.now.places.items ++ kept_extents slots.now)) }
 {
     let taken = taken_extents(alloc, &live.places, slots)?;
     Ok(place(&taken, len))
