@@ -1,5 +1,8 @@
 pub mod Carried
+pub mod Committed
+pub mod Copied
 mod Crashes
+pub mod Drafted
 pub mod Filled
 pub mod Found
 pub mod Imaged
@@ -12,3 +15,4 @@ pub mod Stands
 pub mod Steps
 pub mod Tables
 pub mod Writes
+pub mod Written

@@ -25,7 +25,7 @@ use Rattle.geos_model.proofs.FileDocuments.{document_at-kept, directory_of-kept}
 use Rattle.geos_model.proofs.FileStands.{StandsBy, stands-from, counts-first, counts-second, counts-first_newer, counts-second_newer, open_slot-text, open_slot-shut, slot_bytes}
 use Rattle.vm_file.specs.Ranges.{IsPlaced, SameIn, Keeps, start_of, end_of}
 use Rattle.vm_file.specs.Slots as slots_are
-use Rattle.vm_file.specs.Slots.{other_of, mark, behind_gate, Leads, IsBeside, IsUnmarked, IsOlder, Outcome, block_extents, stored_extents, pair_extents, held_extents, AreKept}
+use Rattle.vm_file.specs.Slots.{other_of, mark, gate_text, behind_gate, Leads, IsBeside, IsUnmarked, IsOlder, Outcome, block_extents, stored_extents, pair_extents, held_extents, AreKept}
 use Rattle.vm_file.specs.Documents.{Documents, block_in, blocks_in, document_in, documents_in, attempted_in, entries_of, directory_of_table, IsImaged, AreImaged, IsStored, AreStored, IsHeldStored}
 use Rattle.vm_file.specs.Disk.{StandsForOne, IsSettled}
 use Rattle.vm_file.specs.Sound.{IsFormed, IsHeldFormed, IsWhole, IsSound, disk_of}
@@ -94,7 +94,7 @@ slot_size c slot within = omega (arith, length-take 32 (drop (512 * slot) c), le
 
 -- a slot that is open has its text
 pub slot_written : (slot sequence : ℕ) (pair : Pair) (file c : List ℕ) → byte c (512 * slot + 4) ≡ 1 → Leads slot sequence pair file c → slot_bytes c slot ≡ slot_text (slot_value sequence pair)
-unfolding slots_are.gate_text
+unfolding gate_text
 slot_written slot sequence pair file c gate leads =
     let rest = behind_gate sequence pair in
     let long : 512 * slot + 5 + 27 ≤ length c = leads.rest.within in
@@ -276,7 +276,7 @@ outcome_stands slots file c are was =
     one_stands slots.other slots.second slots.sequence slots.committed file c (fits_pair slots.sequence slots.committed are.some are.in_range (first_part IsPlaced (pair_extents slots.committed) (held_extents slots.other) are.placed))
     are.committed (second_part IsPlaced (pair_extents slots.committed) (held_extents slots.other) are.placed) are.held was.gate was.counts was.beside
 
-held_readable : (file : List ℕ) (sequence : ℕ) (other : Other) → IsHeldFormed sequence other → IsHeldStored file other → IsHeldReadable file sequence other
+pub held_readable : (file : List ℕ) (sequence : ℕ) (other : Other) → IsHeldFormed sequence other → IsHeldStored file other → IsHeldReadable file sequence other
 held_readable file sequence Shut formed stored = tt
 held_readable file sequence Stale formed stored = tt
 held_readable file sequence (Held pair) formed stored = (stored, formed.1)

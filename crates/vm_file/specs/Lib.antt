@@ -1,8 +1,10 @@
+pub mod Calls
+pub mod Copies
+pub mod Crashes
+pub mod Disk
+pub mod Documents
+pub mod Drafts
 pub mod Ranges
 pub mod Slots
-pub mod Documents
-pub mod Disk
 pub mod Sound
-pub mod Calls
-pub mod Crashes
 pub mod Writing

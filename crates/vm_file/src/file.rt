@@ -7,9 +7,12 @@ ghost use Rattle.vm_file.specs.Disk.{FileState, Drifts, Passes, Commits, IsSettl
 ghost use Rattle.vm_file.specs.Documents.{sequence_in};
 ghost use Rattle.vm_file.specs.Calls.{IsPut, put_all, remove_all, IsSupply, IsCommitRefusal, IsOpenRefusal, last_sequence};
 
+use crate::copies::{copy_stored, copy_table, twice};
+use crate::directory::{commit_draft, draft_of};
 use crate::put::PutBlock;
 use crate::reading::read_extent;
 use crate::refused::Refused;
+use crate::settle::settle;
 use crate::slots::Slots;
 use crate::table::{Place, Table, place_of, put_places, remove_places, set_user_id};
 use crate::writing::write_puts;
@@ -182,7 +185,9 @@ impl<S: Store> VmFile<S> {
         if self.slots.sequence == u64::MAX {
             return Err(Fault::Worn);
         }
-        Err(Fault::Memory)
+        let draft = draft_of(self.alloc, &self.live, &self.slots)?;
+        let saved = copy_stored(self.alloc, &self.slots.committed.saved)?;
+        commit_draft(&mut self.store, &mut self.slots, &self.live, draft, saved)
     }
 
     /// Makes the document as it is now the updated and the saved one. Refused as an update is.
@@ -197,7 +202,9 @@ impl<S: Store> VmFile<S> {
         if self.slots.sequence == u64::MAX {
             return Err(Fault::Worn);
         }
-        Err(Fault::Memory)
+        let draft = draft_of(self.alloc, &self.live, &self.slots)?;
+        let saved = copy_stored(self.alloc, &draft.stored)?;
+        commit_draft(&mut self.store, &mut self.slots, &self.live, draft, saved)
     }
 
     /// Makes the saved document the updated one and the document as it is now. Refused as an update is.
@@ -213,7 +220,12 @@ impl<S: Store> VmFile<S> {
         if self.slots.sequence == u64::MAX {
             return Err(Fault::Worn);
         }
-        Err(Fault::Memory)
+        let saved = &self.slots.committed.saved;
+        let live = copy_table(self.alloc, &saved.table)?;
+        let pair = twice(self.alloc, saved)?;
+        settle(&mut self.store, &mut self.slots, pair, &self.live)?;
+        self.live = live;
+        Ok(())
     }
 
     /// Makes another store a new file of the document as it is now, updated and saved, whatever was in it. What is read

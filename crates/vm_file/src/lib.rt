@@ -2,12 +2,15 @@
 #![tactic(auto)]
 
 mod commit;
+mod copies;
+mod directory;
 mod file;
 mod law;
 mod placing;
 mod put;
 mod reading;
 mod refused;
+mod settle;
 mod slots;
 mod table;
 mod writing;
