@@ -1,4 +1,4 @@
-use Rattle.std.proofs.Common.{◌≡◌, None, refl, sym, ap, ◌∙◌}
+use Rattle.std.proofs.Common.{ap, ◌∙◌}
 use Rattle.vm_file.proofs.Found.{pushed_some, pushed_none}
 use Rattle.vm_file.proofs.placing.push_blocks.Goals as goal
 use Rattle.vm_file.proofs.placing.push_blocks.Goals.{in-Some+in_ok-push, in_default}

@@ -1,4 +1,4 @@
-use Rattle.std.proofs.Common.{◌<◌, length, ap, arith}
+use Rattle.std.proofs.Common.{length, ap, arith}
 use Rattle.vm_file.proofs.Imaged.{image_length}
 use Rattle.vm_file.proofs.table.placed_at.Goals as goal
 

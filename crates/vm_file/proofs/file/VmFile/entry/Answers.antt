@@ -1,4 +1,4 @@
-use Rattle.std.proofs.Common.{◌≡◌, ◌-◌, IsTrue, is_some, ap, subst, ◌∙◌}
+use Rattle.std.proofs.Common.{◌≡◌, ◌-◌, IsTrue, ap, subst, ◌∙◌}
 use Rattle.std.specs.Prelude.{IfSome}
 use Rattle.geos_model.specs.Document.{is_live, user_id_of, block_at, is_heap_body}
 use Rattle.geos_model.proofs.Tables.{slot_at}

@@ -1,8 +1,8 @@
-use Rattle.std.proofs.Common.{◌≡◌, ◌-◌, ◌++◌, true, Some, length, take, drop, set, refl, sym, ap, subst, ◌∙◌, arith, length-set}
+use Rattle.std.proofs.Common.{◌≡◌, ◌-◌, true, Some, length, set, refl, sym, ap, subst, ◌∙◌, length-set}
 use Rattle.geos_model.specs.Document.{is_live, with_user_id}
 use Rattle.geos_model.proofs.Tables.{slot_at}
 use Rattle.vm_file.proofs.Live.{sound_user_id}
-use Rattle.vm_file.proofs.Tables.{Lies, lies, shown, shown_user_id, items_kept}
+use Rattle.vm_file.proofs.Tables.{lies, shown, shown_user_id, items_kept}
 use Rattle.vm_file.proofs.file.VmFile.set_uid.Goals as goal
 
 pub invariant_of-self : goal.invariant_of-self
