@@ -1,7 +1,11 @@
-pub mod Passing
-pub mod KeptBytes
-pub mod Outcomes
-pub mod Steps
-pub mod Stands
-pub mod Written
+pub mod Carried
 mod Crashes
+pub mod Imaged
+pub mod KeptBytes
+pub mod Live
+pub mod Outcomes
+pub mod Passing
+pub mod Stands
+pub mod Steps
+pub mod Tables
+pub mod Written

@@ -69,7 +69,7 @@ keeps_in file c e same = record {
       ap (byte c) at ∙ same.each (i - start_of e) (omega arith) ∙ sym (ap (byte file) at);
 }
 
-keeps_entries : (file c : List ℕ) (h : ℕ) (places : List (Option Place)) → Keeps (block_extents places) file c → All (λ entry. laws.Keeps file c entry.extent) (entries_of h places)
+pub keeps_entries : (file c : List ℕ) (h : ℕ) (places : List (Option Place)) → Keeps (block_extents places) file c → All (λ entry. laws.Keeps file c entry.extent) (entries_of h places)
 keeps_entries file c h [] keeps k d within = absurd (omega arith)
 keeps_entries file c h (None ∷ places) keeps k d within = keeps_entries file c (h + 1) places keeps k d within
 keeps_entries file c h (Some place ∷ places) keeps zero d within = keeps_in file c place.extent (keeps 0 place.extent (omega arith))

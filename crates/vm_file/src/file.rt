@@ -8,9 +8,10 @@ ghost use Rattle.vm_file.specs.Documents.{sequence_in};
 ghost use Rattle.vm_file.specs.Calls.{IsPut, put_all, remove_all, IsSupply, IsCommitRefusal, IsOpenRefusal, last_sequence};
 
 use crate::put::PutBlock;
+use crate::reading::read_extent;
 use crate::refused::Refused;
 use crate::slots::Slots;
-use crate::table::{Place, Table};
+use crate::table::{Place, Table, place_of, set_user_id};
 use geos_model::{Fault, VmHandle};
 use std::alloc::Global;
 use std::marker::Model;
@@ -99,13 +100,7 @@ impl<S: Store> VmFile<S> {
         ensures kind { IfSome result (λ place. IsTrue (S.facts self.now.disk.store).honest → place.is_heap ≡ is_heap_body (block_at self.now.document block.0).body) }
         ensures handle { IfSome result (λ place. is_vm_handle block.0 ≡ true) }
     {
-        if block.0 == 0 {
-            return None;
-        }
-        match self.live.places.get(usize::from(block.0) - 1) {
-            Some(place) => *place,
-            None => None,
-        }
+        place_of(&self.live.places, block)
     }
 
     /// The map block, 0 if there is none.
@@ -125,7 +120,10 @@ impl<S: Store> VmFile<S> {
         ensures file { IsErrOf result Fault.File → Raised (S.facts self.old.disk.store) (S.facts self.new.disk.store) }
         ensures refusals { IfErr result IsSupply }
     {
-        Err(Fault::Memory)
+        match place_of(&self.live.places, block) {
+            Some(place) => read_extent(self.alloc, &mut self.store, place.extent),
+            None => unreachable!(),
+        }
     }
 
     /// Sets the user ID of a block.
@@ -133,10 +131,7 @@ impl<S: Store> VmFile<S> {
         requires { is_live self.old.document block.0 ≡ true }
         ensures { self.new ≡ record self.old { document = with_user_id self.old.document block.0 user_id } }
     {
-        let place = usize::from(block.0).saturating_sub(1);
-        if let Some(found) = self.live.places[place].as_mut() {
-            found.user_id = user_id;
-        }
+        set_user_id(&mut self.live.places, block, user_id);
     }
 
     /// Sets the map block, 0 for none.

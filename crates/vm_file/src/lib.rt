@@ -5,6 +5,7 @@ mod commit;
 mod file;
 mod law;
 mod put;
+mod reading;
 mod refused;
 mod slots;
 mod table;

@@ -1,5 +1,8 @@
 // The blocks of a document, and where their images lie in the file.
-use geos_model::Extent;
+ghost use Rattle.vm_file.specs.declared.table.Place.{Place};
+ghost use Rattle.std.specs.Prelude.{◌≡◌, ◌≤◌, ◌-◌, None, Some, get_or, slice_set};
+
+use geos_model::{Extent, VmHandle};
 
 /// A block in the file.
 #[derive(Clone, Copy, Debug, PartialEq, Eq)]
@@ -17,4 +20,28 @@ pub struct Table {
     /// The handle of the map block, 0 if there is none.
     pub map_block: u16,
     pub places: Vec<Option<Place>>,
+}
+
+/// The place of a handle, `None` where no block is live under it.
+pub fn place_of(places: &[Option<Place>], block: VmHandle) -> Option<Place>
+    ensures zero { block.0 ≡ 0 → result ≡ None }
+    ensures place { 1 ≤ block.0 → result ≡ get_or places.now (block.0 - 1) None }
+{
+    if block.0 == 0 {
+        return None;
+    }
+    match places.get(usize::from(block.0) - 1) {
+        Some(place) => *place,
+        None => None,
+    }
+}
+
+/// Sets the user ID of a block that is live.
+pub fn set_user_id(places: &mut [Option<Place>], block: VmHandle, user_id: u16)
+    ensures { (place : Place) → 1 ≤ block.0 → get_or places.old (block.0 - 1) None ≡ Some place
+        → places.new ≡ slice_set places.old (block.0 - 1) (Some (record place { user_id = user_id })) }
+{
+    if let Some(place) = place_of(places, block) {
+        places[usize::from(block.0) - 1] = Some(Place { user_id, ..place });
+    }
 }
