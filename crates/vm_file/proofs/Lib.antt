@@ -1,5 +1,6 @@
 pub mod Carried
 mod Crashes
+pub mod First
 pub mod Imaged
 pub mod KeptBytes
 pub mod Live

@@ -7,6 +7,7 @@ ghost use Rattle.vm_file.specs.Disk.{FileState, Drifts, Passes, Commits, IsSettl
 ghost use Rattle.vm_file.specs.Documents.{sequence_in};
 ghost use Rattle.vm_file.specs.Calls.{IsPut, put_all, remove_all, IsSupply, IsCommitRefusal, IsOpenRefusal, last_sequence};
 
+use crate::making::make_empty;
 use crate::put::PutBlock;
 use crate::reading::read_extent;
 use crate::refused::Refused;
@@ -57,13 +58,21 @@ impl<S: Store> VmFile<S> {
         ensures made { IfOk result (λ file. (file.document ≡ empty_document) × (file.disk.updated ≡ empty_document) × (file.disk.saved ≡ empty_document)
             × (file.disk.attempted ≡ []) × (file.disk.sequence ≡ 1)) }
         ensures settled { IfOk result (λ file. IsSettled S.facts file.disk) }
+        // the slots, and a directory of no block
+        ensures size { IfOk result (λ file. IsTrue (S.facts store).honest → length (S.facts file.disk.store).content ≡ 1040) }
         ensures file { IfErr result (λ refused. refused.fault ≡ Fault.File → Raised (S.facts store) (S.facts refused.store)) }
         ensures refusals { IfErr result (λ refused. IsSupply refused.fault) }
     {
-        Err(Refused {
-            fault: Fault::Memory,
-            store,
-        })
+        let mut store = store;
+        match make_empty(alloc, &mut store) {
+            Ok(made) => Ok(VmFile {
+                alloc,
+                store,
+                live: made.live,
+                slots: made.slots,
+            }),
+            Err(fault) => Err(Refused { fault, store }),
+        }
     }
 
     /// Opens the file that a store has: NotDocument or Damaged where it is none, and the store comes back as it was.

@@ -4,6 +4,7 @@
 mod commit;
 mod file;
 mod law;
+mod making;
 mod put;
 mod reading;
 mod refused;
