@@ -14,7 +14,7 @@ use Rattle.vm_file.specs.Ranges.{IsPlaced, start_of, end_of, Keeps, IsOut, IsCle
 use Rattle.vm_file.specs.Slots.{mark, gate_text, behind_gate, block_extents, stored_extents, pair_extents, held_extents, IsBeside, Leads, Outcome}
 use Rattle.vm_file.specs.Documents.{blocks_in, document_in, attempted_in, entries_of, directory_of_table, IsImaged, AreImaged, IsStored, IsHeldStored}
 use Rattle.vm_file.specs.Sound.{IsTable, IsHeldFormed, IsFormed, IsWhole, IsSound}
-use Rattle.vm_file.specs.Making.{first_slot, IsLaid, IsCopy, IsFirst}
+use Rattle.vm_file.specs.Making.{first_slot, IsLaid, IsCopy, IsFirst, IsFounding, IsOne}
 use Rattle.vm_file.specs.declared.table.Place.{Place}
 use Rattle.vm_file.specs.declared.table.Table.{Table}
 use Rattle.vm_file.specs.declared.slots.Stored.{Stored}
@@ -92,16 +92,6 @@ pub record AreLying (live : Table) (file : List ℕ) : Type 0 where
   pub images : AreImaged file live.places.items
   pub within : All (λ e. end_of e ≤ length file) (block_extents live.places.items)
   pub beside : byte file 516 ≢ 1
-
--- what is known of a table whose directory is written
-pub record IsFounding (directory : Extent) (text : List ℕ) (live : Table) : Type 0 where
-  pub table : IsTable live
-  pub placed : All IsPlaced (block_extents live.places.items)
-  pub directory_placed : IsPlaced directory
-  pub clear : IsClear (start_of directory) directory.length (block_extents live.places.items)
-  pub user_ids : All (λ e. e.user_id < 65536) (entries_of 1 live.places.items)
-  pub text_is : text ≡ directory_text (directory_of_table live)
-  pub size : length text ≡ directory.length
 
 module _ (directory : Extent) (text : List ℕ) (live : Table) (slots : Slots) (first : IsFirst directory live slots) (founding : IsFounding directory text live) where
   abbrev es : List Extent
@@ -248,12 +238,6 @@ empty_lying n live is =
 -- the live document is the updated and the saved one
 copy_shown : (file : List ℕ) (directory : Extent) (live : Table) (s : Stored) → IsCopy directory live s → document_in file s.table ≡ document_in file live
 copy_shown file directory live s copy = λ i. record { blocks = table_map 1 1 (blocks_in file (copy.places i)); map_block = copy.map_block i }
-
-pub record IsOne (file : List ℕ) (live : Table) (slots : Slots) : Type 0 where
-  pub updated : document_in file slots.committed.updated.table ≡ document_in file live
-  pub saved : document_in file slots.committed.saved.table ≡ document_in file live
-  pub attempted : attempted_in file slots.other ≡ []
-  pub sequence : slots.sequence ≡ 1
 
 pub first_shown : (file : List ℕ) (directory : Extent) (live : Table) (slots : Slots) → IsFirst directory live slots → IsOne file live slots
 first_shown file directory live slots first = record {

@@ -1,9 +1,12 @@
+pub mod BodyImages
 pub mod Carried
+pub mod Copies
 mod Crashes
 pub mod First
 pub mod Imaged
 pub mod KeptBytes
 pub mod Live
+pub mod Looking
 pub mod Outcomes
 pub mod Passing
 pub mod Stands

@@ -6,3 +6,4 @@ pub mod Sound
 pub mod Calls
 pub mod Crashes
 pub mod Making
+pub mod Opened

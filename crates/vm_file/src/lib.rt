@@ -2,6 +2,7 @@
 #![tactic(auto)]
 
 mod commit;
+mod copying;
 mod file;
 mod law;
 mod making;
