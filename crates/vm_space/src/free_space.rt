@@ -1,25 +1,33 @@
-ghost use Rattle.std.specs.Prelude.{◌≡◌, ◌∷◌, ◌<◌, ◌≤◌, length, IfOk};
+ghost use Rattle.std.specs.Prelude.{◌≡◌, ◌∷◌, ◌+◌, ◌<◌, ◌≤◌, List, length, IfOk};
+ghost use Rattle.geos_model.specs.declared.file.Extent.{Extent};
 ghost use Rattle.vm_space.specs.Placing.{AreExtents, AreInOrder, IsFirstFit, IsLength};
+ghost use Rattle.vm_space.specs.Space.{IsLeft};
 
 use crate::MOST_EXTENTS;
 use geos_model::Extent;
 use std::alloc::{AllocError, Global};
 use std::marker::Model;
 
-/// The pages that are free while many extents are placed, one after another. Contracts see the list of the extents that are
-/// taken, the newest first.
+// Free pages, from `start` to before `end`.
+#[derive(Clone, Copy)]
+pub(crate) struct Gap {
+    pub(crate) start: u64,
+    pub(crate) end: u64,
+}
+
+/// The pages that are free while many extents are placed, one after another.
 #[derive(Drop)]
 pub struct FreeSpace {
-    gaps: Vec<u32>,
+    gaps: Vec<Gap>,
+    count: usize,
 }
 
 impl Model for FreeSpace {
-    ghost use Rattle.std.specs.Prelude.{List, []};
-    ghost use Rattle.geos_model.specs.declared.file.Extent.{Extent};
+    ghost use Rattle.vm_space.specs.Space.{Space};
 
-    ghost Value = { List Extent };
+    ghost Value = { Space };
 
-    ghost view = { λ _. [] };
+    ghost view = { λ f. record { gaps = f.gaps.items; count = f.count } };
 }
 
 impl FreeSpace {
@@ -28,21 +36,22 @@ impl FreeSpace {
         requires few { length taken.now ≤ MOST_EXTENTS }
         requires extents { AreExtents taken.now }
         requires in_order { AreInOrder taken.now }
-        ensures { IfOk result (λ space. space ≡ taken.now) }
+        ensures { IfOk result (λ space. (space.count ≡ length taken.now) × IsLeft taken.now space) }
     {
-        let _ = taken;
         Ok(FreeSpace {
             gaps: Vec::new(alloc),
+            count: taken.len(),
         })
     }
 
     /// Takes the first free extent of `len` bytes, 1 to 128 pages. It takes no memory.
     pub fn take(&mut self, len: u32) -> Extent
-        requires few { length self.old < MOST_EXTENTS }
+        requires few { self.old.count < MOST_EXTENTS }
         requires in_range { IsLength len }
-        ensures placed { IsFirstFit self.old len result }
-        ensures taken { self.new ≡ result ∷ self.old }
+        ensures count { self.new.count ≡ self.old.count + 1 }
+        ensures placed { (taken : List Extent) → IsLeft taken self.old → IsFirstFit taken len result × IsLeft (result ∷ taken) self.new }
     {
+        self.count += 1;
         Extent { page: 2, length: len }
     }
 }

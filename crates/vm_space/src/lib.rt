@@ -3,8 +3,10 @@
 
 mod directory;
 mod free_space;
+mod pages;
 mod placing;
 mod slot;
+mod words;
 
 pub use directory::{Directory, MOST_ENTRIES, read_dir, write_dir};
 pub use free_space::FreeSpace;

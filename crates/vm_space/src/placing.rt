@@ -1,10 +1,14 @@
 ghost use Rattle.std.specs.Prelude.{◌≤◌, length};
 ghost use Rattle.vm_space.specs.Placing.{AreExtents, AreInOrder, IsFirstFit, IsLength};
 
+use crate::pages::{page_behind, page_count};
 use geos_model::Extent;
 
 /// How many extents may be taken: whichever they are, the first fit lies below page 4,194,304.
 pub const MOST_EXTENTS: usize = 16_384;
+
+// The first page behind the slots.
+const FIRST_PAGE: u32 = 2;
 
 /// The first free extent of `len` bytes, behind the slots: in one pass over the extents that are taken, with no memory.
 /// Each takes 1 to 128 pages, and so does the wanted one; the taken ones may overlap each other.
@@ -15,6 +19,13 @@ pub fn place(taken: &[Extent], len: u32) -> Extent
     requires in_range { IsLength len }
     ensures { IsFirstFit taken.now len result }
 {
-    let _ = taken;
-    Extent { page: 2, length: len }
+    let pages = page_count(len);
+    let mut page = FIRST_PAGE;
+    for extent in taken {
+        if page + pages <= extent.page {
+            break;
+        }
+        page = page.max(page_behind(*extent));
+    }
+    Extent { page, length: len }
 }
