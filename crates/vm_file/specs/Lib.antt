@@ -5,3 +5,4 @@ pub mod Disk
 pub mod Sound
 pub mod Calls
 pub mod Crashes
+pub mod Opened

@@ -4,6 +4,7 @@
 mod file;
 mod law;
 mod put;
+mod reading;
 mod refused;
 mod slots;
 mod table;
