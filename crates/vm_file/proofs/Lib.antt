@@ -6,3 +6,4 @@ pub mod Looking
 pub mod Entries
 pub mod Directories
 pub mod Counting
+pub mod Whole
