@@ -11,5 +11,6 @@ mod words;
 pub use directory::{Directory, MOST_ENTRIES, read_dir, write_dir};
 pub use free_space::FreeSpace;
 pub use geos_model::{Entry, Extent};
+pub use pages::is_in_file;
 pub use placing::{MOST_EXTENTS, place};
 pub use slot::{SLOT_LENGTH, read_slot, write_slot};

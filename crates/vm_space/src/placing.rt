@@ -1,14 +1,11 @@
 ghost use Rattle.std.specs.Prelude.{◌≤◌, length};
 ghost use Rattle.vm_space.specs.Placing.{AreExtents, AreInOrder, IsFirstFit, IsLength};
 
-use crate::pages::{page_behind, page_count};
+use crate::pages::{FIRST_PAGE, page_behind, page_count};
 use geos_model::Extent;
 
 /// How many extents may be taken: whichever they are, the first fit lies below page 4,194,304.
 pub const MOST_EXTENTS: usize = 16_384;
-
-// The first page behind the slots.
-const FIRST_PAGE: u32 = 2;
 
 /// The first free extent of `len` bytes, behind the slots: in one pass over the extents that are taken, with no memory.
 /// Each takes 1 to 128 pages, and so does the wanted one; the taken ones may overlap each other.
@@ -25,7 +22,7 @@ pub fn place(taken: &[Extent], len: u32) -> Extent
         if page + pages <= extent.page {
             break;
         }
-        page = page.max(page_behind(*extent));
+        page = page.max(page_behind(*extent) as u32);
     }
     Extent { page, length: len }
 }
