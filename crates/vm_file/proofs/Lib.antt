@@ -1,7 +1,10 @@
 pub mod BodyImages
 pub mod Carried
 pub mod Copies
+pub mod Counting
 mod Crashes
+pub mod Directories
+pub mod Entries
 pub mod First
 pub mod Imaged
 pub mod KeptBytes
@@ -12,4 +15,5 @@ pub mod Passing
 pub mod Stands
 pub mod Steps
 pub mod Tables
+pub mod Whole
 pub mod Written

@@ -9,7 +9,7 @@ ghost use Rattle.vm_file.specs.Calls.{IsPut, put_all, remove_all, IsSupply, IsCo
 
 use crate::making::make_empty;
 use crate::put::PutBlock;
-use crate::reading::read_extent;
+use crate::reading::{open_slots, read_extent};
 use crate::refused::Refused;
 use crate::slots::Slots;
 use crate::table::{Place, Table, place_of, set_user_id};
@@ -77,7 +77,7 @@ impl<S: Store> VmFile<S> {
 
     /// Opens the file that a store has: NotDocument or Damaged where it is none, and the store comes back as it was.
     /// Where a crash left the store, what is read is on the disk from then on.
-    pub fn open(alloc: Global, store: S) -> Result<VmFile<S>, Refused<S>>
+    pub fn open(alloc: Global, mut store: S) -> Result<VmFile<S>, Refused<S>>
         ensures honest { MatchResult result
             (λ file. (S.facts file.disk.store).honest ≡ (S.facts store).honest)
             (λ refused. (S.facts refused.store).honest ≡ (S.facts store).honest) }
@@ -96,10 +96,15 @@ impl<S: Store> VmFile<S> {
         ensures file { IfErr result (λ refused. refused.fault ≡ Fault.File → Raised (S.facts store) (S.facts refused.store)) }
         ensures refusals { IfErr result (λ refused. IsOpenRefusal refused.fault) }
     {
-        Err(Refused {
-            fault: Fault::Memory,
-            store,
-        })
+        match open_slots(alloc, &mut store) {
+            Ok((slots, live)) => Ok(VmFile {
+                alloc,
+                store,
+                live,
+                slots,
+            }),
+            Err(fault) => Err(Refused { fault, store }),
+        }
     }
 
     /// Where a block lies, its user ID and its kind; None where it isn't live.

@@ -1,11 +1,11 @@
 -- One pass over the extents that are taken finds the first fit.
-use Rattle.std.proofs.Common.{◌≡◌, ℕ, suc, ◌+◌, ◌*◌, ◌/◌, ◌<◌, ◌≤◌, ◌⊎◌, max, List, length, get_or, All, refl, ap, ◌∙◌, arith, inl, inr}
+use Rattle.std.proofs.Common.{◌≡◌, ℕ, ◌+◌, ◌*◌, ◌<◌, ◌≤◌, max, List, length, get_or, refl, ap, ◌∙◌, arith, inl, inr}
 use Rattle.std.proofs.lemmas.Bool.{cases_lt}
 use Rattle.std.proofs.lemmas.List.Sorted.{IsNonDecreasingBy-from_sort}
-use Rattle.geos_model.specs.File.{pages_of, end_page, last_page}
+use Rattle.geos_model.specs.File.{pages_of, end_page}
 use Rattle.geos_model.specs.declared.file.Extent.{Extent}
 use Rattle.geos_model.proofs.Files.{get_or_same}
-use Rattle.vm_space.specs.Placing.{IsApart, IsFree, IsFirstFit, IsLength, AreExtents, AreInOrder}
+use Rattle.vm_space.specs.Placing.{IsFree, IsFirstFit, IsLength, AreExtents, AreInOrder}
 
 -- so many bytes take 1 to 128 pages
 pub pages_some : (n : ℕ) → IsLength n → 1 ≤ pages_of n
@@ -45,9 +45,9 @@ module _ (taken : List Extent) (n : ℕ) (extents : AreExtents taken) (is_length
         first = λ p low below free. elim (cases_lt p page) [
           | inl before ↦ passed.first p low before free
           | inr past ↦ elim (free i d l) [
-              | inl ends ↦ absurd (blocked (omega (arith, past, ends)))
-              | inr begins ↦ absurd (omega (arith, past, begins, below))
-            ]
+            | inl ends ↦ absurd (blocked (omega (arith, past, ends)))
+            | inr begins ↦ absurd (omega (arith, past, begins, below))
+          ]
         ];
       }
 
@@ -62,7 +62,7 @@ module _ (taken : List Extent) (n : ℕ) (extents : AreExtents taken) (is_length
         behind_slots = passed.behind_slots;
         free = λ k x below. elim (cases_lt k i) [
           | inl before ↦ inr (passed.behind k x before)
-          | inr past ↦ 
+          | inr past ↦
               let later = rising i k x past below in
               let same : (get_or taken i x).page ≡ (get_or taken i d).page = ap (λ (e : Extent). e.page) (get_or_same taken i x d l) in
               inl (omega (arith, later, same, room))

@@ -1,12 +1,12 @@
 -- Gaps: the first that is long enough gives the first fit, and what is left when it is cut.
-use Rattle.std.proofs.Common.{◌≡◌, ◌≢◌, ℕ, zero, suc, ◌+◌, ◌*◌, ◌-◌, ◌/◌, ◌<◌, ◌≤◌, ◌⊎◌, List, [], ◌∷◌, ◌++◌, length, get_or, set, All, refl, sym, ap, ap₂, subst, ◌∙◌, arith, inl, inr}
+use Rattle.std.proofs.Common.{◌≡◌, ◌≢◌, ℕ, zero, suc, ◌+◌, ◌*◌, ◌-◌, ◌<◌, ◌≤◌, List, [], ◌∷◌, length, get_or, set, refl, sym, ap, ap₂, subst, ◌∙◌, arith, inl, inr}
 use Rattle.std.proofs.lemmas.Bool.{cases_lt, cases_eq}
 use Rattle.std.proofs.lemmas.List.{get_or-set_same, get_or-set_other, length-set}
-use Rattle.geos_model.specs.File.{pages_of, end_page}
+use Rattle.geos_model.specs.File.{pages_of}
 use Rattle.geos_model.specs.declared.file.Extent.{Extent}
 use Rattle.geos_model.proofs.Files.{get_or_same}
 use Rattle.vm_space.specs.Placing.{IsApart, IsFree, IsFirstFit, IsLength}
-use Rattle.vm_space.specs.Space.{Space, IsOutside, IsClear, IsLeft, gap_size, Reaches, AreGaps, IsSound, IsFirstGap}
+use Rattle.vm_space.specs.Space.{IsOutside, IsClear, IsLeft, gap_size, Reaches, AreGaps, IsSound, IsFirstGap}
 use Rattle.vm_space.specs.declared.free_space.Gap.{Gap}
 use Rattle.vm_space.proofs.Fitting.{pages_some, pages_few}
 
@@ -67,54 +67,56 @@ module _ (gaps : List Gap) (hints : List ℕ) (count m bytes : ℕ) (d : Gap) (i
         let same : (get_or gaps k x).end ≡ (get_or gaps k d).end = ap (λ (g : Gap). g.end) (get_or_same gaps k x d (omega (arith, before, inside))) in
         inr (omega (arith, rise, order, same))
     | inr upper ↦ elim (cases_lt k j) [
-        | inl higher ↦
-            let rise = gaps_rise gaps sound.gaps_are k j x higher l in
-            let same : (get_or gaps k x).end ≡ (get_or gaps k d).end = ap (λ (g : Gap). g.end) (get_or_same gaps k x d (omega (arith, before, inside))) in
-            inl (omega (arith, rise, same))
-        | inr not_higher ↦
-            let at : j ≡ k = omega (arith, upper, not_higher) in
-            let same : (get_or gaps j x).end ≡ (get_or gaps k d).end = ap (λ i. (get_or gaps i x).end) at ∙ ap (λ (g : Gap). g.end) (get_or_same gaps k x d (omega (arith, before, inside))) in
-            inr (omega (arith, same))
-      ]
+      | inl higher ↦
+          let rise = gaps_rise gaps sound.gaps_are k j x higher l in
+          let same : (get_or gaps k x).end ≡ (get_or gaps k d).end = ap (λ (g : Gap). g.end) (get_or_same gaps k x d (omega (arith, before, inside))) in
+          inl (omega (arith, rise, same))
+      | inr not_higher ↦
+          let at : j ≡ k = omega (arith, upper, not_higher) in
+          let same : (get_or gaps j x).end ≡ (get_or gaps k d).end = ap (λ i. (get_or gaps i x).end) at ∙ ap (λ (g : Gap). g.end) (get_or_same gaps k x d (omega (arith, before, inside))) in
+          inr (omega (arith, same))
+    ]
   ]
-
-  -- before the gap at m so many pages aren't free
-  none_before : (taken : List Extent) → IsLeft taken (record { gaps = gaps; count = count }) → (page : ℕ) → 2 ≤ page → page < (get_or gaps m d).start → IsFree taken page bytes → ⊥
-  none_before taken left page low early free =
-      let some = pages_some bytes is_length in
-      left.all page low (λ j x l. elim (cases_lt page (get_or gaps j x).start) [
-        | inl before ↦ inl before
-        | inr from ↦ elim (cases_lt page (get_or gaps j x).end) [
-            | inr past ↦ inr past
-            | inl within ↦ absurd (elim (cases_lt j m) [
-                | inl lower ↦
-                    let small = smaller j lower in
-                    let same : get_or gaps j x ≡ get_or gaps j d = get_or_same gaps j x d l in
-                    let starts : (get_or gaps j x).start ≡ (get_or gaps j d).start = ap (λ (g : Gap). g.start) same in
-                    let ends : (get_or gaps j x).end ≡ (get_or gaps j d).end = ap (λ (g : Gap). g.end) same in
-                    let past : page < (get_or gaps j d).end = omega (arith, within, ends) in
-                    let near : (get_or gaps j d).end < page + pages_of bytes = omega (arith, small, from, starts) in
-                    left.all (get_or gaps j d).end (omega (arith, low, past)) (λ i y below. end_outside j lower i y below) (page_free taken page bytes (get_or gaps j d).end free (omega (arith, past)) near)
-                | inr upper ↦ elim (cases_lt m j) [
-                    | inl higher ↦
-                        let rise = gaps_rise gaps sound.gaps_are m j x higher l in
-                        let order = (sound.gaps_are.order m x inside).1 in
-                        let same : (get_or gaps m x).start ≡ (get_or gaps m d).start = ap (λ (g : Gap). g.start) (get_or_same gaps m x d inside) in
-                        omega (arith, rise, order, same, early, from)
-                    | inr not_higher ↦
-                        let at : j ≡ m = omega (arith, upper, not_higher) in
-                        let same : (get_or gaps j x).start ≡ (get_or gaps m d).start = ap (λ i. (get_or gaps i x).start) at ∙ ap (λ (g : Gap). g.start) (get_or_same gaps m x d inside) in
-                        omega (arith, same, early, from)
-                  ]
-              ])
-          ]
-      ]) (page_free taken page bytes page free (omega arith) (omega (arith, some)))
 
   pub start_early : count < 16384 → (get_or gaps m d).start + 128 ≤ 4194304
   start_early few =
       let wanted = pages_few bytes is_length in
       let start = reach_small (2 + 128 * count) gaps m d sound.reach inside (λ j below. let small = smaller j below in omega (arith, small, wanted)) in
       omega (arith, start, sound.few, inside, few)
+
+  -- before the gap at m so many pages aren't free
+  none_before : count < 16384 → (taken : List Extent) → IsLeft taken (record { gaps = gaps; count = count }) → (page : ℕ) → 2 ≤ page → page < (get_or gaps m d).start → IsFree taken page bytes → ⊥
+  none_before few taken left page low early free =
+      let reach = start_early few in
+      let wanted = pages_few bytes is_length in
+      let some = pages_some bytes is_length in
+      left.all page low (omega (arith, early, reach)) (λ j x l. elim (cases_lt page (get_or gaps j x).start) [
+        | inl before ↦ inl before
+        | inr from ↦ elim (cases_lt page (get_or gaps j x).end) [
+          | inr past ↦ inr past
+          | inl within ↦ absurd (elim (cases_lt j m) [
+            | inl lower ↦
+                let small = smaller j lower in
+                let same : get_or gaps j x ≡ get_or gaps j d = get_or_same gaps j x d l in
+                let starts : (get_or gaps j x).start ≡ (get_or gaps j d).start = ap (λ (g : Gap). g.start) same in
+                let ends : (get_or gaps j x).end ≡ (get_or gaps j d).end = ap (λ (g : Gap). g.end) same in
+                let past : page < (get_or gaps j d).end = omega (arith, within, ends) in
+                let near : (get_or gaps j d).end < page + pages_of bytes = omega (arith, small, from, starts) in
+                left.all (get_or gaps j d).end (omega (arith, low, past)) (omega (arith, near, early, reach, wanted)) (λ i y below. end_outside j lower i y below) (page_free taken page bytes (get_or gaps j d).end free (omega (arith, past)) near)
+            | inr upper ↦ elim (cases_lt m j) [
+              | inl higher ↦
+                  let rise = gaps_rise gaps sound.gaps_are m j x higher l in
+                  let order = (sound.gaps_are.order m x inside).1 in
+                  let same : (get_or gaps m x).start ≡ (get_or gaps m d).start = ap (λ (g : Gap). g.start) (get_or_same gaps m x d inside) in
+                  omega (arith, rise, order, same, early, from)
+              | inr not_higher ↦
+                  let at : j ≡ m = omega (arith, upper, not_higher) in
+                  let same : (get_or gaps j x).start ≡ (get_or gaps m d).start = ap (λ i. (get_or gaps i x).start) at ∙ ap (λ (g : Gap). g.start) (get_or_same gaps m x d inside) in
+                  omega (arith, same, early, from)
+            ]
+          ])
+        ]
+      ]) (page_free taken page bytes page free (omega arith) (omega (arith, some)))
 
   pub gap_fits : count < 16384 → (taken : List Extent) → IsLeft taken (record { gaps = gaps; count = count }) → IsFirstFit taken bytes (record { page = (get_or gaps m d).start; length = bytes })
   gap_fits few taken left =
@@ -127,7 +129,7 @@ module _ (gaps : List Gap) (hints : List ℕ) (count m bytes : ℕ) (d : Gap) (i
           | inl before ↦ inr before
           | inr behind ↦ inl (let order = (sound.gaps_are.order m d inside).1 in omega (arith, behind, order, fits))
         ];
-        first = none_before taken left;
+        first = none_before few taken left;
         in_reach = omega (arith, early, wanted);
       }
 
@@ -251,16 +253,16 @@ module _ (gaps : List Gap) (hints : List ℕ) (count m bytes : ℕ) (d : Gap) (i
             let new = is_cut k x l in
             inr (omega (arith, rise, same, new.ends))
         | inr upper ↦ elim (cases_lt m k) [
-            | inl higher ↦
-                let rise = gaps_rise gaps sound.gaps_are m k x higher l in
-                let same : (get_or gaps m x).end ≡ (get_or gaps m d).end = ap (λ (g : Gap). g.end) (get_or_same gaps m x d inside) in
-                let new = is_cut k x l in
-                inl (omega (arith, rise, same, new.begins, order, fits))
-            | inr not_higher ↦
-                let at : k ≡ m = omega (arith, upper, not_higher) in
-                let is : (get_or cut k x).start ≡ (get_or gaps m d).start + pages_of bytes = ap (λ i. (get_or cut i x).start) at ∙ ap (λ (g : Gap). g.start) (cut_at x) in
-                inl (omega (arith, is))
-          ]
+          | inl higher ↦
+              let rise = gaps_rise gaps sound.gaps_are m k x higher l in
+              let same : (get_or gaps m x).end ≡ (get_or gaps m d).end = ap (λ (g : Gap). g.end) (get_or_same gaps m x d inside) in
+              let new = is_cut k x l in
+              inl (omega (arith, rise, same, new.begins, order, fits))
+          | inr not_higher ↦
+              let at : k ≡ m = omega (arith, upper, not_higher) in
+              let is : (get_or cut k x).start ≡ (get_or gaps m d).start + pages_of bytes = ap (λ i. (get_or cut i x).start) at ∙ ap (λ (g : Gap). g.start) (cut_at x) in
+              inl (omega (arith, is))
+        ]
       ]
 
   -- what lay in no gap lies in none that is cut
@@ -278,11 +280,11 @@ module _ (gaps : List Gap) (hints : List ℕ) (count m bytes : ℕ) (d : Gap) (i
         let is : (get_or cut k x).start ≡ (get_or gaps m d).start + pages_of bytes = ap (λ i. (get_or cut i x).start) at ∙ ap (λ (g : Gap). g.start) (cut_at x) in
         let new = is_cut k x l in
         elim outside [
-          inr past ↦ inr (omega (arith, past, new.ends))
-        | inl before ↦ elim away [
-              inl under ↦ inl (omega (arith, under, old))
+          | inr past ↦ inr (omega (arith, past, new.ends))
+          | inl before ↦ elim away [
+            | inl under ↦ inl (omega (arith, under, old))
             | inr over ↦ absurd (omega (arith, before, is, over))
-            ]
+          ]
         ]
   ]
 
@@ -295,8 +297,8 @@ module _ (gaps : List Gap) (hints : List ℕ) (count m bytes : ℕ) (d : Gap) (i
     clear = λ k x l j e below.
         let there : k < length gaps = omega (arith, l, length-cut) in
         clear_of taken left k x there j e below;
-    all = λ page low outside free.
-        left.all page low (λ k x l. was_outside page (free 0 placed (omega arith)) k x l (outside k x (omega (arith, l, length-cut)))) (λ k x l. free (suc k) x (omega (arith, l)));
+    all = λ page low within outside free.
+        left.all page low within (λ k x l. was_outside page (free 0 placed (omega arith)) k x l (outside k x (omega (arith, l, length-cut)))) (λ k x l. free (suc k) x (omega (arith, l)));
   }
 
 -- The last gap has room.

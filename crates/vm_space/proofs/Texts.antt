@@ -1,7 +1,7 @@
 -- The text of a directory, entry by entry.
-use Rattle.std.proofs.Common.{◌≡◌, ℕ, zero, suc, ◌+◌, ◌*◌, ◌-◌, ◌<◌, ◌≤◌, Bool, true, false, cond, ◌&&◌, ◌≢◌, IsTrue, Option, Some, None, List, [], ◌∷◌, ◌++◌, map, length, take, drop, get_or, nat_lt, flat_map, refl, sym, ap, ap₂, subst, ◌∙◌, arith, inl, inr, take_at, drop_at, take-add, take_all, take-append-drop, drop-drop, length-take, length-drop, lt-ltb, ltb-true}
+use Rattle.std.proofs.Common.{◌≡◌, ℕ, suc, ◌+◌, ◌*◌, ◌-◌, ◌<◌, ◌≤◌, Bool, true, false, ◌&&◌, Option, Some, None, List, [], ◌∷◌, ◌++◌, map, length, take, drop, get_or, nat_lt, flat_map, refl, sym, ap, ap₂, subst, ◌∙◌, arith, inl, inr, take_at, take-add, take_all, take-append-drop, drop-drop, length-drop, lt-ltb, ltb-true}
 use Rattle.std.proofs.Math.Seq.{drop-cons}
-use Rattle.std.proofs.lemmas.Bool.{cases_Bool, and_parts, and_from, cond-true, cond-false}
+use Rattle.std.proofs.lemmas.Bool.{cases_Bool, and_parts, and_from, cond-true}
 use Rattle.std.proofs.lemmas.List.{flat_map_more, take_more, take_rest, drop-take}
 use Rattle.byteorder.specs.Endian.{little_number}
 use Rattle.byteorder.specs.Numbers.{little_from-take}
@@ -150,9 +150,10 @@ header-read bytes at = take_rest bytes at
 pub has_header : (bytes text : List ℕ) (r : Bool) (count m : ℕ) → r ≡ same_bytes (take 16 bytes) text → text ≡ header_text count m → count ≡ word_at bytes 6 → m ≡ word_at bytes 8 → length bytes ≡ 16 + 16 * count
     → (r ≡ true → HasHeader bytes) × (HasHeader bytes → r ≡ true)
 has_header bytes text r count m answer written count_is m_is size =
-    let header : text ≡ header_text (word_at bytes 6) (word_at bytes 8) = written ∙ ap₂ header_text count_is m_is in
-    (λ yes_it. record { header = same_bytes-is (take 16 bytes) text (sym answer ∙ yes_it) ∙ header; size = size ∙ ap (λ (k : ℕ). 16 + 16 * k) count_is },
-    λ has. answer ∙ ap₂ same_bytes has.header header ∙ same_bytes-refl (header_text (word_at bytes 6) (word_at bytes 8)))
+    let header : text ≡ header_text (word_at bytes 6) (word_at bytes 8) = written ∙ ap₂ header_text count_is m_is in (
+      λ yes_it. record { header = same_bytes-is (take 16 bytes) text (sym answer ∙ yes_it) ∙ header; size = size ∙ ap (λ (k : ℕ). 16 + 16 * k) count_is },
+      λ has. answer ∙ ap₂ same_bytes has.header header ∙ same_bytes-refl (header_text (word_at bytes 6) (word_at bytes 8)),
+    )
 
 -- What is read of a directory.
 
@@ -165,14 +166,15 @@ read_parts n bytes d e =
     let is = is_directory-parts n r tests.0 in
     let text : directory_text r ≡ bytes = same_bytes-is (directory_text r) bytes tests.1 in
     let long : length all ≡ word_at bytes 6 = length-map-range_with_len (entry_at bytes) 0 (word_at bytes 6) in
-    let behind : flat_map entry_text all ≡ drop 16 bytes = ap (drop 16) text in
-    (record {
-      header = sym (ap (take 16) text) ∙ ap (λ (k : ℕ). header_text k (word_at bytes 8)) long;
-      size = sym (ap length text) ∙ length-directory r ∙ ap (λ (k : ℕ). 16 + 16 * k) long;
-    },
-    and_from (is_rising 0 all && list_all (is_entry n) all) (same_bytes (flat_map entry_text all) (drop 16 bytes)) (and_from (is_rising 0 all) (list_all (is_entry n) all) is.rising is.entries)
-    (subst (λ (l : List ℕ). same_bytes (flat_map entry_text all) l ≡ true) behind (same_bytes-refl (flat_map entry_text all))),
-    is.map_block)
+    let behind : flat_map entry_text all ≡ drop 16 bytes = ap (drop 16) text in (
+      record {
+        header = sym (ap (take 16) text) ∙ ap (λ (k : ℕ). header_text k (word_at bytes 8)) long;
+        size = sym (ap length text) ∙ length-directory r ∙ ap (λ (k : ℕ). 16 + 16 * k) long;
+      },
+      and_from (is_rising 0 all && list_all (is_entry n) all) (same_bytes (flat_map entry_text all) (drop 16 bytes)) (and_from (is_rising 0 all) (list_all (is_entry n) all) is.rising is.entries)
+          (subst (λ (l : List ℕ). same_bytes (flat_map entry_text all) l ≡ true) behind (same_bytes-refl (flat_map entry_text all))),
+      is.map_block,
+    )
 
 -- a value that isn't there
 none : {A : Type 0} (o : Option A) → ((a : A) → o ≡ Some a → ⊥) → o ≡ None

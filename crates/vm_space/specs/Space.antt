@@ -1,6 +1,6 @@
 -- The pages that extents leave free.
 use Rattle.std.specs.Prelude.{◌≡◌, ◌⊎◌, ◌+◌, ◌*◌, ◌-◌, ◌<◌, ◌≤◌, ℕ, List, [], ◌∷◌, All, length, slice_index, slice_index_or, ⊤}
-use Rattle.geos_model.specs.File.{end_page}
+use Rattle.geos_model.specs.File.{end_page, last_page}
 use Rattle.geos_model.specs.declared.file.Extent.{Extent}
 use Rattle.vm_space.specs.Placing.{IsFree}
 use Rattle.vm_space.specs.declared.free_space.Gap.{Gap}
@@ -18,10 +18,10 @@ IsOutside page gap = (page < gap.start) ⊎ (gap.end ≤ page)
 abbrev pub IsClear : Extent → Gap → Type 0
 IsClear e gap = (end_page e ≤ gap.start) ⊎ (gap.end ≤ e.page)
 
--- The gaps are what these extents leave: none of the extents lies in a gap, and each page behind the slots that lies in no gap is an extent's.
+-- The gaps are what these extents leave: none of the extents lies in a gap, and each page that can be used and lies in no gap is an extent's.
 pub record IsLeft (taken : List Extent) (space : Space) : Type 0 where
   pub clear : All (λ gap. All (λ e. IsClear e gap) taken) space.gaps
-  pub all : (page : ℕ) → 2 ≤ page → All (IsOutside page) space.gaps → IsFree taken page 1 → ⊥
+  pub all : (page : ℕ) → 2 ≤ page → page < last_page → All (IsOutside page) space.gaps → IsFree taken page 1 → ⊥
 
 -- How gaps are kept.
 

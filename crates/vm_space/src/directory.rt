@@ -24,6 +24,7 @@ pub const MOST_ENTRIES: usize = 2_048;
 
 // The bytes before the entries, and those of each entry.
 const HEADER_LENGTH: usize = 16;
+
 const ENTRY_LENGTH: usize = 16;
 
 // The bytes of the image of the greatest raw body.

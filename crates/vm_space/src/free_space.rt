@@ -5,7 +5,7 @@ ghost use Rattle.vm_space.specs.Space.{IsLeft, IsFirstGap, gap_size};
 ghost use Rattle.vm_space.specs.declared.free_space.Gap as gap;
 
 use crate::MOST_EXTENTS;
-use crate::pages::{FIRST_PAGE, page_behind, page_count};
+use crate::pages::{FIRST_PAGE, first_page, page_behind, page_count};
 use geos_model::Extent;
 use std::alloc::{AllocError, Global};
 use std::marker::Model;
@@ -53,7 +53,7 @@ impl FreeSpace {
         let mut gaps = Vec::with_capacity(alloc, taken.len() + 1)?;
         let mut page = u64::from(FIRST_PAGE);
         for extent in taken {
-            let start = u64::from(extent.page);
+            let start = first_page(*extent);
             if page < start {
                 gaps.push(Gap {
                     start: page,

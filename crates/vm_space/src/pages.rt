@@ -17,6 +17,13 @@ pub(crate) fn page_count(len: u32) -> u32
     len.div_ceil(PAGE)
 }
 
+pub(crate) fn first_page(extent: Extent) -> u64
+    ensures value { result ≡ extent.page }
+    ensures bound { result < 2 ^ 32 }
+{
+    u64::from(extent.page)
+}
+
 // The page behind the last one.
 pub(crate) fn page_behind(extent: Extent) -> u64
     ensures { result ≡ end_page extent }

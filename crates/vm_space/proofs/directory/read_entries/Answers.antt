@@ -27,9 +27,9 @@ returns-then-not-is_next-clause-damaged c = λ _.
     let is : c.read_entry-entry.result ≡ entry_at bytes i = c.read_entry-entry.ensures ∙ entry_between bytes i in
     let count : c.from-count.result ≡ word_at bytes 6 = c.from-count.ensures ∙ c.read_u16.ensures ∙ ap (little_number 2) (header-read bytes 6) in
     read-bad n bytes i c.loop-i.entries.items c.loop-i.last c.loop-i.invariant (omega (arith, c.loop-i-test.true, count)) (λ next.
-        let taken = c.if-not-is_next.ensures.1 (subst (λ (t : List ℕ). IsNext n c.loop-i.last t c.read_entry-entry.result) (sym (between bytes (16 + 16 * i)))
-        (subst (λ (e : Entry). IsNext n c.loop-i.last (text_at bytes i) e) (sym is) next)) in
-        absurd (cc taken))
+    let taken = c.if-not-is_next.ensures.1 (subst (λ (t : List ℕ). IsNext n c.loop-i.last t c.read_entry-entry.result) (sym (between bytes (16 + 16 * i)))
+    (subst (λ (e : Entry). IsNext n c.loop-i.last (text_at bytes i) e) (sym is) next)) in
+    absurd (cc taken))
 
 pub returns-clause-read : goal.returns-clause-read
 returns-clause-read c =

@@ -1,5 +1,5 @@
-use Rattle.std.proofs.Common.{◌≡◌, ◌++◌, List, ℕ, ap₂, ◌∙◌, length}
-use Rattle.geos_model.specs.File.{header_text, entry_text}
+use Rattle.std.proofs.Common.{◌++◌, List, ℕ, ap₂, ◌∙◌, length}
+use Rattle.geos_model.specs.File.{header_text}
 use Rattle.vm_space.proofs.Texts.{text-more}
 use Rattle.vm_space.proofs.directory.write_dir.Goals as goal
 

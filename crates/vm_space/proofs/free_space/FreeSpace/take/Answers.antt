@@ -1,6 +1,5 @@
-use Rattle.std.proofs.Common.{◌≡◌, ℕ, ◌+◌, ◌<◌, ◌≤◌, ◌-◌, List, ◌∷◌, length, get_or, set, subst, sym, ap, ap₂, ◌∙◌, arith}
+use Rattle.std.proofs.Common.{◌≡◌, ℕ, ◌+◌, ◌<◌, ◌≤◌, ◌-◌, List, ◌∷◌, length, get_or, set, subst, sym, ap, ◌∙◌, arith}
 use Rattle.geos_model.specs.File.{pages_of}
-use Rattle.geos_model.specs.declared.file.Extent.{Extent}
 use Rattle.vm_space.specs.Placing.{IsFirstFit}
 use Rattle.vm_space.specs.Space.{Space, IsLeft, IsSound, gap_size}
 use Rattle.vm_space.specs.declared.free_space.Gap.{Gap}
@@ -72,6 +71,7 @@ returns-clause-placed c = λ taken left.
     let cut = cut_from gaps m (pages_of c.args.len) g c.index_mut.result.now c.from-2.result is.inside c.index-2.ensures c.index_mut.ensures.value (c.from-2.ensures ∙ c.page_count-pages.ensures) in
     let made : Gap = record { start = g.start + c.from-2.result; end = c.index_mut.result.now.end } in
     let fits = gap_fits gaps hints count m c.args.len g c.requires.in_range c.self.invariant is.inside is.fits is.smaller few taken before in
-    let after = left-cut gaps hints count m c.args.len g c.requires.in_range c.self.invariant is.inside is.fits is.smaller taken before in
-    (subst (λ (page : ℕ). IsFirstFit taken c.args.len (record { page = page; length = c.args.len })) starts fits,
-    subst (λ (page : ℕ). IsLeft (record { page = page; length = c.args.len } ∷ taken) (record { gaps = set gaps m made; count = count + 1 })) starts (subst (λ (x : Gap). IsLeft (record { page = (get_or gaps m g).start; length = c.args.len } ∷ taken) (record { gaps = set gaps m x; count = count + 1 })) (sym cut) after))
+    let after = left-cut gaps hints count m c.args.len g c.requires.in_range c.self.invariant is.inside is.fits is.smaller taken before in (
+      subst (λ (page : ℕ). IsFirstFit taken c.args.len (record { page = page; length = c.args.len })) starts fits,
+      subst (λ (page : ℕ). IsLeft (record { page = page; length = c.args.len } ∷ taken) (record { gaps = set gaps m made; count = count + 1 })) starts (subst (λ (x : Gap). IsLeft (record { page = (get_or gaps m g).start; length = c.args.len } ∷ taken) (record { gaps = set gaps m x; count = count + 1 })) (sym cut) after),
+    )
