@@ -88,12 +88,12 @@ module _ {S : Type 0} (facts : S → StoreFacts) (a b : S) (live : Table) (slots
     attempted = λ so. held_same (facts a).content (facts b).content slots.other (other_of slots) slots.sequence (here so).beside (there so).beside;
     sequence = refl;
     crash = λ so. record {
-        later = (outlives so).later;
-        each = λ t c le left. elim ((outlives so).each t c le left) as (λ _. (facts a).left_since t c ⊎ StandsForOne (readable (disk_of facts a slots)) c) [
-            | inl earlier ↦ inl earlier
-            | inr one ↦ inr (outcome_stands slots (facts a).content c (sound_readable (facts a) live slots sound.formed (sound.whole so)) (subst (λ s. Outcome s (facts a).content c) one.1 one.2))
-          ];
-      };
+      later = (outlives so).later;
+      each = λ t c le left. elim ((outlives so).each t c le left) as (λ _. (facts a).left_since t c ⊎ StandsForOne (readable (disk_of facts a slots)) c) [
+        | inl earlier ↦ inl earlier
+        | inr one ↦ inr (outcome_stands slots (facts a).content c (sound_readable (facts a) live slots sound.formed (sound.whole so)) (subst (λ s. Outcome s (facts a).content c) one.1 one.2))
+      ];
+    };
   }
 
   pub call_sound : (new : Table) → IsFormed new slots → (IsTrue (facts a).honest → AreImaged (facts b).content new.places.items × All (EndsIn (facts b).content) (block_extents new.places.items)) → IsSound (facts b) new slots

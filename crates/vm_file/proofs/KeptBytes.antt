@@ -27,7 +27,7 @@ torn_holds at n from to bytes c d short out torn was = record {
   each = λ i inside. torn_byte at n from to (from + i) c d out torn (omega arith) (omega arith) (omega (arith, was.within)) ∙ was.each i inside;
 }
 
-torn_same : (at n : ℕ) (e : Extent) (file c d : List ℕ) → IsOut at n (start_of e) (end_of e) → Torn at n c d → SameIn file c e → SameIn file d e
+pub torn_same : (at n : ℕ) (e : Extent) (file c d : List ℕ) → IsOut at n (start_of e) (end_of e) → Torn at n c d → SameIn file c e → SameIn file d e
 torn_same at n e file c d out torn was = record {
   within = omega (arith, was.within, torn.no_shorter);
   each = λ i inside. torn_byte at n (start_of e) (end_of e) (start_of e + i) c d out torn (omega arith) (omega arith) (omega (arith, was.within)) ∙ was.each i inside;

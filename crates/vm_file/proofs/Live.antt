@@ -43,12 +43,12 @@ sound_user_id store live new slots h user_id place sound at map_block is =
     let old = live.places.items in
     let one : Place = record place { user_id = user_id } in
     let kept = λ (Q : Extent → Type 0) (all : All Q (block_extents old)).
-      subst (λ ps. All Q (block_extents ps)) (sym is) (extents_of Q (set old i (Some one)) (each_set (λ p. Q p.extent) old i (Some one) (each_at (λ p. Q p.extent) old i place at (places_of Q old all)) (places_of Q old all))) in
+    subst (λ ps. All Q (block_extents ps)) (sym is) (extents_of Q (set old i (Some one)) (each_set (λ p. Q p.extent) old i (Some one) (each_at (λ p. Q p.extent) old i place at (places_of Q old all)) (places_of Q old all))) in
     sound_live store live new slots sound (table_set live new i one sound.formed.table map_block is) (kept IsPlaced sound.formed.placed)
     (λ so.
-      let images = (sound.whole so).images in
-      let was = each_at (IsImaged store.content) old i place at images in
-      subst (AreImaged store.content) (sym is) (each_set (IsImaged store.content) old i (Some one) (record { image = was.image; kind = was.kind }) images))
+    let images = (sound.whole so).images in
+    let was = each_at (IsImaged store.content) old i place at images in
+    subst (AreImaged store.content) (sym is) (each_set (IsImaged store.content) old i (Some one) (record { image = was.image; kind = was.kind }) images))
     (λ so. kept (EndsIn store.content) (sound.whole so).within)
 
 -- another map block

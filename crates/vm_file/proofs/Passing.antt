@@ -1,11 +1,19 @@
 -- The laws by which the layers above pass on what a document file promises.
 use Rattle.std.proofs.Common.{◌≡◌, ◌⊎◌, ℕ, suc, ◌≤◌, Bool, IsTrue, List, [], ◌∷◌, refl, sym, ap, subst, ◌∙◌, arith, inl, inr}
-use Rattle.std.specs.Prelude.{Result, Ok, Err}
+use Rattle.std.specs.Prelude.{◌+◌, Result, Ok, Err, OnOk, OnErr, MatchResult}
 use Rattle.vm_store.specs.Facts.{StoreFacts, IsTimely}
 use Rattle.geos_model.specs.Document.{Document}
 use Rattle.geos_model.specs.declared.fault.Fault.{Fault}
 use Rattle.vm_file.specs.Documents.{Documents}
-use Rattle.vm_file.specs.Disk.{Disk, readable, StandsForOne, Settled, IsSettled, Crash, Drifts, Passes, Commits}
+use Rattle.vm_file.specs.Disk.{Disk, readable, StandsForOne, Settled, IsSettled, Crash, Drifts, Attempts, Passes, Commits}
+
+on_ok_more : {T E P Q : Type 0} (r : Result T E) → (P → Q) → OnOk r P → OnOk r Q
+on_ok_more (Ok x) f p = f p
+on_ok_more (Err x) f p = tt
+
+on_err_more : {T E P Q : Type 0} (r : Result T E) → (P → Q) → OnErr r P → OnErr r Q
+on_err_more (Ok x) f p = tt
+on_err_more (Err x) f p = f p
 
 pub Drifts-refl : (honest : Bool) (d : Document) → Drifts honest d d
 Drifts-refl honest d = record { live = λ h. refl; user_ids = λ h. refl; map_block = refl; same = λ _. refl }
@@ -82,3 +90,34 @@ module _ {S : Type 0} (facts : S → StoreFacts) where
     err = λ _. (refl, refl, inl refl);
     sequence = refl;
   }
+
+  -- calls that commit nothing, before a commit that isn't tried
+  pub Passes-fails : (a b : Disk S) (pair : Documents) (f : Fault) → Passes facts a b → IsSettled facts b → Commits facts pair a b (Err f)
+  Passes-fails a b pair f p settled = record {
+    honest = p.honest;
+    failures = p.failures;
+    crash = λ so. Crash-more _ _ (readable a) (pair ∷ readable a) (λ c one. inr one) (p.crash so);
+    settled = settled;
+    ok = tt;
+    err = λ so. (p.updated so, p.saved so, inl (p.attempted so));
+    sequence = p.sequence;
+  }
+
+  -- calls that commit nothing, and then one that tries
+  pub Passes-Commits : (a b c : Disk S) (first then : Documents) (result : Result (Unit {0}) Fault) → Passes facts a b → (IsTrue (facts a.store).honest → then ≡ first) → Commits facts then b c result → Commits facts first a c result
+  Passes-Commits a b c first then result p same q =
+      let now = still a b p.honest in
+      record {
+        honest = q.honest ∙ p.honest;
+        failures = omega (arith, p.failures, q.failures);
+        crash = λ so.
+            let P : List Documents → Type 0 = λ ds. Crash (facts b.store) (facts c.store) ds in
+            let are : then ∷ readable b ≡ first ∷ readable a = λ i. same so i ∷ same_readable a b p so i in
+            Crash-trans _ _ _ _ (Crash-more _ _ (readable a) (first ∷ readable a) (λ f one. inr one) (p.crash so)) (subst P are (q.crash (now so)));
+        settled = q.settled;
+        ok = on_ok_more result (λ given so. ((given (now so)).0 ∙ same so, (given (now so)).1)) q.ok;
+        err = on_err_more result (λ given so.
+            let got = given (now so) in
+            (got.0 ∙ p.updated so, got.1 ∙ p.saved so, subst (λ d. Attempts d a.attempted c.attempted) (same so) (subst (λ ds. Attempts then ds c.attempted) (p.attempted so) got.2))) q.err;
+        sequence = subst (λ n. MatchResult result (λ _. c.sequence ≡ n + 1) (λ _. c.sequence ≡ n)) p.sequence q.sequence;
+      }

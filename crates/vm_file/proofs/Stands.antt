@@ -276,7 +276,7 @@ outcome_stands slots file c are was =
     one_stands slots.other slots.second slots.sequence slots.committed file c (fits_pair slots.sequence slots.committed are.some are.in_range (first_part IsPlaced (pair_extents slots.committed) (held_extents slots.other) are.placed))
     are.committed (second_part IsPlaced (pair_extents slots.committed) (held_extents slots.other) are.placed) are.held was.gate was.counts was.beside
 
-held_readable : (file : List ℕ) (sequence : ℕ) (other : Other) → IsHeldFormed sequence other → IsHeldStored file other → IsHeldReadable file sequence other
+pub held_readable : (file : List ℕ) (sequence : ℕ) (other : Other) → IsHeldFormed sequence other → IsHeldStored file other → IsHeldReadable file sequence other
 held_readable file sequence Shut formed stored = tt
 held_readable file sequence Stale formed stored = tt
 held_readable file sequence (Held pair) formed stored = (stored, formed.1)

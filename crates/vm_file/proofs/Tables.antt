@@ -4,6 +4,8 @@ use Rattle.std.specs.Prelude.{IfSome, unwrap_or}
 use Rattle.std.specs.Option.{option_map, option_map_or}
 use Rattle.std.specs.FinMap.{get, insert, remove}
 use Rattle.std.proofs.lemmas.Bool.Decides.{nat_tests}
+use Rattle.std.proofs.lemmas.Bool.{and_parts, leb-true}
+use Rattle.std.specs.Prelude.{nat_le}
 use Rattle.std.proofs.lemmas.List.{append-nil, drop_all, take_all, ext_get_or, get_or-drop, get_or-take}
 use Rattle.vm_store.specs.Facts.{byte}
 use Rattle.geos_model.specs.Document.{Block, Document, is_heap_body, is_live, is_vm_handle, user_id_of, block_at, with_block, without_block, with_user_id}
@@ -46,6 +48,9 @@ up = omega arith
 
 handle_in : (h : ℕ) → 1 ≤ h → h ≤ 2048 → is_vm_handle h ≡ true
 handle_in h low high = grind (arith, nat_tests)
+
+pub handle_within : (h : ℕ) → is_vm_handle h ≡ true → (1 ≤ h) × (h ≤ 2048)
+handle_within h is = let parts = and_parts (nat_le 1 h) (nat_le h 2048) is in (leb-true 1 h parts.0, leb-true h 2048 parts.1)
 
 -- What is under a handle of the document is in the place before.
 module _ (file : List ℕ) (places : List (Option Place)) (map_block : ℕ) where

@@ -1,10 +1,11 @@
 -- A table as a directory in the file.
-use Rattle.std.proofs.Common.{◌≡◌, ◌≢◌, ◌⊎◌, ℕ, zero, suc, ◌+◌, ◌-◌, ◌*◌, ◌/◌, ◌<◌, ◌≤◌, ◌==◌, nat_lt, nat_le, Bool, true, false, List, [], ◌∷◌, drop, length, get_or, Option, None, Some, is_some, All, refl, sym, ap, subst, ◌∙◌, arith, inl, inr, eq-eqb, lt-ltb, le-leb, length-take, length-drop}
+use Rattle.std.proofs.Common.{◌≡◌, ◌≢◌, ◌⊎◌, ℕ, zero, suc, ◌+◌, ◌-◌, ◌*◌, ◌/◌, ◌<◌, ◌≤◌, ◌==◌, nat_lt, nat_le, Bool, true, false, List, [], ◌∷◌, ◌++◌, drop, take, length, get_or, Option, None, Some, is_some, All, refl, sym, ap, ap₂, subst, ◌∙◌, arith, inl, inr, eq-eqb, lt-ltb, le-leb, length-take, length-drop}
 use Rattle.std.specs.Prelude.{IfSome, ◌&&◌, ◌||◌}
 use Rattle.std.specs.List.{list_all, list_any}
 use Rattle.std.proofs.lemmas.Bool.{cases_Bool, and_from, cond-true}
 use Rattle.std.proofs.lemmas.Grind.{same_number_lists}
-use Rattle.std.proofs.lemmas.List.{get_or-drop, get_or-take, get_or_past}
+use Rattle.std.proofs.lemmas.List.{get_or-drop, get_or-take, get_or_past, take_more, append-nil}
+use Rattle.std.proofs.lemmas.List.Elements.{All-nil, All-cons, All-append}
 use Rattle.vm_store.specs.Facts.{byte, Holds}
 use Rattle.geos_model.specs.Document.{most_blocks}
 use Rattle.geos_model.specs.Image.{image, body_of, body_read}
@@ -95,3 +96,33 @@ directory_written file s is placed imaged within user_ids size holds =
       directory = cond-true _ _ _ inside ∙ ap (directory_in (length file)) (bytes_held file s.directory (directory_text d) (sym size) holds) ∙ directory_in-text (length file) d good user_ids;
       images = imaged;
     }
+
+-- Entries that are listed one by one.
+
+entries_append : (h : ℕ) (xs ys : List (Option Place)) → entries_of h (xs ++ ys) ≡ entries_of h xs ++ entries_of (h + length xs) ys
+entries_append h [] ys = ap (λ n. entries_of n ys) (let same : h ≡ h + 0 = omega arith in same)
+entries_append h (None ∷ xs) ys = entries_append (h + 1) xs ys ∙ ap (λ n. entries_of (h + 1) xs ++ entries_of n ys) (let same : h + 1 + length xs ≡ h + suc (length xs) = omega arith in same)
+entries_append h (Some place ∷ xs) ys =
+    ap (λ (es : List Entry). record { handle = record { 0 = h }; user_id = place.user_id; extent = place.extent } ∷ es)
+    (entries_append (h + 1) xs ys ∙ ap (λ n. entries_of (h + 1) xs ++ entries_of n ys) (let same : h + 1 + length xs ≡ h + suc (length xs) = omega arith in same))
+
+-- one place more
+entries_next : (places : List (Option Place)) (i : ℕ) (o : Option Place) → i < length places → get_or places i None ≡ o → entries_of 1 (take (i + 1) places) ≡ entries_of 1 (take i places) ++ entries_of (i + 1) (o ∷ [])
+entries_next places i o within is =
+    let size : length (take i places) ≡ i = omega (arith, within, length-take i places) in
+    let at : 1 + length (take i places) ≡ i + 1 = omega (arith, size) in
+    ap (entries_of 1) (take_more places i None within ∙ ap (λ (x : Option Place). take i places ++ x ∷ []) is)
+    ∙ entries_append 1 (take i places) (o ∷ [])
+    ∙ ap (λ n. entries_of 1 (take i places) ++ entries_of n (o ∷ [])) at
+
+pub entries_none : (places : List (Option Place)) (i : ℕ) (entries : List Entry) → i < length places → get_or places i None ≡ None → entries ≡ entries_of 1 (take i places) → entries ≡ entries_of 1 (take (i + 1) places)
+entries_none places i entries within is so = so ∙ sym (append-nil (entries_of 1 (take i places))) ∙ sym (entries_next places i None within is)
+
+pub entries_some : (places : List (Option Place)) (i : ℕ) (place : Place) (entries new : List Entry) (e : Entry) → i < length places → get_or places i None ≡ Some place → entries ≡ entries_of 1 (take i places) → new ≡ entries ++ e ∷ []
+    → e ≡ record { handle = record { 0 = i + 1 }; user_id = place.user_id; extent = place.extent } → new ≡ entries_of 1 (take (i + 1) places)
+entries_some places i place entries new e within is so pushed one =
+    pushed ∙ ap₂ (λ (es : List Entry) (x : Entry). es ++ x ∷ []) so one ∙ sym (entries_next places i (Some place) within is)
+
+pub user_ids_more : (entries new : List Entry) (e : Entry) → new ≡ entries ++ e ∷ [] → All (λ x. x.user_id < 65536) entries → e.user_id < 65536 → All (λ x. x.user_id < 65536) new
+user_ids_more entries new e pushed all low =
+    subst (All (λ x. x.user_id < 65536)) (sym pushed) (All-append (λ x. x.user_id < 65536) entries (e ∷ []) all (All-cons (λ x. x.user_id < 65536) e [] low (All-nil (λ x. x.user_id < 65536))))

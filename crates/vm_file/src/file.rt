@@ -7,12 +7,16 @@ ghost use Rattle.vm_file.specs.Disk.{FileState, Drifts, Passes, Commits, IsSettl
 ghost use Rattle.vm_file.specs.Documents.{sequence_in};
 ghost use Rattle.vm_file.specs.Calls.{IsPut, put_all, remove_all, IsSupply, IsCommitRefusal, IsOpenRefusal, last_sequence};
 
+use crate::copies::{copy_stored, copy_table, twice};
+use crate::directory::{commit_draft, draft_of};
 use crate::making::make_empty;
 use crate::put::PutBlock;
 use crate::reading::{open_slots, read_extent};
 use crate::refused::Refused;
+use crate::settle::settle;
 use crate::slots::Slots;
-use crate::table::{Place, Table, place_of, set_user_id};
+use crate::table::{Place, Table, place_of, put_places, remove_places, set_user_id};
+use crate::writing::write_puts;
 use geos_model::{Fault, VmHandle};
 use std::alloc::Global;
 use std::marker::Model;
@@ -170,7 +174,16 @@ impl<S: Store> VmFile<S> {
         ensures file { IsErrOf result Fault.File → Raised (S.facts self.old.disk.store) (S.facts self.new.disk.store) }
         ensures refusals { IfErr result IsSupply }
     {
-        Err(Fault::Memory)
+        let extents = write_puts(
+            self.alloc,
+            &mut self.store,
+            &self.live.places,
+            &self.slots,
+            puts,
+        )?;
+        put_places(&mut self.live.places, puts, &extents);
+        remove_places(&mut self.live.places, removals);
+        Ok(())
     }
 
     /// Makes the document as it is now the updated one. Worn where the sequence number can't rise, before anything else is
@@ -186,7 +199,9 @@ impl<S: Store> VmFile<S> {
         if self.slots.sequence == u64::MAX {
             return Err(Fault::Worn);
         }
-        Err(Fault::Memory)
+        let draft = draft_of(self.alloc, &self.live, &self.slots)?;
+        let saved = copy_stored(self.alloc, &self.slots.committed.saved)?;
+        commit_draft(&mut self.store, &mut self.slots, &self.live, draft, saved)
     }
 
     /// Makes the document as it is now the updated and the saved one. Refused as an update is.
@@ -201,7 +216,9 @@ impl<S: Store> VmFile<S> {
         if self.slots.sequence == u64::MAX {
             return Err(Fault::Worn);
         }
-        Err(Fault::Memory)
+        let draft = draft_of(self.alloc, &self.live, &self.slots)?;
+        let saved = copy_stored(self.alloc, &draft.stored)?;
+        commit_draft(&mut self.store, &mut self.slots, &self.live, draft, saved)
     }
 
     /// Makes the saved document the updated one and the document as it is now. Refused as an update is.
@@ -217,7 +234,12 @@ impl<S: Store> VmFile<S> {
         if self.slots.sequence == u64::MAX {
             return Err(Fault::Worn);
         }
-        Err(Fault::Memory)
+        let saved = &self.slots.committed.saved;
+        let live = copy_table(self.alloc, &saved.table)?;
+        let pair = twice(self.alloc, saved)?;
+        settle(&mut self.store, &mut self.slots, pair, &self.live)?;
+        self.live = live;
+        Ok(())
     }
 
     /// Makes another store a new file of the document as it is now, updated and saved, whatever was in it. What is read

@@ -2,15 +2,20 @@
 #![tactic(auto)]
 
 mod commit;
+mod copies;
 mod copying;
+mod directory;
 mod file;
 mod law;
 mod making;
+mod placing;
 mod put;
 mod reading;
 mod refused;
+mod settle;
 mod slots;
 mod table;
+mod writing;
 
 pub use file::VmFile;
 pub use law::crash_law;

@@ -22,11 +22,7 @@ use vm_space::{Directory, MOST_ENTRIES, SLOT_LENGTH, read_dir, read_slot};
 use vm_store::Store;
 
 /// The bytes of an extent. Memory, File.
-pub fn read_extent<S: Store>(
-    alloc: Global,
-    store: &mut S,
-    extent: Extent,
-) -> Result<Vec<u8>, Fault>
+pub fn read_extent<S: Store>(alloc: Global, store: &mut S, extent: Extent) -> Result<Vec<u8>, Fault>
     ensures honest { (S.facts store.new).honest ≡ (S.facts store.old).honest }
     ensures failures { (S.facts store.old).failures ≤ (S.facts store.new).failures }
     ensures rests { IsTrue (S.facts store.old).honest → Rests (S.facts store.old) (S.facts store.new) }
