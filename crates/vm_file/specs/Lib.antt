@@ -4,6 +4,8 @@ pub mod Crashes
 pub mod Disk
 pub mod Documents
 pub mod Drafts
+pub mod Making
+pub mod Opened
 pub mod Ranges
 pub mod Slots
 pub mod Sound

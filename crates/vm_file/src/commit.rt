@@ -11,10 +11,10 @@ use geos_model::Extent;
 use vm_store::{Store, StoreFault};
 
 /// How many bytes a page has.
-const PAGE: u64 = 512;
+pub const PAGE: u64 = 512;
 
 /// What a slot begins with.
-const MARK: [u8; 4] = [b'G', b'V', b'M', b'F'];
+pub const MARK: [u8; 4] = [b'G', b'V', b'M', b'F'];
 
 /// Writes these bytes, and syncs.
 pub fn write_through<S: Store>(store: &mut S, at: u64, bytes: &[u8]) -> Result<(), StoreFault>

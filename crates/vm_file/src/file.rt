@@ -9,8 +9,9 @@ ghost use Rattle.vm_file.specs.Calls.{IsPut, put_all, remove_all, IsSupply, IsCo
 
 use crate::copies::{copy_stored, copy_table, twice};
 use crate::directory::{commit_draft, draft_of};
+use crate::making::make_empty;
 use crate::put::PutBlock;
-use crate::reading::read_extent;
+use crate::reading::{open_slots, read_extent};
 use crate::refused::Refused;
 use crate::settle::settle;
 use crate::slots::Slots;
@@ -61,18 +62,26 @@ impl<S: Store> VmFile<S> {
         ensures made { IfOk result (λ file. (file.document ≡ empty_document) × (file.disk.updated ≡ empty_document) × (file.disk.saved ≡ empty_document)
             × (file.disk.attempted ≡ []) × (file.disk.sequence ≡ 1)) }
         ensures settled { IfOk result (λ file. IsSettled S.facts file.disk) }
+        // the slots, and a directory of no block
+        ensures size { IfOk result (λ file. IsTrue (S.facts store).honest → length (S.facts file.disk.store).content ≡ 1040) }
         ensures file { IfErr result (λ refused. refused.fault ≡ Fault.File → Raised (S.facts store) (S.facts refused.store)) }
         ensures refusals { IfErr result (λ refused. IsSupply refused.fault) }
     {
-        Err(Refused {
-            fault: Fault::Memory,
-            store,
-        })
+        let mut store = store;
+        match make_empty(alloc, &mut store) {
+            Ok(made) => Ok(VmFile {
+                alloc,
+                store,
+                live: made.live,
+                slots: made.slots,
+            }),
+            Err(fault) => Err(Refused { fault, store }),
+        }
     }
 
     /// Opens the file that a store has: NotDocument or Damaged where it is none, and the store comes back as it was.
     /// Where a crash left the store, what is read is on the disk from then on.
-    pub fn open(alloc: Global, store: S) -> Result<VmFile<S>, Refused<S>>
+    pub fn open(alloc: Global, mut store: S) -> Result<VmFile<S>, Refused<S>>
         ensures honest { MatchResult result
             (λ file. (S.facts file.disk.store).honest ≡ (S.facts store).honest)
             (λ refused. (S.facts refused.store).honest ≡ (S.facts store).honest) }
@@ -91,10 +100,15 @@ impl<S: Store> VmFile<S> {
         ensures file { IfErr result (λ refused. refused.fault ≡ Fault.File → Raised (S.facts store) (S.facts refused.store)) }
         ensures refusals { IfErr result (λ refused. IsOpenRefusal refused.fault) }
     {
-        Err(Refused {
-            fault: Fault::Memory,
-            store,
-        })
+        match open_slots(alloc, &mut store) {
+            Ok((slots, live)) => Ok(VmFile {
+                alloc,
+                store,
+                live,
+                slots,
+            }),
+            Err(fault) => Err(Refused { fault, store }),
+        }
     }
 
     /// Where a block lies, its user ID and its kind; None where it isn't live.

@@ -3,9 +3,11 @@
 
 mod commit;
 mod copies;
+mod copying;
 mod directory;
 mod file;
 mod law;
+mod making;
 mod placing;
 mod put;
 mod reading;
