@@ -1,5 +1,5 @@
 -- Which bytes are the image of a body.
-use Rattle.std.proofs.Common.{◌≡◌, ◌≢◌, ℕ, ◌+◌, ◌<◌, ◌≤◌, Bool, true, false, ◌&&◌, List, [], ◌∷◌, length, slice_index, Option, None, Some, refl, sym, ap, subst, ◌∙◌, arith, le-leb}
+use Rattle.std.proofs.Common.{◌≡◌, ◌≢◌, ℕ, ◌+◌, ◌<◌, ◌≤◌, Bool, true, false, ◌&&◌, List, [], ◌∷◌, length, slice_index, Option, None, Some, refl, sym, ap, ◌∙◌, arith, le-leb}
 use Rattle.geos_model.specs.Heap.{ChunkMap, is_heap_map}
 use Rattle.geos_model.specs.Bytes.{same_bytes}
 use Rattle.geos_model.specs.Document.{is_valid_body, is_heap_body}

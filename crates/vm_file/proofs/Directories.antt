@@ -1,8 +1,8 @@
 -- The directory in an extent of a file that was read.
-use Rattle.std.proofs.Common.{◌≡◌, ℕ, ◌+◌, ◌*◌, ◌/◌, ◌<◌, ◌≤◌, true, List, length, take, drop, Option, None, Some, Result, Ok, Err, refl, sym, ap, ap₂, subst, ◌∙◌, arith, length-take, length-drop}
+use Rattle.std.proofs.Common.{◌≡◌, ℕ, ◌+◌, ◌*◌, ◌≤◌, true, List, length, drop, Option, None, Some, Result, Ok, Err, sym, ap, ap₂, subst, ◌∙◌, arith, length-take, length-drop}
 use Rattle.std.specs.Prelude.{IfOk}
 use Rattle.std.proofs.lemmas.Bool.{cond-true}
-use Rattle.geos_model.specs.File.{Directory, bytes_in, is_in_file, is_directory, directory_in, directory_of, directory_text}
+use Rattle.geos_model.specs.File.{Directory, bytes_in, is_in_file, is_directory, directory_in, directory_of}
 use Rattle.geos_model.specs.declared.file.Extent.{Extent}
 use Rattle.geos_model.proofs.Files.{length-directory, directory_in-some}
 use Rattle.geos_model.proofs.FileDocuments.{directory_of-some, is_in_file-from, is_in_file-parts}

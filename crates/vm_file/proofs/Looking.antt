@@ -1,11 +1,11 @@
 -- Calls that only read, one after another, and the bytes that they give.
-use Rattle.std.proofs.Common.{◌≡◌, ◌⊎◌, ℕ, ◌+◌, ◌*◌, ◌<◌, ◌≤◌, IsTrue, List, length, take, drop, refl, sym, ap, subst, ◌∙◌, arith, inl, inr, length-take, length-drop}
+use Rattle.std.proofs.Common.{◌≡◌, ◌⊎◌, ℕ, ◌*◌, ◌<◌, IsTrue, List, length, drop, refl, sym, subst, ◌∙◌, arith, inl, inr, length-take, length-drop}
 use Rattle.std.proofs.lemmas.Grind.{same_number_lists}
 use Rattle.std.proofs.lemmas.List.{get_or-drop, get_or-take}
-use Rattle.vm_store.specs.Facts.{StoreFacts, byte, Holds, Rests, IsTimely, Raised}
+use Rattle.vm_store.specs.Facts.{StoreFacts, Holds, Rests, IsTimely, Raised}
 use Rattle.geos_model.specs.File.{bytes_in}
 use Rattle.geos_model.specs.declared.file.Extent.{Extent}
-use Rattle.vm_file.specs.Ranges.{start_of, end_of}
+use Rattle.vm_file.specs.Ranges.{start_of}
 use Rattle.vm_file.specs.Opened.{Looks}
 
 pub Rests-refl : (a : StoreFacts) → Rests a a

@@ -1,10 +1,10 @@
 -- What a file that was read stands for, and that it is sound once it is synced.
-use Rattle.std.proofs.Common.{◌≡◌, ◌⊎◌, ℕ, zero, suc, ◌+◌, ◌-◌, ◌*◌, ◌^◌, ◌<◌, ◌≤◌, ◌==◌, Bool, true, false, not, ◌||◌, IsTrue, List, [], ◌∷◌, ◌++◌, length, get_or, Option, None, Some, is_some, Result, Ok, Err, All, refl, sym, ap, subst, ◌∙◌, arith, inl, inr, eq-eqb, ne_eqb, length-append}
+use Rattle.std.proofs.Common.{◌≡◌, ◌⊎◌, ℕ, suc, ◌+◌, ◌-◌, ◌*◌, ◌^◌, ◌<◌, ◌≤◌, ◌==◌, Bool, true, false, not, ◌||◌, IsTrue, List, ◌++◌, length, get_or, None, is_some, Err, All, refl, sym, ap, subst, ◌∙◌, arith, inl, inr, eq-eqb, ne_eqb, length-append}
 use Rattle.std.specs.Prelude.{if◌then◌else◌}
 use Rattle.std.proofs.lemmas.Bool.{cases_lt, cond-false, le-ltb}
 use Rattle.std.proofs.lemmas.List.{get_or_append_left, get_or-append_right}
 use Rattle.vm_store.specs.Facts.{StoreFacts, IsDurable}
-use Rattle.geos_model.specs.File.{open_slot, counting_slot, pair_of, pair_of_counting, both, document_at, stands}
+use Rattle.geos_model.specs.File.{pair_of, pair_of_counting, both, document_at, stands}
 use Rattle.geos_model.specs.declared.fault.Fault.{Fault}
 use Rattle.geos_model.specs.declared.fault.Fault.TheVariants.{Damaged}
 use Rattle.geos_model.specs.declared.file.Slot.{Slot}
@@ -12,7 +12,7 @@ use Rattle.geos_model.proofs.FileStands.{stands-from}
 use Rattle.vm_file.specs.Ranges.{IsPlaced, end_of}
 use Rattle.vm_file.specs.Slots.{block_extents, stored_extents, pair_extents, held_extents, Outcome}
 use Rattle.vm_file.specs.Documents.{AreImaged, AreStored, IsHeldStored, document_in, sequence_of}
-use Rattle.vm_file.specs.Sound.{IsTable, IsHeldFormed, IsFormed, IsWhole, IsSound}
+use Rattle.vm_file.specs.Sound.{IsTable, IsHeldFormed, IsSound}
 use Rattle.vm_file.specs.Opened.{Looks, AreRead, IsFound, IsReadSlots, IsReadWhole}
 use Rattle.vm_file.specs.declared.reading.Found.{Found}
 use Rattle.vm_file.specs.declared.table.Table.{Table}
@@ -22,13 +22,13 @@ use Rattle.vm_file.specs.declared.slots.Other.{Other}
 use Rattle.vm_file.specs.declared.slots.Other.TheVariants.{Shut, Stale}
 use Rattle.vm_file.proofs.Stands.{stored_document, first_part}
 use Rattle.vm_file.proofs.Looking.{still_holds}
-use Rattle.vm_file.proofs.Counting.{IsGood, slot_leads}
+use Rattle.vm_file.proofs.Counting.{slot_leads}
 
 all_append : {X : Type 0} (P : X → Type 0) (xs ys : List X) → All P xs → All P ys → All P (xs ++ ys)
 all_append P xs ys first second k d within = elim (cases_lt k (length xs)) as (λ _. P (get_or (xs ++ ys) k d)) [
-    | inl low ↦ subst P (sym (get_or_append_left xs ys d k low)) (first k d low)
-    | inr high ↦ subst P (sym (get_or-append_right xs ys (length xs) k d refl high)) (second (k - length xs) d (omega (arith, length-append xs ys, within)))
-  ]
+  | inl low ↦ subst P (sym (get_or_append_left xs ys d k low)) (first k d low)
+  | inr high ↦ subst P (sym (get_or-append_right xs ys (length xs) k d refl high)) (second (k - length xs) d (omega (arith, length-append xs ys, within)))
+]
 
 -- From any store.
 

@@ -1,10 +1,9 @@
 -- What the reading of a file finds in it.
-use Rattle.std.specs.Prelude.{◌≡◌, ◌⊎◌, ℕ, ◌+◌, ◌*◌, ◌/◌, ◌<◌, ◌≤◌, ◌^◌, Bool, IsTrue, List, All, Option, None, Some, Result, Ok, length, take, drop, if◌then◌else◌}
-use Rattle.std.specs.Option.{option_and_then}
+use Rattle.std.specs.Prelude.{◌≡◌, ◌⊎◌, ℕ, ◌+◌, ◌*◌, ◌/◌, ◌<◌, ◌≤◌, ◌^◌, Bool, IsTrue, List, All, Option, None, Some, Ok, length, take, drop, if◌then◌else◌}
 use Rattle.vm_store.specs.Facts.{StoreFacts, byte, Rests}
 use Rattle.geos_model.specs.Document.{is_heap_body}
 use Rattle.geos_model.specs.Image.{body_of, body_read}
-use Rattle.geos_model.specs.File.{slot_of, if_open, open_slot, counting_slot, stands}
+use Rattle.geos_model.specs.File.{slot_of, open_slot, counting_slot, stands}
 use Rattle.geos_model.specs.declared.fault.Fault.{Fault}
 use Rattle.geos_model.specs.declared.fault.Fault.TheVariants.{Damaged}
 use Rattle.geos_model.specs.declared.file.Extent.{Extent}
@@ -16,7 +15,6 @@ use Rattle.vm_file.specs.Sound.{IsTable, AreTables}
 use Rattle.vm_file.specs.Calls.{IsSupply}
 use Rattle.vm_file.specs.declared.slots.Stored.{Stored}
 use Rattle.vm_file.specs.declared.slots.Pair.{Pair}
-use Rattle.vm_file.specs.declared.slots.Other.{Other}
 use Rattle.vm_file.specs.declared.slots.Other.TheVariants.{Shut, Stale}
 use Rattle.vm_file.specs.declared.slots.Slots.{Slots}
 use Rattle.vm_file.specs.declared.reading.Face.{Face}

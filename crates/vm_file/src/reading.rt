@@ -1,9 +1,8 @@
 // The reading of a file that a crash may have left. Nothing is written.
-ghost use Rattle.std.specs.Prelude.{◌≡◌, ◌⊎◌, ◌↔◌, ◌<◌, ◌≤◌, ◌^◌, ◌==◌, ℕ, List, All, IsTrue, OnOk, IfOk, IfErr, IfSome, IsErrOf, MatchResult, Option, Some, None, Ok, Err, length, get_or, slice_index, true, if◌then◌else◌};
+ghost use Rattle.std.specs.Prelude.{◌≡◌, ◌⊎◌, ◌↔◌, ◌<◌, ◌≤◌, ◌^◌, ◌==◌, ℕ, List, All, IsTrue, OnOk, IfOk, IfErr, IfSome, IsErrOf, MatchResult, Some, None, Ok, Err, length, get_or, slice_index, true, if◌then◌else◌};
 ghost use Rattle.std.specs.Option.{option_and_then};
 ghost use Rattle.vm_store.specs.Facts.{Holds, Raised, Rests};
-ghost use Rattle.geos_model.specs.Image.{body_of, body_read};
-ghost use Rattle.geos_model.specs.Document.{is_heap_body};
+ghost use Rattle.geos_model.specs.Image.{body_of};
 ghost use Rattle.geos_model.specs.File.{directory_of, is_directory, is_rising, blocks_of, bytes_in, document_at, both, if_open, counting_slot, pair_of, stands};
 ghost use Rattle.vm_space.specs.Listed.{shown};
 ghost use Rattle.geos_model.specs.declared.file.Slot as slots;
@@ -151,6 +150,7 @@ fn read_places<S: Store>(
 
 // The directories of no blocks and of 2,048.
 const SHORTEST_DIRECTORY: u32 = 16;
+
 const LONGEST_DIRECTORY: u32 = 32_784;
 
 // Pages from this one on aren't used.
@@ -294,8 +294,7 @@ pub struct Face {
 // What is known of bytes that are lent.
 fn are_bytes(bytes: &[u8])
     ensures { (i : ℕ) → slice_index bytes.now i < 256 }
-{
-}
+{}
 
 /// Reads the slot of a page, 0 or 1. File.
 fn read_face<S: Store>(store: &mut S, page: u64) -> Result<Face, Fault>
@@ -322,13 +321,7 @@ fn opened(slot: Option<Slot>) -> Option<Slot>
     ensures { result ≡ option_and_then if_open slot }
 {
     match slot {
-        Some(slot) => {
-            if slot.gate == 1 {
-                Some(slot)
-            } else {
-                None
-            }
-        }
+        Some(slot) => { if slot.gate == 1 { Some(slot) } else { None } }
         None => None,
     }
 }
@@ -377,11 +370,7 @@ fn other_of(second: bool, first_gate: u8, second_gate: u8) -> Other
     ensures { result ≡ (if (if second then first_gate else second_gate) == 1 then Other.Stale else Other.Shut) }
 {
     let gate = if second { first_gate } else { second_gate };
-    if gate == 1 {
-        Other::Stale
-    } else {
-        Other::Shut
-    }
+    if gate == 1 { Other::Stale } else { Other::Shut }
 }
 
 /// The slot that counts, and what is known of the other one.

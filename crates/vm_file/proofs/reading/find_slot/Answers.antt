@@ -1,4 +1,4 @@
-use Rattle.std.proofs.Common.{◌≡◌, ◌≤◌, IsTrue, length, refl, sym, ap, ap₂, subst, ◌∙◌, arith, inr}
+use Rattle.std.proofs.Common.{◌≤◌, length, sym, ap₂, ◌∙◌, arith, inr}
 use Rattle.std.proofs.lemmas.Result.{err_from_is_err_and}
 use Rattle.geos_model.specs.File.{counting_slot}
 use Rattle.vm_file.specs.Opened.{IsFace}

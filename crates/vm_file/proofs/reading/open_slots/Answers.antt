@@ -1,6 +1,6 @@
-use Rattle.std.proofs.Common.{◌≡◌, ◌≤◌, IsTrue, refl, sym, ap, subst, ◌∙◌, arith}
+use Rattle.std.proofs.Common.{IsTrue, subst, arith}
 use Rattle.vm_file.specs.Opened.{Looks}
-use Rattle.vm_file.proofs.Looking.{Looks-trans, still}
+use Rattle.vm_file.proofs.Looking.{Looks-trans}
 use Rattle.vm_file.proofs.Whole.{opened_sound}
 use Rattle.vm_file.proofs.reading.open_slots.Goals as goal
 

@@ -1,4 +1,4 @@
-use Rattle.std.proofs.Common.{◌≡◌, ℕ, true, IsTrue, length, Some, None, refl, sym, ap, subst, ◌∙◌}
+use Rattle.std.proofs.Common.{◌≡◌, true, IsTrue, Some, None, refl, sym, ◌∙◌}
 use Rattle.geos_model.specs.File.{is_directory, directory_in, directory_of}
 use Rattle.vm_space.specs.Listed.{shown}
 use Rattle.vm_file.proofs.Looking.{bytes_read}

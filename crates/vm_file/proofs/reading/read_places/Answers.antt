@@ -1,11 +1,11 @@
-use Rattle.std.proofs.Common.{◌≡◌, ◌+◌, ◌-◌, ◌<◌, ◌≤◌, ℕ, List, IsTrue, length, take, get_or, set, Some, None, Err, arith, refl, sym, ap, subst, ◌∙◌}
+use Rattle.std.proofs.Common.{◌≡◌, ◌+◌, ◌-◌, ◌<◌, length, get_or, set, Some, None, Err, arith, sym, ap, subst}
 use Rattle.std.proofs.lemmas.Result.{err_from_is_err_and}
 use Rattle.geos_model.specs.Image.{body_of}
 use Rattle.geos_model.specs.File.{bytes_in}
 use Rattle.geos_model.specs.declared.fault.Fault.TheVariants.{Damaged}
 use Rattle.geos_model.proofs.Files.{no_entry, get_or_same}
 use Rattle.vm_file.specs.Documents.{IsImaged}
-use Rattle.vm_file.proofs.Looking.{Looks-refl, Looks-trans, still, held_before}
+use Rattle.vm_file.proofs.Looking.{Looks-refl, Looks-trans, held_before}
 use Rattle.vm_file.proofs.Entries.{IsPartRead, part_start, imaged_start, part_more, imaged_more, rising_above, no_blocks}
 use Rattle.vm_file.proofs.reading.read_places.Goals as goal
 
@@ -23,10 +23,11 @@ loop-entry-preserved g c =
     let places = c.loop-entry.places.items in
     let place = c.in_ok-place.place in
     let like = c.in_ok-place.ensures.place in
-    let more = part_more 0 i es places e place c.requires.rising c.requires.handles inside (get_or_same es i e no_entry inside) like.0 like.1 c.loop-entry.invariant.1 in
-    (Looks-trans _ _ _ (λ so. g.met.S.Store.timely c.args.store.now so) c.loop-entry.invariant.0 c.in_ok-place.ensures.looks,
-    subst (λ n. IsPartRead (i + 1) es (set places (n - 1) (Some place))) (sym c.from.ensures) more,
-    λ so. imaged_more _ places (c.from.result - 1) place (held_before (λ file. IsImaged file place) _ _ c.loop-entry.invariant.0 c.in_ok-place.ensures.imaged so) (c.loop-entry.invariant.2 so))
+    let more = part_more 0 i es places e place c.requires.rising c.requires.handles inside (get_or_same es i e no_entry inside) like.0 like.1 c.loop-entry.invariant.1 in (
+      Looks-trans _ _ _ (λ so. g.met.S.Store.timely c.args.store.now so) c.loop-entry.invariant.0 c.in_ok-place.ensures.looks,
+      subst (λ n. IsPartRead (i + 1) es (set places (n - 1) (Some place))) (sym c.from.ensures) more,
+      λ so. imaged_more _ places (c.from.result - 1) place (held_before (λ file. IsImaged file place) _ _ c.loop-entry.invariant.0 c.in_ok-place.ensures.imaged so) (c.loop-entry.invariant.2 so),
+    )
 
 pub overflow_sub-from : goal.overflow_sub-from
 overflow_sub-from g c =

@@ -1,4 +1,4 @@
-use Rattle.std.proofs.Common.{◌≡◌, ℕ, List, IsTrue}
+use Rattle.std.proofs.Common.{IsTrue}
 use Rattle.vm_file.specs.Documents.{AreImaged}
 use Rattle.vm_file.specs.Opened.{Looks}
 use Rattle.vm_file.proofs.Entries.{IsPartRead}

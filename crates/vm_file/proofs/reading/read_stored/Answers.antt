@@ -1,4 +1,4 @@
-use Rattle.std.proofs.Common.{◌≡◌, refl, ◌∙◌}
+use Rattle.std.proofs.Common.{refl, ◌∙◌}
 use Rattle.vm_space.specs.Listed.{shown}
 use Rattle.vm_file.proofs.Looking.{Looks-trans}
 use Rattle.vm_file.proofs.Entries.{read_formed}
