@@ -17,7 +17,7 @@ use Rattle.geos_model.proofs.Arrays.{same_bytes-is}
 use Rattle.geos_model.proofs.Files.{some_if, get_or_same}
 use Rattle.geos_model.proofs.Numbers.{number_law}
 use Rattle.vm_file.specs.Ranges.{end_of}
-use Rattle.vm_file.specs.Slots.{extent_bytes, behind_gate, pair_extents, Leads, IsUnmarked, IsOlder, IsBeside}
+use Rattle.vm_file.specs.Slots.{gate_text, extent_bytes, behind_gate, pair_extents, Leads, IsUnmarked, IsOlder, IsBeside}
 use Rattle.vm_file.specs.Opened.{IsFace, IsFound, Beaten}
 use Rattle.vm_file.specs.declared.reading.Face.{Face}
 use Rattle.vm_file.specs.declared.slots.Pair.{Pair}
@@ -132,7 +132,7 @@ pub record IsGood (s : Slot) (pair : Pair) : Type 0 where
 
 pub slot_leads : (file : List ℕ) (page : ℕ) (s : Slot) (pair : Pair) → 512 * page + 32 ≤ length file → ((i : ℕ) → i < 32 → byte file (512 * page + i) < 256) → open_slot file page ≡ Some s → IsGood s pair
     → All (λ e. end_of e ≤ length file) (pair_extents pair) → (byte file (512 * page + 4) ≡ 1) × Leads page s.sequence pair file file
-unfolding behind_gate
+unfolding gate_text
 slot_leads file page s pair within small was good inside =
     let n : ℕ = 512 * page in
     let bytes = take 32 (drop n file) in
