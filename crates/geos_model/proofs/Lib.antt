@@ -9,6 +9,7 @@ pub mod Images
 pub mod Files
 pub mod FileDocuments
 pub mod FileStands
+mod FileExamples
 pub mod Arrays
 pub mod FreeLists
 pub mod ElementArrays
