@@ -1,7 +1,7 @@
 // The reading of a file that a crash may have left. Nothing is written.
 ghost use Rattle.std.specs.Prelude.{◌≡◌, ◌⊎◌, ◌↔◌, ◌<◌, ◌≤◌, ◌^◌, ◌==◌, ℕ, List, All, IsTrue, OnOk, IfOk, IfErr, IfSome, IsErrOf, MatchResult, Some, None, Ok, Err, length, get_or, slice_index, true, if◌then◌else◌};
 ghost use Rattle.std.specs.Option.{option_and_then};
-ghost use Rattle.vm_store.specs.Facts.{Holds, Raised, Rests};
+ghost use Rattle.vm_store.specs.Facts.{Holds, IsDurable, Raised, Rests};
 ghost use Rattle.geos_model.specs.Image.{body_of};
 ghost use Rattle.geos_model.specs.File.{directory_of, is_directory, is_rising, blocks_of, bytes_in, document_at, both, if_open, counting_slot, pair_of, stands};
 ghost use Rattle.vm_space.specs.Listed.{shown};
@@ -455,6 +455,19 @@ fn read_slots<S: Store>(alloc: Global, store: &mut S) -> Result<Slots, Fault>
     })
 }
 
+/// Syncs the store. File.
+fn settle<S: Store>(store: &mut S) -> Result<(), Fault>
+    ensures looks { Looks (S.facts store.old) (S.facts store.new) }
+    ensures durable { OnOk result (IsTrue (S.facts store.new).honest → IsDurable (S.facts store.new)) }
+    ensures file { IsErrOf result Fault.File → Raised (S.facts store.old) (S.facts store.new) }
+    ensures refusals { IfErr result (λ fault. fault ≡ Fault.File) }
+{
+    match store.sync() {
+        Ok(()) => Ok(()),
+        Err(_) => Err(Fault::File),
+    }
+}
+
 /// Reads what the store has, and syncs it: what was read is on the disk from then on. NotDocument, Damaged, Memory, File.
 pub fn open_slots<S: Store>(alloc: Global, store: &mut S) -> Result<(Slots, Table), Fault>
     ensures looks { Looks (S.facts store.old) (S.facts store.new) }
@@ -469,8 +482,6 @@ pub fn open_slots<S: Store>(alloc: Global, store: &mut S) -> Result<(Slots, Tabl
 {
     let slots = read_slots(alloc, store)?;
     let live = copy_table(alloc, &slots.committed.updated.table)?;
-    match store.sync() {
-        Ok(()) => Ok((slots, live)),
-        Err(_) => Err(Fault::File),
-    }
+    settle(store)?;
+    Ok((slots, live))
 }
