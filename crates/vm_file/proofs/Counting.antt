@@ -187,23 +187,23 @@ stale_beside file page n face is beaten gate =
           let there : open_slot file page ≡ Some (slot_read bytes) = ap (option_and_then if_open) (cond-true _ _ _ marked) ∙ cond-true _ _ _ (eq-eqb (slice_index bytes 4) 1 opened) in
           inr (record { number = quad_word_at bytes 8; lower = lower_than (open_slot file page) (slot_read bytes) n there beaten; there = field_held file at 8 8 is.within (omega arith) is.bytes })
       | inr other ↦ inl (record {
-          bytes = take 4 bytes;
-          size = four;
-          other = λ e. (let wrong : true ≡ false = sym (ap (λ xs. same_bytes xs slot_mark) e) ∙ other in absurd (cc wrong));
-          there = record {
-            within = omega (arith, is.within, four);
-            each = λ i low.
-                let less : i < 4 = omega (arith, low, four) in
-                sym (same i (omega arith)) ∙ sym (get_or-take 4 bytes i 0 less);
-          };
-        })
+        bytes = take 4 bytes;
+        size = four;
+        other = λ e. (let wrong : true ≡ false = sym (ap (λ xs. same_bytes xs slot_mark) e) ∙ other in absurd (cc wrong));
+        there = record {
+          within = omega (arith, is.within, four);
+          each = λ i low.
+              let less : i < 4 = omega (arith, low, four) in
+              sym (same i (omega arith)) ∙ sym (get_or-take 4 bytes i 0 less);
+        };
+      })
     ]
 
 beside_one : (file : List ℕ) (page n : ℕ) (face : Face) → IsFace file page face → Beaten (open_slot file page) n → IsBeside (if face.gate == 1 then Stale else Shut) page n file file
 beside_one file page n face is beaten = elim (cases_Bool (face.gate == 1)) as (λ _. IsBeside (if face.gate == 1 then Stale else Shut) page n file file) [
-    | inl gate ↦ subst (λ o. IsBeside o page n file file) (sym (cond-true _ _ _ gate)) (stale_beside file page n face is beaten (eqb-true face.gate 1 gate))
-    | inr shut ↦ subst (λ o. IsBeside o page n file file) (sym (cond-false _ _ _ shut)) (λ e. absurd (eqb-false face.gate 1 shut (is.gate ∙ e)))
-  ]
+  | inl gate ↦ subst (λ o. IsBeside o page n file file) (sym (cond-true _ _ _ gate)) (stale_beside file page n face is beaten (eqb-true face.gate 1 gate))
+  | inr shut ↦ subst (λ o. IsBeside o page n file file) (sym (cond-false _ _ _ shut)) (λ e. absurd (eqb-false face.gate 1 shut (is.gate ∙ e)))
+]
 
 -- What was found.
 

@@ -122,8 +122,8 @@ part_more last i es places e place rising low inside is user_id extent part =
     record {
       size = length-set places (e.handle.0 - 1) (Some place) ∙ part.size;
       entries = entries_more 1 (e.handle.0 - 1) places place (omega (arith, part.size, short, same, above)) (λ j le. part.free i j e (omega arith) inside (omega (arith, le, same, above)))
-      ∙ ap₂ (λ es x. es ++ x ∷ []) part.entries (same_entry e (1 + (e.handle.0 - 1)) place handle user_id extent ∙ sym is)
-      ∙ sym (take_more es i e inside);
+          ∙ ap₂ (λ es x. es ++ x ∷ []) part.entries (same_entry e (1 + (e.handle.0 - 1)) place handle user_id extent ∙ sym is)
+          ∙ sym (take_more es i e inside);
       free = subst (λ x. IsFreeFrom (i + 1) es (set places (x.handle.0 - 1) (Some place))) is (free_more last i es places e place rising inside part.free);
     }
 
@@ -158,21 +158,21 @@ listed_place m h (None ∷ places) any =
     let at : m - h ≡ suc (m - (h + 1)) = omega (arith, more.0) in
     (omega (arith, more.0), ap (λ k. is_some (slot_at (None ∷ places) k)) at ∙ more.1)
 listed_place m h (Some place ∷ places) any = elim (cases_Bool (h == m)) as (λ _. (h ≤ m) × (is_some (slot_at (Some place ∷ places) (m - h)) ≡ true)) [
-    | inl here ↦
-        let same = eqb-true h m here in
-        let at : m - h ≡ 0 = omega (arith, same) in
-        (omega (arith, same), ap (λ k. is_some (slot_at (Some place ∷ places) k)) at)
-    | inr other ↦
-        let more = listed_place m (h + 1) places (files.or_later (h == m) (list_any (λ e. e.handle.0 == m) (entries_of (h + 1) places)) any other) in
-        let at : m - h ≡ suc (m - (h + 1)) = omega (arith, more.0) in
-        (omega (arith, more.0), ap (λ k. is_some (slot_at (Some place ∷ places) k)) at ∙ more.1)
-  ]
+  | inl here ↦
+      let same = eqb-true h m here in
+      let at : m - h ≡ 0 = omega (arith, same) in
+      (omega (arith, same), ap (λ k. is_some (slot_at (Some place ∷ places) k)) at)
+  | inr other ↦
+      let more = listed_place m (h + 1) places (files.or_later (h == m) (list_any (λ e. e.handle.0 == m) (entries_of (h + 1) places)) any other) in
+      let at : m - h ≡ suc (m - (h + 1)) = omega (arith, more.0) in
+      (omega (arith, more.0), ap (λ k. is_some (slot_at (Some place ∷ places) k)) at ∙ more.1)
+]
 
 map_place : (m : ℕ) (places : List (Option Place)) → is_map_block m (entries_of 1 places) ≡ true → (m ≡ 0) ⊎ ((1 ≤ m) × (is_some (slot_at places (m - 1)) ≡ true))
 map_place m places is = elim (cases_Bool (m == 0)) as (λ _. (m ≡ 0) ⊎ ((1 ≤ m) × (is_some (slot_at places (m - 1)) ≡ true))) [
-    | inl none ↦ inl (eqb-true m 0 none)
-    | inr some ↦ inr (listed_place m 1 places (files.or_later (m == 0) (list_any (λ e. e.handle.0 == m) (entries_of 1 places)) is some))
-  ]
+  | inl none ↦ inl (eqb-true m 0 none)
+  | inr some ↦ inr (listed_place m 1 places (files.or_later (m == 0) (list_any (λ e. e.handle.0 == m) (entries_of 1 places)) is some))
+]
 
 -- what is behind the slots and in reach is placed
 entry_placed : (n : ℕ) (e : Entry) → files.IsEntry n e → IsPlaced e.extent

@@ -127,9 +127,9 @@ module _ (directory : Extent) (text : List ℕ) (live : Table) (slots : Slots) (
         record {
           within = omega (arith, lying.within k x inside, laid.size);
           each = λ i low. laid.others (start_of e + i) (omega (arith, high)) (elim (founding.clear k x inside) as (λ _. (start_of e + i < start_of directory) ⊎ (start_of directory + length text ≤ start_of e + i)) [
-              | inl before ↦ inl (omega arith)
-              | inr behind ↦ inr (omega (arith, founding.size))
-            ]);
+            | inl before ↦ inl (omega arith)
+            | inr behind ↦ inr (omega (arith, founding.size))
+          ]);
         }
 
     within : All (λ e. end_of e ≤ length file) es

@@ -93,9 +93,9 @@ module _ (source old c d : List ℕ) (honest : Type 0) (ps : List (Option Place)
 
     longer : EachPlace (λ p. end_of p.extent ≤ length d) ls
     longer k x inside = elim (get_or ls k x) as (λ o. IfSome o (λ p. end_of p.extent ≤ length c) → IfSome o (λ p. end_of p.extent ≤ length d)) [
-        | None ↦ λ l. tt
-        | Some p ↦ λ l. omega (arith, l, written.put.size)
-      ] (was.within k x inside)
+      | None ↦ λ l. tt
+      | Some p ↦ λ l. omega (arith, l, written.put.size)
+    ] (was.within k x inside)
 
     copied_some : AreCopied honest source (ps ++ Some place ∷ []) old d
     copied_some =
@@ -259,18 +259,18 @@ laid_user_id page (suc k) (o ∷ ps) = laid_user_id (page + pages_taken o) k ps
 module _ (file c : List ℕ) (ps : List (Option Place)) (m : ℕ) where
   live_laid : (h : ℕ) → is_live (shown c (laid_out 2 ps) m) h ≡ is_live (shown file ps m) h
   live_laid zero = not_live c (laid_out 2 ps) m ∙ sym (not_live file ps m)
-  live_laid (suc n) = live_is c (laid_out 2 ps) m (suc n) (omega arith) ∙ laid_some 2 n ps ∙ sym (live_is file ps m (suc n) (omega arith))
+  live_laid (suc n) = live_is c (laid_out 2 ps) m (suc n) (omega arith) ∙ laid_some 2 (suc n - 1) ps ∙ sym (live_is file ps m (suc n) (omega arith))
 
   user_ids_laid : (h : ℕ) → user_id_of (shown c (laid_out 2 ps) m) h ≡ user_id_of (shown file ps m) h
   user_ids_laid zero = ap (λ o. option_map_or (λ (b : Block). b.user_id) o 0) (get_none c (laid_out 2 ps) m ∙ sym (get_none file ps m))
-  user_ids_laid (suc n) = user_id_is c (laid_out 2 ps) m (suc n) (omega arith) ∙ laid_user_id 2 n ps ∙ sym (user_id_is file ps m (suc n) (omega arith))
+  user_ids_laid (suc n) = user_id_is c (laid_out 2 ps) m (suc n) (omega arith) ∙ laid_user_id 2 (suc n - 1) ps ∙ sym (user_id_is file ps m (suc n) (omega arith))
 
   pub laid_drifts : (live new : Table) → live.places.items ≡ ps → live.map_block ≡ m → new.places.items ≡ laid_out 2 ps → new.map_block ≡ m → Drifts false (document_in file live) (document_in c new)
   laid_drifts live new from from_map places map_block =
       let old_is : shown file ps m ≡ document_in file live = λ i. record { blocks = table_map 1 1 (blocks_in file ((sym from) i)); map_block = (sym from_map) i } in
       let new_is : shown c (laid_out 2 ps) m ≡ document_in c new = λ i. record { blocks = table_map 1 1 (blocks_in c ((sym places) i)); map_block = (sym map_block) i } in
       subst (λ d. Drifts false d (document_in c new)) old_is (subst (λ d. Drifts false (shown file ps m) d) new_is
-      (record { live = live_laid; user_ids = user_ids_laid; map_block = refl; same = λ so. absurd so }))
+      (record { live = live_laid; user_ids = user_ids_laid; map_block = refl; same = λ so. absurd (cc so) }))
 
 pub laid_same : (file c : List ℕ) (live new : Table) → new.map_block ≡ live.map_block → blocks_in c new.places.items ≡ blocks_in file live.places.items → document_in c new ≡ document_in file live
 laid_same file c live new map_block blocks = λ i. record { blocks = table_map 1 1 (blocks i); map_block = map_block i }

@@ -26,9 +26,9 @@ use Rattle.vm_file.proofs.Counting.{IsGood, slot_leads}
 
 all_append : {X : Type 0} (P : X → Type 0) (xs ys : List X) → All P xs → All P ys → All P (xs ++ ys)
 all_append P xs ys first second k d within = elim (cases_lt k (length xs)) as (λ _. P (get_or (xs ++ ys) k d)) [
-    | inl low ↦ subst P (sym (get_or_append_left xs ys d k low)) (first k d low)
-    | inr high ↦ subst P (sym (get_or-append_right xs ys (length xs) k d refl high)) (second (k - length xs) d (omega (arith, length-append xs ys, within)))
-  ]
+  | inl low ↦ subst P (sym (get_or_append_left xs ys d k low)) (first k d low)
+  | inr high ↦ subst P (sym (get_or-append_right xs ys (length xs) k d refl high)) (second (k - length xs) d (omega (arith, length-append xs ys, within)))
+]
 
 -- From any store.
 

@@ -151,6 +151,7 @@ fn read_places<S: Store>(
 
 // The directories of no blocks and of 2,048.
 const SHORTEST_DIRECTORY: u32 = 16;
+
 const LONGEST_DIRECTORY: u32 = 32_784;
 
 // Pages from this one on aren't used.
@@ -294,8 +295,7 @@ pub struct Face {
 // What is known of bytes that are lent.
 fn are_bytes(bytes: &[u8])
     ensures { (i : ℕ) → slice_index bytes.now i < 256 }
-{
-}
+{}
 
 /// Reads the slot of a page, 0 or 1. File.
 fn read_face<S: Store>(store: &mut S, page: u64) -> Result<Face, Fault>
@@ -322,13 +322,7 @@ fn opened(slot: Option<Slot>) -> Option<Slot>
     ensures { result ≡ option_and_then if_open slot }
 {
     match slot {
-        Some(slot) => {
-            if slot.gate == 1 {
-                Some(slot)
-            } else {
-                None
-            }
-        }
+        Some(slot) => { if slot.gate == 1 { Some(slot) } else { None } }
         None => None,
     }
 }
@@ -377,11 +371,7 @@ fn other_of(second: bool, first_gate: u8, second_gate: u8) -> Other
     ensures { result ≡ (if (if second then first_gate else second_gate) == 1 then Other.Stale else Other.Shut) }
 {
     let gate = if second { first_gate } else { second_gate };
-    if gate == 1 {
-        Other::Stale
-    } else {
-        Other::Shut
-    }
+    if gate == 1 { Other::Stale } else { Other::Shut }
 }
 
 /// The slot that counts, and what is known of the other one.

@@ -16,12 +16,12 @@ returns-in-Ok-clause-sound g c =
     let source = facts c.args.source.now in
     first_sound plan.directory plan.text.items plan.made.live plan.made.slots c.in_ok-plan.ensures.first c.in_ok-plan.ensures.founding store mid.content
     (λ so.
-      let then = subst IsTrue c.found.ensures.honest so in
-      let before = subst IsTrue c.copy_images.ensures.honest then in
-      let first = subst IsTrue c.empty.ensures.honest before in
-      let copied = c.in_ok-copy_images.ensures.copied before in
-      let lying = copied_lying (IsTrue source.honest) source.content start.content mid.content c.deref.result.now plan.made.live (c.in_ok-empty.ensures.empty first) (c.in_ok-plan.ensures.places ∙ ap (laid_out 2) (sym c.deref.ensures.value)) copied in
-      (lying, subst (λ t. IsLaid 1 plan.directory t mid.content store.content) c.deref-2.ensures.value (c.in-Ok.ensures.laid then), c.in-Ok.ensures.durable then))
+    let then = subst IsTrue c.found.ensures.honest so in
+    let before = subst IsTrue c.copy_images.ensures.honest then in
+    let first = subst IsTrue c.empty.ensures.honest before in
+    let copied = c.in_ok-copy_images.ensures.copied before in
+    let lying = copied_lying (IsTrue source.honest) source.content start.content mid.content c.deref.result.now plan.made.live (c.in_ok-empty.ensures.empty first) (c.in_ok-plan.ensures.places ∙ ap (laid_out 2) (sym c.deref.ensures.value)) copied in
+    (lying, subst (λ t. IsLaid 1 plan.directory t mid.content store.content) c.deref-2.ensures.value (c.in-Ok.ensures.laid then), c.in-Ok.ensures.durable then))
 
 pub returns-in-Ok-clause-blocks : goal.returns-in-Ok-clause-blocks
 returns-in-Ok-clause-blocks g c source_so target_so =

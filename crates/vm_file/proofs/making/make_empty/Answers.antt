@@ -14,6 +14,6 @@ returns-in-Ok-clause-sound g c =
     subst (λ t. IsSound store t slots) (sym c.in_ok-made.ensures.live)
     (first_sound first_directory _ live slots c.in_ok-made.ensures.first (empty_founding (directory_text (record { map_block = 0; entries = [] })) 2048 live refl none refl) store []
     (λ so.
-      let was = subst IsTrue c.found.ensures.honest so in
-      let first = subst IsTrue c.empty.ensures.honest was in
-      (empty_lying 2048 live none, subst (λ f. IsLaid 1 first_directory (directory_text (record { map_block = 0; entries = [] })) f store.content) (c.in_ok-empty.ensures.empty first) (c.in-Ok.ensures.laid was), c.in-Ok.ensures.durable was)))
+    let was = subst IsTrue c.found.ensures.honest so in
+    let first = subst IsTrue c.empty.ensures.honest was in
+    (empty_lying 2048 live none, subst (λ f. IsLaid 1 first_directory (directory_text (record { map_block = 0; entries = [] })) f store.content) (c.in_ok-empty.ensures.empty first) (c.in-Ok.ensures.laid was), c.in-Ok.ensures.durable was)))

@@ -14,9 +14,9 @@ pub returns-in_err-_heap-clause-damaged : goal.returns-in_err-_heap-clause-damag
 returns-in_err-_heap-clause-damaged c =
     let p = err_from_is_err_and c.from_residual.result c.from_residual.ensures.1 in
     rw (p.1, p.2) (λ e. elim c.in_err-_heap.ensures.err as (λ _. body_of c.args.bytes.now ≡ None) [
-    | inl memory ↦ (let was : c.in_err-_heap.field-0.0 ≡ Damaged = (cc) in let wrong : Memory ≡ Damaged = sym memory ∙ was in absurd (cc wrong))
-    | inr damaged ↦ heap_none c.args.bytes.now c.if-bytes-ne0.true damaged.1
-  ])
+      | inl memory ↦ (let was : c.in_err-_heap.field-0.0 ≡ Damaged = (cc) in let wrong : Memory ≡ Damaged = sym memory ∙ was in absurd (cc wrong))
+      | inr damaged ↦ heap_none c.args.bytes.now c.if-bytes-ne0.true damaged.1
+    ])
 
 pub returns-then-bytes-ne0-clause-ok : goal.returns-then-bytes-ne0-clause-ok
 returns-then-bytes-ne0-clause-ok c = heap_image c.args.bytes.now _ c.in_ok-_heap.ensures.ok.0 c.in_ok-_heap.ensures.ok.1

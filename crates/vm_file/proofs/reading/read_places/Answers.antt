@@ -23,10 +23,11 @@ loop-entry-preserved g c =
     let places = c.loop-entry.places.items in
     let place = c.in_ok-place.place in
     let like = c.in_ok-place.ensures.place in
-    let more = part_more 0 i es places e place c.requires.rising c.requires.handles inside (get_or_same es i e no_entry inside) like.0 like.1 c.loop-entry.invariant.1 in
-    (Looks-trans _ _ _ (λ so. g.met.S.Store.timely c.args.store.now so) c.loop-entry.invariant.0 c.in_ok-place.ensures.looks,
-    subst (λ n. IsPartRead (i + 1) es (set places (n - 1) (Some place))) (sym c.from.ensures) more,
-    λ so. imaged_more _ places (c.from.result - 1) place (held_before (λ file. IsImaged file place) _ _ c.loop-entry.invariant.0 c.in_ok-place.ensures.imaged so) (c.loop-entry.invariant.2 so))
+    let more = part_more 0 i es places e place c.requires.rising c.requires.handles inside (get_or_same es i e no_entry inside) like.0 like.1 c.loop-entry.invariant.1 in (
+      Looks-trans _ _ _ (λ so. g.met.S.Store.timely c.args.store.now so) c.loop-entry.invariant.0 c.in_ok-place.ensures.looks,
+      subst (λ n. IsPartRead (i + 1) es (set places (n - 1) (Some place))) (sym c.from.ensures) more,
+      λ so. imaged_more _ places (c.from.result - 1) place (held_before (λ file. IsImaged file place) _ _ c.loop-entry.invariant.0 c.in_ok-place.ensures.imaged so) (c.loop-entry.invariant.2 so),
+    )
 
 pub overflow_sub-from : goal.overflow_sub-from
 overflow_sub-from g c =
