@@ -51,11 +51,13 @@ stored_within file s stored =
 pub stored_again : (file c : List ℕ) (s : Stored) → IsStored file s → Keeps (stored_extents s) file c → IsStored c s × (document_in c s.table ≡ document_in file s.table)
 stored_again file c s stored keeps =
     let within = (stored_within file s stored).1 in
-    let blocks : Keeps (block_extents s.table.places.items) file c = λ k x inside. keeps (suc k) x (omega arith) in
-    (record {
-      directory = directory_of-kept file c s.directory (directory_of_table s.table) stored.directory (keeps_in file c s.directory (keeps 0 s.directory (omega arith))) (keeps_entries file c 1 s.table.places.items blocks);
-      images = images_same file c s.table.places.items within blocks stored.images;
-    }, ap (λ (bs : List (Option Block)). record { blocks = table_map 1 1 bs; map_block = s.table.map_block }) (blocks_same file c s.table.places.items within blocks))
+    let blocks : Keeps (block_extents s.table.places.items) file c = λ k x inside. keeps (suc k) x (omega arith) in (
+      record {
+        directory = directory_of-kept file c s.directory (directory_of_table s.table) stored.directory (keeps_in file c s.directory (keeps 0 s.directory (omega arith))) (keeps_entries file c 1 s.table.places.items blocks);
+        images = images_same file c s.table.places.items within blocks stored.images;
+      },
+      ap (λ (bs : List (Option Block)). record { blocks = table_map 1 1 bs; map_block = s.table.map_block }) (blocks_same file c s.table.places.items within blocks),
+    )
 
 pub pair_again : (file c : List ℕ) (pair : Pair) → AreStored file pair → Keeps (pair_extents pair) file c → AreStored c pair × (documents_in c pair ≡ documents_in file pair)
 pair_again file c pair stored keeps =
@@ -273,9 +275,11 @@ module _ {S : Type 0} (facts : S → StoreFacts) (a b : S) (live : Table) (slots
       settled = sound_settled facts b live now err_sound;
       ok = tt;
       err = λ so.
-          let documents = settle_committed now_formed has_all so ∙ ap (documents_in (facts a).content) same_pair in
-          (ap (λ (d : Documents). d.0) documents, ap (λ (d : Documents). d.1) documents,
-          subst (Attempts (documents_in (facts a).content pair) (attempted_in (facts a).content slots.other)) (sym (settle_attempted now_formed has_all so)) tried);
+          let documents = settle_committed now_formed has_all so ∙ ap (documents_in (facts a).content) same_pair in (
+            ap (λ (d : Documents). d.0) documents,
+            ap (λ (d : Documents). d.1) documents,
+            subst (Attempts (documents_in (facts a).content pair) (attempted_in (facts a).content slots.other)) (sym (settle_attempted now_formed has_all so)) tried,
+          );
       sequence = same_number;
     }
 

@@ -52,18 +52,22 @@ module _ {S : Type 0} (facts : S → StoreFacts) (timely : (store : S) → IsTru
   calls_crash old ((None, next) ∷ calls) new so settled (passes, rest) =
       let now : IsTrue (facts next.store).honest = subst IsTrue (sym passes.honest) so in
       let more = calls_crash next calls new now (Passes-settled facts old next (timely old.store so) (timely next.store now) passes settled) rest in
-      let P : List Documents → Type 0 = λ ds. Crash (facts next.store) (facts new.store) (attempts calls ++ ds) in
-      (Crash-trans (facts old.store) (facts next.store) (facts new.store) (attempts calls ++ readable old)
-      (Crash-more (facts old.store) (facts next.store) (readable old) (attempts calls ++ readable old) (λ c one. one_later (attempts calls) (readable old) c one) (passes.crash so))
-      (subst P (same_readable facts old next passes so) more.0), more.1)
+      let P : List Documents → Type 0 = λ ds. Crash (facts next.store) (facts new.store) (attempts calls ++ ds) in (
+        Crash-trans (facts old.store) (facts next.store) (facts new.store) (attempts calls ++ readable old)
+            (Crash-more (facts old.store) (facts next.store) (readable old) (attempts calls ++ readable old) (λ c one. one_later (attempts calls) (readable old) c one) (passes.crash so))
+            (subst P (same_readable facts old next passes so) more.0),
+        more.1,
+      )
   calls_crash old ((Some attempt, next) ∷ calls) new so settled (commits, rest) =
       let now : IsTrue (facts next.store).honest = subst IsTrue (sym commits.honest) so in
       let more = calls_crash next calls new now commits.settled rest in
-      let all = attempts calls ++ readable old in
-      (Crash-trans (facts old.store) (facts next.store) (facts new.store) (attempt.0 ∷ all)
-      (Crash-more (facts old.store) (facts next.store) (attempt.0 ∷ readable old) (attempt.0 ∷ all) (λ c one. elim one as (λ _. StandsForOne (attempt.0 ∷ all) c) [ inl here ↦ inl here | inr before ↦ inr (one_later (attempts calls) (readable old) c before) ]) (commits.crash so))
-      (Crash-more (facts next.store) (facts new.store) (attempts calls ++ readable next) (attempt.0 ∷ all)
-      (λ c one. one_moved attempt.0 (attempts calls) (readable old) c (one_of (attempts calls) (readable next) (attempt.0 ∷ readable old) c (commit_readable attempt.0 old next attempt.1 c commits so) one)) more.0), more.1)
+      let all = attempts calls ++ readable old in (
+        Crash-trans (facts old.store) (facts next.store) (facts new.store) (attempt.0 ∷ all)
+            (Crash-more (facts old.store) (facts next.store) (attempt.0 ∷ readable old) (attempt.0 ∷ all) (λ c one. elim one as (λ _. StandsForOne (attempt.0 ∷ all) c) [ inl here ↦ inl here | inr before ↦ inr (one_later (attempts calls) (readable old) c before) ]) (commits.crash so))
+            (Crash-more (facts next.store) (facts new.store) (attempts calls ++ readable next) (attempt.0 ∷ all)
+            (λ c one. one_moved attempt.0 (attempts calls) (readable old) c (one_of (attempts calls) (readable next) (attempt.0 ∷ readable old) c (commit_readable attempt.0 old next attempt.1 c commits so) one)) more.0),
+        more.1,
+      )
 
 pub crash_law : {S : Type 0} (facts : S → StoreFacts) → ((store : S) → IsTrue (facts store).honest → IsTimely (facts store)) → CrashLaw facts
 crash_law facts timely = record {

@@ -14,7 +14,7 @@ use Rattle.vm_file.specs.Ranges.{IsPlaced, start_of, end_of, Keeps, IsOut, IsCle
 use Rattle.vm_file.specs.Slots.{mark, gate_text, behind_gate, block_extents, stored_extents, pair_extents, held_extents, IsBeside, Leads, Outcome}
 use Rattle.vm_file.specs.Documents.{blocks_in, document_in, attempted_in, entries_of, directory_of_table, IsImaged, AreImaged, IsStored, IsHeldStored}
 use Rattle.vm_file.specs.Sound.{IsTable, IsHeldFormed, IsFormed, IsWhole, IsSound}
-use Rattle.vm_file.specs.Making.{first_slot, IsLaid, IsCopy, IsFirst, IsFounding, IsOne}
+use Rattle.vm_file.specs.Making.{first_slot, IsLaid, IsLiveStored, IsFirst, IsFounding, IsOne}
 use Rattle.vm_file.specs.declared.table.Place.{Place}
 use Rattle.vm_file.specs.declared.table.Table.{Table}
 use Rattle.vm_file.specs.declared.slots.Stored.{Stored}
@@ -66,7 +66,7 @@ slots_laid directory text a b c d behind directory_put first second =
 
 -- Copies of a table.
 
-copy_table : (directory : Extent) (live : Table) (s : Stored) → IsCopy directory live s → IsTable live → IsTable s.table
+copy_table : (directory : Extent) (live : Table) (s : Stored) → IsLiveStored directory live s → IsTable live → IsTable s.table
 copy_table directory live s copy is =
     let m = live.map_block in
     let P : List (Option Place) → Type 0 = λ ps. (m ≡ 0) ⊎ ((1 ≤ m) × (is_some (get_or ps (m - 1) None) ≡ true)) in
@@ -76,10 +76,10 @@ copy_table directory live s copy is =
       map_block = subst Q (sym copy.map_block) (subst P (sym copy.places) is.map_block);
     }
 
-copy_extents : (directory : Extent) (live : Table) (s : Stored) → IsCopy directory live s → stored_extents s ≡ directory ∷ block_extents live.places.items
+copy_extents : (directory : Extent) (live : Table) (s : Stored) → IsLiveStored directory live s → stored_extents s ≡ directory ∷ block_extents live.places.items
 copy_extents directory live s copy = λ i. copy.directory_is i ∷ block_extents (copy.places i)
 
-copy_stored : (file : List ℕ) (directory : Extent) (live : Table) (s : Stored) → IsCopy directory live s → IsStored file (record { directory = directory; table = live }) → IsStored file s
+copy_stored : (file : List ℕ) (directory : Extent) (live : Table) (s : Stored) → IsLiveStored directory live s → IsStored file (record { directory = directory; table = live }) → IsStored file s
 copy_stored file directory live s copy is =
     let same : directory_of_table s.table ≡ directory_of_table live = λ i. record { map_block = copy.map_block i; entries = entries_of 1 (copy.places i) } in
     record {
@@ -120,16 +120,16 @@ module _ (directory : Extent) (text : List ℕ) (live : Table) (slots : Slots) (
     abbrev file : List ℕ
     file = store.content
 
-    keeps : Keeps es old file
+    pub keeps : Keeps es old file
     keeps k x inside =
         let e = get_or es k x in
         let high = (founding.placed k x inside).behind in
         record {
           within = omega (arith, lying.within k x inside, laid.size);
           each = λ i low. laid.others (start_of e + i) (omega (arith, high)) (elim (founding.clear k x inside) as (λ _. (start_of e + i < start_of directory) ⊎ (start_of directory + length text ≤ start_of e + i)) [
-              | inl before ↦ inl (omega arith)
-              | inr behind ↦ inr (omega (arith, founding.size))
-            ]);
+            | inl before ↦ inl (omega arith)
+            | inr behind ↦ inr (omega (arith, founding.size))
+          ]);
         }
 
     within : All (λ e. end_of e ≤ length file) es
@@ -236,7 +236,7 @@ empty_lying n live is =
     }
 
 -- the live document is the updated and the saved one
-copy_shown : (file : List ℕ) (directory : Extent) (live : Table) (s : Stored) → IsCopy directory live s → document_in file s.table ≡ document_in file live
+copy_shown : (file : List ℕ) (directory : Extent) (live : Table) (s : Stored) → IsLiveStored directory live s → document_in file s.table ≡ document_in file live
 copy_shown file directory live s copy = λ i. record { blocks = table_map 1 1 (blocks_in file (copy.places i)); map_block = copy.map_block i }
 
 pub first_shown : (file : List ℕ) (directory : Extent) (live : Table) (slots : Slots) → IsFirst directory live slots → IsOne file live slots

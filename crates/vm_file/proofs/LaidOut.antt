@@ -1,22 +1,28 @@
 -- Images that are copied one behind the other.
-use Rattle.std.proofs.Common.{◌≡◌, ◌⊎◌, ℕ, zero, suc, ◌+◌, ◌-◌, ◌*◌, ◌<◌, ◌≤◌, IsTrue, List, [], ◌∷◌, ◌++◌, All, length, take, drop, get_or, is_some, Option, None, Some, refl, sym, ap, subst, ◌∙◌, arith, inl, inr}
+use Rattle.std.proofs.Common.{◌≡◌, ◌⊎◌, ℕ, zero, suc, ◌+◌, ◌-◌, ◌*◌, ◌<◌, ◌≤◌, IsTrue, List, [], ◌∷◌, ◌++◌, All, length, take, drop, get_or, is_some, true, false, Option, None, Some, refl, sym, ap, subst, ◌∙◌, arith, inl, inr}
 use Rattle.std.specs.Prelude.{IfSome}
-use Rattle.std.specs.Option.{option_map}
+use Rattle.std.specs.Option.{option_map, option_map_or}
 use Rattle.std.proofs.lemmas.List.Elements.{All-nil, All-cons, All-head, All-tail, All-append}
 use Rattle.std.proofs.lemmas.List.{map-append, take_more}
 use Rattle.vm_store.specs.Facts.{byte, Puts}
 use Rattle.vm_store.specs.Laws.{Holds-Puts}
-use Rattle.geos_model.specs.Document.{Block, is_heap_body}
+use Rattle.geos_model.specs.Document.{Block, is_heap_body, is_live, user_id_of}
+use Rattle.geos_model.proofs.Table.{table_map}
 use Rattle.geos_model.specs.Image.{body_of, body_read}
-use Rattle.geos_model.specs.File.{bytes_in, pages_of}
+use Rattle.geos_model.specs.File.{bytes_in, pages_of, directory_text}
+use Rattle.geos_model.proofs.Files.{length-directory}
 use Rattle.geos_model.specs.declared.file.Extent.{Extent}
 use Rattle.vm_file.specs.Ranges.{IsPlaced, start_of, end_of, Keeps}
 use Rattle.vm_file.specs.Slots.{block_extents}
-use Rattle.vm_file.specs.Documents.{block_in, blocks_in, IsImaged, AreImaged}
-use Rattle.vm_file.specs.Making.{moved_to, pages_taken, laid_out, page_behind, IsWritten, IsCopied, AreCopied}
+use Rattle.vm_file.specs.Documents.{block_in, blocks_in, document_in, entries_of, directory_of_table, IsImaged, AreImaged}
+use Rattle.vm_file.specs.Disk.{Drifts}
+use Rattle.vm_file.specs.Sound.{IsTable}
+use Rattle.vm_file.specs.Making.{moved_to, pages_taken, laid_out, page_behind, IsWritten, IsCopied, AreCopied, IsFounding}
+use Rattle.vm_file.specs.declared.table.Table.{Table}
+use Rattle.vm_file.proofs.First.{AreLying}
 use Rattle.vm_file.specs.declared.table.Place.{Place}
-use Rattle.vm_file.proofs.Tables.{EachPlace, extents_of, places_of, blocks_same, images_same}
-use Rattle.vm_file.proofs.Written.{bytes_held}
+use Rattle.vm_file.proofs.Tables.{EachPlace, shown, not_live, live_is, get_none, user_id_is, extents_of, places_of, blocks_same, images_same}
+use Rattle.vm_file.proofs.Written.{bytes_held, entries_few}
 
 -- One place more.
 
@@ -87,9 +93,9 @@ module _ (source old c d : List ℕ) (honest : Type 0) (ps : List (Option Place)
 
     longer : EachPlace (λ p. end_of p.extent ≤ length d) ls
     longer k x inside = elim (get_or ls k x) as (λ o. IfSome o (λ p. end_of p.extent ≤ length c) → IfSome o (λ p. end_of p.extent ≤ length d)) [
-        | None ↦ λ l. tt
-        | Some p ↦ λ l. omega (arith, l, written.put.size)
-      ] (was.within k x inside)
+      | None ↦ λ l. tt
+      | Some p ↦ λ l. omega (arith, l, written.put.size)
+    ] (was.within k x inside)
 
     copied_some : AreCopied honest source (ps ++ Some place ∷ []) old d
     copied_some =
@@ -165,3 +171,106 @@ copied_as p q (Some place) H K a b c d is from same copied = record {
   put = subst (λ n. Puts (512 * n) copied.image c d) is copied.put;
   same = λ so. copied.same (from so) ∙ ap (λ f. bytes_in f place.extent) (same so);
 }
+
+-- A table that is laid out.
+
+pub length-laid_out : (page : ℕ) (ps : List (Option Place)) → length (laid_out page ps) ≡ length ps
+length-laid_out page [] = refl
+length-laid_out page (o ∷ ps) = ap suc (length-laid_out (page + pages_taken o) ps)
+
+laid_some : (page k : ℕ) (ps : List (Option Place)) → is_some (get_or (laid_out page ps) k None) ≡ is_some (get_or ps k None)
+laid_some page k [] = refl
+laid_some page zero (None ∷ ps) = refl
+laid_some page zero (Some place ∷ ps) = refl
+laid_some page (suc k) (o ∷ ps) = laid_some (page + pages_taken o) k ps
+
+behind_high : (page : ℕ) (ps : List (Option Place)) → EachPlace (λ p. IsPlaced p.extent) ps → page_behind page ps ≤ page + 128 * length ps
+behind_high page [] placed = omega arith
+behind_high page (o ∷ ps) placed =
+    let P : Option Place → Type 0 = λ o. IfSome o (λ p. IsPlaced p.extent) in
+    let few = pages_few o (All-head P o ps placed) in
+    omega (arith, few, behind_high (page + pages_taken o) ps (All-tail P o ps placed))
+
+one_laid : (page last : ℕ) (o : Option Place) → 2 ≤ page → page + pages_taken o ≤ last → last ≤ 4194304 → IfSome o (λ p. IsPlaced p.extent) → IfSome (moved_to page o) (λ p. IsPlaced p.extent)
+one_laid page last None low l high placed = tt
+one_laid page last (Some place) low l high placed = record { behind = low; within = omega (arith, l, high); some = placed.some; short = placed.short }
+
+laid_placed : (page last : ℕ) (ps : List (Option Place)) → 2 ≤ page → page_behind page ps ≤ last → last ≤ 4194304 → EachPlace (λ p. IsPlaced p.extent) ps → EachPlace (λ p. IsPlaced p.extent) (laid_out page ps)
+laid_placed page last [] low l high placed = All-nil (λ o. IfSome o (λ p. IsPlaced p.extent))
+laid_placed page last (o ∷ ps) low l high placed =
+    let P : Option Place → Type 0 = λ o. IfSome o (λ p. IsPlaced p.extent) in
+    let more = behind_low (page + pages_taken o) ps in
+    All-cons P (moved_to page o) (laid_out (page + pages_taken o) ps) (one_laid page last o low (omega (arith, more, l)) high (All-head P o ps placed))
+    (laid_placed (page + pages_taken o) last ps (omega (arith, low)) l high (All-tail P o ps placed))
+
+laid_table : (live new : Table) → IsTable live → new.map_block ≡ live.map_block → new.places.items ≡ laid_out 2 live.places.items → IsTable new
+laid_table live new is map_block places =
+    let m = live.map_block in
+    let P : List (Option Place) → Type 0 = λ ps. (m ≡ 0) ⊎ ((1 ≤ m) × (is_some (get_or ps (m - 1) None) ≡ true)) in
+    let Q : ℕ → Type 0 = λ n. (n ≡ 0) ⊎ ((1 ≤ n) × (is_some (get_or new.places.items (n - 1) None) ≡ true)) in
+    let there : P (laid_out 2 live.places.items) = elim is.map_block as (λ _. P (laid_out 2 live.places.items)) [
+      | inl none ↦ inl none
+      | inr some ↦ inr (some.0, laid_some 2 (m - 1) live.places.items ∙ some.1)
+    ] in
+    record {
+      size = ap length places ∙ length-laid_out 2 live.places.items ∙ is.size;
+      map_block = subst Q (sym map_block) (subst P (sym places) there);
+    }
+
+pub plan_founding : (live new : Table) (directory : Extent) (text : List ℕ) → IsTable live → All IsPlaced (block_extents live.places.items) → new.map_block ≡ live.map_block → new.places.items ≡ laid_out 2 live.places.items
+    → directory.page ≡ page_behind 2 live.places.items → directory.length ≡ length text → text ≡ directory_text (directory_of_table new) → All (λ e. e.user_id < 65536) (entries_of 1 new.places.items) → IsFounding directory text new
+plan_founding live new directory text is placed map_block places page size text_is user_ids =
+    let ps = live.places.items in
+    let each = places_of IsPlaced ps placed in
+    let low = behind_low 2 ps in
+    let high = behind_high 2 ps each in
+    let all = ap length places ∙ length-laid_out 2 ps ∙ is.size in
+    let laid = extents_of IsPlaced (laid_out 2 ps) (laid_placed 2 (page_behind 2 ps) ps (omega arith) (omega arith) (omega (arith, high, is.size)) each) in
+    let ends = extents_of (λ e. end_of e ≤ 512 * page_behind 2 ps) (laid_out 2 ps) (ends_before 2 ps) in
+    let count = entries_few 1 new.places.items in
+    let long = ap length text_is ∙ length-directory (directory_of_table new) in
+    let behind : All (λ e. end_of e ≤ 512 * page_behind 2 ps) (block_extents new.places.items) = subst (λ qs. All (λ e. end_of e ≤ 512 * page_behind 2 ps) (block_extents qs)) (sym places) ends in
+    record {
+      table = laid_table live new is map_block places;
+      placed = subst (λ qs. All IsPlaced (block_extents qs)) (sym places) laid;
+      directory_placed = record { behind = omega (arith, low, page); within = omega (arith, page, high, is.size, size, long, count, all); some = omega (arith, size, long); short = omega (arith, size, long, count, all) };
+      clear = λ k x inside. inl (omega (arith, behind k x inside, page));
+      user_ids = user_ids;
+      text_is = text_is;
+      size = sym size;
+    }
+
+-- the images of a table that were copied lie there
+pub copied_lying : (honest : Type 0) (source old file : List ℕ) (ps : List (Option Place)) (new : Table) → old ≡ [] → new.places.items ≡ laid_out 2 ps → AreCopied honest source ps old file → AreLying new file
+copied_lying honest source old file ps new none places copied = record {
+  images = subst (AreImaged file) (sym places) copied.images;
+  within = subst (λ qs. All (λ e. end_of e ≤ length file) (block_extents qs)) (sym places) (extents_of (λ e. end_of e ≤ length file) (laid_out 2 ps) copied.within);
+  beside = λ is. let b : byte old 516 ≡ 1 = sym copied.beside ∙ is in let z : byte old 516 ≡ 0 = ap (λ f. byte f 516) none in omega (arith, b, z);
+}
+
+-- The document that is laid out.
+
+laid_user_id : (page k : ℕ) (ps : List (Option Place)) → option_map_or (λ (p : Place). p.user_id) (get_or (laid_out page ps) k None) 0 ≡ option_map_or (λ (p : Place). p.user_id) (get_or ps k None) 0
+laid_user_id page k [] = refl
+laid_user_id page zero (None ∷ ps) = refl
+laid_user_id page zero (Some place ∷ ps) = refl
+laid_user_id page (suc k) (o ∷ ps) = laid_user_id (page + pages_taken o) k ps
+
+module _ (file c : List ℕ) (ps : List (Option Place)) (m : ℕ) where
+  live_laid : (h : ℕ) → is_live (shown c (laid_out 2 ps) m) h ≡ is_live (shown file ps m) h
+  live_laid zero = not_live c (laid_out 2 ps) m ∙ sym (not_live file ps m)
+  live_laid (suc n) = live_is c (laid_out 2 ps) m (suc n) (omega arith) ∙ laid_some 2 (suc n - 1) ps ∙ sym (live_is file ps m (suc n) (omega arith))
+
+  user_ids_laid : (h : ℕ) → user_id_of (shown c (laid_out 2 ps) m) h ≡ user_id_of (shown file ps m) h
+  user_ids_laid zero = ap (λ o. option_map_or (λ (b : Block). b.user_id) o 0) (get_none c (laid_out 2 ps) m ∙ sym (get_none file ps m))
+  user_ids_laid (suc n) = user_id_is c (laid_out 2 ps) m (suc n) (omega arith) ∙ laid_user_id 2 (suc n - 1) ps ∙ sym (user_id_is file ps m (suc n) (omega arith))
+
+  pub laid_drifts : (live new : Table) → live.places.items ≡ ps → live.map_block ≡ m → new.places.items ≡ laid_out 2 ps → new.map_block ≡ m → Drifts false (document_in file live) (document_in c new)
+  laid_drifts live new from from_map places map_block =
+      let old_is : shown file ps m ≡ document_in file live = λ i. record { blocks = table_map 1 1 (blocks_in file ((sym from) i)); map_block = (sym from_map) i } in
+      let new_is : shown c (laid_out 2 ps) m ≡ document_in c new = λ i. record { blocks = table_map 1 1 (blocks_in c ((sym places) i)); map_block = (sym map_block) i } in
+      subst (λ d. Drifts false d (document_in c new)) old_is (subst (λ d. Drifts false (shown file ps m) d) new_is
+      (record { live = live_laid; user_ids = user_ids_laid; map_block = refl; same = λ so. absurd (cc so) }))
+
+pub laid_same : (file c : List ℕ) (live new : Table) → new.map_block ≡ live.map_block → blocks_in c new.places.items ≡ blocks_in file live.places.items → document_in c new ≡ document_in file live
+laid_same file c live new map_block blocks = λ i. record { blocks = table_map 1 1 (blocks i); map_block = map_block i }

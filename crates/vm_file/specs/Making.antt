@@ -30,7 +30,7 @@ pub record IsLaid (gate : ℕ) (directory : Extent) (text old new : List ℕ) : 
   pub size : length new ≡ max (length old) (start_of directory + length text)
 
 -- the same document, with a directory
-pub record IsCopy (directory : Extent) (live : Table) (s : Stored) : Type 0 where
+pub record IsLiveStored (directory : Extent) (live : Table) (s : Stored) : Type 0 where
   pub directory_is : s.directory ≡ directory
   pub map_block : s.table.map_block ≡ live.map_block
   pub places : s.table.places.items ≡ live.places.items
@@ -40,8 +40,8 @@ pub record IsFirst (directory : Extent) (live : Table) (slots : Slots) : Type 0 
   pub second : slots.second ≡ false
   pub sequence : slots.sequence ≡ 1
   pub other : slots.other ≡ Shut
-  pub updated : IsCopy directory live slots.committed.updated
-  pub saved : IsCopy directory live slots.committed.saved
+  pub updated : IsLiveStored directory live slots.committed.updated
+  pub saved : IsLiveStored directory live slots.committed.saved
 
 -- so that the live document is the updated and the saved one
 pub record IsOne (file : List ℕ) (live : Table) (slots : Slots) : Type 0 where

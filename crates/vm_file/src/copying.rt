@@ -5,14 +5,18 @@ ghost use Rattle.geos_model.specs.Document.{most_blocks};
 ghost use Rattle.geos_model.specs.File.{bytes_in};
 ghost use Rattle.vm_file.specs.Ranges.{IsPlaced, start_of};
 ghost use Rattle.vm_file.specs.Slots.{block_extents};
-ghost use Rattle.vm_file.specs.Documents.{IsImaged, AreImaged};
+ghost use Rattle.vm_file.specs.Documents.{blocks_in, IsImaged, AreImaged};
+ghost use Rattle.vm_file.specs.Sound.{IsTable, IsSound};
 ghost use Rattle.vm_file.specs.Opened.{Looks, IsReadRefusal, IsImageOf};
-ghost use Rattle.vm_file.specs.Making.{moved_to, pages_taken, laid_out, page_behind, IsCopied, AreCopied};
+ghost use Rattle.vm_file.specs.Making.{moved_to, pages_taken, laid_out, page_behind, IsCopied, AreCopied, IsFirst, IsFounding, IsOne};
 
+use crate::directory::entries_of;
+use crate::making::{Made, empty, first_slots, found};
 use crate::reading::{image_kind, read_extent};
-use crate::table::Place;
-use geos_model::{Extent, Fault, PAGE};
+use crate::table::{Place, Table};
+use geos_model::{Extent, Fault, PAGE, VmHandle};
 use std::alloc::{AllocError, Global};
+use vm_space::write_dir;
 use vm_store::Store;
 
 // The first page behind the slots.
@@ -140,4 +144,71 @@ fn copy_images<S: Store>(
         page += page_count(*place);
     }
     Ok(())
+}
+
+/// What is written beside the images.
+#[derive(Drop)]
+struct Plan {
+    made: Made,
+    directory: Extent,
+    text: Vec<u8>,
+}
+
+/// Places a document in a file of its own, its directory behind the images. It takes all the memory that the file needs.
+fn plan_copy(alloc: Global, live: &Table) -> Result<Plan, AllocError>
+    requires table { IsTable live.now }
+    requires placed { All IsPlaced (block_extents live.now.places.items) }
+    ensures map_block { IfOk result (λ plan. plan.made.live.map_block ≡ live.now.map_block) }
+    ensures places { IfOk result (λ plan. plan.made.live.places.items ≡ laid_out 2 live.now.places.items) }
+    ensures founding { IfOk result (λ plan. IsFounding plan.directory plan.text.items plan.made.live) }
+    ensures first { IfOk result (λ plan. IsFirst plan.directory plan.made.live plan.made.slots) }
+{
+    let placed = place_anew(alloc, &live.places)?;
+    let entries = entries_of(alloc, &placed.places)?;
+    let text = write_dir(alloc, VmHandle(live.map_block), &entries)?;
+    let directory = Extent {
+        page: placed.end,
+        length: text.len() as u32,
+    };
+    let table = Table {
+        map_block: live.map_block,
+        places: placed.places,
+    };
+    let made = first_slots(alloc, table, directory)?;
+    Ok(Plan {
+        made,
+        directory,
+        text,
+    })
+}
+
+/// Makes the target a file of a document whose images the source has. Damaged, Memory, File.
+pub fn copy_document<S: Store>(
+    alloc: Global,
+    source: &mut S,
+    live: &Table,
+    target: &mut S,
+) -> Result<Made, Fault>
+    requires table { IsTable live.now }
+    requires placed { All IsPlaced (block_extents live.now.places.items) }
+    ensures looks { Looks (S.facts source.old) (S.facts source.new) }
+    ensures honest { (S.facts target.new).honest ≡ (S.facts target.old).honest }
+    ensures failures { (S.facts target.old).failures ≤ (S.facts target.new).failures }
+    ensures sound { IfOk result (λ made. IsSound (S.facts target.new) made.live made.slots) }
+    ensures one { IfOk result (λ made. IsOne (S.facts target.new).content made.live made.slots) }
+    ensures map_block { IfOk result (λ made. made.live.map_block ≡ live.now.map_block) }
+    ensures places { IfOk result (λ made. made.live.places.items ≡ laid_out 2 live.now.places.items) }
+    ensures blocks { IfOk result (λ made. IsTrue (S.facts source.old).honest → IsTrue (S.facts target.old).honest
+        → blocks_in (S.facts target.new).content made.live.places.items ≡ blocks_in (S.facts source.old).content live.now.places.items) }
+    ensures damaged { IsErrOf result Fault.Damaged → IsTrue (S.facts source.old).honest → AreImaged (S.facts source.old).content live.now.places.items → ⊥ }
+    ensures file { IsErrOf result Fault.File → Raised (S.facts source.old) (S.facts source.new) ⊎ Raised (S.facts target.old) (S.facts target.new) }
+    ensures refusals { IfErr result IsReadRefusal }
+{
+    let plan = plan_copy(alloc, live)?;
+    empty(target)?;
+    copy_images(alloc, source, &live.places, target)?;
+    match found(target, plan.directory, &plan.text) {
+        Ok(()) => Ok(plan.made),
+        Err(_) => Err(Fault::File),
+    }
 }

@@ -8,6 +8,7 @@ ghost use Rattle.vm_file.specs.Documents.{sequence_in};
 ghost use Rattle.vm_file.specs.Calls.{IsPut, put_all, remove_all, IsSupply, IsCommitRefusal, IsOpenRefusal, last_sequence};
 
 use crate::copies::{copy_stored, copy_table, twice};
+use crate::copying::copy_document;
 use crate::directory::{commit_draft, draft_of};
 use crate::making::make_empty;
 use crate::put::PutBlock;
@@ -262,10 +263,19 @@ impl<S: Store> VmFile<S> {
         ensures damaged { IfErr result (λ refused. refused.fault ≡ Fault.Damaged → IsTrue (S.facts self.old.disk.store).honest → ⊥) }
         ensures refusals { IfErr result (λ refused. IsSupply refused.fault ⊎ (refused.fault ≡ Fault.Damaged)) }
     {
-        Err(Refused {
-            fault: Fault::Memory,
-            store: target,
-        })
+        let mut target = target;
+        match copy_document(self.alloc, &mut self.store, &self.live, &mut target) {
+            Ok(made) => Ok(VmFile {
+                alloc: self.alloc,
+                store: target,
+                live: made.live,
+                slots: made.slots,
+            }),
+            Err(fault) => Err(Refused {
+                fault,
+                store: target,
+            }),
+        }
     }
 
     /// Gives the store back. Nothing is written.

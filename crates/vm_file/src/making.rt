@@ -8,6 +8,7 @@ ghost use Rattle.vm_file.specs.Making.{first_slot, IsLaid, IsFirst};
 ghost use Rattle.vm_file.specs.Sound.{IsSound};
 
 use crate::commit::{MARK, PAGE, behind_gate_bytes};
+use crate::copies::copy_table;
 use crate::slots::{Other, Pair, Slots, Stored};
 use crate::table::Table;
 use geos_model::{Extent, Fault};
@@ -39,16 +40,6 @@ pub fn empty_table(alloc: Global) -> Result<Table, AllocError>
     Ok(Table {
         map_block: 0,
         places,
-    })
-}
-
-fn copy_table(alloc: Global, table: &Table) -> Result<Table, AllocError>
-    ensures map_block { IfOk result (λ copy. copy.map_block ≡ table.now.map_block) }
-    ensures places { IfOk result (λ copy. copy.places.items ≡ table.now.places.items) }
-{
-    Ok(Table {
-        map_block: table.map_block,
-        places: table.places.to_vec(alloc)?,
     })
 }
 
@@ -136,16 +127,18 @@ pub fn found<S: Store>(store: &mut S, directory: Extent, text: &[u8]) -> Result<
     open_first(store)
 }
 
-// The same in a store of which nothing is kept.
-fn found_alone<S: Store>(store: &mut S, directory: Extent, text: &[u8]) -> Result<(), StoreFault>
-    requires behind { 2 ≤ directory.page }
+/// Takes all bytes away. File.
+pub fn empty<S: Store>(store: &mut S) -> Result<(), Fault>
     ensures honest { (S.facts store.new).honest ≡ (S.facts store.old).honest }
-    ensures failures { Counts result (S.facts store.old) (S.facts store.new) }
-    ensures laid { OnOk result (IsTrue (S.facts store.old).honest → IsLaid 1 directory text.now [] (S.facts store.new).content) }
-    ensures durable { OnOk result (IsTrue (S.facts store.old).honest → IsDurable (S.facts store.new)) }
+    ensures failures { (S.facts store.old).failures ≤ (S.facts store.new).failures }
+    ensures empty { OnOk result (IsTrue (S.facts store.old).honest → (S.facts store.new).content ≡ []) }
+    ensures file { IsErrOf result Fault.File → Raised (S.facts store.old) (S.facts store.new) }
+    ensures refusals { IfErr result (λ fault. fault ≡ Fault.File) }
 {
-    store.set_len(0)?;
-    found(store, directory, text)
+    match store.set_len(0) {
+        Ok(()) => Ok(()),
+        Err(_) => Err(Fault::File),
+    }
 }
 
 /// Makes the store a file of no block, of 1,040 bytes. All memory is taken before the store is called.
@@ -166,7 +159,8 @@ pub fn make_empty<S: Store>(alloc: Global, store: &mut S) -> Result<Made, Fault>
     };
     let live = empty_table(alloc)?;
     let made = first_slots(alloc, live, directory)?;
-    match found_alone(store, directory, &EMPTY_DIRECTORY) {
+    empty(store)?;
+    match found(store, directory, &EMPTY_DIRECTORY) {
         Ok(()) => Ok(made),
         Err(_) => Err(Fault::File),
     }
