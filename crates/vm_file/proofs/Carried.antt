@@ -1,13 +1,11 @@
 -- Calls that write nothing that the slots stand on: what they stand for is carried on to the store as it is then.
-use Rattle.std.proofs.Common.{◌≡◌, ◌⊎◌, ℕ, suc, ◌+◌, ◌*◌, ◌<◌, ◌≤◌, IsTrue, List, [], ◌∷◌, ◌++◌, All, length, Some, refl, sym, ap, subst, ◌∙◌, arith, inl, inr}
+use Rattle.std.proofs.Common.{◌≡◌, ◌⊎◌, ℕ, suc, ◌≤◌, IsTrue, List, [], ◌∷◌, All, refl, sym, ap, subst, arith, inl, inr}
 use Rattle.vm_store.specs.Facts.{StoreFacts}
-use Rattle.geos_model.specs.Document.{Block}
-use Rattle.geos_model.specs.File.{directory_of}
 use Rattle.geos_model.proofs.FileDocuments.{directory_of-kept}
 use Rattle.geos_model.proofs.Table.{table_map}
-use Rattle.vm_file.specs.Ranges.{end_of, Keeps}
+use Rattle.vm_file.specs.Ranges.{Keeps}
 use Rattle.vm_file.specs.Slots.{block_extents, stored_extents, pair_extents, other_of, IsBeside, Outcome, Leaves, Outlives}
-use Rattle.vm_file.specs.Documents.{document_in, documents_in, attempted_in, directory_of_table, AreImaged, IsStored, AreStored, IsHeldStored}
+use Rattle.vm_file.specs.Documents.{document_in, attempted_in, directory_of_table, AreImaged, IsStored, AreStored, IsHeldStored}
 use Rattle.vm_file.specs.Disk.{readable, StandsForOne, Passes}
 use Rattle.vm_file.specs.Sound.{IsFormed, IsSound, disk_of}
 use Rattle.vm_file.specs.declared.table.Table.{Table}

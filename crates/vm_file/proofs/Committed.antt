@@ -1,23 +1,21 @@
 -- What a commit makes of the whole file.
-use Rattle.std.proofs.Common.{◌≡◌, ◌≢◌, ◌⊎◌, ℕ, zero, suc, ◌+◌, ◌^◌, ◌<◌, ◌≤◌, true, IsTrue, List, [], ◌∷◌, ◌++◌, length, get_or, Option, None, Some, All, refl, sym, ap, ap₂, subst, ◌∙◌, arith, inl, inr}
+use Rattle.std.proofs.Common.{◌≡◌, ◌⊎◌, ℕ, zero, suc, ◌+◌, ◌^◌, ◌<◌, ◌≤◌, true, IsTrue, List, [], ◌∷◌, length, Option, None, Some, All, refl, sym, ap, subst, ◌∙◌, arith, inl, inr}
 use Rattle.std.specs.Prelude.{Result, Ok, Err}
 use Rattle.std.specs.List.{list_all}
 use Rattle.std.proofs.lemmas.Bool.{and_parts}
 use Rattle.std.proofs.lemmas.List.Elements.{All-append, All-cons}
 use Rattle.vm_store.specs.Facts.{StoreFacts, Torn, Counts}
-use Rattle.geos_model.specs.Document.{Block, Document}
-use Rattle.geos_model.specs.File.{directory_of, directory_in, is_entry, bytes_in}
+use Rattle.geos_model.specs.Document.{Block}
+use Rattle.geos_model.specs.File.{is_entry, bytes_in}
 use Rattle.geos_model.specs.declared.fault.Fault.{Fault}
-use Rattle.geos_model.specs.declared.file.Extent.{Extent}
-use Rattle.geos_model.specs.declared.file.Entry.{Entry}
 use Rattle.geos_model.proofs.Files.{is_entry-parts, is_directory-parts, directory_in-some}
 use Rattle.geos_model.proofs.FileDocuments.{directory_of-some, directory_of-kept, is_in_file-parts}
 use Rattle.geos_model.proofs.Table.{table_map}
-use Rattle.vm_file.specs.Ranges.{IsPlaced, SameIn, Keeps, start_of, end_of}
+use Rattle.vm_file.specs.Ranges.{IsPlaced, SameIn, Keeps, end_of}
 use Rattle.vm_file.specs.Slots.{turned, Failed, Outcome, Leaves, Outlives, AreKept, block_extents, stored_extents, pair_extents, held_extents, kept_extents}
-use Rattle.vm_file.specs.Documents.{Documents, blocks_in, document_in, documents_in, attempted_in, entries_of, directory_of_table, AreImaged, IsStored, AreStored, IsHeldStored}
-use Rattle.vm_file.specs.Disk.{Disk, readable, StandsForOne, Crash, Attempts, Commits}
-use Rattle.vm_file.specs.Sound.{AreTables, IsHeldFormed, IsFormed, IsWhole, IsSound, disk_of}
+use Rattle.vm_file.specs.Documents.{Documents, document_in, documents_in, attempted_in, entries_of, directory_of_table, AreImaged, IsStored, AreStored, IsHeldStored}
+use Rattle.vm_file.specs.Disk.{readable, StandsForOne, Crash, Attempts, Commits}
+use Rattle.vm_file.specs.Sound.{AreTables, IsFormed, IsWhole, IsSound, disk_of}
 use Rattle.vm_file.specs.declared.table.Place.{Place}
 use Rattle.vm_file.specs.declared.table.Table.{Table}
 use Rattle.vm_file.specs.declared.slots.Stored.{Stored}

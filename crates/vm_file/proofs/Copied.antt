@@ -1,14 +1,12 @@
 -- What holds of a table holds of a copy.
-use Rattle.std.proofs.Common.{◌≡◌, ◌⊎◌, ℕ, suc, ◌-◌, ◌≤◌, Bool, true, false, IsTrue, List, [], ◌∷◌, ◌++◌, length, get_or, Option, None, Some, is_some, All, refl, sym, ap, ap₂, subst, ◌∙◌, arith}
+use Rattle.std.proofs.Common.{◌≡◌, ◌⊎◌, ℕ, suc, ◌-◌, ◌≤◌, Bool, true, false, IsTrue, List, ◌∷◌, length, get_or, Option, None, Some, is_some, All, refl, sym, ap, ap₂, subst, ◌∙◌, arith}
 use Rattle.std.proofs.lemmas.List.Elements.{All-append}
 use Rattle.vm_store.specs.Facts.{StoreFacts}
-use Rattle.geos_model.specs.Document.{Document}
 use Rattle.geos_model.specs.File.{Directory, directory_of}
-use Rattle.geos_model.specs.declared.file.Extent.{Extent}
 use Rattle.vm_file.specs.Ranges.{IsPlaced, end_of}
 use Rattle.vm_file.specs.Slots.{block_extents, stored_extents, pair_extents, held_extents}
-use Rattle.vm_file.specs.Documents.{Documents, blocks_in, document_in, documents_in, directory_of_table, entries_of, AreImaged, IsStored, AreStored}
-use Rattle.vm_file.specs.Sound.{IsTable, AreTables, IsFormed, IsWhole, IsSound}
+use Rattle.vm_file.specs.Documents.{blocks_in, document_in, documents_in, entries_of, AreImaged, IsStored, AreStored}
+use Rattle.vm_file.specs.Sound.{IsTable, AreTables, IsSound}
 use Rattle.std.specs.Prelude.{Result, Ok, Err, OnErr}
 use Rattle.vm_file.specs.Disk.{Drifts}
 use Rattle.vm_file.specs.Copies.{IsCopy, IsStoredCopy}

@@ -17,7 +17,7 @@ use Rattle.geos_model.proofs.Arrays.{same_bytes-is}
 use Rattle.geos_model.proofs.Files.{some_if, get_or_same}
 use Rattle.geos_model.proofs.Numbers.{number_law}
 use Rattle.vm_file.specs.Ranges.{end_of}
-use Rattle.vm_file.specs.Slots.{gate_text, extent_bytes, behind_gate, pair_extents, Leads, IsUnmarked, IsOlder, IsBeside}
+use Rattle.vm_file.specs.Slots.{gate_text, extent_bytes, pair_extents, Leads, IsUnmarked, IsOlder, IsBeside}
 use Rattle.vm_file.specs.Opened.{IsFace, IsFound, Beaten}
 use Rattle.vm_file.specs.declared.reading.Face.{Face}
 use Rattle.vm_file.specs.declared.slots.Pair.{Pair}

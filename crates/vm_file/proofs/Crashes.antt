@@ -1,10 +1,10 @@
 -- The crash law.
-use Rattle.std.proofs.Common.{◌≡◌, ◌⊎◌, ℕ, ◌≤◌, IsTrue, List, [], ◌∷◌, ◌++◌, Option, Some, None, refl, sym, ap, subst, ◌∙◌, arith, inl, inr}
+use Rattle.std.proofs.Common.{◌≡◌, ℕ, IsTrue, List, [], ◌∷◌, ◌++◌, Option, Some, None, sym, subst, ◌∙◌, inl, inr}
 use Rattle.std.specs.Prelude.{Result, Ok, Err}
 use Rattle.vm_store.specs.Facts.{StoreFacts, IsTimely}
 use Rattle.geos_model.specs.declared.fault.Fault.{Fault}
 use Rattle.vm_file.specs.Documents.{Documents}
-use Rattle.vm_file.specs.Disk.{Disk, readable, StandsForOne, IsSettled, Crash, Attempts, Passes, Commits}
+use Rattle.vm_file.specs.Disk.{Disk, readable, StandsForOne, IsSettled, Crash, Commits}
 use Rattle.vm_file.specs.Crashes.{Attempt, Calls, attempts, CrashLaw}
 use Rattle.vm_file.proofs.Passing.{Crash-refl, Crash-trans, Crash-more, Crash-since, same_readable, Passes-settled}
 

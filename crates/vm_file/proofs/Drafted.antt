@@ -1,17 +1,16 @@
 -- A directory that is written where nothing lies that stays.
-use Rattle.std.proofs.Common.{◌≡◌, ◌⊎◌, ℕ, zero, suc, ◌≤◌, ◌<◌, IsTrue, List, [], ◌∷◌, ◌++◌, length, get_or, Some, All, refl, sym, ap, subst, ◌∙◌, arith, inl, inr}
+use Rattle.std.proofs.Common.{◌≡◌, ◌⊎◌, ℕ, ◌≤◌, IsTrue, List, ◌++◌, length, get_or, All, sym, ap, subst, ◌∙◌, inl, inr}
 use Rattle.std.proofs.lemmas.List.Elements.{All-cons, All-append}
 use Rattle.std.specs.List.Sorted.{IsPermutation}
 use Rattle.std.proofs.lemmas.List.Sorted.{All-permutation, IsPermutation-sym}
 use Rattle.vm_space.specs.Placing.{AreExtents, IsFirstFit}
 use Rattle.vm_file.proofs.Found.{apart_out}
 use Rattle.vm_store.specs.Facts.{StoreFacts, Torn, Holds}
-use Rattle.geos_model.specs.File.{directory_text}
 use Rattle.geos_model.specs.declared.file.Extent.{Extent}
 use Rattle.geos_model.proofs.Table.{table_map}
 use Rattle.vm_file.specs.Ranges.{IsPlaced, Keeps, start_of, end_of, IsOut, IsClear}
 use Rattle.vm_file.specs.Slots.{Leaves, Outlives, block_extents, stored_extents, pair_extents, held_extents, kept_extents}
-use Rattle.vm_file.specs.Documents.{document_in, blocks_in, documents_in, AreImaged, IsStored, AreStored}
+use Rattle.vm_file.specs.Documents.{document_in, documents_in, AreImaged, IsStored, AreStored}
 use Rattle.vm_file.specs.Disk.{Passes}
 use Rattle.vm_file.specs.Sound.{IsTable, AreTables, IsFormed, IsSound, disk_of}
 use Rattle.vm_file.specs.Copies.{IsStoredCopy}
@@ -23,7 +22,7 @@ use Rattle.vm_file.specs.declared.slots.Slots.{Slots}
 use Rattle.vm_file.proofs.Carried.{call_passes, call_sound}
 use Rattle.vm_file.proofs.Copied.{copy_formed, copy_extents, copy_stored, copy_document}
 use Rattle.vm_file.proofs.KeptBytes.{all_left, all_right, keeps_itself, torn_keeps}
-use Rattle.vm_file.proofs.Tables.{shown, blocks_same, images_same}
+use Rattle.vm_file.proofs.Tables.{blocks_same, images_same}
 use Rattle.vm_file.proofs.Written.{directory_written}
 
 pub clear_parts : (at n : ℕ) (xs ys : List Extent) → IsClear at n (xs ++ ys) → IsClear at n xs × IsClear at n ys

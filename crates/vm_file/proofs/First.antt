@@ -1,5 +1,5 @@
 -- What the making of a file leaves.
-use Rattle.std.proofs.Common.{◌≡◌, ◌≢◌, ◌⊎◌, ℕ, zero, suc, ◌+◌, ◌-◌, ◌*◌, ◌^◌, ◌<◌, ◌≤◌, true, false, Bool, IsTrue, List, [], ◌∷◌, ◌++◌, All, length, get_or, is_some, Option, None, Some, refl, sym, ap, subst, ◌∙◌, arith, inl, inr}
+use Rattle.std.proofs.Common.{◌≡◌, ◌≢◌, ◌⊎◌, ℕ, zero, suc, ◌+◌, ◌-◌, ◌*◌, ◌<◌, ◌≤◌, true, Bool, IsTrue, List, [], ◌∷◌, ◌++◌, All, length, get_or, is_some, Option, None, Some, refl, sym, ap, subst, ◌∙◌, arith, inl, inr}
 use Rattle.std.specs.Prelude.{if◌then◌else◌, Result, Ok, Err, OnOk, IfSome, replicate}
 use Rattle.std.specs.FinMap.{from_entries}
 use Rattle.std.proofs.lemmas.List.{append-nil, length-replicate}
@@ -11,7 +11,7 @@ use Rattle.geos_model.proofs.Table.{table_entries, table_map}
 use Rattle.geos_model.specs.File.{directory_of, directory_text}
 use Rattle.geos_model.specs.declared.file.Extent.{Extent}
 use Rattle.vm_file.specs.Ranges.{IsPlaced, start_of, end_of, Keeps, IsOut, IsClear}
-use Rattle.vm_file.specs.Slots.{mark, gate_text, behind_gate, block_extents, stored_extents, pair_extents, held_extents, IsBeside, Leads, Outcome}
+use Rattle.vm_file.specs.Slots.{mark, gate_text, block_extents, stored_extents, pair_extents, held_extents, IsBeside, Leads, Outcome}
 use Rattle.vm_file.specs.Documents.{blocks_in, document_in, attempted_in, entries_of, directory_of_table, IsImaged, AreImaged, IsStored, IsHeldStored}
 use Rattle.vm_file.specs.Sound.{IsTable, IsHeldFormed, IsFormed, IsWhole, IsSound}
 use Rattle.vm_file.specs.Making.{first_slot, IsLaid, IsLiveStored, IsFirst, IsFounding, IsOne}

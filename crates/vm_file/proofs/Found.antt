@@ -1,12 +1,12 @@
 -- Extents that are found for images, one by one.
-use Rattle.std.proofs.Common.{◌≡◌, ◌⊎◌, ℕ, ◌+◌, ◌*◌, ◌/◌, ◌%◌, ◌<◌, ◌≤◌, List, [], ◌∷◌, ◌++◌, All, Option, None, Some, take, length, get_or, refl, sym, ap, subst, ◌∙◌, arith, inl, inr, length-append}
+use Rattle.std.proofs.Common.{◌≡◌, ℕ, ◌+◌, ◌*◌, ◌%◌, ◌<◌, ◌≤◌, List, [], ◌∷◌, ◌++◌, All, Option, None, Some, take, length, get_or, refl, sym, ap, subst, ◌∙◌, arith, inl, inr, length-append}
 use Rattle.std.proofs.lemmas.Bool.{cases_eq}
 use Rattle.std.proofs.Math.Nat.{div-add-mod, mod-lt}
 use Rattle.std.proofs.lemmas.List.{append_assoc, append-nil, take_more, get_or_append_left}
 use Rattle.std.proofs.lemmas.List.Elements.{All-nil, All-cons, All-head, All-tail, All-append}
-use Rattle.geos_model.specs.File.{pages_of, end_page, last_page}
+use Rattle.geos_model.specs.File.{pages_of}
 use Rattle.geos_model.specs.declared.file.Extent.{Extent}
-use Rattle.vm_space.specs.Placing.{IsApart, IsFree, IsFirstFit}
+use Rattle.vm_space.specs.Placing.{IsApart, IsFirstFit}
 use Rattle.vm_space.specs.Space.{Space, IsLeft}
 use Rattle.vm_file.specs.Ranges.{start_of, end_of, IsPlaced, IsOut, IsClear}
 use Rattle.vm_file.specs.Slots.{block_extents}

@@ -1,17 +1,16 @@
 -- A file whose live table, or whose store, is another one.
-use Rattle.std.proofs.Common.{◌≡◌, ◌⊎◌, ℕ, ◌+◌, ◌-◌, ◌*◌, ◌<◌, ◌≤◌, true, IsTrue, List, All, set, length, Option, None, Some, is_some, refl, sym, ap, subst, ◌∙◌, arith, inl, inr, length-set}
-use Rattle.std.specs.Prelude.{IfSome}
+use Rattle.std.proofs.Common.{◌≡◌, ◌⊎◌, ℕ, ◌-◌, ◌≤◌, true, IsTrue, List, All, set, length, Some, is_some, sym, ap, subst, ◌∙◌, arith, inl, inr, length-set}
 use Rattle.vm_store.specs.Facts.{StoreFacts}
 use Rattle.geos_model.specs.declared.file.Extent.{Extent}
 use Rattle.geos_model.proofs.Tables.{slot_at}
 use Rattle.vm_file.specs.Ranges.{IsPlaced, end_of}
 use Rattle.vm_file.specs.Slots.{block_extents}
 use Rattle.vm_file.specs.Documents.{IsImaged, AreImaged}
-use Rattle.vm_file.specs.Sound.{IsTable, IsFormed, IsWhole, IsSound}
+use Rattle.vm_file.specs.Sound.{IsTable, IsSound}
 use Rattle.vm_file.specs.declared.table.Place.{Place}
 use Rattle.vm_file.specs.declared.table.Table.{Table}
 use Rattle.vm_file.specs.declared.slots.Slots.{Slots}
-use Rattle.vm_file.proofs.Tables.{EachPlace, Lies, each_at, each_set, extents_of, places_of, full_set}
+use Rattle.vm_file.proofs.Tables.{Lies, each_at, each_set, extents_of, places_of, full_set}
 
 -- what is known of the extent of a place
 abbrev pub EndsIn : List ℕ → Extent → Type 0

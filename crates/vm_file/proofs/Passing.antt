@@ -1,5 +1,5 @@
 -- The laws by which the layers above pass on what a document file promises.
-use Rattle.std.proofs.Common.{◌≡◌, ◌⊎◌, ℕ, suc, ◌≤◌, Bool, IsTrue, List, [], ◌∷◌, refl, sym, ap, subst, ◌∙◌, arith, inl, inr}
+use Rattle.std.proofs.Common.{◌≡◌, ◌⊎◌, ℕ, Bool, IsTrue, List, ◌∷◌, refl, sym, subst, ◌∙◌, arith, inl, inr}
 use Rattle.std.specs.Prelude.{◌+◌, Result, Ok, Err, OnOk, OnErr, MatchResult}
 use Rattle.vm_store.specs.Facts.{StoreFacts, IsTimely}
 use Rattle.geos_model.specs.Document.{Document}

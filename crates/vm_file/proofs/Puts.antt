@@ -1,7 +1,7 @@
 -- A file into which blocks are put, and from which others are taken.
-use Rattle.std.proofs.Common.{◌≡◌, ◌≢◌, ◌⊎◌, ℕ, ◌+◌, ◌-◌, ◌*◌, ◌<◌, ◌≤◌, ◌==◌, not, true, IsTrue, List, [], ◌∷◌, ◌++◌, All, take, drop, length, get_or, slice_index, Option, None, Some, is_some, refl, sym, ap, subst, ◌∙◌, arith, inl, inr, length-append}
+use Rattle.std.proofs.Common.{◌≡◌, ◌≢◌, ◌⊎◌, ℕ, ◌+◌, ◌-◌, ◌<◌, ◌≤◌, true, IsTrue, List, ◌++◌, All, take, drop, length, get_or, Option, Some, is_some, sym, ap, subst, ◌∙◌, arith, inl, inr, length-append}
 use Rattle.std.specs.Prelude.{Result, Ok, Err, OnErr}
-use Rattle.vm_store.specs.Facts.{StoreFacts, Holds}
+use Rattle.vm_store.specs.Facts.{StoreFacts}
 use Rattle.geos_model.specs.Document.{Document}
 use Rattle.geos_model.specs.Image.{body_of, body_read}
 use Rattle.geos_model.specs.Document.{is_heap_body}
@@ -9,8 +9,8 @@ use Rattle.geos_model.specs.File.{bytes_in}
 use Rattle.geos_model.specs.declared.file.Extent.{Extent}
 use Rattle.geos_model.specs.declared.handle.VmHandle.{VmHandle}
 use Rattle.geos_model.proofs.Tables.{slot_at}
-use Rattle.vm_file.specs.Ranges.{IsPlaced, Keeps, start_of, end_of}
-use Rattle.vm_file.specs.Slots.{block_extents, stored_extents, pair_extents, held_extents, kept_extents, Leaves, Outlives}
+use Rattle.vm_file.specs.Ranges.{IsPlaced, Keeps}
+use Rattle.vm_file.specs.Slots.{block_extents, stored_extents, pair_extents, held_extents, kept_extents, Leaves}
 use Rattle.vm_file.specs.Documents.{IsImaged, AreImaged}
 use Rattle.vm_file.specs.Calls.{IsPut, put_all, remove_all}
 use Rattle.vm_file.specs.Disk.{Drifts, Passes}

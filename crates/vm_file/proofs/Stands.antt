@@ -1,6 +1,6 @@
 -- What a file stands for that a crash left.
-use Rattle.std.proofs.Common.{◌≡◌, ◌≢◌, ◌⊎◌, ℕ, zero, suc, ◌+◌, ◌-◌, ◌*◌, ◌^◌, ◌<◌, ◌≤◌, ◌==◌, cond, Bool, true, false, List, [], ◌∷◌, ◌++◌, take, drop, length, get_or, slice_index, Option, None, Some, All, refl, sym, ap, ap₂, subst, ◌∙◌, arith, inl, inr, length-take, length-drop, length-append, eq-eqb, ne_eqb, eqb-true}
-use Rattle.std.specs.Prelude.{if◌then◌else◌, map, Result, Ok, Err, IfSome}
+use Rattle.std.proofs.Common.{◌≡◌, ◌⊎◌, ℕ, zero, suc, ◌+◌, ◌-◌, ◌*◌, ◌^◌, ◌<◌, ◌≤◌, ◌==◌, Bool, true, false, List, [], ◌∷◌, ◌++◌, take, drop, length, get_or, slice_index, Option, None, Some, All, refl, sym, ap, ap₂, subst, ◌∙◌, arith, inl, inr, length-take, length-drop, length-append, eqb-true}
+use Rattle.std.specs.Prelude.{if◌then◌else◌, Ok, IfSome}
 use Rattle.std.specs.Option.{option_map, option_and_then}
 use Rattle.std.specs.FinMap.{from_entries}
 use Rattle.std.proofs.lemmas.Bool.{cases_Bool, cases_lt, cond-true, cond-false, eqb-false}
@@ -10,23 +10,20 @@ use Rattle.byteorder.specs.Endian.{little_bytes, little_number}
 use Rattle.byteorder.specs.Numbers.{little_number-reads_back}
 use Rattle.geos_model.specs.Words.{quad_word_at}
 use Rattle.geos_model.proofs.Arrays.{same_bytes-is}
-use Rattle.vm_store.specs.Facts.{StoreFacts, byte, Holds}
+use Rattle.vm_store.specs.Facts.{StoreFacts, byte}
 use Rattle.geos_model.specs.Bytes.{same_bytes}
-use Rattle.geos_model.specs.Document.{Block, Document}
+use Rattle.geos_model.specs.Document.{Block}
 use Rattle.geos_model.specs.Image.{body_of, body_read}
-use Rattle.geos_model.specs.File.{stands, open_slot, if_open, slot_text, slot_mark, slot_read, slot_of, counting_slot, pair_of, document_at, document_of, directory_of, blocks_of, block_of, bytes_in, prepended, Directory}
+use Rattle.geos_model.specs.File.{stands, open_slot, if_open, slot_text, slot_mark, slot_read, counting_slot, document_at, document_of, blocks_of, bytes_in, prepended}
 use Rattle.geos_model.specs.FileLaws as laws
 use Rattle.geos_model.specs.declared.file.Extent.{Extent}
-use Rattle.geos_model.specs.declared.file.Entry.{Entry}
 use Rattle.geos_model.specs.declared.file.Slot.{Slot}
-use Rattle.geos_model.specs.declared.fault.Fault.{Fault}
 use Rattle.geos_model.proofs.Table.{table_entries, table_map}
-use Rattle.geos_model.proofs.FileDocuments.{document_at-kept, directory_of-kept}
-use Rattle.geos_model.proofs.FileStands.{StandsBy, stands-from, counts-first, counts-second, counts-first_newer, counts-second_newer, open_slot-text, open_slot-shut, slot_bytes}
-use Rattle.vm_file.specs.Ranges.{IsPlaced, SameIn, Keeps, start_of, end_of}
-use Rattle.vm_file.specs.Slots as slots_are
-use Rattle.vm_file.specs.Slots.{other_of, mark, gate_text, behind_gate, Leads, IsBeside, IsUnmarked, IsOlder, Outcome, block_extents, stored_extents, pair_extents, held_extents, AreKept}
-use Rattle.vm_file.specs.Documents.{Documents, block_in, blocks_in, document_in, documents_in, attempted_in, entries_of, directory_of_table, IsImaged, AreImaged, IsStored, AreStored, IsHeldStored}
+use Rattle.geos_model.proofs.FileDocuments.{document_at-kept}
+use Rattle.geos_model.proofs.FileStands.{stands-from, counts-first, counts-second, counts-first_newer, counts-second_newer, open_slot-text, open_slot-shut, slot_bytes}
+use Rattle.vm_file.specs.Ranges.{IsPlaced, SameIn, Keeps, start_of}
+use Rattle.vm_file.specs.Slots.{mark, gate_text, behind_gate, Leads, IsBeside, IsUnmarked, IsOlder, Outcome, block_extents, stored_extents, pair_extents, held_extents, AreKept}
+use Rattle.vm_file.specs.Documents.{blocks_in, document_in, documents_in, attempted_in, entries_of, directory_of_table, IsImaged, AreImaged, IsStored, AreStored, IsHeldStored}
 use Rattle.vm_file.specs.Disk.{StandsForOne, IsSettled}
 use Rattle.vm_file.specs.Sound.{IsFormed, IsHeldFormed, IsWhole, IsSound, disk_of}
 use Rattle.vm_file.specs.declared.table.Place.{Place}

@@ -1,12 +1,12 @@
 -- Images that are written one by one.
-use Rattle.std.proofs.Common.{◌≡◌, ◌⊎◌, ℕ, ◌+◌, ◌*◌, ◌<◌, ◌≤◌, IsTrue, List, [], ◌∷◌, ◌++◌, All, length, get_or, refl, sym, ap, subst, ◌∙◌, arith, inl, inr}
+use Rattle.std.proofs.Common.{◌≡◌, ℕ, ◌+◌, ◌<◌, ◌≤◌, IsTrue, List, ◌++◌, All, length, get_or, refl, sym, subst, ◌∙◌, arith, inl, inr}
 use Rattle.std.proofs.lemmas.Bool.{cases_eq}
 use Rattle.std.proofs.lemmas.List.{get_or_default}
 use Rattle.vm_store.specs.Facts.{StoreFacts, Torn, Holds}
 use Rattle.geos_model.specs.declared.file.Extent.{Extent}
-use Rattle.vm_file.specs.Ranges.{start_of, end_of, IsPlaced, SameIn, IsOut, IsClear}
+use Rattle.vm_file.specs.Ranges.{start_of, end_of, IsOut}
 use Rattle.vm_file.specs.Slots.{Leaves, Outlives}
-use Rattle.vm_file.specs.Writing.{AreFor, IsAside, Fills, AreWritten, IsSpared}
+use Rattle.vm_file.specs.Writing.{AreFor, Fills, AreWritten, IsSpared}
 use Rattle.vm_file.specs.declared.put.PutBlock.{PutBlock}
 use Rattle.vm_file.specs.declared.slots.Slots.{Slots}
 use Rattle.vm_file.proofs.KeptBytes.{all_left, keeps_itself, torn_same, torn_holds}

@@ -1,19 +1,18 @@
 -- A table as a directory in the file.
-use Rattle.std.proofs.Common.{◌≡◌, ◌≢◌, ◌⊎◌, ℕ, zero, suc, ◌+◌, ◌-◌, ◌*◌, ◌/◌, ◌<◌, ◌≤◌, ◌==◌, nat_lt, nat_le, Bool, true, false, List, [], ◌∷◌, ◌++◌, drop, take, length, get_or, Option, None, Some, is_some, All, refl, sym, ap, ap₂, subst, ◌∙◌, arith, inl, inr, eq-eqb, lt-ltb, le-leb, length-take, length-drop}
-use Rattle.std.specs.Prelude.{IfSome, ◌&&◌, ◌||◌}
+use Rattle.std.proofs.Common.{◌≡◌, ℕ, zero, suc, ◌+◌, ◌-◌, ◌*◌, ◌<◌, ◌≤◌, ◌==◌, nat_lt, true, false, List, [], ◌∷◌, ◌++◌, drop, take, length, get_or, Option, None, Some, is_some, All, refl, sym, ap, ap₂, subst, ◌∙◌, arith, inl, inr, eq-eqb, lt-ltb, length-take, length-drop}
+use Rattle.std.specs.Prelude.{IfSome, ◌||◌}
 use Rattle.std.specs.List.{list_all, list_any}
-use Rattle.std.proofs.lemmas.Bool.{cases_Bool, and_from, cond-true}
+use Rattle.std.proofs.lemmas.Bool.{and_from, cond-true}
 use Rattle.std.proofs.lemmas.Grind.{same_number_lists}
 use Rattle.std.proofs.lemmas.List.{get_or-drop, get_or-take, get_or_past, take_more, append-nil}
 use Rattle.std.proofs.lemmas.List.Elements.{All-nil, All-cons, All-append}
-use Rattle.vm_store.specs.Facts.{byte, Holds}
-use Rattle.geos_model.specs.Document.{most_blocks}
-use Rattle.geos_model.specs.Image.{image, body_of, body_read}
-use Rattle.geos_model.specs.File.{Directory, bytes_in, directory_of, directory_in, directory_text, is_in_file, is_rising, is_entry, is_map_block, is_directory}
+use Rattle.vm_store.specs.Facts.{Holds}
+use Rattle.geos_model.specs.Image.{body_read}
+use Rattle.geos_model.specs.File.{bytes_in, directory_in, directory_text, is_in_file, is_rising, is_entry, is_map_block, is_directory}
 use Rattle.geos_model.specs.declared.file.Extent.{Extent}
 use Rattle.geos_model.specs.declared.file.Entry.{Entry}
 use Rattle.geos_model.proofs.Images.{length_image_body_le}
-use Rattle.geos_model.proofs.Files.{body_of-some, is_directory-from, directory_in-text, length-directory}
+use Rattle.geos_model.proofs.Files.{body_of-some, is_directory-from, directory_in-text}
 use Rattle.geos_model.proofs.FileDocuments.{is_in_file-from, is_entry-from}
 use Rattle.vm_file.specs.Ranges.{IsPlaced, start_of, end_of}
 use Rattle.vm_file.specs.Slots.{block_extents, stored_extents}

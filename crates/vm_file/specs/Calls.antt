@@ -1,6 +1,6 @@
 -- What the calls of a document file are given, and what they answer.
-use Rattle.std.specs.Prelude.{◌≡◌, ◌≢◌, ◌⊎◌, ℕ, Bool, true, List, [], ◌∷◌, All, is_some, IsTrue, OnErr}
-use Rattle.geos_model.specs.Document.{Block, Document, is_vm_handle, with_block, without_block}
+use Rattle.std.specs.Prelude.{◌≡◌, ◌⊎◌, ℕ, true, List, [], ◌∷◌, is_some}
+use Rattle.geos_model.specs.Document.{Document, is_vm_handle, with_block, without_block}
 use Rattle.geos_model.specs.Image.{body_of, body_read}
 use Rattle.geos_model.specs.declared.fault.Fault.{Fault}
 use Rattle.geos_model.specs.declared.fault.Fault.TheVariants.{Memory, File, Damaged, NotDocument, Worn}

@@ -1,5 +1,5 @@
 -- The documents that tables of places stand for.
-use Rattle.std.specs.Prelude.{◌≡◌, ℕ, ◌+◌, List, [], ◌∷◌, map, Bool, true, Option, None, Some, Result, Ok, Err, All, IfSome}
+use Rattle.std.specs.Prelude.{◌≡◌, ℕ, ◌+◌, List, [], ◌∷◌, map, Option, None, Some, Result, Ok, Err, All, IfSome}
 use Rattle.std.specs.Option.{option_map}
 use Rattle.geos_model.specs.Document.{Block, Document, is_heap_body}
 use Rattle.geos_model.specs.Image.{body_of, body_read}
@@ -14,7 +14,6 @@ use Rattle.vm_file.specs.declared.slots.Stored.{Stored}
 use Rattle.vm_file.specs.declared.slots.Pair.{Pair}
 use Rattle.vm_file.specs.declared.slots.Other.{Other}
 use Rattle.vm_file.specs.declared.slots.Other.TheVariants.{Shut, Stale, Held}
-use Rattle.vm_file.specs.declared.slots.Slots.{Slots}
 
 -- the updated and the saved document
 abbrev pub Documents : Type 0

@@ -1,5 +1,5 @@
 -- The making of a file.
-use Rattle.std.specs.Prelude.{◌≡◌, ◌⊎◌, ℕ, ◌+◌, ◌*◌, ◌<◌, ◌≤◌, max, Bool, false, List, [], ◌∷◌, ◌++◌, All, IfSome, Option, None, Some, length}
+use Rattle.std.specs.Prelude.{◌≡◌, ◌⊎◌, ℕ, ◌+◌, ◌*◌, ◌<◌, ◌≤◌, max, false, List, [], ◌∷◌, ◌++◌, All, IfSome, Option, None, Some, length}
 use Rattle.vm_store.specs.Facts.{byte, Holds, Puts}
 use Rattle.geos_model.specs.File.{directory_text, bytes_in, pages_of}
 use Rattle.geos_model.specs.declared.file.Extent.{Extent}

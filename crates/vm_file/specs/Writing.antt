@@ -1,5 +1,5 @@
 -- Images that are written where nothing lies that stays.
-use Rattle.std.specs.Prelude.{◌≡◌, ℕ, zero, suc, ◌*◌, ◌+◌, ◌-◌, ◌<◌, ◌≤◌, ◌==◌, not, List, [], ◌∷◌, All, Option, None, Some, length, get_or, slice_index, slice_set}
+use Rattle.std.specs.Prelude.{◌≡◌, ℕ, zero, suc, ◌-◌, ◌<◌, ◌≤◌, ◌==◌, not, List, [], ◌∷◌, All, Option, None, Some, length, get_or, slice_index, slice_set}
 use Rattle.vm_store.specs.Facts.{StoreFacts, Holds}
 use Rattle.geos_model.specs.declared.file.Extent.{Extent}
 use Rattle.vm_file.specs.Ranges.{start_of, end_of, IsPlaced, SameIn, Keeps, IsOut, IsClear}

@@ -12,6 +12,7 @@ ghost use Rattle.vm_file.specs.Calls.{IsSupply, IsOpenRefusal};
 ghost use Rattle.vm_file.specs.Documents.{documents_in, sequence_in, entries_of, IsImaged, AreImaged, IsStored, AreStored};
 ghost use Rattle.vm_file.specs.Opened.{Looks, IsReadRefusal, IsImageOf, IsDirectoryPlace, IsRead, AreRead, IsFace, IsFound, Beaten, IsReadSlots, IsReadWhole};
 
+use crate::copies::copy_table;
 use crate::slots::{Other, Pair, Slots, Stored};
 use crate::table::{Place, Table};
 use geos_model::{Entry, Extent, Fault, PAGE, Slot};
@@ -219,16 +220,6 @@ fn read_stored<S: Store>(
             map_block: directory.map_block.0,
             places,
         },
-    })
-}
-
-/// A copy of a table.
-pub fn copy_table(alloc: Global, table: &Table) -> Result<Table, AllocError>
-    ensures { IfOk result (λ copy. (copy.map_block ≡ table.now.map_block) × (copy.places.items ≡ table.now.places.items)) }
-{
-    Ok(Table {
-        map_block: table.map_block,
-        places: Vec::from_slice(alloc, &table.places)?,
     })
 }
 
@@ -456,7 +447,7 @@ fn read_slots<S: Store>(alloc: Global, store: &mut S) -> Result<Slots, Fault>
 }
 
 /// Syncs the store. File.
-fn settle<S: Store>(store: &mut S) -> Result<(), Fault>
+fn sync<S: Store>(store: &mut S) -> Result<(), Fault>
     ensures looks { Looks (S.facts store.old) (S.facts store.new) }
     ensures durable { OnOk result (IsTrue (S.facts store.new).honest → IsDurable (S.facts store.new)) }
     ensures file { IsErrOf result Fault.File → Raised (S.facts store.old) (S.facts store.new) }
@@ -482,6 +473,6 @@ pub fn open_slots<S: Store>(alloc: Global, store: &mut S) -> Result<(Slots, Tabl
 {
     let slots = read_slots(alloc, store)?;
     let live = copy_table(alloc, &slots.committed.updated.table)?;
-    settle(store)?;
+    sync(store)?;
     Ok((slots, live))
 }

@@ -1,4 +1,4 @@
-use Rattle.std.proofs.Common.{◌≡◌, IsTrue, sym, ap, subst, ◌∙◌}
+use Rattle.std.proofs.Common.{IsTrue, sym, ap, subst, ◌∙◌}
 use Rattle.vm_file.specs.Making.{laid_out, IsLaid}
 use Rattle.vm_file.specs.Documents.{blocks_in}
 use Rattle.vm_file.proofs.First.{AreLying, first_sound, keeps}

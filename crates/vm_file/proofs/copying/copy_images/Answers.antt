@@ -1,4 +1,4 @@
-use Rattle.std.proofs.Common.{◌≡◌, ◌≤◌, ◌+◌, ◌∷◌, ◌++◌, [], None, get_or, take, length, ◌<◌, IsTrue, sym, ap, subst, ◌∙◌, arith}
+use Rattle.std.proofs.Common.{None, get_or, take, length, ◌<◌, IsTrue, sym, subst, ◌∙◌, arith}
 use Rattle.std.proofs.lemmas.List.{take_more}
 use Rattle.vm_file.specs.Making.{AreCopied, IsCopied}
 use Rattle.vm_file.proofs.LaidOut.{behind_more, one_placed, pages_few, copied_more, copied_as}

@@ -1,6 +1,6 @@
-use Rattle.std.proofs.Common.{◌≡◌, ◌+◌, ◌∷◌, ◌++◌, [], None, get_or, take, length, ◌<◌, sym, ap, ◌∙◌, arith}
+use Rattle.std.proofs.Common.{◌∷◌, ◌++◌, [], None, get_or, take, length, ◌<◌, sym, ap, ◌∙◌, arith}
 use Rattle.std.proofs.lemmas.List.{take_more}
-use Rattle.vm_file.specs.Making.{laid_out, moved_to, page_behind}
+use Rattle.vm_file.specs.Making.{laid_out, moved_to}
 use Rattle.vm_file.proofs.LaidOut.{behind_more, laid_out-more}
 use Rattle.vm_file.proofs.copying.place_anew.Goals as goal
 

@@ -1,7 +1,7 @@
-use Rattle.std.proofs.Common.{◌≡◌, length, ap, sym, subst, ◌∙◌, ◌<◌, All, arith}
+use Rattle.std.proofs.Common.{length, ap, sym, subst, ◌∙◌, ◌<◌, All, arith}
 use Rattle.geos_model.specs.File.{directory_text}
 use Rattle.geos_model.proofs.Files.{length-directory}
-use Rattle.vm_file.specs.Making.{laid_out, page_behind, IsFounding}
+use Rattle.vm_file.specs.Making.{laid_out, page_behind}
 use Rattle.vm_file.specs.Documents.{entries_of}
 use Rattle.vm_file.proofs.Written.{entries_few}
 use Rattle.vm_file.proofs.LaidOut.{length-laid_out, plan_founding}

@@ -1,4 +1,4 @@
-use Rattle.std.proofs.Common.{◌≡◌, IsTrue, sym, ap, subst}
+use Rattle.std.proofs.Common.{IsTrue, subst}
 use Rattle.std.proofs.lemmas.Result.{err_from_is_err_and}
 use Rattle.vm_file.proofs.Drafted.{both_placed, both_stored, both_documents}
 use Rattle.vm_file.proofs.Passing.{Passes-fails, Passes-Commits}

@@ -1,4 +1,3 @@
-use Rattle.vm_file.proofs.Copied.{sound_saved, pair_stored}
 use Rattle.vm_file.proofs.Crashes as crashes
 use Rattle.vm_file.proofs.law.crash_law.Goals as goal
 

@@ -1,4 +1,4 @@
-use Rattle.std.proofs.Common.{[], ◌≡◌, IsTrue, refl, sym, subst}
+use Rattle.std.proofs.Common.{[], IsTrue, refl, sym, subst}
 use Rattle.geos_model.specs.File.{directory_text}
 use Rattle.vm_file.specs.Making.{IsLaid}
 use Rattle.vm_file.specs.Sound.{IsSound}

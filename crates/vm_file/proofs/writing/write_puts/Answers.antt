@@ -1,9 +1,9 @@
-use Rattle.std.proofs.Common.{◌≡◌, ◌+◌, ◌≤◌, ◌++◌, All, length, sym, ap, subst, ◌∙◌, arith}
+use Rattle.std.proofs.Common.{◌++◌, All, length, sym, ap, subst, arith}
 use Rattle.std.proofs.lemmas.List.Elements.{All-append}
 use Rattle.std.proofs.lemmas.List.Sorted.{All-permutation, IsPermutation-sym}
 use Rattle.vm_file.specs.Ranges.{IsPlaced}
 use Rattle.vm_file.specs.Slots.{block_extents, kept_extents}
-use Rattle.vm_file.specs.Writing.{AreFor, Fills, IsSpared}
+use Rattle.vm_file.specs.Writing.{AreFor, Fills}
 use Rattle.vm_file.proofs.KeptBytes.{all_right}
 use Rattle.vm_file.proofs.Writes.{for_fewer, spared_by}
 use Rattle.vm_file.proofs.writing.write_puts.Goals as goal

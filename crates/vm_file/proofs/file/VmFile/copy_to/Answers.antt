@@ -1,4 +1,4 @@
-use Rattle.std.proofs.Common.{◌≡◌, false, IsTrue, refl, sym, ap, subst, ◌∙◌}
+use Rattle.std.proofs.Common.{false, refl, sym, ap, subst}
 use Rattle.vm_file.specs.Documents.{blocks_in, document_in}
 use Rattle.std.specs.Prelude.{IfOk}
 use Rattle.vm_file.specs.Disk.{Passes, Drifts, IsSettled}

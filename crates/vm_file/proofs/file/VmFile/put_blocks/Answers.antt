@@ -1,11 +1,11 @@
-use Rattle.std.proofs.Common.{◌≡◌, ◌≢◌, ◌++◌, ◌+◌, ◌≤◌, IsTrue, [], All, length, refl, sym, ap, ap₂, subst, ◌∙◌, arith}
+use Rattle.std.proofs.Common.{◌≡◌, ◌≢◌, ◌++◌, All, length, refl, sym, ap, ap₂, subst, ◌∙◌, arith}
 use Rattle.std.specs.Vec.{with_items}
 use Rattle.vm_file.specs.Calls.{put_all, remove_all}
 use Rattle.vm_file.specs.Disk.{Drifts, Passes}
 use Rattle.vm_file.specs.Documents.{document_in}
 use Rattle.vm_file.specs.Slots.{block_extents, kept_extents}
 use Rattle.vm_file.specs.Sound.{disk_of}
-use Rattle.vm_file.specs.Writing.{AreFor, AreWritten, IsSpared, with_places, without_places}
+use Rattle.vm_file.specs.Writing.{IsSpared, with_places, without_places}
 use Rattle.vm_file.specs.declared.table.Table.{Table}
 use Rattle.vm_file.proofs.Filled.{shown_without_all}
 use Rattle.vm_file.proofs.Tables.{shown}
