@@ -109,13 +109,12 @@ pub fn plan_set_user_id(
 ) -> Result<(Change, Done), Fault>
     ensures { MatchResult result (λ p. Plans (edits.SetUserId handle user_id) blocks.now p.0 p.1) (Refuses (edits.SetUserId handle user_id) blocks.now) }
 {
-    let old = match blocks.block(handle) {
-        Some(block) => block.user_id,
-        None => return Err(Fault::NoBlock),
-    };
+    if !blocks.is_live(handle) {
+        return Err(Fault::NoBlock);
+    }
     let change = Change::UserId {
         handle,
-        old,
+        old: blocks.user_id(handle),
         new: user_id,
     };
     Ok((change, Done::Nothing))
@@ -125,7 +124,7 @@ pub fn plan_set_user_id(
 pub fn plan_set_map(blocks: &Blocks, handle: VmHandle) -> Result<(Change, Done), Fault>
     ensures { MatchResult result (λ p. Plans (edits.SetMap handle) blocks.now p.0 p.1) (Refuses (edits.SetMap handle) blocks.now) }
 {
-    if handle.0 != 0 && blocks.block(handle).is_none() {
+    if handle.0 != 0 && !blocks.is_live(handle) {
         return Err(Fault::NoBlock);
     }
     let old = blocks.map_block();
