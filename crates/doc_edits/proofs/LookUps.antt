@@ -111,9 +111,9 @@ pub name_answered : (d : Document) (b : VmHandle) (c : ChunkHandle) (text slice 
 name_answered d b c text slice bytes (Ok token) same found answered =
     subst (λ (name : List ℕ). LooksUp (commands.NameFind b c name) d (TokenIs token.0)) same
     (look_up_answered (commands.NameFind b c slice) d (TokenIs token.0) (past d b c bytes (λ x. find_conditions x slice) found ∙ answered.accepted)
-        (ap (λ (x : List ℕ). option_map TokenIs (token_of_text (names_in x) slice)) (sym found.value)
-        ∙ token_answered (token_of_text (names_in bytes) slice) (or_none (none_applies (find_conditions bytes slice) answered.accepted NoName refl)).0
-        ∙ ap (λ (n : ℕ). Some (TokenIs n)) (sym answered.same)))
+    (ap (λ (x : List ℕ). option_map TokenIs (token_of_text (names_in x) slice)) (sym found.value)
+    ∙ token_answered (token_of_text (names_in bytes) slice) (or_none (none_applies (find_conditions bytes slice) answered.accepted NoName refl)).0
+    ∙ ap (λ (n : ℕ). Some (TokenIs n)) (sym answered.same)))
 name_answered d b c text slice bytes (Err fault) same found refused =
     subst (λ (name : List ℕ). LooksUp (commands.NameFind b c name) d (Refused fault)) same
     (look_up_refused (commands.NameFind b c slice) d fault (past d b c bytes (λ x. find_conditions x slice) found ∙ refused))
