@@ -6,6 +6,10 @@ pub mod HeapEdits
 pub mod ChunkLengths
 pub mod Numbers
 pub mod Images
+pub mod Files
+pub mod FileDocuments
+pub mod FileStands
+mod FileExamples
 pub mod Arrays
 pub mod FreeLists
 pub mod ElementArrays

@@ -1,10 +1,12 @@
 -- A body as the bytes that a file keeps.
-use Rattle.std.specs.Prelude.{ℕ, List, [], ◌∷◌, ◌++◌, ◌+◌, ◌*◌, ◌==◌, length, map, take, drop, slice_index, if◌then◌else◌}
+use Rattle.std.specs.Prelude.{ℕ, List, [], ◌∷◌, ◌++◌, ◌+◌, ◌*◌, ◌==◌, ◌&&◌, length, map, take, drop, slice_index, if◌then◌else◌, Option, Some, None}
 use Rattle.std.specs.List.{range_with_len, flat_map}
 use Rattle.std.specs.Option.{option_map_or}
 use Rattle.std.specs.FinMap.{get, keys, values, from_entries}
+use Rattle.geos_model.specs.Bytes.{same_bytes}
 use Rattle.geos_model.specs.Words.{word, word_at}
 use Rattle.geos_model.specs.Heap.{ChunkMap, table_len, handle_of}
+use Rattle.geos_model.specs.Document.{is_valid_body}
 use Rattle.geos_model.specs.declared.command.Body.{Body}
 use Rattle.geos_model.specs.declared.command.Body.TheVariants.{Raw, Heap}
 
@@ -42,3 +44,7 @@ body_read bytes =
     else
     let t = word_at bytes 1 in
     Heap (from_entries (chunks_read (handle_of 0) (map (λ i. word_at bytes (3 + 2 * i)) (range_with_len 0 t)) (drop (3 + 2 * t) bytes)))
+
+-- the body whose image these bytes are, if they are the image of a body that can be
+unfoldable pub body_of : List ℕ → Option Body
+body_of bytes = let body = body_read bytes in if is_valid_body body && same_bytes (image body) bytes then Some body else None

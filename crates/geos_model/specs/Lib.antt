@@ -11,6 +11,8 @@ pub mod Heap
 pub mod Document
 pub mod Meaning
 pub mod Image
+pub mod File
+pub mod FileLaws
 pub mod Cost
 pub mod Reply
 pub mod Machine

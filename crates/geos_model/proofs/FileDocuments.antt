@@ -1,0 +1,197 @@
+-- The document in an extent is valid, and rests on the bytes of its extents.
+use Rattle.std.proofs.Common.{◌≡◌, ℕ, zero, suc, ◌+◌, ◌*◌, ◌/◌, ◌<◌, ◌≤◌, true, ◌&&◌, List, [], ◌∷◌, length, drop, get_or, Option, Some, None, is_some, All, ◌==◌, nat_lt, nat_le, refl, sym, ap, ap₂, subst, ◌∙◌, arith, inl, inr, length-take, length-drop, ltb-true, leb-true, le-leb, ne_eqb}
+use Rattle.std.proofs.lemmas.Bool.{cases_Bool, cases_eq, and_parts, and_from, cond-true, cond-false}
+use Rattle.std.proofs.lemmas.Grind.{same_number_lists}
+use Rattle.std.proofs.lemmas.List.{get_or-take, get_or-drop}
+use Rattle.std.proofs.lemmas.List.Sums.{list_all-from_AllPass}
+use Rattle.std.specs.List.{list_all, list_any}
+use Rattle.std.specs.Option.{option_and_then, option_map}
+use Rattle.std.specs.Ordering.{nat_cmp}
+use Rattle.std.specs.FinMap.{FinMap, get, get-empty, insert, from_entries}
+use Rattle.geos_model.specs.Document.{Block, Document, is_vm_handle, IsValidBlock, IsValid}
+use Rattle.geos_model.specs.Image.{body_of}
+use Rattle.geos_model.specs.File.{Directory, bytes_in, is_in_file, directory_text, is_rising, is_entry, is_directory, directory_in, directory_of, prepended, block_of, blocks_of, document_of, document_at}
+use Rattle.geos_model.specs.FileLaws.{Keeps}
+use Rattle.geos_model.specs.declared.command.Body.{Body}
+use Rattle.geos_model.specs.declared.file.Extent.{Extent}
+use Rattle.geos_model.specs.declared.file.Entry.{Entry}
+use Rattle.geos_model.proofs.HeapEdits.{get-put_same, get-put_other}
+use Rattle.geos_model.proofs.Files.{no_entry, or_later, listed, get_or_same, body_of-some, each_entry, IsEntry, is_entry-parts, is_directory-parts, is_directory-from, directory_in-some, directory_in-text}
+
+abbrev pub Numbered : Type 0
+Numbered = ℕ × Block
+
+-- Blocks of entries.
+
+-- what a list of blocks begins with
+pub record Begins (first : Option Numbered) (others : Option (List Numbered)) (blocks : List Numbered) : Type 0 where
+  pub block : Numbered
+  pub rest : List Numbered
+  pub first_is : first ≡ Some block
+  pub others_are : others ≡ Some rest
+  pub all : block ∷ rest ≡ blocks
+
+prepended-some : (first : Option Numbered) (others : Option (List Numbered)) (blocks : List Numbered) → prepended first others ≡ Some blocks → Begins first others blocks
+prepended-some None others blocks e = absurd (cc e)
+prepended-some (Some b) None blocks e = absurd (cc e)
+prepended-some (Some b) (Some bs) blocks e = record { block = b; rest = bs; first_is = refl; others_are = refl; all = cc e }
+
+body_there : (h u : ℕ) (o : Option Body) (b : Numbered) → option_map (λ body. let made : Numbered = (h, record { user_id = u; body = body }) in made) o ≡ Some b → (body : Body) × ((o ≡ Some body) × (b ≡ (let made : Numbered = (h, record { user_id = u; body = body }) in made)))
+body_there h u None b e = absurd (cc e)
+body_there h u (Some body) b e = (body, (refl, cc e))
+
+-- the block that an entry has is valid
+block_valid : (file : List ℕ) (e : Entry) (b : Numbered) → block_of file e ≡ Some b → 1 ≤ e.handle.0 → e.handle.0 ≤ 2048 → e.user_id < 65536 → (b.0 ≡ e.handle.0) × IsValidBlock e.handle.0 b.1
+block_valid file e b is some low user =
+    let body = body_there e.handle.0 e.user_id (body_of (bytes_in file e.extent)) b is in
+    let good = (body_of-some (bytes_in file e.extent) body.0 body.1.0).0 in
+    let handle : is_vm_handle e.handle.0 ≡ true = and_from (nat_le 1 e.handle.0) (nat_le e.handle.0 2048) (le-leb 1 e.handle.0 some) (le-leb e.handle.0 2048 low) in
+    subst (λ (x : Numbered). (x.0 ≡ e.handle.0) × IsValidBlock e.handle.0 x.1) (sym body.1.1) (refl, record { handle = handle; user_id = user; body = good })
+
+-- each of these blocks is valid, under its entry's handle, and each entry has one
+pub record AreBlocks (entries : List Entry) (blocks : List Numbered) : Type 0 where
+  pub valid : (q : ℕ) (c : Block) → get (from_entries {R = nat_cmp} blocks) q ≡ Some c → IsValidBlock q c
+  pub live : (k : ℕ) → k < length entries → is_some (get (from_entries {R = nat_cmp} blocks) (get_or entries k no_entry).handle.0) ≡ true
+
+under : (m : FinMap nat_cmp Block) (h q : ℕ) (b : Block) → is_some (get m q) ≡ true → is_some (get (insert m h b) q) ≡ true
+under m h q b there = elim (cases_eq q h) [
+  | inl same ↦ ap is_some (get-put_same m h b q same)
+  | inr other ↦ ap is_some (get-put_other m h b q other) ∙ there
+]
+
+live_at : (m : FinMap nat_cmp Block) (b : Numbered) (e : Entry) (es : List Entry) → b.0 ≡ e.handle.0 → ((k : ℕ) → k < length es → is_some (get m (get_or es k no_entry).handle.0) ≡ true)
+    → (k : ℕ) → k < length (e ∷ es) → is_some (get (insert m b.0 b.1) (get_or (e ∷ es) k no_entry).handle.0) ≡ true
+live_at m b e es same rest zero l = ap is_some (get-put_same m b.0 b.1 e.handle.0 (sym same))
+live_at m b e es same rest (suc k) l = under m b.0 (get_or es k no_entry).handle.0 b.1 (rest k (omega (arith, l)))
+
+blocks_are : (n : ℕ) (file : List ℕ) (last : ℕ) (es : List Entry) (blocks : List Numbered) → blocks_of file es ≡ Some blocks → is_rising last es ≡ true → list_all (is_entry n) es ≡ true → All (λ e. e.user_id < 65536) es → AreBlocks es blocks
+blocks_are n file last [] blocks is rising all users =
+    let none : [] ≡ blocks = cc is in
+    subst (λ (bs : List Numbered). AreBlocks [] bs) none (record { valid = λ q c there. absurd (cc (sym (get-empty nat_cmp q) ∙ there)); live = λ k l. absurd (omega (arith, l)) })
+blocks_are n file last (e ∷ es) blocks is rising all users =
+    let begins = prepended-some (block_of file e) (blocks_of file es) blocks is in
+    let up = and_parts (nat_lt last e.handle.0) (is_rising e.handle.0 es) rising in
+    let each = and_parts (is_entry n e) (list_all (is_entry n) es) all in
+    let above : last < e.handle.0 = ltb-true last e.handle.0 up.0 in
+    let here = block_valid file e begins.block begins.first_is (omega (arith, above)) (is_entry-parts n e each.0).handle (users 0 e (omega arith)) in
+    let rest = blocks_are n file e.handle.0 es begins.rest begins.others_are up.1 each.1 (λ k d l. users (suc k) d (omega (arith, l))) in
+    let m : FinMap nat_cmp Block = from_entries begins.rest in
+    subst (λ (bs : List Numbered). AreBlocks (e ∷ es) bs) begins.all (record {
+      valid = λ q c there. elim (cases_eq q begins.block.0) [
+        | inl same ↦
+            let some : Some begins.block.1 ≡ Some c = sym (get-put_same m begins.block.0 begins.block.1 q same) ∙ there in
+            let is : begins.block.1 ≡ c = cc some in
+            subst (λ h. IsValidBlock h c) (sym (same ∙ here.0)) (subst (λ x. IsValidBlock e.handle.0 x) is here.1)
+        | inr other ↦ rest.valid q c (sym (get-put_other m begins.block.0 begins.block.1 q other) ∙ there)
+      ];
+      live = λ k l. live_at m begins.block e es here.0 rest.live k l;
+    })
+
+document_there : (d : Directory) (o : Option (List Numbered)) (result : Document) → option_map (λ blocks. let made : Document = record { blocks = from_entries blocks; map_block = d.map_block } in made) o ≡ Some result
+    → (blocks : List Numbered) × ((o ≡ Some blocks) × ((let made : Document = record { blocks = from_entries blocks; map_block = d.map_block } in made) ≡ result))
+document_there d None result e = absurd (cc e)
+document_there d (Some blocks) result e = (blocks, (refl, cc e))
+
+directory_there : (file : List ℕ) (o : Option Directory) (result : Document) → option_and_then (document_of file) o ≡ Some result → (d : Directory) × ((o ≡ Some d) × (document_of file d ≡ Some result))
+directory_there file None result e = absurd (cc e)
+directory_there file (Some d) result e = (d, (refl, e))
+
+pub directory_of-some : (file : List ℕ) (e : Extent) (d : Directory) → directory_of file e ≡ Some d → (is_in_file (length file) e ≡ true) × (directory_in (length file) (bytes_in file e) ≡ Some d)
+directory_of-some file e d is = elim (cases_Bool (is_in_file (length file) e)) [
+  | inl inside ↦ (inside, sym (cond-true _ _ _ inside) ∙ is)
+  | inr outside ↦ (let none : None ≡ Some d = sym (cond-false _ _ _ outside) ∙ is in absurd (cc none))
+]
+
+pub document_at-valid : (file : List ℕ) (e : Extent) (document : Document) → document_at file e ≡ Some document → IsValid document
+document_at-valid file e document is =
+    let found = directory_there file (directory_of file e) document is in
+    let d : Directory = found.0 in
+    let stands = directory_in-some (length file) (bytes_in file e) d (directory_of-some file e d found.1.0).1 in
+    let parts = is_directory-parts (length file) d stands.0 in
+    let made = document_there d (blocks_of file d.entries) document found.1.1 in
+    let are = blocks_are (length file) file 0 d.entries made.0 made.1.0 parts.rising parts.entries (λ k x l. (stands.2.entries k x l).user_id) in
+    subst IsValid made.1.1 (record {
+      blocks = are.valid;
+      map_block = λ some.
+          let there = or_later (d.map_block == 0) (list_any (λ x. x.handle.0 == d.map_block) d.entries) parts.map_block (ne_eqb d.map_block 0 some) in
+          let at = listed d.map_block d.entries there in
+          subst (λ h. is_some (get (from_entries {R = nat_cmp} made.0) h) ≡ true) at.1.1 (are.live at.0 at.1.0);
+    })
+
+-- What stays.
+
+pub bytes_in-keeps : (old new : List ℕ) (e : Extent) → Keeps old new e → 512 * e.page + e.length ≤ length old → bytes_in new e ≡ bytes_in old e
+bytes_in-keeps old new e keeps inside =
+    let at : ℕ = 512 * e.page in
+    let long_new : length (bytes_in new e) ≡ e.length = omega (arith, length-take e.length (drop at new), length-drop at new, keeps.within) in
+    let long_old : length (bytes_in old e) ≡ e.length = omega (arith, length-take e.length (drop at old), length-drop at old, inside) in
+    same_number_lists (bytes_in new e) (bytes_in old e) (long_new ∙ sym long_old) (λ k l.
+    let below : k < e.length = omega (arith, l, long_new) in
+    get_or-take e.length (drop at new) k 0 below ∙ get_or-drop at new k 0 ∙ keeps.bytes (at + k) (omega arith) (omega (arith, below))
+    ∙ sym (get_or-take e.length (drop at old) k 0 below ∙ get_or-drop at old k 0))
+
+-- behind the slots and in reach, in a file that has its bytes
+pub is_in_file-from : (n : ℕ) (e : Extent) → 2 ≤ e.page → 512 * e.page + e.length ≤ n → e.page + (e.length + 511) / 512 ≤ 4194304 → is_in_file n e ≡ true
+is_in_file-from n e behind within reach =
+    and_from (nat_le 2 e.page && nat_le (512 * e.page + e.length) n) (nat_le (e.page + (e.length + 511) / 512) 4194304)
+    (and_from (nat_le 2 e.page) (nat_le (512 * e.page + e.length) n) (le-leb 2 e.page behind) (le-leb (512 * e.page + e.length) n within)) (le-leb (e.page + (e.length + 511) / 512) 4194304 reach)
+
+-- Of an extent in a file of n bytes.
+pub record IsInFile (n : ℕ) (e : Extent) : Type 0 where
+  pub behind_slots : 2 ≤ e.page
+  pub within : 512 * e.page + e.length ≤ n
+  pub in_reach : e.page + (e.length + 511) / 512 ≤ 4194304
+
+pub is_in_file-parts : (n : ℕ) (e : Extent) → is_in_file n e ≡ true → IsInFile n e
+is_in_file-parts n e h =
+    let parts = and_parts (nat_le 2 e.page && nat_le (512 * e.page + e.length) n) (nat_le (e.page + (e.length + 511) / 512) 4194304) h in
+    let first = and_parts (nat_le 2 e.page) (nat_le (512 * e.page + e.length) n) parts.0 in
+    record { behind_slots = leb-true 2 e.page first.0; within = leb-true (512 * e.page + e.length) n first.1; in_reach = leb-true (e.page + (e.length + 511) / 512) 4194304 parts.1 }
+
+pub is_entry-from : (n : ℕ) (e : Entry) → IsEntry n e → is_entry n e ≡ true
+is_entry-from n e is =
+    and_from (nat_le e.handle.0 2048 && nat_le 1 e.extent.length && nat_le e.extent.length 65521) (is_in_file n e.extent)
+    (and_from (nat_le e.handle.0 2048 && nat_le 1 e.extent.length) (nat_le e.extent.length 65521) (and_from (nat_le e.handle.0 2048) (nat_le 1 e.extent.length) (le-leb e.handle.0 2048 is.handle) (le-leb 1 e.extent.length is.some)) (le-leb e.extent.length 65521 is.short))
+    (is_in_file-from n e.extent is.behind_slots is.within is.in_reach)
+
+-- an entry stays one in a file that has its bytes
+is_entry-kept : (n m : ℕ) (e : Entry) → is_entry n e ≡ true → 512 * e.extent.page + e.extent.length ≤ m → is_entry m e ≡ true
+is_entry-kept n m e is within =
+    let parts = is_entry-parts n e is in
+    is_entry-from m e (record { handle = parts.handle; some = parts.some; short = parts.short; behind_slots = parts.behind_slots; within = within; in_reach = parts.in_reach })
+
+directory-kept : (n m : ℕ) (d : Directory) → is_directory n d ≡ true → All (λ e. 512 * e.extent.page + e.extent.length ≤ m) d.entries → is_directory m d ≡ true
+directory-kept n m d is within =
+    let parts = is_directory-parts n d is in
+    is_directory-from m d (record {
+      rising = parts.rising;
+      entries = list_all-from_AllPass (is_entry m) d.entries (λ k x l.
+          subst (λ e. is_entry m e ≡ true) (get_or_same d.entries k no_entry x l) (is_entry-kept n m (get_or d.entries k no_entry) (each_entry n d.entries parts.entries k l) (within k no_entry l)));
+      map_block = parts.map_block;
+    })
+
+blocks_of-kept : (n : ℕ) (old new : List ℕ) (es : List Entry) → n ≤ length old → list_all (is_entry n) es ≡ true → All (λ e. Keeps old new e.extent) es → blocks_of new es ≡ blocks_of old es
+blocks_of-kept n old new [] l all keeps = refl
+blocks_of-kept n old new (e ∷ es) l all keeps =
+    let each = and_parts (is_entry n e) (list_all (is_entry n) es) all in
+    let inside = (is_entry-parts n e each.0).within in
+    let first : block_of new e ≡ block_of old e = ap (λ (bytes : List ℕ). option_map (λ body. let made : Numbered = (e.handle.0, record { user_id = e.user_id; body = body }) in made) (body_of bytes)) (bytes_in-keeps old new e.extent (keeps 0 e (omega arith)) (omega (arith, inside, l))) in
+    ap₂ prepended first (blocks_of-kept n old new es l each.1 (λ k d below. keeps (suc k) d (omega (arith, below))))
+
+pub directory_of-kept : (old new : List ℕ) (e : Extent) (d : Directory) → directory_of old e ≡ Some d → Keeps old new e → All (λ entry. Keeps old new entry.extent) d.entries → directory_of new e ≡ Some d
+directory_of-kept old new e d is keeps all =
+    let there = directory_of-some old e d is in
+    let place = is_in_file-parts (length old) e there.0 in
+    let stands = directory_in-some (length old) (bytes_in old e) d there.1 in
+    let inside : is_in_file (length new) e ≡ true = is_in_file-from (length new) e place.behind_slots keeps.within place.in_reach in
+    let same : bytes_in new e ≡ directory_text d = bytes_in-keeps old new e keeps place.within ∙ sym stands.1 in
+    let good : is_directory (length new) d ≡ true = directory-kept (length old) (length new) d stands.0 (λ k x l. (all k x l).within) in
+    cond-true _ _ _ inside ∙ ap (directory_in (length new)) same ∙ directory_in-text (length new) d good (λ k x l. (stands.2.entries k x l).user_id)
+
+pub document_at-kept : (old new : List ℕ) (e : Extent) (d : Directory) → directory_of old e ≡ Some d → Keeps old new e → All (λ entry. Keeps old new entry.extent) d.entries → document_at new e ≡ document_at old e
+document_at-kept old new e d is keeps all =
+    let stands = directory_in-some (length old) (bytes_in old e) d (directory_of-some old e d is).1 in
+    let parts = is_directory-parts (length old) d stands.0 in
+    ap (option_and_then (document_of new)) (directory_of-kept old new e d is keeps all)
+    ∙ ap (option_map (λ blocks. let made : Document = record { blocks = from_entries blocks; map_block = d.map_block } in made)) (blocks_of-kept (length old) old new d.entries (omega arith) parts.entries all)
+    ∙ ap (option_and_then (document_of old)) (sym is)

@@ -1,0 +1,191 @@
+-- A document file: two slots, of which one counts and names the directories of the updated and of the saved document.
+use Rattle.std.specs.Prelude.{ℕ, List, [], ◌∷◌, ◌++◌, ◌+◌, ◌*◌, ◌/◌, Bool, true, not, ◌==◌, ◌&&◌, ◌||◌, nat_le, nat_lt, length, map, take, drop, slice_index, if◌then◌else◌, Option, Some, None, Result, Ok, Err}
+use Rattle.std.specs.List.{range_with_len, flat_map, list_all, list_any}
+use Rattle.std.specs.Option.{option_and_then, option_map}
+use Rattle.std.specs.FinMap.{from_entries}
+use Rattle.geos_model.specs.Bytes.{same_bytes}
+use Rattle.geos_model.specs.Words.{word, double_word, quad_word, word_at, double_word_at, quad_word_at}
+use Rattle.geos_model.specs.Heap.{capacity}
+use Rattle.geos_model.specs.Document.{Block, Document, most_blocks}
+use Rattle.geos_model.specs.Image.{body_of}
+use Rattle.geos_model.specs.declared.fault.Fault.{Fault}
+use Rattle.geos_model.specs.declared.fault.Fault.TheVariants.{NotDocument, Damaged}
+use Rattle.geos_model.specs.declared.file.Extent.{Extent}
+use Rattle.geos_model.specs.declared.file.Entry.{Entry}
+use Rattle.geos_model.specs.declared.file.Slot.{Slot}
+
+-- Extents.
+
+-- how many pages of 512 bytes so many bytes take
+abbrev pub pages_of : ℕ → ℕ
+pages_of n = (n + 511) / 512
+
+-- the page behind an extent's last one
+abbrev pub end_page : Extent → ℕ
+end_page e = e.page + pages_of e.length
+
+-- the first page that can't be used
+abbrev pub last_page : ℕ
+last_page = 4194304
+
+-- the bytes of an extent
+abbrev pub bytes_in : List ℕ → Extent → List ℕ
+bytes_in file e = take e.length (drop (512 * e.page) file)
+
+-- in a file of so many bytes, behind its slots, on pages that can be used
+abbrev pub is_in_file : ℕ → Extent → Bool
+is_in_file file_length e = nat_le 2 e.page && nat_le (512 * e.page + e.length) file_length && nat_le (end_page e) last_page
+
+abbrev pub extent_text : Extent → List ℕ
+extent_text e = double_word e.page ++ double_word e.length
+
+-- the extent whose text stands at a place
+abbrev pub extent_at : List ℕ → ℕ → Extent
+extent_at bytes at = record { page = double_word_at bytes at; length = double_word_at bytes (at + 4) }
+
+-- Slots.
+
+-- GVMF
+abbrev pub slot_mark : List ℕ
+slot_mark = 0x47 ∷ 0x56 ∷ 0x4d ∷ 0x46 ∷ []
+
+-- 32 bytes
+abbrev pub slot_text : Slot → List ℕ
+slot_text s = slot_mark ++ s.gate ∷ s.version ∷ word s.reserved ++ quad_word s.sequence ++ extent_text s.working ++ extent_text s.saved
+
+-- the fields of a slot's text
+abbrev pub slot_read : List ℕ → Slot
+slot_read bytes =
+    record {
+      gate = slice_index bytes 4;
+      version = slice_index bytes 5;
+      reserved = word_at bytes 6;
+      sequence = quad_word_at bytes 8;
+      working = extent_at bytes 16;
+      saved = extent_at bytes 24;
+    }
+
+-- the slot whose text these bytes are, if the mark stands
+abbrev pub slot_of : List ℕ → Option Slot
+slot_of bytes = if same_bytes (take 4 bytes) slot_mark then Some (slot_read bytes) else None
+
+abbrev pub if_open : Slot → Option Slot
+if_open s = if s.gate == 1 then Some s else None
+
+-- the slot at a page, where its mark stands and its gate is open
+abbrev pub open_slot : List ℕ → ℕ → Option Slot
+open_slot file page = option_and_then if_open (slot_of (take 32 (drop (512 * page) file)))
+
+-- Directories.
+
+-- what a directory says of a document: its map block, 0 for none, and its blocks
+pub record Directory : Type 0 where
+  pub map_block : ℕ
+  pub entries : List Entry
+
+-- GDIR
+abbrev pub directory_mark : List ℕ
+directory_mark = 0x47 ∷ 0x44 ∷ 0x49 ∷ 0x52 ∷ []
+
+-- 16 bytes
+abbrev pub entry_text : Entry → List ℕ
+entry_text e = word e.handle.0 ++ word e.user_id ++ extent_text e.extent ++ 0 ∷ 0 ∷ 0 ∷ 0 ∷ []
+
+-- before the entries: 16 bytes, with a version, the count of the entries and the map block
+abbrev pub header_text : ℕ → ℕ → List ℕ
+header_text count map_block = directory_mark ++ word 1 ++ word count ++ word map_block ++ 0 ∷ 0 ∷ 0 ∷ 0 ∷ 0 ∷ 0 ∷ []
+
+abbrev pub directory_text : Directory → List ℕ
+directory_text d = header_text (length d.entries) d.map_block ++ flat_map entry_text d.entries
+
+-- the fields of an entry's text
+abbrev pub entry_read : List ℕ → Entry
+entry_read bytes = record { handle = record { 0 = word_at bytes 0 }; user_id = word_at bytes 2; extent = extent_at bytes 4 }
+
+-- the fields of a directory's text
+abbrev pub directory_read : List ℕ → Directory
+directory_read bytes =
+    record {
+      map_block = word_at bytes 8;
+      entries = map (λ i. entry_read (drop (16 + 16 * i) bytes)) (range_with_len 0 (word_at bytes 6));
+    }
+
+-- the handles rise from above a number
+abbrev pub is_rising : ℕ → List Entry → Bool
+is_rising last [] = true
+is_rising last (e ∷ es) = nat_lt last e.handle.0 && is_rising e.handle.0 es
+
+-- an entry that can stand in a file of so many bytes: an image has 1 to 65,521 bytes
+abbrev pub is_entry : ℕ → Entry → Bool
+is_entry file_length e =
+    nat_le e.handle.0 most_blocks && nat_le 1 e.extent.length && nat_le e.extent.length (capacity + 1) && is_in_file file_length e.extent
+
+-- the map block is none or listed
+abbrev pub is_map_block : ℕ → List Entry → Bool
+is_map_block map_block entries = map_block == 0 || list_any (λ e. e.handle.0 == map_block) entries
+
+-- a directory that can stand in a file of so many bytes
+abbrev pub is_directory : ℕ → Directory → Bool
+is_directory file_length d = is_rising 0 d.entries && list_all (is_entry file_length) d.entries && is_map_block d.map_block d.entries
+
+-- the directory whose text these bytes are, if they are the text of one that can stand in a file of so many bytes
+abbrev pub directory_in : ℕ → List ℕ → Option Directory
+directory_in file_length bytes =
+    let d = directory_read bytes in
+    if is_directory file_length d && same_bytes (directory_text d) bytes then Some d else None
+
+-- the directory in an extent
+abbrev pub directory_of : List ℕ → Extent → Option Directory
+directory_of file e = if is_in_file (length file) e then directory_in (length file) (bytes_in file e) else None
+
+-- Documents.
+
+abbrev pub prepended : Option (ℕ × Block) → Option (List (ℕ × Block)) → Option (List (ℕ × Block))
+prepended block blocks = option_and_then (λ b. option_map (λ bs. b ∷ bs) blocks) block
+
+-- the block of an entry, where its extent has the image of a body
+abbrev pub block_of : List ℕ → Entry → Option (ℕ × Block)
+block_of file e = option_map (λ body. (e.handle.0, record { user_id = e.user_id; body = body })) (body_of (bytes_in file e.extent))
+
+-- the blocks of these entries, where each of them has one
+abbrev pub blocks_of : List ℕ → List Entry → Option (List (ℕ × Block))
+blocks_of file [] = Some []
+blocks_of file (e ∷ es) = prepended (block_of file e) (blocks_of file es)
+
+abbrev pub document_of : List ℕ → Directory → Option Document
+document_of file d = option_map (λ blocks. record { blocks = from_entries blocks; map_block = d.map_block }) (blocks_of file d.entries)
+
+-- the document of the directory in an extent
+abbrev pub document_at : List ℕ → Extent → Option Document
+document_at file e = option_and_then (document_of file) (directory_of file e)
+
+-- What a file stands for.
+
+-- the slot that counts: of two open ones that of the greater sequence number
+abbrev pub counting_slot : Option Slot → Option Slot → Result Slot Fault
+counting_slot None None = Err NotDocument
+counting_slot (Some s) None = Ok s
+counting_slot None (Some t) = Ok t
+counting_slot (Some s) (Some t) = if s.sequence == t.sequence then Err Damaged else if nat_lt s.sequence t.sequence then Ok t else Ok s
+
+abbrev pub both : Option Document → Option Document → Result (Document × Document) Fault
+both (Some updated) (Some saved) = Ok (updated, saved)
+both None saved = Err Damaged
+both (Some updated) None = Err Damaged
+
+-- the documents of a slot: the updated and the saved one
+abbrev pub pair_of : List ℕ → Slot → Result (Document × Document) Fault
+pair_of file s =
+    if not (s.version == 1) then Err NotDocument
+    else if not (s.reserved == 0) || s.sequence == 0 then Err Damaged
+    else both (document_at file s.working) (document_at file s.saved)
+
+abbrev pub pair_of_counting : List ℕ → Result Slot Fault → Result (Document × Document) Fault
+pair_of_counting file (Err fault) = Err fault
+pair_of_counting file (Ok s) = pair_of file s
+
+-- the updated and the saved document of a file, or why it is no document
+abbrev pub stands : List ℕ → Result (Document × Document) Fault
+stands file =
+    if nat_lt (length file) 1024 then Err NotDocument
+    else pair_of_counting file (counting_slot (open_slot file 0) (open_slot file 1))

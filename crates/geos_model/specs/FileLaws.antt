@@ -1,0 +1,57 @@
+-- Laws of document files.
+use Rattle.std.specs.Prelude.{◌≡◌, ◌+◌, ◌*◌, ◌^◌, ◌<◌, ◌≤◌, ℕ, List, All, true, Some, length, slice_index}
+use Rattle.geos_model.specs.Document.{Document, IsValid, is_valid_body}
+use Rattle.geos_model.specs.Image.{image, body_of}
+use Rattle.geos_model.specs.File.{Directory, slot_text, slot_of, directory_text, directory_read, is_directory, directory_in, directory_of, document_at}
+use Rattle.geos_model.specs.declared.command.Body.{Body}
+use Rattle.geos_model.specs.declared.file.Extent.{Extent}
+use Rattle.geos_model.specs.declared.file.Entry.{Entry}
+use Rattle.geos_model.specs.declared.file.Slot.{Slot}
+
+-- Numbers that their texts have room for.
+
+abbrev pub FitsExtent : Extent → Type 0
+FitsExtent e = (e.page < 2 ^ 32) × (e.length < 2 ^ 32)
+
+pub record FitsSlot (s : Slot) : Type 0 where
+  pub gate : s.gate < 256
+  pub version : s.version < 256
+  pub reserved : s.reserved < 65536
+  pub sequence : s.sequence < 2 ^ 64
+  pub working : FitsExtent s.working
+  pub saved : FitsExtent s.saved
+
+pub record FitsEntry (e : Entry) : Type 0 where
+  pub handle : e.handle.0 < 65536
+  pub user_id : e.user_id < 65536
+  pub extent : FitsExtent e.extent
+
+pub record FitsDirectory (d : Directory) : Type 0 where
+  pub map_block : d.map_block < 65536
+  pub count : length d.entries < 65536
+  pub entries : All FitsEntry d.entries
+
+-- The bytes of an extent stay, in a file that may get longer or shorter.
+pub record Keeps (old new : List ℕ) (e : Extent) : Type 0 where
+  pub within : 512 * e.page + e.length ≤ length new
+  pub bytes : (i : ℕ) → 512 * e.page ≤ i → i < 512 * e.page + e.length → slice_index new i ≡ slice_index old i
+
+pub record FileLaw : Type 0 where
+  -- What is read as a body is one that can be, and is read from its image alone.
+  pub body : (bytes : List ℕ) (b : Body) → body_of bytes ≡ Some b → (is_valid_body b ≡ true) × (image b ≡ bytes)
+  pub body_back : (b : Body) → is_valid_body b ≡ true → body_of (image b) ≡ Some b
+  -- A slot's text has 32 bytes and is read back.
+  pub slot_size : (s : Slot) → length (slot_text s) ≡ 32
+  pub slot_back : (s : Slot) → FitsSlot s → slot_of (slot_text s) ≡ Some s
+  -- A directory's text has 16 bytes and 16 for each entry, and is that of no other directory.
+  pub directory_size : (d : Directory) → length (directory_text d) ≡ 16 + 16 * length d.entries
+  pub directory_back : (d : Directory) → FitsDirectory d → directory_read (directory_text d) ≡ d
+  -- What is read as a directory can stand in the file, has numbers that fit and at most 2,048 entries, and is read from its text alone.
+  pub directory : (n : ℕ) (bytes : List ℕ) (d : Directory) → directory_in n bytes ≡ Some d
+      → (is_directory n d ≡ true) × (directory_text d ≡ bytes) × FitsDirectory d × (length d.entries ≤ 2048)
+  pub directory_reads : (n : ℕ) (d : Directory) → is_directory n d ≡ true → All (λ e. e.user_id < 65536) d.entries → directory_in n (directory_text d) ≡ Some d
+  -- A document that stands in a file is valid.
+  pub valid : (file : List ℕ) (e : Extent) (d : Document) → document_at file e ≡ Some d → IsValid d
+  -- It stands for as long as the bytes of its directory and of its blocks stay.
+  pub kept : (old new : List ℕ) (e : Extent) (d : Directory) → directory_of old e ≡ Some d → Keeps old new e → All (λ entry. Keeps old new entry.extent) d.entries
+      → (directory_of new e ≡ Some d) × (document_at new e ≡ document_at old e)

@@ -1,0 +1,39 @@
+use crate::VmHandle;
+
+/// How many bytes of a file make a page.
+pub const PAGE: u32 = 512;
+
+/// Bytes of a file: all of its pages but for the end of the last, which may lie past the file's end.
+#[derive(Clone, Copy, Debug, PartialEq, Eq)]
+pub struct Extent {
+    /// The first page, in pages of 512 bytes from the file's start. Pages 0 and 1 are the slots'.
+    pub page: u32,
+    /// In bytes.
+    pub length: u32,
+}
+
+/// What a directory says of one block.
+#[derive(Clone, Copy, Debug, PartialEq, Eq)]
+pub struct Entry {
+    pub handle: VmHandle,
+    pub user_id: u16,
+    /// Where the image of its body lies.
+    pub extent: Extent,
+}
+
+/// One of the two records at a file's start, of which one counts. A slot's text has 32 bytes.
+#[derive(Clone, Copy, Debug, PartialEq, Eq)]
+pub struct Slot {
+    /// 1 is open; any other value is closed.
+    pub gate: u8,
+    /// That of the file's format: 1.
+    pub version: u8,
+    /// Zero.
+    pub reserved: u16,
+    /// From 1 on, one more with each commit.
+    pub sequence: u64,
+    /// The directory of the updated document.
+    pub working: Extent,
+    /// The directory of the saved document.
+    pub saved: Extent,
+}

@@ -1,0 +1,9 @@
+//! Tests of the space in a document file: placement, and the texts of slots and directories.
+#![tactic(auto)]
+
+#[cfg(test)]
+mod directories;
+#[cfg(test)]
+mod placing;
+#[cfg(test)]
+mod slots;

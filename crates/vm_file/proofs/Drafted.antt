@@ -1,0 +1,130 @@
+-- A directory that is written where nothing lies that stays.
+use Rattle.std.proofs.Common.{◌≡◌, ◌⊎◌, ℕ, ◌≤◌, IsTrue, List, ◌++◌, length, get_or, All, sym, ap, subst, ◌∙◌, inl, inr}
+use Rattle.std.proofs.lemmas.List.Elements.{All-cons, All-append}
+use Rattle.std.specs.List.Sorted.{IsPermutation}
+use Rattle.std.proofs.lemmas.List.Sorted.{All-permutation, IsPermutation-sym}
+use Rattle.vm_space.specs.Placing.{AreExtents, IsFirstFit}
+use Rattle.vm_file.proofs.Found.{apart_out}
+use Rattle.vm_store.specs.Facts.{StoreFacts, Torn, Holds}
+use Rattle.geos_model.specs.declared.file.Extent.{Extent}
+use Rattle.geos_model.proofs.Table.{table_map}
+use Rattle.vm_file.specs.Ranges.{IsPlaced, Keeps, start_of, end_of, IsOut, IsClear}
+use Rattle.vm_file.specs.Slots.{Leaves, Outlives, block_extents, stored_extents, pair_extents, held_extents, kept_extents}
+use Rattle.vm_file.specs.Documents.{document_in, documents_in, AreImaged, IsStored, AreStored}
+use Rattle.vm_file.specs.Disk.{Passes}
+use Rattle.vm_file.specs.Sound.{IsTable, AreTables, IsFormed, IsSound, disk_of}
+use Rattle.vm_file.specs.Copies.{IsStoredCopy}
+use Rattle.vm_file.specs.Drafts.{IsDraft}
+use Rattle.vm_file.specs.declared.directory.Draft.{Draft}
+use Rattle.vm_file.specs.declared.table.Table.{Table}
+use Rattle.vm_file.specs.declared.slots.Stored.{Stored}
+use Rattle.vm_file.specs.declared.slots.Slots.{Slots}
+use Rattle.vm_file.proofs.Carried.{call_passes, call_sound}
+use Rattle.vm_file.proofs.Copied.{copy_formed, copy_extents, copy_stored, copy_document}
+use Rattle.vm_file.proofs.KeptBytes.{all_left, all_right, keeps_itself, torn_keeps}
+use Rattle.vm_file.proofs.Tables.{blocks_same, images_same}
+use Rattle.vm_file.proofs.Written.{directory_written}
+
+pub clear_parts : (at n : ℕ) (xs ys : List Extent) → IsClear at n (xs ++ ys) → IsClear at n xs × IsClear at n ys
+clear_parts at n xs ys clear = (all_left (λ e. IsOut at n (start_of e) (end_of e)) xs ys clear, all_right (λ e. IsOut at n (start_of e) (end_of e)) xs ys clear)
+
+-- what is known of the file before, and what the write leaves
+pub record IsWriting {S : Type 0} (facts : S → StoreFacts) (a b : S) (live : Table) (slots : Slots) (draft : Draft) : Type 1 where
+  pub sound : IsSound (facts a) live slots
+  pub is_draft : IsDraft live slots draft
+  pub honest : (facts b).honest ≡ (facts a).honest
+  pub failures : (facts a).failures ≤ (facts b).failures
+  pub before : IsTrue (facts a).honest → (facts a).may_leave (facts a).content
+  pub now : IsTrue (facts b).honest → (facts b).may_leave (facts b).content
+  pub elsewhere : IsTrue (facts a).honest → Torn (start_of draft.stored.directory) draft.stored.directory.length (facts a).content (facts b).content
+  pub crash : IsTrue (facts a).honest → Leaves (facts a) slots (facts a).content → Outlives (facts a) (facts b) (facts a).content (λ s. s ≡ slots)
+  pub leaves : IsTrue (facts a).honest → Leaves (facts a) slots (facts a).content → Leaves (facts b) slots (facts a).content
+
+module _ {S : Type 0} (facts : S → StoreFacts) (a b : S) (live : Table) (slots : Slots) (draft : Draft) (call : IsWriting facts a b live slots draft) where
+  live_keeps : IsTrue (facts a).honest → Keeps (block_extents live.places.items) (facts a).content (facts b).content
+  live_keeps so =
+      let clear = (clear_parts (start_of draft.stored.directory) draft.stored.directory.length (block_extents live.places.items) (kept_extents slots) call.is_draft.clear).0 in
+      torn_keeps (start_of draft.stored.directory) draft.stored.directory.length (block_extents live.places.items) (facts a).content (facts a).content (facts b).content clear (call.elsewhere so)
+      (keeps_itself (block_extents live.places.items) (facts a).content (call.sound.whole so).within)
+
+  live_images : IsTrue (facts a).honest → AreImaged (facts b).content live.places.items
+  live_images so = images_same (facts a).content (facts b).content live.places.items (call.sound.whole so).within (live_keeps so) (call.sound.whole so).images
+
+  live_within : IsTrue (facts a).honest → All (λ e. end_of e ≤ length (facts b).content) (block_extents live.places.items)
+  live_within so k d inside = (live_keeps so k d inside).within
+
+  pub write_passes : Passes facts (disk_of facts a slots) (disk_of facts b slots)
+  write_passes = call_passes facts a b live slots call.sound call.honest call.before call.now (λ so. call.leaves so (call.sound.whole so).leaves) call.failures (λ so. call.crash so (call.sound.whole so).leaves)
+
+  pub write_sound : IsSound (facts b) live slots
+  write_sound = call_sound facts a b live slots call.sound call.honest call.before call.now (λ so. call.leaves so (call.sound.whole so).leaves) live call.sound.formed (λ so. (live_images so, live_within so))
+
+  pub write_same : IsTrue (facts a).honest → document_in (facts b).content live ≡ document_in (facts a).content live
+  write_same so = ap (λ bs. record { blocks = table_map 1 1 bs; map_block = live.map_block }) (blocks_same (facts a).content (facts b).content live.places.items (call.sound.whole so).within (live_keeps so))
+
+  pub write_stored : IsTrue (facts a).honest → Holds (facts b).content (start_of draft.stored.directory) draft.text.items → IsStored (facts b).content draft.stored
+  write_stored so holds =
+      let copy = call.is_draft.table in
+      directory_written (facts b).content draft.stored (copy_formed draft.stored.table live copy call.sound.formed.table)
+      (All-cons IsPlaced draft.stored.directory (block_extents draft.stored.table.places.items) call.is_draft.placed (subst (λ ps. All IsPlaced (block_extents ps)) (sym copy.places) call.sound.formed.placed))
+      (subst (AreImaged (facts b).content) (sym copy.places) (live_images so))
+      (subst (λ ps. All (λ e. end_of e ≤ length (facts b).content) (block_extents ps)) (sym copy.places) (live_within so))
+      call.is_draft.user_ids (call.is_draft.size ∙ ap length call.is_draft.text) (subst (Holds (facts b).content (start_of draft.stored.directory)) call.is_draft.text holds)
+
+-- The pair of the document as it is now, and of a saved one: the one that is committed, or the same.
+
+module _ (live : Table) (slots : Slots) (draft : Draft) (saved : Stored) (formed : IsFormed live slots) (is_draft : IsDraft live slots draft) (alike : IsStoredCopy saved slots.committed.saved ⊎ IsStoredCopy saved draft.stored) where
+  draft_placed : All IsPlaced (stored_extents draft.stored)
+  draft_placed = All-cons IsPlaced draft.stored.directory (block_extents draft.stored.table.places.items) is_draft.placed (subst (λ ps. All IsPlaced (block_extents ps)) (sym is_draft.table.places) formed.placed)
+
+  saved_placed : All IsPlaced (stored_extents slots.committed.saved)
+  saved_placed = all_right IsPlaced (stored_extents slots.committed.updated) (stored_extents slots.committed.saved) (all_left IsPlaced (pair_extents slots.committed) (held_extents slots.other) formed.kept)
+
+  pub both_placed : All IsPlaced (pair_extents (record { updated = draft.stored; saved = saved }))
+  both_placed = All-append IsPlaced (stored_extents draft.stored) (stored_extents saved) draft_placed (elim alike as (λ _. All IsPlaced (stored_extents saved)) [
+    | inl committed ↦ subst (All IsPlaced) (sym (copy_extents saved slots.committed.saved committed)) saved_placed
+    | inr same ↦ subst (All IsPlaced) (sym (copy_extents saved draft.stored same)) draft_placed
+  ])
+
+  pub both_tables : AreTables (record { updated = draft.stored; saved = saved })
+  both_tables = record {
+    updated = copy_formed draft.stored.table live is_draft.table formed.table;
+    saved = elim alike as (λ _. IsTable saved.table) [
+      | inl committed ↦ copy_formed saved.table slots.committed.saved.table committed.table formed.committed.saved
+      | inr same ↦ copy_formed saved.table draft.stored.table same.table (copy_formed draft.stored.table live is_draft.table formed.table)
+    ];
+  }
+
+  pub both_stored : (file : List ℕ) → IsStored file slots.committed.saved → IsStored file draft.stored → AreStored file (record { updated = draft.stored; saved = saved })
+  both_stored file committed written = record {
+    updated = written;
+    saved = elim alike as (λ _. IsStored file saved) [ inl copy ↦ copy_stored file saved slots.committed.saved copy committed | inr same ↦ copy_stored file saved draft.stored same written ];
+  }
+
+  -- what they are before and after the directory is written
+  pub both_documents : (file c : List ℕ) → document_in c live ≡ document_in file live → document_in c slots.committed.saved.table ≡ document_in file slots.committed.saved.table
+      → documents_in c (record { updated = draft.stored; saved = saved }) ≡ (document_in file live, document_in file saved.table)
+  both_documents file c same committed_same =
+      let first : document_in c draft.stored.table ≡ document_in file live = copy_document c draft.stored.table live is_draft.table ∙ same in
+      let second : document_in c saved.table ≡ document_in file saved.table = elim alike as (λ _. document_in c saved.table ≡ document_in file saved.table) [
+        | inl copy ↦ copy_document c saved.table slots.committed.saved.table copy.table ∙ committed_same ∙ sym (copy_document file saved.table slots.committed.saved.table copy.table)
+        | inr like ↦ copy_document c saved.table draft.stored.table like.table ∙ first ∙ sym (copy_document file draft.stored.table live is_draft.table) ∙ sym (copy_document file saved.table draft.stored.table like.table)
+      ] in
+      λ i. (first i, second i)
+
+-- A place for a directory.
+
+pub taken_placed : (live : Table) (slots : Slots) (taken : List Extent) → IsFormed live slots → IsPermutation (block_extents live.places.items ++ kept_extents slots) taken → All IsPlaced taken
+taken_placed live slots taken formed all =
+    All-permutation IsPlaced (block_extents live.places.items ++ kept_extents slots) taken all (All-append IsPlaced (block_extents live.places.items) (kept_extents slots) formed.placed formed.kept)
+
+pub are_extents : (taken : List Extent) → All IsPlaced taken → AreExtents taken
+are_extents taken placed k d inside = let one = placed k d inside in (one.behind, (one.some, one.short))
+
+pub room_clear : (all taken : List Extent) (n : ℕ) (e : Extent) → IsPermutation all taken → IsFirstFit taken n e → IsClear (start_of e) e.length all
+room_clear all taken n e perm fits =
+    All-permutation (λ x. IsOut (start_of e) e.length (start_of x) (end_of x)) taken all (IsPermutation-sym all taken perm)
+    (λ k d inside. subst (λ m. IsOut (start_of e) m (start_of (get_or taken k d)) (end_of (get_or taken k d))) (sym fits.length_is) (apart_out e.page n (get_or taken k d) (fits.free k d inside)))
+
+pub room_placed : (taken : List Extent) (n : ℕ) (e : Extent) → 1 ≤ n → n ≤ 65536 → IsFirstFit taken n e → IsPlaced e
+room_placed taken n e some short fits = record { behind = fits.behind_slots; within = fits.in_reach; some = subst (λ m. 1 ≤ m) (sym fits.length_is) some; short = subst (λ m. m ≤ 65536) (sym fits.length_is) short }

@@ -1,0 +1,158 @@
+-- Tables in which blocks come and go.
+use Rattle.std.proofs.Common.{◌≡◌, ◌≢◌, ℕ, zero, suc, ◌+◌, ◌-◌, ◌<◌, ◌==◌, Bool, true, false, cond, IsTrue, List, [], ◌∷◌, All, set, length, get_or, Option, None, Some, is_some, refl, sym, ap, ap₂, subst, ◌∙◌, arith, inl, inr, length-set}
+use Rattle.std.specs.Cmp.{nat_cmp_total, unsigned_tied}
+use Rattle.std.specs.Option.{option_map, option_map_or}
+use Rattle.std.specs.FinMap.{FinMap, get, remove, get-insert, get-remove, same_map, nat_cmp-IsAntisymmetric}
+use Rattle.std.specs.Ordering.{nat_cmp}
+use Rattle.std.proofs.lemmas.Bool.{cases_Bool, cases_lt, cond-true, cond-false, eqb-true}
+use Rattle.std.proofs.lemmas.List.{get_or-set_other, set_past}
+use Rattle.geos_model.specs.Document.{Block, Document, is_live, user_id_of, with_block, without_block}
+use Rattle.geos_model.specs.Image.{body_read}
+use Rattle.geos_model.specs.File.{bytes_in}
+use Rattle.geos_model.specs.declared.file.Extent.{Extent}
+use Rattle.geos_model.specs.declared.handle.VmHandle.{VmHandle}
+use Rattle.geos_model.proofs.Tables.{slot_at, slot_at_past}
+use Rattle.vm_file.specs.Calls.{IsPut, put_all, remove_all}
+use Rattle.vm_file.specs.Disk.{Drifts}
+use Rattle.vm_file.specs.Documents.{block_in}
+use Rattle.vm_file.specs.Writing.{placed_at, with_places, without_place, without_places}
+use Rattle.vm_file.specs.declared.put.PutBlock.{PutBlock}
+use Rattle.vm_file.specs.declared.table.Place.{Place}
+use Rattle.vm_file.proofs.Passing.{Drifts-trans, Drifts-refl}
+use Rattle.vm_file.proofs.Tables.{EachPlace, shown, shown_put, shown_removed, get_none, get_at, each_set, full_set, handle_within}
+
+-- Documents that differ in their bytes alone, after the same change.
+
+module _ (d : Document) (h : ℕ) where
+  live_with : (b : Block) (q : ℕ) → is_live (with_block d h b) q ≡ cond (q == h) true (is_live d q)
+  live_with b q =
+      ap is_some (get-insert nat_cmp_total d.blocks h b q ∙ ap (λ t. cond t (Some b) (get d.blocks q)) (unsigned_tied q h))
+      ∙ elim (q == h) as (λ t. is_some (cond t (Some b) (get d.blocks q)) ≡ cond t true (is_some (get d.blocks q))) [ true ↦ refl | false ↦ refl ]
+
+  user_id_with : (b : Block) (q : ℕ) → user_id_of (with_block d h b) q ≡ cond (q == h) b.user_id (user_id_of d q)
+  user_id_with b q =
+      ap (λ o. option_map_or (λ (x : Block). x.user_id) o 0) (get-insert nat_cmp_total d.blocks h b q ∙ ap (λ t. cond t (Some b) (get d.blocks q)) (unsigned_tied q h))
+      ∙ elim (q == h) as (λ t. option_map_or (λ (x : Block). x.user_id) (cond t (Some b) (get d.blocks q)) 0 ≡ cond t b.user_id (option_map_or (λ (x : Block). x.user_id) (get d.blocks q) 0)) [ true ↦ refl | false ↦ refl ]
+
+  live_without : (q : ℕ) → is_live (without_block d h) q ≡ cond (q == h) false (is_live d q)
+  live_without q =
+      ap is_some (get-remove nat_cmp_total d.blocks h q ∙ ap (λ t. cond t None (get d.blocks q)) (unsigned_tied q h))
+      ∙ elim (q == h) as (λ t. is_some (cond t None (get d.blocks q)) ≡ cond t false (is_some (get d.blocks q))) [ true ↦ refl | false ↦ refl ]
+
+  user_id_without : (q : ℕ) → user_id_of (without_block d h) q ≡ cond (q == h) 0 (user_id_of d q)
+  user_id_without q =
+      ap (λ o. option_map_or (λ (x : Block). x.user_id) o 0) (get-remove nat_cmp_total d.blocks h q ∙ ap (λ t. cond t None (get d.blocks q)) (unsigned_tied q h))
+      ∙ elim (q == h) as (λ t. option_map_or (λ (x : Block). x.user_id) (cond t None (get d.blocks q)) 0 ≡ cond t 0 (option_map_or (λ (x : Block). x.user_id) (get d.blocks q) 0)) [ true ↦ refl | false ↦ refl ]
+
+drifts_with : (honest : Bool) (a b : Document) (h : ℕ) (x y : Block) → Drifts honest a b → y.user_id ≡ x.user_id → (IsTrue honest → y ≡ x) → Drifts honest (with_block a h x) (with_block b h y)
+drifts_with honest a b h x y drifts same is = record {
+  live = λ q. live_with b h y q ∙ ap (cond (q == h) true) (drifts.live q) ∙ sym (live_with a h x q);
+  user_ids = λ q. user_id_with b h y q ∙ ap₂ (cond (q == h)) same (drifts.user_ids q) ∙ sym (user_id_with a h x q);
+  map_block = drifts.map_block;
+  same = λ so. ap₂ (λ d z. with_block d h z) (drifts.same so) (is so);
+}
+
+drifts_without : (honest : Bool) (a b : Document) (h : ℕ) → Drifts honest a b → Drifts honest (without_block a h) (without_block b h)
+drifts_without honest a b h drifts = record {
+  live = λ q. live_without b h q ∙ ap (cond (q == h) false) (drifts.live q) ∙ sym (live_without a h q);
+  user_ids = λ q. user_id_without b h q ∙ ap (cond (q == h) 0) (drifts.user_ids q) ∙ sym (user_id_without a h q);
+  map_block = drifts.map_block;
+  same = λ so. ap (λ d. without_block d h) (drifts.same so);
+}
+
+pub drifts_put_all : (honest : Bool) (puts : List PutBlock) (a b : Document) → Drifts honest a b → Drifts honest (put_all puts a) (put_all puts b)
+drifts_put_all honest [] a b drifts = drifts
+drifts_put_all honest (p ∷ puts) a b drifts =
+    let block : Block = record { user_id = p.user_id; body = body_read p.image } in
+    drifts_put_all honest puts (with_block a p.handle.0 block) (with_block b p.handle.0 block) (drifts_with honest a b p.handle.0 block block drifts refl (λ so. refl))
+
+pub drifts_remove_all : (honest : Bool) (handles : List VmHandle) (a b : Document) → Drifts honest a b → Drifts honest (remove_all handles a) (remove_all handles b)
+drifts_remove_all honest [] a b drifts = drifts
+drifts_remove_all honest (h ∷ handles) a b drifts = drifts_remove_all honest handles (without_block a h.0) (without_block b h.0) (drifts_without honest a b h.0 drifts)
+
+-- Blocks that come in.
+
+pub length-with_places : (puts : List PutBlock) (extents : List Extent) (places : List (Option Place)) → length (with_places puts extents places) ≡ length places
+length-with_places [] extents places = refl
+length-with_places (p ∷ puts) [] places = refl
+length-with_places (p ∷ puts) (e ∷ extents) places = length-with_places puts extents (set places (p.handle.0 - 1) (Some (placed_at p e))) ∙ length-set places (p.handle.0 - 1) (Some (placed_at p e))
+
+pub each_with : (P : Place → Type 0) (puts : List PutBlock) (extents : List Extent) (places : List (Option Place)) → ((k : ℕ) (p : PutBlock) (e : Extent) → k < length puts → P (placed_at (get_or puts k p) (get_or extents k e))) → EachPlace P places → EachPlace P (with_places puts extents places)
+each_with P [] extents places new each = each
+each_with P (p ∷ puts) [] places new each = each
+each_with P (p ∷ puts) (e ∷ extents) places new each =
+    each_with P puts extents (set places (p.handle.0 - 1) (Some (placed_at p e))) (λ k q x low. new (suc k) q x (omega arith)) (each_set P places (p.handle.0 - 1) (Some (placed_at p e)) (new 0 p e (omega arith)) each)
+
+pub full_with : (puts : List PutBlock) (extents : List Extent) (places : List (Option Place)) (k : ℕ) → is_some (slot_at places k) ≡ true → is_some (slot_at (with_places puts extents places) k) ≡ true
+full_with [] extents places k full = full
+full_with (p ∷ puts) [] places k full = full
+full_with (p ∷ puts) (e ∷ extents) places k full = full_with puts extents (set places (p.handle.0 - 1) (Some (placed_at p e))) k (full_set places (p.handle.0 - 1) k (placed_at p e) full)
+
+pub filled_drifts : (honest : Bool) (file : List ℕ) (puts : List PutBlock) (extents : List Extent) (places : List (Option Place)) (map_block : ℕ) → length places ≡ 2048 → All IsPut puts → length extents ≡ length puts
+    → ((k : ℕ) (p : PutBlock) (e : Extent) → k < length puts → IsTrue honest → bytes_in file (get_or extents k e) ≡ (get_or puts k p).image)
+    → Drifts honest (put_all puts (shown file places map_block)) (shown file (with_places puts extents places) map_block)
+filled_drifts honest file [] extents places map_block size are long images = Drifts-refl honest (shown file places map_block)
+filled_drifts honest file (p ∷ puts) [] places map_block size are long images = absurd (omega arith)
+filled_drifts honest file (p ∷ puts) (e ∷ extents) places map_block size are long images =
+    let put : IsPut p = are 0 p (omega arith) in
+    let bounds = handle_within p.handle.0 put.handle in
+    let h = p.handle.0 in
+    let one = placed_at p e in
+    let block : Block = record { user_id = p.user_id; body = body_read p.image } in
+    let d = shown file places map_block in
+    let next = set places (h - 1) (Some one) in
+    let made : shown file next map_block ≡ with_block d h (block_in file one) = shown_put file places map_block h one bounds.0 (omega (arith, bounds.0, bounds.1, size)) in
+    let first : Drifts honest (with_block d h block) (shown file next map_block) =
+    subst (Drifts honest (with_block d h block)) (sym made) (drifts_with honest d d h block (block_in file one) (Drifts-refl honest d) refl (λ so. ap (λ bytes. record { user_id = p.user_id; body = body_read bytes }) (images 0 p e (omega arith) so))) in
+    Drifts-trans honest _ _ _ (drifts_put_all honest puts (with_block d h block) (shown file next map_block) first)
+    (filled_drifts honest file puts extents next map_block (length-set places (h - 1) (Some one) ∙ size) (λ k q low. are (suc k) q (omega arith)) (omega (arith, long)) (λ k q x low so. images (suc k) q x (omega arith) so))
+
+-- Blocks that go.
+
+pub length-without_place : (h : ℕ) (places : List (Option Place)) → length (without_place h places) ≡ length places
+length-without_place zero places = refl
+length-without_place (suc n) places = length-set places n None
+
+pub length-without_places : (handles : List VmHandle) (places : List (Option Place)) → length (without_places handles places) ≡ length places
+length-without_places [] places = refl
+length-without_places (h ∷ handles) places = length-without_places handles (without_place h.0 places) ∙ length-without_place h.0 places
+
+each_without_one : (P : Place → Type 0) (h : ℕ) (places : List (Option Place)) → EachPlace P places → EachPlace P (without_place h places)
+each_without_one P zero places each = each
+each_without_one P (suc n) places each = each_set P places n None tt each
+
+pub each_without : (P : Place → Type 0) (handles : List VmHandle) (places : List (Option Place)) → EachPlace P places → EachPlace P (without_places handles places)
+each_without P [] places each = each
+each_without P (h ∷ handles) places each = each_without P handles (without_place h.0 places) (each_without_one P h.0 places each)
+
+full_without_one : (h : ℕ) (places : List (Option Place)) (k : ℕ) → h ≢ k + 1 → is_some (slot_at places k) ≡ true → is_some (slot_at (without_place h places) k) ≡ true
+full_without_one zero places k other full = full
+full_without_one (suc n) places k other full = ap is_some (get_or-set_other places n k None None (λ same. other (omega (arith, same)))) ∙ full
+
+pub full_without : (handles : List VmHandle) (places : List (Option Place)) (k : ℕ) → All (λ h. h.0 ≢ k + 1) handles → is_some (slot_at places k) ≡ true → is_some (slot_at (without_places handles places) k) ≡ true
+full_without [] places k other full = full
+full_without (h ∷ handles) places k other full = full_without handles (without_place h.0 places) k (λ i d low. other (suc i) d (omega arith)) (full_without_one h.0 places k (other 0 h (omega arith)) full)
+
+-- a key that isn't there
+absent : {X : Type 0} (m : FinMap nat_cmp X) (k : ℕ) → get m k ≡ None → remove m k ≡ m
+absent m k none = same_map nat_cmp_total nat_cmp-IsAntisymmetric _ _ (λ q.
+    get-remove nat_cmp_total m k q ∙ ap (λ t. cond t None (get m q)) (unsigned_tied q k)
+    ∙ elim (cases_Bool (q == k)) as (λ _. cond (q == k) None (get m q) ≡ get m q) [
+      | inl same ↦ cond-true (q == k) None (get m q) same ∙ sym (ap (get m) (eqb-true q k same) ∙ none)
+      | inr other ↦ cond-false (q == k) None (get m q) other
+    ])
+
+shown_without : (file : List ℕ) (h : ℕ) (places : List (Option Place)) (map_block : ℕ) → shown file (without_place h places) map_block ≡ without_block (shown file places map_block) h
+shown_without file zero places map_block = ap (λ bs. record { blocks = bs; map_block = map_block }) (sym (absent (shown file places map_block).blocks 0 (get_none file places map_block)))
+shown_without file (suc n) places map_block = elim (cases_lt n (length places)) as (λ _. shown file (set places n None) map_block ≡ without_block (shown file places map_block) (suc n)) [
+  | inl within ↦
+      let same : suc n - 1 ≡ n = omega arith in
+      ap (λ i. shown file (set places i None) map_block) (sym same) ∙ shown_removed file places map_block (suc n) (omega arith) (omega (arith, within))
+  | inr past ↦
+      let gone : get (shown file places map_block).blocks (suc n) ≡ None = get_at file places map_block (suc n) (omega arith) ∙ ap (λ o. option_map (block_in file) o) (slot_at_past places (suc n - 1) (omega (arith, past))) in
+      ap (λ ps. shown file ps map_block) (set_past places n None past) ∙ ap (λ bs. record { blocks = bs; map_block = map_block }) (sym (absent (shown file places map_block).blocks (suc n) gone))
+]
+
+pub shown_without_all : (file : List ℕ) (handles : List VmHandle) (places : List (Option Place)) (map_block : ℕ) → shown file (without_places handles places) map_block ≡ remove_all handles (shown file places map_block)
+shown_without_all file [] places map_block = refl
+shown_without_all file (h ∷ handles) places map_block = shown_without_all file handles (without_place h.0 places) map_block ∙ ap (remove_all handles) (shown_without file h.0 places map_block)

@@ -1,0 +1,253 @@
+-- What the making of a file leaves.
+use Rattle.std.proofs.Common.{◌≡◌, ◌≢◌, ◌⊎◌, ℕ, zero, suc, ◌+◌, ◌-◌, ◌*◌, ◌<◌, ◌≤◌, true, Bool, IsTrue, List, [], ◌∷◌, ◌++◌, All, length, get_or, is_some, Option, None, Some, refl, sym, ap, subst, ◌∙◌, arith, inl, inr}
+use Rattle.std.specs.Prelude.{if◌then◌else◌, Result, Ok, Err, OnOk, IfSome, replicate}
+use Rattle.std.specs.FinMap.{from_entries}
+use Rattle.std.proofs.lemmas.List.{append-nil, length-replicate}
+use Rattle.std.proofs.lemmas.List.Elements.{All-nil, All-cons, All-append, All-replicate}
+use Rattle.vm_store.specs.Facts.{StoreFacts, byte, Holds, Puts, IsDurable}
+use Rattle.vm_store.specs.Laws.{Holds-Puts}
+use Rattle.geos_model.specs.Document.{empty_document}
+use Rattle.geos_model.proofs.Table.{table_entries, table_map}
+use Rattle.geos_model.specs.File.{directory_of, directory_text}
+use Rattle.geos_model.specs.declared.file.Extent.{Extent}
+use Rattle.vm_file.specs.Ranges.{IsPlaced, start_of, end_of, Keeps, IsOut, IsClear}
+use Rattle.vm_file.specs.Slots.{mark, gate_text, block_extents, stored_extents, pair_extents, held_extents, IsBeside, Leads, Outcome}
+use Rattle.vm_file.specs.Documents.{blocks_in, document_in, attempted_in, entries_of, directory_of_table, IsImaged, AreImaged, IsStored, IsHeldStored}
+use Rattle.vm_file.specs.Sound.{IsTable, IsHeldFormed, IsFormed, IsWhole, IsSound}
+use Rattle.vm_file.specs.Making.{first_slot, IsLaid, IsLiveStored, IsFirst, IsFounding, IsOne}
+use Rattle.vm_file.specs.declared.table.Place.{Place}
+use Rattle.vm_file.specs.declared.table.Table.{Table}
+use Rattle.vm_file.specs.declared.slots.Stored.{Stored}
+use Rattle.vm_file.specs.declared.slots.Other.{Other}
+use Rattle.vm_file.specs.declared.slots.Slots.{Slots}
+use Rattle.vm_file.proofs.KeptBytes.{keeps_itself, holds_part}
+use Rattle.vm_file.proofs.Tables.{images_same}
+use Rattle.vm_file.proofs.Written.{directory_written}
+
+-- Bytes that are put.
+
+put_byte : (at i : ℕ) (bytes a b : List ℕ) → (i < at) ⊎ (at + length bytes ≤ i) → Puts at bytes a b → byte b i ≡ byte a i
+put_byte at i bytes a b out puts = elim out as (λ _. byte b i ≡ byte a i) [ inl before ↦ puts.below i before | inr behind ↦ puts.above i behind ]
+
+put_holds : (at from : ℕ) (bytes xs a b : List ℕ) → IsOut at (length bytes) from (from + length xs) → Puts at bytes a b → Holds a from xs → Holds b from xs
+put_holds at from bytes xs a b out puts was = record {
+  within = omega (arith, puts.size, was.within);
+  each = λ i inside.
+      put_byte at (from + i) bytes a b (elim out as (λ _. (from + i < at) ⊎ (at + length bytes ≤ from + i)) [ inl before ↦ inl (omega arith) | inr behind ↦ inr (omega arith) ]) puts
+      ∙ was.each i inside;
+}
+
+first_long : (directory : Extent) → length (first_slot directory) ≡ 32
+unfolding gate_text
+first_long directory = refl
+
+gate_long : (directory : Extent) → length (gate_text 1 directory directory) ≡ 27
+unfolding gate_text
+gate_long directory = refl
+
+-- The directory is put, and then the slots.
+pub slots_laid : (directory : Extent) (text a b c d : List ℕ) → 2 ≤ directory.page → Puts (start_of directory) text a b → Puts 0 (first_slot directory) b c → Puts 512 mark c d → IsLaid 0 directory text a d
+slots_laid directory text a b c d behind directory_put first second =
+    let long = first_long directory in
+    let rest = gate_long directory in
+    let there = Holds-Puts 0 (first_slot directory) b c first in
+    let text_there = Holds-Puts (start_of directory) text a b directory_put in
+    let gate : List ℕ = gate_text 1 directory directory in
+    let P : List ℕ → Type 0 = λ xs. Holds c 0 (mark ++ 0 ∷ xs) in
+    record {
+      gate_is = second.below 4 (omega arith) ∙ first.each 4 (omega (arith, long));
+      marked = put_holds 512 0 mark mark c d (inl (omega arith)) second (holds_part c 0 [] mark (0 ∷ gate) there);
+      rest = put_holds 512 5 mark gate c d (inl (omega (arith, rest))) second (holds_part c 0 (mark ++ 0 ∷ []) gate [] (subst P (sym (append-nil gate)) there));
+      beside = second.above 516 (omega arith) ∙ first.above 516 (omega (arith, long)) ∙ directory_put.below 516 (omega (arith, behind));
+      there = put_holds 512 (start_of directory) mark text c d (inr (omega (arith, behind))) second (put_holds 0 (start_of directory) (first_slot directory) text b c (inr (omega (arith, behind, long))) first text_there);
+      others = λ i high out. second.above i (omega arith) ∙ first.above i (omega (arith, long)) ∙ put_byte (start_of directory) i text a b out directory_put;
+      size = omega (arith, behind, long, directory_put.size, first.size, second.size);
+    }
+
+-- Copies of a table.
+
+copy_table : (directory : Extent) (live : Table) (s : Stored) → IsLiveStored directory live s → IsTable live → IsTable s.table
+copy_table directory live s copy is =
+    let m = live.map_block in
+    let P : List (Option Place) → Type 0 = λ ps. (m ≡ 0) ⊎ ((1 ≤ m) × (is_some (get_or ps (m - 1) None) ≡ true)) in
+    let Q : ℕ → Type 0 = λ n. (n ≡ 0) ⊎ ((1 ≤ n) × (is_some (get_or s.table.places.items (n - 1) None) ≡ true)) in
+    record {
+      size = ap length copy.places ∙ is.size;
+      map_block = subst Q (sym copy.map_block) (subst P (sym copy.places) is.map_block);
+    }
+
+copy_extents : (directory : Extent) (live : Table) (s : Stored) → IsLiveStored directory live s → stored_extents s ≡ directory ∷ block_extents live.places.items
+copy_extents directory live s copy = λ i. copy.directory_is i ∷ block_extents (copy.places i)
+
+copy_stored : (file : List ℕ) (directory : Extent) (live : Table) (s : Stored) → IsLiveStored directory live s → IsStored file (record { directory = directory; table = live }) → IsStored file s
+copy_stored file directory live s copy is =
+    let same : directory_of_table s.table ≡ directory_of_table live = λ i. record { map_block = copy.map_block i; entries = entries_of 1 (copy.places i) } in
+    record {
+      directory = ap (directory_of file) copy.directory_is ∙ is.directory ∙ sym (ap (λ d. Some d) same);
+      images = subst (AreImaged file) (sym copy.places) is.images;
+    }
+
+-- The images that a file is made of lie there.
+pub record AreLying (live : Table) (file : List ℕ) : Type 0 where
+  pub images : AreImaged file live.places.items
+  pub within : All (λ e. end_of e ≤ length file) (block_extents live.places.items)
+  pub beside : byte file 516 ≢ 1
+
+module _ (directory : Extent) (text : List ℕ) (live : Table) (slots : Slots) (first : IsFirst directory live slots) (founding : IsFounding directory text live) where
+  abbrev es : List Extent
+  es = block_extents live.places.items
+
+  -- all extents that the slots lead to
+  all_pair : (P : Extent → Type 0) → P directory → All P es → All P (pair_extents slots.committed)
+  all_pair P one all =
+      let here : All P (directory ∷ es) = All-cons P directory es one all in
+      All-append P (stored_extents slots.committed.updated) (stored_extents slots.committed.saved)
+      (subst (All P) (sym (copy_extents directory live slots.committed.updated first.updated)) here)
+      (subst (All P) (sym (copy_extents directory live slots.committed.saved first.saved)) here)
+
+  formed : IsFormed live slots
+  formed = record {
+    table = founding.table;
+    placed = founding.placed;
+    committed = record { updated = copy_table directory live slots.committed.updated first.updated founding.table; saved = copy_table directory live slots.committed.saved first.saved founding.table };
+    held = subst (IsHeldFormed slots.sequence) (sym first.other) tt;
+    kept = subst (λ o. All IsPlaced (pair_extents slots.committed ++ held_extents o)) (sym first.other) (All-append IsPlaced (pair_extents slots.committed) [] (all_pair IsPlaced founding.directory_placed founding.placed) (All-nil IsPlaced));
+    numbered = omega (arith, first.sequence);
+    in_range = omega (arith, first.sequence);
+  }
+
+  module _ (store : StoreFacts) (old : List ℕ) (lying : AreLying live old) (laid : IsLaid 1 directory text old store.content) (durable : IsDurable store) where
+    abbrev file : List ℕ
+    file = store.content
+
+    pub keeps : Keeps es old file
+    keeps k x inside =
+        let e = get_or es k x in
+        let high = (founding.placed k x inside).behind in
+        record {
+          within = omega (arith, lying.within k x inside, laid.size);
+          each = λ i low. laid.others (start_of e + i) (omega (arith, high)) (elim (founding.clear k x inside) as (λ _. (start_of e + i < start_of directory) ⊎ (start_of directory + length text ≤ start_of e + i)) [
+            | inl before ↦ inl (omega arith)
+            | inr behind ↦ inr (omega (arith, founding.size))
+          ]);
+        }
+
+    within : All (λ e. end_of e ≤ length file) es
+    within k x inside = (keeps k x inside).within
+
+    images : AreImaged file live.places.items
+    images = images_same old file live.places.items lying.within keeps lying.images
+
+    one_stored : IsStored file (record { directory = directory; table = live })
+    one_stored = directory_written file (record { directory = directory; table = live }) founding.table
+        (All-cons IsPlaced directory es founding.directory_placed founding.placed)
+        images within founding.user_ids (sym founding.size ∙ ap length founding.text_is) (subst (λ t. Holds file (start_of directory) t) founding.text_is laid.there)
+
+    leads : Leads 0 1 slots.committed file file
+    leads = record {
+      marked = laid.marked;
+      rest = subst (λ d. Holds file 5 (gate_text 1 d slots.committed.saved.directory)) (sym first.updated.directory_is) (subst (λ d. Holds file 5 (gate_text 1 directory d)) (sym first.saved.directory_is) laid.rest);
+      kept = keeps_itself (pair_extents slots.committed) file (all_pair (λ e. end_of e ≤ length file) (omega (arith, laid.there.within, founding.size)) within);
+    }
+
+    shut : byte file 516 ≢ 1
+    shut is = lying.beside (sym laid.beside ∙ is)
+
+    outcome : Outcome slots file file
+    outcome =
+        let P : Bool → Type 0 = λ b. byte file (512 * (if b then 1 else 0) + 4) ≡ 1 in
+        let Q : Bool → Type 0 = λ b. Leads (if b then 1 else 0) slots.sequence slots.committed file file in
+        let R : Bool → Type 0 = λ b. IsBeside slots.other (if b then 0 else 1) slots.sequence file file in
+        let T : Other → Type 0 = λ o. IsBeside o 1 slots.sequence file file in
+        record {
+          gate = subst P (sym first.second) laid.gate_is;
+          counts = subst Q (sym first.second) (subst (λ s. Leads 0 s slots.committed file file) (sym first.sequence) leads);
+          beside = subst R (sym first.second) (subst T (sym first.other) shut);
+        }
+
+    whole : IsWhole store live slots
+    whole = record {
+      images = images;
+      within = within;
+      committed = record { updated = copy_stored file directory live slots.committed.updated first.updated one_stored; saved = copy_stored file directory live slots.committed.saved first.saved one_stored };
+      held = subst (IsHeldStored file) (sym first.other) tt;
+      leaves = λ c left. subst (Outcome slots file) (sym (durable c left)) outcome;
+    }
+
+  -- a file that was made is sound
+  pub first_sound : (store : StoreFacts) (old : List ℕ) → (IsTrue store.honest → AreLying live old × IsLaid 1 directory text old store.content × IsDurable store) → IsSound store live slots
+  first_sound store old made = record { formed = formed; whole = λ so. let all = made so in whole store old all.0 all.1 all.2 }
+
+pub on_ok : {T E A B : Type 0} (r : Result T E) → (A → B) → OnOk r A → OnOk r B
+on_ok (Ok x) from a = from a
+on_ok (Err e) from a = tt
+
+-- A file of no block.
+
+none_extents : (n : ℕ) → block_extents (replicate n None) ≡ []
+none_extents zero = refl
+none_extents (suc n) = none_extents n
+
+none_entries : (h n : ℕ) → entries_of h (replicate n None) ≡ []
+none_entries h zero = refl
+none_entries h (suc n) = none_entries (h + 1) n
+
+none_listed : (bytes : List ℕ) (h n : ℕ) → table_entries 1 h (blocks_in bytes (replicate n None)) ≡ []
+none_listed bytes h zero = refl
+none_listed bytes h (suc n) = none_listed bytes (h + 1) n
+
+-- a table of no block
+pub record IsEmpty (n : ℕ) (live : Table) : Type 0 where
+  pub map_block : live.map_block ≡ 0
+  pub places : live.places.items ≡ replicate n None
+
+pub empty_shown : (file : List ℕ) (n : ℕ) (live : Table) → IsEmpty n live → document_in file live ≡ empty_document
+unfolding table_map
+empty_shown file n live is =
+    let none : table_entries 1 1 (blocks_in file live.places.items) ≡ [] = ap (λ ps. table_entries 1 1 (blocks_in file ps)) is.places ∙ none_listed file 1 n in
+    λ i. record { blocks = from_entries (none i); map_block = is.map_block i }
+
+abbrev pub first_directory : Extent
+first_directory = record { page = 2; length = 16 }
+
+pub empty_founding : (text : List ℕ) (n : ℕ) (live : Table) → n ≡ 2048 → IsEmpty n live → text ≡ directory_text (record { map_block = 0; entries = [] }) → IsFounding first_directory text live
+empty_founding text n live all is text_is =
+    let no_extents : block_extents live.places.items ≡ [] = ap block_extents is.places ∙ none_extents n in
+    let no_entries : entries_of 1 live.places.items ≡ [] = ap (entries_of 1) is.places ∙ none_entries 1 n in
+    let same : directory_of_table live ≡ record { map_block = 0; entries = [] } = λ i. record { map_block = is.map_block i; entries = no_entries i } in
+    record {
+      table = record { size = ap length is.places ∙ length-replicate {A = Option Place} n None ∙ all; map_block = inl is.map_block };
+      placed = subst (All IsPlaced) (sym no_extents) (All-nil IsPlaced);
+      directory_placed = record { behind = omega arith; within = omega arith; some = omega arith; short = omega arith };
+      clear = subst (IsClear 1024 16) (sym no_extents) (All-nil (λ e. IsOut 1024 16 (start_of e) (end_of e)));
+      user_ids = subst (All (λ e. e.user_id < 65536)) (sym no_entries) (All-nil (λ e. e.user_id < 65536));
+      text_is = text_is ∙ sym (ap directory_text same);
+      size = ap length text_is;
+    }
+
+pub empty_lying : (n : ℕ) (live : Table) → IsEmpty n live → AreLying live []
+empty_lying n live is =
+    let no_extents : block_extents live.places.items ≡ [] = ap block_extents is.places ∙ none_extents n in
+    let P : Option Place → Type 0 = λ place. IfSome place (IsImaged []) in
+    record {
+      images = subst (AreImaged []) (sym is.places) (All-replicate P n None tt);
+      within = subst (All (λ e. end_of e ≤ 0)) (sym no_extents) (All-nil (λ e. end_of e ≤ 0));
+      beside = λ is. cc is;
+    }
+
+-- the live document is the updated and the saved one
+copy_shown : (file : List ℕ) (directory : Extent) (live : Table) (s : Stored) → IsLiveStored directory live s → document_in file s.table ≡ document_in file live
+copy_shown file directory live s copy = λ i. record { blocks = table_map 1 1 (blocks_in file (copy.places i)); map_block = copy.map_block i }
+
+pub first_shown : (file : List ℕ) (directory : Extent) (live : Table) (slots : Slots) → IsFirst directory live slots → IsOne file live slots
+first_shown file directory live slots first = record {
+  updated = copy_shown file directory live slots.committed.updated first.updated;
+  saved = copy_shown file directory live slots.committed.saved first.saved;
+  attempted = ap (attempted_in file) first.other;
+  sequence = first.sequence;
+}
+
+-- a list with no length
+pub no_bytes : (c : List ℕ) → length c ≡ 0 → c ≡ []
+no_bytes [] size = refl
+no_bytes (x ∷ c) size = absurd (omega (arith, size))

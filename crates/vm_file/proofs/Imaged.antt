@@ -1,0 +1,87 @@
+-- Images of bodies.
+use Rattle.std.proofs.Common.{◌≡◌, ℕ, ◌-◌, ◌<◌, ◌≤◌, ◌==◌, Bool, true, false, not, List, drop, length, length-take, length-drop, slice_index, Option, None, Some, is_some, refl, sym, ap, subst, ◌∙◌, arith, inl, inr}
+use Rattle.std.specs.Prelude.{◌&&◌, Result, Ok, Err, IfOk}
+use Rattle.std.proofs.lemmas.Bool.{cases_Bool, cond-true, cond-false}
+use Rattle.geos_model.specs.Bytes.{same_bytes}
+use Rattle.geos_model.specs.Document.{is_valid_body, is_heap_body}
+use Rattle.geos_model.specs.Image.{image, body_of, body_read}
+use Rattle.geos_model.specs.declared.command.Body.{Body}
+use Rattle.geos_model.specs.declared.command.Body.TheVariants.{Raw, Heap}
+use Rattle.geos_model.proofs.Arrays.{same_bytes-is}
+use Rattle.geos_model.proofs.Images.{length_image_body_le}
+use Rattle.geos_model.proofs.Tables.{slot_at}
+use Rattle.geos_model.specs.Document.{block_at}
+use Rattle.geos_model.specs.File.{bytes_in}
+use Rattle.geos_model.specs.declared.file.Extent.{Extent}
+use Rattle.vm_store.specs.Facts.{Holds}
+use Rattle.vm_file.specs.Ranges.{start_of}
+use Rattle.vm_file.specs.Documents.{IsImaged, AreImaged}
+use Rattle.vm_file.specs.declared.table.Place.{Place}
+use Rattle.vm_file.proofs.Tables.{shown, each_at, block_at_is}
+use Rattle.std.proofs.lemmas.List.{ext_get_or, get_or-drop, get_or-take}
+
+-- bytes that are the image of a body that can be
+pub record IsImage (bytes : List ℕ) : Type 0 where
+  pub reads : body_of bytes ≡ Some (body_read bytes)
+  pub image : image (body_read bytes) ≡ bytes
+  pub valid : is_valid_body (body_read bytes) ≡ true
+
+two : (a b : Bool) → (a && b) ≡ true → (a ≡ true) × (b ≡ true)
+two true b e = (refl, e)
+two false b e = absurd (cc e)
+
+pub is_image : (bytes : List ℕ) → is_some (body_of bytes) ≡ true → IsImage bytes
+unfolding body_of
+is_image bytes some =
+    let body = body_read bytes in
+    let test = is_valid_body body && same_bytes (image body) bytes in
+    elim (cases_Bool test) as (λ _. IsImage bytes) [
+      | inl so ↦ let parts = two (is_valid_body body) (same_bytes (image body) bytes) so in record { reads = cond-true test _ _ so; image = same_bytes-is (image body) bytes parts.1; valid = parts.0 }
+      | inr other ↦ absurd (cc (sym (ap is_some (cond-false test (Some body) None other)) ∙ some))
+    ]
+
+image_some : (body : Body) → 1 ≤ length (image body)
+unfolding image
+image_some (Raw bytes) = omega arith
+image_some (Heap m) = omega arith
+
+-- an image has 1 to 65,521 bytes
+pub image_length : (bytes : List ℕ) → is_some (body_of bytes) ≡ true → (1 ≤ length bytes) × (length bytes ≤ 65521)
+image_length bytes some =
+    let is = is_image bytes some in
+    (subst (λ b. 1 ≤ length b) is.image (image_some (body_read bytes)), subst (λ b. length b ≤ 65521) is.image (length_image_body_le (body_read bytes) is.valid))
+
+-- its first byte tells the kind
+pub image_kind : (bytes : List ℕ) → is_heap_body (body_read bytes) ≡ not (slice_index bytes 0 == 0)
+unfolding body_read
+image_kind bytes = elim (cases_Bool (slice_index bytes 0 == 0)) as (λ _. is_heap_body (body_read bytes) ≡ not (slice_index bytes 0 == 0)) [
+  | inl so ↦ ap is_heap_body (cond-true _ _ _ so) ∙ sym (ap not so)
+  | inr other ↦ ap is_heap_body (cond-false _ _ _ other) ∙ sym (ap not other)
+]
+
+-- The bytes of an extent.
+
+pub holds_bytes : (file bytes : List ℕ) (e : Extent) → length bytes ≡ e.length → Holds file (start_of e) bytes → bytes_in file e ≡ bytes
+holds_bytes file bytes e size holds =
+    let n = e.length in
+    let s = start_of e in
+    let long : length (bytes_in file e) ≡ n = omega (arith, holds.within, size, length-take n (drop s file), length-drop s file) in
+    ext_get_or 0 (bytes_in file e) bytes (long ∙ sym size) (λ i l.
+    let low : i < n = omega (arith, l, long) in
+    get_or-take n (drop s file) i 0 low ∙ get_or-drop s file i 0 ∙ holds.each i (omega (arith, low, size)))
+
+-- what was read of a block
+pub read_image : (file bytes : List ℕ) (places : List (Option Place)) (map_block h : ℕ) (place : Place) → 1 ≤ h → slot_at places (h - 1) ≡ Some place → AreImaged file places → length bytes ≡ place.extent.length → Holds file (start_of place.extent) bytes
+    → bytes ≡ image (block_at (shown file places map_block) h).body
+read_image file bytes places map_block h place low at images size holds =
+    let is = holds_bytes file bytes place.extent size holds in
+    let one = each_at (IsImaged file) places (h - 1) place at images in
+    sym is ∙ sym (is_image (bytes_in file place.extent) (ap is_some one.image)).image ∙ ap (λ b. image b.body) (sym (block_at_is file places map_block h place low at))
+
+pub if_ok : {T E : Type 0} (P Q : T → Type 0) (r : Result T E) → ((x : T) → P x → Q x) → IfOk r P → IfOk r Q
+if_ok P Q (Ok x) from p = from x p
+if_ok P Q (Err e) from p = tt
+
+pub if_ok_both : {T E : Type 0} (P Q R : T → Type 0) (r : Result T E) → ((x : T) → P x → Q x → R x) → IfOk r P → IfOk r Q → IfOk r R
+if_ok_both P Q R (Ok x) from p q = from x p q
+if_ok_both P Q R (Err e) from p q = tt

@@ -1,0 +1,26 @@
+pub mod BodyImages
+pub mod Carried
+pub mod Committed
+pub mod Copied
+pub mod Counting
+mod Crashes
+pub mod Directories
+pub mod Drafted
+pub mod Entries
+pub mod Filled
+pub mod First
+pub mod Found
+pub mod Imaged
+pub mod KeptBytes
+pub mod LaidOut
+pub mod Live
+pub mod Looking
+pub mod Outcomes
+pub mod Passing
+pub mod Puts
+pub mod Stands
+pub mod Steps
+pub mod Tables
+pub mod Whole
+pub mod Writes
+pub mod Written

@@ -1,0 +1,215 @@
+-- What torn bytes leave of the slots, and how one state of them becomes the next.
+use Rattle.std.proofs.Common.{◌≡◌, ◌≢◌, ◌⊎◌, ℕ, ◌+◌, ◌*◌, ◌<◌, ◌≤◌, true, false, not, List, [], ◌∷◌, ◌++◌, All, length, refl, sym, ap, subst, ◌∙◌, arith, inl, inr}
+use Rattle.std.specs.Prelude.{if◌then◌else◌}
+use Rattle.std.proofs.lemmas.List.Elements.{All-nil, All-append}
+use Rattle.byteorder.specs.Endian.{little_bytes}
+use Rattle.byteorder.specs.Numbers.{length-bytes_low_first}
+use Rattle.vm_store.specs.Facts.{byte, Torn, Holds}
+use Rattle.vm_file.specs.Ranges.{start_of, end_of, IsPlaced, SameIn, Keeps, IsOut, IsClear}
+use Rattle.vm_file.specs.Slots.{pair_extents, held_extents, kept_extents, slot_of, other_of, turned, Failed, mark, extent_bytes, gate_text, behind_gate, Leads, IsUnmarked, IsOlder, IsBeside, Outcome, AreKept, IsBesideOut, Spares}
+use Rattle.vm_file.specs.declared.slots.Pair.{Pair}
+use Rattle.vm_file.specs.declared.slots.Other.{Other}
+use Rattle.vm_file.specs.declared.slots.Other.TheVariants.{Shut, Stale, Held}
+use Rattle.vm_file.specs.declared.slots.Slots.{Slots}
+use Rattle.geos_model.specs.declared.file.Extent.{Extent}
+use Rattle.vm_file.proofs.KeptBytes.{all_left, all_right, torn_byte, torn_holds, torn_keeps, clear_of_slots, holds_part, keeps_of_both, keeps_trans}
+
+pub one_each : (slots : Slots) → slot_of slots + other_of slots ≡ 1
+one_each slots = elim slots.second as (λ b. (if b then 1 else 0) + (if b then 0 else 1) ≡ 1) [ true ↦ refl | false ↦ refl ]
+
+-- The extents of the slots.
+
+pub pair_placed : (slots : Slots) → AreKept slots → All IsPlaced (pair_extents slots.committed)
+pair_placed slots kept = all_left IsPlaced (pair_extents slots.committed) (held_extents slots.other) kept
+
+pub held_placed : (slots : Slots) → AreKept slots → All IsPlaced (held_extents slots.other)
+held_placed slots kept = all_right IsPlaced (pair_extents slots.committed) (held_extents slots.other) kept
+
+-- those of the slots when the other one is shut, or leads to a pair that can be
+pub shut_kept : (slots : Slots) → AreKept slots → AreKept (record slots { other = Shut })
+shut_kept slots kept = All-append IsPlaced (pair_extents slots.committed) [] (pair_placed slots kept) (All-nil IsPlaced)
+
+pub with_pair_kept : (slots : Slots) (pair : Pair) → AreKept slots → All IsPlaced (pair_extents pair) → AreKept (record slots { other = Held pair })
+with_pair_kept slots pair kept placed = All-append IsPlaced (pair_extents slots.committed) (pair_extents pair) (pair_placed slots kept) placed
+
+-- those of the slots when it counts
+pub turned_kept : (slots : Slots) (pair : Pair) → All IsPlaced (pair_extents pair) → AreKept (turned slots pair)
+turned_kept slots pair placed = All-append IsPlaced (pair_extents pair) [] placed (All-nil IsPlaced)
+
+-- those of the slots after a commit that failed
+pub failed_kept : (old new : Slots) (pair : Pair) → Failed old pair new → AreKept old → All IsPlaced (pair_extents pair) → AreKept new
+failed_kept old new pair failed kept placed = elim failed as (λ _. AreKept new) [
+  | inl same ↦ subst AreKept (sym same) kept
+  | inr (inl shut) ↦ subst AreKept (sym shut) (shut_kept old kept)
+  | inr (inr held) ↦ subst AreKept (sym held) (with_pair_kept old pair kept placed)
+]
+
+-- a file that keeps what the slots stand on has both slots
+pub outcome_long : (slots : Slots) (file c : List ℕ) → AreKept slots → Outcome slots file c → 1024 ≤ length c
+outcome_long slots file c kept was =
+    let directory = slots.committed.updated.directory in
+    let placed = (kept 0 directory (omega arith)).behind in
+    let same = (was.counts.kept 0 directory (omega arith)).within in
+    omega (arith, placed, same)
+
+pub long_text : (sequence : ℕ) (updated saved : Extent) → length (gate_text sequence updated saved) ≡ 27
+unfolding gate_text
+long_text sequence updated saved = refl
+
+-- Torn bytes.
+
+leads_torn : (at n slot sequence : ℕ) (pair : Pair) (file c d : List ℕ) → IsOut at n (512 * slot) (512 * slot + 4) → IsOut at n (512 * slot + 5) (512 * slot + 32) → IsClear at n (pair_extents pair)
+    → Torn at n c d → Leads slot sequence pair file c → Leads slot sequence pair file d
+leads_torn at n slot sequence pair file c d front behind clear torn was = record {
+  marked = torn_holds at n (512 * slot) (512 * slot + 4) mark c d (omega arith) front torn was.marked;
+  rest = torn_holds at n (512 * slot + 5) (512 * slot + 32) (behind_gate sequence pair) c d (omega (arith, long_text sequence pair.updated.directory pair.saved.directory)) behind torn was.rest;
+  kept = torn_keeps at n (pair_extents pair) file c d clear torn was.kept;
+}
+
+stale_torn : (at n slot sequence : ℕ) (c d : List ℕ) → IsOut at n (512 * slot) (512 * slot + 4) → IsOut at n (512 * slot + 8) (512 * slot + 16) → Torn at n c d → IsUnmarked slot c ⊎ IsOlder slot sequence c → IsUnmarked slot d ⊎ IsOlder slot sequence d
+stale_torn at n slot sequence c d front behind torn was = elim was as (λ _. IsUnmarked slot d ⊎ IsOlder slot sequence d) [
+  | inl unmarked ↦ inl (record { bytes = unmarked.bytes; size = unmarked.size; other = unmarked.other; there = torn_holds at n (512 * slot) (512 * slot + 4) unmarked.bytes c d (omega (arith, unmarked.size)) front torn unmarked.there })
+  | inr older ↦ inr (record { number = older.number; lower = older.lower; there = torn_holds at n (512 * slot + 8) (512 * slot + 16) (little_bytes 8 older.number) c d (omega (arith, length-bytes_low_first 0 8 older.number)) behind torn older.there })
+]
+
+beside_torn : (other : Other) (at n slot sequence : ℕ) (file c d : List ℕ) → 512 * slot + 4 < length c → IsBesideOut other slot at n → Torn at n c d → IsBeside other slot sequence file c → IsBeside other slot sequence file d
+beside_torn Shut at n slot sequence file c d long out torn was = λ is. was (sym (torn_byte at n (512 * slot + 4) (512 * slot + 5) (512 * slot + 4) c d out torn (omega arith) (omega arith) long) ∙ is)
+beside_torn Stale at n slot sequence file c d long out torn was = stale_torn at n slot sequence c d out.0 out.1 torn was
+beside_torn (Held pair) at n slot sequence file c d long out torn was = leads_torn at n slot (sequence + 1) pair file c d out.0 out.1 out.2 torn was
+
+-- what is torn apart from all that the slots stand on
+pub outcome_torn : (at n : ℕ) (slots : Slots) (file c d : List ℕ) → AreKept slots → Spares at n slots → Torn at n c d → Outcome slots file c → Outcome slots file d
+outcome_torn at n slots file c d kept spares torn was =
+    let slot = slot_of slots in
+    let each = one_each slots in
+    let long = outcome_long slots file c kept was in
+    let front : IsOut at n (512 * slot) (512 * slot + 4) = elim spares.slot as (λ _. IsOut at n (512 * slot) (512 * slot + 4)) [ inl before ↦ inl (omega arith) | inr behind ↦ inr behind ] in
+    let back : IsOut at n (512 * slot + 5) (512 * slot + 32) = elim spares.slot as (λ _. IsOut at n (512 * slot + 5) (512 * slot + 32)) [ inl before ↦ inl before | inr behind ↦ inr (omega arith) ] in
+    record {
+      gate = torn_byte at n (512 * slot) (512 * slot + 32) (512 * slot + 4) c d spares.slot torn (omega arith) (omega arith) (omega arith) ∙ was.gate;
+      counts = leads_torn at n slot slots.sequence slots.committed file c d front back spares.committed torn was.counts;
+      beside = beside_torn slots.other at n (other_of slots) slots.sequence file c d (omega arith) spares.beside torn was.beside;
+    }
+
+-- Ranges that are.
+
+-- behind the slots, where no extent is
+clear_beside : (other : Other) (slot at n : ℕ) → slot ≤ 1 → 1024 ≤ at → IsClear at n (held_extents other) → IsBesideOut other slot at n
+clear_beside Shut slot at n low high clear = inl (omega arith)
+clear_beside Stale slot at n low high clear = (inl (omega arith), inl (omega arith))
+clear_beside (Held pair) slot at n low high clear = (inl (omega arith), inl (omega arith), clear)
+
+pub spares_clear : (at n : ℕ) (slots : Slots) → 1024 ≤ at → IsClear at n (kept_extents slots) → Spares at n slots
+spares_clear at n slots high clear =
+    let each = one_each slots in
+    let P : Extent → Type 0 = λ e. IsOut at n (start_of e) (end_of e) in
+    record {
+      slot = inl (omega arith);
+      committed = all_left P (pair_extents slots.committed) (held_extents slots.other) clear;
+      beside = clear_beside slots.other (other_of slots) at n (omega arith) high (all_right P (pair_extents slots.committed) (held_extents slots.other) clear);
+    }
+
+-- within the other slot, which spares the one that counts
+other_slot_out : (slots : Slots) (i n : ℕ) → i + n ≤ 32 → IsOut (512 * other_of slots + i) n (512 * slot_of slots) (512 * slot_of slots + 32)
+other_slot_out slots i n low = elim slots.second as (λ b. IsOut (512 * (if b then 0 else 1) + i) n (512 * (if b then 1 else 0)) (512 * (if b then 1 else 0) + 32)) [ true ↦ inr (omega arith) | false ↦ inl (omega arith) ]
+
+spares_in_other : (slots : Slots) (i n : ℕ) → i + n ≤ 32 → AreKept slots → IsBesideOut slots.other (other_of slots) (512 * other_of slots + i) n → Spares (512 * other_of slots + i) n slots
+spares_in_other slots i n low kept beside =
+    let each = one_each slots in
+    record {
+      slot = other_slot_out slots i n low;
+      committed = clear_of_slots (512 * other_of slots + i) n (pair_extents slots.committed) (omega arith) (pair_placed slots kept);
+      beside = beside;
+    }
+
+gate_beside : (other : Other) (slot : ℕ) → slot ≤ 1 → other ≢ Shut → All IsPlaced (held_extents other) → IsBesideOut other slot (512 * slot + 4) 1
+gate_beside Shut slot low isnt placed = absurd (isnt refl)
+gate_beside Stale slot low isnt placed = (inl (omega arith), inr (omega arith))
+gate_beside (Held pair) slot low isnt placed = (inl (omega arith), inr (omega arith), clear_of_slots (512 * slot + 4) 1 (pair_extents pair) (omega arith) placed)
+
+-- the gate of the other slot, where it isn't known to be shut
+pub spares_gate : (slots : Slots) → AreKept slots → slots.other ≢ Shut → Spares (512 * other_of slots + 4) 1 slots
+spares_gate slots kept isnt =
+    let each = one_each slots in
+    spares_in_other slots 4 1 (omega arith) kept (gate_beside slots.other (other_of slots) (omega arith) isnt (held_placed slots kept))
+
+-- its mark and what is behind its gate, where it is
+pub spares_mark : (slots : Slots) → AreKept slots → slots.other ≡ Shut → Spares (512 * other_of slots + 0) 4 slots
+spares_mark slots kept shut = spares_in_other slots 0 4 (omega arith) kept (subst (λ o. IsBesideOut o (other_of slots) (512 * other_of slots + 0) 4) (sym shut) (inr (omega arith)))
+
+pub spares_behind : (slots : Slots) → AreKept slots → slots.other ≡ Shut → Spares (512 * other_of slots + 5) 27 slots
+spares_behind slots kept shut = spares_in_other slots 5 27 (omega arith) kept (subst (λ o. IsBesideOut o (other_of slots) (512 * other_of slots + 5) 27) (sym shut) (inl (omega arith)))
+
+-- From one state to the next.
+
+pub outcome_shut : (slots : Slots) (file c : List ℕ) → byte c (512 * other_of slots + 4) ≡ 0 → Outcome slots file c → Outcome (record slots { other = Shut }) file c
+outcome_shut slots file c shut was = record { gate = was.gate; counts = was.counts; beside = λ is. omega (arith, shut, is) }
+
+pub outcome_held : (slots : Slots) (pair : Pair) (file c : List ℕ) → Leads (other_of slots) (slots.sequence + 1) pair file c → Outcome slots file c → Outcome (record slots { other = Held pair }) file c
+outcome_held slots pair file c leads was = record { gate = was.gate; counts = was.counts; beside = leads }
+
+not_other : (slots : Slots) (pair : Pair) → slot_of (turned slots pair) ≡ other_of slots
+not_other slots pair = elim slots.second as (λ b. (if not b then 1 else 0) ≡ (if b then 0 else 1)) [ true ↦ refl | false ↦ refl ]
+
+not_slot : (slots : Slots) (pair : Pair) → other_of (turned slots pair) ≡ slot_of slots
+not_slot slots pair = elim slots.second as (λ b. (if not b then 0 else 1) ≡ (if b then 1 else 0)) [ true ↦ refl | false ↦ refl ]
+
+-- a slot's number stands behind its gate
+numbered : (slot sequence : ℕ) (updated saved : Extent) (c : List ℕ) → Holds c (512 * slot + 5) (gate_text sequence updated saved) → Holds c (512 * slot + 8) (little_bytes 8 sequence)
+unfolding gate_text
+numbered slot sequence updated saved c holds =
+    let P : ℕ → Type 0 = λ n. Holds c n (little_bytes 8 sequence) in
+    let place : 512 * slot + 5 + 3 ≡ 512 * slot + 8 = omega arith in
+    subst P place (holds_part c (512 * slot + 5) (1 ∷ 0 ∷ 0 ∷ []) (little_bytes 8 sequence) (extent_bytes updated ++ extent_bytes saved) holds)
+
+pub outcome_turned : (slots : Slots) (pair : Pair) (file c : List ℕ) → byte c (512 * other_of slots + 4) ≡ 1 → Outcome (record slots { other = Held pair }) file c → Outcome (turned slots pair) file c
+outcome_turned slots pair file c gate was =
+    let directories = slots.committed in
+    let older : IsOlder (slot_of slots) (slots.sequence + 1) c = record { number = slots.sequence; lower = omega arith; there = numbered (slot_of slots) slots.sequence directories.updated.directory directories.saved.directory c was.counts.rest } in
+    record {
+      gate = ap (λ s. byte c (512 * s + 4)) (not_other slots pair) ∙ gate;
+      counts = subst (λ s. Leads s (slots.sequence + 1) pair file c) (sym (not_other slots pair)) was.beside;
+      beside = inr (subst (λ s. IsOlder s (slots.sequence + 1) c) (sym (not_slot slots pair)) older);
+    }
+
+-- In another file that has the same bytes.
+
+same_leads : (slot sequence : ℕ) (pair : Pair) (file now c : List ℕ) → (Keeps (pair_extents pair) file c → Keeps (pair_extents pair) now c) → Leads slot sequence pair file c → Leads slot sequence pair now c
+same_leads slot sequence pair file now c same was = record { marked = was.marked; rest = was.rest; kept = same was.kept }
+
+module _ (file now c : List ℕ) (same : (es : List Extent) → Keeps es file now → Keeps es file c → Keeps es now c) where
+  beside_rebased : (other : Other) (slot sequence : ℕ) → IsBeside other slot sequence file now → IsBeside other slot sequence file c → IsBeside other slot sequence now c
+  beside_rebased Shut slot sequence here was = was
+  beside_rebased Stale slot sequence here was = was
+  beside_rebased (Held pair) slot sequence here was = same_leads slot (sequence + 1) pair file now c (same (pair_extents pair) here.kept) was
+
+-- the bytes may be taken from any file that a crash might have left
+pub outcome_rebased : (slots : Slots) (file now c : List ℕ) → Outcome slots file now → Outcome slots file c → Outcome slots now c
+outcome_rebased slots file now c here was = record {
+  gate = was.gate;
+  counts = same_leads (slot_of slots) slots.sequence slots.committed file now c (keeps_of_both (pair_extents slots.committed) file now c here.counts.kept) was.counts;
+  beside = beside_rebased file now c (λ es. keeps_of_both es file now c) slots.other (other_of slots) slots.sequence here.beside was.beside;
+}
+
+beside_earlier : (other : Other) (slot sequence : ℕ) (file now c : List ℕ) → Keeps (held_extents other) file now → IsBeside other slot sequence now c → IsBeside other slot sequence file c
+beside_earlier Shut slot sequence file now c keeps was = was
+beside_earlier Stale slot sequence file now c keeps was = was
+beside_earlier (Held pair) slot sequence file now c keeps was = same_leads slot (sequence + 1) pair now file c (keeps_trans (pair_extents pair) file now c keeps) was
+
+-- and from an earlier one, whose bytes still stand
+pub outcome_earlier : (slots : Slots) (file now c : List ℕ) → Keeps (kept_extents slots) file now → Outcome slots now c → Outcome slots file c
+outcome_earlier slots file now c keeps was = record {
+  gate = was.gate;
+  counts = same_leads (slot_of slots) slots.sequence slots.committed now file c (keeps_trans (pair_extents slots.committed) file now c (all_left (SameIn file now) (pair_extents slots.committed) (held_extents slots.other) keeps)) was.counts;
+  beside = beside_earlier slots.other (other_of slots) slots.sequence file now c (all_right (SameIn file now) (pair_extents slots.committed) (held_extents slots.other) keeps) was.beside;
+}
+
+beside_keeps : (other : Other) (slot sequence : ℕ) (file c : List ℕ) → IsBeside other slot sequence file c → Keeps (held_extents other) file c
+beside_keeps Shut slot sequence file c was = All-nil (SameIn file c)
+beside_keeps Stale slot sequence file c was = All-nil (SameIn file c)
+beside_keeps (Held pair) slot sequence file c was = was.kept
+
+-- all that the slots stand on is in what a crash left
+pub outcome_keeps : (slots : Slots) (file c : List ℕ) → Outcome slots file c → Keeps (kept_extents slots) file c
+outcome_keeps slots file c was =
+    All-append (SameIn file c) (pair_extents slots.committed) (held_extents slots.other) was.counts.kept (beside_keeps slots.other (other_of slots) slots.sequence file c was.beside)

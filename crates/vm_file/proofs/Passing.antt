@@ -1,0 +1,123 @@
+-- The laws by which the layers above pass on what a document file promises.
+use Rattle.std.proofs.Common.{◌≡◌, ◌⊎◌, ℕ, Bool, IsTrue, List, ◌∷◌, refl, sym, subst, ◌∙◌, arith, inl, inr}
+use Rattle.std.specs.Prelude.{◌+◌, Result, Ok, Err, OnOk, OnErr, MatchResult}
+use Rattle.vm_store.specs.Facts.{StoreFacts, IsTimely}
+use Rattle.geos_model.specs.Document.{Document}
+use Rattle.geos_model.specs.declared.fault.Fault.{Fault}
+use Rattle.vm_file.specs.Documents.{Documents}
+use Rattle.vm_file.specs.Disk.{Disk, readable, StandsForOne, Settled, IsSettled, Crash, Drifts, Attempts, Passes, Commits}
+
+on_ok_more : {T E P Q : Type 0} (r : Result T E) → (P → Q) → OnOk r P → OnOk r Q
+on_ok_more (Ok x) f p = f p
+on_ok_more (Err x) f p = tt
+
+on_err_more : {T E P Q : Type 0} (r : Result T E) → (P → Q) → OnErr r P → OnErr r Q
+on_err_more (Ok x) f p = tt
+on_err_more (Err x) f p = f p
+
+pub Drifts-refl : (honest : Bool) (d : Document) → Drifts honest d d
+Drifts-refl honest d = record { live = λ h. refl; user_ids = λ h. refl; map_block = refl; same = λ _. refl }
+
+pub Drifts-trans : (honest : Bool) (a b c : Document) → Drifts honest a b → Drifts honest b c → Drifts honest a c
+Drifts-trans honest a b c p q = record {
+  live = λ h. q.live h ∙ p.live h;
+  user_ids = λ h. q.user_ids h ∙ p.user_ids h;
+  map_block = q.map_block ∙ p.map_block;
+  same = λ so. q.same so ∙ p.same so;
+}
+
+pub Crash-refl : (a : StoreFacts) (pairs : List Documents) → Crash a a pairs
+Crash-refl a pairs = record { later = omega arith; each = λ t c le left. inl left }
+
+-- the same pairs all along
+pub Crash-trans : (a b c : StoreFacts) (pairs : List Documents) → Crash a b pairs → Crash b c pairs → Crash a c pairs
+Crash-trans a b c pairs p q = record {
+  later = omega (arith, p.later, q.later);
+  each = λ t f le left. elim (q.each t f (omega (arith, p.later)) left) as (λ _. a.left_since t f ⊎ StandsForOne pairs f) [ inl before ↦ p.each t f le before | inr now ↦ inr now ];
+}
+
+-- more pairs
+pub Crash-more : (a b : StoreFacts) (xs ys : List Documents) → ((c : List ℕ) → StandsForOne xs c → StandsForOne ys c) → Crash a b xs → Crash a b ys
+Crash-more a b xs ys more p = record {
+  later = p.later;
+  each = λ t f le left. elim (p.each t f le left) as (λ _. a.left_since t f ⊎ StandsForOne ys f) [ inl before ↦ inl before | inr now ↦ inr (more f now) ];
+}
+
+-- since a moment at which a crash left one of these
+pub Crash-since : (a b : StoreFacts) (pairs : List Documents) → IsTimely a → Settled a pairs → Crash a b pairs → (c : List ℕ) → b.left_since a.moment c → StandsForOne pairs c
+Crash-since a b pairs timely settled p c left =
+    elim (p.each a.moment c (omega arith) left) as (λ _. StandsForOne pairs c) [ inl before ↦ settled c (timely.only_now c before) | inr now ↦ now ]
+
+module _ {S : Type 0} (facts : S → StoreFacts) where
+  pub Passes-refl : (a : Disk S) → Passes facts a a
+  Passes-refl a = record { honest = refl; failures = omega arith; updated = λ _. refl; saved = λ _. refl; attempted = λ _. refl; sequence = refl; crash = λ _. Crash-refl _ _ }
+
+  pub same_readable : (a b : Disk S) → Passes facts a b → IsTrue (facts a.store).honest → readable b ≡ readable a
+  same_readable a b p so = λ i. (p.updated so i, p.saved so i) ∷ p.attempted so i
+
+  still : (a b : Disk S) → (facts b.store).honest ≡ (facts a.store).honest → IsTrue (facts a.store).honest → IsTrue (facts b.store).honest
+  still a b same so = subst IsTrue (sym same) so
+
+  pub Passes-trans : (a b c : Disk S) → Passes facts a b → Passes facts b c → Passes facts a c
+  Passes-trans a b c p q = record {
+    honest = q.honest ∙ p.honest;
+    failures = omega (arith, p.failures, q.failures);
+    updated = λ so. q.updated (still a b p.honest so) ∙ p.updated so;
+    saved = λ so. q.saved (still a b p.honest so) ∙ p.saved so;
+    attempted = λ so. q.attempted (still a b p.honest so) ∙ p.attempted so;
+    sequence = q.sequence ∙ p.sequence;
+    crash = λ so.
+        let P : List Documents → Type 0 = λ ds. Crash (facts b.store) (facts c.store) ds in
+        Crash-trans _ _ _ _ (p.crash so) (subst P (same_readable a b p so) (q.crash (still a b p.honest so)));
+  }
+
+  -- what a crash may leave stays one of what may be read
+  pub Passes-settled : (a b : Disk S) → IsTimely (facts a.store) → IsTimely (facts b.store) → Passes facts a b → IsSettled facts a → IsSettled facts b
+  Passes-settled a b timely later p settled so c left =
+      let before : IsTrue (facts a.store).honest = subst IsTrue p.honest so in
+      let P : List Documents → Type 0 = λ ds. StandsForOne ds c in
+      let since = later.counts_now (facts a.store).moment c (p.crash before).later left in
+      subst P (sym (same_readable a b p before)) (Crash-since (facts a.store) (facts b.store) (readable a) timely (settled before) (p.crash before) c since)
+
+  -- a commit that is refused before anything is done
+  pub Commits-refused : (a : Disk S) (pair : Documents) (f : Fault) → IsSettled facts a → Commits facts pair a a (Err f)
+  Commits-refused a pair f settled = record {
+    honest = refl;
+    failures = omega arith;
+    crash = λ _. Crash-refl _ _;
+    settled = settled;
+    ok = tt;
+    err = λ _. (refl, refl, inl refl);
+    sequence = refl;
+  }
+
+  -- calls that commit nothing, before a commit that isn't tried
+  pub Passes-fails : (a b : Disk S) (pair : Documents) (f : Fault) → Passes facts a b → IsSettled facts b → Commits facts pair a b (Err f)
+  Passes-fails a b pair f p settled = record {
+    honest = p.honest;
+    failures = p.failures;
+    crash = λ so. Crash-more _ _ (readable a) (pair ∷ readable a) (λ c one. inr one) (p.crash so);
+    settled = settled;
+    ok = tt;
+    err = λ so. (p.updated so, p.saved so, inl (p.attempted so));
+    sequence = p.sequence;
+  }
+
+  -- calls that commit nothing, and then one that tries
+  pub Passes-Commits : (a b c : Disk S) (first then : Documents) (result : Result (Unit {0}) Fault) → Passes facts a b → (IsTrue (facts a.store).honest → then ≡ first) → Commits facts then b c result → Commits facts first a c result
+  Passes-Commits a b c first then result p same q =
+      let now = still a b p.honest in
+      record {
+        honest = q.honest ∙ p.honest;
+        failures = omega (arith, p.failures, q.failures);
+        crash = λ so.
+            let P : List Documents → Type 0 = λ ds. Crash (facts b.store) (facts c.store) ds in
+            let are : then ∷ readable b ≡ first ∷ readable a = λ i. same so i ∷ same_readable a b p so i in
+            Crash-trans _ _ _ _ (Crash-more _ _ (readable a) (first ∷ readable a) (λ f one. inr one) (p.crash so)) (subst P are (q.crash (now so)));
+        settled = q.settled;
+        ok = on_ok_more result (λ given so. ((given (now so)).0 ∙ same so, (given (now so)).1)) q.ok;
+        err = on_err_more result (λ given so.
+            let got = given (now so) in
+            (got.0 ∙ p.updated so, got.1 ∙ p.saved so, subst (λ d. Attempts d a.attempted c.attempted) (same so) (subst (λ ds. Attempts then ds c.attempted) (p.attempted so) got.2))) q.err;
+        sequence = subst (λ n. MatchResult result (λ _. c.sequence ≡ n + 1) (λ _. c.sequence ≡ n)) p.sequence q.sequence;
+      }

@@ -1,0 +1,164 @@
+-- A file into which blocks are put, and from which others are taken.
+use Rattle.std.proofs.Common.{◌≡◌, ◌≢◌, ◌⊎◌, ℕ, ◌+◌, ◌-◌, ◌<◌, ◌≤◌, true, IsTrue, List, ◌++◌, All, take, drop, length, get_or, Option, Some, is_some, sym, ap, subst, ◌∙◌, arith, inl, inr, length-append}
+use Rattle.std.specs.Prelude.{Result, Ok, Err, OnErr}
+use Rattle.vm_store.specs.Facts.{StoreFacts}
+use Rattle.geos_model.specs.Document.{Document}
+use Rattle.geos_model.specs.Image.{body_of, body_read}
+use Rattle.geos_model.specs.Document.{is_heap_body}
+use Rattle.geos_model.specs.File.{bytes_in}
+use Rattle.geos_model.specs.declared.file.Extent.{Extent}
+use Rattle.geos_model.specs.declared.handle.VmHandle.{VmHandle}
+use Rattle.geos_model.proofs.Tables.{slot_at}
+use Rattle.vm_file.specs.Ranges.{IsPlaced, Keeps}
+use Rattle.vm_file.specs.Slots.{block_extents, stored_extents, pair_extents, held_extents, kept_extents, Leaves}
+use Rattle.vm_file.specs.Documents.{IsImaged, AreImaged}
+use Rattle.vm_file.specs.Calls.{IsPut, put_all, remove_all}
+use Rattle.vm_file.specs.Disk.{Drifts, Passes}
+use Rattle.vm_file.specs.Sound.{IsTable, AreTables, IsHeldFormed, IsFormed, IsSound, disk_of}
+use Rattle.vm_file.specs.Writing.{AreFor, AreWritten, IsSpared, placed_at, with_places, without_places}
+use Rattle.vm_file.specs.declared.put.PutBlock.{PutBlock}
+use Rattle.vm_file.specs.declared.table.Place.{Place}
+use Rattle.vm_file.specs.declared.table.Table.{Table}
+use Rattle.vm_file.specs.declared.slots.Stored.{Stored}
+use Rattle.vm_file.specs.declared.slots.Pair.{Pair}
+use Rattle.vm_file.specs.declared.slots.Other.{Other}
+use Rattle.vm_file.specs.declared.slots.Other.TheVariants.{Shut, Stale, Held}
+use Rattle.vm_file.specs.declared.slots.Slots.{Slots}
+use Rattle.vm_file.proofs.Carried.{call_passes, call_sound}
+use Rattle.vm_file.proofs.Filled.{drifts_put_all, drifts_remove_all, filled_drifts, length-with_places, length-without_places, each_with, each_without, full_with, full_without, shown_without_all}
+use Rattle.vm_file.proofs.Imaged.{is_image, image_kind, holds_bytes}
+use Rattle.vm_file.proofs.Live.{EndsIn}
+use Rattle.vm_file.proofs.Passing.{Drifts-trans}
+use Rattle.vm_file.proofs.Tables.{EachPlace, shown, places_drift, blocks_same, images_same, extents_of, places_of, length-block_extents, items_kept}
+
+-- There are not too many extents.
+
+stored_few : (s : Stored) → IsTable s.table → length (stored_extents s) ≤ 2049
+stored_few s table = let few = length-block_extents s.table.places.items in let size = table.size in omega (arith, few, size)
+
+pair_few : (pair : Pair) → AreTables pair → length (pair_extents pair) ≤ 4098
+pair_few pair tables =
+    let first = stored_few pair.updated tables.updated in
+    let second = stored_few pair.saved tables.saved in
+    let both = length-append (stored_extents pair.updated) (stored_extents pair.saved) in
+    omega (arith, first, second, both)
+
+held_few : (sequence : ℕ) (other : Other) → IsHeldFormed sequence other → length (held_extents other) ≤ 4098
+held_few sequence Shut formed = omega arith
+held_few sequence Stale formed = omega arith
+held_few sequence (Held pair) formed = pair_few pair formed.0
+
+pub few_extents : (live : Table) (slots : Slots) → IsFormed live slots → length (block_extents live.places.items ++ kept_extents slots) ≤ 10244
+few_extents live slots formed =
+    let mine = length-block_extents live.places.items in
+    let size = formed.table.size in
+    let pair = pair_few slots.committed formed.committed in
+    let held = held_few slots.sequence slots.other formed.held in
+    let kept = length-append (pair_extents slots.committed) (held_extents slots.other) in
+    let all = length-append (block_extents live.places.items) (kept_extents slots) in
+    omega (arith, mine, size, pair, held, kept, all)
+
+-- a vector whose elements are changed twice
+pub kept_twice : {X : Type 0} (n : ℕ) (xs ws vs : List X) → n ≡ length xs → length ws ≡ length xs → length vs ≡ length ws → take n (vs ++ drop (length vs) (take n (ws ++ drop (length ws) xs))) ≡ vs
+kept_twice n xs ws vs size first second = ap (λ l. take n (vs ++ drop (length vs) l)) (items_kept n ws xs size first) ∙ items_kept n vs ws (omega (arith, size, first)) second
+
+-- an image that stands in its extent
+written_imaged : (file : List ℕ) (p : PutBlock) (e : Extent) → IsPut p → bytes_in file e ≡ p.image → IsImaged file (placed_at p e)
+written_imaged file p e put is = record {
+  image = subst (λ bytes. body_of bytes ≡ Some (body_read bytes)) (sym is) (is_image p.image put.image).reads;
+  kind = sym (image_kind p.image) ∙ ap (λ bytes. is_heap_body (body_read bytes)) (sym is);
+}
+
+module _ {S : Type 0} (facts : S → StoreFacts) (a b : S) (live : Table) (slots : Slots) (sound : IsSound (facts a) live slots) (honest : (facts b).honest ≡ (facts a).honest)
+    (before : IsTrue (facts a).honest → (facts a).may_leave (facts a).content) (now : IsTrue (facts b).honest → (facts b).may_leave (facts b).content)
+    (spared : IsTrue (facts a).honest → IsSpared (block_extents live.places.items) slots (facts a) (facts b)) where
+  leaves : IsTrue (facts a).honest → Leaves (facts b) slots (facts a).content
+  leaves so = (spared so).leaves (facts a).content (sound.whole so).leaves
+
+  kept : IsTrue (facts a).honest → Keeps (block_extents live.places.items) (facts a).content (facts b).content
+  kept so = (spared so).keeps (sound.whole so).within
+
+  images : IsTrue (facts a).honest → AreImaged (facts b).content live.places.items
+  images so = images_same (facts a).content (facts b).content live.places.items (sound.whole so).within (kept so) (sound.whole so).images
+
+  within : IsTrue (facts a).honest → All (EndsIn (facts b).content) (block_extents live.places.items)
+  within so k d inside = (kept so k d inside).within
+
+  pub spared_passes : (facts a).failures ≤ (facts b).failures → Passes facts (disk_of facts a slots) (disk_of facts b slots)
+  spared_passes failures = call_passes facts a b live slots sound honest before now leaves failures (λ so. (spared so).crash (facts a).content (sound.whole so).leaves)
+
+  pub spared_drifts : Drifts (facts a).honest (shown (facts a).content live.places.items live.map_block) (shown (facts b).content live.places.items live.map_block)
+  spared_drifts = places_drift (facts a).honest (facts a).content (facts b).content live.places.items live.map_block (λ so. blocks_same (facts a).content (facts b).content live.places.items (sound.whole so).within (kept so))
+
+  -- where the table stays
+  pub spared_sound : IsSound (facts b) live slots
+  spared_sound = call_sound facts a b live slots sound honest before now leaves live sound.formed (λ so. (images so, within so))
+
+  -- where the images were written, and the table is changed
+  module _ (puts : List PutBlock) (extents : List Extent) (removals : List VmHandle) (new : Table) (are : All IsPut puts) (taken : List Extent) (found : AreFor taken puts (length puts) extents)
+      (written : IsTrue (facts a).honest → AreWritten (length puts) puts extents (facts b).content) (same : new.map_block ≡ live.map_block)
+      (is : new.places.items ≡ without_places removals (with_places puts extents live.places.items)) where
+    bytes : (so : IsTrue (facts a).honest) (k : ℕ) (p : PutBlock) (e : Extent) → k < length puts → bytes_in (facts b).content (get_or extents k e) ≡ (get_or puts k p).image
+    bytes so k p e low = holds_bytes (facts b).content (get_or puts k p).image (get_or extents k e) (sym (found.sizes k e p low)) (written so k e p low)
+
+    pub put_drifts : Drifts (facts a).honest (remove_all removals (put_all puts (shown (facts a).content live.places.items live.map_block))) (shown (facts b).content new.places.items new.map_block)
+    put_drifts =
+        let honestly = (facts a).honest in
+        let file = (facts b).content in
+        let places = live.places.items in
+        let filled = with_places puts extents places in
+        let P : Document → Type 0 = Drifts honestly (remove_all removals (put_all puts (shown (facts a).content places live.map_block))) in
+        let made : shown file new.places.items new.map_block ≡ remove_all removals (shown file filled live.map_block) =
+        ap (λ m. shown file new.places.items m) same ∙ ap (λ ps. shown file ps live.map_block) is ∙ shown_without_all file removals filled live.map_block in
+        subst P (sym made) (drifts_remove_all honestly removals _ _ (Drifts-trans honestly _ _ _ (drifts_put_all honestly puts _ _ spared_drifts)
+        (filled_drifts honestly file puts extents places live.map_block sound.formed.table.size are found.count (λ k p e low so. bytes so k p e low))))
+
+    module _ (stays : All (λ h. h.0 ≢ live.map_block) removals) where
+      each_new : (P : Place → Type 0) → ((k : ℕ) (p : PutBlock) (e : Extent) → k < length puts → P (placed_at (get_or puts k p) (get_or extents k e))) → EachPlace P live.places.items → EachPlace P new.places.items
+      each_new P one each = subst (EachPlace P) (sym is) (each_without P removals (with_places puts extents live.places.items) (each_with P puts extents live.places.items one each))
+
+      new_table : IsTable new
+      new_table = record {
+        size = ap length is ∙ length-without_places removals (with_places puts extents live.places.items) ∙ length-with_places puts extents live.places.items ∙ sound.formed.table.size;
+        map_block = elim sound.formed.table.map_block as (λ _. (new.map_block ≡ 0) ⊎ ((1 ≤ new.map_block) × (is_some (slot_at new.places.items (new.map_block - 1)) ≡ true))) [
+          | inl none ↦ inl (same ∙ none)
+          | inr one ↦
+              let i = live.map_block - 1 in
+              let back : i + 1 ≡ live.map_block = omega (arith, one.0) in
+              inr (
+                omega (arith, same, one.0),
+                ap (λ m. is_some (slot_at new.places.items (m - 1))) same ∙ ap (λ ps. is_some (slot_at ps i)) is
+                    ∙ full_without removals (with_places puts extents live.places.items) i (λ k d inside gone. stays k d inside (gone ∙ back)) (full_with puts extents live.places.items i one.1),
+              )
+        ];
+      }
+
+      pub put_sound : IsSound (facts b) new slots
+      put_sound = call_sound facts a b live slots sound honest before now leaves new
+          (record {
+            table = new_table;
+            placed = extents_of IsPlaced new.places.items (each_new (λ p. IsPlaced p.extent) (λ k p e low. found.placed k e (omega (arith, found.count, low))) (places_of IsPlaced live.places.items sound.formed.placed));
+            committed = sound.formed.committed;
+            held = sound.formed.held;
+            kept = sound.formed.kept;
+            numbered = sound.formed.numbered;
+            in_range = sound.formed.in_range;
+          })
+          (λ so. (
+            each_new (IsImaged (facts b).content) (λ k p e low. written_imaged (facts b).content (get_or puts k p) (get_or extents k e) (are k p low) (bytes so k p e low)) (images so),
+            extents_of (EndsIn (facts b).content) new.places.items (each_new (λ p. EndsIn (facts b).content p.extent)
+                (λ k p e low. let size = found.sizes k e p low in let ends = (written so k e p low).within in omega (arith, size, ends))
+                (places_of (EndsIn (facts b).content) live.places.items (within so))),
+          ))
+
+pub on_err : {T E : Type 0} (r : Result T E) (P : Type 0) → P → OnErr r P
+on_err (Ok x) P p = tt
+on_err (Err x) P p = p
+
+-- a table in which blocks were put, and from which others were taken
+pub changed_twice : (n : ℕ) (places filled left : List (Option Place)) (puts : List PutBlock) (extents : List Extent) (removals : List VmHandle) → n ≡ length places → filled ≡ with_places puts extents places
+    → left ≡ without_places removals (take n (filled ++ drop (length filled) places)) → take n (left ++ drop (length left) (take n (filled ++ drop (length filled) places))) ≡ without_places removals (with_places puts extents places)
+changed_twice n places filled left puts extents removals size first second =
+    let long = ap length first ∙ length-with_places puts extents places in
+    let mid = ap (without_places removals) (items_kept n filled places size long) in
+    kept_twice n places filled left size long (ap length (second ∙ mid) ∙ length-without_places removals filled) ∙ second ∙ mid ∙ ap (without_places removals) first

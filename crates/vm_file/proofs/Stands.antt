@@ -1,0 +1,295 @@
+-- What a file stands for that a crash left.
+use Rattle.std.proofs.Common.{◌≡◌, ◌⊎◌, ℕ, zero, suc, ◌+◌, ◌-◌, ◌*◌, ◌^◌, ◌<◌, ◌≤◌, ◌==◌, Bool, true, false, List, [], ◌∷◌, ◌++◌, take, drop, length, get_or, slice_index, Option, None, Some, All, refl, sym, ap, ap₂, subst, ◌∙◌, arith, inl, inr, length-take, length-drop, length-append, eqb-true}
+use Rattle.std.specs.Prelude.{if◌then◌else◌, Ok, IfSome}
+use Rattle.std.specs.Option.{option_map, option_and_then}
+use Rattle.std.specs.FinMap.{from_entries}
+use Rattle.std.proofs.lemmas.Bool.{cases_Bool, cases_lt, cond-true, cond-false, eqb-false}
+use Rattle.std.proofs.lemmas.List.{get_or-drop, get_or-take, get_or_append_left, get_or-append_right, take-append-drop}
+use Rattle.std.proofs.lemmas.Grind.{same_number_lists}
+use Rattle.byteorder.specs.Endian.{little_bytes, little_number}
+use Rattle.byteorder.specs.Numbers.{little_number-reads_back}
+use Rattle.geos_model.specs.Words.{quad_word_at}
+use Rattle.geos_model.proofs.Arrays.{same_bytes-is}
+use Rattle.vm_store.specs.Facts.{StoreFacts, byte}
+use Rattle.geos_model.specs.Bytes.{same_bytes}
+use Rattle.geos_model.specs.Document.{Block}
+use Rattle.geos_model.specs.Image.{body_of, body_read}
+use Rattle.geos_model.specs.File.{stands, open_slot, if_open, slot_text, slot_mark, slot_read, counting_slot, document_at, document_of, blocks_of, bytes_in, prepended}
+use Rattle.geos_model.specs.FileLaws as laws
+use Rattle.geos_model.specs.declared.file.Extent.{Extent}
+use Rattle.geos_model.specs.declared.file.Slot.{Slot}
+use Rattle.geos_model.proofs.Table.{table_entries, table_map}
+use Rattle.geos_model.proofs.FileDocuments.{document_at-kept}
+use Rattle.geos_model.proofs.FileStands.{stands-from, counts-first, counts-second, counts-first_newer, counts-second_newer, open_slot-text, open_slot-shut, slot_bytes}
+use Rattle.vm_file.specs.Ranges.{IsPlaced, SameIn, Keeps, start_of}
+use Rattle.vm_file.specs.Slots.{mark, gate_text, behind_gate, Leads, IsBeside, IsUnmarked, IsOlder, Outcome, block_extents, stored_extents, pair_extents, held_extents, AreKept}
+use Rattle.vm_file.specs.Documents.{blocks_in, document_in, documents_in, attempted_in, entries_of, directory_of_table, IsImaged, AreImaged, IsStored, AreStored, IsHeldStored}
+use Rattle.vm_file.specs.Disk.{StandsForOne, IsSettled}
+use Rattle.vm_file.specs.Sound.{IsFormed, IsHeldFormed, IsWhole, IsSound, disk_of}
+use Rattle.vm_file.specs.declared.table.Place.{Place}
+use Rattle.vm_file.specs.declared.table.Table.{Table}
+use Rattle.vm_file.specs.declared.slots.Stored.{Stored}
+use Rattle.vm_file.specs.declared.slots.Pair.{Pair}
+use Rattle.vm_file.specs.declared.slots.Other.{Other}
+use Rattle.vm_file.specs.declared.slots.Other.TheVariants.{Shut, Stale, Held}
+use Rattle.vm_file.specs.declared.slots.Slots.{Slots}
+
+-- The document of a directory.
+
+abbrev numbered : ℕ → Block → ℕ × Block
+numbered h b = (h, b)
+
+-- the blocks of a table, each with its handle
+pub table_blocks : (file : List ℕ) (h : ℕ) (places : List (Option Place)) → AreImaged file places → blocks_of file (entries_of h places) ≡ Some (table_entries 1 h (blocks_in file places))
+table_blocks file h [] are = refl
+table_blocks file h (None ∷ places) are = table_blocks file (h + 1) places (λ i d within. are (suc i) d (omega arith))
+table_blocks file h (Some place ∷ places) are =
+    let more = table_blocks file (h + 1) places (λ i d within. are (suc i) d (omega arith)) in
+    let one : IfSome (Some place) (IsImaged file) = are 0 None (omega arith) in
+    let image : body_of (bytes_in file place.extent) ≡ Some (body_read (bytes_in file place.extent)) = one.image in
+    ap₂ prepended (ap (option_map (λ body. numbered h (record { user_id = place.user_id; body = body }))) image) more
+
+-- the directory's document
+pub stored_document : (file : List ℕ) (s : Stored) → IsStored file s → document_at file s.directory ≡ Some (document_in file s.table)
+unfolding table_map
+stored_document file s stored =
+    ap (option_and_then (document_of file)) stored.directory
+    ∙ ap (option_map (λ blocks. record { blocks = from_entries blocks; map_block = s.table.map_block })) (table_blocks file 1 s.table.places.items stored.images)
+
+-- Files in which the bytes are the same.
+
+pub keeps_in : (file c : List ℕ) (e : Extent) → SameIn file c e → laws.Keeps file c e
+keeps_in file c e same = record {
+  within = same.within;
+  bytes = λ i low high.
+      let at : i ≡ start_of e + (i - start_of e) = omega arith in
+      ap (byte c) at ∙ same.each (i - start_of e) (omega arith) ∙ sym (ap (byte file) at);
+}
+
+pub keeps_entries : (file c : List ℕ) (h : ℕ) (places : List (Option Place)) → Keeps (block_extents places) file c → All (λ entry. laws.Keeps file c entry.extent) (entries_of h places)
+keeps_entries file c h [] keeps k d within = absurd (omega arith)
+keeps_entries file c h (None ∷ places) keeps k d within = keeps_entries file c (h + 1) places keeps k d within
+keeps_entries file c h (Some place ∷ places) keeps zero d within = keeps_in file c place.extent (keeps 0 place.extent (omega arith))
+keeps_entries file c h (Some place ∷ places) keeps (suc k) d within = keeps_entries file c (h + 1) places (λ i x inside. keeps (suc i) x (omega arith)) k d (omega arith)
+
+-- a document whose bytes are kept
+pub stored_kept : (file c : List ℕ) (s : Stored) → IsStored file s → Keeps (stored_extents s) file c → document_at c s.directory ≡ Some (document_in file s.table)
+stored_kept file c s stored keeps =
+    document_at-kept file c s.directory (directory_of_table s.table) stored.directory (keeps_in file c s.directory (keeps 0 s.directory (omega arith))) (keeps_entries file c 1 s.table.places.items (λ i x inside. keeps (suc i) x (omega arith)))
+    ∙ stored_document file s stored
+
+-- A slot.
+
+abbrev pub slot_value : ℕ → Pair → Slot
+slot_value sequence pair = record { gate = 1; version = 1; reserved = 0; sequence = sequence; working = pair.updated.directory; saved = pair.saved.directory }
+
+pub byte_of_slot : (c : List ℕ) (slot k : ℕ) → k < 32 → byte (slot_bytes c slot) k ≡ byte c (512 * slot + k)
+byte_of_slot c slot k low = get_or-take 32 (drop (512 * slot) c) k 0 low ∙ get_or-drop (512 * slot) c k 0
+
+slot_size : (c : List ℕ) (slot : ℕ) → 512 * slot + 32 ≤ length c → length (slot_bytes c slot) ≡ 32
+slot_size c slot within = omega (arith, length-take 32 (drop (512 * slot) c), length-drop (512 * slot) c, within)
+
+-- a slot that is open has its text
+pub slot_written : (slot sequence : ℕ) (pair : Pair) (file c : List ℕ) → byte c (512 * slot + 4) ≡ 1 → Leads slot sequence pair file c → slot_bytes c slot ≡ slot_text (slot_value sequence pair)
+unfolding gate_text
+slot_written slot sequence pair file c gate leads =
+    let rest = behind_gate sequence pair in
+    let long : 512 * slot + 5 + 27 ≤ length c = leads.rest.within in
+    let size = slot_size c slot (omega (arith, long)) in
+    same_number_lists (slot_bytes c slot) (mark ++ 1 ∷ rest) size (λ k inside.
+    let low : k < 32 = omega (arith, size, inside) in
+    byte_of_slot c slot k low ∙ (elim (cases_lt k 4) as (λ _. byte c (512 * slot + k) ≡ byte (mark ++ 1 ∷ rest) k) [
+      | inl before ↦ leads.marked.each k before ∙ sym (get_or_append_left mark (1 ∷ rest) 0 k before)
+      | inr after ↦ elim (cases_lt 4 k) as (λ _. byte c (512 * slot + k) ≡ byte (mark ++ 1 ∷ rest) k) [
+        | inl behind ↦
+            let at : 512 * slot + k ≡ 512 * slot + 5 + (k - 5) = omega arith in
+            let step : k - 4 ≡ suc (k - 5) = omega arith in
+            ap (byte c) at ∙ leads.rest.each (k - 5) (omega (arith, low)) ∙ sym (get_or-append_right mark (1 ∷ rest) 4 k 0 refl (omega arith) ∙ ap (byte (1 ∷ rest)) step)
+        | inr four ↦
+            let is : k ≡ 4 = omega arith in
+            ap (λ n. byte c (512 * slot + n)) is ∙ gate ∙ sym (ap (byte (mark ++ 1 ∷ rest)) is)
+      ]
+    ]))
+
+-- what a slot leads to has numbers that its text has room for
+pub record FitsPair (sequence : ℕ) (pair : Pair) : Type 0 where
+  pub some : 1 ≤ sequence
+  pub in_range : sequence < 2 ^ 64
+  pub updated : IsPlaced pair.updated.directory
+  pub saved : IsPlaced pair.saved.directory
+
+fits_extent : (e : Extent) → IsPlaced e → laws.FitsExtent e
+fits_extent e placed = (omega (arith, placed.within), omega (arith, placed.short))
+
+pub lead_open : (slot sequence : ℕ) (pair : Pair) (file c : List ℕ) → FitsPair sequence pair → byte c (512 * slot + 4) ≡ 1 → Leads slot sequence pair file c → open_slot c slot ≡ Some (slot_value sequence pair)
+lead_open slot sequence pair file c fits gate leads =
+    open_slot-text c slot (slot_value sequence pair) (slot_written slot sequence pair file c gate leads) (record {
+      gate = omega arith;
+      version = omega arith;
+      reserved = omega arith;
+      sequence = fits.in_range;
+      working = fits_extent pair.updated.directory fits.updated;
+      saved = fits_extent pair.saved.directory fits.saved;
+    })
+
+-- the slot isn't open, or has a lower number
+abbrev pub Beaten : Option Slot → ℕ → Type 0
+Beaten slot n = (slot ≡ None) ⊎ ((t : Slot) × (slot ≡ Some t) × (t.sequence < n))
+
+-- which slot counts, where the first, or the second, beats the other
+pub counts : (c : List ℕ) (second : Bool) (s : Slot) → open_slot c (if second then 1 else 0) ≡ Some s → Beaten (open_slot c (if second then 0 else 1)) s.sequence → counting_slot (open_slot c 0) (open_slot c 1) ≡ Ok s
+counts c true s here (inl none) = counts-second c s none here
+counts c true s here (inr older) = counts-second_newer c older.0 s older.1 here older.2
+counts c false s here (inl none) = counts-first c s here none
+counts c false s here (inr older) = counts-first_newer c s older.0 here older.1 older.2
+
+-- The slot that doesn't count.
+
+-- a slot with another mark
+pub unmarked_shut : (slot : ℕ) (c : List ℕ) → 512 * slot + 32 ≤ length c → IsUnmarked slot c → open_slot c slot ≡ None
+unmarked_shut slot c within was =
+    let four : length (take 4 (slot_bytes c slot)) ≡ 4 = omega (arith, length-take 4 (slot_bytes c slot), slot_size c slot within) in
+    let is : take 4 (slot_bytes c slot) ≡ was.bytes = same_number_lists (take 4 (slot_bytes c slot)) was.bytes (four ∙ sym was.size) (λ k inside.
+    let low : k < 4 = omega (arith, four, inside) in
+    get_or-take 4 (slot_bytes c slot) k 0 low ∙ byte_of_slot c slot k (omega arith) ∙ was.there.each k (omega (arith, was.size))) in
+    elim (cases_Bool (same_bytes (take 4 (slot_bytes c slot)) slot_mark)) [
+      | inl marked ↦ absurd (was.other (sym is ∙ same_bytes-is (take 4 (slot_bytes c slot)) slot_mark marked))
+      | inr other ↦ ap (option_and_then if_open) (cond-false _ _ _ other)
+    ]
+
+-- a slot that is open has the number that stands there
+pub older_beaten : (slot sequence : ℕ) (c : List ℕ) → sequence < 2 ^ 64 → 512 * slot + 32 ≤ length c → IsOlder slot sequence c → Beaten (open_slot c slot) sequence
+older_beaten slot sequence c range within was =
+    let bytes = slot_bytes c slot in
+    let eight : length (take 8 (drop 8 bytes)) ≡ 8 = omega (arith, length-take 8 (drop 8 bytes), length-drop 8 bytes, slot_size c slot within) in
+    let is : take 8 (drop 8 bytes) ≡ little_bytes 8 was.number = same_number_lists (take 8 (drop 8 bytes)) (little_bytes 8 was.number) eight (λ k inside.
+    let low : k < 8 = omega (arith, eight, inside) in
+    let at : 512 * slot + (8 + k) ≡ 512 * slot + 8 + k = omega arith in
+    get_or-take 8 (drop 8 bytes) k 0 low ∙ get_or-drop 8 bytes k 0 ∙ byte_of_slot c slot (8 + k) (omega arith) ∙ ap (byte c) at ∙ was.there.each k low) in
+    let number : quad_word_at bytes 8 ≡ was.number = ap (little_number 8) (sym (take-append-drop 8 (drop 8 bytes)) ∙ ap (λ l. l ++ drop 8 (drop 8 bytes)) is) ∙ little_number-reads_back 8 was.number (drop 8 (drop 8 bytes)) (omega (arith, was.lower, range)) in
+    elim (cases_Bool (same_bytes (take 4 bytes) slot_mark)) as (λ _. Beaten (open_slot c slot) sequence) [
+      | inl marked ↦ elim (cases_Bool (slice_index bytes 4 == 1)) as (λ _. Beaten (open_slot c slot) sequence) [
+        | inl gate ↦ inr (slot_read bytes, ap (option_and_then if_open) (cond-true _ _ _ marked) ∙ cond-true _ _ _ gate, omega (arith, number, was.lower))
+        | inr shut ↦ inl (ap (option_and_then if_open) (cond-true _ _ _ marked) ∙ cond-false _ _ _ shut)
+      ]
+      | inr other ↦ inl (ap (option_and_then if_open) (cond-false _ _ _ other))
+    ]
+
+-- What a file stands for, by the slot that counts.
+
+pub stands_for : (sequence : ℕ) (pair : Pair) (file c : List ℕ) → FitsPair sequence pair → AreStored file pair → Keeps (stored_extents pair.updated) file c → Keeps (stored_extents pair.saved) file c
+    → counting_slot (open_slot c 0) (open_slot c 1) ≡ Ok (slot_value sequence pair) → stands c ≡ Ok (documents_in file pair)
+stands_for sequence pair file c fits stored updated saved counts_is =
+    let first = updated 0 pair.updated.directory (omega arith) in
+    stands-from c (slot_value sequence pair) (document_in file pair.updated.table) (document_in file pair.saved.table) (record {
+      long = omega (arith, first.within, fits.updated.behind);
+      counts = counts_is;
+      version = refl;
+      reserved = refl;
+      sequence = fits.some;
+      working = stored_kept file c pair.updated stored.updated updated;
+      saved_is = stored_kept file c pair.saved stored.saved saved;
+    })
+
+-- The file of a crash.
+
+abbrev pub AllPlaced : Pair → Type 0
+AllPlaced pair = All IsPlaced (pair_extents pair)
+
+pub first_part : {X : Type 0} (P : X → Type 0) (xs ys : List X) → All P (xs ++ ys) → All P xs
+first_part P xs ys all k d within = subst P (get_or_append_left xs ys d k within) (all k d (omega (arith, length-append xs ys)))
+
+pub second_part : {X : Type 0} (P : X → Type 0) (xs ys : List X) → All P (xs ++ ys) → All P ys
+second_part P xs ys all k d within =
+    let at : length xs + k - length xs ≡ k = omega arith in
+    subst P (get_or-append_right xs ys (length xs) (length xs + k) d refl (omega arith) ∙ ap (λ n. get_or ys n d) at) (all (length xs + k) d (omega (arith, length-append xs ys)))
+
+pub fits_pair : (sequence : ℕ) (pair : Pair) → 1 ≤ sequence → sequence < 2 ^ 64 → All IsPlaced (pair_extents pair) → FitsPair sequence pair
+fits_pair sequence pair some range placed = record {
+  some = some;
+  in_range = range;
+  updated = first_part IsPlaced (stored_extents pair.updated) (stored_extents pair.saved) placed 0 pair.updated.directory (omega arith);
+  saved = second_part IsPlaced (stored_extents pair.updated) (stored_extents pair.saved) placed 0 pair.saved.directory (omega arith);
+}
+
+-- the file stands for what its slot leads to, where it beats the other one
+pub lead_stands : (sequence : ℕ) (pair : Pair) (file c : List ℕ) (second : Bool) → FitsPair sequence pair → AreStored file pair → byte c (512 * (if second then 1 else 0) + 4) ≡ 1
+    → Leads (if second then 1 else 0) sequence pair file c → Beaten (open_slot c (if second then 0 else 1)) sequence → stands c ≡ Ok (documents_in file pair)
+lead_stands sequence pair file c second fits stored gate leads beaten =
+    stands_for sequence pair file c fits stored (first_part (SameIn file c) (stored_extents pair.updated) (stored_extents pair.saved) leads.kept) (second_part (SameIn file c) (stored_extents pair.updated) (stored_extents pair.saved) leads.kept)
+    (counts c second (slot_value sequence pair) (lead_open (if second then 1 else 0) sequence pair file c fits gate leads) beaten)
+
+-- a file of 1,024 bytes has both slots
+both_within : (c : List ℕ) (second : Bool) → 1024 ≤ length c → 512 * (if second then 0 else 1) + 32 ≤ length c
+both_within c true long = omega (arith, long)
+both_within c false long = omega (arith, long)
+
+pub long_enough : (sequence : ℕ) (pair : Pair) (slot : ℕ) (file c : List ℕ) → FitsPair sequence pair → Leads slot sequence pair file c → 1024 ≤ length c
+long_enough sequence pair slot file c fits leads =
+    let first = first_part (SameIn file c) (stored_extents pair.updated) (stored_extents pair.saved) leads.kept 0 pair.updated.directory (omega arith) in
+    omega (arith, first.within, fits.updated.behind)
+
+-- what is known of what a commit that failed in its last step wrote
+abbrev pub IsHeldReadable : List ℕ → ℕ → Other → Type 0
+IsHeldReadable file sequence Shut = Unit {0}
+IsHeldReadable file sequence Stale = Unit {0}
+IsHeldReadable file sequence (Held pair) = AreStored file pair × (sequence + 1 < 2 ^ 64)
+
+-- the pairs that a crash may leave, with what is known of them
+pub record AreReadable (slots : Slots) (file : List ℕ) : Type 0 where
+  pub some : 1 ≤ slots.sequence
+  pub in_range : slots.sequence < 2 ^ 64
+  pub placed : AreKept slots
+  pub committed : AreStored file slots.committed
+  pub held : IsHeldReadable file slots.sequence slots.other
+
+stale_beaten : (second : Bool) (sequence : ℕ) (c : List ℕ) → sequence < 2 ^ 64 → 1024 ≤ length c → IsUnmarked (if second then 0 else 1) c ⊎ IsOlder (if second then 0 else 1) sequence c → Beaten (open_slot c (if second then 0 else 1)) sequence
+stale_beaten second sequence c range long (inl unmarked) = inl (unmarked_shut (if second then 0 else 1) c (both_within c second long) unmarked)
+stale_beaten second sequence c range long (inr older) = older_beaten (if second then 0 else 1) sequence c range (both_within c second long) older
+
+held_beats : (second : Bool) (sequence : ℕ) (committed held : Pair) (file c : List ℕ) → FitsPair sequence committed → FitsPair (sequence + 1) held → AreStored file held → byte c (512 * (if second then 1 else 0) + 4) ≡ 1
+    → Leads (if second then 1 else 0) sequence committed file c → byte c (512 * (if second then 0 else 1) + 4) ≡ 1 → Leads (if second then 0 else 1) (sequence + 1) held file c → stands c ≡ Ok (documents_in file held)
+held_beats true sequence committed held file c fits fits_held stored gate leads held_gate held_leads =
+    lead_stands (sequence + 1) held file c false fits_held stored held_gate held_leads (inr (slot_value sequence committed, lead_open 1 sequence committed file c fits gate leads, omega arith))
+held_beats false sequence committed held file c fits fits_held stored gate leads held_gate held_leads =
+    lead_stands (sequence + 1) held file c true fits_held stored held_gate held_leads (inr (slot_value sequence committed, lead_open 0 sequence committed file c fits gate leads, omega arith))
+
+one_stands : (other : Other) (second : Bool) (sequence : ℕ) (committed : Pair) (file c : List ℕ) → FitsPair sequence committed → AreStored file committed → All IsPlaced (held_extents other) → IsHeldReadable file sequence other
+    → byte c (512 * (if second then 1 else 0) + 4) ≡ 1 → Leads (if second then 1 else 0) sequence committed file c → IsBeside other (if second then 0 else 1) sequence file c → StandsForOne (documents_in file committed ∷ attempted_in file other) c
+one_stands Shut second sequence committed file c fits stored placed held gate leads beside =
+    inl (lead_stands sequence committed file c second fits stored gate leads (inl (open_slot-shut c (if second then 0 else 1) beside)))
+one_stands Stale second sequence committed file c fits stored placed held gate leads beside =
+    inl (lead_stands sequence committed file c second fits stored gate leads (stale_beaten second sequence c fits.in_range (long_enough sequence committed (if second then 1 else 0) file c fits leads) beside))
+one_stands (Held pair) second sequence committed file c fits stored placed held gate leads beside =
+    let o : ℕ = if second then 0 else 1 in
+    elim (cases_Bool (byte c (512 * o + 4) == 1)) as (λ _. StandsForOne (documents_in file committed ∷ documents_in file pair ∷ []) c) [
+      | inl opened ↦ inr (inl (held_beats second sequence committed pair file c fits (fits_pair (sequence + 1) pair (omega arith) held.1 placed) held.0 gate leads (eqb-true (byte c (512 * o + 4)) 1 opened) beside))
+      | inr shut ↦ inl (lead_stands sequence committed file c second fits stored gate leads (inl (open_slot-shut c o (eqb-false (byte c (512 * o + 4)) 1 shut))))
+    ]
+
+-- A file that a crash left stands for the pair that is committed, or for the one that is held.
+pub outcome_stands : (slots : Slots) (file c : List ℕ) → AreReadable slots file → Outcome slots file c → StandsForOne (documents_in file slots.committed ∷ attempted_in file slots.other) c
+outcome_stands slots file c are was =
+    one_stands slots.other slots.second slots.sequence slots.committed file c (fits_pair slots.sequence slots.committed are.some are.in_range (first_part IsPlaced (pair_extents slots.committed) (held_extents slots.other) are.placed))
+    are.committed (second_part IsPlaced (pair_extents slots.committed) (held_extents slots.other) are.placed) are.held was.gate was.counts was.beside
+
+pub held_readable : (file : List ℕ) (sequence : ℕ) (other : Other) → IsHeldFormed sequence other → IsHeldStored file other → IsHeldReadable file sequence other
+held_readable file sequence Shut formed stored = tt
+held_readable file sequence Stale formed stored = tt
+held_readable file sequence (Held pair) formed stored = (stored, formed.1)
+
+-- of a sound file
+pub sound_readable : (store : StoreFacts) (live : Table) (slots : Slots) → IsFormed live slots → IsWhole store live slots → AreReadable slots store.content
+sound_readable store live slots formed whole = record {
+  some = formed.numbered;
+  in_range = formed.in_range;
+  placed = formed.kept;
+  committed = whole.committed;
+  held = held_readable store.content slots.sequence slots.other formed.held whole.held;
+}
+
+-- what a crash now leaves stands for what may be read
+pub sound_settled : {S : Type 0} (facts : S → StoreFacts) (store : S) (live : Table) (slots : Slots) → IsSound (facts store) live slots → IsSettled facts (disk_of facts store slots)
+sound_settled facts store live slots sound honest c left =
+    let whole = sound.whole honest in
+    outcome_stands slots (facts store).content c (sound_readable (facts store) live slots sound.formed whole) (whole.leaves c left)

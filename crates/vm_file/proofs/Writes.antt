@@ -1,0 +1,76 @@
+-- Images that are written one by one.
+use Rattle.std.proofs.Common.{◌≡◌, ℕ, ◌+◌, ◌<◌, ◌≤◌, IsTrue, List, ◌++◌, All, length, get_or, refl, sym, subst, ◌∙◌, arith, inl, inr}
+use Rattle.std.proofs.lemmas.Bool.{cases_eq}
+use Rattle.std.proofs.lemmas.List.{get_or_default}
+use Rattle.vm_store.specs.Facts.{StoreFacts, Torn, Holds}
+use Rattle.geos_model.specs.declared.file.Extent.{Extent}
+use Rattle.vm_file.specs.Ranges.{start_of, end_of, IsOut}
+use Rattle.vm_file.specs.Slots.{Leaves, Outlives}
+use Rattle.vm_file.specs.Writing.{AreFor, Fills, AreWritten, IsSpared}
+use Rattle.vm_file.specs.declared.put.PutBlock.{PutBlock}
+use Rattle.vm_file.specs.declared.slots.Slots.{Slots}
+use Rattle.vm_file.proofs.KeptBytes.{all_left, keeps_itself, torn_same, torn_holds}
+use Rattle.vm_file.proofs.Steps.{Outlives-refl, Outlives-trans}
+
+-- the first n images are written
+pub record Writes (slots : Slots) (extents : List Extent) (puts : List PutBlock) (n : ℕ) (old new : StoreFacts) : Type 0 where
+  pub honest : new.honest ≡ old.honest
+  pub failures : old.failures ≤ new.failures
+  pub fills : IsTrue old.honest → Fills slots extents old new
+  pub written : IsTrue old.honest → AreWritten n puts extents new.content
+
+pub Writes-none : (slots : Slots) (extents : List Extent) (puts : List PutBlock) (a : StoreFacts) → Writes slots extents puts 0 a a
+Writes-none slots extents puts a = record {
+  honest = refl;
+  failures = omega arith;
+  fills = λ so. record { keeps = λ e aside within. record { within = within; each = λ i low. refl }; leaves = λ file was. was; crash = λ file was. Outlives-refl a file (λ s. s ≡ slots) };
+  written = λ so k e p low. absurd (omega arith);
+}
+
+-- A step: one of the extents is written.
+module _ (slots : Slots) (extents : List Extent) (puts : List PutBlock) (old mid new : StoreFacts) (i : ℕ) (e : Extent) (inside : i < length extents) (is : e ≡ get_or extents i e) (torn : Torn (start_of e) e.length mid.content new.content) where
+  pub fills_more : ((file : List ℕ) → Leaves mid slots file → Leaves new slots file) → ((file : List ℕ) → Leaves mid slots file → Outlives mid new file (λ s. s ≡ slots)) → Fills slots extents old mid → Fills slots extents old new
+  fills_more leaves crash was = record {
+    keeps = λ x aside within.
+        let out = aside i e inside in
+        let apart : IsOut (start_of e) e.length (start_of x) (end_of x) = subst (λ y. IsOut (start_of y) y.length (start_of x) (end_of x)) (sym is) out in
+        torn_same (start_of e) e.length x old.content mid.content new.content apart torn (was.keeps x aside within);
+    leaves = λ file first. leaves file (was.leaves file first);
+    crash = λ file first. Outlives-trans old mid new file (λ s. s ≡ slots) (was.crash file first) (crash file (was.leaves file first));
+  }
+
+  pub written_more : (taken : List Extent) → AreFor taken puts (length puts) extents → i < length puts → (bytes : List ℕ) → ((p : PutBlock) → bytes ≡ (get_or puts i p).image) → Holds new.content (start_of e) bytes → AreWritten i puts extents mid.content → AreWritten (i + 1) puts extents new.content
+  written_more taken are low bytes image holds was k d p below = elim (cases_eq k i) as (λ _. Holds new.content (start_of (get_or extents k d)) (get_or puts k p).image) [
+    | inl same ↦
+        let place : get_or extents i d ≡ e = get_or_default extents i d e inside ∙ sym is in
+        subst (λ j. Holds new.content (start_of (get_or extents j d)) (get_or puts j p).image) (sym same) (subst (λ x. Holds new.content (start_of x) (get_or puts i p).image) (sym place) (subst (Holds new.content (start_of e)) (image p) holds))
+    | inr other ↦
+        let under : k < i = omega (arith, other) in
+        let one = get_or extents k d in
+        let apart : IsOut (start_of e) e.length (start_of one) (end_of one) = subst (λ x. IsOut (start_of x) x.length (start_of one) (end_of one)) (get_or_default extents i d e inside ∙ sym is) (are.apart k i d under low) in
+        let size = are.sizes k d p (omega arith) in
+        torn_holds (start_of e) e.length (start_of one) (end_of one) (get_or puts k p).image mid.content new.content (omega (arith, size)) apart torn (was k d p under)
+  ]
+
+-- apart from fewer extents too
+pub for_fewer : (taken fewer : List Extent) (puts : List PutBlock) (n : ℕ) (extents : List Extent) → ((P : Extent → Type 0) → All P taken → All P fewer) → AreFor taken puts n extents → AreFor fewer puts n extents
+for_fewer taken fewer puts n extents less was = record {
+  count = was.count;
+  sizes = was.sizes;
+  placed = was.placed;
+  clear = λ k d inside. let e = get_or extents k d in less (λ x. IsOut (start_of e) e.length (start_of x) (end_of x)) (was.clear k d inside);
+  apart = was.apart;
+}
+
+-- what is written apart from extents keeps them
+pub spared_by : (slots : Slots) (kept more extents : List Extent) (puts : List PutBlock) (n : ℕ) (old new : StoreFacts) → AreFor (kept ++ more) puts n extents → Fills slots extents old new → IsSpared kept slots old new
+spared_by slots kept more extents puts n old new are fills = record {
+  keeps = λ within k d inside. fills.keeps (get_or kept k d)
+      (λ j x low. let e = get_or extents j x in all_left (λ y. IsOut (start_of e) e.length (start_of y) (end_of y)) kept more (are.clear j x low) k d inside)
+      (within k d inside);
+  leaves = fills.leaves;
+  crash = fills.crash;
+}
+
+pub spared_same : (kept : List Extent) (slots : Slots) (a : StoreFacts) → IsSpared kept slots a a
+spared_same kept slots a = record { keeps = λ within. keeps_itself kept a.content within; leaves = λ file was. was; crash = λ file was. Outlives-refl a file (λ s. s ≡ slots) }

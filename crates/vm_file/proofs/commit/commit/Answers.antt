@@ -1,0 +1,64 @@
+use Rattle.std.proofs.Common.{IsTrue, sym, subst}
+use Rattle.vm_file.specs.Slots.{pair_extents, Failed, AreKept}
+use Rattle.vm_file.proofs.KeptBytes.{slots_keep}
+use Rattle.vm_file.proofs.Outcomes.{shut_kept}
+use Rattle.vm_file.proofs.Steps.{Outlives-trans, held_leaves, as_before, as_shut, as_held}
+use Rattle.vm_file.proofs.commit.commit.Goals as goal
+
+pub returns-in_err-shut_gate-clause-crash : goal.returns-in_err-shut_gate-clause-crash
+returns-in_err-shut_gate-clause-crash g c file holds leaves keeps = as_before c.args.slots.now c.args.slots.now c.args.pair file _ _ (c.shut_gate.ensures.crash file holds leaves)
+
+pub returns-in_err-shut_gate-clause-leaves : goal.returns-in_err-shut_gate-clause-leaves
+returns-in_err-shut_gate-clause-leaves g c file holds leaves keeps = c.shut_gate.ensures.leaves file holds leaves
+
+pub fill_slot-requires-clause-kept : goal.fill_slot-requires-clause-kept
+fill_slot-requires-clause-kept g c = subst AreKept (sym c.in_ok-shut_gate.ensures.ok) (shut_kept c.args.slots.now c.requires.kept)
+
+pub returns-in_err-fill_slot-clause-crash : goal.returns-in_err-fill_slot-clause-crash
+returns-in_err-fill_slot-clause-crash g c file holds leaves keeps =
+    let slots = c.args.slots.now in
+    let pair = c.args.pair in
+    let still = subst IsTrue (sym c.shut_gate.ensures.honest) holds in
+    Outlives-trans _ _ _ file (λ s. Failed slots pair s) (as_before slots slots pair file _ _ (c.shut_gate.ensures.crash file holds leaves))
+    (as_shut slots c.shut_gate.new.slots pair file _ _ c.in_ok-shut_gate.ensures.ok (c.fill_slot.ensures.crash file still (c.shut_gate.ensures.leaves file holds leaves)))
+
+pub returns-in_err-fill_slot-clause-leaves : goal.returns-in_err-fill_slot-clause-leaves
+returns-in_err-fill_slot-clause-leaves g c file holds leaves keeps =
+    let still = subst IsTrue (sym c.shut_gate.ensures.honest) holds in
+    c.fill_slot.ensures.leaves file still (c.shut_gate.ensures.leaves file holds leaves)
+
+pub open_gate-requires-clause-kept : goal.open_gate-requires-clause-kept
+open_gate-requires-clause-kept g c = subst AreKept (sym c.in_ok-shut_gate.ensures.ok) (shut_kept c.args.slots.now c.requires.kept)
+
+pub returns-clause-crash : goal.returns-clause-crash
+returns-clause-crash g c file holds leaves keeps =
+    let slots = c.args.slots.now in
+    let now = c.shut_gate.new.slots in
+    let pair = c.args.pair in
+    let B = g.S.Store.facts c.shut_gate.new.store in
+    let C = g.S.Store.facts c.fill_slot.new.store in
+    let still = subst IsTrue (sym c.shut_gate.ensures.honest) holds in
+    let yet = subst IsTrue (sym c.fill_slot.ensures.honest) still in
+    let es = pair_extents pair in
+    let shut = c.shut_gate.ensures.leaves file holds leaves in
+    let filled = c.fill_slot.ensures.leaves file still shut in
+    let kept = slots_keep es file B.content C.content c.requires.placed (c.fill_slot.ensures.elsewhere still) (slots_keep es file _ B.content c.requires.placed (c.shut_gate.ensures.elsewhere holds) keeps) in
+    let held = held_leaves now pair file C (c.in_ok-fill_slot.ensures.durable still) (c.in_ok-fill_slot.ensures.marked still) (c.in_ok-fill_slot.ensures.rest still) kept filled in
+    Outlives-trans _ _ _ file (λ s. Failed slots pair s)
+    (Outlives-trans _ _ _ file (λ s. Failed slots pair s) (as_before slots slots pair file _ _ (c.shut_gate.ensures.crash file holds leaves))
+    (as_shut slots now pair file _ _ c.in_ok-shut_gate.ensures.ok (c.fill_slot.ensures.crash file still shut)))
+    (as_held slots now pair file _ _ c.in_ok-shut_gate.ensures.ok (c.open_gate.ensures.crash file yet held))
+
+pub returns-clause-leaves : goal.returns-clause-leaves
+returns-clause-leaves g c file holds leaves keeps =
+    let now = c.shut_gate.new.slots in
+    let pair = c.args.pair in
+    let B = g.S.Store.facts c.shut_gate.new.store in
+    let C = g.S.Store.facts c.fill_slot.new.store in
+    let still = subst IsTrue (sym c.shut_gate.ensures.honest) holds in
+    let yet = subst IsTrue (sym c.fill_slot.ensures.honest) still in
+    let es = pair_extents pair in
+    let filled = c.fill_slot.ensures.leaves file still (c.shut_gate.ensures.leaves file holds leaves) in
+    let kept = slots_keep es file B.content C.content c.requires.placed (c.fill_slot.ensures.elsewhere still) (slots_keep es file _ B.content c.requires.placed (c.shut_gate.ensures.elsewhere holds) keeps) in
+    let held = held_leaves now pair file C (c.in_ok-fill_slot.ensures.durable still) (c.in_ok-fill_slot.ensures.marked still) (c.in_ok-fill_slot.ensures.rest still) kept filled in
+    c.open_gate.ensures.leaves file yet held

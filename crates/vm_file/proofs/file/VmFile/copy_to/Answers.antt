@@ -1,0 +1,52 @@
+use Rattle.std.proofs.Common.{false, refl, sym, ap, subst}
+use Rattle.vm_file.specs.Documents.{blocks_in, document_in}
+use Rattle.std.specs.Prelude.{IfOk}
+use Rattle.vm_file.specs.Disk.{Passes, Drifts, IsSettled}
+use Rattle.vm_file.specs.Sound.{disk_of}
+use Rattle.vm_file.proofs.Carried.{call_passes}
+use Rattle.vm_file.proofs.LaidOut.{laid_drifts}
+use Rattle.vm_file.proofs.Stands.{sound_settled}
+use Rattle.vm_file.proofs.Steps.{rests_leaves, rests_outlives}
+use Rattle.vm_file.proofs.Tables.{places_drift}
+use Rattle.vm_file.proofs.file.VmFile.copy_to.Goals.{in-Ok, in-Err}
+use Rattle.vm_file.proofs.file.VmFile.copy_to.Goals as goal
+
+pub returns-clause-passes : goal.returns-clause-passes
+returns-clause-passes g c =
+    let i = c.self.inside in
+    let a = g.S.Store.facts i.store in
+    let b = g.S.Store.facts c.copy_document.new.source in
+    let looks = c.copy_document.ensures.looks in
+    subst (λ s. Passes g.S.Store.facts s.disk (disk_of g.S.Store.facts c.copy_document.new.source i.slots)) c.self.view_is
+    (call_passes g.S.Store.facts i.store c.copy_document.new.source i.live i.slots c.self.invariant looks.honest (λ so. (g.met.S.Store.timely i.store so).now) (λ so. (g.met.S.Store.timely c.copy_document.new.source so).now)
+    (λ so. rests_leaves i.slots a.content a b (looks.rests so) (c.self.invariant.whole so).leaves) looks.failures
+    (λ so. rests_outlives i.slots a.content a b (looks.rests so) (c.self.invariant.whole so).leaves))
+
+pub returns-clause-drifts : goal.returns-clause-drifts
+returns-clause-drifts g c =
+    let i = c.self.inside in
+    let a = g.S.Store.facts i.store in
+    let b = g.S.Store.facts c.copy_document.new.source in
+    subst (λ s. Drifts (g.S.Store.facts s.disk.store).honest s.document (document_in b.content i.live)) c.self.view_is
+    (places_drift a.honest a.content b.content i.live.places.items i.live.map_block (λ so. ap (λ f. blocks_in f i.live.places.items) (c.copy_document.ensures.looks.rests so).content))
+
+pub returns-clause-handles : goal.returns-clause-handles
+returns-clause-handles g c =
+    let old = c.args.self.now.document in
+    elim c.match-copy_document.branch as (λ _. IfOk c.match-copy_document.result (λ file. Drifts false old file.document)) [
+      | in-Ok w ↦ subst (λ r. IfOk r (λ file. Drifts false old file.document)) (sym w.result-is)
+          (let i = c.self.inside in
+          let new = w.in-Ok.made.live in
+          let from = (g.S.Store.facts i.store).content in
+          let to = (g.S.Store.facts c.copy_document.new.target).content in
+          subst (λ s. Drifts false s.document (document_in to new)) c.self.view_is
+          (laid_drifts from to i.live.places.items i.live.map_block i.live new refl refl w.in-Ok.ensures.places w.in-Ok.ensures.map_block))
+      | in-Err w ↦ subst (λ r. IfOk r (λ file. Drifts false old file.document)) (sym w.result-is) tt
+    ]
+
+pub returns-clause-settled : goal.returns-clause-settled
+returns-clause-settled g c =
+    elim c.match-copy_document.branch as (λ _. IfOk c.match-copy_document.result (λ file. IsSettled g.S.Store.facts file.disk)) [
+      | in-Ok w ↦ subst (λ r. IfOk r (λ file. IsSettled g.S.Store.facts file.disk)) (sym w.result-is) (sound_settled g.S.Store.facts c.copy_document.new.target w.in-Ok.made.live w.in-Ok.made.slots w.in-Ok.ensures.sound)
+      | in-Err w ↦ subst (λ r. IfOk r (λ file. IsSettled g.S.Store.facts file.disk)) (sym w.result-is) tt
+    ]

@@ -1,0 +1,16 @@
+use Rattle.std.proofs.Common.{◌∙◌}
+use Rattle.vm_file.proofs.First.{IsEmpty, empty_shown, first_directory, first_shown}
+use Rattle.vm_file.proofs.Stands.{sound_settled}
+use Rattle.vm_file.proofs.file.VmFile.create.Goals as goal
+
+pub returns-in-Ok-clause-made : goal.returns-in-Ok-clause-made
+returns-in-Ok-clause-made g c =
+    let made = c.in-Ok.made in
+    let file = (g.S.Store.facts c.make_empty.new.store).content in
+    let none : IsEmpty 2048 made.live = record { map_block = c.in-Ok.ensures.map_block; places = c.in-Ok.ensures.places } in
+    let shown = empty_shown file 2048 made.live none in
+    let one = first_shown file first_directory made.live made.slots c.in-Ok.ensures.first in
+    (shown, one.updated ∙ shown, one.saved ∙ shown, one.attempted, one.sequence)
+
+pub returns-in-Ok-clause-settled : goal.returns-in-Ok-clause-settled
+returns-in-Ok-clause-settled g c = sound_settled g.S.Store.facts c.make_empty.new.store c.in-Ok.made.live c.in-Ok.made.slots c.in-Ok.ensures.sound

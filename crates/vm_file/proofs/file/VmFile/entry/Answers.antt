@@ -1,0 +1,37 @@
+use Rattle.std.proofs.Common.{◌≡◌, ◌-◌, IsTrue, ap, subst, ◌∙◌}
+use Rattle.std.specs.Prelude.{IfSome}
+use Rattle.geos_model.specs.Document.{is_live, user_id_of, block_at, is_heap_body}
+use Rattle.geos_model.proofs.Tables.{slot_at}
+use Rattle.vm_file.proofs.Tables.{IsPlaceOf, entry_live, entry_user_id, entry_kind, entry_handle}
+use Rattle.vm_file.proofs.file.VmFile.entry.Goals as goal
+
+pub returns-clause-live : goal.returns-clause-live
+returns-clause-live g c =
+    let live = c.self.inside.live in
+    let h = c.args.block.0 in
+    let is : IsPlaceOf live.places.items h c.place_of.result = record { nothing = c.place_of.ensures.zero; place = λ low. c.place_of.ensures.place low ∙ ap (λ ps. slot_at ps (h - 1)) c.deref.ensures.value } in
+    entry_live (g.S.Store.facts c.self.inside.store).content live.places.items live.map_block h c.place_of.result is ∙ ap (λ s. is_live s.document h) c.self.view_is
+
+pub returns-clause-user_id : goal.returns-clause-user_id
+returns-clause-user_id g c =
+    let live = c.self.inside.live in
+    let h = c.args.block.0 in
+    let is : IsPlaceOf live.places.items h c.place_of.result = record { nothing = c.place_of.ensures.zero; place = λ low. c.place_of.ensures.place low ∙ ap (λ ps. slot_at ps (h - 1)) c.deref.ensures.value } in
+    subst (λ s. IfSome c.place_of.result (λ place. place.user_id ≡ user_id_of s.document h)) c.self.view_is
+    (entry_user_id (g.S.Store.facts c.self.inside.store).content live.places.items live.map_block h c.place_of.result is)
+
+pub returns-clause-kind : goal.returns-clause-kind
+returns-clause-kind g c =
+    let live = c.self.inside.live in
+    let h = c.args.block.0 in
+    let facts = g.S.Store.facts c.self.inside.store in
+    let is : IsPlaceOf live.places.items h c.place_of.result = record { nothing = c.place_of.ensures.zero; place = λ low. c.place_of.ensures.place low ∙ ap (λ ps. slot_at ps (h - 1)) c.deref.ensures.value } in
+    subst (λ s. IfSome c.place_of.result (λ place. IsTrue (g.S.Store.facts s.disk.store).honest → place.is_heap ≡ is_heap_body (block_at s.document h).body)) c.self.view_is
+    (entry_kind (IsTrue facts.honest) facts.content live.places.items live.map_block h c.place_of.result (λ yes. (c.self.invariant.whole yes).images) is)
+
+pub returns-clause-handle : goal.returns-clause-handle
+returns-clause-handle g c =
+    let live = c.self.inside.live in
+    let h = c.args.block.0 in
+    let is : IsPlaceOf live.places.items h c.place_of.result = record { nothing = c.place_of.ensures.zero; place = λ low. c.place_of.ensures.place low ∙ ap (λ ps. slot_at ps (h - 1)) c.deref.ensures.value } in
+    entry_handle live.places.items h c.place_of.result c.self.invariant.formed.table.size is

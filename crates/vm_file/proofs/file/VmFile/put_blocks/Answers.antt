@@ -1,0 +1,102 @@
+use Rattle.std.proofs.Common.{◌≡◌, ◌≢◌, ◌++◌, All, length, refl, sym, ap, ap₂, subst, ◌∙◌, arith}
+use Rattle.std.specs.Vec.{with_items}
+use Rattle.vm_file.specs.Calls.{put_all, remove_all}
+use Rattle.vm_file.specs.Disk.{Drifts, Passes}
+use Rattle.vm_file.specs.Documents.{document_in}
+use Rattle.vm_file.specs.Slots.{block_extents, kept_extents}
+use Rattle.vm_file.specs.Sound.{disk_of}
+use Rattle.vm_file.specs.Writing.{IsSpared, with_places, without_places}
+use Rattle.vm_file.specs.declared.table.Table.{Table}
+use Rattle.vm_file.proofs.Filled.{shown_without_all}
+use Rattle.vm_file.proofs.Tables.{shown}
+use Rattle.vm_file.proofs.Puts.{few_extents, changed_twice, on_err, spared_passes, spared_drifts, spared_sound, put_drifts, put_sound}
+use Rattle.vm_file.proofs.file.VmFile.put_blocks.Goals as goal
+
+pub write_puts-requires-clause-few : goal.write_puts-requires-clause-few
+write_puts-requires-clause-few g c =
+    let few = few_extents c.self.inside.live c.self.inside.slots c.self.invariant.formed in
+    let same = ap (λ ps. length (block_extents ps ++ kept_extents c.self.inside.slots)) c.deref.ensures.value in
+    let puts = c.requires.few in
+    omega (arith, few, same, puts)
+
+pub invariant_of-self : goal.invariant_of-self
+invariant_of-self g c =
+    let i = c.self.inside in
+    let b = c.write_puts.new.store in
+    spared_sound g.S.Store.facts i.store b i.live i.slots c.self.invariant c.write_puts.ensures.honest (λ so. (g.met.S.Store.timely i.store so).now) (λ so. (g.met.S.Store.timely b so).now)
+    (λ so. subst (λ ps. IsSpared (block_extents ps) i.slots (g.S.Store.facts i.store) (g.S.Store.facts b)) c.deref.ensures.value (c.write_puts.ensures.spared so))
+
+pub returns-in_err-extents-clause-passes : goal.returns-in_err-extents-clause-passes
+returns-in_err-extents-clause-passes g c =
+    let i = c.self.inside in
+    let b = c.write_puts.new.store in
+    subst (λ s. Passes g.S.Store.facts s.disk (disk_of g.S.Store.facts b i.slots)) c.self.view_is
+    (spared_passes g.S.Store.facts i.store b i.live i.slots c.self.invariant c.write_puts.ensures.honest (λ so. (g.met.S.Store.timely i.store so).now) (λ so. (g.met.S.Store.timely b so).now)
+    (λ so. subst (λ ps. IsSpared (block_extents ps) i.slots (g.S.Store.facts i.store) (g.S.Store.facts b)) c.deref.ensures.value (c.write_puts.ensures.spared so)) c.write_puts.ensures.failures)
+
+pub returns-in_err-extents-clause-err : goal.returns-in_err-extents-clause-err
+returns-in_err-extents-clause-err g c =
+    let i = c.self.inside in
+    let b = c.write_puts.new.store in
+    on_err c.from_residual.result _
+    (subst (λ s. Drifts (g.S.Store.facts s.disk.store).honest s.document (document_in (g.S.Store.facts b).content i.live)) c.self.view_is
+    (spared_drifts g.S.Store.facts i.store b i.live i.slots c.self.invariant c.write_puts.ensures.honest (λ so. (g.met.S.Store.timely i.store so).now) (λ so. (g.met.S.Store.timely b so).now)
+    (λ so. subst (λ ps. IsSpared (block_extents ps) i.slots (g.S.Store.facts i.store) (g.S.Store.facts b)) c.deref.ensures.value (c.write_puts.ensures.spared so))))
+
+pub invariant_of-self-2 : goal.invariant_of-self-2
+invariant_of-self-2 g c =
+    let i = c.self.inside in
+    let b = c.write_puts.new.store in
+    let es = c.in_ok-extents.extents.items in
+    let filled = c.put_places.ensures ∙ ap₂ (λ xs ps. with_places c.args.puts.now xs ps) c.deref-2.ensures.value c.deref_mut.ensures.value in
+    let left = c.remove_places.ensures ∙ ap (without_places c.args.removals.now) c.deref_mut-2.ensures.value in
+    let new : Table = record { map_block = i.live.map_block; places = with_items (with_items i.live.places c.put_places.new.places) c.remove_places.new.places } in
+    let changed : new.places.items ≡ without_places c.args.removals.now (with_places c.args.puts.now es i.live.places.items) =
+    changed_twice i.live.places.len i.live.places.items c.put_places.new.places c.remove_places.new.places c.args.puts.now es c.args.removals.now i.live.places.ok.0 filled left in
+    put_sound g.S.Store.facts i.store b i.live i.slots c.self.invariant c.write_puts.ensures.honest (λ so. (g.met.S.Store.timely i.store so).now) (λ so. (g.met.S.Store.timely b so).now)
+    (λ so. subst (λ ps. IsSpared (block_extents ps) i.slots (g.S.Store.facts i.store) (g.S.Store.facts b)) c.deref.ensures.value (c.write_puts.ensures.spared so))
+    c.args.puts.now es c.args.removals.now new c.requires.puts _ c.in_ok-extents.ensures.found c.in_ok-extents.ensures.written refl changed
+    (subst (λ s. All (λ h. h.0 ≢ s.document.map_block) c.args.removals.now) (sym c.self.view_is) c.requires.removals)
+
+pub returns-clause-passes : goal.returns-clause-passes
+returns-clause-passes g c =
+    let i = c.self.inside in
+    let b = c.write_puts.new.store in
+    subst (λ s. Passes g.S.Store.facts s.disk (disk_of g.S.Store.facts b i.slots)) c.self.view_is
+    (spared_passes g.S.Store.facts i.store b i.live i.slots c.self.invariant c.write_puts.ensures.honest (λ so. (g.met.S.Store.timely i.store so).now) (λ so. (g.met.S.Store.timely b so).now)
+    (λ so. subst (λ ps. IsSpared (block_extents ps) i.slots (g.S.Store.facts i.store) (g.S.Store.facts b)) c.deref.ensures.value (c.write_puts.ensures.spared so)) c.write_puts.ensures.failures)
+
+pub returns-clause-ok : goal.returns-clause-ok
+returns-clause-ok g c =
+    let i = c.self.inside in
+    let b = c.write_puts.new.store in
+    let es = c.in_ok-extents.extents.items in
+    let filled = c.put_places.ensures ∙ ap₂ (λ xs ps. with_places c.args.puts.now xs ps) c.deref-2.ensures.value c.deref_mut.ensures.value in
+    let left = c.remove_places.ensures ∙ ap (without_places c.args.removals.now) c.deref_mut-2.ensures.value in
+    let new : Table = record { map_block = i.live.map_block; places = with_items (with_items i.live.places c.put_places.new.places) c.remove_places.new.places } in
+    let changed : new.places.items ≡ without_places c.args.removals.now (with_places c.args.puts.now es i.live.places.items) =
+    changed_twice i.live.places.len i.live.places.items c.put_places.new.places c.remove_places.new.places c.args.puts.now es c.args.removals.now i.live.places.ok.0 filled left in
+    subst (λ s. Drifts (g.S.Store.facts s.disk.store).honest (remove_all c.args.removals.now (put_all c.args.puts.now s.document)) (document_in (g.S.Store.facts b).content new)) c.self.view_is
+    (put_drifts g.S.Store.facts i.store b i.live i.slots c.self.invariant c.write_puts.ensures.honest (λ so. (g.met.S.Store.timely i.store so).now) (λ so. (g.met.S.Store.timely b so).now)
+    (λ so. subst (λ ps. IsSpared (block_extents ps) i.slots (g.S.Store.facts i.store) (g.S.Store.facts b)) c.deref.ensures.value (c.write_puts.ensures.spared so))
+    c.args.puts.now es c.args.removals.now new c.requires.puts _ c.in_ok-extents.ensures.found c.in_ok-extents.ensures.written refl changed)
+
+pub returns-clause-removals_alone : goal.returns-clause-removals_alone
+returns-clause-removals_alone g c none =
+    let i = c.self.inside in
+    let b = c.write_puts.new.store in
+    let es = c.in_ok-extents.extents.items in
+    let filled = c.put_places.ensures ∙ ap₂ (λ xs ps. with_places c.args.puts.now xs ps) c.deref-2.ensures.value c.deref_mut.ensures.value in
+    let left = c.remove_places.ensures ∙ ap (without_places c.args.removals.now) c.deref_mut-2.ensures.value in
+    let new : Table = record { map_block = i.live.map_block; places = with_items (with_items i.live.places c.put_places.new.places) c.remove_places.new.places } in
+    let changed : new.places.items ≡ without_places c.args.removals.now (with_places c.args.puts.now es i.live.places.items) =
+    changed_twice i.live.places.len i.live.places.items c.put_places.new.places c.remove_places.new.places c.args.puts.now es c.args.removals.now i.live.places.ok.0 filled left in
+    let facts = g.S.Store.facts in
+    let m = i.live.map_block in
+    let same = (c.write_puts.ensures.nothing none).1 in
+    let disk = ap (λ t. disk_of facts t i.slots) same ∙ ap (λ s. s.disk) c.self.view_is in
+    let document =
+    ap (λ t. shown (facts t).content new.places.items m) same ∙ ap (λ ps. shown (facts i.store).content ps m) changed
+    ∙ ap (λ ps. shown (facts i.store).content (without_places c.args.removals.now (with_places ps es i.live.places.items)) m) none
+    ∙ shown_without_all (facts i.store).content c.args.removals.now i.live.places.items m ∙ ap (λ s. remove_all c.args.removals.now s.document) c.self.view_is in
+    (refl, λ j. record { disk = disk j; document = document j })

@@ -1,0 +1,62 @@
+use Rattle.std.proofs.Common.{◌≡◌, ◌-◌, ◌≤◌, IsTrue, length, is_some, sym, ap, subst, ◌∙◌, arith}
+use Rattle.std.specs.Prelude.{IfOk}
+use Rattle.vm_store.specs.Facts.{Holds}
+use Rattle.geos_model.specs.Document.{is_live, block_at}
+use Rattle.geos_model.specs.Image.{image}
+use Rattle.geos_model.proofs.Tables.{slot_at}
+use Rattle.vm_file.specs.Ranges.{IsPlaced, start_of}
+use Rattle.vm_file.specs.Documents.{blocks_in, document_in}
+use Rattle.vm_file.specs.Disk.{Passes, Drifts}
+use Rattle.vm_file.specs.Sound.{disk_of}
+use Rattle.vm_file.proofs.Carried.{call_passes}
+use Rattle.vm_file.proofs.Imaged.{read_image, if_ok, if_ok_both}
+use Rattle.vm_file.proofs.Steps.{rests_leaves, rests_outlives}
+use Rattle.vm_file.proofs.Tables.{IsPlaceOf, entry_live, entry_lies, each_at, places_of, places_drift}
+use Rattle.vm_file.proofs.file.VmFile.read_block.Goals as goal
+
+pub unreachable-requires : goal.unreachable-requires
+unreachable-requires g c =
+    let live = c.self.inside.live in
+    let h = c.args.block.0 in
+    let is : IsPlaceOf live.places.items h c.place_of.result = record { nothing = c.place_of.ensures.zero; place = λ low. c.place_of.ensures.place low ∙ ap (λ ps. slot_at ps (h - 1)) c.deref.ensures.value } in
+    cc (sym (ap is_some c.in-None.is) ∙ entry_live (g.S.Store.facts c.self.inside.store).content live.places.items live.map_block h c.place_of.result is ∙ ap (λ s. is_live s.document h) c.self.view_is ∙ c.requires)
+
+pub returns-clause-passes : goal.returns-clause-passes
+returns-clause-passes g c =
+    let i = c.self.inside in
+    let a = g.S.Store.facts i.store in
+    let b = g.S.Store.facts c.read_extent.new.store in
+    subst (λ s. Passes g.S.Store.facts s.disk (disk_of g.S.Store.facts c.read_extent.new.store i.slots)) c.self.view_is
+    (call_passes g.S.Store.facts i.store c.read_extent.new.store i.live i.slots c.self.invariant c.read_extent.ensures.honest (λ so. (g.met.S.Store.timely i.store so).now) (λ so. (g.met.S.Store.timely c.read_extent.new.store so).now)
+    (λ so. rests_leaves i.slots a.content a b (c.read_extent.ensures.rests so) (c.self.invariant.whole so).leaves) c.read_extent.ensures.failures
+    (λ so. rests_outlives i.slots a.content a b (c.read_extent.ensures.rests so) (c.self.invariant.whole so).leaves))
+
+pub returns-clause-drifts : goal.returns-clause-drifts
+returns-clause-drifts g c =
+    let i = c.self.inside in
+    let a = g.S.Store.facts i.store in
+    let b = g.S.Store.facts c.read_extent.new.store in
+    subst (λ s. Drifts (g.S.Store.facts s.disk.store).honest s.document (document_in b.content i.live)) c.self.view_is
+    (places_drift a.honest a.content b.content i.live.places.items i.live.map_block (λ so. ap (λ f. blocks_in f i.live.places.items) (c.read_extent.ensures.rests so).content))
+
+pub returns-clause-image : goal.returns-clause-image
+returns-clause-image g c =
+    let i = c.self.inside in
+    let h = c.args.block.0 in
+    let a = g.S.Store.facts i.store in
+    let e = c.in-Some.place.extent in
+    let is : IsPlaceOf i.live.places.items h c.place_of.result = record { nothing = c.place_of.ensures.zero; place = λ low. c.place_of.ensures.place low ∙ ap (λ ps. slot_at ps (h - 1)) c.deref.ensures.value } in
+    let at = entry_lies i.live.places.items h c.in-Some.place (subst (λ o. IsPlaceOf i.live.places.items h o) c.in-Some.is is) in
+    subst (λ s. IfOk c.read_extent.result (λ bytes. IsTrue (g.S.Store.facts s.disk.store).honest → bytes.items ≡ image (block_at s.document h).body)) c.self.view_is
+    (if_ok_both (λ bytes. length bytes.items ≡ e.length) (λ bytes. IsTrue a.honest → Holds a.content (start_of e) bytes.items) _ c.read_extent.result
+    (λ bytes size holds so. read_image a.content bytes.items i.live.places.items i.live.map_block h c.in-Some.place at.0 at.1 (c.self.invariant.whole so).images size (holds so)) c.read_extent.ensures.size c.read_extent.ensures.bytes)
+
+pub returns-clause-size : goal.returns-clause-size
+returns-clause-size g c =
+    let i = c.self.inside in
+    let h = c.args.block.0 in
+    let e = c.in-Some.place.extent in
+    let is : IsPlaceOf i.live.places.items h c.place_of.result = record { nothing = c.place_of.ensures.zero; place = λ low. c.place_of.ensures.place low ∙ ap (λ ps. slot_at ps (h - 1)) c.deref.ensures.value } in
+    let at = entry_lies i.live.places.items h c.in-Some.place (subst (λ o. IsPlaceOf i.live.places.items h o) c.in-Some.is is) in
+    let placed : IsPlaced e = each_at (λ p. IsPlaced p.extent) i.live.places.items (h - 1) c.in-Some.place at.1 (places_of IsPlaced i.live.places.items c.self.invariant.formed.placed) in
+    if_ok (λ bytes. length bytes.items ≡ e.length) (λ bytes. length bytes.items ≤ 65536) c.read_extent.result (λ bytes size. omega (arith, size, placed.short)) c.read_extent.ensures.size

@@ -1,0 +1,28 @@
+use Rattle.std.proofs.Common.{◌≡◌, ◌-◌, true, Some, length, set, refl, sym, ap, subst, ◌∙◌, length-set}
+use Rattle.geos_model.specs.Document.{is_live, with_user_id}
+use Rattle.geos_model.proofs.Tables.{slot_at}
+use Rattle.vm_file.proofs.Live.{sound_user_id}
+use Rattle.vm_file.proofs.Tables.{lies, shown, shown_user_id, items_kept}
+use Rattle.vm_file.proofs.file.VmFile.set_uid.Goals as goal
+
+pub invariant_of-self : goal.invariant_of-self
+invariant_of-self g c =
+    let live = c.self.inside.live in
+    let h = c.args.block.0 in
+    let file = (g.S.Store.facts c.self.inside.store).content in
+    let l = lies file live.places.items live.map_block h (subst (λ s. is_live s.document h ≡ true) (sym c.self.view_is) c.requires) in
+    let is = c.set_user_id.ensures l.place l.low (ap (λ ps. slot_at ps (h - 1)) c.deref_mut.ensures.value ∙ l.at) ∙ ap (λ ps. set ps (h - 1) (Some (record l.place { user_id = c.args.user_id }))) c.deref_mut.ensures.value in
+    let long = ap length is ∙ length-set live.places.items (h - 1) (Some (record l.place { user_id = c.args.user_id })) in
+    sound_user_id (g.S.Store.facts c.self.inside.store) live _ c.self.inside.slots h c.args.user_id l.place c.self.invariant l.at refl (items_kept live.places.len c.set_user_id.new.places live.places.items live.places.ok.0 long ∙ is)
+
+pub returns : goal.returns
+returns g c =
+    let live = c.self.inside.live in
+    let h = c.args.block.0 in
+    let file = (g.S.Store.facts c.self.inside.store).content in
+    let l = lies file live.places.items live.map_block h (subst (λ s. is_live s.document h ≡ true) (sym c.self.view_is) c.requires) in
+    let is = c.set_user_id.ensures l.place l.low (ap (λ ps. slot_at ps (h - 1)) c.deref_mut.ensures.value ∙ l.at) ∙ ap (λ ps. set ps (h - 1) (Some (record l.place { user_id = c.args.user_id }))) c.deref_mut.ensures.value in
+    let long = ap length is ∙ length-set live.places.items (h - 1) (Some (record l.place { user_id = c.args.user_id })) in
+    let kept = items_kept live.places.len c.set_user_id.new.places live.places.items live.places.ok.0 long ∙ is in
+    let made = ap (λ ps. shown file ps live.map_block) kept ∙ shown_user_id file live.places.items live.map_block h c.args.user_id l.place l.low l.at ∙ ap (λ s. with_user_id s.document h c.args.user_id) c.self.view_is in
+    λ i. record { disk = (c.self.view_is i).disk; document = made i }

@@ -1,0 +1,5 @@
+use Rattle.vm_file.proofs.Crashes as crashes
+use Rattle.vm_file.proofs.law.crash_law.Goals as goal
+
+pub returns : goal.returns
+returns g c = crashes.crash_law g.S.Store.facts g.met.S.Store.timely

@@ -1,0 +1,88 @@
+-- What callers see of a document file, and the words by which the layers above pass its promises on.
+use Rattle.std.specs.Prelude.{◌≡◌, ◌⊎◌, ℕ, ◌+◌, ◌≤◌, Bool, IsTrue, List, [], ◌∷◌, Result, Ok, OnOk, OnErr, MatchResult, refl}
+use Rattle.std.specs.Coded.{Coded, code_by, coded×, coded_ℕ, coded_list}
+use Rattle.vm_store.specs.Facts.{StoreFacts}
+use Rattle.geos_model.specs.Document.{Document, is_live, user_id_of}
+use Rattle.geos_model.specs.File.{stands}
+use Rattle.geos_model.specs.declared.fault.Fault.{Fault}
+use Rattle.geos_model.proofs.Codes.{document_code}
+use Rattle.vm_file.specs.Documents.{Documents}
+
+-- The store, the updated and the saved document of the last acknowledged commit, the pairs of a commit that failed since and may
+-- be read too, and the number of the acknowledged one.
+pub record Disk (S : Type 0) : Type 0 where
+  pub store : S
+  pub updated : Document
+  pub saved : Document
+  pub attempted : List Documents
+  pub sequence : ℕ
+
+-- a file: the disk, and the document as it is now
+pub record FileState (S : Type 0) : Type 0 where
+  pub disk : Disk S
+  pub document : Document
+
+abbrev pub documents_code : Coded Documents
+documents_code = coded× document_code document_code
+
+abbrev pub disk_code : {S : Type 0} → Coded S → Coded (Disk S)
+disk_code {S} s =
+    code_by (S × (Document × (Document × (List Documents × ℕ)))) (coded× s (coded× document_code (coded× document_code (coded× (coded_list documents_code) coded_ℕ)))) (λ d. (d.store, (d.updated, (d.saved, (d.attempted, d.sequence)))))
+    (λ p. record { store = p.0; updated = p.1.0; saved = p.1.1.0; attempted = p.1.1.1.0; sequence = p.1.1.1.1 }) (λ _. refl)
+
+abbrev pub file_state_code : {S : Type 0} → Coded S → Coded (FileState S)
+file_state_code {S} s =
+    code_by (Disk S × Document) (coded× (disk_code s) document_code) (λ f. (f.disk, f.document)) (λ p. record { disk = p.0; document = p.1 }) (λ _. refl)
+
+-- what a crash may leave, beside what calls to come write
+abbrev pub readable : {S : Type 0} → Disk S → List Documents
+readable disk = (disk.updated, disk.saved) ∷ disk.attempted
+
+-- the file stands for one of these
+abbrev pub StandsForOne : List Documents → List ℕ → Type 0
+StandsForOne [] file = ⊥
+StandsForOne (documents ∷ more) file = (stands file ≡ Ok documents) ⊎ StandsForOne more file
+
+-- a crash now leaves one of these
+abbrev pub Settled : StoreFacts → List Documents → Type 0
+Settled store pairs = (c : List ℕ) → store.may_leave c → StandsForOne pairs c
+
+-- What a crash now leaves of an honest store stands for what may be read.
+abbrev pub IsSettled : {S : Type 0} → (S → StoreFacts) → Disk S → Type 0
+IsSettled facts disk = IsTrue (facts disk.store).honest → Settled (facts disk.store) (readable disk)
+
+-- What a crash since some time may leave is what one before these calls might have left, or stands for one of these.
+pub record Crash (old new : StoreFacts) (pairs : List Documents) : Type 0 where
+  pub later : old.moment ≤ new.moment
+  pub each : (t : ℕ) (c : List ℕ) → t ≤ old.moment → new.left_since t c → old.left_since t c ⊎ StandsForOne pairs c
+
+-- Over any store the handles, the user IDs and the map block stay; over an honest one the document does.
+pub record Drifts (honest : Bool) (old new : Document) : Type 0 where
+  pub live : (h : ℕ) → is_live new h ≡ is_live old h
+  pub user_ids : (h : ℕ) → user_id_of new h ≡ user_id_of old h
+  pub map_block : new.map_block ≡ old.map_block
+  pub same : IsTrue honest → new ≡ old
+
+-- Calls that commit nothing.
+pub record Passes {S : Type 0} (facts : S → StoreFacts) (old new : Disk S) : Type 0 where
+  pub honest : (facts new.store).honest ≡ (facts old.store).honest
+  pub failures : (facts old.store).failures ≤ (facts new.store).failures
+  pub updated : IsTrue (facts old.store).honest → new.updated ≡ old.updated
+  pub saved : IsTrue (facts old.store).honest → new.saved ≡ old.saved
+  pub attempted : IsTrue (facts old.store).honest → new.attempted ≡ old.attempted
+  pub sequence : new.sequence ≡ old.sequence
+  pub crash : IsTrue (facts old.store).honest → Crash (facts old.store) (facts new.store) (readable old)
+
+-- What a commit of a pair that wasn't acknowledged leaves of what may be read: what there was, or less, or that pair.
+abbrev pub Attempts : Documents → List Documents → List Documents → Type 0
+Attempts pair old new = (new ≡ old) ⊎ ((new ≡ []) ⊎ (new ≡ pair ∷ []))
+
+-- A call that tries to commit a pair. While it isn't acknowledged, a crash may leave it or what might be read before.
+pub record Commits {S : Type 0} (facts : S → StoreFacts) (pair : Documents) (old new : Disk S) (result : Result (Unit {0}) Fault) : Type 0 where
+  pub honest : (facts new.store).honest ≡ (facts old.store).honest
+  pub failures : (facts old.store).failures ≤ (facts new.store).failures
+  pub crash : IsTrue (facts old.store).honest → Crash (facts old.store) (facts new.store) (pair ∷ readable old)
+  pub settled : IsSettled facts new
+  pub ok : OnOk result (IsTrue (facts old.store).honest → ((new.updated, new.saved) ≡ pair) × (new.attempted ≡ []))
+  pub err : OnErr result (IsTrue (facts old.store).honest → (new.updated ≡ old.updated) × (new.saved ≡ old.saved) × Attempts pair old.attempted new.attempted)
+  pub sequence : MatchResult result (λ _. new.sequence ≡ old.sequence + 1) (λ _. new.sequence ≡ old.sequence)

@@ -1,0 +1,80 @@
+-- The documents that tables of places stand for.
+use Rattle.std.specs.Prelude.{◌≡◌, ℕ, ◌+◌, List, [], ◌∷◌, map, Option, None, Some, Result, Ok, Err, All, IfSome}
+use Rattle.std.specs.Option.{option_map}
+use Rattle.geos_model.specs.Document.{Block, Document, is_heap_body}
+use Rattle.geos_model.specs.Image.{body_of, body_read}
+use Rattle.geos_model.specs.File.{Directory, bytes_in, directory_of, open_slot, counting_slot}
+use Rattle.geos_model.specs.declared.fault.Fault.{Fault}
+use Rattle.geos_model.specs.declared.file.Slot.{Slot}
+use Rattle.geos_model.specs.declared.file.Entry.{Entry}
+use Rattle.geos_model.proofs.Table.{table_map}
+use Rattle.vm_file.specs.declared.table.Place.{Place}
+use Rattle.vm_file.specs.declared.table.Table.{Table}
+use Rattle.vm_file.specs.declared.slots.Stored.{Stored}
+use Rattle.vm_file.specs.declared.slots.Pair.{Pair}
+use Rattle.vm_file.specs.declared.slots.Other.{Other}
+use Rattle.vm_file.specs.declared.slots.Other.TheVariants.{Shut, Stale, Held}
+
+-- the updated and the saved document
+abbrev pub Documents : Type 0
+Documents = Document × Document
+
+-- the block whose image lies at a place
+abbrev pub block_in : List ℕ → Place → Block
+block_in file place = record { user_id = place.user_id; body = body_read (bytes_in file place.extent) }
+
+abbrev pub blocks_in : List ℕ → List (Option Place) → List (Option Block)
+blocks_in file places = map (option_map (block_in file)) places
+
+-- the document of a table
+abbrev pub document_in : List ℕ → Table → Document
+document_in file table = record { blocks = table_map 1 1 (blocks_in file table.places.items); map_block = table.map_block }
+
+abbrev pub documents_in : List ℕ → Pair → Documents
+documents_in file pair = (document_in file pair.updated.table, document_in file pair.saved.table)
+
+-- those of a commit that failed in its last step
+abbrev pub attempted_in : List ℕ → Other → List Documents
+attempted_in file Shut = []
+attempted_in file Stale = []
+attempted_in file (Held pair) = documents_in file pair ∷ []
+
+-- the entries of the blocks of a table; h is the first handle
+abbrev pub entries_of : ℕ → List (Option Place) → List Entry
+entries_of h [] = []
+entries_of h (None ∷ places) = entries_of (h + 1) places
+entries_of h (Some place ∷ places) = record { handle = record { 0 = h }; user_id = place.user_id; extent = place.extent } ∷ entries_of (h + 1) places
+
+abbrev pub directory_of_table : Table → Directory
+directory_of_table table = record { map_block = table.map_block; entries = entries_of 1 table.places.items }
+
+-- the place has the image of a body of its kind
+pub record IsImaged (file : List ℕ) (place : Place) : Type 0 where
+  pub image : body_of (bytes_in file place.extent) ≡ Some (body_read (bytes_in file place.extent))
+  pub kind : place.is_heap ≡ is_heap_body (body_read (bytes_in file place.extent))
+
+-- each place of a table has one
+abbrev pub AreImaged : List ℕ → List (Option Place) → Type 0
+AreImaged file places = All (λ place. IfSome place (IsImaged file)) places
+
+-- a document whose directory and images lie in the file
+pub record IsStored (file : List ℕ) (s : Stored) : Type 0 where
+  pub directory : directory_of file s.directory ≡ Some (directory_of_table s.table)
+  pub images : AreImaged file s.table.places.items
+
+pub record AreStored (file : List ℕ) (pair : Pair) : Type 0 where
+  pub updated : IsStored file pair.updated
+  pub saved : IsStored file pair.saved
+
+abbrev pub IsHeldStored : List ℕ → Other → Type 0
+IsHeldStored file Shut = Unit {0}
+IsHeldStored file Stale = Unit {0}
+IsHeldStored file (Held pair) = AreStored file pair
+
+abbrev pub sequence_of : Result Slot Fault → Option ℕ
+sequence_of (Ok s) = Some s.sequence
+sequence_of (Err fault) = None
+
+-- the sequence number of the slot that counts
+abbrev pub sequence_in : List ℕ → Option ℕ
+sequence_in file = sequence_of (counting_slot (open_slot file 0) (open_slot file 1))

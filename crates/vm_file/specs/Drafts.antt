@@ -1,0 +1,19 @@
+-- A directory that is to be written.
+use Rattle.std.specs.Prelude.{◌≡◌, ◌<◌, ◌++◌, All, length}
+use Rattle.geos_model.specs.File.{directory_text}
+use Rattle.vm_file.specs.Ranges.{start_of, IsPlaced, IsClear}
+use Rattle.vm_file.specs.Slots.{block_extents, kept_extents}
+use Rattle.vm_file.specs.Documents.{entries_of, directory_of_table}
+use Rattle.vm_file.specs.Copies.{IsCopy}
+use Rattle.vm_file.specs.declared.directory.Draft.{Draft}
+use Rattle.vm_file.specs.declared.table.Table.{Table}
+use Rattle.vm_file.specs.declared.slots.Slots.{Slots}
+
+-- The directory of the live table, with its text and a place on which nothing lies that stays.
+pub record IsDraft (live : Table) (slots : Slots) (draft : Draft) : Type 0 where
+  pub table : IsCopy draft.stored.table live
+  pub text : draft.text.items ≡ directory_text (directory_of_table draft.stored.table)
+  pub size : draft.stored.directory.length ≡ length draft.text.items
+  pub placed : IsPlaced draft.stored.directory
+  pub clear : IsClear (start_of draft.stored.directory) draft.stored.directory.length (block_extents live.places.items ++ kept_extents slots)
+  pub user_ids : All (λ e. e.user_id < 65536) (entries_of 1 draft.stored.table.places.items)

@@ -1,0 +1,12 @@
+pub mod Calls
+pub mod Copies
+pub mod Crashes
+pub mod Disk
+pub mod Documents
+pub mod Drafts
+pub mod Making
+pub mod Opened
+pub mod Ranges
+pub mod Slots
+pub mod Sound
+pub mod Writing

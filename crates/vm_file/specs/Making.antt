@@ -1,0 +1,102 @@
+-- The making of a file.
+use Rattle.std.specs.Prelude.{◌≡◌, ◌⊎◌, ℕ, ◌+◌, ◌*◌, ◌<◌, ◌≤◌, max, false, List, [], ◌∷◌, ◌++◌, All, IfSome, Option, None, Some, length}
+use Rattle.vm_store.specs.Facts.{byte, Holds, Puts}
+use Rattle.geos_model.specs.File.{directory_text, bytes_in, pages_of}
+use Rattle.geos_model.specs.declared.file.Extent.{Extent}
+use Rattle.vm_file.specs.Ranges.{IsPlaced, start_of, end_of, IsClear}
+use Rattle.vm_file.specs.Slots.{mark, gate_text, block_extents}
+use Rattle.vm_file.specs.Documents.{blocks_in, document_in, attempted_in, entries_of, directory_of_table, AreImaged}
+use Rattle.vm_file.specs.Sound.{IsTable}
+use Rattle.vm_file.specs.Opened.{IsImageOf}
+use Rattle.vm_file.specs.declared.table.Place.{Place}
+use Rattle.vm_file.specs.declared.table.Table.{Table}
+use Rattle.vm_file.specs.declared.slots.Stored.{Stored}
+use Rattle.vm_file.specs.declared.slots.Slots.{Slots}
+use Rattle.vm_file.specs.declared.slots.Other.TheVariants.{Shut}
+
+-- what a first slot holds whose gate is shut
+abbrev pub first_slot : Extent → List ℕ
+first_slot directory = mark ++ 0 ∷ gate_text 1 directory directory
+
+-- Slot 0 has the number 1 and leads to one directory, which has this text; all behind the slots is as it was but for that, and so is
+-- the gate of slot 1.
+pub record IsLaid (gate : ℕ) (directory : Extent) (text old new : List ℕ) : Type 0 where
+  pub gate_is : byte new 4 ≡ gate
+  pub marked : Holds new 0 mark
+  pub rest : Holds new 5 (gate_text 1 directory directory)
+  pub beside : byte new 516 ≡ byte old 516
+  pub there : Holds new (start_of directory) text
+  pub others : (i : ℕ) → 1024 ≤ i → (i < start_of directory) ⊎ (start_of directory + length text ≤ i) → byte new i ≡ byte old i
+  pub size : length new ≡ max (length old) (start_of directory + length text)
+
+-- the same document, with a directory
+pub record IsLiveStored (directory : Extent) (live : Table) (s : Stored) : Type 0 where
+  pub directory_is : s.directory ≡ directory
+  pub map_block : s.table.map_block ≡ live.map_block
+  pub places : s.table.places.items ≡ live.places.items
+
+-- the slots of a file that was just made: updated and saved is the live document
+pub record IsFirst (directory : Extent) (live : Table) (slots : Slots) : Type 0 where
+  pub second : slots.second ≡ false
+  pub sequence : slots.sequence ≡ 1
+  pub other : slots.other ≡ Shut
+  pub updated : IsLiveStored directory live slots.committed.updated
+  pub saved : IsLiveStored directory live slots.committed.saved
+
+-- so that the live document is the updated and the saved one
+pub record IsOne (file : List ℕ) (live : Table) (slots : Slots) : Type 0 where
+  pub updated : document_in file slots.committed.updated.table ≡ document_in file live
+  pub saved : document_in file slots.committed.saved.table ≡ document_in file live
+  pub attempted : attempted_in file slots.other ≡ []
+  pub sequence : slots.sequence ≡ 1
+
+-- what is known of a table whose directory is written
+pub record IsFounding (directory : Extent) (text : List ℕ) (live : Table) : Type 0 where
+  pub table : IsTable live
+  pub placed : All IsPlaced (block_extents live.places.items)
+  pub directory_placed : IsPlaced directory
+  pub clear : IsClear (start_of directory) directory.length (block_extents live.places.items)
+  pub user_ids : All (λ e. e.user_id < 65536) (entries_of 1 live.places.items)
+  pub text_is : text ≡ directory_text (directory_of_table live)
+  pub size : length text ≡ directory.length
+
+-- Copies.
+
+-- a place whose extent begins at another page
+abbrev pub moved_to : ℕ → Option Place → Option Place
+moved_to page None = None
+moved_to page (Some place) = Some (record place { extent = record { page = page; length = place.extent.length } })
+
+-- how many pages its extent takes
+abbrev pub pages_taken : Option Place → ℕ
+pages_taken None = 0
+pages_taken (Some place) = pages_of place.extent.length
+
+-- the places whose extents lie one behind the other from a page on
+abbrev pub laid_out : ℕ → List (Option Place) → List (Option Place)
+laid_out page [] = []
+laid_out page (o ∷ os) = moved_to page o ∷ laid_out (page + pages_taken o) os
+
+-- the page behind them
+abbrev pub page_behind : ℕ → List (Option Place) → ℕ
+page_behind page [] = page
+page_behind page (o ∷ os) = page_behind (page + pages_taken o) os
+
+-- An image of the place's kind is put at a page; it is the one that an honest source has.
+pub record IsWritten (page : ℕ) (place : Place) (honest : Type 0) (source old new : List ℕ) : Type 0 where
+  pub image : List ℕ
+  pub is_image : IsImageOf place.is_heap image
+  pub size : length image ≡ place.extent.length
+  pub put : Puts (512 * page) image old new
+  pub same : honest → image ≡ bytes_in source place.extent
+
+abbrev pub IsCopied : ℕ → Option Place → Type 0 → List ℕ → List ℕ → List ℕ → Type 0
+IsCopied page None honest source old new = new ≡ old
+IsCopied page (Some place) honest source old new = IsWritten page place honest source old new
+
+-- The images of these places lie one behind the other, and nothing else is changed in the slots.
+pub record AreCopied (honest : Type 0) (source : List ℕ) (places : List (Option Place)) (old new : List ℕ) : Type 0 where
+  pub images : AreImaged new (laid_out 2 places)
+  pub within : All (λ o. IfSome o (λ p. end_of p.extent ≤ length new)) (laid_out 2 places)
+  pub beside : byte new 516 ≡ byte old 516
+  pub blocks : honest → blocks_in new (laid_out 2 places) ≡ blocks_in source places

@@ -1,0 +1,89 @@
+-- What the reading of a file finds in it.
+use Rattle.std.specs.Prelude.{◌≡◌, ◌⊎◌, ℕ, ◌+◌, ◌*◌, ◌/◌, ◌<◌, ◌≤◌, ◌^◌, Bool, IsTrue, List, All, Option, None, Some, Ok, length, take, drop, if◌then◌else◌}
+use Rattle.vm_store.specs.Facts.{StoreFacts, byte, Rests}
+use Rattle.geos_model.specs.Document.{is_heap_body}
+use Rattle.geos_model.specs.Image.{body_of, body_read}
+use Rattle.geos_model.specs.File.{slot_of, open_slot, counting_slot, stands}
+use Rattle.geos_model.specs.declared.fault.Fault.{Fault}
+use Rattle.geos_model.specs.declared.fault.Fault.TheVariants.{Damaged}
+use Rattle.geos_model.specs.declared.file.Extent.{Extent}
+use Rattle.geos_model.specs.declared.file.Slot.{Slot}
+use Rattle.vm_file.specs.Ranges.{IsPlaced, end_of}
+use Rattle.vm_file.specs.Slots.{stored_extents, pair_extents, IsBeside, Outcome}
+use Rattle.vm_file.specs.Documents.{AreStored, documents_in, sequence_in}
+use Rattle.vm_file.specs.Sound.{IsTable, AreTables}
+use Rattle.vm_file.specs.Calls.{IsSupply}
+use Rattle.vm_file.specs.declared.slots.Stored.{Stored}
+use Rattle.vm_file.specs.declared.slots.Pair.{Pair}
+use Rattle.vm_file.specs.declared.slots.Other.TheVariants.{Shut, Stale}
+use Rattle.vm_file.specs.declared.slots.Slots.{Slots}
+use Rattle.vm_file.specs.declared.reading.Face.{Face}
+use Rattle.vm_file.specs.declared.reading.Found.{Found}
+
+-- calls that only read
+pub record Looks (old new : StoreFacts) : Type 0 where
+  pub honest : new.honest ≡ old.honest
+  pub failures : old.failures ≤ new.failures
+  pub rests : IsTrue old.honest → Rests old new
+
+-- want of memory, a store that failed, or a file that is wrong
+abbrev pub IsReadRefusal : Fault → Type 0
+IsReadRefusal fault = IsSupply fault ⊎ (fault ≡ Damaged)
+
+-- the bytes are the image of a body of this kind
+pub record IsImageOf (is_heap : Bool) (bytes : List ℕ) : Type 0 where
+  pub image : body_of bytes ≡ Some (body_read bytes)
+  pub kind : is_heap ≡ is_heap_body (body_read bytes)
+
+-- a directory can lie there, in a file of n bytes
+pub record IsDirectoryPlace (n : ℕ) (e : Extent) : Type 0 where
+  pub behind : 2 ≤ e.page
+  pub within : 512 * e.page + e.length ≤ n
+  pub in_reach : e.page + (e.length + 511) / 512 ≤ 4194304
+  pub some : 16 ≤ e.length
+  pub short : e.length ≤ 32784
+
+-- a document that was read from a file of n bytes
+pub record IsRead (n : ℕ) (s : Stored) : Type 0 where
+  pub table : IsTable s.table
+  pub placed : All IsPlaced (stored_extents s)
+  pub within : All (λ e. end_of e ≤ n) (stored_extents s)
+
+pub record AreRead (n : ℕ) (pair : Pair) : Type 0 where
+  pub updated : IsRead n pair.updated
+  pub saved : IsRead n pair.saved
+
+-- the slot at a page, with its gate
+pub record IsFace (file : List ℕ) (page : ℕ) (face : Face) : Type 0 where
+  pub within : 512 * page + 32 ≤ length file
+  pub bytes : (i : ℕ) → i < 32 → byte file (512 * page + i) < 256
+  pub gate : face.gate ≡ byte file (512 * page + 4)
+  pub slot : face.slot ≡ slot_of (take 32 (drop (512 * page) file))
+
+-- the slot that counts, and what is known of the other one
+pub record IsFound (file : List ℕ) (found : Found) : Type 0 where
+  pub long : 1024 ≤ length file
+  pub bytes : (i : ℕ) → i < 32 → byte file (512 * (if found.second then 1 else 0) + i) < 256
+  pub counts : counting_slot (open_slot file 0) (open_slot file 1) ≡ Ok found.slot
+  pub opened : open_slot file (if found.second then 1 else 0) ≡ Some found.slot
+  pub beside : IsBeside found.other (if found.second then 0 else 1) found.slot.sequence file file
+
+-- the slot isn't open, or has a lower number
+abbrev pub Beaten : Option Slot → ℕ → Type 0
+Beaten slot n = (slot ≡ None) ⊎ ((t : Slot) × (slot ≡ Some t) × (t.sequence < n))
+
+-- slots that were read, from any store
+pub record IsReadSlots (slots : Slots) : Type 0 where
+  pub committed : AreTables slots.committed
+  pub placed : All IsPlaced (pair_extents slots.committed)
+  pub numbered : 1 ≤ slots.sequence
+  pub in_range : slots.sequence < 2 ^ 64
+  pub other : (slots.other ≡ Shut) ⊎ (slots.other ≡ Stale)
+
+-- from an honest one
+pub record IsReadWhole (file : List ℕ) (slots : Slots) : Type 0 where
+  pub stored : AreStored file slots.committed
+  pub within : All (λ e. end_of e ≤ length file) (pair_extents slots.committed)
+  pub outcome : Outcome slots file file
+  pub stands : stands file ≡ Ok (documents_in file slots.committed)
+  pub numbered : sequence_in file ≡ Some slots.sequence

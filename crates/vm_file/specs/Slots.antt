@@ -1,0 +1,122 @@
+-- What a crash leaves of the two slots, and of what they lead to.
+use Rattle.std.specs.Prelude.{◌≡◌, ◌≢◌, ◌⊎◌, ℕ, ◌+◌, ◌*◌, ◌<◌, ◌≤◌, List, [], ◌∷◌, ◌++◌, All, Option, None, Some, length, not, if◌then◌else◌}
+use Rattle.byteorder.specs.Endian.{little_bytes}
+use Rattle.vm_store.specs.Facts.{StoreFacts, byte, Holds}
+use Rattle.geos_model.specs.declared.file.Extent.{Extent}
+use Rattle.vm_file.specs.Ranges.{IsPlaced, Keeps, IsOut, IsClear}
+use Rattle.vm_file.specs.declared.table.Place.{Place}
+use Rattle.vm_file.specs.declared.slots.Stored.{Stored}
+use Rattle.vm_file.specs.declared.slots.Pair.{Pair}
+use Rattle.vm_file.specs.declared.slots.Other.{Other}
+use Rattle.vm_file.specs.declared.slots.Other.TheVariants.{Shut, Stale, Held}
+use Rattle.vm_file.specs.declared.slots.Slots.{Slots}
+
+-- What documents lie on.
+
+-- the extents of the blocks of a table
+abbrev pub block_extents : List (Option Place) → List Extent
+block_extents [] = []
+block_extents (None ∷ places) = block_extents places
+block_extents (Some place ∷ places) = place.extent ∷ block_extents places
+
+abbrev pub stored_extents : Stored → List Extent
+stored_extents s = s.directory ∷ block_extents s.table.places.items
+
+abbrev pub pair_extents : Pair → List Extent
+pair_extents p = stored_extents p.updated ++ stored_extents p.saved
+
+abbrev pub held_extents : Other → List Extent
+held_extents Shut = []
+held_extents Stale = []
+held_extents (Held pair) = pair_extents pair
+
+-- all that the slots stand on
+abbrev pub kept_extents : Slots → List Extent
+kept_extents slots = pair_extents slots.committed ++ held_extents slots.other
+
+-- The slots.
+
+-- the slot that counts
+abbrev pub slot_of : Slots → ℕ
+slot_of slots = if slots.second then 1 else 0
+
+-- the other one
+abbrev pub other_of : Slots → ℕ
+other_of slots = if slots.second then 0 else 1
+
+-- the slots when what the other one leads to counts
+abbrev pub turned : Slots → Pair → Slots
+turned slots pair = record { second = not slots.second; sequence = slots.sequence + 1; committed = pair; other = Stale }
+
+-- what a commit that failed may leave of the slots
+abbrev pub Failed : Slots → Pair → Slots → Type 0
+Failed old pair new = (new ≡ old) ⊎ ((new ≡ record old { other = Shut }) ⊎ (new ≡ record old { other = Held pair }))
+
+abbrev pub mark : List ℕ
+mark = 0x47 ∷ 0x56 ∷ 0x4d ∷ 0x46 ∷ []
+
+abbrev pub extent_bytes : Extent → List ℕ
+extent_bytes e = little_bytes 4 e.page ++ little_bytes 4 e.length
+
+-- what stands behind the gate of a slot: version, two zeros, sequence number, the directories of the updated and the saved document
+unfoldable pub gate_text : ℕ → Extent → Extent → List ℕ
+gate_text sequence updated saved = 1 ∷ 0 ∷ 0 ∷ little_bytes 8 sequence ++ extent_bytes updated ++ extent_bytes saved
+
+abbrev pub behind_gate : ℕ → Pair → List ℕ
+behind_gate sequence pair = gate_text sequence pair.updated.directory pair.saved.directory
+
+-- Whatever its gate, the slot has this number and leads to this pair, whose bytes are those of the file.
+pub record Leads (slot sequence : ℕ) (pair : Pair) (file c : List ℕ) : Type 0 where
+  pub marked : Holds c (512 * slot) mark
+  pub rest : Holds c (512 * slot + 5) (behind_gate sequence pair)
+  pub kept : Keeps (pair_extents pair) file c
+
+-- the slot has another mark
+pub record IsUnmarked (slot : ℕ) (c : List ℕ) : Type 0 where
+  pub bytes : List ℕ
+  pub size : length bytes ≡ 4
+  pub other : bytes ≢ mark
+  pub there : Holds c (512 * slot) bytes
+
+-- the slot has a lower number
+pub record IsOlder (slot sequence : ℕ) (c : List ℕ) : Type 0 where
+  pub number : ℕ
+  pub lower : number < sequence
+  pub there : Holds c (512 * slot + 8) (little_bytes 8 number)
+
+-- the slot that doesn't count, beside one of this number
+abbrev pub IsBeside : Other → ℕ → ℕ → List ℕ → List ℕ → Type 0
+IsBeside Shut slot sequence file c = byte c (512 * slot + 4) ≢ 1
+IsBeside Stale slot sequence file c = IsUnmarked slot c ⊎ IsOlder slot sequence c
+IsBeside (Held pair) slot sequence file c = Leads slot (sequence + 1) pair file c
+
+-- What a crash left: the slot that counts is open and whole, and the other is as it is known to be.
+pub record Outcome (slots : Slots) (file c : List ℕ) : Type 0 where
+  pub gate : byte c (512 * slot_of slots + 4) ≡ 1
+  pub counts : Leads (slot_of slots) slots.sequence slots.committed file c
+  pub beside : IsBeside slots.other (other_of slots) slots.sequence file c
+
+-- a crash now leaves such a file
+abbrev pub Leaves : StoreFacts → Slots → List ℕ → Type 0
+Leaves store slots file = (c : List ℕ) → store.may_leave c → Outcome slots file c
+
+-- What a crash since some time left is what one before these calls might have left, or such a file.
+pub record Outlives (old new : StoreFacts) (file : List ℕ) (Is : Slots → Type 0) : Type 0 where
+  pub later : old.moment ≤ new.moment
+  pub each : (t : ℕ) (c : List ℕ) → t ≤ old.moment → new.left_since t c → old.left_since t c ⊎ ((slots : Slots) × Is slots × Outcome slots file c)
+
+-- all that the slots stand on can be
+abbrev pub AreKept : Slots → Type 0
+AreKept slots = All IsPlaced (kept_extents slots)
+
+-- A write there changes nothing on which the other slot stands.
+abbrev pub IsBesideOut : Other → ℕ → ℕ → ℕ → Type 0
+IsBesideOut Shut slot at n = IsOut at n (512 * slot + 4) (512 * slot + 5)
+IsBesideOut Stale slot at n = IsOut at n (512 * slot) (512 * slot + 4) × IsOut at n (512 * slot + 8) (512 * slot + 16)
+IsBesideOut (Held pair) slot at n = IsOut at n (512 * slot) (512 * slot + 4) × IsOut at n (512 * slot + 5) (512 * slot + 32) × IsClear at n (pair_extents pair)
+
+-- a write there changes nothing on which the slots stand
+pub record Spares (at n : ℕ) (slots : Slots) : Type 0 where
+  pub slot : IsOut at n (512 * slot_of slots) (512 * slot_of slots + 32)
+  pub committed : IsClear at n (pair_extents slots.committed)
+  pub beside : IsBesideOut slots.other (other_of slots) at n

@@ -1,0 +1,63 @@
+-- What always holds of a document file.
+use Rattle.std.specs.Prelude.{◌≡◌, ◌⊎◌, ℕ, ◌+◌, ◌-◌, ◌^◌, ◌<◌, ◌≤◌, true, IsTrue, None, is_some, length, All, get_or}
+use Rattle.vm_store.specs.Facts.{StoreFacts}
+use Rattle.geos_model.specs.Document.{most_blocks}
+use Rattle.vm_file.specs.Ranges.{IsPlaced, end_of}
+use Rattle.vm_file.specs.Slots.{block_extents, AreKept, Leaves}
+use Rattle.vm_file.specs.Documents.{document_in, attempted_in, AreImaged, AreStored, IsHeldStored}
+use Rattle.vm_file.specs.Disk.{Disk}
+use Rattle.vm_file.specs.declared.table.Table.{Table}
+use Rattle.vm_file.specs.declared.slots.Pair.{Pair}
+use Rattle.vm_file.specs.declared.slots.Other.{Other}
+use Rattle.vm_file.specs.declared.slots.Other.TheVariants.{Shut, Stale, Held}
+use Rattle.vm_file.specs.declared.slots.Slots.{Slots}
+
+-- A table that can be: a place for each handle, and the map block none or live.
+pub record IsTable (table : Table) : Type 0 where
+  pub size : length table.places.items ≡ most_blocks
+  pub map_block : (table.map_block ≡ 0) ⊎ ((1 ≤ table.map_block) × (is_some (get_or table.places.items (table.map_block - 1) None) ≡ true))
+
+-- so are the tables of a pair
+pub record AreTables (pair : Pair) : Type 0 where
+  pub updated : IsTable pair.updated.table
+  pub saved : IsTable pair.saved.table
+
+-- and those of a commit that failed in its last step, whose number is the next
+abbrev pub IsHeldFormed : ℕ → Other → Type 0
+IsHeldFormed sequence Shut = Unit {0}
+IsHeldFormed sequence Stale = Unit {0}
+IsHeldFormed sequence (Held pair) = AreTables pair × (sequence + 1 < 2 ^ 64)
+
+-- over any store
+pub record IsFormed (live : Table) (slots : Slots) : Type 0 where
+  pub table : IsTable live
+  pub placed : All IsPlaced (block_extents live.places.items)
+  pub committed : AreTables slots.committed
+  pub held : IsHeldFormed slots.sequence slots.other
+  pub kept : AreKept slots
+  pub numbered : 1 ≤ slots.sequence
+  pub in_range : slots.sequence < 2 ^ 64
+
+-- over an honest one
+pub record IsWhole (store : StoreFacts) (live : Table) (slots : Slots) : Type 0 where
+  pub images : AreImaged store.content live.places.items
+  pub within : All (λ e. end_of e ≤ length store.content) (block_extents live.places.items)
+  pub committed : AreStored store.content slots.committed
+  pub held : IsHeldStored store.content slots.other
+  pub leaves : Leaves store slots store.content
+
+pub record IsSound (store : StoreFacts) (live : Table) (slots : Slots) : Type 0 where
+  pub formed : IsFormed live slots
+  pub whole : IsTrue store.honest → IsWhole store live slots
+
+-- what callers see of it
+abbrev pub disk_of : {S : Type 0} → (S → StoreFacts) → S → Slots → Disk S
+disk_of facts store slots =
+    let file = (facts store).content in
+    record {
+      store = store;
+      updated = document_in file slots.committed.updated.table;
+      saved = document_in file slots.committed.saved.table;
+      attempted = attempted_in file slots.other;
+      sequence = slots.sequence;
+    }

@@ -1,0 +1,287 @@
+ghost use Rattle.std.specs.Prelude.{◌≡◌, ◌≢◌, ◌⊎◌, ◌↔◌, ◌≤◌, ◌<◌, ◌+◌, ℕ, List, [], ◌∷◌, All, IsTrue, IfOk, IfErr, IfSome, OnOk, OnErr, IsErrOf, IsOk, MatchResult, Ok, Err, Some, true, false, is_some, length};
+ghost use Rattle.vm_store.specs.Facts.{Raised, Rests};
+ghost use Rattle.geos_model.specs.Document.{empty_document, is_live, is_vm_handle, user_id_of, with_user_id, block_at, is_heap_body};
+ghost use Rattle.geos_model.specs.Image.{image};
+ghost use Rattle.geos_model.specs.File.{stands};
+ghost use Rattle.vm_file.specs.Disk.{FileState, Drifts, Passes, Commits, IsSettled, Settled};
+ghost use Rattle.vm_file.specs.Documents.{sequence_in};
+ghost use Rattle.vm_file.specs.Calls.{IsPut, put_all, remove_all, IsSupply, IsCommitRefusal, IsOpenRefusal, last_sequence};
+
+use crate::copies::{copy_stored, copy_table, twice};
+use crate::copying::copy_document;
+use crate::directory::{commit_draft, draft_of};
+use crate::making::make_empty;
+use crate::put::PutBlock;
+use crate::reading::{open_slots, read_extent};
+use crate::refused::Refused;
+use crate::settle::settle;
+use crate::slots::Slots;
+use crate::table::{Place, Table, place_of, put_places, remove_places, set_user_id};
+use crate::writing::write_puts;
+use geos_model::{Fault, VmHandle};
+use std::alloc::Global;
+use std::marker::Model;
+use vm_store::Store;
+
+/// A document file over a store. What was committed stays where it lies until another commit is acknowledged, so that a
+/// crash at any moment leaves the updated and the saved document of the last acknowledged commit, or those of a commit
+/// that was tried since.
+#[derive(Drop)]
+pub struct VmFile<S: Store> {
+    alloc: Global,
+    store: S,
+    live: Table,
+    slots: Slots,
+}
+
+impl<S: Store> Model for VmFile<S> {
+    ghost use Rattle.vm_file.specs.Disk.{FileState, file_state_code};
+    ghost use Rattle.vm_file.specs.Documents.{document_in};
+    ghost use Rattle.vm_file.specs.Sound.{disk_of, IsSound};
+
+    ghost Value = { FileState S };
+
+    ghost coded = { file_state_code S.code };
+
+    ghost view = { λ f. record {
+      disk = disk_of S.facts f.store f.slots;
+      document = document_in (S.facts f.store).content f.live;
+    } };
+
+    ghost invariant = { λ f. IsSound (S.facts f.store) f.live f.slots };
+}
+
+impl<S: Store> VmFile<S> {
+    /// Makes the store an empty document file, whatever was in it. Memory, File.
+    pub fn create(alloc: Global, store: S) -> Result<VmFile<S>, Refused<S>>
+        ensures honest { MatchResult result
+            (λ file. (S.facts file.disk.store).honest ≡ (S.facts store).honest)
+            (λ refused. (S.facts refused.store).honest ≡ (S.facts store).honest) }
+        ensures failures { MatchResult result
+            (λ file. (S.facts store).failures ≤ (S.facts file.disk.store).failures)
+            (λ refused. (S.facts store).failures ≤ (S.facts refused.store).failures) }
+        ensures made { IfOk result (λ file. (file.document ≡ empty_document) × (file.disk.updated ≡ empty_document) × (file.disk.saved ≡ empty_document)
+            × (file.disk.attempted ≡ []) × (file.disk.sequence ≡ 1)) }
+        ensures settled { IfOk result (λ file. IsSettled S.facts file.disk) }
+        // the slots, and a directory of no block
+        ensures size { IfOk result (λ file. IsTrue (S.facts store).honest → length (S.facts file.disk.store).content ≡ 1040) }
+        ensures file { IfErr result (λ refused. refused.fault ≡ Fault.File → Raised (S.facts store) (S.facts refused.store)) }
+        ensures refusals { IfErr result (λ refused. IsSupply refused.fault) }
+    {
+        let mut store = store;
+        match make_empty(alloc, &mut store) {
+            Ok(made) => Ok(VmFile {
+                alloc,
+                store,
+                live: made.live,
+                slots: made.slots,
+            }),
+            Err(fault) => Err(Refused { fault, store }),
+        }
+    }
+
+    /// Opens the file that a store has: NotDocument or Damaged where it is none, and the store comes back as it was.
+    /// Where a crash left the store, what is read is on the disk from then on.
+    pub fn open(alloc: Global, mut store: S) -> Result<VmFile<S>, Refused<S>>
+        ensures honest { MatchResult result
+            (λ file. (S.facts file.disk.store).honest ≡ (S.facts store).honest)
+            (λ refused. (S.facts refused.store).honest ≡ (S.facts store).honest) }
+        ensures failures { MatchResult result
+            (λ file. (S.facts store).failures ≤ (S.facts file.disk.store).failures)
+            (λ refused. (S.facts store).failures ≤ (S.facts refused.store).failures) }
+        // Nothing is written.
+        ensures rests { IsTrue (S.facts store).honest → MatchResult result
+            (λ file. Rests (S.facts store) (S.facts file.disk.store))
+            (λ refused. Rests (S.facts store) (S.facts refused.store)) }
+        ensures stands { IfOk result (λ file. IsTrue (S.facts store).honest → stands (S.facts store).content ≡ Ok (file.disk.updated, file.disk.saved)) }
+        ensures document { IfOk result (λ file. (file.document ≡ file.disk.updated) × (file.disk.attempted ≡ [])) }
+        ensures numbered { IfOk result (λ file. IsTrue (S.facts store).honest → sequence_in (S.facts store).content ≡ Some file.disk.sequence) }
+        ensures settled { IfOk result (λ file. IsSettled S.facts file.disk) }
+        ensures refused { IfErr result (λ refused. IsTrue (S.facts store).honest → IsSupply refused.fault ⊎ (stands (S.facts store).content ≡ Err refused.fault)) }
+        ensures file { IfErr result (λ refused. refused.fault ≡ Fault.File → Raised (S.facts store) (S.facts refused.store)) }
+        ensures refusals { IfErr result (λ refused. IsOpenRefusal refused.fault) }
+    {
+        match open_slots(alloc, &mut store) {
+            Ok((slots, live)) => Ok(VmFile {
+                alloc,
+                store,
+                live,
+                slots,
+            }),
+            Err(fault) => Err(Refused { fault, store }),
+        }
+    }
+
+    /// Where a block lies, its user ID and its kind; None where it isn't live.
+    pub fn entry(&self, block: VmHandle) -> Option<Place>
+        ensures live { is_some result ≡ is_live self.now.document block.0 }
+        ensures user_id { IfSome result (λ place. place.user_id ≡ user_id_of self.now.document block.0) }
+        ensures kind { IfSome result (λ place. IsTrue (S.facts self.now.disk.store).honest → place.is_heap ≡ is_heap_body (block_at self.now.document block.0).body) }
+        ensures handle { IfSome result (λ place. is_vm_handle block.0 ≡ true) }
+    {
+        place_of(&self.live.places, block)
+    }
+
+    /// The map block, 0 if there is none.
+    pub fn map_block(&self) -> VmHandle
+        ensures { result.0 ≡ self.now.document.map_block }
+    {
+        VmHandle(self.live.map_block)
+    }
+
+    /// The image of a block. Memory, File.
+    pub fn read_block(&mut self, block: VmHandle) -> Result<Vec<u8>, Fault>
+        requires { is_live self.old.document block.0 ≡ true }
+        ensures passes { Passes S.facts self.old.disk self.new.disk }
+        ensures drifts { Drifts (S.facts self.old.disk.store).honest self.old.document self.new.document }
+        ensures image { IfOk result (λ bytes. IsTrue (S.facts self.old.disk.store).honest → bytes.items ≡ image (block_at self.old.document block.0).body) }
+        ensures size { IfOk result (λ bytes. length bytes.items ≤ 65536) }
+        ensures file { IsErrOf result Fault.File → Raised (S.facts self.old.disk.store) (S.facts self.new.disk.store) }
+        ensures refusals { IfErr result IsSupply }
+    {
+        match place_of(&self.live.places, block) {
+            Some(place) => read_extent(self.alloc, &mut self.store, place.extent),
+            None => unreachable!(),
+        }
+    }
+
+    /// Sets the user ID of a block.
+    pub fn set_uid(&mut self, block: VmHandle, user_id: u16)
+        requires { is_live self.old.document block.0 ≡ true }
+        ensures { self.new ≡ record self.old { document = with_user_id self.old.document block.0 user_id } }
+    {
+        set_user_id(&mut self.live.places, block, user_id);
+    }
+
+    /// Sets the map block, 0 for none.
+    pub fn set_map(&mut self, block: VmHandle)
+        requires { (block.0 ≡ 0) ⊎ (is_live self.old.document block.0 ≡ true) }
+        ensures { self.new ≡ record self.old { document = record self.old.document { map_block = block.0 } } }
+    {
+        self.live.map_block = block.0;
+    }
+
+    /// Writes the images of blocks, and then puts all these blocks into the document and takes others out. Where it is
+    /// refused nothing of that is done. Memory, File; with nothing to write it takes no memory, calls no store and isn't
+    /// refused.
+    pub fn put_blocks(&mut self, puts: &[PutBlock], removals: &[VmHandle]) -> Result<(), Fault>
+        requires puts { All IsPut puts.now }
+        requires few { length puts.now ≤ 2048 }
+        requires removals { All (λ h. h.0 ≢ self.old.document.map_block) removals.now }
+        ensures passes { Passes S.facts self.old.disk self.new.disk }
+        ensures ok { OnOk result (Drifts (S.facts self.old.disk.store).honest (remove_all removals.now (put_all puts.now self.old.document)) self.new.document) }
+        ensures err { OnErr result (Drifts (S.facts self.old.disk.store).honest self.old.document self.new.document) }
+        ensures removals_alone { puts.now ≡ [] → IsOk result × (self.new ≡ record self.old { document = remove_all removals.now self.old.document }) }
+        ensures file { IsErrOf result Fault.File → Raised (S.facts self.old.disk.store) (S.facts self.new.disk.store) }
+        ensures refusals { IfErr result IsSupply }
+    {
+        let extents = write_puts(
+            self.alloc,
+            &mut self.store,
+            &self.live.places,
+            &self.slots,
+            puts,
+        )?;
+        put_places(&mut self.live.places, puts, &extents);
+        remove_places(&mut self.live.places, removals);
+        Ok(())
+    }
+
+    /// Makes the document as it is now the updated one. Worn where the sequence number can't rise, before anything else is
+    /// done; Memory, before anything is written; File.
+    pub fn commit_update(&mut self) -> Result<(), Fault>
+        ensures commits { Commits S.facts (self.old.document, self.old.disk.saved) self.old.disk self.new.disk result }
+        ensures drifts { Drifts (S.facts self.old.disk.store).honest self.old.document self.new.document }
+        ensures worn { IsErrOf result Fault.Worn ↔ self.old.disk.sequence ≡ last_sequence }
+        ensures early { IfErr result (λ fault. fault ≢ Fault.File → self.new ≡ self.old) }
+        ensures file { IsErrOf result Fault.File → Raised (S.facts self.old.disk.store) (S.facts self.new.disk.store) }
+        ensures refusals { IfErr result IsCommitRefusal }
+    {
+        if self.slots.sequence == u64::MAX {
+            return Err(Fault::Worn);
+        }
+        let draft = draft_of(self.alloc, &self.live, &self.slots)?;
+        let saved = copy_stored(self.alloc, &self.slots.committed.saved)?;
+        commit_draft(&mut self.store, &mut self.slots, &self.live, draft, saved)
+    }
+
+    /// Makes the document as it is now the updated and the saved one. Refused as an update is.
+    pub fn commit_save(&mut self) -> Result<(), Fault>
+        ensures commits { Commits S.facts (self.old.document, self.old.document) self.old.disk self.new.disk result }
+        ensures drifts { Drifts (S.facts self.old.disk.store).honest self.old.document self.new.document }
+        ensures worn { IsErrOf result Fault.Worn ↔ self.old.disk.sequence ≡ last_sequence }
+        ensures early { IfErr result (λ fault. fault ≢ Fault.File → self.new ≡ self.old) }
+        ensures file { IsErrOf result Fault.File → Raised (S.facts self.old.disk.store) (S.facts self.new.disk.store) }
+        ensures refusals { IfErr result IsCommitRefusal }
+    {
+        if self.slots.sequence == u64::MAX {
+            return Err(Fault::Worn);
+        }
+        let draft = draft_of(self.alloc, &self.live, &self.slots)?;
+        let saved = copy_stored(self.alloc, &draft.stored)?;
+        commit_draft(&mut self.store, &mut self.slots, &self.live, draft, saved)
+    }
+
+    /// Makes the saved document the updated one and the document as it is now. Refused as an update is.
+    pub fn commit_revert(&mut self) -> Result<(), Fault>
+        ensures commits { Commits S.facts (self.old.disk.saved, self.old.disk.saved) self.old.disk self.new.disk result }
+        ensures ok { OnOk result (Drifts (S.facts self.old.disk.store).honest self.old.disk.saved self.new.document) }
+        ensures err { OnErr result (Drifts (S.facts self.old.disk.store).honest self.old.document self.new.document) }
+        ensures worn { IsErrOf result Fault.Worn ↔ self.old.disk.sequence ≡ last_sequence }
+        ensures early { IfErr result (λ fault. fault ≢ Fault.File → self.new ≡ self.old) }
+        ensures file { IsErrOf result Fault.File → Raised (S.facts self.old.disk.store) (S.facts self.new.disk.store) }
+        ensures refusals { IfErr result IsCommitRefusal }
+    {
+        if self.slots.sequence == u64::MAX {
+            return Err(Fault::Worn);
+        }
+        let saved = &self.slots.committed.saved;
+        let live = copy_table(self.alloc, &saved.table)?;
+        let pair = twice(self.alloc, saved)?;
+        settle(&mut self.store, &mut self.slots, pair, &self.live)?;
+        self.live = live;
+        Ok(())
+    }
+
+    /// Makes another store a new file of the document as it is now, updated and saved, whatever was in it. What is read
+    /// and isn't an image, which an honest store never gives, is Damaged; Memory, File.
+    pub fn copy_to(&mut self, target: S) -> Result<VmFile<S>, Refused<S>>
+        ensures passes { Passes S.facts self.old.disk self.new.disk }
+        ensures drifts { Drifts (S.facts self.old.disk.store).honest self.old.document self.new.document }
+        ensures honest { MatchResult result
+            (λ file. (S.facts file.disk.store).honest ≡ (S.facts target).honest)
+            (λ refused. (S.facts refused.store).honest ≡ (S.facts target).honest) }
+        ensures failures { MatchResult result
+            (λ file. (S.facts target).failures ≤ (S.facts file.disk.store).failures)
+            (λ refused. (S.facts target).failures ≤ (S.facts refused.store).failures) }
+        ensures copied { IfOk result (λ file. IsTrue (S.facts self.old.disk.store).honest → IsTrue (S.facts target).honest → file.document ≡ self.old.document) }
+        ensures handles { IfOk result (λ file. Drifts false self.old.document file.document) }
+        ensures made { IfOk result (λ file. (file.disk.updated ≡ file.document) × (file.disk.saved ≡ file.document) × (file.disk.attempted ≡ []) × (file.disk.sequence ≡ 1)) }
+        ensures settled { IfOk result (λ file. IsSettled S.facts file.disk) }
+        ensures file { IfErr result (λ refused. refused.fault ≡ Fault.File
+            → Raised (S.facts self.old.disk.store) (S.facts self.new.disk.store) ⊎ Raised (S.facts target) (S.facts refused.store)) }
+        ensures damaged { IfErr result (λ refused. refused.fault ≡ Fault.Damaged → IsTrue (S.facts self.old.disk.store).honest → ⊥) }
+        ensures refusals { IfErr result (λ refused. IsSupply refused.fault ⊎ (refused.fault ≡ Fault.Damaged)) }
+    {
+        let mut target = target;
+        match copy_document(self.alloc, &mut self.store, &self.live, &mut target) {
+            Ok(made) => Ok(VmFile {
+                alloc: self.alloc,
+                store: target,
+                live: made.live,
+                slots: made.slots,
+            }),
+            Err(fault) => Err(Refused {
+                fault,
+                store: target,
+            }),
+        }
+    }
+
+    /// Gives the store back. Nothing is written.
+    pub fn close(self) -> S
+        ensures { result ≡ self.disk.store }
+    {
+        self.store
+    }
+}

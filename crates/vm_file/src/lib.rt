@@ -1,0 +1,24 @@
+//! A document file over a store: the blocks as they are now, as they were last updated and as they were saved.
+#![tactic(auto)]
+
+mod commit;
+mod copies;
+mod copying;
+mod directory;
+mod file;
+mod law;
+mod making;
+mod placing;
+mod put;
+mod reading;
+mod refused;
+mod settle;
+mod slots;
+mod table;
+mod writing;
+
+pub use file::VmFile;
+pub use law::crash_law;
+pub use put::PutBlock;
+pub use refused::Refused;
+pub use table::Place;

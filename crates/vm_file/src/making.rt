@@ -1,0 +1,167 @@
+// The making of a file.
+ghost use Rattle.std.specs.Prelude.{◌≡◌, ◌≤◌, ℕ, List, [], ◌∷◌, IsTrue, OnOk, IfOk, IfErr, IsErrOf, None, replicate, length};
+ghost use Rattle.vm_file.specs.Slots.{mark};
+ghost use Rattle.vm_store.specs.Facts.{IsDurable, Puts, Counts, Raised};
+ghost use Rattle.geos_model.specs.Document.{most_blocks};
+ghost use Rattle.vm_file.specs.Calls.{IsSupply};
+ghost use Rattle.vm_file.specs.Making.{first_slot, IsLaid, IsFirst};
+ghost use Rattle.vm_file.specs.Sound.{IsSound};
+
+use crate::commit::{MARK, PAGE, behind_gate_bytes};
+use crate::copies::copy_table;
+use crate::slots::{Other, Pair, Slots, Stored};
+use crate::table::Table;
+use geos_model::{Extent, Fault};
+use std::alloc::{AllocError, Global};
+use vm_store::{Store, StoreFault};
+
+/// How many handles there are.
+const MOST_BLOCKS: usize = 2_048;
+
+// Of a document of no block: the mark, version 1, and zeros.
+const EMPTY_DIRECTORY: [u8; 16] = [b'G', b'D', b'I', b'R', 1, 0, 0, 0, 0, 0, 0, 0, 0, 0, 0, 0];
+
+/// What is known in memory of a file that was made.
+#[derive(Drop)]
+pub struct Made {
+    pub live: Table,
+    pub slots: Slots,
+}
+
+/// A table of no block.
+pub fn empty_table(alloc: Global) -> Result<Table, AllocError>
+    ensures map_block { IfOk result (λ table. table.map_block ≡ 0) }
+    ensures places { IfOk result (λ table. table.places.items ≡ replicate most_blocks None) }
+{
+    let mut places = Vec::with_capacity(alloc, MOST_BLOCKS)?;
+    for _i in 0..MOST_BLOCKS {
+        places.push(None)?;
+    }
+    Ok(Table {
+        map_block: 0,
+        places,
+    })
+}
+
+/// The slots of a file whose document is updated and saved, under the number 1.
+pub fn first_slots(alloc: Global, live: Table, directory: Extent) -> Result<Made, AllocError>
+    ensures live { IfOk result (λ made. made.live ≡ live) }
+    ensures first { IfOk result (λ made. IsFirst directory live made.slots) }
+{
+    let updated = copy_table(alloc, &live)?;
+    let saved = copy_table(alloc, &live)?;
+    let committed = Pair {
+        updated: Stored {
+            directory,
+            table: updated,
+        },
+        saved: Stored {
+            directory,
+            table: saved,
+        },
+    };
+    let slots = Slots {
+        second: false,
+        sequence: 1,
+        committed,
+        other: Other::Shut,
+    };
+    Ok(Made { live, slots })
+}
+
+fn first_slot_bytes(directory: Extent) -> [u8; 32]
+    ensures { result ≡ first_slot directory }
+{
+    let mut bytes = [0; 32];
+    bytes[..4].copy_from_slice(&MARK);
+    bytes[5..].copy_from_slice(&behind_gate_bytes(1, directory, directory));
+    bytes
+}
+
+// Writes the slots, with their gates shut, into a file that has room for both.
+fn write_slots<S: Store>(store: &mut S, directory: Extent) -> Result<(), StoreFault>
+    ensures honest { (S.facts store.new).honest ≡ (S.facts store.old).honest }
+    ensures failures { Counts result (S.facts store.old) (S.facts store.new) }
+    ensures first { OnOk result (IsTrue (S.facts store.old).honest
+        → (c : List ℕ) × Puts 0 (first_slot directory) (S.facts store.old).content c × Puts 512 mark c (S.facts store.new).content) }
+    ensures durable { OnOk result (IsTrue (S.facts store.old).honest → IsDurable (S.facts store.new)) }
+{
+    store.write_at(0, &first_slot_bytes(directory))?;
+    store.write_at(PAGE, &MARK)?;
+    store.sync()
+}
+
+// Writes all of a first file but its images and its gate, and syncs.
+fn lay_out<S: Store>(store: &mut S, directory: Extent, text: &[u8]) -> Result<(), StoreFault>
+    requires behind { 2 ≤ directory.page }
+    ensures honest { (S.facts store.new).honest ≡ (S.facts store.old).honest }
+    ensures failures { Counts result (S.facts store.old) (S.facts store.new) }
+    ensures laid { OnOk result (IsTrue (S.facts store.old).honest → IsLaid 0 directory text.now (S.facts store.old).content (S.facts store.new).content) }
+    ensures durable { OnOk result (IsTrue (S.facts store.old).honest → IsDurable (S.facts store.new)) }
+{
+    store.write_at(PAGE * u64::from(directory.page), text)?;
+    write_slots(store, directory)
+}
+
+// Opens the gate of slot 0.
+fn open_first<S: Store>(store: &mut S) -> Result<(), StoreFault>
+    ensures honest { (S.facts store.new).honest ≡ (S.facts store.old).honest }
+    ensures failures { Counts result (S.facts store.old) (S.facts store.new) }
+    ensures opened { OnOk result (IsTrue (S.facts store.old).honest → Puts 4 (1 ∷ []) (S.facts store.old).content (S.facts store.new).content) }
+    ensures durable { OnOk result (IsTrue (S.facts store.old).honest → IsDurable (S.facts store.new)) }
+{
+    store.write_at(4, &[1])?;
+    store.sync()
+}
+
+/// Writes the directory and the slots of a first file, whose images lie there: both gates are shut until all of it is on the
+/// disk, and then that of slot 0 is opened.
+pub fn found<S: Store>(store: &mut S, directory: Extent, text: &[u8]) -> Result<(), StoreFault>
+    requires behind { 2 ≤ directory.page }
+    ensures honest { (S.facts store.new).honest ≡ (S.facts store.old).honest }
+    ensures failures { Counts result (S.facts store.old) (S.facts store.new) }
+    ensures laid { OnOk result (IsTrue (S.facts store.old).honest → IsLaid 1 directory text.now (S.facts store.old).content (S.facts store.new).content) }
+    ensures durable { OnOk result (IsTrue (S.facts store.old).honest → IsDurable (S.facts store.new)) }
+{
+    lay_out(store, directory, text)?;
+    open_first(store)
+}
+
+/// Takes all bytes away. File.
+pub fn empty<S: Store>(store: &mut S) -> Result<(), Fault>
+    ensures honest { (S.facts store.new).honest ≡ (S.facts store.old).honest }
+    ensures failures { (S.facts store.old).failures ≤ (S.facts store.new).failures }
+    ensures empty { OnOk result (IsTrue (S.facts store.old).honest → (S.facts store.new).content ≡ []) }
+    ensures file { IsErrOf result Fault.File → Raised (S.facts store.old) (S.facts store.new) }
+    ensures refusals { IfErr result (λ fault. fault ≡ Fault.File) }
+{
+    match store.set_len(0) {
+        Ok(()) => Ok(()),
+        Err(_) => Err(Fault::File),
+    }
+}
+
+/// Makes the store a file of no block, of 1,040 bytes. All memory is taken before the store is called.
+pub fn make_empty<S: Store>(alloc: Global, store: &mut S) -> Result<Made, Fault>
+    ensures honest { (S.facts store.new).honest ≡ (S.facts store.old).honest }
+    ensures failures { (S.facts store.old).failures ≤ (S.facts store.new).failures }
+    ensures sound { IfOk result (λ made. IsSound (S.facts store.new) made.live made.slots) }
+    ensures map_block { IfOk result (λ made. made.live.map_block ≡ 0) }
+    ensures places { IfOk result (λ made. made.live.places.items ≡ replicate most_blocks None) }
+    ensures first { IfOk result (λ made. IsFirst (record { page = 2; length = 16 }) made.live made.slots) }
+    ensures size { IfOk result (λ made. IsTrue (S.facts store.old).honest → length (S.facts store.new).content ≡ 1040) }
+    ensures file { IsErrOf result Fault.File → Raised (S.facts store.old) (S.facts store.new) }
+    ensures refusals { IfErr result IsSupply }
+{
+    let directory = Extent {
+        page: 2,
+        length: 16,
+    };
+    let live = empty_table(alloc)?;
+    let made = first_slots(alloc, live, directory)?;
+    empty(store)?;
+    match found(store, directory, &EMPTY_DIRECTORY) {
+        Ok(()) => Ok(made),
+        Err(_) => Err(Fault::File),
+    }
+}

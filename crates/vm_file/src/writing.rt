@@ -1,0 +1,70 @@
+// Images that come into the file.
+ghost use Rattle.std.specs.Prelude.{◌≡◌, ◌++◌, ◌+◌, ◌≤◌, [], All, IsTrue, IsOk, IfOk, IfErr, IsErrOf, OnOk, OnErr, length};
+ghost use Rattle.vm_store.specs.Facts.{Raised};
+ghost use Rattle.vm_file.specs.Ranges.{IsPlaced};
+ghost use Rattle.vm_file.specs.Slots.{block_extents, kept_extents, AreKept};
+ghost use Rattle.vm_file.specs.Calls.{IsPut, IsSupply};
+ghost use Rattle.vm_file.specs.Writing.{AreFor, Fills, AreWritten, IsSpared};
+
+use crate::commit::write_extent;
+use crate::placing::{place_images, taken_extents};
+use crate::put::PutBlock;
+use crate::slots::Slots;
+use crate::table::Place;
+use geos_model::{Extent, Fault};
+use std::alloc::Global;
+use vm_space::MOST_EXTENTS;
+use vm_store::{Store, StoreFault};
+
+/// Writes the images of blocks into extents on which nothing stands. Doesn't sync.
+pub fn write_images<S: Store>(
+    store: &mut S,
+    slots: &Slots,
+    extents: &[Extent],
+    puts: &[PutBlock],
+) -> Result<(), StoreFault>
+    requires kept { AreKept slots.now }
+    requires extents { AreFor (kept_extents slots.now) puts.now (length puts.now) extents.now }
+    ensures honest { (S.facts store.new).honest ≡ (S.facts store.old).honest }
+    ensures failures { (S.facts store.old).failures ≤ (S.facts store.new).failures }
+    ensures fills { IsTrue (S.facts store.old).honest → Fills slots.now extents.now (S.facts store.old) (S.facts store.new) }
+    ensures written { OnOk result (IsTrue (S.facts store.old).honest → AreWritten (length puts.now) puts.now extents.now (S.facts store.new).content) }
+    ensures file { OnErr result (Raised (S.facts store.old) (S.facts store.new)) }
+{
+    for (i, put) in puts.iter().enumerate() {
+        write_extent(store, slots, extents[i], put.image.as_slice())?;
+    }
+    Ok(())
+}
+
+/// Finds free extents for the images of blocks, and writes them there; none where there is nothing to write. Memory, File.
+pub fn write_puts<S: Store>(
+    alloc: Global,
+    store: &mut S,
+    live: &[Option<Place>],
+    slots: &Slots,
+    puts: &[PutBlock],
+) -> Result<Vec<Extent>, Fault>
+    requires live { All IsPlaced (block_extents live.now) }
+    requires kept { AreKept slots.now }
+    requires few { length (block_extents live.now ++ kept_extents slots.now) + length puts.now ≤ MOST_EXTENTS }
+    requires puts { All IsPut puts.now }
+    ensures honest { (S.facts store.new).honest ≡ (S.facts store.old).honest }
+    ensures failures { (S.facts store.old).failures ≤ (S.facts store.new).failures }
+    ensures spared { IsTrue (S.facts store.old).honest → IsSpared (block_extents live.now) slots.now (S.facts store.old) (S.facts store.new) }
+    ensures found { IfOk result (λ extents. AreFor (block_extents live.now ++ kept_extents slots.now) puts.now (length puts.now) extents.items) }
+    ensures written { IfOk result (λ extents. IsTrue (S.facts store.old).honest → AreWritten (length puts.now) puts.now extents.items (S.facts store.new).content) }
+    ensures nothing { puts.now ≡ [] → IsOk result × (store.new ≡ store.old) }
+    ensures file { IsErrOf result Fault.File → Raised (S.facts store.old) (S.facts store.new) }
+    ensures refusals { IfErr result IsSupply }
+{
+    if puts.is_empty() {
+        return Ok(Vec::new(alloc));
+    }
+    let taken = taken_extents(alloc, live, slots)?;
+    let extents = place_images(alloc, &taken, puts)?;
+    match write_images(store, slots, &extents, puts) {
+        Ok(()) => Ok(extents),
+        Err(_) => Err(Fault::File),
+    }
+}

@@ -1,0 +1,4 @@
+pub mod Fitting
+pub mod Texts
+pub mod Gaps
+pub mod Building

@@ -1,0 +1,28 @@
+ghost use Rattle.std.specs.Prelude.{◌≤◌, length};
+ghost use Rattle.vm_space.specs.Placing.{AreExtents, AreInOrder, IsFirstFit, IsLength};
+
+use crate::pages::{FIRST_PAGE, page_behind, page_count};
+use geos_model::Extent;
+
+/// How many extents may be taken: whichever they are, the first fit lies below page 4,194,304.
+pub const MOST_EXTENTS: usize = 16_384;
+
+/// The first free extent of `len` bytes, behind the slots: in one pass over the extents that are taken, with no memory.
+/// Each takes 1 to 128 pages, and so does the wanted one; the taken ones may overlap each other.
+pub fn place(taken: &[Extent], len: u32) -> Extent
+    requires few { length taken.now ≤ MOST_EXTENTS }
+    requires extents { AreExtents taken.now }
+    requires in_order { AreInOrder taken.now }
+    requires in_range { IsLength len }
+    ensures { IsFirstFit taken.now len result }
+{
+    let pages = page_count(len);
+    let mut page = FIRST_PAGE;
+    for extent in taken {
+        if page + pages <= extent.page {
+            break;
+        }
+        page = page.max(page_behind(*extent) as u32);
+    }
+    Extent { page, length: len }
+}
