@@ -5,7 +5,7 @@ use geos_model::{
 };
 use lmem_heap::Heap;
 use std::test::Fail;
-use vm_blocks::{Block, BlockBody, Blocks, SavedBlock};
+use vm_blocks::{Block, BlockBody, Blocks, SavedBlock, change_law};
 
 const BLOCK: VmHandle = VmHandle(1);
 
@@ -22,6 +22,7 @@ fn a_fault_has_a_number_and_a_name(rt: HostRuntime) {
     validity_law();
     undo_law();
     redo_law();
+    change_law();
 }
 
 #[test]
@@ -65,5 +66,7 @@ fn blocks_are_put_changed_and_saved(rt: HostRuntime) -> Result<(), Fail> {
     assert_eq!(rt; saved.image_len(), 3);
     blocks.set_map(BLOCK);
     assert_eq!(rt; blocks.map_block(), BLOCK);
+    assert!(rt; blocks.is_live(BLOCK) && !blocks.is_live(VmHandle(2)));
+    assert_eq!(rt; blocks.user_id(BLOCK), 7);
     Ok(())
 }

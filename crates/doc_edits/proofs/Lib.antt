@@ -7,3 +7,4 @@ pub mod ElementEdits
 pub mod NameEdits
 pub mod First
 pub mod ChunkPlans
+pub mod LookUps

@@ -4,7 +4,7 @@ use Rattle.std.specs.Result.{IsErrAnd}
 use Rattle.std.specs.FinMap.{get, contains_key}
 use Rattle.geos_model.specs.Refusal.{Conditions, applies, first_refusal}
 use Rattle.geos_model.specs.Heap.{ChunkMap}
-use Rattle.geos_model.specs.Document.{Block, Document, is_heap_body}
+use Rattle.geos_model.specs.Document.{Block, Document, is_heap_body, is_live}
 use Rattle.geos_model.specs.Meaning.{on_raw, on_heap, on_chunk}
 use Rattle.geos_model.specs.declared.fault.Fault.{Fault}
 use Rattle.geos_model.specs.declared.fault.Fault.TheVariants.{BadCommand, Locked, NothingToUndo, NothingToRedo, NoTarget, NoBlock, WrongKind, NotLocked, LockLimit, CacheFull, NoChunk}
@@ -13,6 +13,11 @@ use Rattle.doc_edits.proofs.Order.{not_among}
 
 not_late : (rest : Conditions) (f : Fault) → AreLate rest → is_among late_faults f ≡ false → applies rest f ≡ false
 not_late rest f late early = not_among late_faults rest f late early
+
+-- no block under the handle
+pub no_block : (d : Document) (h : ℕ) (rest : Conditions) → is_live d h ≡ false → AreLate rest → first_refusal (on_heap d h ++ rest) ≡ Some NoBlock
+no_block d h rest dead late =
+    rw (dead, not_late rest BadCommand late refl, not_late rest Locked late refl, not_late rest NothingToUndo late refl, not_late rest NothingToRedo late refl, not_late rest NoTarget late refl) refl
 
 -- a block of the other kind
 pub no_heap : (d : Document) (h : ℕ) (b : Block) (rest : Conditions) → get d.blocks h ≡ Some b → is_heap_body b.body ≡ false → AreLate rest → first_refusal (on_heap d h ++ rest) ≡ Some WrongKind

@@ -10,7 +10,8 @@ use Rattle.geos_model.specs.declared.fault.Fault.TheVariants.{Full}
 use Rattle.geos_model.specs.declared.command.Done.{Done}
 use Rattle.geos_model.specs.declared.command.Edit.{Edit}
 use Rattle.geos_model.specs.declared.command.Edit.TheVariants as edits
-use Rattle.geos_model.specs.declared.command.Kind.TheVariants.{In}
+use Rattle.geos_model.specs.declared.command.Kind.{Kind}
+use Rattle.geos_model.specs.declared.command.Kind.TheVariants.{Plain, In, Made, Freed}
 use Rattle.geos_model.specs.declared.handle.VmHandle.{VmHandle}
 use Rattle.geos_model.specs.declared.handle.ChunkHandle.{ChunkHandle}
 use Rattle.chunk_edits.specs.Splicing.{Stands, forwards}
@@ -66,35 +67,18 @@ creates_array (edits.CreateElementArray b size) = true
 creates_array (edits.CreateNameArray b part) = true
 creates_array edit = false
 
--- the block into whose body an edit looks
+-- the block in which a step of this kind is made
+abbrev pub block_of_kind : Kind → Option VmHandle
+block_of_kind (In b) = Some b
+block_of_kind Plain = None
+block_of_kind Made = None
+block_of_kind Freed = None
+
+-- the block into whose body an edit looks: one that is freed or copied, or that in which the edit is made
 abbrev pub block_read : Edit → Option VmHandle
 block_read (edits.FreeBlock b) = Some b
 block_read (edits.CopyBlock b) = Some b
-block_read (edits.WriteRaw b at bytes) = Some b
-block_read (edits.Attach b bytes) = Some b
-block_read (edits.Alloc b n) = Some b
-block_read (edits.Free b c) = Some b
-block_read (edits.CreateArray b size extra) = Some b
-block_read (edits.CreateElementArray b size) = Some b
-block_read (edits.CreateNameArray b part) = Some b
-block_read (edits.Resize b c n) = Some b
-block_read (edits.Insert b c at n) = Some b
-block_read (edits.Delete b c at n) = Some b
-block_read (edits.Write b c at bytes) = Some b
-block_read (edits.InsertElement b c i element) = Some b
-block_read (edits.SetElement b c i element) = Some b
-block_read (edits.ResizeElement b c i n) = Some b
-block_read (edits.DeleteElements b c i k) = Some b
-block_read (edits.ZeroArray b c) = Some b
-block_read (edits.AddElement b c element) = Some b
-block_read (edits.AddReference b c t) = Some b
-block_read (edits.RemoveReference b c t) = Some b
-block_read (edits.DeleteElement b c t) = Some b
-block_read (edits.ChangeElement b c t element) = Some b
-block_read (edits.AddName b c name part replace) = Some b
-block_read (edits.ChangeName b c t name) = Some b
-block_read (edits.RemoveName b c t) = Some b
-block_read edit = None
+block_read edit = block_of_kind (kind_of edit)
 
 -- The splice is what an edit comes to in a chunk: nothing but want of room refuses it.
 pub record Splices (edit : Edit) (d : Document) (b : VmHandle) (c : ChunkHandle) (s : Splice) (done : Done) : Type 0 where

@@ -1,3 +1,4 @@
 pub mod Planning
 pub mod Found
 pub mod Building
+pub mod LookUps

@@ -1,16 +1,11 @@
-ghost use Rattle.std.specs.Prelude.{◌≡◌, ◌≤◌, true, IfOk, MatchResult, replicate};
-ghost use Rattle.std.specs.FinMap.{empty};
-ghost use Rattle.geos_model.specs.declared.command.Body.TheVariants as bodies;
+ghost use Rattle.std.specs.Prelude.{MatchResult};
 ghost use Rattle.geos_model.specs.declared.command.Edit.TheVariants as edits;
-ghost use Rattle.vm_blocks.specs.Blocks.{is_resident};
-ghost use Rattle.vm_blocks.specs.Saved.{saved_block};
 ghost use Rattle.doc_edits.specs.Planning.{Plans, Refuses};
 
 use geos_model::{Done, Fault, VmHandle};
-use lmem_heap::Heap;
-use raw_region::{RawBody, SIZE};
-use std::alloc::{AllocError, Global};
-use vm_blocks::{Block, BlockBody, Blocks, Change, SavedBlock};
+use raw_region::SIZE;
+use std::alloc::Global;
+use vm_blocks::{Blocks, Change, SavedBlock};
 
 /// Of the edit that makes a raw block of zeros.
 pub fn plan_new_raw(
@@ -28,18 +23,8 @@ pub fn plan_new_raw(
         Some(handle) => handle,
         None => return Err(Fault::NoHandles),
     };
-    let block = raw_of_zeros(alloc, user_id, size as usize)?;
+    let block = SavedBlock::zeros(alloc, user_id, size as usize)?;
     Ok((Change::BlockIn(handle, block), Done::Block(handle)))
-}
-
-/// A raw block of zeros.
-fn raw_of_zeros(alloc: Global, user_id: u16, size: usize) -> Result<SavedBlock, AllocError>
-    requires { size ≤ SIZE }
-    ensures { IfOk result (λ block. saved_block block ≡ record { user_id = user_id; body = bodies.Raw (replicate size 0) }) }
-{
-    let mut body = RawBody::new(alloc)?;
-    body.insert_zeros(0, size);
-    SavedBlock::of(alloc, &Block::new(user_id, BlockBody::Raw(body)))
 }
 
 /// Of the edit that makes a block with an empty heap.
@@ -50,16 +35,8 @@ pub fn plan_new_heap(alloc: Global, blocks: &Blocks, user_id: u16) -> Result<(Ch
         Some(handle) => handle,
         None => return Err(Fault::NoHandles),
     };
-    let block = empty_heap(alloc, user_id)?;
+    let block = SavedBlock::empty_heap(alloc, user_id)?;
     Ok((Change::BlockIn(handle, block), Done::Block(handle)))
-}
-
-/// A block with an empty heap.
-fn empty_heap(alloc: Global, user_id: u16) -> Result<SavedBlock, AllocError>
-    ensures { IfOk result (λ block. saved_block block ≡ record { user_id = user_id; body = bodies.Heap empty }) }
-{
-    let body = BlockBody::Heap(Heap::new(alloc)?);
-    SavedBlock::of(alloc, &Block::new(user_id, body))
 }
 
 /// Of the edit that frees a block.
@@ -109,13 +86,12 @@ pub fn plan_set_user_id(
 ) -> Result<(Change, Done), Fault>
     ensures { MatchResult result (λ p. Plans (edits.SetUserId handle user_id) blocks.now p.0 p.1) (Refuses (edits.SetUserId handle user_id) blocks.now) }
 {
-    let old = match blocks.block(handle) {
-        Some(block) => block.user_id,
-        None => return Err(Fault::NoBlock),
-    };
+    if !blocks.is_live(handle) {
+        return Err(Fault::NoBlock);
+    }
     let change = Change::UserId {
         handle,
-        old,
+        old: blocks.user_id(handle),
         new: user_id,
     };
     Ok((change, Done::Nothing))
@@ -125,7 +101,7 @@ pub fn plan_set_user_id(
 pub fn plan_set_map(blocks: &Blocks, handle: VmHandle) -> Result<(Change, Done), Fault>
     ensures { MatchResult result (λ p. Plans (edits.SetMap handle) blocks.now p.0 p.1) (Refuses (edits.SetMap handle) blocks.now) }
 {
-    if handle.0 != 0 && blocks.block(handle).is_none() {
+    if handle.0 != 0 && !blocks.is_live(handle) {
         return Err(Fault::NoBlock);
     }
     let old = blocks.map_block();

@@ -4,6 +4,7 @@ use Rattle.std.proofs.lemmas.List.{append-nil}
 use Rattle.std.proofs.KnownBytes.{Appends-nil, Appends-trans, Consumes-nil, Consumes-trans, Consumes-kept}
 use Rattle.std.specs.Io.KnownBytes.{Appends, Consumes, Keeps, IsAtEnd}
 use Rattle.geos_model.specs.Machine.{Machine}
+use Rattle.undo_log.specs.Records.{machine_of}
 use Rattle.geos_shell.specs.declared.answering.Answering.{Answering}
 use Rattle.geos_shell.specs.Progress.{ProgressOf, AnswersPiece, StopsPiece, AnswersRest, StopsRest}
 use Rattle.geos_shell.specs.Runs.{AnswersAll, AnswersFinished, AnswersSome, EndsBy}
@@ -21,14 +22,14 @@ pub record Ran (start : Machine) (from to before after : Option (List ℕ)) (sta
   pub none_left : state.replies.items ≡ []
 
 -- nothing was read
-pub Ran-none : (reader writer : Option (List ℕ)) (state : Answering) → state.begun.items ≡ [] → state.replies.items ≡ [] → Ran state.session reader reader writer writer state
+pub Ran-none : (reader writer : Option (List ℕ)) (state : Answering) → state.begun.items ≡ [] → state.replies.items ≡ [] → Ran (machine_of state.session) reader reader writer writer state
 Ran-none reader writer state begun replies =
     record {
       read = [];
       consumed = Consumes-nil reader;
       written = [];
       appended = Appends-nil writer;
-      progress = rw (begun, replies) (Progress-none state.session);
+      progress = rw (begun, replies) (Progress-none (machine_of state.session));
       none_left = replies;
     }
 
@@ -67,7 +68,7 @@ module _ {start : Machine} {from mid before out : Option (List ℕ)} {state : An
         read = ran.read;
         consumed = Consumes-kept from mid to ran.read ran.consumed kept;
         written = ran.written;
-        new = state.session;
+        new = machine_of state.session;
         answered = rw (same_replies) at (Answered-finished ran.progress);
         appended = ran.appended;
       }

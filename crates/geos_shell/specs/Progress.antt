@@ -3,6 +3,7 @@ use Rattle.std.specs.Prelude.{◌≡◌, ◌↔◌, ℕ, ◌<◌, List, [], ◌�
 use Rattle.std.specs.Io.KnownBytes.{Appends}
 use Rattle.geos_model.specs.Machine.{Machine}
 use Rattle.geos_model.specs.Script.{line_feed, command, lines, finished_lines, requests, Answered, Stopped}
+use Rattle.undo_log.specs.Records.{machine_of}
 use Rattle.geos_shell.specs.declared.answering.Answering.{Answering}
 
 abbrev pub HasNoFeed : List ℕ → Type 0
@@ -27,7 +28,7 @@ pub record Progress (start : Machine) (read replies : List ℕ) (now : Machine) 
 
 -- the same of a state, after replies that were sent before
 abbrev pub ProgressOf : Machine → List ℕ → List ℕ → Answering → Type 0
-ProgressOf start read sent state = Progress start read (sent ++ state.replies.items) state.session state.begun.items
+ProgressOf start read sent state = Progress start read (sent ++ state.replies.items) (machine_of state.session) state.begun.items
 
 -- From one state the run comes to another by these bytes.
 abbrev pub GoesOver : Answering → List ℕ → Answering → Type 0

@@ -2,6 +2,7 @@
 ghost use Rattle.std.specs.Prelude.{◌≡◌, ◌++◌, ◌∷◌, [], ◌<◌, ◌≤◌, ℕ, List, length, OnOk, OnErr};
 ghost use Rattle.geos_model.specs.Machine.{Machine};
 ghost use Rattle.geos_model.specs.Script.{line_feed, lines, requests, Answered};
+ghost use Rattle.undo_log.specs.Records.{machine_of};
 ghost use Rattle.geos_shell.specs.Progress.{HasNoFeed, StandsFor, ProgressOf, GoesOver, StopsIn};
 
 use crate::replies::answer_line;
@@ -53,7 +54,7 @@ impl Answering {
     /// Answers the last line, which no line feed ends, if there is one.
     pub(crate) fn end(&mut self, alloc: Global) -> Result<(), AllocError>
         ensures ok { OnOk result ((start : Machine) (read sent : List ℕ) → ProgressOf start read sent self.old
-            → Answered start (requests (lines read)) (sent ++ self.new.replies.items) self.new.session) }
+            → Answered start (requests (lines read)) (sent ++ self.new.replies.items) (machine_of self.new.session)) }
         ensures err { OnErr result ((0 < length self.old.begun.items) × (self.new.replies.items ≡ self.old.replies.items)) }
     {
         if self.begun.is_empty() {

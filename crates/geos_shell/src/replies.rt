@@ -1,5 +1,6 @@
 ghost use Rattle.std.specs.Prelude.{◌≡◌, ◌++◌, List, ℕ, [], ◌∷◌, OnOk, OnErr, Some, IsTrue};
 ghost use Rattle.geos_model.specs.Script.{command, Answered};
+ghost use Rattle.undo_log.specs.Records.{machine_of};
 ghost use Rattle.geos_shell.specs.Replies.{Extends, Told, asks_array, asks_names, asks_slots, is_look_up};
 
 use crate::parser::parse;
@@ -11,12 +12,13 @@ use undo_log::Session;
 // Puts the reply to a look-up of a name array behind `out`, without its line feed.
 fn push_name_look_up(
     alloc: Global,
-    session: &Session,
+    session: &mut Session,
     look_up: &Command,
     out: &mut Vec<u8>,
 ) -> Result<(), AllocError>
     requires { IsTrue (asks_names look_up.now) }
-    ensures ok { OnOk result (Told session.now look_up.now out.old.items out.new.items) }
+    ensures ok { OnOk result (Told (machine_of session.old) look_up.now out.old.items out.new.items) }
+    ensures stays { session.new ≡ session.old }
     ensures err { OnErr result (Extends out.old.items out.new.items) }
 {
     match look_up {
@@ -39,12 +41,13 @@ fn push_name_look_up(
 // Puts the reply to a look-up of an element array or a name array behind `out`, without its line feed.
 fn push_slot_look_up(
     alloc: Global,
-    session: &Session,
+    session: &mut Session,
     look_up: &Command,
     out: &mut Vec<u8>,
 ) -> Result<(), AllocError>
     requires { IsTrue (asks_slots look_up.now) }
-    ensures ok { OnOk result (Told session.now look_up.now out.old.items out.new.items) }
+    ensures ok { OnOk result (Told (machine_of session.old) look_up.now out.old.items out.new.items) }
+    ensures stays { session.new ≡ session.old }
     ensures err { OnErr result (Extends out.old.items out.new.items) }
 {
     match look_up {
@@ -70,12 +73,13 @@ fn push_slot_look_up(
 // Puts the reply to a look-up of an array of any kind behind `out`, without its line feed.
 fn push_array_look_up(
     alloc: Global,
-    session: &Session,
+    session: &mut Session,
     look_up: &Command,
     out: &mut Vec<u8>,
 ) -> Result<(), AllocError>
     requires { IsTrue (asks_array look_up.now) }
-    ensures ok { OnOk result (Told session.now look_up.now out.old.items out.new.items) }
+    ensures ok { OnOk result (Told (machine_of session.old) look_up.now out.old.items out.new.items) }
+    ensures stays { session.new ≡ session.old }
     ensures err { OnErr result (Extends out.old.items out.new.items) }
 {
     match look_up {
@@ -92,12 +96,13 @@ fn push_array_look_up(
 // Puts the reply to a look-up behind `out`, without its line feed.
 fn push_look_up(
     alloc: Global,
-    session: &Session,
+    session: &mut Session,
     look_up: &Command,
     out: &mut Vec<u8>,
 ) -> Result<(), AllocError>
     requires { IsTrue (is_look_up look_up.now) }
-    ensures ok { OnOk result (Told session.now look_up.now out.old.items out.new.items) }
+    ensures ok { OnOk result (Told (machine_of session.old) look_up.now out.old.items out.new.items) }
+    ensures stays { session.new ≡ session.old }
     ensures err { OnErr result (Extends out.old.items out.new.items) }
 {
     match look_up {
@@ -123,7 +128,7 @@ fn respond(
     command: &Command,
     out: &mut Vec<u8>,
 ) -> Result<(), AllocError>
-    ensures ok { OnOk result ((written : List ℕ) × Answered session.old (Some command.now ∷ []) written session.new
+    ensures ok { OnOk result ((written : List ℕ) × Answered (machine_of session.old) (Some command.now ∷ []) written (machine_of session.new)
         × (out.new.items ≡ out.old.items ++ written)) }
     ensures err { OnErr result (Extends out.old.items out.new.items) }
 {
@@ -145,7 +150,7 @@ fn push_answer(
     line: &[u8],
     out: &mut Vec<u8>,
 ) -> Result<(), AllocError>
-    ensures ok { OnOk result ((written : List ℕ) × Answered session.old (command line.now ∷ []) written session.new
+    ensures ok { OnOk result ((written : List ℕ) × Answered (machine_of session.old) (command line.now ∷ []) written (machine_of session.new)
         × (out.new.items ≡ out.old.items ++ written)) }
     ensures err { OnErr result (Extends out.old.items out.new.items) }
 {
@@ -168,7 +173,7 @@ pub(crate) fn answer_line(
     line: &[u8],
     out: &mut Vec<u8>,
 ) -> Result<(), AllocError>
-    ensures ok { OnOk result ((written : List ℕ) × Answered session.old (command line.now ∷ []) written session.new
+    ensures ok { OnOk result ((written : List ℕ) × Answered (machine_of session.old) (command line.now ∷ []) written (machine_of session.new)
         × (out.new.items ≡ out.old.items ++ written)) }
     ensures err { OnErr result (out.new.items ≡ out.old.items) }
 {

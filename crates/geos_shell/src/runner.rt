@@ -1,5 +1,6 @@
 ghost use Rattle.std.specs.Prelude.{◌≡◌, ◌⊎◌, ℕ, [], IfSome, IfOk, IfErr, OnOk, OnErr, ◌<◌, ◌≤◌, length};
 ghost use Rattle.std.specs.Io.KnownBytes.{Appends, IsAtEnd, Keeps};
+ghost use Rattle.undo_log.specs.Records.{machine_of};
 ghost use Rattle.geos_shell.specs.Runs.{AnswersAll, EndsBy};
 ghost use Rattle.geos_shell.specs.Given.{Gives};
 ghost use Rattle.geos_shell.specs.Progress.{AnswersPiece, StopsPiece, AnswersRest, StopsRest};
@@ -47,10 +48,10 @@ pub fn run<R: Read, W: Write>(
 ) -> Result<Session, RunFault>
     // Where the run ends well, a whole script was read and each line of it answered.
     ensures ok { IfOk result (λ after.
-        AnswersAll session (R.remaining reader.old) (R.remaining reader.new) (W.contents writer.old) (W.contents writer.new) after) }
+        AnswersAll (machine_of session) (R.remaining reader.old) (R.remaining reader.new) (W.contents writer.old) (W.contents writer.new) (machine_of after)) }
     // Where reading fails, each line that had ended is answered; where memory runs out, the first ones.
     ensures err { IfErr result (λ fault.
-        EndsBy fault session (R.remaining reader.old) (R.remaining reader.new) (W.contents writer.old) (W.contents writer.new)) }
+        EndsBy fault (machine_of session) (R.remaining reader.old) (R.remaining reader.new) (W.contents writer.old) (W.contents writer.new)) }
 {
     let mut answering = Answering {
         session,
@@ -117,7 +118,7 @@ fn answer_rest<W: Write>(
     mut answering: Answering,
     writer: &mut W,
 ) -> Result<Session, RunFault>
-    ensures ok { IfOk result (λ after. AnswersRest answering after (W.contents writer.old) (W.contents writer.new)) }
+    ensures ok { IfOk result (λ after. AnswersRest answering (machine_of after) (W.contents writer.old) (W.contents writer.new)) }
     ensures err { IfErr result (λ fault. (fault ≡ RunFault.Write)
         ⊎ ((fault ≡ RunFault.Memory) × StopsRest answering (W.contents writer.old) (W.contents writer.new))) }
 {

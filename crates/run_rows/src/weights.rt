@@ -46,5 +46,6 @@ fn a_thousand_small_writes_weigh_little_beside_their_chunk(rt: HostRuntime) -> R
     }
     assert!(rt; session.weight() <= 62_003);
     assert_eq!(rt; session.undo_count(), 1_002);
+    session.validity();
     Ok(())
 }

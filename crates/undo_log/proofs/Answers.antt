@@ -12,9 +12,9 @@ use Rattle.vm_blocks.specs.Changes.{made, flipped}
 use Rattle.vm_blocks.specs.declared.change.Change.{Change}
 use Rattle.vm_blocks.specs.declared.change.Direction.TheVariants.{Forwards, Backwards}
 use Rattle.doc_edits.specs.Planning.{kind_of_change, change_cost, Plans}
-use Rattle.undo_log.specs.Records.{after, step, steps, machine_of, AreSteps}
+use Rattle.undo_log.specs.Records.{after, step, steps, AreSteps}
 use Rattle.undo_log.specs.Turning.{Moves, Stays, Turns}
-use Rattle.undo_log.proofs.Steps.{goes_back}
+use Rattle.undo_log.proofs.Steps.{goes_back, machine_at}
 
 -- a list of at least one step isn't empty
 some_steps : (s : UndoStep) (rest : List UndoStep) → (length (s ∷ rest) == 0) ≡ false
@@ -22,7 +22,7 @@ some_steps s rest = ne_eqb (suc (length rest)) 0 (λ e. cc e)
 
 -- an edit that was planned and carried out
 pub edit_answers : (edit : Edit) (d : Document) (undo redo : List Change) (c : Change) (done : Done) → AreSteps Backwards d undo redo → Plans edit d c done
-    → Step (machine_of d undo redo) (Some (commands.Edit edit)) (reply_of_done done) (machine_of (made c d) (c ∷ undo) [])
+    → Step (machine_at d undo redo) (Some (commands.Edit edit)) (reply_of_done done) (machine_at (made c d) (c ∷ undo) [])
 edit_answers edit d undo redo c done are plans =
     let back = goes_back Forwards c d are.valid plans.applies in
     let gives : made (flipped c) (made c d) ≡ d = back.gives in
@@ -39,51 +39,51 @@ redo_one d s past future = rw (some_steps s future) refl
 
 -- the newest change of the past is taken back
 undo_moved : (d : Document) (c : Change) (undo redo : List Change) → AreSteps Backwards d (c ∷ undo) redo
-    → Step (machine_of d (c ∷ undo) redo) (Some commands.Undo) Accepted (machine_of (after Backwards c d) undo (c ∷ redo))
+    → Step (machine_at d (c ∷ undo) redo) (Some commands.Undo) Accepted (machine_at (after Backwards c d) undo (c ∷ redo))
 undo_moved d c undo redo are =
     let back = goes_back Backwards c d are.valid are.first.0 in
-    inl (subst (λ (x : Document). Answers (machine_of d (c ∷ undo) redo) (Some commands.Undo) Accepted (record {
+    inl (subst (λ (x : Document). Answers (machine_at d (c ∷ undo) redo) (Some commands.Undo) Accepted (record {
       document = after Backwards c d;
       past = steps Backwards undo (after Backwards c d);
       future = record { kind = kind_of_change c; cost = change_cost c; document = x } ∷ steps Forwards redo x;
     })) (sym back.gives) (undo_one d (step Backwards c d) (steps Backwards undo (after Backwards c d)) (steps Forwards redo d)))
 
 redo_moved : (d : Document) (c : Change) (undo redo : List Change) → AreSteps Forwards d (c ∷ redo) undo
-    → Step (machine_of d undo (c ∷ redo)) (Some commands.Redo) Accepted (machine_of (after Forwards c d) (c ∷ undo) redo)
+    → Step (machine_at d undo (c ∷ redo)) (Some commands.Redo) Accepted (machine_at (after Forwards c d) (c ∷ undo) redo)
 redo_moved d c undo redo are =
     let back = goes_back Forwards c d are.valid are.first.0 in
-    inl (subst (λ (x : Document). Answers (machine_of d undo (c ∷ redo)) (Some commands.Redo) Accepted (record {
+    inl (subst (λ (x : Document). Answers (machine_at d undo (c ∷ redo)) (Some commands.Redo) Accepted (record {
       document = after Forwards c d;
       past = record { kind = kind_of_change c; cost = change_cost c; document = x } ∷ steps Backwards undo x;
       future = steps Forwards redo (after Forwards c d);
     })) (sym back.gives) (redo_one d (step Forwards c d) (steps Backwards undo d) (steps Forwards redo (after Forwards c d))))
 
 undo_newest : (d new : Document) (undo redo undo' redo' : List Change) → AreSteps Backwards d undo redo → Moves Backwards d new undo redo undo' redo'
-    → Step (machine_of d undo redo) (Some commands.Undo) Accepted (machine_of new undo' redo')
+    → Step (machine_at d undo redo) (Some commands.Undo) Accepted (machine_at new undo' redo')
 undo_newest d new undo redo undo' redo' are moves =
     let can = subst (λ (cs : List Change). AreSteps Backwards d cs redo) moves.from_was are in
     rw (moves.from_was, moves.to_is, moves.document) (undo_moved d moves.change undo' redo can)
 
 redo_newest : (d new : Document) (undo redo undo' redo' : List Change) → AreSteps Forwards d redo undo → Moves Forwards d new redo undo redo' undo'
-    → Step (machine_of d undo redo) (Some commands.Redo) Accepted (machine_of new undo' redo')
+    → Step (machine_at d undo redo) (Some commands.Redo) Accepted (machine_at new undo' redo')
 redo_newest d new undo redo undo' redo' are moves =
     let can = subst (λ (cs : List Change). AreSteps Forwards d cs undo) moves.from_was are in
     rw (moves.from_was, moves.to_is, moves.document) (redo_moved d moves.change undo redo' can)
 
 -- there is nothing to take back, or to make again
-no_undo : (d new : Document) (undo redo undo' redo' : List Change) → Stays d new undo redo undo' redo' → Step (machine_of d undo redo) (Some commands.Undo) (Refused NothingToUndo) (machine_of new undo' redo')
+no_undo : (d new : Document) (undo redo undo' redo' : List Change) → Stays d new undo redo undo' redo' → Step (machine_at d undo redo) (Some commands.Undo) (Refused NothingToUndo) (machine_at new undo' redo')
 no_undo d new undo redo undo' redo' stays = inl (rw (stays.from_was, stays.from_is, stays.to_is, stays.document) refl)
 
-no_redo : (d new : Document) (undo redo undo' redo' : List Change) → Stays d new redo undo redo' undo' → Step (machine_of d undo redo) (Some commands.Redo) (Refused NothingToRedo) (machine_of new undo' redo')
+no_redo : (d new : Document) (undo redo undo' redo' : List Change) → Stays d new redo undo redo' undo' → Step (machine_at d undo redo) (Some commands.Redo) (Refused NothingToRedo) (machine_at new undo' redo')
 no_redo d new undo redo undo' redo' stays = inl (rw (stays.from_was, stays.from_is, stays.to_is, stays.document) refl)
 
 -- what undo answers, and redo
 pub undo_answers : (turned : Bool) (d new : Document) (undo redo undo' redo' : List Change) → AreSteps Backwards d undo redo → Turns turned Backwards d new undo redo undo' redo'
-    → Step (machine_of d undo redo) (Some commands.Undo) (cond turned Accepted (Refused NothingToUndo)) (machine_of new undo' redo')
+    → Step (machine_at d undo redo) (Some commands.Undo) (cond turned Accepted (Refused NothingToUndo)) (machine_at new undo' redo')
 undo_answers true d new undo redo undo' redo' are moves = undo_newest d new undo redo undo' redo' are moves
 undo_answers false d new undo redo undo' redo' are stays = no_undo d new undo redo undo' redo' stays
 
 pub redo_answers : (turned : Bool) (d new : Document) (undo redo undo' redo' : List Change) → AreSteps Forwards d redo undo → Turns turned Forwards d new redo undo redo' undo'
-    → Step (machine_of d undo redo) (Some commands.Redo) (cond turned Accepted (Refused NothingToRedo)) (machine_of new undo' redo')
+    → Step (machine_at d undo redo) (Some commands.Redo) (cond turned Accepted (Refused NothingToRedo)) (machine_at new undo' redo')
 redo_answers true d new undo redo undo' redo' are moves = redo_newest d new undo redo undo' redo' are moves
 redo_answers false d new undo redo undo' redo' are stays = no_redo d new undo redo undo' redo' stays

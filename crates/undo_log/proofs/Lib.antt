@@ -2,6 +2,4 @@ pub mod Lists
 pub mod Steps
 pub mod Answers
 pub mod Weights
-pub mod Order
-pub mod Refusals
-pub mod ArrayLookUps
+pub mod LookUps

@@ -1,7 +1,7 @@
 -- A change that was carried out can be carried out the other way round, and documents stay valid along the records.
 use Rattle.std.proofs.Common.{◌≡◌, Bool, true, false, List, [], ◌∷◌, None, refl, sym, ap, subst, ◌∙◌}
 use Rattle.geos_model.specs.Document.{Document, IsValid}
-use Rattle.geos_model.specs.Machine.{IsValidMachine}
+use Rattle.geos_model.specs.Machine.{Machine, IsValidMachine}
 use Rattle.geos_model.proofs.Validity.{AreValid, valid-push, valid-none}
 use Rattle.vm_blocks.specs.Changes.{made, flipped, turned, block_in, Applies}
 use Rattle.vm_blocks.specs.declared.change.Change.{Change}
@@ -49,7 +49,11 @@ steps-valid direction (c ∷ cs) d valid can =
     let back = goes_back direction c d valid can.0 in
     valid-push (step direction c d) (steps direction cs (after direction c d)) back.valid (steps-valid direction cs (after direction c d) back.valid can.1)
 
-pub machine-valid : (d : Document) (undo redo : List Change) → AreSteps Backwards d undo redo → IsValidMachine (machine_of d undo redo)
+-- the machine of a document and two lists of records
+abbrev pub machine_at : Document → List Change → List Change → Machine
+machine_at d undo redo = machine_of (record { document = d; undo = undo; redo = redo })
+
+pub machine-valid : (d : Document) (undo redo : List Change) → AreSteps Backwards d undo redo → IsValidMachine (machine_at d undo redo)
 machine-valid d undo redo are = record {
   document = are.valid;
   past = steps-valid Backwards undo d are.valid are.first;

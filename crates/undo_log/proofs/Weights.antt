@@ -1,10 +1,10 @@
 -- What records hold is no more than what their steps are charged for.
-use Rattle.std.proofs.Common.{◌≡◌, ◌≤◌, ◌+◌, ◌-◌, ◌^◌, ℕ, length, List, [], ◌∷◌, min, reverse, refl, sym, ap, subst, ◌∙◌, arith}
+use Rattle.std.proofs.Common.{◌≡◌, ◌≤◌, ◌+◌, ◌-◌, ◌^◌, ℕ, length, List, [], ◌∷◌, min, reverse, refl, sym, ap, ◌∙◌, arith}
 use Rattle.std.proofs.lemmas.List.Sums.{sum_by-cons, sum_by-le-sum_by}
 use Rattle.std.proofs.lemmas.List.Sorted.{sum_by-IsPermutation, IsPermutation-reverse}
 use Rattle.std.specs.List.{sum_by}
 use Rattle.geos_model.specs.Document.{Document}
-use Rattle.geos_model.specs.Machine.{Machine, UndoStep}
+use Rattle.geos_model.specs.Machine.{UndoStep}
 use Rattle.vm_blocks.specs.Changes.{weight, part_weight, content_weight, bytes_of}
 use Rattle.vm_blocks.specs.declared.change.Change.{Change}
 use Rattle.vm_blocks.specs.declared.change.Change.TheVariants as changes
@@ -15,7 +15,7 @@ use Rattle.vm_blocks.specs.declared.change.PartChange.TheVariants as parts
 use Rattle.vm_blocks.specs.declared.change.Direction.{Direction}
 use Rattle.vm_blocks.specs.declared.change.Direction.TheVariants.{Forwards, Backwards}
 use Rattle.doc_edits.specs.Planning.{part_cost, change_cost}
-use Rattle.undo_log.specs.Records.{after, step, steps, machine_of, total_weight, total_cost, Weighs}
+use Rattle.undo_log.specs.Records.{after, step, steps, total_weight, total_cost}
 
 content_weight-le : (content : Content) → content_weight content ≤ length (bytes_of content)
 content_weight-le (contents.Bytes bytes) = omega arith
@@ -61,12 +61,7 @@ weight_at_most d undo redo r a b e f g = cut-le r a b (total_weight undo) (total
 cut-sum : (r a b u v most : ℕ) → r ≡ min (a + b) most → a ≡ min u most → b ≡ min v most → r ≡ min (u + v) most
 cut-sum r a b u v most e f g = grind (arith, e, f, g)
 
-pub weighs : (m : Machine) (d : Document) (undo redo : List Change) (r a b : ℕ) → machine_of d (reverse undo) (reverse redo) ≡ m
-    → r ≡ min (a + b) (2 ^ 64 - 1) → a ≡ min (total_weight undo) (2 ^ 64 - 1) → b ≡ min (total_weight redo) (2 ^ 64 - 1) → Weighs m r
-weighs m d undo redo r a b is e f g =
-    subst (λ (x : Machine). Weighs x r) is (record {
-      undo = reverse undo;
-      redo = reverse redo;
-      records = refl;
-      weight = cut-sum r a b (total_weight (reverse undo)) (total_weight (reverse redo)) (2 ^ 64 - 1) e (rw (weight-reverse undo) f) (rw (weight-reverse redo) g);
-    })
+-- the same of the records, the newest first
+pub weighs : (undo redo : List Change) (r a b : ℕ) → r ≡ min (a + b) (2 ^ 64 - 1) → a ≡ min (total_weight undo) (2 ^ 64 - 1) → b ≡ min (total_weight redo) (2 ^ 64 - 1)
+    → r ≡ min (total_weight (reverse undo) + total_weight (reverse redo)) (2 ^ 64 - 1)
+weighs undo redo r a b e f g = cut-sum r a b (total_weight (reverse undo)) (total_weight (reverse redo)) (2 ^ 64 - 1) e (rw (weight-reverse undo) f) (rw (weight-reverse redo) g)

@@ -1,3 +1,3 @@
 pub mod Records
 pub mod Turning
-pub mod Found
+pub mod Codes

@@ -1,7 +1,7 @@
 -- The records of a session are changes. What steps they are, and that each can be taken.
-use Rattle.std.specs.Prelude.{◌≡◌, ◌+◌, ◌-◌, ◌^◌, ℕ, min, List, [], ◌∷◌}
+use Rattle.std.specs.Prelude.{◌≡◌, ℕ, List, [], ◌∷◌}
 use Rattle.std.specs.List.{sum_by}
-use Rattle.geos_model.specs.Document.{Document, IsValid}
+use Rattle.geos_model.specs.Document.{Document, empty_document, IsValid}
 use Rattle.geos_model.specs.Machine.{Machine, UndoStep}
 use Rattle.vm_blocks.specs.Changes.{made, turned, weight, Applies}
 use Rattle.vm_blocks.specs.declared.change.Change.{Change}
@@ -26,9 +26,19 @@ abbrev pub steps : Direction → List Change → Document → List UndoStep
 steps direction [] d = []
 steps direction (c ∷ cs) d = step direction c d ∷ steps direction cs (after direction c d)
 
--- The machine of a document and two lists of records, the newest first: the past takes changes back, the future makes them again.
-abbrev pub machine_of : Document → List Change → List Change → Machine
-machine_of d undo redo = record { document = d; past = steps Backwards undo d; future = steps Forwards redo d }
+-- A session: its document, the changes that can be taken back, and those that were taken back, of both the newest first.
+pub record SessionState : Type 0 where
+  pub document : Document
+  pub undo : List Change
+  pub redo : List Change
+
+-- a new one
+abbrev pub empty_session : SessionState
+empty_session = record { document = empty_document; undo = []; redo = [] }
+
+-- The machine that a session is: the past takes changes back, the future makes them again.
+abbrev pub machine_of : SessionState → Machine
+machine_of s = record { document = s.document; past = steps Backwards s.undo s.document; future = steps Forwards s.redo s.document }
 
 -- each change can be carried out in a direction, one after another
 abbrev pub CanTake : Direction → List Change → Document → Type 0
@@ -41,6 +51,13 @@ pub record AreSteps (direction : Direction) (d : Document) (from to : List Chang
   pub first : CanTake direction from d
   pub second : CanTake (opposite direction) to d
 
+-- The edit's change is made, and its record is the newest; nothing is left to redo.
+pub record Records (old new : SessionState) : Type 0 where
+  pub change : Change
+  pub undo : new.undo ≡ change ∷ old.undo
+  pub redo : new.redo ≡ []
+  pub document : new.document ≡ after Forwards change old.document
+
 -- how many content bytes changes hold together
 abbrev pub total_weight : List Change → ℕ
 total_weight cs = sum_by weight cs
@@ -48,10 +65,3 @@ total_weight cs = sum_by weight cs
 -- how many bytes steps are charged for together
 abbrev pub total_cost : List UndoStep → ℕ
 total_cost steps = sum_by (λ s. s.cost) steps
-
--- So many content bytes do the records of a machine hold, or 2 ^ 64 - 1 where these are more.
-pub record Weighs (m : Machine) (n : ℕ) : Type 0 where
-  pub undo : List Change
-  pub redo : List Change
-  pub records : machine_of m.document undo redo ≡ m
-  pub weight : n ≡ min (total_weight undo + total_weight redo) (2 ^ 64 - 1)

@@ -1,7 +1,6 @@
 //! A session: a document that is edited, and exact undo.
 #![tactic(auto)]
 
-mod found;
 mod session;
 mod turn;
 mod weighing;

@@ -1,22 +1,27 @@
-ghost use Rattle.std.specs.Prelude.{◌≡◌, ◌+◌, ◌≤◌, ℕ, Some, IfOk, length};
+//! A document that is edited, with what undo needs.
+ghost use Rattle.std.specs.Prelude.{◌≡◌, ◌+◌, ◌-◌, ◌^◌, ◌≤◌, ℕ, Some, IfOk, OnOk, OnErr, length, min};
+ghost use Rattle.std.specs.Borrow.{sem};
 ghost use Rattle.std.specs.Option.{option_map};
-ghost use Rattle.geos_model.specs.Reply.{Accepted, BytesAre, NumberIs, TokenIs, reply_by, reply_of_done, body_info, info_is, blocks_are, chunks_are, found};
-ghost use Rattle.geos_model.specs.Machine.{IsValidMachine, Step, empty_machine};
+ghost use Rattle.geos_model.specs.Reply.{Accepted, BytesAre, NumberIs, TokenIs, reply_by, reply_of_done, info_is, blocks_are, chunks_are, found};
+ghost use Rattle.geos_model.specs.Machine.{IsValidMachine, Step};
 ghost use Rattle.geos_model.specs.declared.command.Command.TheVariants as commands;
-ghost use Rattle.vm_blocks.specs.Blocks.{block_of, is_resident};
-ghost use Rattle.undo_log.specs.Records.{total_cost, Weighs};
+ghost use Rattle.vm_blocks.specs.Blocks.{is_resident};
+ghost use Rattle.vm_blocks.specs.declared.change.Direction.TheVariants.{Backwards, Forwards};
+ghost use Rattle.doc_edits.specs.LookUps.{Stays};
+ghost use Rattle.undo_log.specs.Records.{empty_session, machine_of, total_cost, total_weight, Records};
+ghost use Rattle.undo_log.specs.Turning.{Moves};
+ghost use Rattle.undo_log.specs.contracts.session.Session.{the_row};
 
-use crate::found::{bytes_at, heap_at, raw_at};
 use crate::turn::{take, turn};
 use crate::weighing::total_weight;
-use doc_edits::plan;
+use doc_edits::{look_ups, plan};
 use geos_model::{Bytes, ChunkHandle, Done, Edit, Fault, Info, Token, VmHandle};
 use std::alloc::{AllocError, Global};
 use std::marker::Model;
-use vm_blocks::{Block, BlockBody, Blocks, Change, Direction};
+use vm_blocks::{Blocks, Change, Direction};
 
-/// A document that is edited, with what undo needs. Contracts see it as the machine of documents: each call is one step
-/// of it, refused or not.
+/// A document that is edited, with what undo needs. Contracts see it as the document with its records, of which the machine
+/// of documents is a function: each call is one step of it, refused or not.
 #[derive(Drop)]
 pub struct Session {
     alloc: Global,
@@ -28,38 +33,28 @@ pub struct Session {
 }
 
 impl Model for Session {
-    ghost use Rattle.geos_model.specs.Machine.{Machine};
-    ghost use Rattle.geos_model.proofs.Codes.{machine_code};
+    ghost use Rattle.undo_log.specs.Records.{SessionState};
+    ghost use Rattle.undo_log.specs.Codes.{session_code};
 
-    ghost Value = { Machine };
+    ghost Value = { SessionState };
 
-    ghost coded = { machine_code };
+    ghost coded = { session_code };
 
     ghost use Rattle.std.specs.Prelude.{◌+◌, ◌≤◌, reverse, vec_len, vec_capacity};
     ghost use Rattle.vm_blocks.specs.declared.change.Direction.TheVariants.{Backwards};
-    ghost use Rattle.undo_log.specs.Records.{machine_of, AreSteps};
+    ghost use Rattle.undo_log.specs.Records.{AreSteps};
 
-    ghost view = { λ s. machine_of s.blocks (reverse s.undo.items) (reverse s.redo.items) };
+    ghost view = { λ s. record { document = s.blocks; undo = reverse s.undo.items; redo = reverse s.redo.items } };
 
     ghost invariant = { λ s. (vec_len s.undo + vec_len s.redo ≤ vec_capacity s.undo)
         × (vec_len s.undo + vec_len s.redo ≤ vec_capacity s.redo)
         × AreSteps Backwards s.blocks (reverse s.undo.items) (reverse s.redo.items) };
 }
 
-/// A block's user ID and size.
-fn info_of(block: &Block) -> Info
-    ensures { info_is result ≡ body_info (block_of block.now).user_id (block_of block.now).body }
-{
-    match &block.body {
-        BlockBody::Raw(body) => Info::Raw(block.user_id, body.bytes().len() as u32),
-        BlockBody::Heap(heap) => Info::Heap(block.user_id, heap.need()),
-    }
-}
-
 impl Session {
     /// The empty document, with nothing to undo.
     pub fn new(alloc: Global) -> Result<Session, AllocError>
-        ensures { IfOk result (λ s. s ≡ empty_machine) }
+        ensures { IfOk result (λ s. s ≡ empty_session) }
     {
         Ok(Session {
             alloc,
@@ -71,7 +66,9 @@ impl Session {
 
     /// Makes an edit, which can be undone from then on.
     pub fn edit(&mut self, edit: &Edit) -> Result<Done, Fault>
-        ensures { Step self.old (Some (commands.Edit edit.now)) (reply_by reply_of_done result) self.new }
+        ensures step { Step (machine_of self.old) (Some (commands.Edit edit.now)) (reply_by reply_of_done result) (machine_of self.new) }
+        ensures ok { OnOk result (Records self.old self.new) }
+        ensures err { OnErr result (self.new ≡ self.old) }
     {
         self.undo.reserve(self.redo.len() + 1)?;
         self.redo.reserve(self.undo.len() + 1)?;
@@ -84,7 +81,9 @@ impl Session {
 
     /// Goes back to the document before the newest edit.
     pub fn undo(&mut self) -> Result<(), Fault>
-        ensures { Step self.old (Some commands.Undo) (reply_by (λ _. Accepted) result) self.new }
+        ensures step { Step (machine_of self.old) (Some commands.Undo) (reply_by (λ _. Accepted) result) (machine_of self.new) }
+        ensures ok { OnOk result (Moves Backwards self.old.document self.new.document self.old.undo self.old.redo self.new.undo self.new.redo) }
+        ensures err { OnErr result (self.new ≡ self.old) }
     {
         if turn(
             &mut self.blocks,
@@ -100,7 +99,9 @@ impl Session {
 
     /// Makes the edit again that the newest undo took back.
     pub fn redo(&mut self) -> Result<(), Fault>
-        ensures { Step self.old (Some commands.Redo) (reply_by (λ _. Accepted) result) self.new }
+        ensures step { Step (machine_of self.old) (Some commands.Redo) (reply_by (λ _. Accepted) result) (machine_of self.new) }
+        ensures ok { OnOk result (Moves Forwards self.old.document self.new.document self.old.redo self.old.undo self.new.redo self.new.undo) }
+        ensures err { OnErr result (self.new ≡ self.old) }
     {
         if turn(
             &mut self.blocks,
@@ -116,21 +117,23 @@ impl Session {
 
     /// How many edits can be undone.
     pub fn undo_count(&self) -> usize
-        ensures { result ≡ length self.now.past }
+        ensures records { result ≡ length self.now.undo }
+        ensures past { result ≡ length (machine_of self.now).past }
     {
         self.undo.len()
     }
 
     /// How many edits can be redone.
     pub fn redo_count(&self) -> usize
-        ensures { result ≡ length self.now.future }
+        ensures records { result ≡ length self.now.redo }
+        ensures future { result ≡ length (machine_of self.now).future }
     {
         self.redo.len()
     }
 
     /// It does nothing: its caller learns that each document of the machine is valid, as it always is.
     pub fn validity(&self)
-        ensures { IsValidMachine self.now }
+        ensures { IsValidMachine (machine_of self.now) }
     {
         // What is always so of the fields is known where one is named.
         let _ = &self.undo;
@@ -138,8 +141,8 @@ impl Session {
 
     /// How many content bytes the records of undo and redo hold, 2^64 - 1 where these are more.
     pub fn weight(&self) -> u64
-        ensures exact { Weighs self.now result }
-        ensures charged { result ≤ total_cost self.now.past + total_cost self.now.future }
+        ensures exact { result ≡ min (total_weight self.now.undo + total_weight self.now.redo) (2 ^ 64 - 1) }
+        ensures charged { result ≤ total_cost (machine_of self.now).past + total_cost (machine_of self.now).future }
     {
         total_weight(self.undo.as_slice()).saturating_add(total_weight(self.redo.as_slice()))
     }
@@ -151,19 +154,9 @@ impl Session {
         self.blocks.is_resident(block)
     }
 
-    /// A block's user ID and size.
-    pub fn info(&self, block: VmHandle) -> Result<Info, Fault>
-        ensures { Step self.now (Some (commands.Info block)) (reply_by info_is result) self.now }
-    {
-        match self.blocks.block(block) {
-            Some(found) => Ok(info_of(found)),
-            None => Err(Fault::NoBlock),
-        }
-    }
-
     /// The live blocks, rising.
     pub fn list(&self) -> Result<Vec<VmHandle>, Fault>
-        ensures { Step self.now (Some commands.List) (reply_by (λ handles. blocks_are handles.items) result) self.now }
+        ensures { Step (machine_of self.now) (Some commands.List) (reply_by (λ handles. blocks_are handles.items) result) (machine_of self.now) }
     {
         Ok(self.blocks.list()?)
     }
@@ -182,150 +175,168 @@ impl Session {
         self.blocks.map_block()
     }
 
-    /// The bytes of a raw block.
-    pub fn read_raw(&self, block: VmHandle) -> Result<&[u8], Fault>
-        ensures { Step self.now (Some (commands.ReadRaw block)) (reply_by (λ bytes. BytesAre bytes.now) result) self.now }
+    /// A block's user ID and size.
+    pub fn info(&mut self, block: VmHandle) -> Result<Info, Fault>
+        ensures step { Step (machine_of self.old) (Some (commands.Info block)) (reply_by info_is result) (machine_of self.old) }
+        ensures stays { self.new ≡ self.old }
     {
-        let body = raw_at(&self.blocks, block)?;
-        Ok(body.bytes())
+        look_ups::info(&mut self.blocks, block)
+    }
+
+    /// The bytes of a raw block.
+    pub fn read_raw(&mut self, block: VmHandle) -> Result<&[u8], Fault>
+        ensures step { Step (machine_of self.old) (Some (commands.ReadRaw block)) (reply_by (λ bytes. BytesAre bytes.now) result) (machine_of self.old) }
+        ensures* stays { sem 𝓛 (Stays the_row self.entry) }
+    {
+        look_ups::read_raw(&mut self.blocks, block)
     }
 
     /// The live chunks of a heap, rising.
-    pub fn chunks(&self, block: VmHandle) -> Result<Vec<ChunkHandle>, Fault>
-        ensures { Step self.now (Some (commands.Chunks block)) (reply_by (λ handles. chunks_are handles.items) result) self.now }
+    pub fn chunks(&mut self, block: VmHandle) -> Result<Vec<ChunkHandle>, Fault>
+        ensures step { Step (machine_of self.old) (Some (commands.Chunks block)) (reply_by (λ handles. chunks_are handles.items) result) (machine_of self.old) }
+        ensures stays { self.new ≡ self.old }
     {
-        let heap = heap_at(&self.blocks, block)?;
-        Ok(heap.handles()?)
+        look_ups::chunks(&mut self.blocks, block)
     }
 
     /// The bytes of a chunk.
-    pub fn read_chunk(&self, block: VmHandle, chunk: ChunkHandle) -> Result<&[u8], Fault>
-        ensures { Step self.now (Some (commands.Read block chunk)) (reply_by (λ bytes. BytesAre bytes.now) result) self.now }
+    pub fn read_chunk(&mut self, block: VmHandle, chunk: ChunkHandle) -> Result<&[u8], Fault>
+        ensures step { Step (machine_of self.old) (Some (commands.Read block chunk)) (reply_by (λ bytes. BytesAre bytes.now) result) (machine_of self.old) }
+        ensures* stays { sem 𝓛 (Stays the_row self.entry) }
     {
-        bytes_at(&self.blocks, block, chunk)
+        look_ups::read_chunk(&mut self.blocks, block, chunk)
     }
 
     /// How many elements the array in a chunk has.
-    pub fn array_count(&self, block: VmHandle, chunk: ChunkHandle) -> Result<usize, Fault>
-        ensures { Step self.now (Some (commands.ArrayCount block chunk)) (reply_by NumberIs result) self.now }
+    pub fn array_count(&mut self, block: VmHandle, chunk: ChunkHandle) -> Result<usize, Fault>
+        ensures step { Step (machine_of self.old) (Some (commands.ArrayCount block chunk)) (reply_by NumberIs result) (machine_of self.old) }
+        ensures stays { self.new ≡ self.old }
     {
-        let bytes = bytes_at(&self.blocks, block, chunk)?;
-        let view = chunk_arrays::check(bytes)?;
-        Ok(view.count())
+        look_ups::array_count(&mut self.blocks, block, chunk)
     }
 
     /// The bytes of an element of the array in a chunk.
-    pub fn array_element(&self, block: VmHandle, chunk: ChunkHandle, i: u32) -> Result<&[u8], Fault>
-        ensures { Step self.now (Some (commands.ArrayElement block chunk i)) (reply_by (λ bytes. BytesAre bytes.now) result) self.now }
+    pub fn array_element(
+        &mut self,
+        block: VmHandle,
+        chunk: ChunkHandle,
+        i: u32,
+    ) -> Result<&[u8], Fault>
+        ensures step { Step (machine_of self.old) (Some (commands.ArrayElement block chunk i)) (reply_by (λ bytes. BytesAre bytes.now) result) (machine_of self.old) }
+        ensures* stays { sem 𝓛 (Stays the_row self.entry) }
     {
-        let bytes = bytes_at(&self.blocks, block, chunk)?;
-        let view = chunk_arrays::check(bytes)?;
-        let i = i as usize;
-        if i >= view.count() {
-            return Err(Fault::NoElement);
-        }
-        Ok(view.element(i))
+        look_ups::array_element(&mut self.blocks, block, chunk, i)
     }
 
     /// How many references an element of the element array in a chunk has.
     pub fn element_refs(
-        &self,
+        &mut self,
         block: VmHandle,
         chunk: ChunkHandle,
         token: Token,
     ) -> Result<u32, Fault>
-        ensures { Step self.now (Some (commands.ElementReferences block chunk token)) (reply_by NumberIs result) self.now }
+        ensures step { Step (machine_of self.old) (Some (commands.ElementReferences block chunk token)) (reply_by NumberIs result) (machine_of self.old) }
+        ensures stays { self.new ≡ self.old }
     {
-        let bytes = bytes_at(&self.blocks, block, chunk)?;
-        element_arrays::count_of(bytes, token)
+        look_ups::element_refs(&mut self.blocks, block, chunk, token)
     }
 
     /// The bytes of an element of the element array in a chunk.
     pub fn element_bytes(
-        &self,
+        &mut self,
         block: VmHandle,
         chunk: ChunkHandle,
         token: Token,
     ) -> Result<&[u8], Fault>
-        ensures { Step self.now (Some (commands.ElementBytes block chunk token)) (reply_by (λ bytes. BytesAre bytes.now) result) self.now }
+        ensures step { Step (machine_of self.old) (Some (commands.ElementBytes block chunk token)) (reply_by (λ bytes. BytesAre bytes.now) result) (machine_of self.old) }
+        ensures* stays { sem 𝓛 (Stays the_row self.entry) }
     {
-        let bytes = bytes_at(&self.blocks, block, chunk)?;
-        element_arrays::data_of(bytes, token)
+        look_ups::element_bytes(&mut self.blocks, block, chunk, token)
     }
 
     /// How many elements of the element array in a chunk are used.
-    pub fn elements_used(&self, block: VmHandle, chunk: ChunkHandle) -> Result<usize, Fault>
-        ensures { Step self.now (Some (commands.ElementsUsed block chunk)) (reply_by NumberIs result) self.now }
+    pub fn elements_used(&mut self, block: VmHandle, chunk: ChunkHandle) -> Result<usize, Fault>
+        ensures step { Step (machine_of self.old) (Some (commands.ElementsUsed block chunk)) (reply_by NumberIs result) (machine_of self.old) }
+        ensures stays { self.new ≡ self.old }
     {
-        let bytes = bytes_at(&self.blocks, block, chunk)?;
-        element_arrays::used_count(bytes)
+        look_ups::elements_used(&mut self.blocks, block, chunk)
     }
 
     /// The token of the used element that has this number, from 0 on, in the element array in a chunk.
-    pub fn token_of_used(&self, block: VmHandle, chunk: ChunkHandle, k: u32) -> Result<Token, Fault>
-        ensures { Step self.now (Some (commands.TokenOfUsed block chunk k)) (reply_by (λ token. TokenIs token.0) result) self.now }
+    pub fn token_of_used(
+        &mut self,
+        block: VmHandle,
+        chunk: ChunkHandle,
+        k: u32,
+    ) -> Result<Token, Fault>
+        ensures step { Step (machine_of self.old) (Some (commands.TokenOfUsed block chunk k)) (reply_by (λ token. TokenIs token.0) result) (machine_of self.old) }
+        ensures stays { self.new ≡ self.old }
     {
-        let bytes = bytes_at(&self.blocks, block, chunk)?;
-        element_arrays::token_of_used(bytes, k)
+        look_ups::token_of_used(&mut self.blocks, block, chunk, k)
     }
 
     /// How many used tokens of the element array in a chunk are lower than this one.
     pub fn used_of_token(
-        &self,
+        &mut self,
         block: VmHandle,
         chunk: ChunkHandle,
         token: Token,
     ) -> Result<usize, Fault>
-        ensures { Step self.now (Some (commands.UsedOfToken block chunk token)) (reply_by NumberIs result) self.now }
+        ensures step { Step (machine_of self.old) (Some (commands.UsedOfToken block chunk token)) (reply_by NumberIs result) (machine_of self.old) }
+        ensures stays { self.new ≡ self.old }
     {
-        let bytes = bytes_at(&self.blocks, block, chunk)?;
-        element_arrays::used_of_token(bytes, token)
+        look_ups::used_of_token(&mut self.blocks, block, chunk, token)
     }
 
     /// The token of a name in the name array in a chunk, the lowest that has it.
     pub fn name_find(
-        &self,
+        &mut self,
         block: VmHandle,
         chunk: ChunkHandle,
         name: &Bytes,
     ) -> Result<Token, Fault>
-        ensures { Step self.now (Some (commands.NameFind block chunk name.now)) (reply_by (λ token. TokenIs token.0) result) self.now }
+        ensures step { Step (machine_of self.old) (Some (commands.NameFind block chunk name.now)) (reply_by (λ token. TokenIs token.0) result) (machine_of self.old) }
+        ensures stays { self.new ≡ self.old }
     {
-        let bytes = bytes_at(&self.blocks, block, chunk)?;
-        name_arrays::find(bytes, name.as_slice())
+        look_ups::name_find(&mut self.blocks, block, chunk, name)
     }
 
     /// How many references a name of the name array in a chunk has.
-    pub fn name_refs(&self, block: VmHandle, chunk: ChunkHandle, token: Token) -> Result<u32, Fault>
-        ensures { Step self.now (Some (commands.NameReferences block chunk token)) (reply_by NumberIs result) self.now }
+    pub fn name_refs(
+        &mut self,
+        block: VmHandle,
+        chunk: ChunkHandle,
+        token: Token,
+    ) -> Result<u32, Fault>
+        ensures step { Step (machine_of self.old) (Some (commands.NameReferences block chunk token)) (reply_by NumberIs result) (machine_of self.old) }
+        ensures stays { self.new ≡ self.old }
     {
-        let bytes = bytes_at(&self.blocks, block, chunk)?;
-        name_arrays::count_of(bytes, token)
+        look_ups::name_refs(&mut self.blocks, block, chunk, token)
     }
 
     /// The name of a token of the name array in a chunk.
     pub fn name_text(
-        &self,
+        &mut self,
         block: VmHandle,
         chunk: ChunkHandle,
         token: Token,
     ) -> Result<&[u8], Fault>
-        ensures { Step self.now (Some (commands.NameText block chunk token)) (reply_by (λ bytes. BytesAre bytes.now) result) self.now }
+        ensures step { Step (machine_of self.old) (Some (commands.NameText block chunk token)) (reply_by (λ bytes. BytesAre bytes.now) result) (machine_of self.old) }
+        ensures* stays { sem 𝓛 (Stays the_row self.entry) }
     {
-        let bytes = bytes_at(&self.blocks, block, chunk)?;
-        name_arrays::name_of(bytes, token)
+        look_ups::name_text(&mut self.blocks, block, chunk, token)
     }
 
     /// What stands before the name of a token of the name array in a chunk.
     pub fn name_part(
-        &self,
+        &mut self,
         block: VmHandle,
         chunk: ChunkHandle,
         token: Token,
     ) -> Result<&[u8], Fault>
-        ensures { Step self.now (Some (commands.NamePart block chunk token)) (reply_by (λ bytes. BytesAre bytes.now) result) self.now }
+        ensures step { Step (machine_of self.old) (Some (commands.NamePart block chunk token)) (reply_by (λ bytes. BytesAre bytes.now) result) (machine_of self.old) }
+        ensures* stays { sem 𝓛 (Stays the_row self.entry) }
     {
-        let bytes = bytes_at(&self.blocks, block, chunk)?;
-        name_arrays::data_of(bytes, token)
+        look_ups::name_part(&mut self.blocks, block, chunk, token)
     }
 }

@@ -1,7 +1,7 @@
 ghost use Rattle.std.specs.Prelude.{◌≡◌, ◌≢◌, ◌+◌, ◌≤◌, ℕ, Some, None, true, false, IsTrue, IsOk, IfOk, IfErr, IfSome, IsSome, length, map, replicate, unwrap_or};
 ghost use Rattle.std.specs.Option.{option_map, option_copied};
 ghost use Rattle.std.specs.FinMap.{get, keys};
-ghost use Rattle.geos_model.specs.Document.{IsValid, empty_document, next_handle, is_live, is_vm_handle, most_blocks, with_user_id};
+ghost use Rattle.geos_model.specs.Document.{IsValid, empty_document, next_handle, is_live, is_vm_handle, most_blocks, user_id_of, with_user_id};
 ghost use Rattle.geos_model.specs.Reply.{found};
 ghost use Rattle.geos_model.proofs.Table.{table_entries, first_gap};
 ghost use Rattle.vm_blocks.specs.Blocks.{block_of, table_of, document_of, start_after, is_resident};
@@ -148,11 +148,26 @@ impl Blocks {
         }
     }
 
+    /// Whether a block has this handle, in memory or not.
+    pub fn is_live(&self, handle: VmHandle) -> bool
+        ensures { result ≡ is_live self.now handle.0 }
+    {
+        self.block(handle).is_some()
+    }
+
+    /// The user ID of a block, in memory or not.
+    pub fn user_id(&self, handle: VmHandle) -> u16
+        requires { is_live self.now handle.0 ≡ true }
+        ensures { result ≡ user_id_of self.now handle.0 }
+    {
+        self.block(handle).map_or(0, |block| block.user_id)
+    }
+
     /// Whether a block is in memory, so that its body can be read.
     pub fn is_resident(&self, handle: VmHandle) -> bool
         ensures { result ≡ is_resident self.now handle.0 }
     {
-        self.block(handle).is_some()
+        self.is_live(handle)
     }
 
     /// Brings a block into memory. NoBlock where it isn't live.

@@ -1,4 +1,5 @@
-ghost use Rattle.std.specs.Prelude.{◌≡◌, ◌≤◌, ◌<◌, true, IfOk, length};
+ghost use Rattle.std.specs.Prelude.{◌≡◌, ◌≤◌, ◌<◌, true, IfOk, length, replicate};
+ghost use Rattle.std.specs.FinMap.{empty};
 ghost use Rattle.geos_model.specs.Document.{is_valid_body};
 ghost use Rattle.geos_model.specs.Heap.{capacity, is_heap_map};
 ghost use Rattle.geos_model.specs.Image.{image};
@@ -37,6 +38,15 @@ impl Model for SavedHeap {
 }
 
 impl SavedHeap {
+    /// A heap without chunks.
+    pub fn empty(alloc: Global) -> Result<SavedHeap, AllocError>
+        ensures { IfOk result (λ saved. saved ≡ empty) }
+    {
+        // A heap, and a table of no entries.
+        let image = Bytes::from_vec(vec![in alloc; 1, 0, 0]?);
+        Ok(SavedHeap { image })
+    }
+
     /// The heap as it is now.
     pub fn of(heap: &Heap) -> Result<SavedHeap, AllocError>
         ensures { IfOk result (λ saved. saved ≡ heap.now) }
@@ -83,6 +93,15 @@ impl Model for SavedRaw {
 }
 
 impl SavedRaw {
+    /// A body of so many zeros.
+    pub fn zeros(alloc: Global, size: usize) -> Result<SavedRaw, AllocError>
+        requires { size ≤ capacity }
+        ensures { IfOk result (λ saved. saved ≡ replicate size 0) }
+    {
+        let bytes = Bytes::from_vec(vec![in alloc; 0; size]?);
+        Ok(SavedRaw { bytes })
+    }
+
     /// The body as it is now.
     pub fn of(alloc: Global, body: &RawBody) -> Result<SavedRaw, AllocError>
         ensures { IfOk result (λ saved. saved ≡ body.now) }
@@ -146,6 +165,23 @@ pub struct SavedBlock {
 
 impl SavedBlock {
     ghost use Rattle.vm_blocks.specs.Saved.{saved_block};
+
+    /// A raw block of so many zeros.
+    pub fn zeros(alloc: Global, user_id: u16, size: usize) -> Result<SavedBlock, AllocError>
+        requires { size ≤ capacity }
+        ensures { IfOk result (λ saved. saved_block saved ≡ record { user_id = user_id; body = bodies.Raw (replicate size 0) }) }
+    {
+        let body = SavedBody::Raw(SavedRaw::zeros(alloc, size)?);
+        Ok(SavedBlock { user_id, body })
+    }
+
+    /// A block with an empty heap.
+    pub fn empty_heap(alloc: Global, user_id: u16) -> Result<SavedBlock, AllocError>
+        ensures { IfOk result (λ saved. saved_block saved ≡ record { user_id = user_id; body = bodies.Heap empty }) }
+    {
+        let body = SavedBody::Heap(SavedHeap::empty(alloc)?);
+        Ok(SavedBlock { user_id, body })
+    }
 
     /// The block as it is now.
     pub fn of(alloc: Global, block: &Block) -> Result<SavedBlock, AllocError>

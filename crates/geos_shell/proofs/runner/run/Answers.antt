@@ -1,6 +1,7 @@
 use Rattle.std.proofs.Common.{◌<◌, length, take, arith, length-take}
 use Rattle.std.proofs.KnownBytes.{Keeps-refl}
 use Rattle.std.proofs.lemmas.Result.{IfOk-weaker, IfErr-weaker, err_from_is_err_and}
+use Rattle.undo_log.specs.Records.{machine_of}
 use Rattle.geos_shell.proofs.Runs.{Ran-none, Ran-kept, Ran-piece, AnswersFinished-now, AnswersSome-piece, AnswersSome-rest, AnswersAll-end, EndsBy-or}
 use Rattle.geos_shell.proofs.runner.run.Goals as goal
 use Rattle.geos_shell.proofs.runner.run.Goals.{in-Interrupted, in-Bytes+in_ok-answer_piece-in-Bytes}
@@ -22,7 +23,7 @@ returns-in-End-clause-ok g c =
     let to = g.R.Read.remaining c.read_piece.new.reader in
     let after = g.W.Write.contents c.answer_rest.new.writer in
     let gives = rw c.in-End.is at c.in_ok-read_piece.ensures.ok in
-    IfOk-weaker c.answer_rest.result _ _ (λ new. AnswersAll-end c.loop.invariant to after new gives.0 gives.1) c.answer_rest.ensures.ok
+    IfOk-weaker c.answer_rest.result _ _ (λ new. AnswersAll-end c.loop.invariant to after (machine_of new) gives.0 gives.1) c.answer_rest.ensures.ok
 
 -- The script ended, and its last line stopped the run.
 pub returns-in-End-clause-err : goal.returns-in-End-clause-err

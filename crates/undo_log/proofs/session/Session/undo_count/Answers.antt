@@ -1,8 +1,10 @@
 use Rattle.std.proofs.Common.{◌∙◌, ap, length}
-use Rattle.geos_model.specs.Machine.{Machine}
 use Rattle.vm_blocks.specs.declared.change.Direction.TheVariants.{Backwards}
+use Rattle.undo_log.specs.Records.{SessionState, machine_of}
 use Rattle.undo_log.proofs.Lists.{length-newest}
 use Rattle.undo_log.proofs.session.Session.undo_count.Goals as goal
 
-pub returns : goal.returns
-returns c = length-newest Backwards c.self.inside.undo.items c.self.inside.blocks c.len.result (c.len.ensures ∙ c.self.inside.undo.ok.0) ∙ ap (λ (m : Machine). length m.past) c.self.view_is
+pub returns-clause-past : goal.returns-clause-past
+returns-clause-past c =
+    length-newest Backwards c.self.inside.undo.items c.self.inside.blocks c.len.result (c.len.ensures ∙ c.self.inside.undo.ok.0)
+    ∙ ap (λ (s : SessionState). length (machine_of s).past) c.self.view_is
