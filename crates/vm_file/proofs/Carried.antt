@@ -16,7 +16,7 @@ use Rattle.vm_file.specs.declared.slots.Other.TheVariants.{Shut, Stale, Held}
 use Rattle.vm_file.specs.declared.slots.Slots.{Slots}
 use Rattle.vm_file.proofs.KeptBytes.{all_left, all_right}
 use Rattle.vm_file.proofs.Live.{EndsIn}
-use Rattle.vm_file.proofs.Stands.{keeps_in, keeps_entries, outcome_stands, sound_readable}
+use Rattle.vm_file.proofs.Stands.{keeps_in, keeps_entries, outcome_stands, sound_readable, outcome_numbered}
 use Rattle.vm_file.proofs.Steps.{leaves_rebased}
 use Rattle.vm_file.proofs.Tables.{blocks_same, images_same}
 use Rattle.vm_file.specs.Ranges.{SameIn}
@@ -85,6 +85,7 @@ module _ {S : Type 0} (facts : S → StoreFacts) (a b : S) (live : Table) (slots
     saved = λ so. saved_same (facts a).content (facts b).content slots.committed (here so).counts.kept (there so).counts.kept;
     attempted = λ so. held_same (facts a).content (facts b).content slots.other (other_of slots) slots.sequence (here so).beside (there so).beside;
     sequence = refl;
+    numbered = λ so none is c left. outcome_numbered slots (facts a).content c (sound_readable (facts a) live slots sound.formed (sound.whole so)) none (leaves so c left);
     crash = λ so. record {
       later = (outlives so).later;
       each = λ t c le left. elim ((outlives so).each t c le left) as (λ _. (facts a).left_since t c ⊎ StandsForOne (readable (disk_of facts a slots)) c) [

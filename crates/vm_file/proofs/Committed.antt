@@ -26,7 +26,7 @@ use Rattle.vm_file.specs.declared.slots.Slots.{Slots}
 use Rattle.vm_file.proofs.KeptBytes.{all_left, all_right, keeps_itself, slots_keep}
 use Rattle.vm_file.proofs.Outcomes.{outcome_keeps, failed_kept, turned_kept}
 use Rattle.vm_file.proofs.Steps.{leaves_rebased}
-use Rattle.vm_file.proofs.Stands.{keeps_in, keeps_entries, outcome_stands, sound_settled, AreReadable, IsHeldReadable, held_readable}
+use Rattle.vm_file.proofs.Stands.{keeps_in, keeps_entries, outcome_stands, sound_settled, AreReadable, IsHeldReadable, held_readable, sound_numbered}
 use Rattle.vm_file.proofs.Tables.{blocks_same, images_same}
 
 -- Documents that lie in the file.
@@ -272,6 +272,7 @@ module _ {S : Type 0} (facts : S → StoreFacts) (a b : S) (live : Table) (slots
       crash = settle_crash;
       settled = sound_settled facts b live now err_sound;
       ok = tt;
+      numbered = tt;
       err = λ so.
           let documents = settle_committed now_formed has_all so ∙ ap (documents_in (facts a).content) same_pair in (
             ap (λ (d : Documents). d.0) documents,
@@ -305,6 +306,7 @@ module _ {S : Type 0} (facts : S → StoreFacts) (a b : S) (live : Table) (slots
       crash = settle_crash;
       settled = sound_settled facts b live now ok_sound;
       ok = λ so. (settle_committed turned_is turned_has so ∙ ap (λ (s : Slots). documents_in (facts a).content s.committed) is, settle_attempted turned_is turned_has so ∙ ap (λ (s : Slots). attempted_in (facts a).content s.other) is);
+      numbered = λ so. sound_numbered facts b live now ok_sound (subst IsTrue (sym call.honest) so) (ap (λ (s : Slots). attempted_in (facts b).content s.other) is);
       err = tt;
       sequence = ap (λ (s : Slots). s.sequence) is;
     }

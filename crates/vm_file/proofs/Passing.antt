@@ -50,7 +50,7 @@ Crash-since a b pairs timely settled p c left =
 
 module _ {S : Type 0} (facts : S → StoreFacts) where
   pub Passes-refl : (a : Disk S) → Passes facts a a
-  Passes-refl a = record { honest = refl; failures = omega arith; updated = λ _. refl; saved = λ _. refl; attempted = λ _. refl; sequence = refl; crash = λ _. Crash-refl _ _ }
+  Passes-refl a = record { honest = refl; failures = omega arith; updated = λ _. refl; saved = λ _. refl; attempted = λ _. refl; sequence = refl; numbered = λ so none is. is; crash = λ _. Crash-refl _ _ }
 
   pub same_readable : (a b : Disk S) → Passes facts a b → IsTrue (facts a.store).honest → readable b ≡ readable a
   same_readable a b p so = λ i. (p.updated so i, p.saved so i) ∷ p.attempted so i
@@ -66,6 +66,7 @@ module _ {S : Type 0} (facts : S → StoreFacts) where
     saved = λ so. q.saved (still a b p.honest so) ∙ p.saved so;
     attempted = λ so. q.attempted (still a b p.honest so) ∙ p.attempted so;
     sequence = q.sequence ∙ p.sequence;
+    numbered = λ so none is. q.numbered (still a b p.honest so) (p.attempted so ∙ none) (p.numbered so none is);
     crash = λ so.
         let P : List Documents → Type 0 = λ ds. Crash (facts b.store) (facts c.store) ds in
         Crash-trans _ _ _ _ (p.crash so) (subst P (same_readable a b p so) (q.crash (still a b p.honest so)));
@@ -87,6 +88,7 @@ module _ {S : Type 0} (facts : S → StoreFacts) where
     crash = λ _. Crash-refl _ _;
     settled = settled;
     ok = tt;
+    numbered = tt;
     err = λ _. (refl, refl, inl refl);
     sequence = refl;
   }
@@ -99,6 +101,7 @@ module _ {S : Type 0} (facts : S → StoreFacts) where
     crash = λ so. Crash-more _ _ (readable a) (pair ∷ readable a) (λ c one. inr one) (p.crash so);
     settled = settled;
     ok = tt;
+    numbered = tt;
     err = λ so. (p.updated so, p.saved so, inl (p.attempted so));
     sequence = p.sequence;
   }
@@ -116,6 +119,7 @@ module _ {S : Type 0} (facts : S → StoreFacts) where
             Crash-trans _ _ _ _ (Crash-more _ _ (readable a) (first ∷ readable a) (λ f one. inr one) (p.crash so)) (subst P are (q.crash (now so)));
         settled = q.settled;
         ok = on_ok_more result (λ given so. ((given (now so)).0 ∙ same so, (given (now so)).1)) q.ok;
+        numbered = on_ok_more result (λ given so. given (now so)) q.numbered;
         err = on_err_more result (λ given so.
             let got = given (now so) in
             (got.0 ∙ p.updated so, got.1 ∙ p.saved so, subst (λ d. Attempts d a.attempted c.attempted) (same so) (subst (λ ds. Attempts then ds c.attempted) (p.attempted so) got.2))) q.err;

@@ -1,5 +1,5 @@
 -- What a file stands for that a crash left.
-use Rattle.std.proofs.Common.{◌≡◌, ◌⊎◌, ℕ, zero, suc, ◌+◌, ◌-◌, ◌*◌, ◌^◌, ◌<◌, ◌≤◌, ◌==◌, Bool, true, false, List, [], ◌∷◌, ◌++◌, take, drop, length, get_or, slice_index, Option, None, Some, All, refl, sym, ap, ap₂, subst, ◌∙◌, arith, inl, inr, length-take, length-drop, length-append, eqb-true}
+use Rattle.std.proofs.Common.{◌≡◌, ◌⊎◌, ℕ, zero, suc, ◌+◌, ◌-◌, ◌*◌, ◌^◌, ◌<◌, ◌≤◌, ◌==◌, Bool, true, false, List, [], ◌∷◌, ◌++◌, take, drop, length, get_or, slice_index, Option, None, Some, All, refl, sym, ap, ap₂, subst, ◌∙◌, arith, inl, inr, length-take, length-drop, length-append, eqb-true, IsTrue}
 use Rattle.std.specs.Prelude.{if◌then◌else◌, Ok, IfSome}
 use Rattle.std.specs.Option.{option_map, option_and_then}
 use Rattle.std.specs.FinMap.{from_entries}
@@ -23,8 +23,8 @@ use Rattle.geos_model.proofs.FileDocuments.{document_at-kept}
 use Rattle.geos_model.proofs.FileStands.{stands-from, counts-first, counts-second, counts-first_newer, counts-second_newer, open_slot-text, open_slot-shut, slot_bytes}
 use Rattle.vm_file.specs.Ranges.{IsPlaced, SameIn, Keeps, start_of}
 use Rattle.vm_file.specs.Slots.{mark, gate_text, behind_gate, Leads, IsBeside, IsUnmarked, IsOlder, Outcome, block_extents, stored_extents, pair_extents, held_extents, AreKept}
-use Rattle.vm_file.specs.Documents.{blocks_in, document_in, documents_in, attempted_in, entries_of, directory_of_table, IsImaged, AreImaged, IsStored, AreStored, IsHeldStored}
-use Rattle.vm_file.specs.Disk.{StandsForOne, IsSettled}
+use Rattle.vm_file.specs.Documents.{blocks_in, document_in, documents_in, attempted_in, entries_of, directory_of_table, IsImaged, AreImaged, IsStored, AreStored, IsHeldStored, sequence_of, sequence_in}
+use Rattle.vm_file.specs.Disk.{StandsForOne, IsSettled, Numbered}
 use Rattle.vm_file.specs.Sound.{IsFormed, IsHeldFormed, IsWhole, IsSound, disk_of}
 use Rattle.vm_file.specs.declared.table.Place.{Place}
 use Rattle.vm_file.specs.declared.table.Table.{Table}
@@ -293,3 +293,23 @@ pub sound_settled : {S : Type 0} (facts : S → StoreFacts) (store : S) (live : 
 sound_settled facts store live slots sound honest c left =
     let whole = sound.whole honest in
     outcome_stands slots (facts store).content c (sound_readable (facts store) live slots sound.formed whole) (whole.leaves c left)
+
+-- The number of the slot that counts, where no commit failed in its last step.
+
+numbered_one : (other : Other) (second : Bool) (sequence : ℕ) (committed : Pair) (file c : List ℕ) → FitsPair sequence committed → attempted_in file other ≡ [] → byte c (512 * (if second then 1 else 0) + 4) ≡ 1 → Leads (if second then 1 else 0) sequence committed file c
+    → IsBeside other (if second then 0 else 1) sequence file c → sequence_in c ≡ Some sequence
+numbered_one Shut second sequence committed file c fits none gate leads beside =
+    ap sequence_of (counts c second (slot_value sequence committed) (lead_open (if second then 1 else 0) sequence committed file c fits gate leads) (inl (open_slot-shut c (if second then 0 else 1) beside)))
+numbered_one Stale second sequence committed file c fits none gate leads beside =
+    ap sequence_of (counts c second (slot_value sequence committed) (lead_open (if second then 1 else 0) sequence committed file c fits gate leads)
+    (stale_beaten second sequence c fits.in_range (long_enough sequence committed (if second then 1 else 0) file c fits leads) beside))
+numbered_one (Held pair) second sequence committed file c fits none gate leads beside = absurd (cc none)
+
+pub outcome_numbered : (slots : Slots) (file c : List ℕ) → AreReadable slots file → attempted_in file slots.other ≡ [] → Outcome slots file c → sequence_in c ≡ Some slots.sequence
+outcome_numbered slots file c are none was =
+    numbered_one slots.other slots.second slots.sequence slots.committed file c (fits_pair slots.sequence slots.committed are.some are.in_range (first_part IsPlaced (pair_extents slots.committed) (held_extents slots.other) are.placed)) none was.gate was.counts was.beside
+
+pub sound_numbered : {S : Type 0} (facts : S → StoreFacts) (store : S) (live : Table) (slots : Slots) → IsSound (facts store) live slots → IsTrue (facts store).honest → attempted_in (facts store).content slots.other ≡ [] → Numbered (facts store) slots.sequence
+sound_numbered facts store live slots sound honest none c left =
+    let whole = sound.whole honest in
+    outcome_numbered slots (facts store).content c (sound_readable (facts store) live slots sound.formed whole) none (whole.leaves c left)

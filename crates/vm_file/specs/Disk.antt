@@ -1,12 +1,12 @@
 -- What callers see of a document file, and the words by which the layers above pass its promises on.
-use Rattle.std.specs.Prelude.{◌≡◌, ◌⊎◌, ℕ, ◌+◌, ◌≤◌, Bool, IsTrue, List, [], ◌∷◌, Result, Ok, OnOk, OnErr, MatchResult, refl}
+use Rattle.std.specs.Prelude.{◌≡◌, ◌⊎◌, ℕ, ◌+◌, ◌≤◌, Bool, IsTrue, List, [], ◌∷◌, Result, Ok, OnOk, OnErr, MatchResult, refl, Some}
 use Rattle.std.specs.Coded.{Coded, code_by, coded×, coded_ℕ, coded_list}
 use Rattle.vm_store.specs.Facts.{StoreFacts}
 use Rattle.geos_model.specs.Document.{Document, is_live, user_id_of}
 use Rattle.geos_model.specs.File.{stands}
 use Rattle.geos_model.specs.declared.fault.Fault.{Fault}
 use Rattle.geos_model.proofs.Codes.{document_code}
-use Rattle.vm_file.specs.Documents.{Documents}
+use Rattle.vm_file.specs.Documents.{Documents, sequence_in}
 
 -- The store, the updated and the saved document of the last acknowledged commit, the pairs of a commit that failed since and may
 -- be read too, and the number of the acknowledged one.
@@ -47,6 +47,10 @@ StandsForOne (documents ∷ more) file = (stands file ≡ Ok documents) ⊎ Stan
 abbrev pub Settled : StoreFacts → List Documents → Type 0
 Settled store pairs = (c : List ℕ) → store.may_leave c → StandsForOne pairs c
 
+-- in what a crash now leaves, the slot that counts has this number
+abbrev pub Numbered : StoreFacts → ℕ → Type 0
+Numbered store n = (c : List ℕ) → store.may_leave c → sequence_in c ≡ Some n
+
 -- What a crash now leaves of an honest store stands for what may be read.
 abbrev pub IsSettled : {S : Type 0} → (S → StoreFacts) → Disk S → Type 0
 IsSettled facts disk = IsTrue (facts disk.store).honest → Settled (facts disk.store) (readable disk)
@@ -71,6 +75,7 @@ pub record Passes {S : Type 0} (facts : S → StoreFacts) (old new : Disk S) : T
   pub saved : IsTrue (facts old.store).honest → new.saved ≡ old.saved
   pub attempted : IsTrue (facts old.store).honest → new.attempted ≡ old.attempted
   pub sequence : new.sequence ≡ old.sequence
+  pub numbered : IsTrue (facts old.store).honest → old.attempted ≡ [] → Numbered (facts old.store) old.sequence → Numbered (facts new.store) new.sequence
   pub crash : IsTrue (facts old.store).honest → Crash (facts old.store) (facts new.store) (readable old)
 
 -- What a commit of a pair that wasn't acknowledged leaves of what may be read: what there was, or less, or that pair.
@@ -85,4 +90,5 @@ pub record Commits {S : Type 0} (facts : S → StoreFacts) (pair : Documents) (o
   pub settled : IsSettled facts new
   pub ok : OnOk result (IsTrue (facts old.store).honest → ((new.updated, new.saved) ≡ pair) × (new.attempted ≡ []))
   pub err : OnErr result (IsTrue (facts old.store).honest → (new.updated ≡ old.updated) × (new.saved ≡ old.saved) × Attempts pair old.attempted new.attempted)
+  pub numbered : OnOk result (IsTrue (facts old.store).honest → Numbered (facts new.store) new.sequence)
   pub sequence : MatchResult result (λ _. new.sequence ≡ old.sequence + 1) (λ _. new.sequence ≡ old.sequence)

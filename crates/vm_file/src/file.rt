@@ -3,7 +3,7 @@ ghost use Rattle.vm_store.specs.Facts.{Raised, Rests};
 ghost use Rattle.geos_model.specs.Document.{empty_document, is_live, is_vm_handle, user_id_of, with_user_id, block_at, is_heap_body};
 ghost use Rattle.geos_model.specs.Image.{image};
 ghost use Rattle.geos_model.specs.File.{stands};
-ghost use Rattle.vm_file.specs.Disk.{FileState, Drifts, Passes, Commits, IsSettled, Settled};
+ghost use Rattle.vm_file.specs.Disk.{FileState, Drifts, Passes, Commits, IsSettled, Numbered};
 ghost use Rattle.vm_file.specs.Documents.{sequence_in};
 ghost use Rattle.vm_file.specs.Calls.{IsPut, put_all, remove_all, IsSupply, IsCommitRefusal, IsOpenRefusal, last_sequence};
 
@@ -62,6 +62,7 @@ impl<S: Store> VmFile<S> {
             (λ refused. (S.facts store).failures ≤ (S.facts refused.store).failures) }
         ensures made { IfOk result (λ file. (file.document ≡ empty_document) × (file.disk.updated ≡ empty_document) × (file.disk.saved ≡ empty_document)
             × (file.disk.attempted ≡ []) × (file.disk.sequence ≡ 1)) }
+        ensures numbered { IfOk result (λ file. IsTrue (S.facts store).honest → Numbered (S.facts file.disk.store) 1) }
         ensures settled { IfOk result (λ file. IsSettled S.facts file.disk) }
         // the slots, and a directory of no block
         ensures size { IfOk result (λ file. IsTrue (S.facts store).honest → length (S.facts file.disk.store).content ≡ 1040) }
@@ -257,6 +258,7 @@ impl<S: Store> VmFile<S> {
         ensures copied { IfOk result (λ file. IsTrue (S.facts self.old.disk.store).honest → IsTrue (S.facts target).honest → file.document ≡ self.old.document) }
         ensures handles { IfOk result (λ file. Drifts false self.old.document file.document) }
         ensures made { IfOk result (λ file. (file.disk.updated ≡ file.document) × (file.disk.saved ≡ file.document) × (file.disk.attempted ≡ []) × (file.disk.sequence ≡ 1)) }
+        ensures numbered { IfOk result (λ file. IsTrue (S.facts target).honest → Numbered (S.facts file.disk.store) 1) }
         ensures settled { IfOk result (λ file. IsSettled S.facts file.disk) }
         ensures file { IfErr result (λ refused. refused.fault ≡ Fault.File
             → Raised (S.facts self.old.disk.store) (S.facts self.new.disk.store) ⊎ Raised (S.facts target) (S.facts refused.store)) }
@@ -276,6 +278,13 @@ impl<S: Store> VmFile<S> {
                 store: target,
             }),
         }
+    }
+
+    /// Whether the sequence number is the last one, so that every commit is Worn.
+    pub fn is_worn(&self) -> bool
+        ensures { IsTrue result ↔ (self.now.disk.sequence ≡ last_sequence) }
+    {
+        self.slots.sequence == u64::MAX
     }
 
     /// Gives the store back. Nothing is written.

@@ -2,12 +2,14 @@ use Rattle.std.proofs.Common.{◌≡◌, [], IsTrue, sym, ap, subst, ◌∙◌}
 use Rattle.vm_file.specs.Ranges.{IsPlaced}
 use Rattle.vm_file.specs.Slots.{stored_extents, pair_extents, held_extents}
 use Rattle.vm_file.specs.Documents.{Documents, document_in}
-use Rattle.vm_file.specs.Disk.{IsSettled, Drifts}
+use Rattle.vm_file.specs.Disk.{IsSettled, Drifts, Commits}
+use Rattle.std.specs.Prelude.{Ok}
+use Rattle.vm_file.specs.Sound.{disk_of}
 use Rattle.vm_file.specs.Copies.{IsCopy}
 use Rattle.vm_file.specs.declared.slots.Pair.{Pair}
 use Rattle.std.proofs.lemmas.Result.{err_from_is_err_and}
 use Rattle.vm_file.proofs.KeptBytes.{all_left, all_right}
-use Rattle.vm_file.proofs.Copied.{pair_placed, pair_stored, sound_saved, copy_document, copies_alike, copy_itself, copy_drifts, on_err}
+use Rattle.vm_file.proofs.Copied.{pair_documents, pair_placed, pair_stored, sound_saved, copy_document, copies_alike, copy_itself, copy_drifts, on_err}
 use Rattle.vm_file.proofs.Passing.{Commits-refused}
 use Rattle.vm_file.proofs.Stands.{sound_settled}
 use Rattle.vm_file.proofs.file.VmFile.commit_revert.Goals as goal
@@ -67,3 +69,12 @@ returns-clause-ok g c =
     ∙ ap (λ (d : Documents). d.1) (c.in_ok-settle.ensures.commits.ok so).0
     ∙ copy_document a.content pair.saved.table saved.table c.in_ok-pair.ensures.saved.table in
     subst (λ f. Drifts (g.S.Store.facts f.disk.store).honest f.disk.saved (document_in b.content copy)) c.self.view_is (copy_drifts a.honest a.content b.content copy saved.table c.in_ok-live.ensures same)
+
+pub returns-clause-commits : goal.returns-clause-commits
+returns-clause-commits g c =
+    let saved = c.self.inside.slots.committed.saved in
+    let b = c.settle.new.store in
+    let now = c.settle.new.slots in
+    let documents = pair_documents (g.S.Store.facts c.self.inside.store).content c.in_ok-pair.pair saved saved c.in_ok-pair.ensures.updated c.in_ok-pair.ensures.saved in
+    subst (λ f. Commits g.S.Store.facts (f.disk.saved, f.disk.saved) f.disk (disk_of g.S.Store.facts b now) (Ok tt)) c.self.view_is
+    (subst (λ (d : Documents). Commits g.S.Store.facts d (disk_of g.S.Store.facts c.self.inside.store c.self.inside.slots) (disk_of g.S.Store.facts b now) (Ok tt)) documents c.in_ok-settle.ensures.commits)

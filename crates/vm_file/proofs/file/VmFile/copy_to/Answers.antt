@@ -1,11 +1,11 @@
-use Rattle.std.proofs.Common.{false, refl, sym, ap, subst}
+use Rattle.std.proofs.Common.{IsTrue, false, refl, sym, ap, subst}
 use Rattle.vm_file.specs.Documents.{blocks_in, document_in}
 use Rattle.std.specs.Prelude.{IfOk}
-use Rattle.vm_file.specs.Disk.{Passes, Drifts, IsSettled}
+use Rattle.vm_file.specs.Disk.{Passes, Drifts, IsSettled, Numbered}
 use Rattle.vm_file.specs.Sound.{disk_of}
 use Rattle.vm_file.proofs.Carried.{call_passes}
 use Rattle.vm_file.proofs.LaidOut.{laid_drifts}
-use Rattle.vm_file.proofs.Stands.{sound_settled}
+use Rattle.vm_file.proofs.Stands.{sound_settled, sound_numbered}
 use Rattle.vm_file.proofs.Steps.{rests_leaves, rests_outlives}
 use Rattle.vm_file.proofs.Tables.{places_drift}
 use Rattle.vm_file.proofs.file.VmFile.copy_to.Goals.{in-Ok, in-Err}
@@ -49,4 +49,14 @@ returns-clause-settled g c =
     elim c.match-copy_document.branch as (λ _. IfOk c.match-copy_document.result (λ file. IsSettled g.S.Store.facts file.disk)) [
       | in-Ok w ↦ subst (λ r. IfOk r (λ file. IsSettled g.S.Store.facts file.disk)) (sym w.result-is) (sound_settled g.S.Store.facts c.copy_document.new.target w.in-Ok.made.live w.in-Ok.made.slots w.in-Ok.ensures.sound)
       | in-Err w ↦ subst (λ r. IfOk r (λ file. IsSettled g.S.Store.facts file.disk)) (sym w.result-is) tt
+    ]
+
+pub returns-clause-numbered : goal.returns-clause-numbered
+returns-clause-numbered g c =
+    elim c.match-copy_document.branch as (λ _. IfOk c.match-copy_document.result (λ file. IsTrue (g.S.Store.facts c.args.target).honest → Numbered (g.S.Store.facts file.disk.store) 1)) [
+      | in-Ok w ↦ subst (λ r. IfOk r (λ file. IsTrue (g.S.Store.facts c.args.target).honest → Numbered (g.S.Store.facts file.disk.store) 1)) (sym w.result-is) (λ so.
+          let one = w.in-Ok.ensures.one in
+          subst (Numbered (g.S.Store.facts c.copy_document.new.target)) one.sequence
+          (sound_numbered g.S.Store.facts c.copy_document.new.target w.in-Ok.made.live w.in-Ok.made.slots w.in-Ok.ensures.sound (subst IsTrue (sym c.copy_document.ensures.honest) so) one.attempted))
+      | in-Err w ↦ subst (λ r. IfOk r (λ file. IsTrue (g.S.Store.facts c.args.target).honest → Numbered (g.S.Store.facts file.disk.store) 1)) (sym w.result-is) tt
     ]

@@ -1,6 +1,7 @@
-use Rattle.std.proofs.Common.{◌∙◌}
+use Rattle.std.proofs.Common.{IsTrue, sym, subst, ◌∙◌}
+use Rattle.vm_file.specs.Disk.{Numbered}
 use Rattle.vm_file.proofs.First.{IsEmpty, empty_shown, first_directory, first_shown}
-use Rattle.vm_file.proofs.Stands.{sound_settled}
+use Rattle.vm_file.proofs.Stands.{sound_settled, sound_numbered}
 use Rattle.vm_file.proofs.file.VmFile.create.Goals as goal
 
 pub returns-in-Ok-clause-made : goal.returns-in-Ok-clause-made
@@ -14,3 +15,11 @@ returns-in-Ok-clause-made g c =
 
 pub returns-in-Ok-clause-settled : goal.returns-in-Ok-clause-settled
 returns-in-Ok-clause-settled g c = sound_settled g.S.Store.facts c.make_empty.new.store c.in-Ok.made.live c.in-Ok.made.slots c.in-Ok.ensures.sound
+
+pub returns-in-Ok-clause-numbered : goal.returns-in-Ok-clause-numbered
+returns-in-Ok-clause-numbered g c so =
+    let made = c.in-Ok.made in
+    let file = (g.S.Store.facts c.make_empty.new.store).content in
+    let one = first_shown file first_directory made.live made.slots c.in-Ok.ensures.first in
+    subst (Numbered (g.S.Store.facts c.make_empty.new.store)) one.sequence
+    (sound_numbered g.S.Store.facts c.make_empty.new.store made.live made.slots c.in-Ok.ensures.sound (subst IsTrue (sym c.make_empty.ensures.honest) so) one.attempted)
