@@ -12,9 +12,9 @@ use Rattle.geos_model.proofs.Files.{is_entry-parts, is_directory-parts, director
 use Rattle.geos_model.proofs.FileDocuments.{directory_of-some, directory_of-kept, is_in_file-parts}
 use Rattle.geos_model.proofs.Table.{table_map}
 use Rattle.vm_file.specs.Ranges.{IsPlaced, SameIn, Keeps, end_of}
-use Rattle.vm_file.specs.Slots.{turned, Failed, Outcome, Leaves, Outlives, AreKept, block_extents, stored_extents, pair_extents, held_extents, kept_extents}
+use Rattle.vm_file.specs.Slots.{turned, FailedEarly, Failed, Outcome, Leaves, Outlives, AreKept, block_extents, stored_extents, pair_extents, held_extents, kept_extents}
 use Rattle.vm_file.specs.Documents.{Documents, document_in, documents_in, attempted_in, entries_of, directory_of_table, AreImaged, IsStored, AreStored, IsHeldStored}
-use Rattle.vm_file.specs.Disk.{readable, StandsForOne, Crash, Attempts, Commits}
+use Rattle.vm_file.specs.Disk.{readable, StandsForOne, Crash, AddsNothing, Commits}
 use Rattle.vm_file.specs.Sound.{AreTables, IsFormed, IsWhole, IsSound, disk_of}
 use Rattle.vm_file.specs.declared.table.Place.{Place}
 use Rattle.vm_file.specs.declared.table.Table.{Table}
@@ -24,7 +24,7 @@ use Rattle.vm_file.specs.declared.slots.Other.{Other}
 use Rattle.vm_file.specs.declared.slots.Other.TheVariants.{Shut, Stale, Held}
 use Rattle.vm_file.specs.declared.slots.Slots.{Slots}
 use Rattle.vm_file.proofs.KeptBytes.{all_left, all_right, keeps_itself, slots_keep}
-use Rattle.vm_file.proofs.Outcomes.{outcome_keeps, failed_kept, turned_kept}
+use Rattle.vm_file.proofs.Outcomes.{outcome_keeps, shut_kept, with_pair_kept, failed_kept, turned_kept}
 use Rattle.vm_file.proofs.Steps.{leaves_rebased}
 use Rattle.vm_file.proofs.Stands.{keeps_in, keeps_entries, outcome_stands, sound_settled, AreReadable, IsHeldReadable, held_readable, sound_numbered}
 use Rattle.vm_file.proofs.Tables.{blocks_same, images_same}
@@ -112,35 +112,52 @@ module _ (file : List ℕ) (slots : Slots) (pair : Pair) (numbered : 1 ≤ slots
   is_readable : AreReadable slots file
   is_readable = record { some = numbered; in_range = omega (arith, in_range); placed = kept; committed = committed; held = held }
 
-  -- what a crash leaves while the commit isn't acknowledged
-  pub failed_stands : (s : Slots) (c : List ℕ) → Failed slots pair s → Outcome s file c → StandsForOne (documents_in file pair ∷ (documents_in file slots.committed ∷ attempted_in file slots.other)) c
-  unfolding is_readable
+  before : List Documents
+  before = documents_in file slots.committed ∷ attempted_in file slots.other
+
+  -- what a crash leaves before the last step
+  early_stands : (s : Slots) (c : List ℕ) → FailedEarly slots s → Outcome s file c → StandsForOne before c
+  unfolding is_readable before
+  early_stands s c early was =
+      let P : Slots → Type 0 = λ x. AreReadable x file in
+      let Q : Slots → Type 0 = λ x. StandsForOne (documents_in file x.committed ∷ attempted_in file x.other) c in
+      elim early as (λ _. StandsForOne before c) [
+        | inl same ↦ subst Q same (outcome_stands s file c (subst P (sym same) is_readable) was)
+        | inr shut ↦
+            let readable_now : AreReadable s file = subst P (sym shut) (record { some = numbered; in_range = omega (arith, in_range); placed = shut_kept slots kept; committed = committed; held = tt }) in
+            elim (subst Q shut (outcome_stands s file c readable_now was)) as (λ _. StandsForOne before c) [ inl here ↦ inl here | inr none ↦ absurd none ]
+      ]
+
+  -- and while the commit isn't acknowledged
+  failed_stands : (s : Slots) (c : List ℕ) → Failed slots pair s → Outcome s file c → StandsForOne (documents_in file pair ∷ before) c
+  unfolding before
   failed_stands s c failed was =
       let P : Slots → Type 0 = λ x. AreReadable x file in
       let Q : Slots → Type 0 = λ x. StandsForOne (documents_in file x.committed ∷ attempted_in file x.other) c in
-      let all_kept = failed_kept slots s pair failed kept placed in
-      elim failed as (λ _. StandsForOne (documents_in file pair ∷ (documents_in file slots.committed ∷ attempted_in file slots.other)) c) [
-        | inl same ↦ inr (subst Q same (outcome_stands s file c (subst P (sym same) is_readable) was))
-        | inr (inl shut) ↦
-            let readable_now : AreReadable s file = subst P (sym shut) (record { some = numbered; in_range = omega (arith, in_range); placed = subst AreKept shut all_kept; committed = committed; held = tt }) in
-            elim (subst Q shut (outcome_stands s file c readable_now was)) as (λ _. StandsForOne (documents_in file pair ∷ (documents_in file slots.committed ∷ attempted_in file slots.other)) c) [ inl here ↦ inr (inl here) | inr none ↦ absurd none ]
-        | inr (inr is_held) ↦
-            let readable_now : AreReadable s file = subst P (sym is_held) (record { some = numbered; in_range = omega (arith, in_range); placed = subst AreKept is_held all_kept; committed = committed; held = (stored, in_range) }) in
-            elim (subst Q is_held (outcome_stands s file c readable_now was)) as (λ _. StandsForOne (documents_in file pair ∷ (documents_in file slots.committed ∷ attempted_in file slots.other)) c) [
+      elim failed as (λ _. StandsForOne (documents_in file pair ∷ before) c) [
+        | inl early ↦ inr (early_stands s c early was)
+        | inr is_held ↦
+            let readable_now : AreReadable s file = subst P (sym is_held) (record { some = numbered; in_range = omega (arith, in_range); placed = with_pair_kept slots pair kept placed; committed = committed; held = (stored, in_range) }) in
+            elim (subst Q is_held (outcome_stands s file c readable_now was)) as (λ _. StandsForOne (documents_in file pair ∷ before) c) [
               | inl here ↦ inr (inl here)
               | inr (inl other) ↦ inl other
               | inr (inr none) ↦ absurd none
             ]
       ]
 
-  pub commit_crash : (a b : StoreFacts) → Outlives a b file (λ s. Failed slots pair s) → Crash a b (documents_in file pair ∷ (documents_in file slots.committed ∷ attempted_in file slots.other))
-  commit_crash a b outlives = record {
+  outlives_crash : (a b : StoreFacts) (Is : Slots → Type 0) (pairs : List Documents) → ((s : Slots) (c : List ℕ) → Is s → Outcome s file c → StandsForOne pairs c) → Outlives a b file Is → Crash a b pairs
+  outlives_crash a b Is pairs stands_for outlives = record {
     later = outlives.later;
-    each = λ t c le left. elim (outlives.each t c le left) as (λ _. a.left_since t c ⊎ StandsForOne (documents_in file pair ∷ (documents_in file slots.committed ∷ attempted_in file slots.other)) c) [
-      | inl before ↦ inl before
-      | inr now ↦ inr (failed_stands now.0 c now.1 now.2)
-    ];
+    each = λ t c le left. elim (outlives.each t c le left) as (λ _. a.left_since t c ⊎ StandsForOne pairs c) [ inl earlier ↦ inl earlier | inr now ↦ inr (stands_for now.0 c now.1 now.2) ];
   }
+
+  pub early_crash : (a b : StoreFacts) → Outlives a b file (λ s. FailedEarly slots s) → Crash a b (documents_in file slots.committed ∷ attempted_in file slots.other)
+  unfolding before
+  early_crash a b outlives = outlives_crash a b (λ s. FailedEarly slots s) before early_stands outlives
+
+  pub commit_crash : (a b : StoreFacts) → Outlives a b file (λ s. Failed slots pair s) → Crash a b (documents_in file pair ∷ (documents_in file slots.committed ∷ attempted_in file slots.other))
+  unfolding before
+  commit_crash a b outlives = outlives_crash a b (λ s. Failed slots pair s) (documents_in file pair ∷ before) failed_stands outlives
 
 -- The slots after a commit.
 
@@ -148,9 +165,9 @@ failed_has : (file : List ℕ) (live : Table) (slots now : Slots) (pair : Pair) 
 failed_has file live slots now pair failed has stored =
     let P : Slots → Type 0 = λ s. HasAll file live s in
     elim failed as (λ _. P now) [
-      | inl same ↦ subst P (sym same) has
-      | inr (inl shut) ↦ subst P (sym shut) (record { images = has.images; within = has.within; committed = has.committed; held = tt })
-      | inr (inr is_held) ↦ subst P (sym is_held) (record { images = has.images; within = has.within; committed = has.committed; held = stored })
+      | inl (inl same) ↦ subst P (sym same) has
+      | inl (inr shut) ↦ subst P (sym shut) (record { images = has.images; within = has.within; committed = has.committed; held = tt })
+      | inr is_held ↦ subst P (sym is_held) (record { images = has.images; within = has.within; committed = has.committed; held = stored })
     ]
 
 failed_formed : (live : Table) (slots now : Slots) (pair : Pair) → Failed slots pair now → IsFormed live slots → AreTables pair → All IsPlaced (pair_extents pair) → slots.sequence + 1 < 2 ^ 64 → IsFormed live now
@@ -158,9 +175,9 @@ failed_formed live slots now pair failed formed tables placed range =
     let P : Slots → Type 0 = λ s. IsFormed live s in
     let kept = failed_kept slots now pair failed formed.kept placed in
     elim failed as (λ _. P now) [
-      | inl same ↦ subst P (sym same) formed
-      | inr (inl shut) ↦ subst P (sym shut) (record { table = formed.table; placed = formed.placed; committed = formed.committed; held = tt; kept = subst AreKept shut kept; numbered = formed.numbered; in_range = formed.in_range })
-      | inr (inr is_held) ↦ subst P (sym is_held) (record { table = formed.table; placed = formed.placed; committed = formed.committed; held = (tables, range); kept = subst AreKept is_held kept; numbered = formed.numbered; in_range = formed.in_range })
+      | inl (inl same) ↦ subst P (sym same) formed
+      | inl (inr shut) ↦ subst P (sym shut) (record { table = formed.table; placed = formed.placed; committed = formed.committed; held = tt; kept = subst AreKept shut kept; numbered = formed.numbered; in_range = formed.in_range })
+      | inr is_held ↦ subst P (sym is_held) (record { table = formed.table; placed = formed.placed; committed = formed.committed; held = (tables, range); kept = subst AreKept is_held kept; numbered = formed.numbered; in_range = formed.in_range })
     ]
 
 turned_formed : (live : Table) (slots : Slots) (pair : Pair) → IsFormed live slots → AreTables pair → All IsPlaced (pair_extents pair) → slots.sequence + 1 < 2 ^ 64 → IsFormed live (turned slots pair)
@@ -189,6 +206,11 @@ pub record IsCommit {S : Type 0} (facts : S → StoreFacts) (a b : S) (live : Ta
   pub crash : IsTrue (facts a).honest → Leaves (facts a) slots (facts a).content → Keeps (pair_extents pair) (facts a).content (facts a).content → Outlives (facts a) (facts b) (facts a).content (λ s. Failed slots pair s)
   pub leaves : IsTrue (facts a).honest → Leaves (facts a) slots (facts a).content → Keeps (pair_extents pair) (facts a).content (facts a).content → Leaves (facts b) now (facts a).content
 
+-- The pair is held, or a crash left nothing of it.
+abbrev pub FailsEarly : Slots → Pair → Slots → StoreFacts → StoreFacts → Type 0
+FailsEarly old pair new a b =
+    (new ≡ record old { other = Held pair }) ⊎ ((file : List ℕ) → IsTrue a.honest → Leaves a old file → Outlives a b file (λ s. FailedEarly old s))
+
 pub counts_rise : {T E : Type 0} (r : Result T E) (a b : StoreFacts) → Counts r a b → a.failures ≤ b.failures
 counts_rise (Ok x) a b same = omega (arith, same)
 counts_rise (Err x) a b more = omega (arith, more)
@@ -215,6 +237,11 @@ module _ {S : Type 0} (facts : S → StoreFacts) (a b : S) (live : Table) (slots
   settle_crash so =
       let was = call.whole so in
       commit_crash (facts a).content slots pair call.formed.numbered call.range call.formed.kept call.placed was.committed (held_readable (facts a).content slots.sequence slots.other call.formed.held was.held) (call.stored so) (facts a) (facts b) (call.crash so was.leaves (pair_there so))
+
+  settle_early : IsTrue (facts a).honest → Outlives (facts a) (facts b) (facts a).content (λ s. FailedEarly slots s) → Crash (facts a) (facts b) (readable (disk_of facts a slots))
+  settle_early so outlives =
+      let was = call.whole so in
+      early_crash (facts a).content slots pair call.formed.numbered call.range call.formed.kept call.placed was.committed (held_readable (facts a).content slots.sequence slots.other call.formed.held was.held) (call.stored so) (facts a) (facts b) outlives
 
   -- whichever slots are left, the file has all of what they lead to
   module _ (now_formed : IsFormed live now) (has : IsTrue (facts a).honest → HasAll (facts a).content live now) where
@@ -252,21 +279,36 @@ module _ {S : Type 0} (facts : S → StoreFacts) (a b : S) (live : Table) (slots
     same_pair : now.committed ≡ slots.committed
     same_pair =
         let P : Slots → Type 0 = λ s. s.committed ≡ slots.committed in
-        elim failed as (λ _. P now) [ inl same ↦ subst P (sym same) refl | inr (inl shut) ↦ subst P (sym shut) refl | inr (inr is_held) ↦ subst P (sym is_held) refl ]
+        elim failed as (λ _. P now) [ inl (inl same) ↦ subst P (sym same) refl | inl (inr shut) ↦ subst P (sym shut) refl | inr is_held ↦ subst P (sym is_held) refl ]
 
-    tried : Attempts (documents_in (facts a).content pair) (attempted_in (facts a).content slots.other) (attempted_in (facts a).content now.other)
-    tried =
-        let P : Slots → Type 0 = λ s. Attempts (documents_in (facts a).content pair) (attempted_in (facts a).content slots.other) (attempted_in (facts a).content s.other) in
-        elim failed as (λ _. P now) [ inl same ↦ subst P (sym same) (inl refl) | inr (inl shut) ↦ subst P (sym shut) (inr (inl refl)) | inr (inr is_held) ↦ subst P (sym is_held) (inr (inr refl)) ]
+    -- the pair is held, or nothing of it can be read
+    added : FailsEarly slots pair now (facts a) (facts b) → IsTrue (facts a).honest → (attempted_in (facts b).content now.other ≡ documents_in (facts a).content pair ∷ []) ⊎ AddsNothing facts (disk_of facts a slots) (disk_of facts b now)
+    unfolding now_formed has_all
+    added early so =
+        let attempts : Slots → List Documents = λ s. attempted_in (facts a).content s.other in
+        let same = settle_attempted now_formed has_all so in
+        elim failed as (λ _. (attempted_in (facts b).content now.other ≡ documents_in (facts a).content pair ∷ []) ⊎ AddsNothing facts (disk_of facts a slots) (disk_of facts b now)) [
+          | inr is_held ↦ inl (same ∙ ap attempts is_held)
+          | inl before ↦ elim early as (λ _. (attempted_in (facts b).content now.other ≡ documents_in (facts a).content pair ∷ []) ⊎ AddsNothing facts (disk_of facts a slots) (disk_of facts b now)) [
+            | inl is_held ↦ inl (same ∙ ap attempts is_held)
+            | inr outlives ↦ inr (record {
+              crash = settle_early so (outlives (facts a).content so (call.whole so).leaves);
+              attempted = elim before as (λ _. (attempted_in (facts b).content now.other ≡ attempted_in (facts a).content slots.other) ⊎ (attempted_in (facts b).content now.other ≡ [])) [
+                | inl still ↦ inl (same ∙ ap attempts still)
+                | inr shut ↦ inr (same ∙ ap attempts shut)
+              ];
+            })
+          ]
+        ]
 
     same_number : now.sequence ≡ slots.sequence
     same_number =
         let P : Slots → Type 0 = λ s. s.sequence ≡ slots.sequence in
-        elim failed as (λ _. P now) [ inl same ↦ subst P (sym same) refl | inr (inl shut) ↦ subst P (sym shut) refl | inr (inr is_held) ↦ subst P (sym is_held) refl ]
+        elim failed as (λ _. P now) [ inl (inl same) ↦ subst P (sym same) refl | inl (inr shut) ↦ subst P (sym shut) refl | inr is_held ↦ subst P (sym is_held) refl ]
 
-    pub err_commits : (fault : Fault) → Commits facts (documents_in (facts a).content pair) (disk_of facts a slots) (disk_of facts b now) (Err fault)
-    unfolding now_formed has_all same_pair tried same_number
-    err_commits fault = record {
+    pub err_commits : FailsEarly slots pair now (facts a) (facts b) → (fault : Fault) → Commits facts (documents_in (facts a).content pair) (disk_of facts a slots) (disk_of facts b now) (Err fault)
+    unfolding now_formed has_all same_pair added same_number
+    err_commits early fault = record {
       honest = call.honest;
       failures = call.failures;
       crash = settle_crash;
@@ -274,11 +316,9 @@ module _ {S : Type 0} (facts : S → StoreFacts) (a b : S) (live : Table) (slots
       ok = tt;
       numbered = tt;
       err = λ so.
-          let documents = settle_committed now_formed has_all so ∙ ap (documents_in (facts a).content) same_pair in (
-            ap (λ (d : Documents). d.0) documents,
-            ap (λ (d : Documents). d.1) documents,
-            subst (Attempts (documents_in (facts a).content pair) (attempted_in (facts a).content slots.other)) (sym (settle_attempted now_formed has_all so)) tried,
-          );
+          let documents = settle_committed now_formed has_all so ∙ ap (documents_in (facts a).content) same_pair in
+          (ap (λ (d : Documents). d.0) documents, ap (λ (d : Documents). d.1) documents);
+      adds = added early;
       sequence = same_number;
     }
 
@@ -308,5 +348,6 @@ module _ {S : Type 0} (facts : S → StoreFacts) (a b : S) (live : Table) (slots
       ok = λ so. (settle_committed turned_is turned_has so ∙ ap (λ (s : Slots). documents_in (facts a).content s.committed) is, settle_attempted turned_is turned_has so ∙ ap (λ (s : Slots). attempted_in (facts a).content s.other) is);
       numbered = λ so. sound_numbered facts b live now ok_sound (subst IsTrue (sym call.honest) so) (ap (λ (s : Slots). attempted_in (facts b).content s.other) is);
       err = tt;
+      adds = tt;
       sequence = ap (λ (s : Slots). s.sequence) is;
     }

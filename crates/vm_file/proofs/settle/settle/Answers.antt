@@ -46,7 +46,7 @@ pub returns-in-Ok-clause-live : goal.returns-in-Ok-clause-live
 returns-in-Ok-clause-live g c = ok_live g.S.Store.facts _ _ c.args.live.now c.args.slots.now c.commit.new.slots c.args.pair (ok_call g c) c.in-Ok.ensures.ok
 
 pub returns-in-Err-clause-commits : goal.returns-in-Err-clause-commits
-returns-in-Err-clause-commits g c = err_commits g.S.Store.facts _ _ c.args.live.now c.args.slots.now c.commit.new.slots c.args.pair (err_call g c) c.in-Err.ensures.err File
+returns-in-Err-clause-commits g c = err_commits g.S.Store.facts _ _ c.args.live.now c.args.slots.now c.commit.new.slots c.args.pair (err_call g c) c.in-Err.ensures.err c.in-Err.ensures.early File
 
 pub returns-in-Err-clause-sound : goal.returns-in-Err-clause-sound
 returns-in-Err-clause-sound g c = err_sound g.S.Store.facts _ _ c.args.live.now c.args.slots.now c.commit.new.slots c.args.pair (err_call g c) c.in-Err.ensures.err
