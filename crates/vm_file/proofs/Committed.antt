@@ -1,72 +1,26 @@
 -- What a commit makes of the whole file.
-use Rattle.std.proofs.Common.{◌≡◌, ◌⊎◌, ℕ, zero, suc, ◌+◌, ◌^◌, ◌<◌, ◌≤◌, true, IsTrue, List, [], ◌∷◌, length, Option, None, Some, All, refl, sym, ap, subst, ◌∙◌, arith, inl, inr}
+use Rattle.std.proofs.Common.{◌≡◌, ◌⊎◌, ℕ, ◌+◌, ◌^◌, ◌<◌, ◌≤◌, IsTrue, List, [], ◌∷◌, length, Option, All, refl, sym, ap, subst, ◌∙◌, arith, inl, inr}
 use Rattle.std.specs.Prelude.{Result, Ok, Err}
-use Rattle.std.specs.List.{list_all}
-use Rattle.std.proofs.lemmas.Bool.{and_parts}
 use Rattle.std.proofs.lemmas.List.Elements.{All-append, All-cons}
 use Rattle.vm_store.specs.Facts.{StoreFacts, Torn, Counts}
 use Rattle.geos_model.specs.Document.{Block}
-use Rattle.geos_model.specs.File.{is_entry, bytes_in}
 use Rattle.geos_model.specs.declared.fault.Fault.{Fault}
-use Rattle.geos_model.proofs.Files.{is_entry-parts, is_directory-parts, directory_in-some}
-use Rattle.geos_model.proofs.FileDocuments.{directory_of-some, directory_of-kept, is_in_file-parts}
 use Rattle.geos_model.proofs.Table.{table_map}
-use Rattle.vm_file.specs.Ranges.{IsPlaced, SameIn, Keeps, end_of}
-use Rattle.vm_file.specs.Slots.{turned, FailedEarly, Failed, Outcome, Leaves, Outlives, AreKept, block_extents, stored_extents, pair_extents, held_extents, kept_extents}
-use Rattle.vm_file.specs.Documents.{Documents, document_in, documents_in, attempted_in, entries_of, directory_of_table, AreImaged, IsStored, AreStored, IsHeldStored}
+use Rattle.vm_file.specs.Ranges.{IsPlaced, Keeps, end_of}
+use Rattle.vm_file.specs.Slots.{turned, FailedEarly, Failed, Outcome, Leaves, Outlives, AreKept, block_extents, stored_extents, pair_extents, kept_extents}
+use Rattle.vm_file.specs.Documents.{Documents, document_in, documents_in, attempted_in, AreImaged, AreStored, IsHeldStored}
 use Rattle.vm_file.specs.Disk.{readable, StandsForOne, Crash, AddsNothing, Commits}
 use Rattle.vm_file.specs.Sound.{AreTables, IsFormed, IsWhole, IsSound, disk_of}
-use Rattle.vm_file.specs.declared.table.Place.{Place}
 use Rattle.vm_file.specs.declared.table.Table.{Table}
-use Rattle.vm_file.specs.declared.slots.Stored.{Stored}
 use Rattle.vm_file.specs.declared.slots.Pair.{Pair}
-use Rattle.vm_file.specs.declared.slots.Other.{Other}
-use Rattle.vm_file.specs.declared.slots.Other.TheVariants.{Shut, Stale, Held}
+use Rattle.vm_file.specs.declared.slots.Other.TheVariants.{Held}
 use Rattle.vm_file.specs.declared.slots.Slots.{Slots}
-use Rattle.vm_file.proofs.KeptBytes.{all_left, all_right, keeps_itself, slots_keep}
+use Rattle.vm_file.proofs.KeptBytes.{keeps_itself, slots_keep}
+use Rattle.vm_file.proofs.KeptDocuments.{stored_within, committed_again, attempted_again}
 use Rattle.vm_file.proofs.Outcomes.{outcome_keeps, shut_kept, with_pair_kept, failed_kept, turned_kept}
 use Rattle.vm_file.proofs.Steps.{leaves_rebased}
-use Rattle.vm_file.proofs.Stands.{keeps_in, keeps_entries, outcome_stands, sound_settled, AreReadable, IsHeldReadable, held_readable, sound_numbered}
+use Rattle.vm_file.proofs.Stands.{outcome_stands, sound_settled, AreReadable, IsHeldReadable, held_readable, sound_numbered}
 use Rattle.vm_file.proofs.Tables.{blocks_same, images_same}
-
--- Documents that lie in the file.
-
-entries_within : (n h : ℕ) (places : List (Option Place)) → list_all (is_entry n) (entries_of h places) ≡ true → All (λ e. end_of e ≤ n) (block_extents places)
-entries_within n h [] all k d inside = absurd (omega arith)
-entries_within n h (None ∷ places) all k d inside = entries_within n (h + 1) places all k d inside
-entries_within n h (Some place ∷ places) all zero d inside =
-    (is_entry-parts n (record { handle = record { 0 = h }; user_id = place.user_id; extent = place.extent }) (and_parts (is_entry n (record { handle = record { 0 = h }; user_id = place.user_id; extent = place.extent })) (list_all (is_entry n) (entries_of (h + 1) places)) all).0).within
-entries_within n h (Some place ∷ places) all (suc k) d inside =
-    entries_within n (h + 1) places (and_parts (is_entry n (record { handle = record { 0 = h }; user_id = place.user_id; extent = place.extent })) (list_all (is_entry n) (entries_of (h + 1) places)) all).1 k d (omega arith)
-
-pub stored_within : (file : List ℕ) (s : Stored) → IsStored file s → (end_of s.directory ≤ length file) × All (λ e. end_of e ≤ length file) (block_extents s.table.places.items)
-stored_within file s stored =
-    let there = directory_of-some file s.directory (directory_of_table s.table) stored.directory in
-    let good = (directory_in-some (length file) (bytes_in file s.directory) (directory_of_table s.table) there.1).0 in
-    ((is_in_file-parts (length file) s.directory there.0).within, entries_within (length file) 1 s.table.places.items (is_directory-parts (length file) (directory_of_table s.table) good).entries)
-
--- the same document, in a file that has its bytes
-pub stored_again : (file c : List ℕ) (s : Stored) → IsStored file s → Keeps (stored_extents s) file c → IsStored c s × (document_in c s.table ≡ document_in file s.table)
-stored_again file c s stored keeps =
-    let within = (stored_within file s stored).1 in
-    let blocks : Keeps (block_extents s.table.places.items) file c = λ k x inside. keeps (suc k) x (omega arith) in (
-      record {
-        directory = directory_of-kept file c s.directory (directory_of_table s.table) stored.directory (keeps_in file c s.directory (keeps 0 s.directory (omega arith))) (keeps_entries file c 1 s.table.places.items blocks);
-        images = images_same file c s.table.places.items within blocks stored.images;
-      },
-      ap (λ (bs : List (Option Block)). record { blocks = table_map 1 1 bs; map_block = s.table.map_block }) (blocks_same file c s.table.places.items within blocks),
-    )
-
-pub pair_again : (file c : List ℕ) (pair : Pair) → AreStored file pair → Keeps (pair_extents pair) file c → AreStored c pair × (documents_in c pair ≡ documents_in file pair)
-pair_again file c pair stored keeps =
-    let updated = stored_again file c pair.updated stored.updated (all_left (SameIn file c) (stored_extents pair.updated) (stored_extents pair.saved) keeps) in
-    let saved = stored_again file c pair.saved stored.saved (all_right (SameIn file c) (stored_extents pair.updated) (stored_extents pair.saved) keeps) in
-    (record { updated = updated.0; saved = saved.0 }, λ i. (updated.1 i, saved.1 i))
-
-pub held_again : (file c : List ℕ) (other : Other) → IsHeldStored file other → Keeps (held_extents other) file c → IsHeldStored c other × (attempted_in c other ≡ attempted_in file other)
-held_again file c Shut stored keeps = (tt, refl)
-held_again file c Stale stored keeps = (tt, refl)
-held_again file c (Held pair) stored keeps = let again = pair_again file c pair stored keeps in (again.0, ap (λ (d : Documents). d ∷ []) again.1)
 
 -- What a file has, whatever a crash may leave of it.
 pub record HasAll (file : List ℕ) (live : Table) (slots : Slots) : Type 0 where
@@ -83,13 +37,13 @@ module _ (file : List ℕ) (b : StoreFacts) (live : Table) (slots : Slots) (now 
   kept : Keeps (kept_extents slots) file b.content
   kept = outcome_keeps slots file b.content (leaves b.content now)
 
-  pub committed_again : AreStored b.content slots.committed × (documents_in b.content slots.committed ≡ documents_in file slots.committed)
+  committed_now : AreStored b.content slots.committed × (documents_in b.content slots.committed ≡ documents_in file slots.committed)
   unfolding kept
-  committed_again = pair_again file b.content slots.committed has.committed (all_left (SameIn file b.content) (pair_extents slots.committed) (held_extents slots.other) kept)
+  committed_now = committed_again file b.content slots kept has.committed
 
-  pub attempted_again : IsHeldStored b.content slots.other × (attempted_in b.content slots.other ≡ attempted_in file slots.other)
+  attempted_now : IsHeldStored b.content slots.other × (attempted_in b.content slots.other ≡ attempted_in file slots.other)
   unfolding kept
-  attempted_again = held_again file b.content slots.other has.held (all_right (SameIn file b.content) (pair_extents slots.committed) (held_extents slots.other) kept)
+  attempted_now = attempted_again file b.content slots kept has.held
 
   pub live_again : document_in b.content live ≡ document_in file live
   live_again = ap (λ (bs : List (Option Block)). record { blocks = table_map 1 1 bs; map_block = live.map_block }) (blocks_same file b.content live.places.items has.within keeps)
@@ -102,8 +56,8 @@ module _ (file : List ℕ) (b : StoreFacts) (live : Table) (slots : Slots) (now 
   whole_again = record {
     images = images_same file b.content live.places.items has.within keeps has.images;
     within = live_within;
-    committed = committed_again.0;
-    held = attempted_again.0;
+    committed = committed_now.0;
+    held = attempted_now.0;
     leaves = leaves_rebased slots file b now leaves;
   }
 
@@ -252,10 +206,10 @@ module _ {S : Type 0} (facts : S → StoreFacts) (a b : S) (live : Table) (slots
     }
 
     settle_committed : IsTrue (facts a).honest → documents_in (facts b).content now.committed ≡ documents_in (facts a).content now.committed
-    settle_committed so = (committed_again (facts a).content (facts b) live now (call.now_there (subst IsTrue (sym call.honest) so)) (has so) (live_kept so) (left so)).1
+    settle_committed so = (committed_now (facts a).content (facts b) live now (call.now_there (subst IsTrue (sym call.honest) so)) (has so) (live_kept so) (left so)).1
 
     settle_attempted : IsTrue (facts a).honest → attempted_in (facts b).content now.other ≡ attempted_in (facts a).content now.other
-    settle_attempted so = (attempted_again (facts a).content (facts b) live now (call.now_there (subst IsTrue (sym call.honest) so)) (has so) (live_kept so) (left so)).1
+    settle_attempted so = (attempted_now (facts a).content (facts b) live now (call.now_there (subst IsTrue (sym call.honest) so)) (has so) (live_kept so) (left so)).1
 
     pub settle_live : IsTrue (facts a).honest → document_in (facts b).content live ≡ document_in (facts a).content live
     settle_live so = live_again (facts a).content (facts b) live now (call.now_there (subst IsTrue (sym call.honest) so)) (has so) (live_kept so) (left so)

@@ -1,28 +1,14 @@
 -- How the promises of a document file are passed on.
 use Rattle.std.proofs.Common.{◌≡◌, ◌⊎◌, ℕ, Bool, IsTrue, List, [], ◌∷◌, refl, sym, ap, subst, ◌∙◌, arith, inl, inr}
-use Rattle.std.specs.Prelude.{◌+◌, Result, Ok, Err, OnOk, OnErr, MatchResult}
+use Rattle.std.specs.Prelude.{◌+◌, Result, Ok, Err, MatchResult}
+use Rattle.std.proofs.lemmas.Result.{on_ok_weaker, on_err_weaker}
 use Rattle.vm_store.specs.Facts.{StoreFacts, IsTimely}
 use Rattle.geos_model.specs.Document.{Document}
 use Rattle.geos_model.specs.declared.fault.Fault.{Fault}
 use Rattle.vm_file.specs.Documents.{Documents}
 use Rattle.vm_file.specs.Disk.{Disk, readable, StandsForOne, Settled, IsSettled, Crash, Drifts, Passes, AddsNothing, Commits}
 use Rattle.vm_file.specs.Passing.{PassingLaw}
-
-on_ok_more : {T E P Q : Type 0} (r : Result T E) → (P → Q) → OnOk r P → OnOk r Q
-on_ok_more (Ok x) f p = f p
-on_ok_more (Err x) f p = tt
-
-on_err_more : {T E P Q : Type 0} (r : Result T E) → (P → Q) → OnErr r P → OnErr r Q
-on_err_more (Ok x) f p = tt
-on_err_more (Err x) f p = f p
-
-on_ok_both : {T E P Q R : Type 0} (r : Result T E) → (P → Q → R) → OnOk r P → OnOk r Q → OnOk r R
-on_ok_both (Ok x) f p q = f p q
-on_ok_both (Err x) f p q = tt
-
-on_err_both : {T E P Q R : Type 0} (r : Result T E) → (P → Q → R) → OnErr r P → OnErr r Q → OnErr r R
-on_err_both (Ok x) f p q = tt
-on_err_both (Err x) f p q = f p q
+use Rattle.vm_file.proofs.Results.{on_ok_both, on_err_both}
 
 pub Drifts-refl : (honest : Bool) (d : Document) → Drifts honest d d
 Drifts-refl honest d = record { live = λ h. refl; user_ids = λ h. refl; map_block = refl; same = λ _. refl }
@@ -150,10 +136,10 @@ module _ {S : Type 0} (facts : S → StoreFacts) where
             let are : then ∷ readable b ≡ first ∷ readable a = λ i. same so i ∷ same_readable a b p so i in
             Crash-trans _ _ _ _ (Crash-more _ _ (readable a) (first ∷ readable a) (λ f one. inr one) (p.crash so)) (subst P are (q.crash (now so)));
         settled = q.settled;
-        ok = on_ok_more result (λ given so. ((given (now so)).0 ∙ same so, (given (now so)).1)) q.ok;
-        numbered = on_ok_more result (λ given so. given (now so)) q.numbered;
-        err = on_err_more result (λ given so. ((given (now so)).0 ∙ p.updated so, (given (now so)).1 ∙ p.saved so)) q.err;
-        adds = on_err_more result (λ given so. elim (given (now so)) as (λ _. (c.attempted ≡ first ∷ []) ⊎ AddsNothing facts a c) [
+        ok = on_ok_weaker result (λ given so. ((given (now so)).0 ∙ same so, (given (now so)).1)) q.ok;
+        numbered = on_ok_weaker result (λ given so. given (now so)) q.numbered;
+        err = on_err_weaker result (λ given so. ((given (now so)).0 ∙ p.updated so, (given (now so)).1 ∙ p.saved so)) q.err;
+        adds = on_err_weaker result (λ given so. elim (given (now so)) as (λ _. (c.attempted ≡ first ∷ []) ⊎ AddsNothing facts a c) [
           | inl tried ↦ inl (tried ∙ ap (λ d. d ∷ []) (same so))
           | inr none ↦ inr (Passes-AddsNothing a b c p so none)
         ]) q.adds;
@@ -193,9 +179,9 @@ module _ {S : Type 0} (facts : S → StoreFacts) where
           failures = omega (arith, p.failures, q.failures);
           crash = λ so. Crash-trans _ _ _ _ (p.crash so) (Crash-more _ _ (readable b) (pair ∷ readable a) (λ f one. commit_readable pair a b result f p so one) (q.crash (now so)));
           settled = settled;
-          ok = on_ok_more result (λ given so. ((λ i. (q.updated (now so) i, q.saved (now so) i)) ∙ (given so).0, q.attempted (now so) ∙ (given so).1)) p.ok;
+          ok = on_ok_weaker result (λ given so. ((λ i. (q.updated (now so) i, q.saved (now so) i)) ∙ (given so).0, q.attempted (now so) ∙ (given so).1)) p.ok;
           numbered = on_ok_both result (λ given ok so. q.numbered (now so) (ok so).1 (given so)) p.numbered p.ok;
-          err = on_err_more result (λ given so. (q.updated (now so) ∙ (given so).0, q.saved (now so) ∙ (given so).1)) p.err;
+          err = on_err_weaker result (λ given so. (q.updated (now so) ∙ (given so).0, q.saved (now so) ∙ (given so).1)) p.err;
           adds = on_err_both result (λ given same so. elim (given so) as (λ _. (c.attempted ≡ pair ∷ []) ⊎ AddsNothing facts a c) [
             | inl tried ↦ inl (q.attempted (now so) ∙ tried)
             | inr none ↦ inr (record {

@@ -87,9 +87,9 @@ fn is_shut(other: &Other) -> bool
     matches!(other, Other::Shut)
 }
 
-// Shuts the gate of the other slot. Until that is on the disk, what is known of the slot stays. A gate that is shut isn't
-// written, since it could be torn open.
-fn shut_gate<S: Store>(store: &mut S, slots: &mut Slots) -> Result<(), StoreFault>
+/// Shuts the gate of the other slot. Until that is on the disk, what is known of the slot stays. A gate that is shut isn't
+/// written, since it could be torn open.
+pub fn shut_gate<S: Store>(store: &mut S, slots: &mut Slots) -> Result<(), StoreFault>
     requires kept { AreKept slots.old }
     ensures honest { (S.facts store.new).honest ≡ (S.facts store.old).honest }
     ensures failures { MatchResult result (λ _. (S.facts store.new).failures ≡ (S.facts store.old).failures) (λ _. (S.facts store.new).failures ≡ raised (S.facts store.old).failures) }

@@ -2,7 +2,7 @@ use Rattle.std.proofs.Common.{IsTrue, sym, subst, inr}
 use Rattle.vm_file.specs.Slots.{pair_extents, FailedEarly, Failed, AreKept}
 use Rattle.vm_file.proofs.KeptBytes.{slots_keep}
 use Rattle.vm_file.proofs.Outcomes.{shut_kept}
-use Rattle.vm_file.proofs.Copied.{on_err}
+use Rattle.vm_file.proofs.Results.{on_err}
 use Rattle.vm_file.proofs.Steps.{Outlives-trans, held_leaves, as_before, as_shut, as_early, as_held}
 use Rattle.vm_file.proofs.commit.commit.Goals as goal
 
