@@ -92,7 +92,7 @@ pub record Commits {S : Type 0} (facts : S → StoreFacts) (pair : Documents) (o
   pub settled : IsSettled facts new
   pub ok : OnOk result (IsTrue (facts old.store).honest → ((new.updated, new.saved) ≡ pair) × (new.attempted ≡ []))
   pub err : OnErr result (IsTrue (facts old.store).honest → (new.updated ≡ old.updated) × (new.saved ≡ old.saved))
-  -- where only its last step failed the pair may be read from then on, and where an earlier one did nothing of it ever
+  -- where its last step failed, the pair may be read from then on; where an earlier one did, nothing of it can be, at any moment
   pub adds : OnErr result (IsTrue (facts old.store).honest → (new.attempted ≡ pair ∷ []) ⊎ AddsNothing facts old new)
   pub numbered : OnOk result (IsTrue (facts old.store).honest → Numbered (facts new.store) new.sequence)
   pub sequence : MatchResult result (λ _. new.sequence ≡ old.sequence + 1) (λ _. new.sequence ≡ old.sequence)
