@@ -1,89 +1,38 @@
 -- Calls that write nothing that the slots stand on: what they stand for is carried on to the store as it is then.
-use Rattle.std.proofs.Common.{◌≡◌, ◌⊎◌, ℕ, suc, ◌≤◌, IsTrue, List, [], ◌∷◌, All, refl, sym, ap, subst, arith, inl, inr}
+use Rattle.std.proofs.Common.{◌≡◌, ◌⊎◌, ◌≤◌, IsTrue, All, refl, sym, ap, subst, inl, inr}
 use Rattle.vm_store.specs.Facts.{StoreFacts}
-use Rattle.geos_model.proofs.FileDocuments.{directory_of-kept}
-use Rattle.geos_model.proofs.Table.{table_map}
 use Rattle.vm_file.specs.Ranges.{Keeps}
-use Rattle.vm_file.specs.Slots.{block_extents, stored_extents, pair_extents, other_of, IsBeside, Outcome, Leaves, Outlives}
-use Rattle.vm_file.specs.Documents.{document_in, attempted_in, directory_of_table, AreImaged, IsStored, AreStored, IsHeldStored}
+use Rattle.vm_file.specs.Slots.{block_extents, kept_extents, Outcome, Leaves, Outlives}
+use Rattle.vm_file.specs.Documents.{Documents, documents_in, attempted_in, AreImaged, AreStored, IsHeldStored}
 use Rattle.vm_file.specs.Disk.{readable, StandsForOne, Passes}
 use Rattle.vm_file.specs.Sound.{IsFormed, IsSound, disk_of}
 use Rattle.vm_file.specs.declared.table.Table.{Table}
-use Rattle.vm_file.specs.declared.slots.Stored.{Stored}
-use Rattle.vm_file.specs.declared.slots.Pair.{Pair}
-use Rattle.vm_file.specs.declared.slots.Other.{Other}
-use Rattle.vm_file.specs.declared.slots.Other.TheVariants.{Shut, Stale, Held}
 use Rattle.vm_file.specs.declared.slots.Slots.{Slots}
-use Rattle.vm_file.proofs.KeptBytes.{all_left, all_right}
+use Rattle.vm_file.proofs.KeptDocuments.{committed_again, attempted_again}
 use Rattle.vm_file.proofs.Live.{EndsIn}
-use Rattle.vm_file.proofs.Stands.{keeps_in, keeps_entries, outcome_stands, sound_readable, outcome_numbered}
+use Rattle.vm_file.proofs.Outcomes.{outcome_keeps}
+use Rattle.vm_file.proofs.Stands.{outcome_stands, sound_readable, outcome_numbered}
 use Rattle.vm_file.proofs.Steps.{leaves_rebased}
-use Rattle.vm_file.proofs.Tables.{blocks_same, images_same}
-use Rattle.vm_file.specs.Ranges.{SameIn}
-
--- Documents whose bytes are kept.
-
-module _ (file c : List ℕ) (s : Stored) (here : Keeps (stored_extents s) file file) (there : Keeps (stored_extents s) file c) where
-  within : All (EndsIn file) (block_extents s.table.places.items)
-  within k x inside = (here (suc k) x (omega arith)).within
-
-  kept : Keeps (block_extents s.table.places.items) file c
-  kept k x inside = there (suc k) x (omega arith)
-
-  stored_same : document_in c s.table ≡ document_in file s.table
-  stored_same = ap (λ t. record { blocks = table_map 1 1 t; map_block = s.table.map_block }) (blocks_same file c s.table.places.items within kept)
-
-  stored_again : IsStored file s → IsStored c s
-  stored_again was = record {
-    directory = directory_of-kept file c s.directory (directory_of_table s.table) was.directory (keeps_in file c s.directory (there 0 s.directory (omega arith))) (keeps_entries file c 1 s.table.places.items kept);
-    images = images_same file c s.table.places.items within kept was.images;
-  }
-
-module _ (file c : List ℕ) (pair : Pair) (here : Keeps (pair_extents pair) file file) (there : Keeps (pair_extents pair) file c) where
-  first : (d : List ℕ) → Keeps (pair_extents pair) file d → Keeps (stored_extents pair.updated) file d
-  first d keeps = all_left (SameIn file d) (stored_extents pair.updated) (stored_extents pair.saved) keeps
-
-  second : (d : List ℕ) → Keeps (pair_extents pair) file d → Keeps (stored_extents pair.saved) file d
-  second d keeps = all_right (SameIn file d) (stored_extents pair.updated) (stored_extents pair.saved) keeps
-
-  updated_same : document_in c pair.updated.table ≡ document_in file pair.updated.table
-  updated_same = stored_same file c pair.updated (first file here) (first c there)
-
-  saved_same : document_in c pair.saved.table ≡ document_in file pair.saved.table
-  saved_same = stored_same file c pair.saved (second file here) (second c there)
-
-  pair_again : AreStored file pair → AreStored c pair
-  pair_again was = record {
-    updated = stored_again file c pair.updated (first file here) (first c there) was.updated;
-    saved = stored_again file c pair.saved (second file here) (second c there) was.saved;
-  }
-
-held_same : (file c : List ℕ) (other : Other) (slot sequence : ℕ) → IsBeside other slot sequence file file → IsBeside other slot sequence file c → attempted_in c other ≡ attempted_in file other
-held_same file c Shut slot sequence here there = refl
-held_same file c Stale slot sequence here there = refl
-held_same file c (Held pair) slot sequence here there = λ i. (updated_same file c pair here.kept there.kept i, saved_same file c pair here.kept there.kept i) ∷ []
-
-held_again : (file c : List ℕ) (other : Other) (slot sequence : ℕ) → IsBeside other slot sequence file file → IsBeside other slot sequence file c → IsHeldStored file other → IsHeldStored c other
-held_again file c Shut slot sequence here there was = was
-held_again file c Stale slot sequence here there was = was
-held_again file c (Held pair) slot sequence here there was = pair_again file c pair here.kept there.kept was
 
 module _ {S : Type 0} (facts : S → StoreFacts) (a b : S) (live : Table) (slots : Slots) (sound : IsSound (facts a) live slots) (honest : (facts b).honest ≡ (facts a).honest)
     (before : IsTrue (facts a).honest → (facts a).may_leave (facts a).content) (now : IsTrue (facts b).honest → (facts b).may_leave (facts b).content)
     (leaves : IsTrue (facts a).honest → Leaves (facts b) slots (facts a).content) where
-  here : IsTrue (facts a).honest → Outcome slots (facts a).content (facts a).content
-  here so = (sound.whole so).leaves (facts a).content (before so)
+  kept : IsTrue (facts a).honest → Keeps (kept_extents slots) (facts a).content (facts b).content
+  kept so = outcome_keeps slots (facts a).content (facts b).content (leaves so (facts b).content (now (subst IsTrue (sym honest) so)))
 
-  there : IsTrue (facts a).honest → Outcome slots (facts a).content (facts b).content
-  there so = leaves so (facts b).content (now (subst IsTrue (sym honest) so))
+  committed : IsTrue (facts a).honest → AreStored (facts b).content slots.committed × (documents_in (facts b).content slots.committed ≡ documents_in (facts a).content slots.committed)
+  committed so = committed_again (facts a).content (facts b).content slots (kept so) (sound.whole so).committed
+
+  attempted : IsTrue (facts a).honest → IsHeldStored (facts b).content slots.other × (attempted_in (facts b).content slots.other ≡ attempted_in (facts a).content slots.other)
+  attempted so = attempted_again (facts a).content (facts b).content slots (kept so) (sound.whole so).held
 
   pub call_passes : (facts a).failures ≤ (facts b).failures → (IsTrue (facts a).honest → Outlives (facts a) (facts b) (facts a).content (λ s. s ≡ slots)) → Passes facts (disk_of facts a slots) (disk_of facts b slots)
   call_passes failures outlives = record {
     honest = honest;
     failures = failures;
-    updated = λ so. updated_same (facts a).content (facts b).content slots.committed (here so).counts.kept (there so).counts.kept;
-    saved = λ so. saved_same (facts a).content (facts b).content slots.committed (here so).counts.kept (there so).counts.kept;
-    attempted = λ so. held_same (facts a).content (facts b).content slots.other (other_of slots) slots.sequence (here so).beside (there so).beside;
+    updated = λ so. ap (λ (d : Documents). d.0) (committed so).1;
+    saved = λ so. ap (λ (d : Documents). d.1) (committed so).1;
+    attempted = λ so. (attempted so).1;
     sequence = refl;
     numbered = λ so none is c left. outcome_numbered slots (facts a).content c (sound_readable (facts a) live slots sound.formed (sound.whole so)) none (leaves so c left);
     crash = λ so. record {
@@ -100,12 +49,11 @@ module _ {S : Type 0} (facts : S → StoreFacts) (a b : S) (live : Table) (slots
     formed = formed;
     whole = λ so.
         let was : IsTrue (facts a).honest = subst IsTrue honest so in
-        let stood = sound.whole was in
         record {
           images = (images was).0;
           within = (images was).1;
-          committed = pair_again (facts a).content (facts b).content slots.committed (here was).counts.kept (there was).counts.kept stood.committed;
-          held = held_again (facts a).content (facts b).content slots.other (other_of slots) slots.sequence (here was).beside (there was).beside stood.held;
+          committed = (committed was).0;
+          held = (attempted was).0;
           leaves = leaves_rebased slots (facts a).content (facts b) (now so) (leaves was);
         };
   }

@@ -1,72 +1,26 @@
 -- What a commit makes of the whole file.
-use Rattle.std.proofs.Common.{◌≡◌, ◌⊎◌, ℕ, zero, suc, ◌+◌, ◌^◌, ◌<◌, ◌≤◌, true, IsTrue, List, [], ◌∷◌, length, Option, None, Some, All, refl, sym, ap, subst, ◌∙◌, arith, inl, inr}
+use Rattle.std.proofs.Common.{◌≡◌, ◌⊎◌, ℕ, ◌+◌, ◌^◌, ◌<◌, ◌≤◌, IsTrue, List, [], ◌∷◌, length, Option, All, refl, sym, ap, subst, ◌∙◌, arith, inl, inr}
 use Rattle.std.specs.Prelude.{Result, Ok, Err}
-use Rattle.std.specs.List.{list_all}
-use Rattle.std.proofs.lemmas.Bool.{and_parts}
 use Rattle.std.proofs.lemmas.List.Elements.{All-append, All-cons}
 use Rattle.vm_store.specs.Facts.{StoreFacts, Torn, Counts}
 use Rattle.geos_model.specs.Document.{Block}
-use Rattle.geos_model.specs.File.{is_entry, bytes_in}
 use Rattle.geos_model.specs.declared.fault.Fault.{Fault}
-use Rattle.geos_model.proofs.Files.{is_entry-parts, is_directory-parts, directory_in-some}
-use Rattle.geos_model.proofs.FileDocuments.{directory_of-some, directory_of-kept, is_in_file-parts}
 use Rattle.geos_model.proofs.Table.{table_map}
-use Rattle.vm_file.specs.Ranges.{IsPlaced, SameIn, Keeps, end_of}
-use Rattle.vm_file.specs.Slots.{turned, Failed, Outcome, Leaves, Outlives, AreKept, block_extents, stored_extents, pair_extents, held_extents, kept_extents}
-use Rattle.vm_file.specs.Documents.{Documents, document_in, documents_in, attempted_in, entries_of, directory_of_table, AreImaged, IsStored, AreStored, IsHeldStored}
-use Rattle.vm_file.specs.Disk.{readable, StandsForOne, Crash, Attempts, Commits}
+use Rattle.vm_file.specs.Ranges.{IsPlaced, Keeps, end_of}
+use Rattle.vm_file.specs.Slots.{turned, FailedEarly, Failed, Outcome, Leaves, Outlives, AreKept, block_extents, stored_extents, pair_extents, kept_extents}
+use Rattle.vm_file.specs.Documents.{Documents, document_in, documents_in, attempted_in, AreImaged, AreStored, IsHeldStored}
+use Rattle.vm_file.specs.Disk.{readable, StandsForOne, Crash, AddsNothing, Commits}
 use Rattle.vm_file.specs.Sound.{AreTables, IsFormed, IsWhole, IsSound, disk_of}
-use Rattle.vm_file.specs.declared.table.Place.{Place}
 use Rattle.vm_file.specs.declared.table.Table.{Table}
-use Rattle.vm_file.specs.declared.slots.Stored.{Stored}
 use Rattle.vm_file.specs.declared.slots.Pair.{Pair}
-use Rattle.vm_file.specs.declared.slots.Other.{Other}
-use Rattle.vm_file.specs.declared.slots.Other.TheVariants.{Shut, Stale, Held}
+use Rattle.vm_file.specs.declared.slots.Other.TheVariants.{Held}
 use Rattle.vm_file.specs.declared.slots.Slots.{Slots}
-use Rattle.vm_file.proofs.KeptBytes.{all_left, all_right, keeps_itself, slots_keep}
-use Rattle.vm_file.proofs.Outcomes.{outcome_keeps, failed_kept, turned_kept}
+use Rattle.vm_file.proofs.KeptBytes.{keeps_itself, slots_keep}
+use Rattle.vm_file.proofs.KeptDocuments.{stored_within, committed_again, attempted_again}
+use Rattle.vm_file.proofs.Outcomes.{outcome_keeps, shut_kept, with_pair_kept, failed_kept, turned_kept}
 use Rattle.vm_file.proofs.Steps.{leaves_rebased}
-use Rattle.vm_file.proofs.Stands.{keeps_in, keeps_entries, outcome_stands, sound_settled, AreReadable, IsHeldReadable, held_readable, sound_numbered}
+use Rattle.vm_file.proofs.Stands.{outcome_stands, sound_settled, AreReadable, IsHeldReadable, held_readable, sound_numbered}
 use Rattle.vm_file.proofs.Tables.{blocks_same, images_same}
-
--- Documents that lie in the file.
-
-entries_within : (n h : ℕ) (places : List (Option Place)) → list_all (is_entry n) (entries_of h places) ≡ true → All (λ e. end_of e ≤ n) (block_extents places)
-entries_within n h [] all k d inside = absurd (omega arith)
-entries_within n h (None ∷ places) all k d inside = entries_within n (h + 1) places all k d inside
-entries_within n h (Some place ∷ places) all zero d inside =
-    (is_entry-parts n (record { handle = record { 0 = h }; user_id = place.user_id; extent = place.extent }) (and_parts (is_entry n (record { handle = record { 0 = h }; user_id = place.user_id; extent = place.extent })) (list_all (is_entry n) (entries_of (h + 1) places)) all).0).within
-entries_within n h (Some place ∷ places) all (suc k) d inside =
-    entries_within n (h + 1) places (and_parts (is_entry n (record { handle = record { 0 = h }; user_id = place.user_id; extent = place.extent })) (list_all (is_entry n) (entries_of (h + 1) places)) all).1 k d (omega arith)
-
-pub stored_within : (file : List ℕ) (s : Stored) → IsStored file s → (end_of s.directory ≤ length file) × All (λ e. end_of e ≤ length file) (block_extents s.table.places.items)
-stored_within file s stored =
-    let there = directory_of-some file s.directory (directory_of_table s.table) stored.directory in
-    let good = (directory_in-some (length file) (bytes_in file s.directory) (directory_of_table s.table) there.1).0 in
-    ((is_in_file-parts (length file) s.directory there.0).within, entries_within (length file) 1 s.table.places.items (is_directory-parts (length file) (directory_of_table s.table) good).entries)
-
--- the same document, in a file that has its bytes
-pub stored_again : (file c : List ℕ) (s : Stored) → IsStored file s → Keeps (stored_extents s) file c → IsStored c s × (document_in c s.table ≡ document_in file s.table)
-stored_again file c s stored keeps =
-    let within = (stored_within file s stored).1 in
-    let blocks : Keeps (block_extents s.table.places.items) file c = λ k x inside. keeps (suc k) x (omega arith) in (
-      record {
-        directory = directory_of-kept file c s.directory (directory_of_table s.table) stored.directory (keeps_in file c s.directory (keeps 0 s.directory (omega arith))) (keeps_entries file c 1 s.table.places.items blocks);
-        images = images_same file c s.table.places.items within blocks stored.images;
-      },
-      ap (λ (bs : List (Option Block)). record { blocks = table_map 1 1 bs; map_block = s.table.map_block }) (blocks_same file c s.table.places.items within blocks),
-    )
-
-pub pair_again : (file c : List ℕ) (pair : Pair) → AreStored file pair → Keeps (pair_extents pair) file c → AreStored c pair × (documents_in c pair ≡ documents_in file pair)
-pair_again file c pair stored keeps =
-    let updated = stored_again file c pair.updated stored.updated (all_left (SameIn file c) (stored_extents pair.updated) (stored_extents pair.saved) keeps) in
-    let saved = stored_again file c pair.saved stored.saved (all_right (SameIn file c) (stored_extents pair.updated) (stored_extents pair.saved) keeps) in
-    (record { updated = updated.0; saved = saved.0 }, λ i. (updated.1 i, saved.1 i))
-
-pub held_again : (file c : List ℕ) (other : Other) → IsHeldStored file other → Keeps (held_extents other) file c → IsHeldStored c other × (attempted_in c other ≡ attempted_in file other)
-held_again file c Shut stored keeps = (tt, refl)
-held_again file c Stale stored keeps = (tt, refl)
-held_again file c (Held pair) stored keeps = let again = pair_again file c pair stored keeps in (again.0, ap (λ (d : Documents). d ∷ []) again.1)
 
 -- What a file has, whatever a crash may leave of it.
 pub record HasAll (file : List ℕ) (live : Table) (slots : Slots) : Type 0 where
@@ -83,13 +37,13 @@ module _ (file : List ℕ) (b : StoreFacts) (live : Table) (slots : Slots) (now 
   kept : Keeps (kept_extents slots) file b.content
   kept = outcome_keeps slots file b.content (leaves b.content now)
 
-  pub committed_again : AreStored b.content slots.committed × (documents_in b.content slots.committed ≡ documents_in file slots.committed)
+  committed_now : AreStored b.content slots.committed × (documents_in b.content slots.committed ≡ documents_in file slots.committed)
   unfolding kept
-  committed_again = pair_again file b.content slots.committed has.committed (all_left (SameIn file b.content) (pair_extents slots.committed) (held_extents slots.other) kept)
+  committed_now = committed_again file b.content slots kept has.committed
 
-  pub attempted_again : IsHeldStored b.content slots.other × (attempted_in b.content slots.other ≡ attempted_in file slots.other)
+  attempted_now : IsHeldStored b.content slots.other × (attempted_in b.content slots.other ≡ attempted_in file slots.other)
   unfolding kept
-  attempted_again = held_again file b.content slots.other has.held (all_right (SameIn file b.content) (pair_extents slots.committed) (held_extents slots.other) kept)
+  attempted_now = attempted_again file b.content slots kept has.held
 
   pub live_again : document_in b.content live ≡ document_in file live
   live_again = ap (λ (bs : List (Option Block)). record { blocks = table_map 1 1 bs; map_block = live.map_block }) (blocks_same file b.content live.places.items has.within keeps)
@@ -102,8 +56,8 @@ module _ (file : List ℕ) (b : StoreFacts) (live : Table) (slots : Slots) (now 
   whole_again = record {
     images = images_same file b.content live.places.items has.within keeps has.images;
     within = live_within;
-    committed = committed_again.0;
-    held = attempted_again.0;
+    committed = committed_now.0;
+    held = attempted_now.0;
     leaves = leaves_rebased slots file b now leaves;
   }
 
@@ -112,35 +66,52 @@ module _ (file : List ℕ) (slots : Slots) (pair : Pair) (numbered : 1 ≤ slots
   is_readable : AreReadable slots file
   is_readable = record { some = numbered; in_range = omega (arith, in_range); placed = kept; committed = committed; held = held }
 
-  -- what a crash leaves while the commit isn't acknowledged
-  pub failed_stands : (s : Slots) (c : List ℕ) → Failed slots pair s → Outcome s file c → StandsForOne (documents_in file pair ∷ (documents_in file slots.committed ∷ attempted_in file slots.other)) c
-  unfolding is_readable
+  before : List Documents
+  before = documents_in file slots.committed ∷ attempted_in file slots.other
+
+  -- what a crash leaves before the last step
+  early_stands : (s : Slots) (c : List ℕ) → FailedEarly slots s → Outcome s file c → StandsForOne before c
+  unfolding is_readable before
+  early_stands s c early was =
+      let P : Slots → Type 0 = λ x. AreReadable x file in
+      let Q : Slots → Type 0 = λ x. StandsForOne (documents_in file x.committed ∷ attempted_in file x.other) c in
+      elim early as (λ _. StandsForOne before c) [
+        | inl same ↦ subst Q same (outcome_stands s file c (subst P (sym same) is_readable) was)
+        | inr shut ↦
+            let readable_now : AreReadable s file = subst P (sym shut) (record { some = numbered; in_range = omega (arith, in_range); placed = shut_kept slots kept; committed = committed; held = tt }) in
+            elim (subst Q shut (outcome_stands s file c readable_now was)) as (λ _. StandsForOne before c) [ inl here ↦ inl here | inr none ↦ absurd none ]
+      ]
+
+  -- and while the commit isn't acknowledged
+  failed_stands : (s : Slots) (c : List ℕ) → Failed slots pair s → Outcome s file c → StandsForOne (documents_in file pair ∷ before) c
+  unfolding before
   failed_stands s c failed was =
       let P : Slots → Type 0 = λ x. AreReadable x file in
       let Q : Slots → Type 0 = λ x. StandsForOne (documents_in file x.committed ∷ attempted_in file x.other) c in
-      let all_kept = failed_kept slots s pair failed kept placed in
-      elim failed as (λ _. StandsForOne (documents_in file pair ∷ (documents_in file slots.committed ∷ attempted_in file slots.other)) c) [
-        | inl same ↦ inr (subst Q same (outcome_stands s file c (subst P (sym same) is_readable) was))
-        | inr (inl shut) ↦
-            let readable_now : AreReadable s file = subst P (sym shut) (record { some = numbered; in_range = omega (arith, in_range); placed = subst AreKept shut all_kept; committed = committed; held = tt }) in
-            elim (subst Q shut (outcome_stands s file c readable_now was)) as (λ _. StandsForOne (documents_in file pair ∷ (documents_in file slots.committed ∷ attempted_in file slots.other)) c) [ inl here ↦ inr (inl here) | inr none ↦ absurd none ]
-        | inr (inr is_held) ↦
-            let readable_now : AreReadable s file = subst P (sym is_held) (record { some = numbered; in_range = omega (arith, in_range); placed = subst AreKept is_held all_kept; committed = committed; held = (stored, in_range) }) in
-            elim (subst Q is_held (outcome_stands s file c readable_now was)) as (λ _. StandsForOne (documents_in file pair ∷ (documents_in file slots.committed ∷ attempted_in file slots.other)) c) [
+      elim failed as (λ _. StandsForOne (documents_in file pair ∷ before) c) [
+        | inl early ↦ inr (early_stands s c early was)
+        | inr is_held ↦
+            let readable_now : AreReadable s file = subst P (sym is_held) (record { some = numbered; in_range = omega (arith, in_range); placed = with_pair_kept slots pair kept placed; committed = committed; held = (stored, in_range) }) in
+            elim (subst Q is_held (outcome_stands s file c readable_now was)) as (λ _. StandsForOne (documents_in file pair ∷ before) c) [
               | inl here ↦ inr (inl here)
               | inr (inl other) ↦ inl other
               | inr (inr none) ↦ absurd none
             ]
       ]
 
-  pub commit_crash : (a b : StoreFacts) → Outlives a b file (λ s. Failed slots pair s) → Crash a b (documents_in file pair ∷ (documents_in file slots.committed ∷ attempted_in file slots.other))
-  commit_crash a b outlives = record {
+  outlives_crash : (a b : StoreFacts) (Is : Slots → Type 0) (pairs : List Documents) → ((s : Slots) (c : List ℕ) → Is s → Outcome s file c → StandsForOne pairs c) → Outlives a b file Is → Crash a b pairs
+  outlives_crash a b Is pairs stands_for outlives = record {
     later = outlives.later;
-    each = λ t c le left. elim (outlives.each t c le left) as (λ _. a.left_since t c ⊎ StandsForOne (documents_in file pair ∷ (documents_in file slots.committed ∷ attempted_in file slots.other)) c) [
-      | inl before ↦ inl before
-      | inr now ↦ inr (failed_stands now.0 c now.1 now.2)
-    ];
+    each = λ t c le left. elim (outlives.each t c le left) as (λ _. a.left_since t c ⊎ StandsForOne pairs c) [ inl earlier ↦ inl earlier | inr now ↦ inr (stands_for now.0 c now.1 now.2) ];
   }
+
+  pub early_crash : (a b : StoreFacts) → Outlives a b file (λ s. FailedEarly slots s) → Crash a b (documents_in file slots.committed ∷ attempted_in file slots.other)
+  unfolding before
+  early_crash a b outlives = outlives_crash a b (λ s. FailedEarly slots s) before early_stands outlives
+
+  pub commit_crash : (a b : StoreFacts) → Outlives a b file (λ s. Failed slots pair s) → Crash a b (documents_in file pair ∷ (documents_in file slots.committed ∷ attempted_in file slots.other))
+  unfolding before
+  commit_crash a b outlives = outlives_crash a b (λ s. Failed slots pair s) (documents_in file pair ∷ before) failed_stands outlives
 
 -- The slots after a commit.
 
@@ -148,9 +119,9 @@ failed_has : (file : List ℕ) (live : Table) (slots now : Slots) (pair : Pair) 
 failed_has file live slots now pair failed has stored =
     let P : Slots → Type 0 = λ s. HasAll file live s in
     elim failed as (λ _. P now) [
-      | inl same ↦ subst P (sym same) has
-      | inr (inl shut) ↦ subst P (sym shut) (record { images = has.images; within = has.within; committed = has.committed; held = tt })
-      | inr (inr is_held) ↦ subst P (sym is_held) (record { images = has.images; within = has.within; committed = has.committed; held = stored })
+      | inl (inl same) ↦ subst P (sym same) has
+      | inl (inr shut) ↦ subst P (sym shut) (record { images = has.images; within = has.within; committed = has.committed; held = tt })
+      | inr is_held ↦ subst P (sym is_held) (record { images = has.images; within = has.within; committed = has.committed; held = stored })
     ]
 
 failed_formed : (live : Table) (slots now : Slots) (pair : Pair) → Failed slots pair now → IsFormed live slots → AreTables pair → All IsPlaced (pair_extents pair) → slots.sequence + 1 < 2 ^ 64 → IsFormed live now
@@ -158,9 +129,9 @@ failed_formed live slots now pair failed formed tables placed range =
     let P : Slots → Type 0 = λ s. IsFormed live s in
     let kept = failed_kept slots now pair failed formed.kept placed in
     elim failed as (λ _. P now) [
-      | inl same ↦ subst P (sym same) formed
-      | inr (inl shut) ↦ subst P (sym shut) (record { table = formed.table; placed = formed.placed; committed = formed.committed; held = tt; kept = subst AreKept shut kept; numbered = formed.numbered; in_range = formed.in_range })
-      | inr (inr is_held) ↦ subst P (sym is_held) (record { table = formed.table; placed = formed.placed; committed = formed.committed; held = (tables, range); kept = subst AreKept is_held kept; numbered = formed.numbered; in_range = formed.in_range })
+      | inl (inl same) ↦ subst P (sym same) formed
+      | inl (inr shut) ↦ subst P (sym shut) (record { table = formed.table; placed = formed.placed; committed = formed.committed; held = tt; kept = subst AreKept shut kept; numbered = formed.numbered; in_range = formed.in_range })
+      | inr is_held ↦ subst P (sym is_held) (record { table = formed.table; placed = formed.placed; committed = formed.committed; held = (tables, range); kept = subst AreKept is_held kept; numbered = formed.numbered; in_range = formed.in_range })
     ]
 
 turned_formed : (live : Table) (slots : Slots) (pair : Pair) → IsFormed live slots → AreTables pair → All IsPlaced (pair_extents pair) → slots.sequence + 1 < 2 ^ 64 → IsFormed live (turned slots pair)
@@ -189,6 +160,11 @@ pub record IsCommit {S : Type 0} (facts : S → StoreFacts) (a b : S) (live : Ta
   pub crash : IsTrue (facts a).honest → Leaves (facts a) slots (facts a).content → Keeps (pair_extents pair) (facts a).content (facts a).content → Outlives (facts a) (facts b) (facts a).content (λ s. Failed slots pair s)
   pub leaves : IsTrue (facts a).honest → Leaves (facts a) slots (facts a).content → Keeps (pair_extents pair) (facts a).content (facts a).content → Leaves (facts b) now (facts a).content
 
+-- The pair is held, or a crash left nothing of it.
+abbrev pub FailsEarly : Slots → Pair → Slots → StoreFacts → StoreFacts → Type 0
+FailsEarly old pair new a b =
+    (new ≡ record old { other = Held pair }) ⊎ ((file : List ℕ) → IsTrue a.honest → Leaves a old file → Outlives a b file (λ s. FailedEarly old s))
+
 pub counts_rise : {T E : Type 0} (r : Result T E) (a b : StoreFacts) → Counts r a b → a.failures ≤ b.failures
 counts_rise (Ok x) a b same = omega (arith, same)
 counts_rise (Err x) a b more = omega (arith, more)
@@ -216,6 +192,11 @@ module _ {S : Type 0} (facts : S → StoreFacts) (a b : S) (live : Table) (slots
       let was = call.whole so in
       commit_crash (facts a).content slots pair call.formed.numbered call.range call.formed.kept call.placed was.committed (held_readable (facts a).content slots.sequence slots.other call.formed.held was.held) (call.stored so) (facts a) (facts b) (call.crash so was.leaves (pair_there so))
 
+  settle_early : IsTrue (facts a).honest → Outlives (facts a) (facts b) (facts a).content (λ s. FailedEarly slots s) → Crash (facts a) (facts b) (readable (disk_of facts a slots))
+  settle_early so outlives =
+      let was = call.whole so in
+      early_crash (facts a).content slots pair call.formed.numbered call.range call.formed.kept call.placed was.committed (held_readable (facts a).content slots.sequence slots.other call.formed.held was.held) (call.stored so) (facts a) (facts b) outlives
+
   -- whichever slots are left, the file has all of what they lead to
   module _ (now_formed : IsFormed live now) (has : IsTrue (facts a).honest → HasAll (facts a).content live now) where
     pub settle_sound : IsSound (facts b) live now
@@ -225,10 +206,10 @@ module _ {S : Type 0} (facts : S → StoreFacts) (a b : S) (live : Table) (slots
     }
 
     settle_committed : IsTrue (facts a).honest → documents_in (facts b).content now.committed ≡ documents_in (facts a).content now.committed
-    settle_committed so = (committed_again (facts a).content (facts b) live now (call.now_there (subst IsTrue (sym call.honest) so)) (has so) (live_kept so) (left so)).1
+    settle_committed so = (committed_now (facts a).content (facts b) live now (call.now_there (subst IsTrue (sym call.honest) so)) (has so) (live_kept so) (left so)).1
 
     settle_attempted : IsTrue (facts a).honest → attempted_in (facts b).content now.other ≡ attempted_in (facts a).content now.other
-    settle_attempted so = (attempted_again (facts a).content (facts b) live now (call.now_there (subst IsTrue (sym call.honest) so)) (has so) (live_kept so) (left so)).1
+    settle_attempted so = (attempted_now (facts a).content (facts b) live now (call.now_there (subst IsTrue (sym call.honest) so)) (has so) (live_kept so) (left so)).1
 
     pub settle_live : IsTrue (facts a).honest → document_in (facts b).content live ≡ document_in (facts a).content live
     settle_live so = live_again (facts a).content (facts b) live now (call.now_there (subst IsTrue (sym call.honest) so)) (has so) (live_kept so) (left so)
@@ -252,21 +233,36 @@ module _ {S : Type 0} (facts : S → StoreFacts) (a b : S) (live : Table) (slots
     same_pair : now.committed ≡ slots.committed
     same_pair =
         let P : Slots → Type 0 = λ s. s.committed ≡ slots.committed in
-        elim failed as (λ _. P now) [ inl same ↦ subst P (sym same) refl | inr (inl shut) ↦ subst P (sym shut) refl | inr (inr is_held) ↦ subst P (sym is_held) refl ]
+        elim failed as (λ _. P now) [ inl (inl same) ↦ subst P (sym same) refl | inl (inr shut) ↦ subst P (sym shut) refl | inr is_held ↦ subst P (sym is_held) refl ]
 
-    tried : Attempts (documents_in (facts a).content pair) (attempted_in (facts a).content slots.other) (attempted_in (facts a).content now.other)
-    tried =
-        let P : Slots → Type 0 = λ s. Attempts (documents_in (facts a).content pair) (attempted_in (facts a).content slots.other) (attempted_in (facts a).content s.other) in
-        elim failed as (λ _. P now) [ inl same ↦ subst P (sym same) (inl refl) | inr (inl shut) ↦ subst P (sym shut) (inr (inl refl)) | inr (inr is_held) ↦ subst P (sym is_held) (inr (inr refl)) ]
+    -- the pair is held, or nothing of it can be read
+    added : FailsEarly slots pair now (facts a) (facts b) → IsTrue (facts a).honest → (attempted_in (facts b).content now.other ≡ documents_in (facts a).content pair ∷ []) ⊎ AddsNothing facts (disk_of facts a slots) (disk_of facts b now)
+    unfolding now_formed has_all
+    added early so =
+        let attempts : Slots → List Documents = λ s. attempted_in (facts a).content s.other in
+        let same = settle_attempted now_formed has_all so in
+        elim failed as (λ _. (attempted_in (facts b).content now.other ≡ documents_in (facts a).content pair ∷ []) ⊎ AddsNothing facts (disk_of facts a slots) (disk_of facts b now)) [
+          | inr is_held ↦ inl (same ∙ ap attempts is_held)
+          | inl before ↦ elim early as (λ _. (attempted_in (facts b).content now.other ≡ documents_in (facts a).content pair ∷ []) ⊎ AddsNothing facts (disk_of facts a slots) (disk_of facts b now)) [
+            | inl is_held ↦ inl (same ∙ ap attempts is_held)
+            | inr outlives ↦ inr (record {
+              crash = settle_early so (outlives (facts a).content so (call.whole so).leaves);
+              attempted = elim before as (λ _. (attempted_in (facts b).content now.other ≡ attempted_in (facts a).content slots.other) ⊎ (attempted_in (facts b).content now.other ≡ [])) [
+                | inl still ↦ inl (same ∙ ap attempts still)
+                | inr shut ↦ inr (same ∙ ap attempts shut)
+              ];
+            })
+          ]
+        ]
 
     same_number : now.sequence ≡ slots.sequence
     same_number =
         let P : Slots → Type 0 = λ s. s.sequence ≡ slots.sequence in
-        elim failed as (λ _. P now) [ inl same ↦ subst P (sym same) refl | inr (inl shut) ↦ subst P (sym shut) refl | inr (inr is_held) ↦ subst P (sym is_held) refl ]
+        elim failed as (λ _. P now) [ inl (inl same) ↦ subst P (sym same) refl | inl (inr shut) ↦ subst P (sym shut) refl | inr is_held ↦ subst P (sym is_held) refl ]
 
-    pub err_commits : (fault : Fault) → Commits facts (documents_in (facts a).content pair) (disk_of facts a slots) (disk_of facts b now) (Err fault)
-    unfolding now_formed has_all same_pair tried same_number
-    err_commits fault = record {
+    pub err_commits : FailsEarly slots pair now (facts a) (facts b) → (fault : Fault) → Commits facts (documents_in (facts a).content pair) (disk_of facts a slots) (disk_of facts b now) (Err fault)
+    unfolding now_formed has_all same_pair added same_number
+    err_commits early fault = record {
       honest = call.honest;
       failures = call.failures;
       crash = settle_crash;
@@ -274,11 +270,9 @@ module _ {S : Type 0} (facts : S → StoreFacts) (a b : S) (live : Table) (slots
       ok = tt;
       numbered = tt;
       err = λ so.
-          let documents = settle_committed now_formed has_all so ∙ ap (documents_in (facts a).content) same_pair in (
-            ap (λ (d : Documents). d.0) documents,
-            ap (λ (d : Documents). d.1) documents,
-            subst (Attempts (documents_in (facts a).content pair) (attempted_in (facts a).content slots.other)) (sym (settle_attempted now_formed has_all so)) tried,
-          );
+          let documents = settle_committed now_formed has_all so ∙ ap (documents_in (facts a).content) same_pair in
+          (ap (λ (d : Documents). d.0) documents, ap (λ (d : Documents). d.1) documents);
+      adds = added early;
       sequence = same_number;
     }
 
@@ -308,5 +302,6 @@ module _ {S : Type 0} (facts : S → StoreFacts) (a b : S) (live : Table) (slots
       ok = λ so. (settle_committed turned_is turned_has so ∙ ap (λ (s : Slots). documents_in (facts a).content s.committed) is, settle_attempted turned_is turned_has so ∙ ap (λ (s : Slots). attempted_in (facts a).content s.other) is);
       numbered = λ so. sound_numbered facts b live now ok_sound (subst IsTrue (sym call.honest) so) (ap (λ (s : Slots). attempted_in (facts b).content s.other) is);
       err = tt;
+      adds = tt;
       sequence = ap (λ (s : Slots). s.sequence) is;
     }

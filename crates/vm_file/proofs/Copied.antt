@@ -7,7 +7,6 @@ use Rattle.vm_file.specs.Ranges.{IsPlaced, end_of}
 use Rattle.vm_file.specs.Slots.{block_extents, stored_extents, pair_extents, held_extents}
 use Rattle.vm_file.specs.Documents.{blocks_in, document_in, documents_in, entries_of, AreImaged, IsStored, AreStored}
 use Rattle.vm_file.specs.Sound.{IsTable, AreTables, IsSound}
-use Rattle.std.specs.Prelude.{Result, Ok, Err, OnErr}
 use Rattle.vm_file.specs.Disk.{Drifts}
 use Rattle.vm_file.specs.Copies.{IsCopy, IsStoredCopy}
 use Rattle.vm_file.specs.declared.table.Place.{Place}
@@ -16,7 +15,7 @@ use Rattle.vm_file.specs.declared.slots.Stored.{Stored}
 use Rattle.vm_file.specs.declared.slots.Pair.{Pair}
 use Rattle.vm_file.specs.declared.slots.Slots.{Slots}
 use Rattle.vm_file.proofs.KeptBytes.{all_left, all_right}
-use Rattle.vm_file.proofs.Committed.{stored_within}
+use Rattle.vm_file.proofs.KeptDocuments.{stored_within}
 use Rattle.vm_file.proofs.Tables.{shown, places_drift}
 
 -- a property of the map block and the places
@@ -97,7 +96,3 @@ copy_drifts honest file c copy table is same =
     let nothing : IsTrue false → blocks_in c table.places.items ≡ blocks_in file table.places.items = λ no. absurd (cc no) in
     let drift = subst (λ d. Drifts false (document_in file table) d) (sym (copy_document c copy table is)) (places_drift false file c table.places.items table.map_block nothing) in
     record { live = drift.live; user_ids = drift.user_ids; map_block = drift.map_block; same = same }
-
-pub on_err : {T E : Type 0} (r : Result T E) (P : Type 0) → P → OnErr r P
-on_err (Ok x) P p = tt
-on_err (Err x) P p = p

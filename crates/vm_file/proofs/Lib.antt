@@ -12,12 +12,14 @@ pub mod First
 pub mod Found
 pub mod Imaged
 pub mod KeptBytes
+pub mod KeptDocuments
 pub mod LaidOut
 pub mod Live
 pub mod Looking
 pub mod Outcomes
 pub mod Passing
 pub mod Puts
+pub mod Results
 pub mod Stands
 pub mod Steps
 pub mod Tables

@@ -39,9 +39,9 @@ turned_kept slots pair placed = All-append IsPlaced (pair_extents pair) [] place
 -- those of the slots after a commit that failed
 pub failed_kept : (old new : Slots) (pair : Pair) → Failed old pair new → AreKept old → All IsPlaced (pair_extents pair) → AreKept new
 failed_kept old new pair failed kept placed = elim failed as (λ _. AreKept new) [
-  | inl same ↦ subst AreKept (sym same) kept
-  | inr (inl shut) ↦ subst AreKept (sym shut) (shut_kept old kept)
-  | inr (inr held) ↦ subst AreKept (sym held) (with_pair_kept old pair kept placed)
+  | inl (inl same) ↦ subst AreKept (sym same) kept
+  | inl (inr shut) ↦ subst AreKept (sym shut) (shut_kept old kept)
+  | inr held ↦ subst AreKept (sym held) (with_pair_kept old pair kept placed)
 ]
 
 -- a file that keeps what the slots stand on has both slots

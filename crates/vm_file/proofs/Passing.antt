@@ -1,19 +1,14 @@
--- The laws by which the layers above pass on what a document file promises.
-use Rattle.std.proofs.Common.{◌≡◌, ◌⊎◌, ℕ, Bool, IsTrue, List, ◌∷◌, refl, sym, subst, ◌∙◌, arith, inl, inr}
-use Rattle.std.specs.Prelude.{◌+◌, Result, Ok, Err, OnOk, OnErr, MatchResult}
+-- How the promises of a document file are passed on.
+use Rattle.std.proofs.Common.{◌≡◌, ◌⊎◌, ℕ, Bool, IsTrue, List, [], ◌∷◌, refl, sym, ap, subst, ◌∙◌, arith, inl, inr}
+use Rattle.std.specs.Prelude.{◌+◌, Result, Ok, Err, MatchResult}
+use Rattle.std.proofs.lemmas.Result.{on_ok_weaker, on_err_weaker}
 use Rattle.vm_store.specs.Facts.{StoreFacts, IsTimely}
 use Rattle.geos_model.specs.Document.{Document}
 use Rattle.geos_model.specs.declared.fault.Fault.{Fault}
 use Rattle.vm_file.specs.Documents.{Documents}
-use Rattle.vm_file.specs.Disk.{Disk, readable, StandsForOne, Settled, IsSettled, Crash, Drifts, Attempts, Passes, Commits}
-
-on_ok_more : {T E P Q : Type 0} (r : Result T E) → (P → Q) → OnOk r P → OnOk r Q
-on_ok_more (Ok x) f p = f p
-on_ok_more (Err x) f p = tt
-
-on_err_more : {T E P Q : Type 0} (r : Result T E) → (P → Q) → OnErr r P → OnErr r Q
-on_err_more (Ok x) f p = tt
-on_err_more (Err x) f p = f p
+use Rattle.vm_file.specs.Disk.{Disk, readable, StandsForOne, Settled, IsSettled, Crash, Drifts, Passes, AddsNothing, Commits}
+use Rattle.vm_file.specs.Passing.{PassingLaw}
+use Rattle.vm_file.proofs.Results.{on_ok_both, on_err_both}
 
 pub Drifts-refl : (honest : Bool) (d : Document) → Drifts honest d d
 Drifts-refl honest d = record { live = λ h. refl; user_ids = λ h. refl; map_block = refl; same = λ _. refl }
@@ -80,6 +75,18 @@ module _ {S : Type 0} (facts : S → StoreFacts) where
       let since = later.counts_now (facts a.store).moment c (p.crash before).later left in
       subst P (sym (same_readable a b p before)) (Crash-since (facts a.store) (facts b.store) (readable a) timely (settled before) (p.crash before) c since)
 
+  -- what adds nothing makes no more readable
+  pub fewer_readable : (a b : Disk S) (c : List ℕ) → (b.updated ≡ a.updated) × (b.saved ≡ a.saved) → (b.attempted ≡ a.attempted) ⊎ (b.attempted ≡ []) → StandsForOne (readable b) c → StandsForOne (readable a) c
+  fewer_readable a b c same less one =
+      let P : List Documents → Type 0 = λ ds. StandsForOne ds c in
+      elim one as (λ _. StandsForOne (readable a) c) [
+        | inl here ↦ inl (here ∙ (λ i. Ok (same.0 i, same.1 i)))
+        | inr more ↦ elim less as (λ _. StandsForOne (readable a) c) [ inl kept ↦ inr (subst P kept more) | inr none ↦ absurd (subst P none more) ]
+      ]
+
+  Passes-adds : (a b : Disk S) → Passes facts a b → IsTrue (facts a.store).honest → AddsNothing facts a b
+  Passes-adds a b p so = record { crash = p.crash so; attempted = inl (p.attempted so) }
+
   -- a commit that is refused before anything is done
   pub Commits-refused : (a : Disk S) (pair : Documents) (f : Fault) → IsSettled facts a → Commits facts pair a a (Err f)
   Commits-refused a pair f settled = record {
@@ -89,7 +96,8 @@ module _ {S : Type 0} (facts : S → StoreFacts) where
     settled = settled;
     ok = tt;
     numbered = tt;
-    err = λ _. (refl, refl, inl refl);
+    err = λ _. (refl, refl);
+    adds = λ _. inr (record { crash = Crash-refl _ _; attempted = inl refl });
     sequence = refl;
   }
 
@@ -102,9 +110,19 @@ module _ {S : Type 0} (facts : S → StoreFacts) where
     settled = settled;
     ok = tt;
     numbered = tt;
-    err = λ so. (p.updated so, p.saved so, inl (p.attempted so));
+    err = λ so. (p.updated so, p.saved so);
+    adds = λ so. inr (Passes-adds a b p so);
     sequence = p.sequence;
   }
+
+  -- calls that commit nothing, and then one of which nothing can be read
+  Passes-AddsNothing : (a b c : Disk S) → Passes facts a b → IsTrue (facts a.store).honest → AddsNothing facts b c → AddsNothing facts a c
+  Passes-AddsNothing a b c p so none =
+      let P : List Documents → Type 0 = λ ds. Crash (facts b.store) (facts c.store) ds in
+      record {
+        crash = Crash-trans _ _ _ _ (p.crash so) (subst P (same_readable a b p so) none.crash);
+        attempted = elim none.attempted as (λ _. (c.attempted ≡ a.attempted) ⊎ (c.attempted ≡ [])) [ inl kept ↦ inl (kept ∙ p.attempted so) | inr empty ↦ inr empty ];
+      }
 
   -- calls that commit nothing, and then one that tries
   pub Passes-Commits : (a b c : Disk S) (first then : Documents) (result : Result (Unit {0}) Fault) → Passes facts a b → (IsTrue (facts a.store).honest → then ≡ first) → Commits facts then b c result → Commits facts first a c result
@@ -118,10 +136,70 @@ module _ {S : Type 0} (facts : S → StoreFacts) where
             let are : then ∷ readable b ≡ first ∷ readable a = λ i. same so i ∷ same_readable a b p so i in
             Crash-trans _ _ _ _ (Crash-more _ _ (readable a) (first ∷ readable a) (λ f one. inr one) (p.crash so)) (subst P are (q.crash (now so)));
         settled = q.settled;
-        ok = on_ok_more result (λ given so. ((given (now so)).0 ∙ same so, (given (now so)).1)) q.ok;
-        numbered = on_ok_more result (λ given so. given (now so)) q.numbered;
-        err = on_err_more result (λ given so.
-            let got = given (now so) in
-            (got.0 ∙ p.updated so, got.1 ∙ p.saved so, subst (λ d. Attempts d a.attempted c.attempted) (same so) (subst (λ ds. Attempts then ds c.attempted) (p.attempted so) got.2))) q.err;
+        ok = on_ok_weaker result (λ given so. ((given (now so)).0 ∙ same so, (given (now so)).1)) q.ok;
+        numbered = on_ok_weaker result (λ given so. given (now so)) q.numbered;
+        err = on_err_weaker result (λ given so. ((given (now so)).0 ∙ p.updated so, (given (now so)).1 ∙ p.saved so)) q.err;
+        adds = on_err_weaker result (λ given so. elim (given (now so)) as (λ _. (c.attempted ≡ first ∷ []) ⊎ AddsNothing facts a c) [
+          | inl tried ↦ inl (tried ∙ ap (λ d. d ∷ []) (same so))
+          | inr none ↦ inr (Passes-AddsNothing a b c p so none)
+        ]) q.adds;
         sequence = subst (λ n. MatchResult result (λ _. c.sequence ≡ n + 1) (λ _. c.sequence ≡ n)) p.sequence q.sequence;
       }
+
+  -- what a commit that was tried may make readable
+  pub commit_readable : (pair : Documents) (a b : Disk S) (result : Result (Unit {0}) Fault) (c : List ℕ) → Commits facts pair a b result → IsTrue (facts a.store).honest → StandsForOne (readable b) c → StandsForOne (pair ∷ readable a) c
+  commit_readable pair a b (Ok done) c commits so one =
+      let is = commits.ok so in
+      let P : List Documents → Type 0 = λ ds. StandsForOne ds c in
+      let same : readable b ≡ pair ∷ [] = λ i. is.0 i ∷ is.1 i in
+      elim (subst P same one) as (λ _. StandsForOne (pair ∷ readable a) c) [ inl here ↦ inl here | inr none ↦ absurd none ]
+  commit_readable pair a b (Err fault) c commits so one =
+      let same = commits.err so in
+      elim (commits.adds so) as (λ _. StandsForOne (pair ∷ readable a) c) [
+        | inl tried ↦ elim one as (λ _. StandsForOne (pair ∷ readable a) c) [
+          | inl here ↦ inr (inl (here ∙ (λ i. Ok (same.0 i, same.1 i))))
+          | inr more ↦ elim (subst (λ ds. StandsForOne ds c) tried more) as (λ _. StandsForOne (pair ∷ readable a) c) [ inl here ↦ inl here | inr none ↦ absurd none ]
+        ]
+        | inr none ↦ inr (fewer_readable a b c same none.attempted one)
+      ]
+
+  -- one that tries, and then calls that commit nothing
+  module _ (timely : (store : S) → IsTrue (facts store).honest → IsTimely (facts store)) where
+    pub settled_after : (a b : Disk S) → Passes facts a b → IsSettled facts a → IsSettled facts b
+    settled_after a b p settled so =
+        let before : IsTrue (facts a.store).honest = subst IsTrue p.honest so in
+        Passes-settled a b (timely a.store before) (timely b.store so) p settled so
+
+    pub Commits-Passes : (a b c : Disk S) (pair : Documents) (result : Result (Unit {0}) Fault) → Commits facts pair a b result → Passes facts b c → Commits facts pair a c result
+    Commits-Passes a b c pair result p q =
+        let now = still a b p.honest in
+        let settled = settled_after b c q p.settled in
+        record {
+          honest = q.honest ∙ p.honest;
+          failures = omega (arith, p.failures, q.failures);
+          crash = λ so. Crash-trans _ _ _ _ (p.crash so) (Crash-more _ _ (readable b) (pair ∷ readable a) (λ f one. commit_readable pair a b result f p so one) (q.crash (now so)));
+          settled = settled;
+          ok = on_ok_weaker result (λ given so. ((λ i. (q.updated (now so) i, q.saved (now so) i)) ∙ (given so).0, q.attempted (now so) ∙ (given so).1)) p.ok;
+          numbered = on_ok_both result (λ given ok so. q.numbered (now so) (ok so).1 (given so)) p.numbered p.ok;
+          err = on_err_weaker result (λ given so. (q.updated (now so) ∙ (given so).0, q.saved (now so) ∙ (given so).1)) p.err;
+          adds = on_err_both result (λ given same so. elim (given so) as (λ _. (c.attempted ≡ pair ∷ []) ⊎ AddsNothing facts a c) [
+            | inl tried ↦ inl (q.attempted (now so) ∙ tried)
+            | inr none ↦ inr (record {
+              crash = Crash-trans _ _ _ _ none.crash (Crash-more _ _ (readable b) (readable a) (λ f one. fewer_readable a b f (same so) none.attempted one) (q.crash (now so)));
+              attempted = elim none.attempted as (λ _. (c.attempted ≡ a.attempted) ⊎ (c.attempted ≡ [])) [ inl kept ↦ inl (q.attempted (now so) ∙ kept) | inr empty ↦ inr (q.attempted (now so) ∙ empty) ];
+            })
+          ]) p.adds p.err;
+          sequence = subst (λ n. MatchResult result (λ _. n ≡ a.sequence + 1) (λ _. n ≡ a.sequence)) (sym q.sequence) p.sequence;
+        }
+
+    pub passing_law : PassingLaw facts
+    passing_law = record {
+      passes_none = Passes-refl;
+      passes_both = Passes-trans;
+      passes_settled = settled_after;
+      passes_refused = λ a b pair fault settled p. Passes-fails a b pair fault p (settled_after a b p settled);
+      passes_commits = λ a b c meant pair result same p q. Passes-Commits a b c meant pair result p same q;
+      commits_passes = Commits-Passes;
+      drifts_none = Drifts-refl;
+      drifts_both = Drifts-trans;
+    }

@@ -25,6 +25,7 @@ use Rattle.vm_file.specs.Ranges.{IsPlaced, SameIn, Keeps, start_of}
 use Rattle.vm_file.specs.Slots.{mark, gate_text, behind_gate, Leads, IsBeside, IsUnmarked, IsOlder, Outcome, block_extents, stored_extents, pair_extents, held_extents, AreKept}
 use Rattle.vm_file.specs.Documents.{blocks_in, document_in, documents_in, attempted_in, entries_of, directory_of_table, IsImaged, AreImaged, IsStored, AreStored, IsHeldStored, sequence_of, sequence_in}
 use Rattle.vm_file.specs.Disk.{StandsForOne, IsSettled, Numbered}
+use Rattle.vm_file.specs.Opened.{Beaten}
 use Rattle.vm_file.specs.Sound.{IsFormed, IsHeldFormed, IsWhole, IsSound, disk_of}
 use Rattle.vm_file.specs.declared.table.Place.{Place}
 use Rattle.vm_file.specs.declared.table.Table.{Table}
@@ -131,10 +132,6 @@ lead_open slot sequence pair file c fits gate leads =
       working = fits_extent pair.updated.directory fits.updated;
       saved = fits_extent pair.saved.directory fits.saved;
     })
-
--- the slot isn't open, or has a lower number
-abbrev pub Beaten : Option Slot → ℕ → Type 0
-Beaten slot n = (slot ≡ None) ⊎ ((t : Slot) × (slot ≡ Some t) × (t.sequence < n))
 
 -- which slot counts, where the first, or the second, beats the other
 pub counts : (c : List ℕ) (second : Bool) (s : Slot) → open_slot c (if second then 1 else 0) ≡ Some s → Beaten (open_slot c (if second then 0 else 1)) s.sequence → counting_slot (open_slot c 0) (open_slot c 1) ≡ Ok s

@@ -3,7 +3,7 @@ use Rattle.std.proofs.Common.{◌≡◌, ◌≢◌, ◌⊎◌, ℕ, ◌+◌, ◌
 use Rattle.vm_store.specs.Facts.{StoreFacts, byte, IsDurable, Rests, Holds}
 use Rattle.vm_store.specs.Laws.{Tears}
 use Rattle.vm_file.specs.Ranges.{start_of, Keeps, IsClear}
-use Rattle.vm_file.specs.Slots.{pair_extents, kept_extents, other_of, turned, Failed, mark, behind_gate, Leads, Outcome, Leaves, Outlives, AreKept, Spares}
+use Rattle.vm_file.specs.Slots.{pair_extents, kept_extents, other_of, turned, FailedEarly, Failed, mark, behind_gate, Leads, Outcome, Leaves, Outlives, AreKept, Spares}
 use Rattle.geos_model.specs.declared.file.Extent.{Extent}
 use Rattle.vm_file.specs.declared.slots.Pair.{Pair}
 use Rattle.vm_file.specs.declared.slots.Other.TheVariants.{Shut, Held}
@@ -127,11 +127,14 @@ module _ (slots : Slots) (file : List ℕ) (a b : StoreFacts) (at : ℕ) (kept :
 
 -- What each of them adds to what a commit may leave.
 module _ (slots now : Slots) (pair : Pair) (file : List ℕ) (a b : StoreFacts) where
-  pub as_before : Outlives a b file (λ s. s ≡ slots) → Outlives a b file (λ s. Failed slots pair s)
-  as_before p = Outlives-more a b file (λ s. s ≡ slots) (λ s. Failed slots pair s) (λ s is. inl is) p
+  pub as_before : Outlives a b file (λ s. s ≡ slots) → Outlives a b file (λ s. FailedEarly slots s)
+  as_before p = Outlives-more a b file (λ s. s ≡ slots) (λ s. FailedEarly slots s) (λ s is. inl is) p
 
-  pub as_shut : now ≡ record slots { other = Shut } → Outlives a b file (λ s. s ≡ now) → Outlives a b file (λ s. Failed slots pair s)
-  as_shut shut p = Outlives-more a b file (λ s. s ≡ now) (λ s. Failed slots pair s) (λ s is. inr (inl (is ∙ shut))) p
+  pub as_shut : now ≡ record slots { other = Shut } → Outlives a b file (λ s. s ≡ now) → Outlives a b file (λ s. FailedEarly slots s)
+  as_shut shut p = Outlives-more a b file (λ s. s ≡ now) (λ s. FailedEarly slots s) (λ s is. inr (is ∙ shut)) p
+
+  pub as_early : Outlives a b file (λ s. FailedEarly slots s) → Outlives a b file (λ s. Failed slots pair s)
+  as_early p = Outlives-more a b file (λ s. FailedEarly slots s) (λ s. Failed slots pair s) (λ s is. inl is) p
 
   pub as_held : now ≡ record slots { other = Shut } → Outlives a b file (λ s. s ≡ record now { other = Held pair }) → Outlives a b file (λ s. Failed slots pair s)
-  as_held shut p = Outlives-more a b file (λ s. s ≡ record now { other = Held pair }) (λ s. Failed slots pair s) (λ s is. inr (inr (is ∙ ap (λ (o : Slots). record o { other = Held pair }) shut))) p
+  as_held shut p = Outlives-more a b file (λ s. s ≡ record now { other = Held pair }) (λ s. Failed slots pair s) (λ s is. inr (is ∙ ap (λ (o : Slots). record o { other = Held pair }) shut)) p

@@ -1,28 +1,34 @@
 -- What a crash at any moment leaves, over calls in turn.
-use Rattle.std.specs.Prelude.{◌≡◌, ℕ, List, [], ◌∷◌, ◌++◌, Option, Some, None, Result, IsTrue}
+use Rattle.std.specs.Prelude.{◌≡◌, ◌⊎◌, ℕ, List, [], ◌∷◌, ◌++◌, Option, Some, None, Result, Ok, Err, IsTrue}
 use Rattle.vm_store.specs.Facts.{StoreFacts}
 use Rattle.geos_model.specs.declared.fault.Fault.{Fault}
 use Rattle.vm_file.specs.Documents.{Documents}
-use Rattle.vm_file.specs.Disk.{Disk, readable, StandsForOne, IsSettled, Passes, Commits}
+use Rattle.vm_file.specs.Disk.{Disk, readable, StandsForOne, IsSettled, Passes, AddsNothing, Commits}
 
--- a pair that a call tried to commit, and its answer
-abbrev pub Attempt : Type 0
-Attempt = Documents × Result (Unit {0}) Fault
+-- A call, with the pair that it adds to what a crash may leave, if any. It adds none where it commits nothing, and where it tries
+-- to but fails before its last step; else it adds the pair that it tries to commit.
+abbrev pub Call : {S : Type 0} → (S → StoreFacts) → Option Documents → Disk S → Disk S → Type 0
+Call facts None old new = Passes facts old new ⊎ ((pair : Documents) × (fault : Fault) × Commits facts pair old new (Err fault) × AddsNothing facts old new)
+Call facts (Some pair) old new = (result : Result (Unit {0}) Fault) × Commits facts pair old new result
 
--- Calls in turn, from one disk to another: each either commits nothing or tries to commit a pair, and leaves a disk.
-abbrev pub Calls : {S : Type 0} → (S → StoreFacts) → Disk S → List (Option Attempt × Disk S) → Disk S → Type 0
+-- calls in turn, from one disk to another: what each adds, and the disk that it leaves
+abbrev pub Calls : {S : Type 0} → (S → StoreFacts) → Disk S → List (Option Documents × Disk S) → Disk S → Type 0
 Calls facts old [] new = new ≡ old
-Calls facts old ((None, next) ∷ calls) new = Passes facts old next × Calls facts next calls new
-Calls facts old ((Some attempt, next) ∷ calls) new = Commits facts attempt.0 old next attempt.1 × Calls facts next calls new
+Calls facts old ((adds, next) ∷ calls) new = Call facts adds old next × Calls facts next calls new
 
--- the pairs that they tried to commit
-abbrev pub attempts : {S : Type 0} → List (Option Attempt × Disk S) → List Documents
-attempts [] = []
-attempts ((None, next) ∷ calls) = attempts calls
-attempts ((Some attempt, next) ∷ calls) = attempt.0 ∷ attempts calls
+-- the pairs that they add
+abbrev pub added : {S : Type 0} → List (Option Documents × Disk S) → List Documents
+added [] = []
+added ((None, disk) ∷ calls) = added calls
+added ((Some pair, disk) ∷ calls) = pair ∷ added calls
 
--- A crash at any moment since a disk was settled leaves a file that stands for what might be read then, as the pair that was
--- acknowledged last, or for a pair that was tried since; and the disk is settled again.
+-- What a crash leaves, over calls in turn on an honest store.
 pub record CrashLaw {S : Type 0} (facts : S → StoreFacts) : Type 0 where
-  pub law : (old new : Disk S) (calls : List (Option Attempt × Disk S)) → IsTrue (facts old.store).honest → IsSettled facts old → Calls facts old calls new
-      → ((c : List ℕ) → (facts new.store).left_since (facts old.store).moment c → StandsForOne (attempts calls ++ readable old) c) × IsSettled facts new
+  -- at any moment since a disk was settled: what might be read then, or a pair that was added since
+  pub since : (old new : Disk S) (calls : List (Option Documents × Disk S)) → IsTrue (facts old.store).honest → IsSettled facts old → Calls facts old calls new
+      → (c : List ℕ) → (facts new.store).left_since (facts old.store).moment c → StandsForOne (added calls ++ readable old) c
+  -- at any moment since a commit was acknowledged: its pair, or one that was added since
+  pub acknowledged : (pair : Documents) (old next new : Disk S) (calls : List (Option Documents × Disk S)) → IsTrue (facts old.store).honest → Commits facts pair old next (Ok tt) → Calls facts next calls new
+      → (c : List ℕ) → (facts new.store).left_since (facts next.store).moment c → StandsForOne (added calls ++ pair ∷ []) c
+  -- now: what may be read of the last disk
+  pub now : (old new : Disk S) (calls : List (Option Documents × Disk S)) → IsTrue (facts old.store).honest → IsSettled facts old → Calls facts old calls new → IsSettled facts new

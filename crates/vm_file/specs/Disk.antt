@@ -78,9 +78,11 @@ pub record Passes {S : Type 0} (facts : S → StoreFacts) (old new : Disk S) : T
   pub numbered : IsTrue (facts old.store).honest → old.attempted ≡ [] → Numbered (facts old.store) old.sequence → Numbered (facts new.store) new.sequence
   pub crash : IsTrue (facts old.store).honest → Crash (facts old.store) (facts new.store) (readable old)
 
--- What a commit of a pair that wasn't acknowledged leaves of what may be read: what there was, or less, or that pair.
-abbrev pub Attempts : Documents → List Documents → List Documents → Type 0
-Attempts pair old new = (new ≡ old) ⊎ ((new ≡ []) ⊎ (new ≡ pair ∷ []))
+-- Nothing of a commit that wasn't acknowledged can be read: meanwhile a crash left nothing but what might be read before, and no
+-- pair of a commit that failed may be read now but one that might be before.
+pub record AddsNothing {S : Type 0} (facts : S → StoreFacts) (old new : Disk S) : Type 0 where
+  pub crash : Crash (facts old.store) (facts new.store) (readable old)
+  pub attempted : (new.attempted ≡ old.attempted) ⊎ (new.attempted ≡ [])
 
 -- A call that tries to commit a pair. While it isn't acknowledged, a crash may leave it or what might be read before.
 pub record Commits {S : Type 0} (facts : S → StoreFacts) (pair : Documents) (old new : Disk S) (result : Result (Unit {0}) Fault) : Type 0 where
@@ -89,6 +91,8 @@ pub record Commits {S : Type 0} (facts : S → StoreFacts) (pair : Documents) (o
   pub crash : IsTrue (facts old.store).honest → Crash (facts old.store) (facts new.store) (pair ∷ readable old)
   pub settled : IsSettled facts new
   pub ok : OnOk result (IsTrue (facts old.store).honest → ((new.updated, new.saved) ≡ pair) × (new.attempted ≡ []))
-  pub err : OnErr result (IsTrue (facts old.store).honest → (new.updated ≡ old.updated) × (new.saved ≡ old.saved) × Attempts pair old.attempted new.attempted)
+  pub err : OnErr result (IsTrue (facts old.store).honest → (new.updated ≡ old.updated) × (new.saved ≡ old.saved))
+  -- where its last step failed, the pair may be read from then on; where an earlier one did, nothing of it can be, at any moment
+  pub adds : OnErr result (IsTrue (facts old.store).honest → (new.attempted ≡ pair ∷ []) ⊎ AddsNothing facts old new)
   pub numbered : OnOk result (IsTrue (facts old.store).honest → Numbered (facts new.store) new.sequence)
   pub sequence : MatchResult result (λ _. new.sequence ≡ old.sequence + 1) (λ _. new.sequence ≡ old.sequence)

@@ -6,6 +6,7 @@ pub mod Documents
 pub mod Drafts
 pub mod Making
 pub mod Opened
+pub mod Passing
 pub mod Ranges
 pub mod Slots
 pub mod Sound

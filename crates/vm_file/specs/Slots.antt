@@ -48,9 +48,13 @@ other_of slots = if slots.second then 0 else 1
 abbrev pub turned : Slots → Pair → Slots
 turned slots pair = record { second = not slots.second; sequence = slots.sequence + 1; committed = pair; other = Stale }
 
--- what a commit that failed may leave of the slots
+-- what a commit that failed before its last step may leave of the slots
+abbrev pub FailedEarly : Slots → Slots → Type 0
+FailedEarly old new = (new ≡ old) ⊎ (new ≡ record old { other = Shut })
+
+-- and one that failed in any
 abbrev pub Failed : Slots → Pair → Slots → Type 0
-Failed old pair new = (new ≡ old) ⊎ ((new ≡ record old { other = Shut }) ⊎ (new ≡ record old { other = Held pair }))
+Failed old pair new = FailedEarly old new ⊎ (new ≡ record old { other = Held pair })
 
 abbrev pub mark : List ℕ
 mark = 0x47 ∷ 0x56 ∷ 0x4d ∷ 0x46 ∷ []

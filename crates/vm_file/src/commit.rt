@@ -1,9 +1,9 @@
 // The steps of a commit.
-ghost use Rattle.std.specs.Prelude.{◌≡◌, ◌≢◌, ◌+◌, ◌*◌, ◌<◌, ◌≤◌, ◌↔◌, ℕ, List, [], ◌∷◌, All, IsTrue, OnOk, OnErr, MatchResult, length};
+ghost use Rattle.std.specs.Prelude.{◌≡◌, ◌≢◌, ◌⊎◌, ◌+◌, ◌*◌, ◌<◌, ◌≤◌, ◌↔◌, ℕ, List, [], ◌∷◌, All, IsTrue, OnOk, OnErr, MatchResult, length};
 ghost use Rattle.vm_store.specs.Facts.{raised, IsDurable, Torn, Holds, Counts};
 ghost use Rattle.vm_store.specs.Laws.{Tears};
 ghost use Rattle.vm_file.specs.Ranges.{start_of, IsPlaced, Keeps, IsClear};
-ghost use Rattle.vm_file.specs.Slots.{mark, gate_text, behind_gate, pair_extents, kept_extents, other_of, turned, AreKept, Leaves, Outlives, Failed};
+ghost use Rattle.vm_file.specs.Slots.{mark, gate_text, behind_gate, pair_extents, kept_extents, other_of, turned, AreKept, Leaves, Outlives, FailedEarly, Failed};
 
 use crate::slots::{Other, Pair, Slots};
 use byteorder::{ByteOrder, LittleEndian};
@@ -87,9 +87,9 @@ fn is_shut(other: &Other) -> bool
     matches!(other, Other::Shut)
 }
 
-// Shuts the gate of the other slot. Until that is on the disk, what is known of the slot stays. A gate that is shut isn't
-// written, since it could be torn open.
-fn shut_gate<S: Store>(store: &mut S, slots: &mut Slots) -> Result<(), StoreFault>
+/// Shuts the gate of the other slot. Until that is on the disk, what is known of the slot stays. A gate that is shut isn't
+/// written, since it could be torn open.
+pub fn shut_gate<S: Store>(store: &mut S, slots: &mut Slots) -> Result<(), StoreFault>
     requires kept { AreKept slots.old }
     ensures honest { (S.facts store.new).honest ≡ (S.facts store.old).honest }
     ensures failures { MatchResult result (λ _. (S.facts store.new).failures ≡ (S.facts store.old).failures) (λ _. (S.facts store.new).failures ≡ raised (S.facts store.old).failures) }
@@ -173,6 +173,9 @@ pub fn commit<S: Store>(store: &mut S, slots: &mut Slots, pair: Pair) -> Result<
     ensures failures { Counts result (S.facts store.old) (S.facts store.new) }
     ensures ok { OnOk result (slots.new ≡ turned slots.old pair) }
     ensures err { OnErr result (Failed slots.old pair slots.new) }
+    // where `slots` doesn't hold the pair, a crash found nothing of it
+    ensures early { OnErr result ((slots.new ≡ record slots.old { other = Other.Held pair }) ⊎ ((file : List ℕ) → IsTrue (S.facts store.old).honest → Leaves (S.facts store.old) slots.old file
+        → Outlives (S.facts store.old) (S.facts store.new) file (λ s. FailedEarly slots.old s))) }
     ensures elsewhere { IsTrue (S.facts store.old).honest → Torn 0 1024 (S.facts store.old).content (S.facts store.new).content }
     // `file` is a content that has the bytes of all extents: that at the call, or an earlier one
     ensures crash { (file : List ℕ) → IsTrue (S.facts store.old).honest → Leaves (S.facts store.old) slots.old file → Keeps (pair_extents pair) file (S.facts store.old).content

@@ -1,12 +1,19 @@
-use Rattle.std.proofs.Common.{IsTrue, sym, subst}
-use Rattle.vm_file.specs.Slots.{pair_extents, Failed, AreKept}
+use Rattle.std.proofs.Common.{IsTrue, sym, subst, inr}
+use Rattle.vm_file.specs.Slots.{pair_extents, FailedEarly, Failed, AreKept}
 use Rattle.vm_file.proofs.KeptBytes.{slots_keep}
 use Rattle.vm_file.proofs.Outcomes.{shut_kept}
-use Rattle.vm_file.proofs.Steps.{Outlives-trans, held_leaves, as_before, as_shut, as_held}
+use Rattle.vm_file.proofs.Results.{on_err}
+use Rattle.vm_file.proofs.Steps.{Outlives-trans, held_leaves, as_before, as_shut, as_early, as_held}
 use Rattle.vm_file.proofs.commit.commit.Goals as goal
 
 pub returns-in_err-shut_gate-clause-crash : goal.returns-in_err-shut_gate-clause-crash
-returns-in_err-shut_gate-clause-crash g c file holds leaves keeps = as_before c.args.slots.now c.args.slots.now c.args.pair file _ _ (c.shut_gate.ensures.crash file holds leaves)
+returns-in_err-shut_gate-clause-crash g c file holds leaves keeps =
+    let slots = c.args.slots.now in
+    as_early slots slots c.args.pair file _ _ (as_before slots slots c.args.pair file _ _ (c.shut_gate.ensures.crash file holds leaves))
+
+pub returns-in_err-shut_gate-clause-early : goal.returns-in_err-shut_gate-clause-early
+returns-in_err-shut_gate-clause-early g c =
+    on_err c.from_residual.result _ (inr (λ file holds leaves. as_before c.args.slots.now c.args.slots.now c.args.pair file _ _ (c.shut_gate.ensures.crash file holds leaves)))
 
 pub returns-in_err-shut_gate-clause-leaves : goal.returns-in_err-shut_gate-clause-leaves
 returns-in_err-shut_gate-clause-leaves g c file holds leaves keeps = c.shut_gate.ensures.leaves file holds leaves
@@ -19,8 +26,17 @@ returns-in_err-fill_slot-clause-crash g c file holds leaves keeps =
     let slots = c.args.slots.now in
     let pair = c.args.pair in
     let still = subst IsTrue (sym c.shut_gate.ensures.honest) holds in
-    Outlives-trans _ _ _ file (λ s. Failed slots pair s) (as_before slots slots pair file _ _ (c.shut_gate.ensures.crash file holds leaves))
-    (as_shut slots c.shut_gate.new.slots pair file _ _ c.in_ok-shut_gate.ensures.ok (c.fill_slot.ensures.crash file still (c.shut_gate.ensures.leaves file holds leaves)))
+    as_early slots slots pair file _ _ (Outlives-trans _ _ _ file (λ s. FailedEarly slots s) (as_before slots slots pair file _ _ (c.shut_gate.ensures.crash file holds leaves))
+    (as_shut slots c.shut_gate.new.slots pair file _ _ c.in_ok-shut_gate.ensures.ok (c.fill_slot.ensures.crash file still (c.shut_gate.ensures.leaves file holds leaves))))
+
+pub returns-in_err-fill_slot-clause-early : goal.returns-in_err-fill_slot-clause-early
+returns-in_err-fill_slot-clause-early g c =
+    let slots = c.args.slots.now in
+    let pair = c.args.pair in
+    on_err c.from_residual-in_err-fill_slot.result _ (inr (λ file holds leaves.
+    let still = subst IsTrue (sym c.shut_gate.ensures.honest) holds in
+    Outlives-trans _ _ _ file (λ s. FailedEarly slots s) (as_before slots slots pair file _ _ (c.shut_gate.ensures.crash file holds leaves))
+    (as_shut slots c.shut_gate.new.slots pair file _ _ c.in_ok-shut_gate.ensures.ok (c.fill_slot.ensures.crash file still (c.shut_gate.ensures.leaves file holds leaves)))))
 
 pub returns-in_err-fill_slot-clause-leaves : goal.returns-in_err-fill_slot-clause-leaves
 returns-in_err-fill_slot-clause-leaves g c file holds leaves keeps =
@@ -45,8 +61,8 @@ returns-clause-crash g c file holds leaves keeps =
     let kept = slots_keep es file B.content C.content c.requires.placed (c.fill_slot.ensures.elsewhere still) (slots_keep es file _ B.content c.requires.placed (c.shut_gate.ensures.elsewhere holds) keeps) in
     let held = held_leaves now pair file C (c.in_ok-fill_slot.ensures.durable still) (c.in_ok-fill_slot.ensures.marked still) (c.in_ok-fill_slot.ensures.rest still) kept filled in
     Outlives-trans _ _ _ file (λ s. Failed slots pair s)
-    (Outlives-trans _ _ _ file (λ s. Failed slots pair s) (as_before slots slots pair file _ _ (c.shut_gate.ensures.crash file holds leaves))
-    (as_shut slots now pair file _ _ c.in_ok-shut_gate.ensures.ok (c.fill_slot.ensures.crash file still shut)))
+    (as_early slots now pair file _ _ (Outlives-trans _ _ _ file (λ s. FailedEarly slots s) (as_before slots slots pair file _ _ (c.shut_gate.ensures.crash file holds leaves))
+    (as_shut slots now pair file _ _ c.in_ok-shut_gate.ensures.ok (c.fill_slot.ensures.crash file still shut))))
     (as_held slots now pair file _ _ c.in_ok-shut_gate.ensures.ok (c.open_gate.ensures.crash file yet held))
 
 pub returns-clause-leaves : goal.returns-clause-leaves

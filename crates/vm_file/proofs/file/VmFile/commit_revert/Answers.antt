@@ -9,8 +9,9 @@ use Rattle.vm_file.specs.Copies.{IsCopy}
 use Rattle.vm_file.specs.declared.slots.Pair.{Pair}
 use Rattle.std.proofs.lemmas.Result.{err_from_is_err_and}
 use Rattle.vm_file.proofs.KeptBytes.{all_left, all_right}
-use Rattle.vm_file.proofs.Copied.{pair_documents, pair_placed, pair_stored, sound_saved, copy_document, copies_alike, copy_itself, copy_drifts, on_err}
+use Rattle.vm_file.proofs.Copied.{pair_documents, pair_placed, pair_stored, sound_saved, copy_document, copies_alike, copy_itself, copy_drifts}
 use Rattle.vm_file.proofs.Passing.{Commits-refused}
+use Rattle.vm_file.proofs.Results.{on_err}
 use Rattle.vm_file.proofs.Stands.{sound_settled}
 use Rattle.vm_file.proofs.file.VmFile.commit_revert.Goals as goal
 

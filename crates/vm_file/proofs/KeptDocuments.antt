@@ -1,0 +1,69 @@
+-- Documents in another file that has their bytes.
+use Rattle.std.proofs.Common.{◌≡◌, ℕ, zero, suc, ◌+◌, ◌≤◌, true, List, [], ◌∷◌, length, Option, None, Some, All, refl, ap, arith}
+use Rattle.std.specs.List.{list_all}
+use Rattle.std.proofs.lemmas.Bool.{and_parts}
+use Rattle.geos_model.specs.Document.{Block}
+use Rattle.geos_model.specs.File.{is_entry, bytes_in}
+use Rattle.geos_model.proofs.Files.{is_entry-parts, is_directory-parts, directory_in-some}
+use Rattle.geos_model.proofs.FileDocuments.{directory_of-some, directory_of-kept, is_in_file-parts}
+use Rattle.geos_model.proofs.Table.{table_map}
+use Rattle.vm_file.specs.Ranges.{SameIn, Keeps, end_of}
+use Rattle.vm_file.specs.Slots.{block_extents, stored_extents, pair_extents, held_extents, kept_extents}
+use Rattle.vm_file.specs.Documents.{Documents, document_in, documents_in, attempted_in, entries_of, directory_of_table, IsStored, AreStored, IsHeldStored}
+use Rattle.vm_file.specs.declared.table.Place.{Place}
+use Rattle.vm_file.specs.declared.slots.Stored.{Stored}
+use Rattle.vm_file.specs.declared.slots.Pair.{Pair}
+use Rattle.vm_file.specs.declared.slots.Other.{Other}
+use Rattle.vm_file.specs.declared.slots.Other.TheVariants.{Shut, Stale, Held}
+use Rattle.vm_file.specs.declared.slots.Slots.{Slots}
+use Rattle.vm_file.proofs.KeptBytes.{all_left, all_right}
+use Rattle.vm_file.proofs.Stands.{keeps_in, keeps_entries}
+use Rattle.vm_file.proofs.Tables.{blocks_same, images_same}
+
+-- They lie within the file.
+
+entries_within : (n h : ℕ) (places : List (Option Place)) → list_all (is_entry n) (entries_of h places) ≡ true → All (λ e. end_of e ≤ n) (block_extents places)
+entries_within n h [] all k d inside = absurd (omega arith)
+entries_within n h (None ∷ places) all k d inside = entries_within n (h + 1) places all k d inside
+entries_within n h (Some place ∷ places) all zero d inside =
+    (is_entry-parts n (record { handle = record { 0 = h }; user_id = place.user_id; extent = place.extent }) (and_parts (is_entry n (record { handle = record { 0 = h }; user_id = place.user_id; extent = place.extent })) (list_all (is_entry n) (entries_of (h + 1) places)) all).0).within
+entries_within n h (Some place ∷ places) all (suc k) d inside =
+    entries_within n (h + 1) places (and_parts (is_entry n (record { handle = record { 0 = h }; user_id = place.user_id; extent = place.extent })) (list_all (is_entry n) (entries_of (h + 1) places)) all).1 k d (omega arith)
+
+pub stored_within : (file : List ℕ) (s : Stored) → IsStored file s → (end_of s.directory ≤ length file) × All (λ e. end_of e ≤ length file) (block_extents s.table.places.items)
+stored_within file s stored =
+    let there = directory_of-some file s.directory (directory_of_table s.table) stored.directory in
+    let good = (directory_in-some (length file) (bytes_in file s.directory) (directory_of_table s.table) there.1).0 in
+    ((is_in_file-parts (length file) s.directory there.0).within, entries_within (length file) 1 s.table.places.items (is_directory-parts (length file) (directory_of_table s.table) good).entries)
+
+-- They are the same in one that has their bytes.
+
+stored_again : (file c : List ℕ) (s : Stored) → IsStored file s → Keeps (stored_extents s) file c → IsStored c s × (document_in c s.table ≡ document_in file s.table)
+stored_again file c s stored keeps =
+    let within = (stored_within file s stored).1 in
+    let blocks : Keeps (block_extents s.table.places.items) file c = λ k x inside. keeps (suc k) x (omega arith) in (
+      record {
+        directory = directory_of-kept file c s.directory (directory_of_table s.table) stored.directory (keeps_in file c s.directory (keeps 0 s.directory (omega arith))) (keeps_entries file c 1 s.table.places.items blocks);
+        images = images_same file c s.table.places.items within blocks stored.images;
+      },
+      ap (λ (bs : List (Option Block)). record { blocks = table_map 1 1 bs; map_block = s.table.map_block }) (blocks_same file c s.table.places.items within blocks),
+    )
+
+pair_again : (file c : List ℕ) (pair : Pair) → AreStored file pair → Keeps (pair_extents pair) file c → AreStored c pair × (documents_in c pair ≡ documents_in file pair)
+pair_again file c pair stored keeps =
+    let updated = stored_again file c pair.updated stored.updated (all_left (SameIn file c) (stored_extents pair.updated) (stored_extents pair.saved) keeps) in
+    let saved = stored_again file c pair.saved stored.saved (all_right (SameIn file c) (stored_extents pair.updated) (stored_extents pair.saved) keeps) in
+    (record { updated = updated.0; saved = saved.0 }, λ i. (updated.1 i, saved.1 i))
+
+held_again : (file c : List ℕ) (other : Other) → IsHeldStored file other → Keeps (held_extents other) file c → IsHeldStored c other × (attempted_in c other ≡ attempted_in file other)
+held_again file c Shut stored keeps = (tt, refl)
+held_again file c Stale stored keeps = (tt, refl)
+held_again file c (Held pair) stored keeps = let again = pair_again file c pair stored keeps in (again.0, ap (λ (d : Documents). d ∷ []) again.1)
+
+-- all that the slots lead to
+module _ (file c : List ℕ) (slots : Slots) (keeps : Keeps (kept_extents slots) file c) where
+  pub committed_again : AreStored file slots.committed → AreStored c slots.committed × (documents_in c slots.committed ≡ documents_in file slots.committed)
+  committed_again stored = pair_again file c slots.committed stored (all_left (SameIn file c) (pair_extents slots.committed) (held_extents slots.other) keeps)
+
+  pub attempted_again : IsHeldStored file slots.other → IsHeldStored c slots.other × (attempted_in c slots.other ≡ attempted_in file slots.other)
+  attempted_again stored = held_again file c slots.other stored (all_right (SameIn file c) (pair_extents slots.committed) (held_extents slots.other) keeps)

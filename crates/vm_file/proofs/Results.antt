@@ -1,0 +1,14 @@
+-- What holds where a call is refused, or where it isn't.
+use Rattle.std.specs.Prelude.{Result, Ok, Err, OnOk, OnErr}
+
+pub on_err : {T E : Type 0} (r : Result T E) (P : Type 0) → P → OnErr r P
+on_err (Ok x) P p = tt
+on_err (Err x) P p = p
+
+pub on_ok_both : {T E P Q R : Type 0} (r : Result T E) → (P → Q → R) → OnOk r P → OnOk r Q → OnOk r R
+on_ok_both (Ok x) f p q = f p q
+on_ok_both (Err x) f p q = tt
+
+pub on_err_both : {T E P Q R : Type 0} (r : Result T E) → (P → Q → R) → OnErr r P → OnErr r Q → OnErr r R
+on_err_both (Ok x) f p q = tt
+on_err_both (Err x) f p q = f p q
