@@ -14,7 +14,7 @@ use Rattle.vm_file.specs.Ranges.{IsPlaced, start_of, end_of, Keeps, IsOut, IsCle
 use Rattle.vm_file.specs.Slots.{mark, gate_text, block_extents, stored_extents, pair_extents, held_extents, IsBeside, Leads, Outcome}
 use Rattle.vm_file.specs.Documents.{blocks_in, document_in, attempted_in, entries_of, directory_of_table, IsImaged, AreImaged, IsStored, IsHeldStored}
 use Rattle.vm_file.specs.Sound.{IsTable, IsHeldFormed, IsFormed, IsWhole, IsSound}
-use Rattle.vm_file.specs.Making.{first_slot, IsLaid, IsLiveStored, IsFirst, IsFounding, IsOne}
+use Rattle.vm_file.specs.Making.{first_directory, no_blocks, first_slot, IsLaid, IsLiveStored, IsFirst, IsFounding, IsOne}
 use Rattle.vm_file.specs.declared.table.Place.{Place}
 use Rattle.vm_file.specs.declared.table.Table.{Table}
 use Rattle.vm_file.specs.declared.slots.Stored.{Stored}
@@ -207,14 +207,16 @@ empty_shown file n live is =
     let none : table_entries 1 1 (blocks_in file live.places.items) ≡ [] = ap (λ ps. table_entries 1 1 (blocks_in file ps)) is.places ∙ none_listed file 1 n in
     λ i. record { blocks = from_entries (none i); map_block = is.map_block i }
 
-abbrev pub first_directory : Extent
-first_directory = record { page = 2; length = 16 }
+pub empty_listed : (n : ℕ) (live : Table) → IsEmpty n live → directory_of_table live ≡ no_blocks
+empty_listed n live is =
+    let no_entries : entries_of 1 live.places.items ≡ [] = ap (entries_of 1) is.places ∙ none_entries 1 n in
+    λ i. record { map_block = is.map_block i; entries = no_entries i }
 
-pub empty_founding : (text : List ℕ) (n : ℕ) (live : Table) → n ≡ 2048 → IsEmpty n live → text ≡ directory_text (record { map_block = 0; entries = [] }) → IsFounding first_directory text live
+pub empty_founding : (text : List ℕ) (n : ℕ) (live : Table) → n ≡ 2048 → IsEmpty n live → text ≡ directory_text no_blocks → IsFounding first_directory text live
 empty_founding text n live all is text_is =
     let no_extents : block_extents live.places.items ≡ [] = ap block_extents is.places ∙ none_extents n in
-    let no_entries : entries_of 1 live.places.items ≡ [] = ap (entries_of 1) is.places ∙ none_entries 1 n in
-    let same : directory_of_table live ≡ record { map_block = 0; entries = [] } = λ i. record { map_block = is.map_block i; entries = no_entries i } in
+    let no_entries = ap (λ d. d.entries) (empty_listed n live is) in
+    let same = empty_listed n live is in
     record {
       table = record { size = ap length is.places ∙ length-replicate {A = Option Place} n None ∙ all; map_block = inl is.map_block };
       placed = subst (All IsPlaced) (sym no_extents) (All-nil IsPlaced);

@@ -15,6 +15,7 @@ pub mod KeptBytes
 pub mod LaidOut
 pub mod Live
 pub mod Looking
+pub mod Made
 pub mod Outcomes
 pub mod Passing
 pub mod Puts

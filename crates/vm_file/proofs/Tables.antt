@@ -217,6 +217,11 @@ entry_user_id file places map_block h (Some place) is =
     let at = entry_lies places h place is in
     sym (user_id_is file places map_block h at.0 ∙ ap (λ o. option_map_or (λ (p : Place). p.user_id) o 0) at.1)
 
+-- what holds of all extents
+pub entry_extent : (P : Extent → Type 0) (places : List (Option Place)) (h : ℕ) (result : Option Place) → All P (block_extents places) → IsPlaceOf places h result → IfSome result (λ place. P place.extent)
+entry_extent P places h None all is = tt
+entry_extent P places h (Some place) all is = each_at (λ p. P p.extent) places (h - 1) place (entry_lies places h place is).1 (places_of P places all)
+
 -- the block under a handle, by its place
 pub block_at_is : (file : List ℕ) (places : List (Option Place)) (map_block h : ℕ) (place : Place) → 1 ≤ h → slot_at places (h - 1) ≡ Some place → block_at (shown file places map_block) h ≡ block_in file place
 block_at_is file places map_block h place low at = ap (λ o. unwrap_or o (record { user_id = 0; body = Raw [] })) (block_is file places map_block h place low at)

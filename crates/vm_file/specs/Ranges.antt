@@ -12,12 +12,12 @@ start_of e = 512 * e.page
 abbrev pub end_of : Extent → ℕ
 end_of e = start_of e + e.length
 
--- an extent that can be: behind the slots, below the last page, of 1 to 128 pages
+-- an extent that can be: behind the slots, below the last page, of as many bytes as an image has; a directory has fewer
 pub record IsPlaced (e : Extent) : Type 0 where
   pub behind : 2 ≤ e.page
   pub within : end_page e ≤ last_page
   pub some : 1 ≤ e.length
-  pub short : e.length ≤ 65536
+  pub short : e.length ≤ 65521
 
 -- the extent's bytes lie in c, and are those of the file
 pub record SameIn (file c : List ℕ) (e : Extent) : Type 0 where

@@ -1,9 +1,10 @@
-use Rattle.std.proofs.Common.{◌≡◌, ◌-◌, ◌≤◌, IsTrue, length, is_some, sym, ap, subst, ◌∙◌, arith}
+use Rattle.std.proofs.Common.{◌≡◌, ◌-◌, IsTrue, length, is_some, sym, ap, subst, ◌∙◌, arith}
 use Rattle.std.specs.Prelude.{IfOk}
 use Rattle.vm_store.specs.Facts.{Holds}
 use Rattle.geos_model.specs.Document.{is_live, block_at}
 use Rattle.geos_model.specs.Image.{image}
 use Rattle.geos_model.proofs.Tables.{slot_at}
+use Rattle.vm_file.specs.Calls.{IsImageLength}
 use Rattle.vm_file.specs.Ranges.{IsPlaced, start_of}
 use Rattle.vm_file.specs.Documents.{blocks_in, document_in}
 use Rattle.vm_file.specs.Disk.{Passes, Drifts}
@@ -59,4 +60,4 @@ returns-clause-size g c =
     let is : IsPlaceOf i.live.places.items h c.place_of.result = record { nothing = c.place_of.ensures.zero; place = λ low. c.place_of.ensures.place low ∙ ap (λ ps. slot_at ps (h - 1)) c.deref.ensures.value } in
     let at = entry_lies i.live.places.items h c.in-Some.place (subst (λ o. IsPlaceOf i.live.places.items h o) c.in-Some.is is) in
     let placed : IsPlaced e = each_at (λ p. IsPlaced p.extent) i.live.places.items (h - 1) c.in-Some.place at.1 (places_of IsPlaced i.live.places.items c.self.invariant.formed.placed) in
-    if_ok (λ bytes. length bytes.items ≡ e.length) (λ bytes. length bytes.items ≤ 65536) c.read_extent.result (λ bytes size. omega (arith, size, placed.short)) c.read_extent.ensures.size
+    if_ok (λ bytes. length bytes.items ≡ e.length) (λ bytes. IsImageLength (length bytes.items)) c.read_extent.result (λ bytes size. (omega (arith, size, placed.some), omega (arith, size, placed.short))) c.read_extent.ensures.size
