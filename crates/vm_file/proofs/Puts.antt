@@ -1,6 +1,5 @@
 -- A file into which blocks are put, and from which others are taken.
 use Rattle.std.proofs.Common.{◌≡◌, ◌≢◌, ◌⊎◌, ℕ, ◌+◌, ◌-◌, ◌<◌, ◌≤◌, true, IsTrue, List, ◌++◌, All, take, drop, length, get_or, Option, Some, is_some, sym, ap, subst, ◌∙◌, arith, inl, inr, length-append}
-use Rattle.std.specs.Prelude.{Result, Ok, Err, OnErr}
 use Rattle.vm_store.specs.Facts.{StoreFacts}
 use Rattle.geos_model.specs.Document.{Document}
 use Rattle.geos_model.specs.Image.{body_of, body_read}
@@ -150,10 +149,6 @@ module _ {S : Type 0} (facts : S → StoreFacts) (a b : S) (live : Table) (slots
                 (λ k p e low. let size = found.sizes k e p low in let ends = (written so k e p low).within in omega (arith, size, ends))
                 (places_of (EndsIn (facts b).content) live.places.items (within so))),
           ))
-
-pub on_err : {T E : Type 0} (r : Result T E) (P : Type 0) → P → OnErr r P
-on_err (Ok x) P p = tt
-on_err (Err x) P p = p
 
 -- a table in which blocks were put, and from which others were taken
 pub changed_twice : (n : ℕ) (places filled left : List (Option Place)) (puts : List PutBlock) (extents : List Extent) (removals : List VmHandle) → n ≡ length places → filled ≡ with_places puts extents places
