@@ -160,7 +160,7 @@ slot_leads file page s pair within small was good inside =
               sym (at i (omega arith)) ∙ sym (get_or-take 4 bytes i 0 less) ∙ ap (λ xs. byte xs i) one.marked;
         };
         rest = holds_append file (n + 5) (1 ∷ []) (0 ∷ 0 ∷ little_bytes 8 s.sequence ++ extent_bytes pair.updated.directory ++ extent_bytes pair.saved.directory) (holds_byte file (n + 5) 1 (omega (arith, within)) version) (held_at file (n + 6) (n + 5 + 1) _ (omega arith) behind);
-        kept = λ k d low. record { within = inside k d low; each = λ i less. refl };
+        kept = λ k d low. record { within = inside k d low; bytes = λ i from to. refl };
       },
     )
 

@@ -1,6 +1,6 @@
 -- What the making of a file leaves.
 use Rattle.std.proofs.Common.{◌≡◌, ◌≢◌, ◌⊎◌, ℕ, zero, suc, ◌+◌, ◌-◌, ◌*◌, ◌<◌, ◌≤◌, true, Bool, IsTrue, List, [], ◌∷◌, ◌++◌, All, length, get_or, is_some, Option, None, Some, refl, sym, ap, subst, ◌∙◌, arith, inl, inr}
-use Rattle.std.specs.Prelude.{if◌then◌else◌, Result, Ok, Err, OnOk, IfSome, replicate}
+use Rattle.std.specs.Prelude.{if◌then◌else◌, IfSome, replicate}
 use Rattle.std.specs.FinMap.{from_entries}
 use Rattle.std.proofs.lemmas.List.{append-nil, length-replicate}
 use Rattle.std.proofs.lemmas.List.Elements.{All-nil, All-cons, All-append, All-replicate}
@@ -126,7 +126,7 @@ module _ (directory : Extent) (text : List ℕ) (live : Table) (slots : Slots) (
         let high = (founding.placed k x inside).behind in
         record {
           within = omega (arith, lying.within k x inside, laid.size);
-          each = λ i low. laid.others (start_of e + i) (omega (arith, high)) (elim (founding.clear k x inside) as (λ _. (start_of e + i < start_of directory) ⊎ (start_of directory + length text ≤ start_of e + i)) [
+          bytes = λ i low under. laid.others i (omega (arith, high, low)) (elim (founding.clear k x inside) as (λ _. (i < start_of directory) ⊎ (start_of directory + length text ≤ i)) [
             | inl before ↦ inl (omega arith)
             | inr behind ↦ inr (omega (arith, founding.size))
           ]);
@@ -177,10 +177,6 @@ module _ (directory : Extent) (text : List ℕ) (live : Table) (slots : Slots) (
   -- a file that was made is sound
   pub first_sound : (store : StoreFacts) (old : List ℕ) → (IsTrue store.honest → AreLying live old × IsLaid 1 directory text old store.content × IsDurable store) → IsSound store live slots
   first_sound store old made = record { formed = formed; whole = λ so. let all = made so in whole store old all.0 all.1 all.2 }
-
-pub on_ok : {T E A B : Type 0} (r : Result T E) → (A → B) → OnOk r A → OnOk r B
-on_ok (Ok x) from a = from a
-on_ok (Err e) from a = tt
 
 -- A file of no block.
 

@@ -1,5 +1,5 @@
 -- Images of bodies.
-use Rattle.std.proofs.Common.{◌≡◌, ℕ, ◌-◌, ◌<◌, ◌≤◌, ◌==◌, Bool, true, false, not, List, drop, length, length-take, length-drop, slice_index, Option, None, Some, is_some, refl, sym, ap, subst, ◌∙◌, arith, inl, inr}
+use Rattle.std.proofs.Common.{◌≡◌, ℕ, ◌-◌, ◌≤◌, ◌==◌, Bool, true, false, not, List, length, slice_index, Option, None, Some, is_some, refl, sym, ap, subst, ◌∙◌, arith, inl, inr}
 use Rattle.std.specs.Prelude.{◌&&◌, Result, Ok, Err, IfOk, IfSome, All}
 use Rattle.std.proofs.lemmas.Bool.{cases_Bool, cond-true, cond-false}
 use Rattle.geos_model.specs.Bytes.{same_bytes}
@@ -18,8 +18,8 @@ use Rattle.vm_file.specs.Ranges.{start_of, IsPlaced}
 use Rattle.vm_file.specs.Calls.{IsImageLength}
 use Rattle.vm_file.specs.Documents.{IsImaged, AreImaged}
 use Rattle.vm_file.specs.declared.table.Place.{Place}
+use Rattle.vm_file.proofs.KeptBytes.{bytes_held}
 use Rattle.vm_file.proofs.Tables.{shown, each_at, block_at_is, IsPlaceOf, entry_lies}
-use Rattle.std.proofs.lemmas.List.{ext_get_or, get_or-drop, get_or-take}
 
 -- bytes that are the image of a body that can be
 pub record IsImage (bytes : List ℕ) : Type 0 where
@@ -62,15 +62,6 @@ image_kind bytes = elim (cases_Bool (slice_index bytes 0 == 0)) as (λ _. is_hea
 
 -- The bytes of an extent.
 
-pub holds_bytes : (file bytes : List ℕ) (e : Extent) → length bytes ≡ e.length → Holds file (start_of e) bytes → bytes_in file e ≡ bytes
-holds_bytes file bytes e size holds =
-    let n = e.length in
-    let s = start_of e in
-    let long : length (bytes_in file e) ≡ n = omega (arith, holds.within, size, length-take n (drop s file), length-drop s file) in
-    ext_get_or 0 (bytes_in file e) bytes (long ∙ sym size) (λ i l.
-    let low : i < n = omega (arith, l, long) in
-    get_or-take n (drop s file) i 0 low ∙ get_or-drop s file i 0 ∙ holds.each i (omega (arith, low, size)))
-
 -- the image of a block lies at its place
 lying_image : (file : List ℕ) (places : List (Option Place)) (map_block h : ℕ) (place : Place) → 1 ≤ h → slot_at places (h - 1) ≡ Some place → AreImaged file places → bytes_in file place.extent ≡ image (block_at (shown file places map_block) h).body
 lying_image file places map_block h place low at images =
@@ -90,11 +81,7 @@ placed_lengths es placed k d inside = let one = placed k d inside in (one.some, 
 pub read_image : (file bytes : List ℕ) (places : List (Option Place)) (map_block h : ℕ) (place : Place) → 1 ≤ h → slot_at places (h - 1) ≡ Some place → AreImaged file places → length bytes ≡ place.extent.length → Holds file (start_of place.extent) bytes
     → bytes ≡ image (block_at (shown file places map_block) h).body
 read_image file bytes places map_block h place low at images size holds =
-    sym (holds_bytes file bytes place.extent size holds) ∙ lying_image file places map_block h place low at images
-
-pub if_ok : {T E : Type 0} (P Q : T → Type 0) (r : Result T E) → ((x : T) → P x → Q x) → IfOk r P → IfOk r Q
-if_ok P Q (Ok x) from p = from x p
-if_ok P Q (Err e) from p = tt
+    sym (bytes_held file bytes place.extent size holds) ∙ lying_image file places map_block h place low at images
 
 pub if_ok_both : {T E : Type 0} (P Q R : T → Type 0) (r : Result T E) → ((x : T) → P x → Q x → R x) → IfOk r P → IfOk r Q → IfOk r R
 if_ok_both P Q R (Ok x) from p q = from x p q

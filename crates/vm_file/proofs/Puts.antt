@@ -25,7 +25,8 @@ use Rattle.vm_file.specs.declared.slots.Other.TheVariants.{Shut, Stale, Held}
 use Rattle.vm_file.specs.declared.slots.Slots.{Slots}
 use Rattle.vm_file.proofs.Carried.{call_passes, call_sound}
 use Rattle.vm_file.proofs.Filled.{drifts_put_all, drifts_remove_all, filled_drifts, length-with_places, length-without_places, each_with, each_without, full_with, full_without, shown_without_all}
-use Rattle.vm_file.proofs.Imaged.{is_image, image_kind, holds_bytes}
+use Rattle.vm_file.proofs.Imaged.{is_image, image_kind}
+use Rattle.vm_file.proofs.KeptBytes.{bytes_held}
 use Rattle.vm_file.proofs.Live.{EndsIn}
 use Rattle.vm_file.proofs.Passing.{Drifts-trans}
 use Rattle.vm_file.proofs.Tables.{EachPlace, shown, places_drift, blocks_same, images_same, extents_of, places_of, length-block_extents, items_kept}
@@ -98,7 +99,7 @@ module _ {S : Type 0} (facts : S → StoreFacts) (a b : S) (live : Table) (slots
       (written : IsTrue (facts a).honest → AreWritten (length puts) puts extents (facts b).content) (same : new.map_block ≡ live.map_block)
       (is : new.places.items ≡ without_places removals (with_places puts extents live.places.items)) where
     bytes : (so : IsTrue (facts a).honest) (k : ℕ) (p : PutBlock) (e : Extent) → k < length puts → bytes_in (facts b).content (get_or extents k e) ≡ (get_or puts k p).image
-    bytes so k p e low = holds_bytes (facts b).content (get_or puts k p).image (get_or extents k e) (sym (found.sizes k e p low)) (written so k e p low)
+    bytes so k p e low = bytes_held (facts b).content (get_or puts k p).image (get_or extents k e) (sym (found.sizes k e p low)) (written so k e p low)
 
     pub put_drifts : Drifts (facts a).honest (remove_all removals (put_all puts (shown (facts a).content live.places.items live.map_block))) (shown (facts b).content new.places.items new.map_block)
     put_drifts =
