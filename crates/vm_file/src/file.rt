@@ -53,7 +53,7 @@ impl<S: Store> Model for VmFile<S> {
 }
 
 impl<S: Store> VmFile<S> {
-    /// Makes the store an empty document file, whatever was in it. Memory, File.
+    /// Makes the store an empty document file, whatever was in it. Memory, before the store is called; File.
     pub fn create(alloc: Global, store: S) -> Result<VmFile<S>, Refused<S>>
         ensures honest { MatchResult result
             (λ file. (S.facts file.disk.store).honest ≡ (S.facts store).honest)
@@ -70,6 +70,7 @@ impl<S: Store> VmFile<S> {
         ensures first { IfOk result (λ file. IsTrue (S.facts store).honest → open_slot (S.facts file.disk.store).content 0 ≡ Some first_open) }
         ensures second { IfOk result (λ file. IsTrue (S.facts store).honest → open_slot (S.facts file.disk.store).content 1 ≡ None) }
         ensures directory { IfOk result (λ file. IsTrue (S.facts store).honest → bytes_in (S.facts file.disk.store).content first_directory ≡ directory_text no_blocks) }
+        ensures early { IfErr result (λ refused. refused.fault ≢ Fault.File → refused.store ≡ store) }
         ensures file { IfErr result (λ refused. refused.fault ≡ Fault.File → Raised (S.facts store) (S.facts refused.store)) }
         ensures refusals { IfErr result (λ refused. IsSupply refused.fault) }
     {

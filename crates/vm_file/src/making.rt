@@ -1,5 +1,5 @@
 // The making of a file.
-ghost use Rattle.std.specs.Prelude.{◌≡◌, ◌≤◌, ℕ, List, [], ◌∷◌, IsTrue, OnOk, IfOk, IfErr, IsErrOf, None, replicate, length};
+ghost use Rattle.std.specs.Prelude.{◌≡◌, ◌≢◌, ◌≤◌, ℕ, List, [], ◌∷◌, IsTrue, OnOk, IfOk, IfErr, IsErrOf, None, replicate, length};
 ghost use Rattle.vm_file.specs.Slots.{mark};
 ghost use Rattle.vm_store.specs.Facts.{IsDurable, Puts, Counts, Raised};
 ghost use Rattle.geos_model.specs.Document.{most_blocks};
@@ -150,6 +150,7 @@ pub fn make_empty<S: Store>(alloc: Global, store: &mut S) -> Result<Made, Fault>
     ensures places { IfOk result (λ made. made.live.places.items ≡ replicate most_blocks None) }
     ensures first { IfOk result (λ made. IsFirst first_directory made.live made.slots) }
     ensures size { IfOk result (λ made. IsTrue (S.facts store.old).honest → length (S.facts store.new).content ≡ 1040) }
+    ensures early { IfErr result (λ fault. fault ≢ Fault.File → store.new ≡ store.old) }
     ensures file { IsErrOf result Fault.File → Raised (S.facts store.old) (S.facts store.new) }
     ensures refusals { IfErr result IsSupply }
 {
