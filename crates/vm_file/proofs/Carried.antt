@@ -3,7 +3,7 @@ use Rattle.std.proofs.Common.{◌≡◌, ◌⊎◌, ℕ, suc, ◌≤◌, IsTrue,
 use Rattle.vm_store.specs.Facts.{StoreFacts}
 use Rattle.geos_model.proofs.FileDocuments.{directory_of-kept}
 use Rattle.geos_model.proofs.Table.{table_map}
-use Rattle.vm_file.specs.Ranges.{Keeps}
+use Rattle.vm_file.specs.Ranges.{KeepsAll}
 use Rattle.vm_file.specs.Slots.{block_extents, stored_extents, pair_extents, other_of, IsBeside, Outcome, Leaves, Outlives}
 use Rattle.vm_file.specs.Documents.{document_in, attempted_in, directory_of_table, AreImaged, IsStored, AreStored, IsHeldStored}
 use Rattle.vm_file.specs.Disk.{readable, StandsForOne, Passes}
@@ -16,18 +16,18 @@ use Rattle.vm_file.specs.declared.slots.Other.TheVariants.{Shut, Stale, Held}
 use Rattle.vm_file.specs.declared.slots.Slots.{Slots}
 use Rattle.vm_file.proofs.KeptBytes.{all_left, all_right}
 use Rattle.vm_file.proofs.Live.{EndsIn}
-use Rattle.vm_file.proofs.Stands.{keeps_in, keeps_entries, outcome_stands, sound_readable, outcome_numbered}
+use Rattle.vm_file.proofs.Stands.{keeps_entries, outcome_stands, sound_readable, outcome_numbered}
 use Rattle.vm_file.proofs.Steps.{leaves_rebased}
 use Rattle.vm_file.proofs.Tables.{blocks_same, images_same}
-use Rattle.vm_file.specs.Ranges.{SameIn}
+use Rattle.vm_file.specs.Ranges.{Keeps}
 
 -- Documents whose bytes are kept.
 
-module _ (file c : List ℕ) (s : Stored) (here : Keeps (stored_extents s) file file) (there : Keeps (stored_extents s) file c) where
+module _ (file c : List ℕ) (s : Stored) (here : KeepsAll (stored_extents s) file file) (there : KeepsAll (stored_extents s) file c) where
   within : All (EndsIn file) (block_extents s.table.places.items)
   within k x inside = (here (suc k) x (omega arith)).within
 
-  kept : Keeps (block_extents s.table.places.items) file c
+  kept : KeepsAll (block_extents s.table.places.items) file c
   kept k x inside = there (suc k) x (omega arith)
 
   stored_same : document_in c s.table ≡ document_in file s.table
@@ -35,16 +35,16 @@ module _ (file c : List ℕ) (s : Stored) (here : Keeps (stored_extents s) file 
 
   stored_again : IsStored file s → IsStored c s
   stored_again was = record {
-    directory = directory_of-kept file c s.directory (directory_of_table s.table) was.directory (keeps_in file c s.directory (there 0 s.directory (omega arith))) (keeps_entries file c 1 s.table.places.items kept);
+    directory = directory_of-kept file c s.directory (directory_of_table s.table) was.directory (there 0 s.directory (omega arith)) (keeps_entries file c 1 s.table.places.items kept);
     images = images_same file c s.table.places.items within kept was.images;
   }
 
-module _ (file c : List ℕ) (pair : Pair) (here : Keeps (pair_extents pair) file file) (there : Keeps (pair_extents pair) file c) where
-  first : (d : List ℕ) → Keeps (pair_extents pair) file d → Keeps (stored_extents pair.updated) file d
-  first d keeps = all_left (SameIn file d) (stored_extents pair.updated) (stored_extents pair.saved) keeps
+module _ (file c : List ℕ) (pair : Pair) (here : KeepsAll (pair_extents pair) file file) (there : KeepsAll (pair_extents pair) file c) where
+  first : (d : List ℕ) → KeepsAll (pair_extents pair) file d → KeepsAll (stored_extents pair.updated) file d
+  first d keeps = all_left (Keeps file d) (stored_extents pair.updated) (stored_extents pair.saved) keeps
 
-  second : (d : List ℕ) → Keeps (pair_extents pair) file d → Keeps (stored_extents pair.saved) file d
-  second d keeps = all_right (SameIn file d) (stored_extents pair.updated) (stored_extents pair.saved) keeps
+  second : (d : List ℕ) → KeepsAll (pair_extents pair) file d → KeepsAll (stored_extents pair.saved) file d
+  second d keeps = all_right (Keeps file d) (stored_extents pair.updated) (stored_extents pair.saved) keeps
 
   updated_same : document_in c pair.updated.table ≡ document_in file pair.updated.table
   updated_same = stored_same file c pair.updated (first file here) (first c there)

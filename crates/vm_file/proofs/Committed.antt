@@ -11,7 +11,7 @@ use Rattle.geos_model.specs.declared.fault.Fault.{Fault}
 use Rattle.geos_model.proofs.Files.{is_entry-parts, is_directory-parts, directory_in-some}
 use Rattle.geos_model.proofs.FileDocuments.{directory_of-some, directory_of-kept, is_in_file-parts}
 use Rattle.geos_model.proofs.Table.{table_map}
-use Rattle.vm_file.specs.Ranges.{IsPlaced, SameIn, Keeps, end_of}
+use Rattle.vm_file.specs.Ranges.{IsPlaced, Keeps, KeepsAll, end_of}
 use Rattle.vm_file.specs.Slots.{turned, Failed, Outcome, Leaves, Outlives, AreKept, block_extents, stored_extents, pair_extents, held_extents, kept_extents}
 use Rattle.vm_file.specs.Documents.{Documents, document_in, documents_in, attempted_in, entries_of, directory_of_table, AreImaged, IsStored, AreStored, IsHeldStored}
 use Rattle.vm_file.specs.Disk.{readable, StandsForOne, Crash, Attempts, Commits}
@@ -26,7 +26,7 @@ use Rattle.vm_file.specs.declared.slots.Slots.{Slots}
 use Rattle.vm_file.proofs.KeptBytes.{all_left, all_right, keeps_itself, slots_keep}
 use Rattle.vm_file.proofs.Outcomes.{outcome_keeps, failed_kept, turned_kept}
 use Rattle.vm_file.proofs.Steps.{leaves_rebased}
-use Rattle.vm_file.proofs.Stands.{keeps_in, keeps_entries, outcome_stands, sound_settled, AreReadable, IsHeldReadable, held_readable, sound_numbered}
+use Rattle.vm_file.proofs.Stands.{keeps_entries, outcome_stands, sound_settled, AreReadable, IsHeldReadable, held_readable, sound_numbered}
 use Rattle.vm_file.proofs.Tables.{blocks_same, images_same}
 
 -- Documents that lie in the file.
@@ -46,24 +46,24 @@ stored_within file s stored =
     ((is_in_file-parts (length file) s.directory there.0).within, entries_within (length file) 1 s.table.places.items (is_directory-parts (length file) (directory_of_table s.table) good).entries)
 
 -- the same document, in a file that has its bytes
-pub stored_again : (file c : List ℕ) (s : Stored) → IsStored file s → Keeps (stored_extents s) file c → IsStored c s × (document_in c s.table ≡ document_in file s.table)
+pub stored_again : (file c : List ℕ) (s : Stored) → IsStored file s → KeepsAll (stored_extents s) file c → IsStored c s × (document_in c s.table ≡ document_in file s.table)
 stored_again file c s stored keeps =
     let within = (stored_within file s stored).1 in
-    let blocks : Keeps (block_extents s.table.places.items) file c = λ k x inside. keeps (suc k) x (omega arith) in (
+    let blocks : KeepsAll (block_extents s.table.places.items) file c = λ k x inside. keeps (suc k) x (omega arith) in (
       record {
-        directory = directory_of-kept file c s.directory (directory_of_table s.table) stored.directory (keeps_in file c s.directory (keeps 0 s.directory (omega arith))) (keeps_entries file c 1 s.table.places.items blocks);
+        directory = directory_of-kept file c s.directory (directory_of_table s.table) stored.directory (keeps 0 s.directory (omega arith)) (keeps_entries file c 1 s.table.places.items blocks);
         images = images_same file c s.table.places.items within blocks stored.images;
       },
       ap (λ (bs : List (Option Block)). record { blocks = table_map 1 1 bs; map_block = s.table.map_block }) (blocks_same file c s.table.places.items within blocks),
     )
 
-pub pair_again : (file c : List ℕ) (pair : Pair) → AreStored file pair → Keeps (pair_extents pair) file c → AreStored c pair × (documents_in c pair ≡ documents_in file pair)
+pub pair_again : (file c : List ℕ) (pair : Pair) → AreStored file pair → KeepsAll (pair_extents pair) file c → AreStored c pair × (documents_in c pair ≡ documents_in file pair)
 pair_again file c pair stored keeps =
-    let updated = stored_again file c pair.updated stored.updated (all_left (SameIn file c) (stored_extents pair.updated) (stored_extents pair.saved) keeps) in
-    let saved = stored_again file c pair.saved stored.saved (all_right (SameIn file c) (stored_extents pair.updated) (stored_extents pair.saved) keeps) in
+    let updated = stored_again file c pair.updated stored.updated (all_left (Keeps file c) (stored_extents pair.updated) (stored_extents pair.saved) keeps) in
+    let saved = stored_again file c pair.saved stored.saved (all_right (Keeps file c) (stored_extents pair.updated) (stored_extents pair.saved) keeps) in
     (record { updated = updated.0; saved = saved.0 }, λ i. (updated.1 i, saved.1 i))
 
-pub held_again : (file c : List ℕ) (other : Other) → IsHeldStored file other → Keeps (held_extents other) file c → IsHeldStored c other × (attempted_in c other ≡ attempted_in file other)
+pub held_again : (file c : List ℕ) (other : Other) → IsHeldStored file other → KeepsAll (held_extents other) file c → IsHeldStored c other × (attempted_in c other ≡ attempted_in file other)
 held_again file c Shut stored keeps = (tt, refl)
 held_again file c Stale stored keeps = (tt, refl)
 held_again file c (Held pair) stored keeps = let again = pair_again file c pair stored keeps in (again.0, ap (λ (d : Documents). d ∷ []) again.1)
@@ -79,17 +79,17 @@ pub whole_has : (store : StoreFacts) (live : Table) (slots : Slots) → IsWhole 
 whole_has store live slots whole = record { images = whole.images; within = whole.within; committed = whole.committed; held = whole.held }
 
 -- The file is whole again, and so are its documents, after calls that keep the bytes.
-module _ (file : List ℕ) (b : StoreFacts) (live : Table) (slots : Slots) (now : b.may_leave b.content) (has : HasAll file live slots) (keeps : Keeps (block_extents live.places.items) file b.content) (leaves : Leaves b slots file) where
-  kept : Keeps (kept_extents slots) file b.content
+module _ (file : List ℕ) (b : StoreFacts) (live : Table) (slots : Slots) (now : b.may_leave b.content) (has : HasAll file live slots) (keeps : KeepsAll (block_extents live.places.items) file b.content) (leaves : Leaves b slots file) where
+  kept : KeepsAll (kept_extents slots) file b.content
   kept = outcome_keeps slots file b.content (leaves b.content now)
 
   pub committed_again : AreStored b.content slots.committed × (documents_in b.content slots.committed ≡ documents_in file slots.committed)
   unfolding kept
-  committed_again = pair_again file b.content slots.committed has.committed (all_left (SameIn file b.content) (pair_extents slots.committed) (held_extents slots.other) kept)
+  committed_again = pair_again file b.content slots.committed has.committed (all_left (Keeps file b.content) (pair_extents slots.committed) (held_extents slots.other) kept)
 
   pub attempted_again : IsHeldStored b.content slots.other × (attempted_in b.content slots.other ≡ attempted_in file slots.other)
   unfolding kept
-  attempted_again = held_again file b.content slots.other has.held (all_right (SameIn file b.content) (pair_extents slots.committed) (held_extents slots.other) kept)
+  attempted_again = held_again file b.content slots.other has.held (all_right (Keeps file b.content) (pair_extents slots.committed) (held_extents slots.other) kept)
 
   pub live_again : document_in b.content live ≡ document_in file live
   live_again = ap (λ (bs : List (Option Block)). record { blocks = table_map 1 1 bs; map_block = live.map_block }) (blocks_same file b.content live.places.items has.within keeps)
@@ -186,15 +186,15 @@ pub record IsCommit {S : Type 0} (facts : S → StoreFacts) (a b : S) (live : Ta
   pub failures : (facts a).failures ≤ (facts b).failures
   pub now_there : IsTrue (facts b).honest → (facts b).may_leave (facts b).content
   pub elsewhere : IsTrue (facts a).honest → Torn 0 1024 (facts a).content (facts b).content
-  pub crash : IsTrue (facts a).honest → Leaves (facts a) slots (facts a).content → Keeps (pair_extents pair) (facts a).content (facts a).content → Outlives (facts a) (facts b) (facts a).content (λ s. Failed slots pair s)
-  pub leaves : IsTrue (facts a).honest → Leaves (facts a) slots (facts a).content → Keeps (pair_extents pair) (facts a).content (facts a).content → Leaves (facts b) now (facts a).content
+  pub crash : IsTrue (facts a).honest → Leaves (facts a) slots (facts a).content → KeepsAll (pair_extents pair) (facts a).content (facts a).content → Outlives (facts a) (facts b) (facts a).content (λ s. Failed slots pair s)
+  pub leaves : IsTrue (facts a).honest → Leaves (facts a) slots (facts a).content → KeepsAll (pair_extents pair) (facts a).content (facts a).content → Leaves (facts b) now (facts a).content
 
 pub counts_rise : {T E : Type 0} (r : Result T E) (a b : StoreFacts) → Counts r a b → a.failures ≤ b.failures
 counts_rise (Ok x) a b same = omega (arith, same)
 counts_rise (Err x) a b more = omega (arith, more)
 
 module _ {S : Type 0} (facts : S → StoreFacts) (a b : S) (live : Table) (slots now : Slots) (pair : Pair) (call : IsCommit facts a b live slots now pair) where
-  pair_there : IsTrue (facts a).honest → Keeps (pair_extents pair) (facts a).content (facts a).content
+  pair_there : IsTrue (facts a).honest → KeepsAll (pair_extents pair) (facts a).content (facts a).content
   pair_there so =
       let updated = stored_within (facts a).content pair.updated (call.stored so).updated in
       let saved = stored_within (facts a).content pair.saved (call.stored so).saved in
@@ -202,7 +202,7 @@ module _ {S : Type 0} (facts : S → StoreFacts) (a b : S) (live : Table) (slots
       (All-cons (λ e. end_of e ≤ length (facts a).content) pair.updated.directory (block_extents pair.updated.table.places.items) updated.0 updated.1)
       (All-cons (λ e. end_of e ≤ length (facts a).content) pair.saved.directory (block_extents pair.saved.table.places.items) saved.0 saved.1))
 
-  live_kept : IsTrue (facts a).honest → Keeps (block_extents live.places.items) (facts a).content (facts b).content
+  live_kept : IsTrue (facts a).honest → KeepsAll (block_extents live.places.items) (facts a).content (facts b).content
   live_kept so = slots_keep (block_extents live.places.items) (facts a).content (facts a).content (facts b).content call.formed.placed (call.elsewhere so) (keeps_itself (block_extents live.places.items) (facts a).content (call.whole so).within)
 
   left : IsTrue (facts a).honest → Leaves (facts b) now (facts a).content

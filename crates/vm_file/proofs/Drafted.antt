@@ -8,7 +8,7 @@ use Rattle.vm_file.proofs.Found.{apart_out}
 use Rattle.vm_store.specs.Facts.{StoreFacts, Torn, Holds}
 use Rattle.geos_model.specs.declared.file.Extent.{Extent}
 use Rattle.geos_model.proofs.Table.{table_map}
-use Rattle.vm_file.specs.Ranges.{IsPlaced, Keeps, start_of, end_of, IsOut, IsClear}
+use Rattle.vm_file.specs.Ranges.{IsPlaced, KeepsAll, start_of, end_of, IsOut, IsClear}
 use Rattle.vm_file.specs.Slots.{Leaves, Outlives, block_extents, stored_extents, pair_extents, held_extents, kept_extents}
 use Rattle.vm_file.specs.Documents.{document_in, documents_in, AreImaged, IsStored, AreStored}
 use Rattle.vm_file.specs.Disk.{Passes}
@@ -41,7 +41,7 @@ pub record IsWriting {S : Type 0} (facts : S → StoreFacts) (a b : S) (live : T
   pub leaves : IsTrue (facts a).honest → Leaves (facts a) slots (facts a).content → Leaves (facts b) slots (facts a).content
 
 module _ {S : Type 0} (facts : S → StoreFacts) (a b : S) (live : Table) (slots : Slots) (draft : Draft) (call : IsWriting facts a b live slots draft) where
-  live_keeps : IsTrue (facts a).honest → Keeps (block_extents live.places.items) (facts a).content (facts b).content
+  live_keeps : IsTrue (facts a).honest → KeepsAll (block_extents live.places.items) (facts a).content (facts b).content
   live_keeps so =
       let clear = (clear_parts (start_of draft.stored.directory) draft.stored.directory.length (block_extents live.places.items) (kept_extents slots) call.is_draft.clear).0 in
       torn_keeps (start_of draft.stored.directory) draft.stored.directory.length (block_extents live.places.items) (facts a).content (facts a).content (facts b).content clear (call.elsewhere so)

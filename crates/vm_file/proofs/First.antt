@@ -8,10 +8,10 @@ use Rattle.vm_store.specs.Facts.{StoreFacts, byte, Holds, Puts, IsDurable}
 use Rattle.vm_store.specs.Laws.{Holds-Puts}
 use Rattle.geos_model.specs.Document.{empty_document}
 use Rattle.geos_model.proofs.Table.{table_entries, table_map}
-use Rattle.geos_model.specs.File.{directory_of, directory_text}
+use Rattle.geos_model.specs.File.{slot_mark, directory_of, directory_text}
 use Rattle.geos_model.specs.declared.file.Extent.{Extent}
-use Rattle.vm_file.specs.Ranges.{IsPlaced, start_of, end_of, Keeps, IsOut, IsClear}
-use Rattle.vm_file.specs.Slots.{mark, gate_text, block_extents, stored_extents, pair_extents, held_extents, IsBeside, Leads, Outcome}
+use Rattle.vm_file.specs.Ranges.{IsPlaced, start_of, end_of, KeepsAll, IsOut, IsClear}
+use Rattle.vm_file.specs.Slots.{gate_text, block_extents, stored_extents, pair_extents, held_extents, IsBeside, Leads, Outcome}
 use Rattle.vm_file.specs.Documents.{blocks_in, document_in, attempted_in, entries_of, directory_of_table, IsImaged, AreImaged, IsStored, IsHeldStored}
 use Rattle.vm_file.specs.Sound.{IsTable, IsHeldFormed, IsFormed, IsWhole, IsSound}
 use Rattle.vm_file.specs.Making.{first_directory, no_blocks, first_slot, IsLaid, IsLiveStored, IsFirst, IsFounding, IsOne}
@@ -46,20 +46,20 @@ unfolding gate_text
 gate_long directory = refl
 
 -- The directory is put, and then the slots.
-pub slots_laid : (directory : Extent) (text a b c d : List ℕ) → 2 ≤ directory.page → Puts (start_of directory) text a b → Puts 0 (first_slot directory) b c → Puts 512 mark c d → IsLaid 0 directory text a d
+pub slots_laid : (directory : Extent) (text a b c d : List ℕ) → 2 ≤ directory.page → Puts (start_of directory) text a b → Puts 0 (first_slot directory) b c → Puts 512 slot_mark c d → IsLaid 0 directory text a d
 slots_laid directory text a b c d behind directory_put first second =
     let long = first_long directory in
     let rest = gate_long directory in
     let there = Holds-Puts 0 (first_slot directory) b c first in
     let text_there = Holds-Puts (start_of directory) text a b directory_put in
     let gate : List ℕ = gate_text 1 directory directory in
-    let P : List ℕ → Type 0 = λ xs. Holds c 0 (mark ++ 0 ∷ xs) in
+    let P : List ℕ → Type 0 = λ xs. Holds c 0 (slot_mark ++ 0 ∷ xs) in
     record {
       gate_is = second.below 4 (omega arith) ∙ first.each 4 (omega (arith, long));
-      marked = put_holds 512 0 mark mark c d (inl (omega arith)) second (holds_part c 0 [] mark (0 ∷ gate) there);
-      rest = put_holds 512 5 mark gate c d (inl (omega (arith, rest))) second (holds_part c 0 (mark ++ 0 ∷ []) gate [] (subst P (sym (append-nil gate)) there));
+      marked = put_holds 512 0 slot_mark slot_mark c d (inl (omega arith)) second (holds_part c 0 [] slot_mark (0 ∷ gate) there);
+      rest = put_holds 512 5 slot_mark gate c d (inl (omega (arith, rest))) second (holds_part c 0 (slot_mark ++ 0 ∷ []) gate [] (subst P (sym (append-nil gate)) there));
       beside = second.above 516 (omega arith) ∙ first.above 516 (omega (arith, long)) ∙ directory_put.below 516 (omega (arith, behind));
-      there = put_holds 512 (start_of directory) mark text c d (inr (omega (arith, behind))) second (put_holds 0 (start_of directory) (first_slot directory) text b c (inr (omega (arith, behind, long))) first text_there);
+      there = put_holds 512 (start_of directory) slot_mark text c d (inr (omega (arith, behind))) second (put_holds 0 (start_of directory) (first_slot directory) text b c (inr (omega (arith, behind, long))) first text_there);
       others = λ i high out. second.above i (omega arith) ∙ first.above i (omega (arith, long)) ∙ put_byte (start_of directory) i text a b out directory_put;
       size = omega (arith, behind, long, directory_put.size, first.size, second.size);
     }
@@ -120,7 +120,7 @@ module _ (directory : Extent) (text : List ℕ) (live : Table) (slots : Slots) (
     abbrev file : List ℕ
     file = store.content
 
-    pub keeps : Keeps es old file
+    pub keeps : KeepsAll es old file
     keeps k x inside =
         let e = get_or es k x in
         let high = (founding.placed k x inside).behind in

@@ -12,7 +12,7 @@ use Rattle.geos_model.specs.Image.{body_of, body_read}
 use Rattle.geos_model.specs.File.{bytes_in, pages_of, directory_text}
 use Rattle.geos_model.proofs.Files.{length-directory}
 use Rattle.geos_model.specs.declared.file.Extent.{Extent}
-use Rattle.vm_file.specs.Ranges.{IsPlaced, end_of, Keeps}
+use Rattle.vm_file.specs.Ranges.{IsPlaced, end_of, KeepsAll}
 use Rattle.vm_file.specs.Slots.{block_extents}
 use Rattle.vm_file.specs.Documents.{block_in, blocks_in, document_in, entries_of, directory_of_table, IsImaged, AreImaged}
 use Rattle.vm_file.specs.Disk.{Drifts}
@@ -71,7 +71,7 @@ module _ (source old c d : List ℕ) (honest : Type 0) (ps : List (Option Place)
     ends : All (λ e. end_of e ≤ 512 * page) (block_extents ls)
     ends = extents_of (λ e. end_of e ≤ 512 * page) ls (ends_before 2 ps)
 
-    keeps : Keeps (block_extents ls) c d
+    keeps : KeepsAll (block_extents ls) c d
     keeps k x inside =
         let e = get_or (block_extents ls) k x in
         let low = ends k x inside in

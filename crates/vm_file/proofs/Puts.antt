@@ -8,7 +8,7 @@ use Rattle.geos_model.specs.File.{bytes_in}
 use Rattle.geos_model.specs.declared.file.Extent.{Extent}
 use Rattle.geos_model.specs.declared.handle.VmHandle.{VmHandle}
 use Rattle.geos_model.proofs.Tables.{slot_at}
-use Rattle.vm_file.specs.Ranges.{IsPlaced, Keeps}
+use Rattle.vm_file.specs.Ranges.{IsPlaced, KeepsAll}
 use Rattle.vm_file.specs.Slots.{block_extents, stored_extents, pair_extents, held_extents, kept_extents, Leaves}
 use Rattle.vm_file.specs.Documents.{IsImaged, AreImaged}
 use Rattle.vm_file.specs.Calls.{IsPut, put_all, remove_all}
@@ -75,7 +75,7 @@ module _ {S : Type 0} (facts : S → StoreFacts) (a b : S) (live : Table) (slots
   leaves : IsTrue (facts a).honest → Leaves (facts b) slots (facts a).content
   leaves so = (spared so).leaves (facts a).content (sound.whole so).leaves
 
-  kept : IsTrue (facts a).honest → Keeps (block_extents live.places.items) (facts a).content (facts b).content
+  kept : IsTrue (facts a).honest → KeepsAll (block_extents live.places.items) (facts a).content (facts b).content
   kept so = (spared so).keeps (sound.whole so).within
 
   images : IsTrue (facts a).honest → AreImaged (facts b).content live.places.items

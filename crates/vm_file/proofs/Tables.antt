@@ -15,7 +15,7 @@ use Rattle.geos_model.specs.declared.file.Extent.{Extent}
 use Rattle.geos_model.proofs.FileDocuments.{bytes_in-keeps}
 use Rattle.geos_model.proofs.Table.{table_map}
 use Rattle.geos_model.proofs.Tables.{slot_at, slot_at_within, get-table_map_at, get-table_map_below, table_map-set, table_map-clear}
-use Rattle.vm_file.specs.Ranges.{end_of, Keeps}
+use Rattle.vm_file.specs.Ranges.{end_of, KeepsAll}
 use Rattle.vm_file.specs.Slots.{block_extents}
 use Rattle.vm_file.specs.Documents.{block_in, blocks_in, IsImaged, AreImaged}
 use Rattle.vm_file.specs.Disk.{Drifts}
@@ -129,7 +129,7 @@ places_drift honest file c places map_block same = record {
 }
 
 -- the blocks of places, where the bytes of their extents are the same
-pub blocks_same : (file c : List ℕ) (places : List (Option Place)) → All (λ e. end_of e ≤ length file) (block_extents places) → Keeps (block_extents places) file c → blocks_in c places ≡ blocks_in file places
+pub blocks_same : (file c : List ℕ) (places : List (Option Place)) → All (λ e. end_of e ≤ length file) (block_extents places) → KeepsAll (block_extents places) file c → blocks_in c places ≡ blocks_in file places
 blocks_same file c [] within keeps = refl
 blocks_same file c (None ∷ places) within keeps = ap (λ (t : List (Option Block)). None ∷ t) (blocks_same file c places within keeps)
 blocks_same file c (Some place ∷ places) within keeps =
@@ -144,7 +144,7 @@ imaged_same file c place same was = record {
   kind = was.kind ∙ ap (λ bytes. is_heap_body (body_read bytes)) (sym same);
 }
 
-pub images_same : (file c : List ℕ) (places : List (Option Place)) → All (λ e. end_of e ≤ length file) (block_extents places) → Keeps (block_extents places) file c → AreImaged file places → AreImaged c places
+pub images_same : (file c : List ℕ) (places : List (Option Place)) → All (λ e. end_of e ≤ length file) (block_extents places) → KeepsAll (block_extents places) file c → AreImaged file places → AreImaged c places
 images_same file c [] within keeps are k d inside = absurd (omega arith)
 images_same file c (None ∷ places) within keeps are zero d inside = tt
 images_same file c (None ∷ places) within keeps are (suc k) d inside = images_same file c places within keeps (λ i x low. are (suc i) x (omega arith)) k d (omega arith)

@@ -2,7 +2,7 @@
 use Rattle.std.specs.Prelude.{◌⊎◌, ℕ, ◌+◌, ◌*◌, ◌≤◌, List, All}
 use Rattle.geos_model.specs.File.{end_page, last_page}
 use Rattle.geos_model.specs.declared.file.Extent.{Extent}
-pub use Rattle.geos_model.specs.FileLaws.{Keeps as SameIn}
+pub use Rattle.geos_model.specs.FileLaws.{Keeps}
 
 -- where an extent begins; pages have 512 bytes
 abbrev pub start_of : Extent → ℕ
@@ -20,8 +20,8 @@ pub record IsPlaced (e : Extent) : Type 0 where
   pub short : e.length ≤ 65521
 
 -- the bytes of each of these extents stay
-abbrev pub Keeps : List Extent → List ℕ → List ℕ → Type 0
-Keeps extents file c = All (SameIn file c) extents
+abbrev pub KeepsAll : List Extent → List ℕ → List ℕ → Type 0
+KeepsAll extents file c = All (Keeps file c) extents
 
 -- n bytes at a place are apart from those that begin and end there
 abbrev pub IsOut : ℕ → ℕ → ℕ → ℕ → Type 0

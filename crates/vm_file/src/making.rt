@@ -1,6 +1,6 @@
 // The making of a file.
 ghost use Rattle.std.specs.Prelude.{◌≡◌, ◌≢◌, ◌≤◌, ℕ, List, [], ◌∷◌, IsTrue, OnOk, IfOk, IfErr, IsErrOf, None, replicate, length};
-ghost use Rattle.vm_file.specs.Slots.{mark};
+ghost use Rattle.geos_model.specs.File.{slot_mark};
 ghost use Rattle.vm_store.specs.Facts.{IsDurable, Puts, Counts, Raised};
 ghost use Rattle.geos_model.specs.Document.{most_blocks};
 ghost use Rattle.vm_file.specs.Calls.{IsSupply};
@@ -83,7 +83,7 @@ fn write_slots<S: Store>(store: &mut S, directory: Extent) -> Result<(), StoreFa
     ensures honest { (S.facts store.new).honest ≡ (S.facts store.old).honest }
     ensures failures { Counts result (S.facts store.old) (S.facts store.new) }
     ensures first { OnOk result (IsTrue (S.facts store.old).honest
-        → (c : List ℕ) × Puts 0 (first_slot directory) (S.facts store.old).content c × Puts 512 mark c (S.facts store.new).content) }
+        → (c : List ℕ) × Puts 0 (first_slot directory) (S.facts store.old).content c × Puts 512 slot_mark c (S.facts store.new).content) }
     ensures durable { OnOk result (IsTrue (S.facts store.old).honest → IsDurable (S.facts store.new)) }
 {
     store.write_at(0, &first_slot_bytes(directory))?;
