@@ -1,7 +1,7 @@
 -- Calls that write nothing that the slots stand on: what they stand for is carried on to the store as it is then.
 use Rattle.std.proofs.Common.{◌≡◌, ◌⊎◌, ◌≤◌, IsTrue, All, refl, sym, ap, subst, inl, inr}
 use Rattle.vm_store.specs.Facts.{StoreFacts}
-use Rattle.vm_file.specs.Ranges.{Keeps}
+use Rattle.vm_file.specs.Ranges.{KeepsAll}
 use Rattle.vm_file.specs.Slots.{block_extents, kept_extents, Outcome, Leaves, Outlives}
 use Rattle.vm_file.specs.Documents.{Documents, documents_in, attempted_in, AreImaged, AreStored, IsHeldStored}
 use Rattle.vm_file.specs.Disk.{readable, StandsForOne, Passes}
@@ -17,7 +17,7 @@ use Rattle.vm_file.proofs.Steps.{leaves_rebased}
 module _ {S : Type 0} (facts : S → StoreFacts) (a b : S) (live : Table) (slots : Slots) (sound : IsSound (facts a) live slots) (honest : (facts b).honest ≡ (facts a).honest)
     (before : IsTrue (facts a).honest → (facts a).may_leave (facts a).content) (now : IsTrue (facts b).honest → (facts b).may_leave (facts b).content)
     (leaves : IsTrue (facts a).honest → Leaves (facts b) slots (facts a).content) where
-  kept : IsTrue (facts a).honest → Keeps (kept_extents slots) (facts a).content (facts b).content
+  kept : IsTrue (facts a).honest → KeepsAll (kept_extents slots) (facts a).content (facts b).content
   kept so = outcome_keeps slots (facts a).content (facts b).content (leaves so (facts b).content (now (subst IsTrue (sym honest) so)))
 
   committed : IsTrue (facts a).honest → AreStored (facts b).content slots.committed × (documents_in (facts b).content slots.committed ≡ documents_in (facts a).content slots.committed)

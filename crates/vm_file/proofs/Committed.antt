@@ -6,7 +6,7 @@ use Rattle.vm_store.specs.Facts.{StoreFacts, Torn, Counts}
 use Rattle.geos_model.specs.Document.{Block}
 use Rattle.geos_model.specs.declared.fault.Fault.{Fault}
 use Rattle.geos_model.proofs.Table.{table_map}
-use Rattle.vm_file.specs.Ranges.{IsPlaced, Keeps, end_of}
+use Rattle.vm_file.specs.Ranges.{IsPlaced, KeepsAll, end_of}
 use Rattle.vm_file.specs.Slots.{turned, FailedEarly, Failed, Outcome, Leaves, Outlives, AreKept, block_extents, stored_extents, pair_extents, kept_extents}
 use Rattle.vm_file.specs.Documents.{Documents, document_in, documents_in, attempted_in, AreImaged, AreStored, IsHeldStored}
 use Rattle.vm_file.specs.Disk.{readable, StandsForOne, Crash, AddsNothing, Commits}
@@ -33,8 +33,8 @@ pub whole_has : (store : StoreFacts) (live : Table) (slots : Slots) → IsWhole 
 whole_has store live slots whole = record { images = whole.images; within = whole.within; committed = whole.committed; held = whole.held }
 
 -- The file is whole again, and so are its documents, after calls that keep the bytes.
-module _ (file : List ℕ) (b : StoreFacts) (live : Table) (slots : Slots) (now : b.may_leave b.content) (has : HasAll file live slots) (keeps : Keeps (block_extents live.places.items) file b.content) (leaves : Leaves b slots file) where
-  kept : Keeps (kept_extents slots) file b.content
+module _ (file : List ℕ) (b : StoreFacts) (live : Table) (slots : Slots) (now : b.may_leave b.content) (has : HasAll file live slots) (keeps : KeepsAll (block_extents live.places.items) file b.content) (leaves : Leaves b slots file) where
+  kept : KeepsAll (kept_extents slots) file b.content
   kept = outcome_keeps slots file b.content (leaves b.content now)
 
   committed_now : AreStored b.content slots.committed × (documents_in b.content slots.committed ≡ documents_in file slots.committed)
@@ -157,8 +157,8 @@ pub record IsCommit {S : Type 0} (facts : S → StoreFacts) (a b : S) (live : Ta
   pub failures : (facts a).failures ≤ (facts b).failures
   pub now_there : IsTrue (facts b).honest → (facts b).may_leave (facts b).content
   pub elsewhere : IsTrue (facts a).honest → Torn 0 1024 (facts a).content (facts b).content
-  pub crash : IsTrue (facts a).honest → Leaves (facts a) slots (facts a).content → Keeps (pair_extents pair) (facts a).content (facts a).content → Outlives (facts a) (facts b) (facts a).content (λ s. Failed slots pair s)
-  pub leaves : IsTrue (facts a).honest → Leaves (facts a) slots (facts a).content → Keeps (pair_extents pair) (facts a).content (facts a).content → Leaves (facts b) now (facts a).content
+  pub crash : IsTrue (facts a).honest → Leaves (facts a) slots (facts a).content → KeepsAll (pair_extents pair) (facts a).content (facts a).content → Outlives (facts a) (facts b) (facts a).content (λ s. Failed slots pair s)
+  pub leaves : IsTrue (facts a).honest → Leaves (facts a) slots (facts a).content → KeepsAll (pair_extents pair) (facts a).content (facts a).content → Leaves (facts b) now (facts a).content
 
 -- The pair is held, or a crash left nothing of it.
 abbrev pub FailsEarly : Slots → Pair → Slots → StoreFacts → StoreFacts → Type 0
@@ -170,7 +170,7 @@ counts_rise (Ok x) a b same = omega (arith, same)
 counts_rise (Err x) a b more = omega (arith, more)
 
 module _ {S : Type 0} (facts : S → StoreFacts) (a b : S) (live : Table) (slots now : Slots) (pair : Pair) (call : IsCommit facts a b live slots now pair) where
-  pair_there : IsTrue (facts a).honest → Keeps (pair_extents pair) (facts a).content (facts a).content
+  pair_there : IsTrue (facts a).honest → KeepsAll (pair_extents pair) (facts a).content (facts a).content
   pair_there so =
       let updated = stored_within (facts a).content pair.updated (call.stored so).updated in
       let saved = stored_within (facts a).content pair.saved (call.stored so).saved in
@@ -178,7 +178,7 @@ module _ {S : Type 0} (facts : S → StoreFacts) (a b : S) (live : Table) (slots
       (All-cons (λ e. end_of e ≤ length (facts a).content) pair.updated.directory (block_extents pair.updated.table.places.items) updated.0 updated.1)
       (All-cons (λ e. end_of e ≤ length (facts a).content) pair.saved.directory (block_extents pair.saved.table.places.items) saved.0 saved.1))
 
-  live_kept : IsTrue (facts a).honest → Keeps (block_extents live.places.items) (facts a).content (facts b).content
+  live_kept : IsTrue (facts a).honest → KeepsAll (block_extents live.places.items) (facts a).content (facts b).content
   live_kept so = slots_keep (block_extents live.places.items) (facts a).content (facts a).content (facts b).content call.formed.placed (call.elsewhere so) (keeps_itself (block_extents live.places.items) (facts a).content (call.whole so).within)
 
   left : IsTrue (facts a).honest → Leaves (facts b) now (facts a).content

@@ -10,14 +10,14 @@ use Rattle.byteorder.specs.Numbers.{little_number-reads_back}
 use Rattle.vm_store.specs.Facts.{byte, Holds}
 use Rattle.geos_model.specs.Bytes.{same_bytes}
 use Rattle.geos_model.specs.Words.{word_at, quad_word_at}
-use Rattle.geos_model.specs.File.{slot_of, slot_mark, slot_read, if_open, open_slot, counting_slot, pair_of_counting, stands}
+use Rattle.geos_model.specs.File.{extent_text, slot_of, slot_mark, slot_read, if_open, open_slot, counting_slot, pair_of_counting, stands}
 use Rattle.geos_model.specs.declared.fault.Fault.{Fault}
 use Rattle.geos_model.specs.declared.file.Slot.{Slot}
 use Rattle.geos_model.proofs.Arrays.{same_bytes-is}
 use Rattle.geos_model.proofs.Files.{some_if, get_or_same}
 use Rattle.geos_model.proofs.Numbers.{number_law}
 use Rattle.vm_file.specs.Ranges.{end_of}
-use Rattle.vm_file.specs.Slots.{gate_text, extent_bytes, pair_extents, Leads, IsUnmarked, IsOlder, IsBeside}
+use Rattle.vm_file.specs.Slots.{gate_text, pair_extents, Leads, IsUnmarked, IsOlder, IsBeside}
 use Rattle.vm_file.specs.Opened.{IsFace, IsFound, Beaten}
 use Rattle.vm_file.specs.declared.reading.Face.{Face}
 use Rattle.vm_file.specs.declared.slots.Pair.{Pair}
@@ -144,13 +144,13 @@ slot_leads file page s pair within small was good inside =
     let number : word_at bytes 6 ≡ 0 = sym (ap (λ x. x.reserved) one.read) ∙ good.reserved in
     let zeros : Holds file (n + 6) (0 ∷ 0 ∷ []) = subst (λ m. Holds file (n + 6) (little_bytes 2 m)) number (held 6 2 (omega arith)) in
     let sequence : Holds file (n + 8) (little_bytes 8 s.sequence) = subst (λ x. Holds file (n + 8) (little_bytes 8 x.sequence)) (sym one.read) (held 8 8 (omega arith)) in
-    let working : Holds file (n + 16) (extent_bytes pair.updated.directory) =
-    subst (λ e. Holds file (n + 16) (extent_bytes e)) (sym (good.updated ∙ ap (λ x. x.working) one.read)) (holds_append file (n + 16) (little_bytes 4 (little_number 4 (drop 16 bytes))) (little_bytes 4 (little_number 4 (drop 20 bytes))) (held 16 4 (omega arith)) (held_at file (n + 20) (n + 16 + 4) _ (omega arith) (held 20 4 (omega arith)))) in
-    let saved : Holds file (n + 24) (extent_bytes pair.saved.directory) =
-    subst (λ e. Holds file (n + 24) (extent_bytes e)) (sym (good.saved ∙ ap (λ x. x.saved) one.read)) (holds_append file (n + 24) (little_bytes 4 (little_number 4 (drop 24 bytes))) (little_bytes 4 (little_number 4 (drop 28 bytes))) (held 24 4 (omega arith)) (held_at file (n + 28) (n + 24 + 4) _ (omega arith) (held 28 4 (omega arith)))) in
-    let both = holds_append file (n + 16) (extent_bytes pair.updated.directory) (extent_bytes pair.saved.directory) working (held_at file (n + 24) (n + 16 + 8) _ (omega arith) saved) in
-    let numbers = holds_append file (n + 8) (little_bytes 8 s.sequence) (extent_bytes pair.updated.directory ++ extent_bytes pair.saved.directory) sequence (held_at file (n + 16) (n + 8 + 8) _ (omega arith) both) in
-    let behind = holds_append file (n + 6) (0 ∷ 0 ∷ []) (little_bytes 8 s.sequence ++ extent_bytes pair.updated.directory ++ extent_bytes pair.saved.directory) zeros (held_at file (n + 8) (n + 6 + 2) _ (omega arith) numbers) in (
+    let working : Holds file (n + 16) (extent_text pair.updated.directory) =
+    subst (λ e. Holds file (n + 16) (extent_text e)) (sym (good.updated ∙ ap (λ x. x.working) one.read)) (holds_append file (n + 16) (little_bytes 4 (little_number 4 (drop 16 bytes))) (little_bytes 4 (little_number 4 (drop 20 bytes))) (held 16 4 (omega arith)) (held_at file (n + 20) (n + 16 + 4) _ (omega arith) (held 20 4 (omega arith)))) in
+    let saved : Holds file (n + 24) (extent_text pair.saved.directory) =
+    subst (λ e. Holds file (n + 24) (extent_text e)) (sym (good.saved ∙ ap (λ x. x.saved) one.read)) (holds_append file (n + 24) (little_bytes 4 (little_number 4 (drop 24 bytes))) (little_bytes 4 (little_number 4 (drop 28 bytes))) (held 24 4 (omega arith)) (held_at file (n + 28) (n + 24 + 4) _ (omega arith) (held 28 4 (omega arith)))) in
+    let both = holds_append file (n + 16) (extent_text pair.updated.directory) (extent_text pair.saved.directory) working (held_at file (n + 24) (n + 16 + 8) _ (omega arith) saved) in
+    let numbers = holds_append file (n + 8) (little_bytes 8 s.sequence) (extent_text pair.updated.directory ++ extent_text pair.saved.directory) sequence (held_at file (n + 16) (n + 8 + 8) _ (omega arith) both) in
+    let behind = holds_append file (n + 6) (0 ∷ 0 ∷ []) (little_bytes 8 s.sequence ++ extent_text pair.updated.directory ++ extent_text pair.saved.directory) zeros (held_at file (n + 8) (n + 6 + 2) _ (omega arith) numbers) in (
       sym (at 4 (omega arith)) ∙ one.gate,
       record {
         marked = record {
@@ -159,8 +159,8 @@ slot_leads file page s pair within small was good inside =
               let less : i < 4 = omega (arith, low) in
               sym (at i (omega arith)) ∙ sym (get_or-take 4 bytes i 0 less) ∙ ap (λ xs. byte xs i) one.marked;
         };
-        rest = holds_append file (n + 5) (1 ∷ []) (0 ∷ 0 ∷ little_bytes 8 s.sequence ++ extent_bytes pair.updated.directory ++ extent_bytes pair.saved.directory) (holds_byte file (n + 5) 1 (omega (arith, within)) version) (held_at file (n + 6) (n + 5 + 1) _ (omega arith) behind);
-        kept = λ k d low. record { within = inside k d low; each = λ i less. refl };
+        rest = holds_append file (n + 5) (1 ∷ []) (0 ∷ 0 ∷ little_bytes 8 s.sequence ++ extent_text pair.updated.directory ++ extent_text pair.saved.directory) (holds_byte file (n + 5) 1 (omega (arith, within)) version) (held_at file (n + 6) (n + 5 + 1) _ (omega arith) behind);
+        kept = λ k d low. record { within = inside k d low; bytes = λ i from to. refl };
       },
     )
 

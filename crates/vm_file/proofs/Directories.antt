@@ -1,6 +1,5 @@
 -- The directory in an extent of a file that was read.
-use Rattle.std.proofs.Common.{◌≡◌, ℕ, ◌+◌, ◌*◌, ◌≤◌, true, List, length, drop, Option, None, Some, Result, Ok, Err, sym, ap, ap₂, subst, ◌∙◌, arith, length-take, length-drop}
-use Rattle.std.specs.Prelude.{IfOk}
+use Rattle.std.proofs.Common.{◌≡◌, ℕ, ◌+◌, ◌*◌, ◌≤◌, true, List, length, drop, Option, None, Some, sym, ap, ap₂, subst, ◌∙◌, arith, length-take, length-drop}
 use Rattle.std.proofs.lemmas.Bool.{cond-true}
 use Rattle.geos_model.specs.File.{Directory, bytes_in, is_in_file, is_directory, directory_in, directory_of}
 use Rattle.geos_model.specs.declared.file.Extent.{Extent}
@@ -8,10 +7,6 @@ use Rattle.geos_model.proofs.Files.{length-directory, directory_in-some}
 use Rattle.geos_model.proofs.FileDocuments.{directory_of-some, is_in_file-from, is_in_file-parts}
 use Rattle.vm_file.specs.Opened.{IsDirectoryPlace}
 use Rattle.vm_file.proofs.BodyImages.{none_if}
-
-pub on_ok : {T E : Type 0} (P Q : T → Type 0) (r : Result T E) → ((x : T) → P x → Q x) → IfOk r P → IfOk r Q
-on_ok P Q (Ok x) give is = give x is
-on_ok P Q (Err e) give is = tt
 
 -- a directory in a file lies where one can
 directory_place : (file : List ℕ) (e : Extent) (d : Directory) → directory_of file e ≡ Some d → IsDirectoryPlace (length file) e

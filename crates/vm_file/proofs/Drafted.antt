@@ -1,5 +1,5 @@
 -- A directory that is written where nothing lies that stays.
-use Rattle.std.proofs.Common.{◌≡◌, ◌⊎◌, ℕ, ◌≤◌, IsTrue, List, ◌++◌, length, get_or, All, sym, ap, subst, ◌∙◌, inl, inr}
+use Rattle.std.proofs.Common.{◌≡◌, ◌⊎◌, ℕ, ◌≤◌, IsTrue, List, ◌++◌, length, get_or, All, sym, ap, subst, ◌∙◌, arith, inl, inr}
 use Rattle.std.proofs.lemmas.List.Elements.{All-cons, All-append}
 use Rattle.std.specs.List.Sorted.{IsPermutation}
 use Rattle.std.proofs.lemmas.List.Sorted.{All-permutation, IsPermutation-sym}
@@ -8,7 +8,7 @@ use Rattle.vm_file.proofs.Found.{apart_out}
 use Rattle.vm_store.specs.Facts.{StoreFacts, Torn, Holds}
 use Rattle.geos_model.specs.declared.file.Extent.{Extent}
 use Rattle.geos_model.proofs.Table.{table_map}
-use Rattle.vm_file.specs.Ranges.{IsPlaced, Keeps, start_of, end_of, IsOut, IsClear}
+use Rattle.vm_file.specs.Ranges.{IsPlaced, KeepsAll, start_of, end_of, IsOut, IsClear}
 use Rattle.vm_file.specs.Slots.{Leaves, Outlives, block_extents, stored_extents, pair_extents, held_extents, kept_extents}
 use Rattle.vm_file.specs.Documents.{document_in, documents_in, AreImaged, IsStored, AreStored}
 use Rattle.vm_file.specs.Disk.{Passes}
@@ -41,7 +41,7 @@ pub record IsWriting {S : Type 0} (facts : S → StoreFacts) (a b : S) (live : T
   pub leaves : IsTrue (facts a).honest → Leaves (facts a) slots (facts a).content → Leaves (facts b) slots (facts a).content
 
 module _ {S : Type 0} (facts : S → StoreFacts) (a b : S) (live : Table) (slots : Slots) (draft : Draft) (call : IsWriting facts a b live slots draft) where
-  live_keeps : IsTrue (facts a).honest → Keeps (block_extents live.places.items) (facts a).content (facts b).content
+  live_keeps : IsTrue (facts a).honest → KeepsAll (block_extents live.places.items) (facts a).content (facts b).content
   live_keeps so =
       let clear = (clear_parts (start_of draft.stored.directory) draft.stored.directory.length (block_extents live.places.items) (kept_extents slots) call.is_draft.clear).0 in
       torn_keeps (start_of draft.stored.directory) draft.stored.directory.length (block_extents live.places.items) (facts a).content (facts a).content (facts b).content clear (call.elsewhere so)
@@ -119,12 +119,12 @@ taken_placed live slots taken formed all =
     All-permutation IsPlaced (block_extents live.places.items ++ kept_extents slots) taken all (All-append IsPlaced (block_extents live.places.items) (kept_extents slots) formed.placed formed.kept)
 
 pub are_extents : (taken : List Extent) → All IsPlaced taken → AreExtents taken
-are_extents taken placed k d inside = let one = placed k d inside in (one.behind, (one.some, one.short))
+are_extents taken placed k d inside = let one = placed k d inside in let short = one.short in (one.behind, (one.some, omega (arith, short)))
 
 pub room_clear : (all taken : List Extent) (n : ℕ) (e : Extent) → IsPermutation all taken → IsFirstFit taken n e → IsClear (start_of e) e.length all
 room_clear all taken n e perm fits =
     All-permutation (λ x. IsOut (start_of e) e.length (start_of x) (end_of x)) taken all (IsPermutation-sym all taken perm)
     (λ k d inside. subst (λ m. IsOut (start_of e) m (start_of (get_or taken k d)) (end_of (get_or taken k d))) (sym fits.length_is) (apart_out e.page n (get_or taken k d) (fits.free k d inside)))
 
-pub room_placed : (taken : List Extent) (n : ℕ) (e : Extent) → 1 ≤ n → n ≤ 65536 → IsFirstFit taken n e → IsPlaced e
-room_placed taken n e some short fits = record { behind = fits.behind_slots; within = fits.in_reach; some = subst (λ m. 1 ≤ m) (sym fits.length_is) some; short = subst (λ m. m ≤ 65536) (sym fits.length_is) short }
+pub room_placed : (taken : List Extent) (n : ℕ) (e : Extent) → 1 ≤ n → n ≤ 65521 → IsFirstFit taken n e → IsPlaced e
+room_placed taken n e some short fits = record { behind = fits.behind_slots; within = fits.in_reach; some = subst (λ m. 1 ≤ m) (sym fits.length_is) some; short = subst (λ m. m ≤ 65521) (sym fits.length_is) short }

@@ -1,6 +1,6 @@
 -- What the making of a file leaves.
 use Rattle.std.proofs.Common.{◌≡◌, ◌≢◌, ◌⊎◌, ℕ, zero, suc, ◌+◌, ◌-◌, ◌*◌, ◌<◌, ◌≤◌, true, Bool, IsTrue, List, [], ◌∷◌, ◌++◌, All, length, get_or, is_some, Option, None, Some, refl, sym, ap, subst, ◌∙◌, arith, inl, inr}
-use Rattle.std.specs.Prelude.{if◌then◌else◌, Result, Ok, Err, OnOk, IfSome, replicate}
+use Rattle.std.specs.Prelude.{if◌then◌else◌, IfSome, replicate}
 use Rattle.std.specs.FinMap.{from_entries}
 use Rattle.std.proofs.lemmas.List.{append-nil, length-replicate}
 use Rattle.std.proofs.lemmas.List.Elements.{All-nil, All-cons, All-append, All-replicate}
@@ -8,13 +8,13 @@ use Rattle.vm_store.specs.Facts.{StoreFacts, byte, Holds, Puts, IsDurable}
 use Rattle.vm_store.specs.Laws.{Holds-Puts}
 use Rattle.geos_model.specs.Document.{empty_document}
 use Rattle.geos_model.proofs.Table.{table_entries, table_map}
-use Rattle.geos_model.specs.File.{directory_of, directory_text}
+use Rattle.geos_model.specs.File.{slot_mark, directory_of, directory_text}
 use Rattle.geos_model.specs.declared.file.Extent.{Extent}
-use Rattle.vm_file.specs.Ranges.{IsPlaced, start_of, end_of, Keeps, IsOut, IsClear}
-use Rattle.vm_file.specs.Slots.{mark, gate_text, block_extents, stored_extents, pair_extents, held_extents, IsBeside, Leads, Outcome}
+use Rattle.vm_file.specs.Ranges.{IsPlaced, start_of, end_of, KeepsAll, IsOut, IsClear}
+use Rattle.vm_file.specs.Slots.{gate_text, block_extents, stored_extents, pair_extents, held_extents, IsBeside, Leads, Outcome}
 use Rattle.vm_file.specs.Documents.{blocks_in, document_in, attempted_in, entries_of, directory_of_table, IsImaged, AreImaged, IsStored, IsHeldStored}
 use Rattle.vm_file.specs.Sound.{IsTable, IsHeldFormed, IsFormed, IsWhole, IsSound}
-use Rattle.vm_file.specs.Making.{first_slot, IsLaid, IsLiveStored, IsFirst, IsFounding, IsOne}
+use Rattle.vm_file.specs.Making.{first_directory, no_blocks, first_slot, IsLaid, IsLiveStored, IsFirst, IsFounding, IsOne}
 use Rattle.vm_file.specs.declared.table.Place.{Place}
 use Rattle.vm_file.specs.declared.table.Table.{Table}
 use Rattle.vm_file.specs.declared.slots.Stored.{Stored}
@@ -46,20 +46,20 @@ unfolding gate_text
 gate_long directory = refl
 
 -- The directory is put, and then the slots.
-pub slots_laid : (directory : Extent) (text a b c d : List ℕ) → 2 ≤ directory.page → Puts (start_of directory) text a b → Puts 0 (first_slot directory) b c → Puts 512 mark c d → IsLaid 0 directory text a d
+pub slots_laid : (directory : Extent) (text a b c d : List ℕ) → 2 ≤ directory.page → Puts (start_of directory) text a b → Puts 0 (first_slot directory) b c → Puts 512 slot_mark c d → IsLaid 0 directory text a d
 slots_laid directory text a b c d behind directory_put first second =
     let long = first_long directory in
     let rest = gate_long directory in
     let there = Holds-Puts 0 (first_slot directory) b c first in
     let text_there = Holds-Puts (start_of directory) text a b directory_put in
     let gate : List ℕ = gate_text 1 directory directory in
-    let P : List ℕ → Type 0 = λ xs. Holds c 0 (mark ++ 0 ∷ xs) in
+    let P : List ℕ → Type 0 = λ xs. Holds c 0 (slot_mark ++ 0 ∷ xs) in
     record {
       gate_is = second.below 4 (omega arith) ∙ first.each 4 (omega (arith, long));
-      marked = put_holds 512 0 mark mark c d (inl (omega arith)) second (holds_part c 0 [] mark (0 ∷ gate) there);
-      rest = put_holds 512 5 mark gate c d (inl (omega (arith, rest))) second (holds_part c 0 (mark ++ 0 ∷ []) gate [] (subst P (sym (append-nil gate)) there));
+      marked = put_holds 512 0 slot_mark slot_mark c d (inl (omega arith)) second (holds_part c 0 [] slot_mark (0 ∷ gate) there);
+      rest = put_holds 512 5 slot_mark gate c d (inl (omega (arith, rest))) second (holds_part c 0 (slot_mark ++ 0 ∷ []) gate [] (subst P (sym (append-nil gate)) there));
       beside = second.above 516 (omega arith) ∙ first.above 516 (omega (arith, long)) ∙ directory_put.below 516 (omega (arith, behind));
-      there = put_holds 512 (start_of directory) mark text c d (inr (omega (arith, behind))) second (put_holds 0 (start_of directory) (first_slot directory) text b c (inr (omega (arith, behind, long))) first text_there);
+      there = put_holds 512 (start_of directory) slot_mark text c d (inr (omega (arith, behind))) second (put_holds 0 (start_of directory) (first_slot directory) text b c (inr (omega (arith, behind, long))) first text_there);
       others = λ i high out. second.above i (omega arith) ∙ first.above i (omega (arith, long)) ∙ put_byte (start_of directory) i text a b out directory_put;
       size = omega (arith, behind, long, directory_put.size, first.size, second.size);
     }
@@ -120,13 +120,13 @@ module _ (directory : Extent) (text : List ℕ) (live : Table) (slots : Slots) (
     abbrev file : List ℕ
     file = store.content
 
-    pub keeps : Keeps es old file
+    pub keeps : KeepsAll es old file
     keeps k x inside =
         let e = get_or es k x in
         let high = (founding.placed k x inside).behind in
         record {
           within = omega (arith, lying.within k x inside, laid.size);
-          each = λ i low. laid.others (start_of e + i) (omega (arith, high)) (elim (founding.clear k x inside) as (λ _. (start_of e + i < start_of directory) ⊎ (start_of directory + length text ≤ start_of e + i)) [
+          bytes = λ i low under. laid.others i (omega (arith, high, low)) (elim (founding.clear k x inside) as (λ _. (i < start_of directory) ⊎ (start_of directory + length text ≤ i)) [
             | inl before ↦ inl (omega arith)
             | inr behind ↦ inr (omega (arith, founding.size))
           ]);
@@ -178,10 +178,6 @@ module _ (directory : Extent) (text : List ℕ) (live : Table) (slots : Slots) (
   pub first_sound : (store : StoreFacts) (old : List ℕ) → (IsTrue store.honest → AreLying live old × IsLaid 1 directory text old store.content × IsDurable store) → IsSound store live slots
   first_sound store old made = record { formed = formed; whole = λ so. let all = made so in whole store old all.0 all.1 all.2 }
 
-pub on_ok : {T E A B : Type 0} (r : Result T E) → (A → B) → OnOk r A → OnOk r B
-on_ok (Ok x) from a = from a
-on_ok (Err e) from a = tt
-
 -- A file of no block.
 
 none_extents : (n : ℕ) → block_extents (replicate n None) ≡ []
@@ -207,14 +203,16 @@ empty_shown file n live is =
     let none : table_entries 1 1 (blocks_in file live.places.items) ≡ [] = ap (λ ps. table_entries 1 1 (blocks_in file ps)) is.places ∙ none_listed file 1 n in
     λ i. record { blocks = from_entries (none i); map_block = is.map_block i }
 
-abbrev pub first_directory : Extent
-first_directory = record { page = 2; length = 16 }
+pub empty_listed : (n : ℕ) (live : Table) → IsEmpty n live → directory_of_table live ≡ no_blocks
+empty_listed n live is =
+    let no_entries : entries_of 1 live.places.items ≡ [] = ap (entries_of 1) is.places ∙ none_entries 1 n in
+    λ i. record { map_block = is.map_block i; entries = no_entries i }
 
-pub empty_founding : (text : List ℕ) (n : ℕ) (live : Table) → n ≡ 2048 → IsEmpty n live → text ≡ directory_text (record { map_block = 0; entries = [] }) → IsFounding first_directory text live
+pub empty_founding : (text : List ℕ) (n : ℕ) (live : Table) → n ≡ 2048 → IsEmpty n live → text ≡ directory_text no_blocks → IsFounding first_directory text live
 empty_founding text n live all is text_is =
     let no_extents : block_extents live.places.items ≡ [] = ap block_extents is.places ∙ none_extents n in
-    let no_entries : entries_of 1 live.places.items ≡ [] = ap (entries_of 1) is.places ∙ none_entries 1 n in
-    let same : directory_of_table live ≡ record { map_block = 0; entries = [] } = λ i. record { map_block = is.map_block i; entries = no_entries i } in
+    let no_entries = ap (λ d. d.entries) (empty_listed n live is) in
+    let same = empty_listed n live is in
     record {
       table = record { size = ap length is.places ∙ length-replicate {A = Option Place} n None ∙ all; map_block = inl is.map_block };
       placed = subst (All IsPlaced) (sym no_extents) (All-nil IsPlaced);

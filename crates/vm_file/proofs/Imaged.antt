@@ -1,6 +1,6 @@
 -- Images of bodies.
-use Rattle.std.proofs.Common.{◌≡◌, ℕ, ◌-◌, ◌<◌, ◌≤◌, ◌==◌, Bool, true, false, not, List, drop, length, length-take, length-drop, slice_index, Option, None, Some, is_some, refl, sym, ap, subst, ◌∙◌, arith, inl, inr}
-use Rattle.std.specs.Prelude.{◌&&◌, Result, Ok, Err, IfOk}
+use Rattle.std.proofs.Common.{◌≡◌, ℕ, ◌-◌, ◌≤◌, ◌==◌, Bool, true, false, not, List, length, slice_index, Option, None, Some, is_some, refl, sym, ap, subst, ◌∙◌, arith, inl, inr}
+use Rattle.std.specs.Prelude.{◌&&◌, Result, Ok, Err, IfOk, IfSome, All}
 use Rattle.std.proofs.lemmas.Bool.{cases_Bool, cond-true, cond-false}
 use Rattle.geos_model.specs.Bytes.{same_bytes}
 use Rattle.geos_model.specs.Document.{is_valid_body, is_heap_body}
@@ -14,11 +14,12 @@ use Rattle.geos_model.specs.Document.{block_at}
 use Rattle.geos_model.specs.File.{bytes_in}
 use Rattle.geos_model.specs.declared.file.Extent.{Extent}
 use Rattle.vm_store.specs.Facts.{Holds}
-use Rattle.vm_file.specs.Ranges.{start_of}
+use Rattle.vm_file.specs.Ranges.{start_of, IsPlaced}
+use Rattle.vm_file.specs.Calls.{IsImageLength}
 use Rattle.vm_file.specs.Documents.{IsImaged, AreImaged}
 use Rattle.vm_file.specs.declared.table.Place.{Place}
-use Rattle.vm_file.proofs.Tables.{shown, each_at, block_at_is}
-use Rattle.std.proofs.lemmas.List.{ext_get_or, get_or-drop, get_or-take}
+use Rattle.vm_file.proofs.KeptBytes.{bytes_held}
+use Rattle.vm_file.proofs.Tables.{shown, each_at, block_at_is, IsPlaceOf, entry_lies}
 
 -- bytes that are the image of a body that can be
 pub record IsImage (bytes : List ℕ) : Type 0 where
@@ -61,26 +62,26 @@ image_kind bytes = elim (cases_Bool (slice_index bytes 0 == 0)) as (λ _. is_hea
 
 -- The bytes of an extent.
 
-pub holds_bytes : (file bytes : List ℕ) (e : Extent) → length bytes ≡ e.length → Holds file (start_of e) bytes → bytes_in file e ≡ bytes
-holds_bytes file bytes e size holds =
-    let n = e.length in
-    let s = start_of e in
-    let long : length (bytes_in file e) ≡ n = omega (arith, holds.within, size, length-take n (drop s file), length-drop s file) in
-    ext_get_or 0 (bytes_in file e) bytes (long ∙ sym size) (λ i l.
-    let low : i < n = omega (arith, l, long) in
-    get_or-take n (drop s file) i 0 low ∙ get_or-drop s file i 0 ∙ holds.each i (omega (arith, low, size)))
+-- the image of a block lies at its place
+lying_image : (file : List ℕ) (places : List (Option Place)) (map_block h : ℕ) (place : Place) → 1 ≤ h → slot_at places (h - 1) ≡ Some place → AreImaged file places → bytes_in file place.extent ≡ image (block_at (shown file places map_block) h).body
+lying_image file places map_block h place low at images =
+    let one = each_at (IsImaged file) places (h - 1) place at images in
+    sym (is_image (bytes_in file place.extent) (ap is_some one.image)).image ∙ ap (λ b. image b.body) (sym (block_at_is file places map_block h place low at))
+
+pub entry_image : (H : Type 0) (file : List ℕ) (places : List (Option Place)) (map_block h : ℕ) (result : Option Place) → (H → AreImaged file places) → IsPlaceOf places h result
+    → IfSome result (λ place. H → bytes_in file place.extent ≡ image (block_at (shown file places map_block) h).body)
+entry_image H file places map_block h None images is = tt
+entry_image H file places map_block h (Some place) images is = λ so. let at = entry_lies places h place is in lying_image file places map_block h place at.0 at.1 (images so)
+
+-- an extent that can be has as many bytes as an image has
+pub placed_lengths : (es : List Extent) → All IsPlaced es → All (λ e. IsImageLength e.length) es
+placed_lengths es placed k d inside = let one = placed k d inside in (one.some, one.short)
 
 -- what was read of a block
 pub read_image : (file bytes : List ℕ) (places : List (Option Place)) (map_block h : ℕ) (place : Place) → 1 ≤ h → slot_at places (h - 1) ≡ Some place → AreImaged file places → length bytes ≡ place.extent.length → Holds file (start_of place.extent) bytes
     → bytes ≡ image (block_at (shown file places map_block) h).body
 read_image file bytes places map_block h place low at images size holds =
-    let is = holds_bytes file bytes place.extent size holds in
-    let one = each_at (IsImaged file) places (h - 1) place at images in
-    sym is ∙ sym (is_image (bytes_in file place.extent) (ap is_some one.image)).image ∙ ap (λ b. image b.body) (sym (block_at_is file places map_block h place low at))
-
-pub if_ok : {T E : Type 0} (P Q : T → Type 0) (r : Result T E) → ((x : T) → P x → Q x) → IfOk r P → IfOk r Q
-if_ok P Q (Ok x) from p = from x p
-if_ok P Q (Err e) from p = tt
+    sym (bytes_held file bytes place.extent size holds) ∙ lying_image file places map_block h place low at images
 
 pub if_ok_both : {T E : Type 0} (P Q R : T → Type 0) (r : Result T E) → ((x : T) → P x → Q x → R x) → IfOk r P → IfOk r Q → IfOk r R
 if_ok_both P Q R (Ok x) from p q = from x p q

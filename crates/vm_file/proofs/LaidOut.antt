@@ -12,7 +12,7 @@ use Rattle.geos_model.specs.Image.{body_of, body_read}
 use Rattle.geos_model.specs.File.{bytes_in, pages_of, directory_text}
 use Rattle.geos_model.proofs.Files.{length-directory}
 use Rattle.geos_model.specs.declared.file.Extent.{Extent}
-use Rattle.vm_file.specs.Ranges.{IsPlaced, start_of, end_of, Keeps}
+use Rattle.vm_file.specs.Ranges.{IsPlaced, end_of, KeepsAll}
 use Rattle.vm_file.specs.Slots.{block_extents}
 use Rattle.vm_file.specs.Documents.{block_in, blocks_in, document_in, entries_of, directory_of_table, IsImaged, AreImaged}
 use Rattle.vm_file.specs.Disk.{Drifts}
@@ -22,7 +22,8 @@ use Rattle.vm_file.specs.declared.table.Table.{Table}
 use Rattle.vm_file.proofs.First.{AreLying}
 use Rattle.vm_file.specs.declared.table.Place.{Place}
 use Rattle.vm_file.proofs.Tables.{EachPlace, shown, not_live, live_is, get_none, user_id_is, extents_of, places_of, blocks_same, images_same}
-use Rattle.vm_file.proofs.Written.{bytes_held, entries_few}
+use Rattle.vm_file.proofs.KeptBytes.{bytes_held}
+use Rattle.vm_file.proofs.Written.{entries_few}
 
 -- One place more.
 
@@ -70,17 +71,17 @@ module _ (source old c d : List ℕ) (honest : Type 0) (ps : List (Option Place)
     ends : All (λ e. end_of e ≤ 512 * page) (block_extents ls)
     ends = extents_of (λ e. end_of e ≤ 512 * page) ls (ends_before 2 ps)
 
-    keeps : Keeps (block_extents ls) c d
+    keeps : KeepsAll (block_extents ls) c d
     keeps k x inside =
         let e = get_or (block_extents ls) k x in
         let low = ends k x inside in
-        record { within = omega (arith, within k x inside, written.put.size); each = λ i under. written.put.below (start_of e + i) (omega (arith, low, under)) }
+        record { within = omega (arith, within k x inside, written.put.size); bytes = λ i from to. written.put.below i (omega (arith, low, to)) }
 
     abbrev new : Place
     new = record place { extent = record { page = page; length = place.extent.length } }
 
     image_there : bytes_in d new.extent ≡ written.image
-    image_there = bytes_held d new.extent written.image written.size (Holds-Puts (512 * page) written.image c d written.put)
+    image_there = bytes_held d written.image new.extent written.size (Holds-Puts (512 * page) written.image c d written.put)
 
     new_imaged : IsImaged d new
     new_imaged = record {

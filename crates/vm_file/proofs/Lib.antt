@@ -16,6 +16,7 @@ pub mod KeptDocuments
 pub mod LaidOut
 pub mod Live
 pub mod Looking
+pub mod Made
 pub mod Outcomes
 pub mod Passing
 pub mod Puts

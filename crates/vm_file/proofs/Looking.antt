@@ -1,11 +1,6 @@
--- Calls that only read, one after another, and the bytes that they give.
-use Rattle.std.proofs.Common.{◌≡◌, ◌⊎◌, ℕ, ◌*◌, ◌<◌, IsTrue, List, length, drop, refl, sym, subst, ◌∙◌, arith, inl, inr, length-take, length-drop}
-use Rattle.std.proofs.lemmas.Grind.{same_number_lists}
-use Rattle.std.proofs.lemmas.List.{get_or-drop, get_or-take}
-use Rattle.vm_store.specs.Facts.{StoreFacts, Holds, Rests, IsTimely, Raised}
-use Rattle.geos_model.specs.File.{bytes_in}
-use Rattle.geos_model.specs.declared.file.Extent.{Extent}
-use Rattle.vm_file.specs.Ranges.{start_of}
+-- Calls that only read, one after another.
+use Rattle.std.proofs.Common.{◌≡◌, ◌⊎◌, ℕ, IsTrue, List, refl, sym, subst, ◌∙◌, arith, inl, inr}
+use Rattle.vm_store.specs.Facts.{StoreFacts, Rests, IsTimely, Raised}
 use Rattle.vm_file.specs.Opened.{Looks}
 
 pub Rests-refl : (a : StoreFacts) → Rests a a
@@ -57,12 +52,3 @@ held_before P a b p then so = subst P (same_bytes_then a b p so) (then (still a 
 
 pub raised_later : (a b c : StoreFacts) → Looks a b → Raised b c → Raised a c
 raised_later a b c p raised = omega (arith, p.failures, raised)
-
--- the bytes that a read gives of an extent are the extent's
-pub bytes_read : (file bytes : List ℕ) (e : Extent) → length bytes ≡ e.length → Holds file (start_of e) bytes → bytes_in file e ≡ bytes
-bytes_read file bytes e size held =
-    let at : ℕ = 512 * e.page in
-    let long : length (bytes_in file e) ≡ e.length = omega (arith, length-take e.length (drop at file), length-drop at file, held.within, size) in
-    same_number_lists (bytes_in file e) bytes (long ∙ sym size) (λ k inside.
-    let low : k < e.length = omega (arith, inside, long) in
-    get_or-take e.length (drop at file) k 0 low ∙ get_or-drop at file k 0 ∙ held.each k (omega (arith, low, size)))

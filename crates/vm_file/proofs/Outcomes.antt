@@ -5,8 +5,9 @@ use Rattle.std.proofs.lemmas.List.Elements.{All-nil, All-append}
 use Rattle.byteorder.specs.Endian.{little_bytes}
 use Rattle.byteorder.specs.Numbers.{length-bytes_low_first}
 use Rattle.vm_store.specs.Facts.{byte, Torn, Holds}
-use Rattle.vm_file.specs.Ranges.{start_of, end_of, IsPlaced, SameIn, Keeps, IsOut, IsClear}
-use Rattle.vm_file.specs.Slots.{pair_extents, held_extents, kept_extents, slot_of, other_of, turned, Failed, mark, extent_bytes, gate_text, behind_gate, Leads, IsUnmarked, IsOlder, IsBeside, Outcome, AreKept, IsBesideOut, Spares}
+use Rattle.geos_model.specs.File.{slot_mark, extent_text}
+use Rattle.vm_file.specs.Ranges.{start_of, end_of, IsPlaced, Keeps, KeepsAll, IsOut, IsClear}
+use Rattle.vm_file.specs.Slots.{pair_extents, held_extents, kept_extents, counting_of, other_of, turned, Failed, gate_text, behind_gate, Leads, IsUnmarked, IsOlder, IsBeside, Outcome, AreKept, IsBesideOut, Spares}
 use Rattle.vm_file.specs.declared.slots.Pair.{Pair}
 use Rattle.vm_file.specs.declared.slots.Other.{Other}
 use Rattle.vm_file.specs.declared.slots.Other.TheVariants.{Shut, Stale, Held}
@@ -14,7 +15,7 @@ use Rattle.vm_file.specs.declared.slots.Slots.{Slots}
 use Rattle.geos_model.specs.declared.file.Extent.{Extent}
 use Rattle.vm_file.proofs.KeptBytes.{all_left, all_right, torn_byte, torn_holds, torn_keeps, clear_of_slots, holds_part, keeps_of_both, keeps_trans}
 
-pub one_each : (slots : Slots) → slot_of slots + other_of slots ≡ 1
+pub one_each : (slots : Slots) → counting_of slots + other_of slots ≡ 1
 one_each slots = elim slots.second as (λ b. (if b then 1 else 0) + (if b then 0 else 1) ≡ 1) [ true ↦ refl | false ↦ refl ]
 
 -- The extents of the slots.
@@ -61,7 +62,7 @@ long_text sequence updated saved = refl
 leads_torn : (at n slot sequence : ℕ) (pair : Pair) (file c d : List ℕ) → IsOut at n (512 * slot) (512 * slot + 4) → IsOut at n (512 * slot + 5) (512 * slot + 32) → IsClear at n (pair_extents pair)
     → Torn at n c d → Leads slot sequence pair file c → Leads slot sequence pair file d
 leads_torn at n slot sequence pair file c d front behind clear torn was = record {
-  marked = torn_holds at n (512 * slot) (512 * slot + 4) mark c d (omega arith) front torn was.marked;
+  marked = torn_holds at n (512 * slot) (512 * slot + 4) slot_mark c d (omega arith) front torn was.marked;
   rest = torn_holds at n (512 * slot + 5) (512 * slot + 32) (behind_gate sequence pair) c d (omega (arith, long_text sequence pair.updated.directory pair.saved.directory)) behind torn was.rest;
   kept = torn_keeps at n (pair_extents pair) file c d clear torn was.kept;
 }
@@ -80,7 +81,7 @@ beside_torn (Held pair) at n slot sequence file c d long out torn was = leads_to
 -- what is torn apart from all that the slots stand on
 pub outcome_torn : (at n : ℕ) (slots : Slots) (file c d : List ℕ) → AreKept slots → Spares at n slots → Torn at n c d → Outcome slots file c → Outcome slots file d
 outcome_torn at n slots file c d kept spares torn was =
-    let slot = slot_of slots in
+    let slot = counting_of slots in
     let each = one_each slots in
     let long = outcome_long slots file c kept was in
     let front : IsOut at n (512 * slot) (512 * slot + 4) = elim spares.slot as (λ _. IsOut at n (512 * slot) (512 * slot + 4)) [ inl before ↦ inl (omega arith) | inr behind ↦ inr behind ] in
@@ -110,7 +111,7 @@ spares_clear at n slots high clear =
     }
 
 -- within the other slot, which spares the one that counts
-other_slot_out : (slots : Slots) (i n : ℕ) → i + n ≤ 32 → IsOut (512 * other_of slots + i) n (512 * slot_of slots) (512 * slot_of slots + 32)
+other_slot_out : (slots : Slots) (i n : ℕ) → i + n ≤ 32 → IsOut (512 * other_of slots + i) n (512 * counting_of slots) (512 * counting_of slots + 32)
 other_slot_out slots i n low = elim slots.second as (λ b. IsOut (512 * (if b then 0 else 1) + i) n (512 * (if b then 1 else 0)) (512 * (if b then 1 else 0) + 32)) [ true ↦ inr (omega arith) | false ↦ inl (omega arith) ]
 
 spares_in_other : (slots : Slots) (i n : ℕ) → i + n ≤ 32 → AreKept slots → IsBesideOut slots.other (other_of slots) (512 * other_of slots + i) n → Spares (512 * other_of slots + i) n slots
@@ -148,10 +149,10 @@ outcome_shut slots file c shut was = record { gate = was.gate; counts = was.coun
 pub outcome_held : (slots : Slots) (pair : Pair) (file c : List ℕ) → Leads (other_of slots) (slots.sequence + 1) pair file c → Outcome slots file c → Outcome (record slots { other = Held pair }) file c
 outcome_held slots pair file c leads was = record { gate = was.gate; counts = was.counts; beside = leads }
 
-not_other : (slots : Slots) (pair : Pair) → slot_of (turned slots pair) ≡ other_of slots
+not_other : (slots : Slots) (pair : Pair) → counting_of (turned slots pair) ≡ other_of slots
 not_other slots pair = elim slots.second as (λ b. (if not b then 1 else 0) ≡ (if b then 0 else 1)) [ true ↦ refl | false ↦ refl ]
 
-not_slot : (slots : Slots) (pair : Pair) → other_of (turned slots pair) ≡ slot_of slots
+not_slot : (slots : Slots) (pair : Pair) → other_of (turned slots pair) ≡ counting_of slots
 not_slot slots pair = elim slots.second as (λ b. (if not b then 0 else 1) ≡ (if b then 1 else 0)) [ true ↦ refl | false ↦ refl ]
 
 -- a slot's number stands behind its gate
@@ -160,12 +161,12 @@ unfolding gate_text
 numbered slot sequence updated saved c holds =
     let P : ℕ → Type 0 = λ n. Holds c n (little_bytes 8 sequence) in
     let place : 512 * slot + 5 + 3 ≡ 512 * slot + 8 = omega arith in
-    subst P place (holds_part c (512 * slot + 5) (1 ∷ 0 ∷ 0 ∷ []) (little_bytes 8 sequence) (extent_bytes updated ++ extent_bytes saved) holds)
+    subst P place (holds_part c (512 * slot + 5) (1 ∷ 0 ∷ 0 ∷ []) (little_bytes 8 sequence) (extent_text updated ++ extent_text saved) holds)
 
 pub outcome_turned : (slots : Slots) (pair : Pair) (file c : List ℕ) → byte c (512 * other_of slots + 4) ≡ 1 → Outcome (record slots { other = Held pair }) file c → Outcome (turned slots pair) file c
 outcome_turned slots pair file c gate was =
     let directories = slots.committed in
-    let older : IsOlder (slot_of slots) (slots.sequence + 1) c = record { number = slots.sequence; lower = omega arith; there = numbered (slot_of slots) slots.sequence directories.updated.directory directories.saved.directory c was.counts.rest } in
+    let older : IsOlder (counting_of slots) (slots.sequence + 1) c = record { number = slots.sequence; lower = omega arith; there = numbered (counting_of slots) slots.sequence directories.updated.directory directories.saved.directory c was.counts.rest } in
     record {
       gate = ap (λ s. byte c (512 * s + 4)) (not_other slots pair) ∙ gate;
       counts = subst (λ s. Leads s (slots.sequence + 1) pair file c) (sym (not_other slots pair)) was.beside;
@@ -174,10 +175,10 @@ outcome_turned slots pair file c gate was =
 
 -- In another file that has the same bytes.
 
-same_leads : (slot sequence : ℕ) (pair : Pair) (file now c : List ℕ) → (Keeps (pair_extents pair) file c → Keeps (pair_extents pair) now c) → Leads slot sequence pair file c → Leads slot sequence pair now c
+same_leads : (slot sequence : ℕ) (pair : Pair) (file now c : List ℕ) → (KeepsAll (pair_extents pair) file c → KeepsAll (pair_extents pair) now c) → Leads slot sequence pair file c → Leads slot sequence pair now c
 same_leads slot sequence pair file now c same was = record { marked = was.marked; rest = was.rest; kept = same was.kept }
 
-module _ (file now c : List ℕ) (same : (es : List Extent) → Keeps es file now → Keeps es file c → Keeps es now c) where
+module _ (file now c : List ℕ) (same : (es : List Extent) → KeepsAll es file now → KeepsAll es file c → KeepsAll es now c) where
   beside_rebased : (other : Other) (slot sequence : ℕ) → IsBeside other slot sequence file now → IsBeside other slot sequence file c → IsBeside other slot sequence now c
   beside_rebased Shut slot sequence here was = was
   beside_rebased Stale slot sequence here was = was
@@ -187,29 +188,29 @@ module _ (file now c : List ℕ) (same : (es : List Extent) → Keeps es file no
 pub outcome_rebased : (slots : Slots) (file now c : List ℕ) → Outcome slots file now → Outcome slots file c → Outcome slots now c
 outcome_rebased slots file now c here was = record {
   gate = was.gate;
-  counts = same_leads (slot_of slots) slots.sequence slots.committed file now c (keeps_of_both (pair_extents slots.committed) file now c here.counts.kept) was.counts;
+  counts = same_leads (counting_of slots) slots.sequence slots.committed file now c (keeps_of_both (pair_extents slots.committed) file now c here.counts.kept) was.counts;
   beside = beside_rebased file now c (λ es. keeps_of_both es file now c) slots.other (other_of slots) slots.sequence here.beside was.beside;
 }
 
-beside_earlier : (other : Other) (slot sequence : ℕ) (file now c : List ℕ) → Keeps (held_extents other) file now → IsBeside other slot sequence now c → IsBeside other slot sequence file c
+beside_earlier : (other : Other) (slot sequence : ℕ) (file now c : List ℕ) → KeepsAll (held_extents other) file now → IsBeside other slot sequence now c → IsBeside other slot sequence file c
 beside_earlier Shut slot sequence file now c keeps was = was
 beside_earlier Stale slot sequence file now c keeps was = was
 beside_earlier (Held pair) slot sequence file now c keeps was = same_leads slot (sequence + 1) pair now file c (keeps_trans (pair_extents pair) file now c keeps) was
 
 -- and from an earlier one, whose bytes still stand
-pub outcome_earlier : (slots : Slots) (file now c : List ℕ) → Keeps (kept_extents slots) file now → Outcome slots now c → Outcome slots file c
+pub outcome_earlier : (slots : Slots) (file now c : List ℕ) → KeepsAll (kept_extents slots) file now → Outcome slots now c → Outcome slots file c
 outcome_earlier slots file now c keeps was = record {
   gate = was.gate;
-  counts = same_leads (slot_of slots) slots.sequence slots.committed now file c (keeps_trans (pair_extents slots.committed) file now c (all_left (SameIn file now) (pair_extents slots.committed) (held_extents slots.other) keeps)) was.counts;
-  beside = beside_earlier slots.other (other_of slots) slots.sequence file now c (all_right (SameIn file now) (pair_extents slots.committed) (held_extents slots.other) keeps) was.beside;
+  counts = same_leads (counting_of slots) slots.sequence slots.committed now file c (keeps_trans (pair_extents slots.committed) file now c (all_left (Keeps file now) (pair_extents slots.committed) (held_extents slots.other) keeps)) was.counts;
+  beside = beside_earlier slots.other (other_of slots) slots.sequence file now c (all_right (Keeps file now) (pair_extents slots.committed) (held_extents slots.other) keeps) was.beside;
 }
 
-beside_keeps : (other : Other) (slot sequence : ℕ) (file c : List ℕ) → IsBeside other slot sequence file c → Keeps (held_extents other) file c
-beside_keeps Shut slot sequence file c was = All-nil (SameIn file c)
-beside_keeps Stale slot sequence file c was = All-nil (SameIn file c)
+beside_keeps : (other : Other) (slot sequence : ℕ) (file c : List ℕ) → IsBeside other slot sequence file c → KeepsAll (held_extents other) file c
+beside_keeps Shut slot sequence file c was = All-nil (Keeps file c)
+beside_keeps Stale slot sequence file c was = All-nil (Keeps file c)
 beside_keeps (Held pair) slot sequence file c was = was.kept
 
 -- all that the slots stand on is in what a crash left
-pub outcome_keeps : (slots : Slots) (file c : List ℕ) → Outcome slots file c → Keeps (kept_extents slots) file c
+pub outcome_keeps : (slots : Slots) (file c : List ℕ) → Outcome slots file c → KeepsAll (kept_extents slots) file c
 outcome_keeps slots file c was =
-    All-append (SameIn file c) (pair_extents slots.committed) (held_extents slots.other) was.counts.kept (beside_keeps slots.other (other_of slots) slots.sequence file c was.beside)
+    All-append (Keeps file c) (pair_extents slots.committed) (held_extents slots.other) was.counts.kept (beside_keeps slots.other (other_of slots) slots.sequence file c was.beside)

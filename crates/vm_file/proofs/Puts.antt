@@ -1,6 +1,5 @@
 -- A file into which blocks are put, and from which others are taken.
 use Rattle.std.proofs.Common.{◌≡◌, ◌≢◌, ◌⊎◌, ℕ, ◌+◌, ◌-◌, ◌<◌, ◌≤◌, true, IsTrue, List, ◌++◌, All, take, drop, length, get_or, Option, Some, is_some, sym, ap, subst, ◌∙◌, arith, inl, inr, length-append}
-use Rattle.std.specs.Prelude.{Result, Ok, Err, OnErr}
 use Rattle.vm_store.specs.Facts.{StoreFacts}
 use Rattle.geos_model.specs.Document.{Document}
 use Rattle.geos_model.specs.Image.{body_of, body_read}
@@ -9,7 +8,7 @@ use Rattle.geos_model.specs.File.{bytes_in}
 use Rattle.geos_model.specs.declared.file.Extent.{Extent}
 use Rattle.geos_model.specs.declared.handle.VmHandle.{VmHandle}
 use Rattle.geos_model.proofs.Tables.{slot_at}
-use Rattle.vm_file.specs.Ranges.{IsPlaced, Keeps}
+use Rattle.vm_file.specs.Ranges.{IsPlaced, KeepsAll}
 use Rattle.vm_file.specs.Slots.{block_extents, stored_extents, pair_extents, held_extents, kept_extents, Leaves}
 use Rattle.vm_file.specs.Documents.{IsImaged, AreImaged}
 use Rattle.vm_file.specs.Calls.{IsPut, put_all, remove_all}
@@ -26,7 +25,8 @@ use Rattle.vm_file.specs.declared.slots.Other.TheVariants.{Shut, Stale, Held}
 use Rattle.vm_file.specs.declared.slots.Slots.{Slots}
 use Rattle.vm_file.proofs.Carried.{call_passes, call_sound}
 use Rattle.vm_file.proofs.Filled.{drifts_put_all, drifts_remove_all, filled_drifts, length-with_places, length-without_places, each_with, each_without, full_with, full_without, shown_without_all}
-use Rattle.vm_file.proofs.Imaged.{is_image, image_kind, holds_bytes}
+use Rattle.vm_file.proofs.Imaged.{is_image, image_kind}
+use Rattle.vm_file.proofs.KeptBytes.{bytes_held}
 use Rattle.vm_file.proofs.Live.{EndsIn}
 use Rattle.vm_file.proofs.Passing.{Drifts-trans}
 use Rattle.vm_file.proofs.Tables.{EachPlace, shown, places_drift, blocks_same, images_same, extents_of, places_of, length-block_extents, items_kept}
@@ -75,7 +75,7 @@ module _ {S : Type 0} (facts : S → StoreFacts) (a b : S) (live : Table) (slots
   leaves : IsTrue (facts a).honest → Leaves (facts b) slots (facts a).content
   leaves so = (spared so).leaves (facts a).content (sound.whole so).leaves
 
-  kept : IsTrue (facts a).honest → Keeps (block_extents live.places.items) (facts a).content (facts b).content
+  kept : IsTrue (facts a).honest → KeepsAll (block_extents live.places.items) (facts a).content (facts b).content
   kept so = (spared so).keeps (sound.whole so).within
 
   images : IsTrue (facts a).honest → AreImaged (facts b).content live.places.items
@@ -99,7 +99,7 @@ module _ {S : Type 0} (facts : S → StoreFacts) (a b : S) (live : Table) (slots
       (written : IsTrue (facts a).honest → AreWritten (length puts) puts extents (facts b).content) (same : new.map_block ≡ live.map_block)
       (is : new.places.items ≡ without_places removals (with_places puts extents live.places.items)) where
     bytes : (so : IsTrue (facts a).honest) (k : ℕ) (p : PutBlock) (e : Extent) → k < length puts → bytes_in (facts b).content (get_or extents k e) ≡ (get_or puts k p).image
-    bytes so k p e low = holds_bytes (facts b).content (get_or puts k p).image (get_or extents k e) (sym (found.sizes k e p low)) (written so k e p low)
+    bytes so k p e low = bytes_held (facts b).content (get_or puts k p).image (get_or extents k e) (sym (found.sizes k e p low)) (written so k e p low)
 
     pub put_drifts : Drifts (facts a).honest (remove_all removals (put_all puts (shown (facts a).content live.places.items live.map_block))) (shown (facts b).content new.places.items new.map_block)
     put_drifts =
@@ -150,10 +150,6 @@ module _ {S : Type 0} (facts : S → StoreFacts) (a b : S) (live : Table) (slots
                 (λ k p e low. let size = found.sizes k e p low in let ends = (written so k e p low).within in omega (arith, size, ends))
                 (places_of (EndsIn (facts b).content) live.places.items (within so))),
           ))
-
-pub on_err : {T E : Type 0} (r : Result T E) (P : Type 0) → P → OnErr r P
-on_err (Ok x) P p = tt
-on_err (Err x) P p = p
 
 -- a table in which blocks were put, and from which others were taken
 pub changed_twice : (n : ℕ) (places filled left : List (Option Place)) (puts : List PutBlock) (extents : List Extent) (removals : List VmHandle) → n ≡ length places → filled ≡ with_places puts extents places

@@ -1,5 +1,5 @@
 -- What a file stands for that a crash left.
-use Rattle.std.proofs.Common.{◌≡◌, ◌⊎◌, ℕ, zero, suc, ◌+◌, ◌-◌, ◌*◌, ◌^◌, ◌<◌, ◌≤◌, ◌==◌, Bool, true, false, List, [], ◌∷◌, ◌++◌, take, drop, length, get_or, slice_index, Option, None, Some, All, refl, sym, ap, ap₂, subst, ◌∙◌, arith, inl, inr, length-take, length-drop, length-append, eqb-true, IsTrue}
+use Rattle.std.proofs.Common.{◌≡◌, ◌⊎◌, ℕ, zero, suc, ◌+◌, ◌-◌, ◌*◌, ◌^◌, ◌<◌, ◌≤◌, ◌==◌, Bool, true, false, List, [], ◌∷◌, ◌++◌, take, drop, length, slice_index, Option, None, Some, All, refl, sym, ap, ap₂, ◌∙◌, arith, inl, inr, length-take, length-drop, eqb-true, IsTrue}
 use Rattle.std.specs.Prelude.{if◌then◌else◌, Ok, IfSome}
 use Rattle.std.specs.Option.{option_map, option_and_then}
 use Rattle.std.specs.FinMap.{from_entries}
@@ -21,12 +21,13 @@ use Rattle.geos_model.specs.declared.file.Slot.{Slot}
 use Rattle.geos_model.proofs.Table.{table_entries, table_map}
 use Rattle.geos_model.proofs.FileDocuments.{document_at-kept}
 use Rattle.geos_model.proofs.FileStands.{stands-from, counts-first, counts-second, counts-first_newer, counts-second_newer, open_slot-text, open_slot-shut, slot_bytes}
-use Rattle.vm_file.specs.Ranges.{IsPlaced, SameIn, Keeps, start_of}
-use Rattle.vm_file.specs.Slots.{mark, gate_text, behind_gate, Leads, IsBeside, IsUnmarked, IsOlder, Outcome, block_extents, stored_extents, pair_extents, held_extents, AreKept}
+use Rattle.vm_file.specs.Ranges.{IsPlaced, Keeps, KeepsAll}
+use Rattle.vm_file.specs.Slots.{gate_text, behind_gate, Leads, IsBeside, IsUnmarked, IsOlder, Outcome, block_extents, stored_extents, pair_extents, held_extents, AreKept}
 use Rattle.vm_file.specs.Documents.{blocks_in, document_in, documents_in, attempted_in, entries_of, directory_of_table, IsImaged, AreImaged, IsStored, AreStored, IsHeldStored, sequence_of, sequence_in}
 use Rattle.vm_file.specs.Disk.{StandsForOne, IsSettled, Numbered}
 use Rattle.vm_file.specs.Opened.{Beaten}
 use Rattle.vm_file.specs.Sound.{IsFormed, IsHeldFormed, IsWhole, IsSound, disk_of}
+use Rattle.vm_file.specs.Opened.{Beaten}
 use Rattle.vm_file.specs.declared.table.Place.{Place}
 use Rattle.vm_file.specs.declared.table.Table.{Table}
 use Rattle.vm_file.specs.declared.slots.Stored.{Stored}
@@ -34,6 +35,7 @@ use Rattle.vm_file.specs.declared.slots.Pair.{Pair}
 use Rattle.vm_file.specs.declared.slots.Other.{Other}
 use Rattle.vm_file.specs.declared.slots.Other.TheVariants.{Shut, Stale, Held}
 use Rattle.vm_file.specs.declared.slots.Slots.{Slots}
+use Rattle.vm_file.proofs.KeptBytes.{all_left, all_right}
 
 -- The document of a directory.
 
@@ -59,24 +61,16 @@ stored_document file s stored =
 
 -- Files in which the bytes are the same.
 
-pub keeps_in : (file c : List ℕ) (e : Extent) → SameIn file c e → laws.Keeps file c e
-keeps_in file c e same = record {
-  within = same.within;
-  bytes = λ i low high.
-      let at : i ≡ start_of e + (i - start_of e) = omega arith in
-      ap (byte c) at ∙ same.each (i - start_of e) (omega arith) ∙ sym (ap (byte file) at);
-}
-
-pub keeps_entries : (file c : List ℕ) (h : ℕ) (places : List (Option Place)) → Keeps (block_extents places) file c → All (λ entry. laws.Keeps file c entry.extent) (entries_of h places)
+pub keeps_entries : (file c : List ℕ) (h : ℕ) (places : List (Option Place)) → KeepsAll (block_extents places) file c → All (λ entry. Keeps file c entry.extent) (entries_of h places)
 keeps_entries file c h [] keeps k d within = absurd (omega arith)
 keeps_entries file c h (None ∷ places) keeps k d within = keeps_entries file c (h + 1) places keeps k d within
-keeps_entries file c h (Some place ∷ places) keeps zero d within = keeps_in file c place.extent (keeps 0 place.extent (omega arith))
+keeps_entries file c h (Some place ∷ places) keeps zero d within = keeps 0 place.extent (omega arith)
 keeps_entries file c h (Some place ∷ places) keeps (suc k) d within = keeps_entries file c (h + 1) places (λ i x inside. keeps (suc i) x (omega arith)) k d (omega arith)
 
 -- a document whose bytes are kept
-pub stored_kept : (file c : List ℕ) (s : Stored) → IsStored file s → Keeps (stored_extents s) file c → document_at c s.directory ≡ Some (document_in file s.table)
+pub stored_kept : (file c : List ℕ) (s : Stored) → IsStored file s → KeepsAll (stored_extents s) file c → document_at c s.directory ≡ Some (document_in file s.table)
 stored_kept file c s stored keeps =
-    document_at-kept file c s.directory (directory_of_table s.table) stored.directory (keeps_in file c s.directory (keeps 0 s.directory (omega arith))) (keeps_entries file c 1 s.table.places.items (λ i x inside. keeps (suc i) x (omega arith)))
+    document_at-kept file c s.directory (directory_of_table s.table) stored.directory (keeps 0 s.directory (omega arith)) (keeps_entries file c 1 s.table.places.items (λ i x inside. keeps (suc i) x (omega arith)))
     ∙ stored_document file s stored
 
 -- A slot.
@@ -97,18 +91,18 @@ slot_written slot sequence pair file c gate leads =
     let rest = behind_gate sequence pair in
     let long : 512 * slot + 5 + 27 ≤ length c = leads.rest.within in
     let size = slot_size c slot (omega (arith, long)) in
-    same_number_lists (slot_bytes c slot) (mark ++ 1 ∷ rest) size (λ k inside.
+    same_number_lists (slot_bytes c slot) (slot_mark ++ 1 ∷ rest) size (λ k inside.
     let low : k < 32 = omega (arith, size, inside) in
-    byte_of_slot c slot k low ∙ (elim (cases_lt k 4) as (λ _. byte c (512 * slot + k) ≡ byte (mark ++ 1 ∷ rest) k) [
-      | inl before ↦ leads.marked.each k before ∙ sym (get_or_append_left mark (1 ∷ rest) 0 k before)
-      | inr after ↦ elim (cases_lt 4 k) as (λ _. byte c (512 * slot + k) ≡ byte (mark ++ 1 ∷ rest) k) [
+    byte_of_slot c slot k low ∙ (elim (cases_lt k 4) as (λ _. byte c (512 * slot + k) ≡ byte (slot_mark ++ 1 ∷ rest) k) [
+      | inl before ↦ leads.marked.each k before ∙ sym (get_or_append_left slot_mark (1 ∷ rest) 0 k before)
+      | inr after ↦ elim (cases_lt 4 k) as (λ _. byte c (512 * slot + k) ≡ byte (slot_mark ++ 1 ∷ rest) k) [
         | inl behind ↦
             let at : 512 * slot + k ≡ 512 * slot + 5 + (k - 5) = omega arith in
             let step : k - 4 ≡ suc (k - 5) = omega arith in
-            ap (byte c) at ∙ leads.rest.each (k - 5) (omega (arith, low)) ∙ sym (get_or-append_right mark (1 ∷ rest) 4 k 0 refl (omega arith) ∙ ap (byte (1 ∷ rest)) step)
+            ap (byte c) at ∙ leads.rest.each (k - 5) (omega (arith, low)) ∙ sym (get_or-append_right slot_mark (1 ∷ rest) 4 k 0 refl (omega arith) ∙ ap (byte (1 ∷ rest)) step)
         | inr four ↦
             let is : k ≡ 4 = omega arith in
-            ap (λ n. byte c (512 * slot + n)) is ∙ gate ∙ sym (ap (byte (mark ++ 1 ∷ rest)) is)
+            ap (λ n. byte c (512 * slot + n)) is ∙ gate ∙ sym (ap (byte (slot_mark ++ 1 ∷ rest)) is)
       ]
     ]))
 
@@ -174,7 +168,7 @@ older_beaten slot sequence c range within was =
 
 -- What a file stands for, by the slot that counts.
 
-pub stands_for : (sequence : ℕ) (pair : Pair) (file c : List ℕ) → FitsPair sequence pair → AreStored file pair → Keeps (stored_extents pair.updated) file c → Keeps (stored_extents pair.saved) file c
+pub stands_for : (sequence : ℕ) (pair : Pair) (file c : List ℕ) → FitsPair sequence pair → AreStored file pair → KeepsAll (stored_extents pair.updated) file c → KeepsAll (stored_extents pair.saved) file c
     → counting_slot (open_slot c 0) (open_slot c 1) ≡ Ok (slot_value sequence pair) → stands c ≡ Ok (documents_in file pair)
 stands_for sequence pair file c fits stored updated saved counts_is =
     let first = updated 0 pair.updated.directory (omega arith) in
@@ -193,27 +187,19 @@ stands_for sequence pair file c fits stored updated saved counts_is =
 abbrev pub AllPlaced : Pair → Type 0
 AllPlaced pair = All IsPlaced (pair_extents pair)
 
-pub first_part : {X : Type 0} (P : X → Type 0) (xs ys : List X) → All P (xs ++ ys) → All P xs
-first_part P xs ys all k d within = subst P (get_or_append_left xs ys d k within) (all k d (omega (arith, length-append xs ys)))
-
-pub second_part : {X : Type 0} (P : X → Type 0) (xs ys : List X) → All P (xs ++ ys) → All P ys
-second_part P xs ys all k d within =
-    let at : length xs + k - length xs ≡ k = omega arith in
-    subst P (get_or-append_right xs ys (length xs) (length xs + k) d refl (omega arith) ∙ ap (λ n. get_or ys n d) at) (all (length xs + k) d (omega (arith, length-append xs ys)))
-
 pub fits_pair : (sequence : ℕ) (pair : Pair) → 1 ≤ sequence → sequence < 2 ^ 64 → All IsPlaced (pair_extents pair) → FitsPair sequence pair
 fits_pair sequence pair some range placed = record {
   some = some;
   in_range = range;
-  updated = first_part IsPlaced (stored_extents pair.updated) (stored_extents pair.saved) placed 0 pair.updated.directory (omega arith);
-  saved = second_part IsPlaced (stored_extents pair.updated) (stored_extents pair.saved) placed 0 pair.saved.directory (omega arith);
+  updated = all_left IsPlaced (stored_extents pair.updated) (stored_extents pair.saved) placed 0 pair.updated.directory (omega arith);
+  saved = all_right IsPlaced (stored_extents pair.updated) (stored_extents pair.saved) placed 0 pair.saved.directory (omega arith);
 }
 
 -- the file stands for what its slot leads to, where it beats the other one
 pub lead_stands : (sequence : ℕ) (pair : Pair) (file c : List ℕ) (second : Bool) → FitsPair sequence pair → AreStored file pair → byte c (512 * (if second then 1 else 0) + 4) ≡ 1
     → Leads (if second then 1 else 0) sequence pair file c → Beaten (open_slot c (if second then 0 else 1)) sequence → stands c ≡ Ok (documents_in file pair)
 lead_stands sequence pair file c second fits stored gate leads beaten =
-    stands_for sequence pair file c fits stored (first_part (SameIn file c) (stored_extents pair.updated) (stored_extents pair.saved) leads.kept) (second_part (SameIn file c) (stored_extents pair.updated) (stored_extents pair.saved) leads.kept)
+    stands_for sequence pair file c fits stored (all_left (Keeps file c) (stored_extents pair.updated) (stored_extents pair.saved) leads.kept) (all_right (Keeps file c) (stored_extents pair.updated) (stored_extents pair.saved) leads.kept)
     (counts c second (slot_value sequence pair) (lead_open (if second then 1 else 0) sequence pair file c fits gate leads) beaten)
 
 -- a file of 1,024 bytes has both slots
@@ -223,7 +209,7 @@ both_within c false long = omega (arith, long)
 
 pub long_enough : (sequence : ℕ) (pair : Pair) (slot : ℕ) (file c : List ℕ) → FitsPair sequence pair → Leads slot sequence pair file c → 1024 ≤ length c
 long_enough sequence pair slot file c fits leads =
-    let first = first_part (SameIn file c) (stored_extents pair.updated) (stored_extents pair.saved) leads.kept 0 pair.updated.directory (omega arith) in
+    let first = all_left (Keeps file c) (stored_extents pair.updated) (stored_extents pair.saved) leads.kept 0 pair.updated.directory (omega arith) in
     omega (arith, first.within, fits.updated.behind)
 
 -- what is known of what a commit that failed in its last step wrote
@@ -267,8 +253,8 @@ one_stands (Held pair) second sequence committed file c fits stored placed held 
 -- A file that a crash left stands for the pair that is committed, or for the one that is held.
 pub outcome_stands : (slots : Slots) (file c : List ℕ) → AreReadable slots file → Outcome slots file c → StandsForOne (documents_in file slots.committed ∷ attempted_in file slots.other) c
 outcome_stands slots file c are was =
-    one_stands slots.other slots.second slots.sequence slots.committed file c (fits_pair slots.sequence slots.committed are.some are.in_range (first_part IsPlaced (pair_extents slots.committed) (held_extents slots.other) are.placed))
-    are.committed (second_part IsPlaced (pair_extents slots.committed) (held_extents slots.other) are.placed) are.held was.gate was.counts was.beside
+    one_stands slots.other slots.second slots.sequence slots.committed file c (fits_pair slots.sequence slots.committed are.some are.in_range (all_left IsPlaced (pair_extents slots.committed) (held_extents slots.other) are.placed))
+    are.committed (all_right IsPlaced (pair_extents slots.committed) (held_extents slots.other) are.placed) are.held was.gate was.counts was.beside
 
 pub held_readable : (file : List ℕ) (sequence : ℕ) (other : Other) → IsHeldFormed sequence other → IsHeldStored file other → IsHeldReadable file sequence other
 held_readable file sequence Shut formed stored = tt
@@ -304,7 +290,7 @@ numbered_one (Held pair) second sequence committed file c fits none gate leads b
 
 pub outcome_numbered : (slots : Slots) (file c : List ℕ) → AreReadable slots file → attempted_in file slots.other ≡ [] → Outcome slots file c → sequence_in c ≡ Some slots.sequence
 outcome_numbered slots file c are none was =
-    numbered_one slots.other slots.second slots.sequence slots.committed file c (fits_pair slots.sequence slots.committed are.some are.in_range (first_part IsPlaced (pair_extents slots.committed) (held_extents slots.other) are.placed)) none was.gate was.counts was.beside
+    numbered_one slots.other slots.second slots.sequence slots.committed file c (fits_pair slots.sequence slots.committed are.some are.in_range (all_left IsPlaced (pair_extents slots.committed) (held_extents slots.other) are.placed)) none was.gate was.counts was.beside
 
 pub sound_numbered : {S : Type 0} (facts : S → StoreFacts) (store : S) (live : Table) (slots : Slots) → IsSound (facts store) live slots → IsTrue (facts store).honest → attempted_in (facts store).content slots.other ≡ [] → Numbered (facts store) slots.sequence
 sound_numbered facts store live slots sound honest none c left =

@@ -2,8 +2,9 @@
 use Rattle.std.proofs.Common.{◌≡◌, ◌≢◌, ◌⊎◌, ℕ, ◌+◌, ◌*◌, ◌≤◌, List, [], ◌∷◌, refl, sym, ap, subst, ◌∙◌, arith, inl, inr}
 use Rattle.vm_store.specs.Facts.{StoreFacts, byte, IsDurable, Rests, Holds}
 use Rattle.vm_store.specs.Laws.{Tears}
-use Rattle.vm_file.specs.Ranges.{start_of, Keeps, IsClear}
-use Rattle.vm_file.specs.Slots.{pair_extents, kept_extents, other_of, turned, FailedEarly, Failed, mark, behind_gate, Leads, Outcome, Leaves, Outlives, AreKept, Spares}
+use Rattle.geos_model.specs.File.{slot_mark}
+use Rattle.vm_file.specs.Ranges.{start_of, KeepsAll, IsClear}
+use Rattle.vm_file.specs.Slots.{pair_extents, kept_extents, other_of, turned, FailedEarly, Failed, behind_gate, Leads, Outcome, Leaves, Outlives, AreKept, Spares}
 use Rattle.geos_model.specs.declared.file.Extent.{Extent}
 use Rattle.vm_file.specs.declared.slots.Pair.{Pair}
 use Rattle.vm_file.specs.declared.slots.Other.TheVariants.{Shut, Held}
@@ -71,8 +72,8 @@ pub turned_leaves : (slots : Slots) (pair : Pair) (file : List ℕ) (a : StoreFa
 turned_leaves slots pair file a durable holds leaves c left = outcome_turned slots pair file c (durable_byte a (512 * other_of slots + 4) 1 durable holds c left) (leaves c left)
 
 -- the other slot is whole but for its gate
-pub held_leaves : (slots : Slots) (pair : Pair) (file : List ℕ) (a : StoreFacts) → IsDurable a → Holds a.content (512 * other_of slots) mark → Holds a.content (512 * other_of slots + 5) (behind_gate (slots.sequence + 1) pair)
-    → Keeps (pair_extents pair) file a.content → Leaves a slots file → Leaves a (record slots { other = Held pair }) file
+pub held_leaves : (slots : Slots) (pair : Pair) (file : List ℕ) (a : StoreFacts) → IsDurable a → Holds a.content (512 * other_of slots) slot_mark → Holds a.content (512 * other_of slots + 5) (behind_gate (slots.sequence + 1) pair)
+    → KeepsAll (pair_extents pair) file a.content → Leaves a slots file → Leaves a (record slots { other = Held pair }) file
 held_leaves slots pair file a durable marked rest kept leaves c left =
     let there : Leads (other_of slots) (slots.sequence + 1) pair file a.content = record { marked = marked; rest = rest; kept = kept } in
     outcome_held slots pair file c (subst (λ f. Leads (other_of slots) (slots.sequence + 1) pair file f) (sym (durable c left)) there) (leaves c left)

@@ -1,21 +1,21 @@
 -- Tables of places as documents, place by place.
-use Rattle.std.proofs.Common.{◌≡◌, ℕ, zero, suc, ◌+◌, ◌-◌, ◌*◌, ◌<◌, ◌≤◌, Bool, true, false, IsTrue, List, [], ◌∷◌, ◌++◌, All, take, drop, set, length, Option, None, Some, is_some, refl, sym, ap, subst, ◌∙◌, arith, length-take, length-drop}
+use Rattle.std.proofs.Common.{◌≡◌, ℕ, zero, suc, ◌+◌, ◌-◌, ◌*◌, ◌<◌, ◌≤◌, Bool, true, false, IsTrue, List, [], ◌∷◌, ◌++◌, All, take, drop, set, length, Option, None, Some, is_some, refl, sym, ap, subst, ◌∙◌, arith}
 use Rattle.std.specs.Prelude.{IfSome, unwrap_or}
 use Rattle.std.specs.Option.{option_map, option_map_or}
 use Rattle.std.specs.FinMap.{get, insert, remove}
 use Rattle.std.proofs.lemmas.Bool.Decides.{nat_tests}
 use Rattle.std.proofs.lemmas.Bool.{and_parts, leb-true}
 use Rattle.std.specs.Prelude.{nat_le}
-use Rattle.std.proofs.lemmas.List.{append-nil, drop_all, take_all, ext_get_or, get_or-drop, get_or-take}
-use Rattle.vm_store.specs.Facts.{byte}
+use Rattle.std.proofs.lemmas.List.{append-nil, drop_all, take_all}
 use Rattle.geos_model.specs.Document.{Block, Document, is_heap_body, is_live, is_vm_handle, user_id_of, block_at, with_block, without_block, with_user_id}
 use Rattle.geos_model.specs.declared.command.Body.TheVariants.{Raw}
 use Rattle.geos_model.specs.Image.{body_of, body_read}
 use Rattle.geos_model.specs.File.{bytes_in}
 use Rattle.geos_model.specs.declared.file.Extent.{Extent}
+use Rattle.geos_model.proofs.FileDocuments.{bytes_in-keeps}
 use Rattle.geos_model.proofs.Table.{table_map}
 use Rattle.geos_model.proofs.Tables.{slot_at, slot_at_within, get-table_map_at, get-table_map_below, table_map-set, table_map-clear}
-use Rattle.vm_file.specs.Ranges.{start_of, end_of, SameIn, Keeps}
+use Rattle.vm_file.specs.Ranges.{end_of, KeepsAll}
 use Rattle.vm_file.specs.Slots.{block_extents}
 use Rattle.vm_file.specs.Documents.{block_in, blocks_in, IsImaged, AreImaged}
 use Rattle.vm_file.specs.Disk.{Drifts}
@@ -128,23 +128,12 @@ places_drift honest file c places map_block same = record {
   same = λ so. ap (λ (t : List (Option Block)). record { blocks = table_map 1 1 t; map_block = map_block }) (same so);
 }
 
--- the bytes of an extent, where they are the same
-pub bytes_same : (file c : List ℕ) (e : Extent) → end_of e ≤ length file → SameIn file c e → bytes_in c e ≡ bytes_in file e
-bytes_same file c e within same =
-    let n = e.length in
-    let s = start_of e in
-    let long : (f : List ℕ) → end_of e ≤ length f → length (bytes_in f e) ≡ n = λ f l. omega (arith, l, length-take n (drop s f), length-drop s f) in
-    let at : (f : List ℕ) (i : ℕ) → i < n → byte (bytes_in f e) i ≡ byte f (s + i) = λ f i l. get_or-take n (drop s f) i 0 l ∙ get_or-drop s f i 0 in
-    ext_get_or 0 (bytes_in c e) (bytes_in file e) (long c same.within ∙ sym (long file within)) (λ i l.
-    let low : i < n = omega (arith, l, long c same.within) in
-    at c i low ∙ same.each i low ∙ sym (at file i low))
-
 -- the blocks of places, where the bytes of their extents are the same
-pub blocks_same : (file c : List ℕ) (places : List (Option Place)) → All (λ e. end_of e ≤ length file) (block_extents places) → Keeps (block_extents places) file c → blocks_in c places ≡ blocks_in file places
+pub blocks_same : (file c : List ℕ) (places : List (Option Place)) → All (λ e. end_of e ≤ length file) (block_extents places) → KeepsAll (block_extents places) file c → blocks_in c places ≡ blocks_in file places
 blocks_same file c [] within keeps = refl
 blocks_same file c (None ∷ places) within keeps = ap (λ (t : List (Option Block)). None ∷ t) (blocks_same file c places within keeps)
 blocks_same file c (Some place ∷ places) within keeps =
-    let here : block_in c place ≡ block_in file place = ap (λ bytes. record { user_id = place.user_id; body = body_read bytes }) (bytes_same file c place.extent (within 0 place.extent (omega arith)) (keeps 0 place.extent (omega arith))) in
+    let here : block_in c place ≡ block_in file place = ap (λ bytes. record { user_id = place.user_id; body = body_read bytes }) (bytes_in-keeps file c place.extent (keeps 0 place.extent (omega arith)) (within 0 place.extent (omega arith))) in
     let more = blocks_same file c places (λ i x inside. within (suc i) x (omega arith)) (λ i x inside. keeps (suc i) x (omega arith)) in
     ap (λ (b : Block). Some b ∷ blocks_in c places) here ∙ ap (λ (t : List (Option Block)). Some (block_in file place) ∷ t) more
 
@@ -155,13 +144,13 @@ imaged_same file c place same was = record {
   kind = was.kind ∙ ap (λ bytes. is_heap_body (body_read bytes)) (sym same);
 }
 
-pub images_same : (file c : List ℕ) (places : List (Option Place)) → All (λ e. end_of e ≤ length file) (block_extents places) → Keeps (block_extents places) file c → AreImaged file places → AreImaged c places
+pub images_same : (file c : List ℕ) (places : List (Option Place)) → All (λ e. end_of e ≤ length file) (block_extents places) → KeepsAll (block_extents places) file c → AreImaged file places → AreImaged c places
 images_same file c [] within keeps are k d inside = absurd (omega arith)
 images_same file c (None ∷ places) within keeps are zero d inside = tt
 images_same file c (None ∷ places) within keeps are (suc k) d inside = images_same file c places within keeps (λ i x low. are (suc i) x (omega arith)) k d (omega arith)
 images_same file c (Some place ∷ places) within keeps are zero d inside =
     let one : IfSome (Some place) (IsImaged file) = are 0 None (omega arith) in
-    imaged_same file c place (bytes_same file c place.extent (within 0 place.extent (omega arith)) (keeps 0 place.extent (omega arith))) one
+    imaged_same file c place (bytes_in-keeps file c place.extent (keeps 0 place.extent (omega arith)) (within 0 place.extent (omega arith))) one
 images_same file c (Some place ∷ places) within keeps are (suc k) d inside =
     images_same file c places (λ i x low. within (suc i) x (omega arith)) (λ i x low. keeps (suc i) x (omega arith)) (λ i x low. are (suc i) x (omega arith)) k d (omega arith)
 
@@ -216,6 +205,11 @@ entry_user_id file places map_block h None is = tt
 entry_user_id file places map_block h (Some place) is =
     let at = entry_lies places h place is in
     sym (user_id_is file places map_block h at.0 ∙ ap (λ o. option_map_or (λ (p : Place). p.user_id) o 0) at.1)
+
+-- what holds of all extents
+pub entry_extent : (P : Extent → Type 0) (places : List (Option Place)) (h : ℕ) (result : Option Place) → All P (block_extents places) → IsPlaceOf places h result → IfSome result (λ place. P place.extent)
+entry_extent P places h None all is = tt
+entry_extent P places h (Some place) all is = each_at (λ p. P p.extent) places (h - 1) place (entry_lies places h place is).1 (places_of P places all)
 
 -- the block under a handle, by its place
 pub block_at_is : (file : List ℕ) (places : List (Option Place)) (map_block h : ℕ) (place : Place) → 1 ≤ h → slot_at places (h - 1) ≡ Some place → block_at (shown file places map_block) h ≡ block_in file place

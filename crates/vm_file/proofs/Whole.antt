@@ -1,8 +1,8 @@
 -- What a file that was read stands for, and that it is sound once it is synced.
-use Rattle.std.proofs.Common.{◌≡◌, ◌⊎◌, ℕ, suc, ◌+◌, ◌-◌, ◌*◌, ◌^◌, ◌<◌, ◌≤◌, ◌==◌, Bool, true, false, not, ◌||◌, IsTrue, List, ◌++◌, length, get_or, None, is_some, Err, All, refl, sym, ap, subst, ◌∙◌, arith, inl, inr, eq-eqb, ne_eqb, length-append}
+use Rattle.std.proofs.Common.{◌≡◌, ◌⊎◌, ℕ, suc, ◌+◌, ◌-◌, ◌*◌, ◌^◌, ◌<◌, ◌≤◌, ◌==◌, Bool, true, false, not, ◌||◌, IsTrue, List, length, get_or, None, is_some, Err, All, sym, ap, subst, ◌∙◌, arith, inl, inr, eq-eqb, ne_eqb}
 use Rattle.std.specs.Prelude.{if◌then◌else◌}
-use Rattle.std.proofs.lemmas.Bool.{cases_lt, cond-false, le-ltb}
-use Rattle.std.proofs.lemmas.List.{get_or_append_left, get_or-append_right}
+use Rattle.std.proofs.lemmas.Bool.{cond-false, le-ltb}
+use Rattle.std.proofs.lemmas.List.Elements.{All-append}
 use Rattle.vm_store.specs.Facts.{StoreFacts, IsDurable}
 use Rattle.geos_model.specs.File.{pair_of, pair_of_counting, both, document_at, stands}
 use Rattle.geos_model.specs.declared.fault.Fault.{Fault}
@@ -20,15 +20,10 @@ use Rattle.vm_file.specs.declared.slots.Pair.{Pair}
 use Rattle.vm_file.specs.declared.slots.Slots.{Slots}
 use Rattle.vm_file.specs.declared.slots.Other.{Other}
 use Rattle.vm_file.specs.declared.slots.Other.TheVariants.{Shut, Stale}
-use Rattle.vm_file.proofs.Stands.{stored_document, first_part}
+use Rattle.vm_file.proofs.Stands.{stored_document}
+use Rattle.vm_file.proofs.KeptBytes.{all_left}
 use Rattle.vm_file.proofs.Looking.{still_holds}
 use Rattle.vm_file.proofs.Counting.{slot_leads}
-
-all_append : {X : Type 0} (P : X → Type 0) (xs ys : List X) → All P xs → All P ys → All P (xs ++ ys)
-all_append P xs ys first second k d within = elim (cases_lt k (length xs)) as (λ _. P (get_or (xs ++ ys) k d)) [
-  | inl low ↦ subst P (sym (get_or_append_left xs ys d k low)) (first k d low)
-  | inr high ↦ subst P (sym (get_or-append_right xs ys (length xs) k d refl high)) (second (k - length xs) d (omega (arith, length-append xs ys, within)))
-]
 
 -- From any store.
 
@@ -36,7 +31,7 @@ pub slots_formed : (n sequence : ℕ) (second : Bool) (pair : Pair) (other : Oth
     → IsReadSlots (record { second = second; sequence = sequence; committed = pair; other = other })
 slots_formed n sequence second pair other are some range alone = record {
   committed = record { updated = are.updated.table; saved = are.saved.table };
-  placed = all_append IsPlaced (stored_extents pair.updated) (stored_extents pair.saved) are.updated.placed are.saved.placed;
+  placed = All-append IsPlaced (stored_extents pair.updated) (stored_extents pair.saved) are.updated.placed are.saved.placed;
   numbered = some;
   in_range = range;
   other = alone;
@@ -59,7 +54,7 @@ pub slots_whole : (file : List ℕ) (n : ℕ) (found : Found) (pair : Pair) → 
     → IsReadWhole file (record { second = found.second; sequence = found.slot.sequence; committed = pair; other = found.other })
 slots_whole file n found pair size is good are stored working saved =
     let inside : All (λ e. end_of e ≤ length file) (pair_extents pair) = subst (λ m. All (λ e. end_of e ≤ m) (pair_extents pair)) size
-    (all_append (λ e. end_of e ≤ n) (stored_extents pair.updated) (stored_extents pair.saved) are.updated.within are.saved.within) in
+    (All-append (λ e. end_of e ≤ n) (stored_extents pair.updated) (stored_extents pair.saved) are.updated.within are.saved.within) in
     let leads = slot_leads file (if found.second then 1 else 0) found.slot pair (one_within file found.second is.long) is.bytes is.opened (record { version = good.version; reserved = good.reserved; updated = working; saved = saved }) inside in
     record {
       stored = stored;
@@ -114,20 +109,20 @@ pub opened_sound : (old new : StoreFacts) (live : Table) (slots : Slots) → Loo
     → live.map_block ≡ slots.committed.updated.table.map_block → live.places.items ≡ slots.committed.updated.table.places.items → IsSound new live slots
 opened_sound old new live slots looks formed whole durable map items =
     let updated = slots.committed.updated in
-    let first = first_part IsPlaced (stored_extents updated) (stored_extents slots.committed.saved) formed.placed in
+    let first = all_left IsPlaced (stored_extents updated) (stored_extents slots.committed.saved) formed.placed in
     record {
       formed = record {
         table = table_copied updated.table live map items formed.committed.updated;
         placed = subst (λ ps. All IsPlaced (block_extents ps)) (sym items) (λ k d within. first (suc k) d (omega (arith, within)));
         committed = formed.committed;
         held = nothing_formed slots.sequence slots.other formed.other;
-        kept = all_append IsPlaced (pair_extents slots.committed) (held_extents slots.other) formed.placed (no_extents slots.other formed.other);
+        kept = All-append IsPlaced (pair_extents slots.committed) (held_extents slots.other) formed.placed (no_extents slots.other formed.other);
         numbered = formed.numbered;
         in_range = formed.in_range;
       };
       whole = λ so.
           let is = still_holds (λ f. IsReadWhole f slots) old new looks whole so in
-          let inside = first_part (λ e. end_of e ≤ length new.content) (stored_extents updated) (stored_extents slots.committed.saved) is.within in
+          let inside = all_left (λ e. end_of e ≤ length new.content) (stored_extents updated) (stored_extents slots.committed.saved) is.within in
           record {
             images = subst (AreImaged new.content) (sym items) is.stored.updated.images;
             within = subst (λ ps. All (λ e. end_of e ≤ length new.content) (block_extents ps)) (sym items) (λ k d within. inside (suc k) d (omega (arith, within)));

@@ -23,7 +23,7 @@ pub Writes-none : (slots : Slots) (extents : List Extent) (puts : List PutBlock)
 Writes-none slots extents puts a = record {
   honest = refl;
   failures = omega arith;
-  fills = λ so. record { keeps = λ e aside within. record { within = within; each = λ i low. refl }; leaves = λ file was. was; crash = λ file was. Outlives-refl a file (λ s. s ≡ slots) };
+  fills = λ so. record { keeps = λ e aside within. record { within = within; bytes = λ i from to. refl }; leaves = λ file was. was; crash = λ file was. Outlives-refl a file (λ s. s ≡ slots) };
   written = λ so k e p low. absurd (omega arith);
 }
 

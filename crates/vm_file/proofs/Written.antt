@@ -3,13 +3,11 @@ use Rattle.std.proofs.Common.{◌≡◌, ℕ, zero, suc, ◌+◌, ◌-◌, ◌*�
 use Rattle.std.specs.Prelude.{IfSome, ◌||◌}
 use Rattle.std.specs.List.{list_all, list_any}
 use Rattle.std.proofs.lemmas.Bool.{and_from, cond-true}
-use Rattle.std.proofs.lemmas.Grind.{same_number_lists}
-use Rattle.std.proofs.lemmas.List.{get_or-drop, get_or-take, get_or_past, take_more, append-nil}
+use Rattle.std.proofs.lemmas.List.{get_or_past, take_more, append-nil}
 use Rattle.std.proofs.lemmas.List.Elements.{All-nil, All-cons, All-append}
 use Rattle.vm_store.specs.Facts.{Holds}
 use Rattle.geos_model.specs.Image.{body_read}
 use Rattle.geos_model.specs.File.{bytes_in, directory_in, directory_text, is_in_file, is_rising, is_entry, is_map_block, is_directory}
-use Rattle.geos_model.specs.declared.file.Extent.{Extent}
 use Rattle.geos_model.specs.declared.file.Entry.{Entry}
 use Rattle.geos_model.proofs.Images.{length_image_body_le}
 use Rattle.geos_model.proofs.Files.{body_of-some, is_directory-from, directory_in-text}
@@ -21,6 +19,7 @@ use Rattle.vm_file.specs.Sound.{IsTable}
 use Rattle.vm_file.specs.declared.table.Place.{Place}
 use Rattle.vm_file.specs.declared.table.Table.{Table}
 use Rattle.vm_file.specs.declared.slots.Stored.{Stored}
+use Rattle.vm_file.proofs.KeptBytes.{bytes_held}
 
 -- The entries of a table.
 
@@ -71,14 +70,6 @@ map_listed table is = elim is.map_block as (λ _. is_map_block table.map_block (
       elim (table.map_block == 0) as (λ b. (b || list_any (λ e. e.handle.0 == table.map_block) (entries_of 1 table.places.items)) ≡ true) [ true ↦ refl | false ↦ there ]
 ]
 
--- the bytes that stand at an extent are those in it
-pub bytes_held : (file : List ℕ) (e : Extent) (bytes : List ℕ) → length bytes ≡ e.length → Holds file (start_of e) bytes → bytes_in file e ≡ bytes
-bytes_held file e bytes size holds =
-    let long : length (bytes_in file e) ≡ e.length = omega (arith, length-take e.length (drop (512 * e.page) file), length-drop (512 * e.page) file, size, holds.within) in
-    same_number_lists (bytes_in file e) bytes (long ∙ sym size) (λ k inside.
-    let low : k < e.length = omega (arith, long, inside) in
-    get_or-take e.length (drop (512 * e.page) file) k 0 low ∙ get_or-drop (512 * e.page) file k 0 ∙ holds.each k (omega (arith, size, low)))
-
 -- A directory whose text stands in the file is that of its table.
 pub directory_written : (file : List ℕ) (s : Stored) → IsTable s.table → All IsPlaced (stored_extents s) → AreImaged file s.table.places.items → All (λ e. end_of e ≤ length file) (block_extents s.table.places.items)
     → All (λ e. e.user_id < 65536) (entries_of 1 s.table.places.items) → s.directory.length ≡ length (directory_text (directory_of_table s.table)) → Holds file (start_of s.directory) (directory_text (directory_of_table s.table)) → IsStored file s
@@ -92,7 +83,7 @@ directory_written file s is placed imaged within user_ids size holds =
     }) in
     let inside : is_in_file (length file) s.directory ≡ true = is_in_file-from (length file) s.directory here.behind (omega (arith, holds.within, size)) here.within in
     record {
-      directory = cond-true _ _ _ inside ∙ ap (directory_in (length file)) (bytes_held file s.directory (directory_text d) (sym size) holds) ∙ directory_in-text (length file) d good user_ids;
+      directory = cond-true _ _ _ inside ∙ ap (directory_in (length file)) (bytes_held file (directory_text d) s.directory (sym size) holds) ∙ directory_in-text (length file) d good user_ids;
       images = imaged;
     }
 

@@ -1,5 +1,5 @@
 -- What the calls of a document file are given, and what they answer.
-use Rattle.std.specs.Prelude.{◌≡◌, ◌⊎◌, ℕ, true, List, [], ◌∷◌, is_some}
+use Rattle.std.specs.Prelude.{◌≡◌, ◌⊎◌, ◌≤◌, ℕ, true, List, [], ◌∷◌, is_some}
 use Rattle.geos_model.specs.Document.{Document, is_vm_handle, with_block, without_block}
 use Rattle.geos_model.specs.Image.{body_of, body_read}
 use Rattle.geos_model.specs.declared.fault.Fault.{Fault}
@@ -20,6 +20,10 @@ put_all (p ∷ puts) d = put_all puts (with_block d p.handle.0 (record { user_id
 abbrev pub remove_all : List VmHandle → Document → Document
 remove_all [] d = d
 remove_all (h ∷ handles) d = remove_all handles (without_block d h.0)
+
+-- so many bytes can be an image: one for its kind, and at most 65,520 behind it
+abbrev pub IsImageLength : ℕ → Type 0
+IsImageLength n = (1 ≤ n) × (n ≤ 65521)
 
 -- Refusals that no rule of the document decides.
 

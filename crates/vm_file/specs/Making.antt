@@ -1,10 +1,11 @@
 -- The making of a file.
 use Rattle.std.specs.Prelude.{◌≡◌, ◌⊎◌, ℕ, ◌+◌, ◌*◌, ◌<◌, ◌≤◌, max, false, List, [], ◌∷◌, ◌++◌, All, IfSome, Option, None, Some, length}
 use Rattle.vm_store.specs.Facts.{byte, Holds, Puts}
-use Rattle.geos_model.specs.File.{directory_text, bytes_in, pages_of}
+use Rattle.geos_model.specs.File.{slot_mark, Directory, directory_text, bytes_in, pages_of}
 use Rattle.geos_model.specs.declared.file.Extent.{Extent}
+use Rattle.geos_model.specs.declared.file.Slot.{Slot}
 use Rattle.vm_file.specs.Ranges.{IsPlaced, start_of, end_of, IsClear}
-use Rattle.vm_file.specs.Slots.{mark, gate_text, block_extents}
+use Rattle.vm_file.specs.Slots.{gate_text, block_extents}
 use Rattle.vm_file.specs.Documents.{blocks_in, document_in, attempted_in, entries_of, directory_of_table, AreImaged}
 use Rattle.vm_file.specs.Sound.{IsTable}
 use Rattle.vm_file.specs.Opened.{IsImageOf}
@@ -16,13 +17,13 @@ use Rattle.vm_file.specs.declared.slots.Other.TheVariants.{Shut}
 
 -- what a first slot holds whose gate is shut
 abbrev pub first_slot : Extent → List ℕ
-first_slot directory = mark ++ 0 ∷ gate_text 1 directory directory
+first_slot directory = slot_mark ++ 0 ∷ gate_text 1 directory directory
 
 -- Slot 0 has the number 1 and leads to one directory, which has this text; all behind the slots is as it was but for that, and so is
 -- the gate of slot 1.
 pub record IsLaid (gate : ℕ) (directory : Extent) (text old new : List ℕ) : Type 0 where
   pub gate_is : byte new 4 ≡ gate
-  pub marked : Holds new 0 mark
+  pub marked : Holds new 0 slot_mark
   pub rest : Holds new 5 (gate_text 1 directory directory)
   pub beside : byte new 516 ≡ byte old 516
   pub there : Holds new (start_of directory) text
@@ -59,6 +60,19 @@ pub record IsFounding (directory : Extent) (text : List ℕ) (live : Table) : Ty
   pub user_ids : All (λ e. e.user_id < 65536) (entries_of 1 live.places.items)
   pub text_is : text ≡ directory_text (directory_of_table live)
   pub size : length text ≡ directory.length
+
+-- The file of no block.
+
+-- its directory lies behind the slots
+abbrev pub first_directory : Extent
+first_directory = record { page = 2; length = 16 }
+
+abbrev pub no_blocks : Directory
+no_blocks = record { map_block = 0; entries = [] }
+
+-- the slot that counts
+abbrev pub first_open : Slot
+first_open = record { gate = 1; version = 1; reserved = 0; sequence = 1; working = first_directory; saved = first_directory }
 
 -- Copies.
 

@@ -1,8 +1,8 @@
 -- Ranges of a file: the bytes of extents, and what a write leaves of them.
-use Rattle.std.specs.Prelude.{◌≡◌, ◌⊎◌, ℕ, ◌+◌, ◌*◌, ◌<◌, ◌≤◌, List, length, All}
-use Rattle.vm_store.specs.Facts.{byte}
+use Rattle.std.specs.Prelude.{◌⊎◌, ℕ, ◌+◌, ◌*◌, ◌≤◌, List, All}
 use Rattle.geos_model.specs.File.{end_page, last_page}
 use Rattle.geos_model.specs.declared.file.Extent.{Extent}
+pub use Rattle.geos_model.specs.FileLaws.{Keeps}
 
 -- where an extent begins; pages have 512 bytes
 abbrev pub start_of : Extent → ℕ
@@ -12,21 +12,16 @@ start_of e = 512 * e.page
 abbrev pub end_of : Extent → ℕ
 end_of e = start_of e + e.length
 
--- an extent that can be: behind the slots, below the last page, of 1 to 128 pages
+-- an extent that can be: behind the slots, below the last page, of as many bytes as an image has; a directory has fewer
 pub record IsPlaced (e : Extent) : Type 0 where
   pub behind : 2 ≤ e.page
   pub within : end_page e ≤ last_page
   pub some : 1 ≤ e.length
-  pub short : e.length ≤ 65536
+  pub short : e.length ≤ 65521
 
--- the extent's bytes lie in c, and are those of the file
-pub record SameIn (file c : List ℕ) (e : Extent) : Type 0 where
-  pub within : end_of e ≤ length c
-  pub each : (i : ℕ) → i < e.length → byte c (start_of e + i) ≡ byte file (start_of e + i)
-
--- so it is with each of them
-abbrev pub Keeps : List Extent → List ℕ → List ℕ → Type 0
-Keeps extents file c = All (SameIn file c) extents
+-- the bytes of each of these extents stay
+abbrev pub KeepsAll : List Extent → List ℕ → List ℕ → Type 0
+KeepsAll extents file c = All (Keeps file c) extents
 
 -- n bytes at a place are apart from those that begin and end there
 abbrev pub IsOut : ℕ → ℕ → ℕ → ℕ → Type 0

@@ -3,7 +3,8 @@ use Rattle.std.specs.Prelude.{◌≡◌, ◌≢◌, ◌⊎◌, ℕ, ◌+◌, ◌
 use Rattle.byteorder.specs.Endian.{little_bytes}
 use Rattle.vm_store.specs.Facts.{StoreFacts, byte, Holds}
 use Rattle.geos_model.specs.declared.file.Extent.{Extent}
-use Rattle.vm_file.specs.Ranges.{IsPlaced, Keeps, IsOut, IsClear}
+use Rattle.geos_model.specs.File.{slot_mark, extent_text}
+use Rattle.vm_file.specs.Ranges.{IsPlaced, KeepsAll, IsOut, IsClear}
 use Rattle.vm_file.specs.declared.table.Place.{Place}
 use Rattle.vm_file.specs.declared.slots.Stored.{Stored}
 use Rattle.vm_file.specs.declared.slots.Pair.{Pair}
@@ -37,8 +38,8 @@ kept_extents slots = pair_extents slots.committed ++ held_extents slots.other
 -- The slots.
 
 -- the slot that counts
-abbrev pub slot_of : Slots → ℕ
-slot_of slots = if slots.second then 1 else 0
+abbrev pub counting_of : Slots → ℕ
+counting_of slots = if slots.second then 1 else 0
 
 -- the other one
 abbrev pub other_of : Slots → ℕ
@@ -56,30 +57,24 @@ FailedEarly old new = (new ≡ old) ⊎ (new ≡ record old { other = Shut })
 abbrev pub Failed : Slots → Pair → Slots → Type 0
 Failed old pair new = FailedEarly old new ⊎ (new ≡ record old { other = Held pair })
 
-abbrev pub mark : List ℕ
-mark = 0x47 ∷ 0x56 ∷ 0x4d ∷ 0x46 ∷ []
-
-abbrev pub extent_bytes : Extent → List ℕ
-extent_bytes e = little_bytes 4 e.page ++ little_bytes 4 e.length
-
 -- what stands behind the gate of a slot: version, two zeros, sequence number, the directories of the updated and the saved document
 unfoldable pub gate_text : ℕ → Extent → Extent → List ℕ
-gate_text sequence updated saved = 1 ∷ 0 ∷ 0 ∷ little_bytes 8 sequence ++ extent_bytes updated ++ extent_bytes saved
+gate_text sequence updated saved = 1 ∷ 0 ∷ 0 ∷ little_bytes 8 sequence ++ extent_text updated ++ extent_text saved
 
 abbrev pub behind_gate : ℕ → Pair → List ℕ
 behind_gate sequence pair = gate_text sequence pair.updated.directory pair.saved.directory
 
 -- Whatever its gate, the slot has this number and leads to this pair, whose bytes are those of the file.
 pub record Leads (slot sequence : ℕ) (pair : Pair) (file c : List ℕ) : Type 0 where
-  pub marked : Holds c (512 * slot) mark
+  pub marked : Holds c (512 * slot) slot_mark
   pub rest : Holds c (512 * slot + 5) (behind_gate sequence pair)
-  pub kept : Keeps (pair_extents pair) file c
+  pub kept : KeepsAll (pair_extents pair) file c
 
 -- the slot has another mark
 pub record IsUnmarked (slot : ℕ) (c : List ℕ) : Type 0 where
   pub bytes : List ℕ
   pub size : length bytes ≡ 4
-  pub other : bytes ≢ mark
+  pub other : bytes ≢ slot_mark
   pub there : Holds c (512 * slot) bytes
 
 -- the slot has a lower number
@@ -96,8 +91,8 @@ IsBeside (Held pair) slot sequence file c = Leads slot (sequence + 1) pair file 
 
 -- What a crash left: the slot that counts is open and whole, and the other is as it is known to be.
 pub record Outcome (slots : Slots) (file c : List ℕ) : Type 0 where
-  pub gate : byte c (512 * slot_of slots + 4) ≡ 1
-  pub counts : Leads (slot_of slots) slots.sequence slots.committed file c
+  pub gate : byte c (512 * counting_of slots + 4) ≡ 1
+  pub counts : Leads (counting_of slots) slots.sequence slots.committed file c
   pub beside : IsBeside slots.other (other_of slots) slots.sequence file c
 
 -- a crash now leaves such a file
@@ -121,6 +116,6 @@ IsBesideOut (Held pair) slot at n = IsOut at n (512 * slot) (512 * slot + 4) × 
 
 -- a write there changes nothing on which the slots stand
 pub record Spares (at n : ℕ) (slots : Slots) : Type 0 where
-  pub slot : IsOut at n (512 * slot_of slots) (512 * slot_of slots + 32)
+  pub slot : IsOut at n (512 * counting_of slots) (512 * counting_of slots + 32)
   pub committed : IsClear at n (pair_extents slots.committed)
   pub beside : IsBesideOut slots.other (other_of slots) at n

@@ -2,7 +2,7 @@
 use Rattle.std.specs.Prelude.{◌≡◌, ℕ, zero, suc, ◌-◌, ◌<◌, ◌≤◌, ◌==◌, not, List, [], ◌∷◌, All, Option, None, Some, length, get_or, slice_index, slice_set}
 use Rattle.vm_store.specs.Facts.{StoreFacts, Holds}
 use Rattle.geos_model.specs.declared.file.Extent.{Extent}
-use Rattle.vm_file.specs.Ranges.{start_of, end_of, IsPlaced, SameIn, Keeps, IsOut, IsClear}
+use Rattle.vm_file.specs.Ranges.{start_of, end_of, IsPlaced, Keeps, KeepsAll, IsOut, IsClear}
 use Rattle.vm_file.specs.Slots.{Leaves, Outlives}
 use Rattle.geos_model.specs.declared.handle.VmHandle.{VmHandle}
 use Rattle.vm_file.specs.declared.put.PutBlock.{PutBlock}
@@ -23,7 +23,7 @@ IsAside extents e = All (λ x. IsOut (start_of x) x.length (start_of e) (end_of 
 
 -- calls that write into these extents alone, on which the slots don't stand
 pub record Fills (slots : Slots) (extents : List Extent) (old new : StoreFacts) : Type 0 where
-  pub keeps : (e : Extent) → IsAside extents e → end_of e ≤ length old.content → SameIn old.content new.content e
+  pub keeps : (e : Extent) → IsAside extents e → end_of e ≤ length old.content → Keeps old.content new.content e
   pub leaves : (file : List ℕ) → Leaves old slots file → Leaves new slots file
   pub crash : (file : List ℕ) → Leaves old slots file → Outlives old new file (λ s. s ≡ slots)
 
@@ -33,7 +33,7 @@ AreWritten n puts extents file = (k : ℕ) (e : Extent) (p : PutBlock) → k < n
 
 -- calls that keep these extents, and all that the slots stand on
 pub record IsSpared (extents : List Extent) (slots : Slots) (old new : StoreFacts) : Type 0 where
-  pub keeps : All (λ e. end_of e ≤ length old.content) extents → Keeps extents old.content new.content
+  pub keeps : All (λ e. end_of e ≤ length old.content) extents → KeepsAll extents old.content new.content
   pub leaves : (file : List ℕ) → Leaves old slots file → Leaves new slots file
   pub crash : (file : List ℕ) → Leaves old slots file → Outlives old new file (λ s. s ≡ slots)
 

@@ -2,8 +2,9 @@
 ghost use Rattle.std.specs.Prelude.{◌≡◌, ◌≢◌, ◌⊎◌, ◌+◌, ◌*◌, ◌<◌, ◌≤◌, ◌↔◌, ℕ, List, [], ◌∷◌, All, IsTrue, OnOk, OnErr, MatchResult, length};
 ghost use Rattle.vm_store.specs.Facts.{raised, IsDurable, Torn, Holds, Counts};
 ghost use Rattle.vm_store.specs.Laws.{Tears};
-ghost use Rattle.vm_file.specs.Ranges.{start_of, IsPlaced, Keeps, IsClear};
-ghost use Rattle.vm_file.specs.Slots.{mark, gate_text, behind_gate, pair_extents, kept_extents, other_of, turned, AreKept, Leaves, Outlives, FailedEarly, Failed};
+ghost use Rattle.geos_model.specs.File.{slot_mark};
+ghost use Rattle.vm_file.specs.Ranges.{start_of, IsPlaced, KeepsAll, IsClear};
+ghost use Rattle.vm_file.specs.Slots.{gate_text, behind_gate, pair_extents, kept_extents, other_of, turned, AreKept, Leaves, Outlives, FailedEarly, Failed};
 
 use crate::slots::{Other, Pair, Slots};
 use byteorder::{ByteOrder, LittleEndian};
@@ -119,7 +120,7 @@ fn fill_slot<S: Store>(store: &mut S, slots: &Slots, pair: &Pair) -> Result<(), 
     ensures crash { (file : List ℕ) → IsTrue (S.facts store.old).honest → Leaves (S.facts store.old) slots.now file
         → Outlives (S.facts store.old) (S.facts store.new) file (λ s. s ≡ slots.now) }
     ensures leaves { (file : List ℕ) → IsTrue (S.facts store.old).honest → Leaves (S.facts store.old) slots.now file → Leaves (S.facts store.new) slots.now file }
-    ensures marked { OnOk result (IsTrue (S.facts store.old).honest → Holds (S.facts store.new).content (512 * other_of slots.now) mark) }
+    ensures marked { OnOk result (IsTrue (S.facts store.old).honest → Holds (S.facts store.new).content (512 * other_of slots.now) slot_mark) }
     ensures rest { OnOk result (IsTrue (S.facts store.old).honest → Holds (S.facts store.new).content (512 * other_of slots.now + 5) (behind_gate (slots.now.sequence + 1) pair.now)) }
     ensures durable { OnOk result (IsTrue (S.facts store.old).honest → IsDurable (S.facts store.new)) }
 {
@@ -178,9 +179,9 @@ pub fn commit<S: Store>(store: &mut S, slots: &mut Slots, pair: Pair) -> Result<
         → Outlives (S.facts store.old) (S.facts store.new) file (λ s. FailedEarly slots.old s))) }
     ensures elsewhere { IsTrue (S.facts store.old).honest → Torn 0 1024 (S.facts store.old).content (S.facts store.new).content }
     // `file` is a content that has the bytes of all extents: that at the call, or an earlier one
-    ensures crash { (file : List ℕ) → IsTrue (S.facts store.old).honest → Leaves (S.facts store.old) slots.old file → Keeps (pair_extents pair) file (S.facts store.old).content
+    ensures crash { (file : List ℕ) → IsTrue (S.facts store.old).honest → Leaves (S.facts store.old) slots.old file → KeepsAll (pair_extents pair) file (S.facts store.old).content
         → Outlives (S.facts store.old) (S.facts store.new) file (λ s. Failed slots.old pair s) }
-    ensures leaves { (file : List ℕ) → IsTrue (S.facts store.old).honest → Leaves (S.facts store.old) slots.old file → Keeps (pair_extents pair) file (S.facts store.old).content
+    ensures leaves { (file : List ℕ) → IsTrue (S.facts store.old).honest → Leaves (S.facts store.old) slots.old file → KeepsAll (pair_extents pair) file (S.facts store.old).content
         → Leaves (S.facts store.new) slots.new file }
 {
     shut_gate(store, slots)?;

@@ -1,11 +1,12 @@
-ghost use Rattle.std.specs.Prelude.{◌≡◌, ◌≢◌, ◌⊎◌, ◌↔◌, ◌≤◌, ◌<◌, ◌+◌, ℕ, List, [], ◌∷◌, All, IsTrue, IfOk, IfErr, IfSome, OnOk, OnErr, IsErrOf, IsOk, MatchResult, Ok, Err, Some, true, false, is_some, length};
+ghost use Rattle.std.specs.Prelude.{◌≡◌, ◌≢◌, ◌⊎◌, ◌↔◌, ◌≤◌, ◌<◌, ◌+◌, ℕ, List, [], ◌∷◌, All, IsTrue, IfOk, IfErr, IfSome, OnOk, OnErr, IsErrOf, IsOk, MatchResult, Ok, Err, None, Some, true, false, is_some, length};
 ghost use Rattle.vm_store.specs.Facts.{Raised, Rests};
 ghost use Rattle.geos_model.specs.Document.{empty_document, is_live, is_vm_handle, user_id_of, with_user_id, block_at, is_heap_body};
 ghost use Rattle.geos_model.specs.Image.{image};
-ghost use Rattle.geos_model.specs.File.{stands};
+ghost use Rattle.geos_model.specs.File.{bytes_in, directory_text, open_slot, stands};
 ghost use Rattle.vm_file.specs.Disk.{FileState, Drifts, Passes, Commits, IsSettled, Numbered};
 ghost use Rattle.vm_file.specs.Documents.{sequence_in};
-ghost use Rattle.vm_file.specs.Calls.{IsPut, put_all, remove_all, IsSupply, IsCommitRefusal, IsOpenRefusal, last_sequence};
+ghost use Rattle.vm_file.specs.Making.{first_directory, first_open, no_blocks};
+ghost use Rattle.vm_file.specs.Calls.{IsPut, put_all, remove_all, IsImageLength, IsSupply, IsCommitRefusal, IsOpenRefusal, last_sequence};
 
 use crate::copies::{copy_stored, copy_table, twice};
 use crate::copying::copy_document;
@@ -52,7 +53,7 @@ impl<S: Store> Model for VmFile<S> {
 }
 
 impl<S: Store> VmFile<S> {
-    /// Makes the store an empty document file, whatever was in it. Memory, File.
+    /// Makes the store an empty document file, whatever was in it. Memory, before the store is called; File.
     pub fn create(alloc: Global, store: S) -> Result<VmFile<S>, Refused<S>>
         ensures honest { MatchResult result
             (λ file. (S.facts file.disk.store).honest ≡ (S.facts store).honest)
@@ -64,8 +65,12 @@ impl<S: Store> VmFile<S> {
             × (file.disk.attempted ≡ []) × (file.disk.sequence ≡ 1)) }
         ensures numbered { IfOk result (λ file. IsTrue (S.facts store).honest → Numbered (S.facts file.disk.store) 1) }
         ensures settled { IfOk result (λ file. IsSettled S.facts file.disk) }
-        // the slots, and a directory of no block
+        // The slots, of which the first one counts, and a directory of no block.
         ensures size { IfOk result (λ file. IsTrue (S.facts store).honest → length (S.facts file.disk.store).content ≡ 1040) }
+        ensures first { IfOk result (λ file. IsTrue (S.facts store).honest → open_slot (S.facts file.disk.store).content 0 ≡ Some first_open) }
+        ensures second { IfOk result (λ file. IsTrue (S.facts store).honest → open_slot (S.facts file.disk.store).content 1 ≡ None) }
+        ensures directory { IfOk result (λ file. IsTrue (S.facts store).honest → bytes_in (S.facts file.disk.store).content first_directory ≡ directory_text no_blocks) }
+        ensures early { IfErr result (λ refused. refused.fault ≢ Fault.File → refused.store ≡ store) }
         ensures file { IfErr result (λ refused. refused.fault ≡ Fault.File → Raised (S.facts store) (S.facts refused.store)) }
         ensures refusals { IfErr result (λ refused. IsSupply refused.fault) }
     {
@@ -119,6 +124,9 @@ impl<S: Store> VmFile<S> {
         ensures user_id { IfSome result (λ place. place.user_id ≡ user_id_of self.now.document block.0) }
         ensures kind { IfSome result (λ place. IsTrue (S.facts self.now.disk.store).honest → place.is_heap ≡ is_heap_body (block_at self.now.document block.0).body) }
         ensures handle { IfSome result (λ place. is_vm_handle block.0 ≡ true) }
+        ensures length { IfSome result (λ place. IsImageLength place.extent.length) }
+        ensures image { IfSome result (λ place. IsTrue (S.facts self.now.disk.store).honest
+            → bytes_in (S.facts self.now.disk.store).content place.extent ≡ image (block_at self.now.document block.0).body) }
     {
         place_of(&self.live.places, block)
     }
@@ -136,7 +144,7 @@ impl<S: Store> VmFile<S> {
         ensures passes { Passes S.facts self.old.disk self.new.disk }
         ensures drifts { Drifts (S.facts self.old.disk.store).honest self.old.document self.new.document }
         ensures image { IfOk result (λ bytes. IsTrue (S.facts self.old.disk.store).honest → bytes.items ≡ image (block_at self.old.document block.0).body) }
-        ensures size { IfOk result (λ bytes. length bytes.items ≤ 65536) }
+        ensures size { IfOk result (λ bytes. IsImageLength (length bytes.items)) }
         ensures file { IsErrOf result Fault.File → Raised (S.facts self.old.disk.store) (S.facts self.new.disk.store) }
         ensures refusals { IfErr result IsSupply }
     {
@@ -163,8 +171,8 @@ impl<S: Store> VmFile<S> {
     }
 
     /// Writes the images of blocks, and then puts all these blocks into the document and takes others out. Where it is
-    /// refused nothing of that is done. Memory, File; with nothing to write it takes no memory, calls no store and isn't
-    /// refused.
+    /// refused nothing of that is done. Memory, before anything is written; File. With nothing to write it takes no memory,
+    /// calls no store and isn't refused.
     pub fn put_blocks(&mut self, puts: &[PutBlock], removals: &[VmHandle]) -> Result<(), Fault>
         requires puts { All IsPut puts.now }
         requires few { length puts.now ≤ 2048 }
@@ -172,6 +180,7 @@ impl<S: Store> VmFile<S> {
         ensures passes { Passes S.facts self.old.disk self.new.disk }
         ensures ok { OnOk result (Drifts (S.facts self.old.disk.store).honest (remove_all removals.now (put_all puts.now self.old.document)) self.new.document) }
         ensures err { OnErr result (Drifts (S.facts self.old.disk.store).honest self.old.document self.new.document) }
+        ensures early { IfErr result (λ fault. fault ≢ Fault.File → self.new ≡ self.old) }
         ensures removals_alone { puts.now ≡ [] → IsOk result × (self.new ≡ record self.old { document = remove_all removals.now self.old.document }) }
         ensures file { IsErrOf result Fault.File → Raised (S.facts self.old.disk.store) (S.facts self.new.disk.store) }
         ensures refusals { IfErr result IsSupply }

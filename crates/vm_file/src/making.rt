@@ -1,10 +1,10 @@
 // The making of a file.
-ghost use Rattle.std.specs.Prelude.{◌≡◌, ◌≤◌, ℕ, List, [], ◌∷◌, IsTrue, OnOk, IfOk, IfErr, IsErrOf, None, replicate, length};
-ghost use Rattle.vm_file.specs.Slots.{mark};
+ghost use Rattle.std.specs.Prelude.{◌≡◌, ◌≢◌, ◌≤◌, ℕ, List, [], ◌∷◌, IsTrue, OnOk, IfOk, IfErr, IsErrOf, None, replicate, length};
+ghost use Rattle.geos_model.specs.File.{slot_mark};
 ghost use Rattle.vm_store.specs.Facts.{IsDurable, Puts, Counts, Raised};
 ghost use Rattle.geos_model.specs.Document.{most_blocks};
 ghost use Rattle.vm_file.specs.Calls.{IsSupply};
-ghost use Rattle.vm_file.specs.Making.{first_slot, IsLaid, IsFirst};
+ghost use Rattle.vm_file.specs.Making.{first_directory, first_slot, IsLaid, IsFirst};
 ghost use Rattle.vm_file.specs.Sound.{IsSound};
 
 use crate::commit::{MARK, PAGE, behind_gate_bytes};
@@ -83,7 +83,7 @@ fn write_slots<S: Store>(store: &mut S, directory: Extent) -> Result<(), StoreFa
     ensures honest { (S.facts store.new).honest ≡ (S.facts store.old).honest }
     ensures failures { Counts result (S.facts store.old) (S.facts store.new) }
     ensures first { OnOk result (IsTrue (S.facts store.old).honest
-        → (c : List ℕ) × Puts 0 (first_slot directory) (S.facts store.old).content c × Puts 512 mark c (S.facts store.new).content) }
+        → (c : List ℕ) × Puts 0 (first_slot directory) (S.facts store.old).content c × Puts 512 slot_mark c (S.facts store.new).content) }
     ensures durable { OnOk result (IsTrue (S.facts store.old).honest → IsDurable (S.facts store.new)) }
 {
     store.write_at(0, &first_slot_bytes(directory))?;
@@ -148,8 +148,9 @@ pub fn make_empty<S: Store>(alloc: Global, store: &mut S) -> Result<Made, Fault>
     ensures sound { IfOk result (λ made. IsSound (S.facts store.new) made.live made.slots) }
     ensures map_block { IfOk result (λ made. made.live.map_block ≡ 0) }
     ensures places { IfOk result (λ made. made.live.places.items ≡ replicate most_blocks None) }
-    ensures first { IfOk result (λ made. IsFirst (record { page = 2; length = 16 }) made.live made.slots) }
+    ensures first { IfOk result (λ made. IsFirst first_directory made.live made.slots) }
     ensures size { IfOk result (λ made. IsTrue (S.facts store.old).honest → length (S.facts store.new).content ≡ 1040) }
+    ensures early { IfErr result (λ fault. fault ≢ Fault.File → store.new ≡ store.old) }
     ensures file { IsErrOf result Fault.File → Raised (S.facts store.old) (S.facts store.new) }
     ensures refusals { IfErr result IsSupply }
 {

@@ -56,7 +56,6 @@ pub fn taken_extents(
     slots: &Slots,
 ) -> Result<Vec<Extent>, AllocError>
     ensures all { IfOk result (λ taken. IsPermutation (block_extents live.now ++ kept_extents slots.now) taken.items) }
-    ensures count { IfOk result (λ taken. length taken.items ≡ length (block_extents live.now ++ kept_extents slots.now)) }
     ensures in_order { IfOk result (λ taken. AreInOrder taken.items) }
 {
     let mut taken = Vec::new(alloc);

@@ -1,5 +1,5 @@
 // Images that come into the file.
-ghost use Rattle.std.specs.Prelude.{◌≡◌, ◌++◌, ◌+◌, ◌≤◌, [], All, IsTrue, IsOk, IfOk, IfErr, IsErrOf, OnOk, OnErr, length};
+ghost use Rattle.std.specs.Prelude.{◌≡◌, ◌≢◌, ◌++◌, ◌+◌, ◌≤◌, [], All, IsTrue, IsOk, IfOk, IfErr, IsErrOf, OnOk, OnErr, length};
 ghost use Rattle.vm_store.specs.Facts.{Raised};
 ghost use Rattle.vm_file.specs.Ranges.{IsPlaced};
 ghost use Rattle.vm_file.specs.Slots.{block_extents, kept_extents, AreKept};
@@ -37,7 +37,8 @@ pub fn write_images<S: Store>(
     Ok(())
 }
 
-/// Finds free extents for the images of blocks, and writes them there; none where there is nothing to write. Memory, File.
+/// Finds free extents for the images of blocks, and writes them there; none where there is nothing to write. Memory, before
+/// anything is written; File.
 pub fn write_puts<S: Store>(
     alloc: Global,
     store: &mut S,
@@ -54,6 +55,7 @@ pub fn write_puts<S: Store>(
     ensures spared { IsTrue (S.facts store.old).honest → IsSpared (block_extents live.now) slots.now (S.facts store.old) (S.facts store.new) }
     ensures found { IfOk result (λ extents. AreFor (block_extents live.now ++ kept_extents slots.now) puts.now (length puts.now) extents.items) }
     ensures written { IfOk result (λ extents. IsTrue (S.facts store.old).honest → AreWritten (length puts.now) puts.now extents.items (S.facts store.new).content) }
+    ensures early { IfErr result (λ fault. fault ≢ Fault.File → store.new ≡ store.old) }
     ensures nothing { puts.now ≡ [] → IsOk result × (store.new ≡ store.old) }
     ensures file { IsErrOf result Fault.File → Raised (S.facts store.old) (S.facts store.new) }
     ensures refusals { IfErr result IsSupply }

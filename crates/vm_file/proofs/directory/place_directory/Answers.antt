@@ -1,5 +1,6 @@
 use Rattle.std.proofs.Common.{◌++◌, ap, subst, sym, arith, length}
 use Rattle.std.specs.List.Sorted.{IsPermutation}
+use Rattle.std.proofs.lemmas.List.Sorted.{length_permutation}
 use Rattle.vm_space.specs.Placing.{AreExtents, IsFirstFit}
 use Rattle.vm_file.specs.Slots.{block_extents, kept_extents}
 use Rattle.vm_file.proofs.Drafted.{taken_placed, are_extents, room_clear, room_placed}
@@ -10,7 +11,7 @@ pub place-requires-clause-few : goal.place-requires-clause-few
 place-requires-clause-few c =
     let few = few_extents c.args.live.now c.args.slots.now c.requires.formed in
     let same = ap (λ ps. length (block_extents ps ++ kept_extents c.args.slots.now)) c.deref.ensures.value in
-    let count = c.in_ok-taken.ensures.count in
+    let count = length_permutation (block_extents c.deref.result.now ++ kept_extents c.args.slots.now) c.in_ok-taken.taken.items c.in_ok-taken.ensures.all in
     let taken = ap length c.deref-2.ensures.value in
     omega (arith, few, same, count, taken)
 

@@ -1,11 +1,12 @@
 use Rattle.std.proofs.Common.{◌≡◌, ◌*◌, IsTrue, sym, ap, subst}
+use Rattle.std.proofs.lemmas.Result.{on_ok_weaker}
 use Rattle.vm_store.specs.Facts.{Puts}
 use Rattle.vm_file.specs.Ranges.{start_of}
-use Rattle.vm_file.proofs.First.{on_ok, slots_laid}
+use Rattle.vm_file.proofs.First.{slots_laid}
 use Rattle.vm_file.proofs.making.lay_out.Goals as goal
 
 pub returns-clause-laid : goal.returns-clause-laid
-returns-clause-laid g c = on_ok c.write_slots.result (λ first holds.
+returns-clause-laid g c = on_ok_weaker c.write_slots.result (λ first holds.
     let still = subst IsTrue (sym c.write_at.ensures.honest) holds in
     let b = (g.S.Store.facts c.write_at.new.self).content in
     let a = (g.S.Store.facts c.args.store.now).content in

@@ -1,8 +1,8 @@
 use Rattle.std.proofs.Common.{[], IsTrue, refl, sym, subst}
 use Rattle.geos_model.specs.File.{directory_text}
-use Rattle.vm_file.specs.Making.{IsLaid}
+use Rattle.vm_file.specs.Making.{first_directory, no_blocks, IsLaid}
 use Rattle.vm_file.specs.Sound.{IsSound}
-use Rattle.vm_file.proofs.First.{IsEmpty, first_directory, first_sound, empty_founding, empty_lying}
+use Rattle.vm_file.proofs.First.{IsEmpty, first_sound, empty_founding, empty_lying}
 use Rattle.vm_file.proofs.making.make_empty.Goals as goal
 
 pub returns-in-Ok-clause-sound : goal.returns-in-Ok-clause-sound
@@ -12,8 +12,8 @@ returns-in-Ok-clause-sound g c =
     let store = g.S.Store.facts c.found.new.store in
     let none : IsEmpty 2048 live = record { map_block = c.in_ok-live.ensures.map_block; places = c.in_ok-live.ensures.places } in
     subst (λ t. IsSound store t slots) (sym c.in_ok-made.ensures.live)
-    (first_sound first_directory _ live slots c.in_ok-made.ensures.first (empty_founding (directory_text (record { map_block = 0; entries = [] })) 2048 live refl none refl) store []
+    (first_sound first_directory _ live slots c.in_ok-made.ensures.first (empty_founding (directory_text no_blocks) 2048 live refl none refl) store []
     (λ so.
     let was = subst IsTrue c.found.ensures.honest so in
     let first = subst IsTrue c.empty.ensures.honest was in
-    (empty_lying 2048 live none, subst (λ f. IsLaid 1 first_directory (directory_text (record { map_block = 0; entries = [] })) f store.content) (c.in_ok-empty.ensures.empty first) (c.in-Ok.ensures.laid was), c.in-Ok.ensures.durable was)))
+    (empty_lying 2048 live none, subst (λ f. IsLaid 1 first_directory (directory_text no_blocks) f store.content) (c.in_ok-empty.ensures.empty first) (c.in-Ok.ensures.laid was), c.in-Ok.ensures.durable was)))

@@ -1,6 +1,6 @@
 use Rattle.std.proofs.Common.{◌++◌, All, length, sym, ap, subst, arith}
 use Rattle.std.proofs.lemmas.List.Elements.{All-append}
-use Rattle.std.proofs.lemmas.List.Sorted.{All-permutation, IsPermutation-sym}
+use Rattle.std.proofs.lemmas.List.Sorted.{All-permutation, IsPermutation-sym, length_permutation}
 use Rattle.vm_file.specs.Ranges.{IsPlaced}
 use Rattle.vm_file.specs.Slots.{block_extents, kept_extents}
 use Rattle.vm_file.specs.Writing.{AreFor, Fills}
@@ -9,7 +9,7 @@ use Rattle.vm_file.proofs.Writes.{for_fewer, spared_by}
 use Rattle.vm_file.proofs.writing.write_puts.Goals as goal
 
 pub place_images-requires-clause-few : goal.place_images-requires-clause-few
-place_images-requires-clause-few g c = let same = ap length c.deref.ensures.value in let count = c.in_ok-taken.ensures.count in let few = c.requires.few in omega (arith, same, count, few)
+place_images-requires-clause-few g c = let same = ap length c.deref.ensures.value in let count = length_permutation (block_extents c.args.live.now ++ kept_extents c.args.slots.now) c.in_ok-taken.taken.items c.in_ok-taken.ensures.all in let few = c.requires.few in omega (arith, same, count, few)
 
 pub place_images-requires-clause-placed : goal.place_images-requires-clause-placed
 place_images-requires-clause-placed g c =

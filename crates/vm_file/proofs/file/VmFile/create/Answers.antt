@@ -1,6 +1,8 @@
 use Rattle.std.proofs.Common.{IsTrue, sym, subst, ◌∙◌}
 use Rattle.vm_file.specs.Disk.{Numbered}
-use Rattle.vm_file.proofs.First.{IsEmpty, empty_shown, first_directory, first_shown}
+use Rattle.vm_file.specs.Making.{first_directory}
+use Rattle.vm_file.proofs.First.{IsEmpty, empty_shown, first_shown}
+use Rattle.vm_file.proofs.Made.{made_open, made_shut, made_directory}
 use Rattle.vm_file.proofs.Stands.{sound_settled, sound_numbered}
 use Rattle.vm_file.proofs.file.VmFile.create.Goals as goal
 
@@ -23,3 +25,22 @@ returns-in-Ok-clause-numbered g c so =
     let one = first_shown file first_directory made.live made.slots c.in-Ok.ensures.first in
     subst (Numbered (g.S.Store.facts c.make_empty.new.store)) one.sequence
     (sound_numbered g.S.Store.facts c.make_empty.new.store made.live made.slots c.in-Ok.ensures.sound (subst IsTrue (sym c.make_empty.ensures.honest) so) one.attempted)
+
+pub returns-in-Ok-clause-first : goal.returns-in-Ok-clause-first
+returns-in-Ok-clause-first g c so =
+    let store = c.make_empty.new.store in
+    let still = subst IsTrue (sym c.make_empty.ensures.honest) so in
+    made_open (g.S.Store.facts store) c.in-Ok.made.live c.in-Ok.made.slots c.in-Ok.ensures.sound c.in-Ok.ensures.first still (g.met.S.Store.timely store still).now
+
+pub returns-in-Ok-clause-second : goal.returns-in-Ok-clause-second
+returns-in-Ok-clause-second g c so =
+    let store = c.make_empty.new.store in
+    let still = subst IsTrue (sym c.make_empty.ensures.honest) so in
+    made_shut (g.S.Store.facts store) c.in-Ok.made.live c.in-Ok.made.slots c.in-Ok.ensures.sound c.in-Ok.ensures.first still (g.met.S.Store.timely store still).now
+
+pub returns-in-Ok-clause-directory : goal.returns-in-Ok-clause-directory
+returns-in-Ok-clause-directory g c so =
+    let store = c.make_empty.new.store in
+    let still = subst IsTrue (sym c.make_empty.ensures.honest) so in
+    let none : IsEmpty 2048 c.in-Ok.made.live = record { map_block = c.in-Ok.ensures.map_block; places = c.in-Ok.ensures.places } in
+    made_directory (g.S.Store.facts store) c.in-Ok.made.live c.in-Ok.made.slots c.in-Ok.ensures.sound c.in-Ok.ensures.first still (g.met.S.Store.timely store still).now 2048 none

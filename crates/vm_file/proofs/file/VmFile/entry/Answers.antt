@@ -1,8 +1,13 @@
 use Rattle.std.proofs.Common.{◌≡◌, ◌-◌, IsTrue, ap, subst, ◌∙◌}
 use Rattle.std.specs.Prelude.{IfSome}
 use Rattle.geos_model.specs.Document.{is_live, user_id_of, block_at, is_heap_body}
+use Rattle.geos_model.specs.Image.{image}
+use Rattle.geos_model.specs.File.{bytes_in}
 use Rattle.geos_model.proofs.Tables.{slot_at}
-use Rattle.vm_file.proofs.Tables.{IsPlaceOf, entry_live, entry_user_id, entry_kind, entry_handle}
+use Rattle.vm_file.specs.Slots.{block_extents}
+use Rattle.vm_file.specs.Calls.{IsImageLength}
+use Rattle.vm_file.proofs.Imaged.{entry_image, placed_lengths}
+use Rattle.vm_file.proofs.Tables.{IsPlaceOf, entry_live, entry_user_id, entry_kind, entry_handle, entry_extent}
 use Rattle.vm_file.proofs.file.VmFile.entry.Goals as goal
 
 pub returns-clause-live : goal.returns-clause-live
@@ -35,3 +40,19 @@ returns-clause-handle g c =
     let h = c.args.block.0 in
     let is : IsPlaceOf live.places.items h c.place_of.result = record { nothing = c.place_of.ensures.zero; place = λ low. c.place_of.ensures.place low ∙ ap (λ ps. slot_at ps (h - 1)) c.deref.ensures.value } in
     entry_handle live.places.items h c.place_of.result c.self.invariant.formed.table.size is
+
+pub returns-clause-length : goal.returns-clause-length
+returns-clause-length g c =
+    let live = c.self.inside.live in
+    let h = c.args.block.0 in
+    let is : IsPlaceOf live.places.items h c.place_of.result = record { nothing = c.place_of.ensures.zero; place = λ low. c.place_of.ensures.place low ∙ ap (λ ps. slot_at ps (h - 1)) c.deref.ensures.value } in
+    entry_extent (λ e. IsImageLength e.length) live.places.items h c.place_of.result (placed_lengths (block_extents live.places.items) c.self.invariant.formed.placed) is
+
+pub returns-clause-image : goal.returns-clause-image
+returns-clause-image g c =
+    let live = c.self.inside.live in
+    let h = c.args.block.0 in
+    let facts = g.S.Store.facts c.self.inside.store in
+    let is : IsPlaceOf live.places.items h c.place_of.result = record { nothing = c.place_of.ensures.zero; place = λ low. c.place_of.ensures.place low ∙ ap (λ ps. slot_at ps (h - 1)) c.deref.ensures.value } in
+    subst (λ s. IfSome c.place_of.result (λ place. IsTrue (g.S.Store.facts s.disk.store).honest → bytes_in (g.S.Store.facts s.disk.store).content place.extent ≡ image (block_at s.document h).body)) c.self.view_is
+    (entry_image (IsTrue facts.honest) facts.content live.places.items live.map_block h c.place_of.result (λ yes. (c.self.invariant.whole yes).images) is)

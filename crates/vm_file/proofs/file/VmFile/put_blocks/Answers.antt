@@ -1,5 +1,6 @@
 use Rattle.std.proofs.Common.{◌≡◌, ◌≢◌, ◌++◌, All, length, refl, sym, ap, ap₂, subst, ◌∙◌, arith}
 use Rattle.std.specs.Vec.{with_items}
+use Rattle.std.proofs.lemmas.Result.{err_from_is_err_and}
 use Rattle.vm_file.specs.Calls.{put_all, remove_all}
 use Rattle.vm_file.specs.Disk.{Drifts, Passes}
 use Rattle.vm_file.specs.Documents.{document_in}
@@ -9,7 +10,8 @@ use Rattle.vm_file.specs.Writing.{IsSpared, with_places, without_places}
 use Rattle.vm_file.specs.declared.table.Table.{Table}
 use Rattle.vm_file.proofs.Filled.{shown_without_all}
 use Rattle.vm_file.proofs.Tables.{shown}
-use Rattle.vm_file.proofs.Puts.{few_extents, changed_twice, on_err, spared_passes, spared_drifts, spared_sound, put_drifts, put_sound}
+use Rattle.vm_file.proofs.Copied.{on_err}
+use Rattle.vm_file.proofs.Puts.{few_extents, changed_twice, spared_passes, spared_drifts, spared_sound, put_drifts, put_sound}
 use Rattle.vm_file.proofs.file.VmFile.put_blocks.Goals as goal
 
 pub write_puts-requires-clause-few : goal.write_puts-requires-clause-few
@@ -42,6 +44,15 @@ returns-in_err-extents-clause-err g c =
     (subst (λ s. Drifts (g.S.Store.facts s.disk.store).honest s.document (document_in (g.S.Store.facts b).content i.live)) c.self.view_is
     (spared_drifts g.S.Store.facts i.store b i.live i.slots c.self.invariant c.write_puts.ensures.honest (λ so. (g.met.S.Store.timely i.store so).now) (λ so. (g.met.S.Store.timely b so).now)
     (λ so. subst (λ ps. IsSpared (block_extents ps) i.slots (g.S.Store.facts i.store) (g.S.Store.facts b)) c.deref.ensures.value (c.write_puts.ensures.spared so))))
+
+pub returns-in_err-extents-clause-early : goal.returns-in_err-extents-clause-early
+returns-in_err-extents-clause-early g c =
+    let p = err_from_is_err_and c.from_residual.result c.from_residual.ensures.1 in
+    let i = c.self.inside in
+    let facts = g.S.Store.facts in
+    rw (p.1) (λ other.
+    let same = c.in_err-extents.ensures.early (λ is. other (p.2 ∙ is)) in
+    (λ j. record { disk = disk_of facts (same j) i.slots; document = document_in (facts (same j)).content i.live }) ∙ c.self.view_is)
 
 pub invariant_of-self-2 : goal.invariant_of-self-2
 invariant_of-self-2 g c =

@@ -1,15 +1,17 @@
-use Rattle.std.proofs.Common.{◌≡◌, ◌-◌, ◌≤◌, IsTrue, length, is_some, sym, ap, subst, ◌∙◌, arith}
+use Rattle.std.proofs.Common.{◌≡◌, ◌-◌, IsTrue, length, is_some, sym, ap, subst, ◌∙◌, arith}
 use Rattle.std.specs.Prelude.{IfOk}
+use Rattle.std.proofs.lemmas.Result.{IfOk-weaker}
 use Rattle.vm_store.specs.Facts.{Holds}
 use Rattle.geos_model.specs.Document.{is_live, block_at}
 use Rattle.geos_model.specs.Image.{image}
 use Rattle.geos_model.proofs.Tables.{slot_at}
+use Rattle.vm_file.specs.Calls.{IsImageLength}
 use Rattle.vm_file.specs.Ranges.{IsPlaced, start_of}
 use Rattle.vm_file.specs.Documents.{blocks_in, document_in}
 use Rattle.vm_file.specs.Disk.{Passes, Drifts}
 use Rattle.vm_file.specs.Sound.{disk_of}
 use Rattle.vm_file.proofs.Carried.{call_passes}
-use Rattle.vm_file.proofs.Imaged.{read_image, if_ok, if_ok_both}
+use Rattle.vm_file.proofs.Imaged.{read_image, if_ok_both}
 use Rattle.vm_file.proofs.Steps.{rests_leaves, rests_outlives}
 use Rattle.vm_file.proofs.Tables.{IsPlaceOf, entry_live, entry_lies, each_at, places_of, places_drift}
 use Rattle.vm_file.proofs.file.VmFile.read_block.Goals as goal
@@ -59,4 +61,4 @@ returns-clause-size g c =
     let is : IsPlaceOf i.live.places.items h c.place_of.result = record { nothing = c.place_of.ensures.zero; place = λ low. c.place_of.ensures.place low ∙ ap (λ ps. slot_at ps (h - 1)) c.deref.ensures.value } in
     let at = entry_lies i.live.places.items h c.in-Some.place (subst (λ o. IsPlaceOf i.live.places.items h o) c.in-Some.is is) in
     let placed : IsPlaced e = each_at (λ p. IsPlaced p.extent) i.live.places.items (h - 1) c.in-Some.place at.1 (places_of IsPlaced i.live.places.items c.self.invariant.formed.placed) in
-    if_ok (λ bytes. length bytes.items ≡ e.length) (λ bytes. length bytes.items ≤ 65536) c.read_extent.result (λ bytes size. omega (arith, size, placed.short)) c.read_extent.ensures.size
+    IfOk-weaker c.read_extent.result (λ bytes. length bytes.items ≡ e.length) (λ bytes. IsImageLength (length bytes.items)) (λ bytes size. (omega (arith, size, placed.some), omega (arith, size, placed.short))) c.read_extent.ensures.size
