@@ -10,7 +10,7 @@ use Rattle.vm_file.specs.Writing.{IsSpared, with_places, without_places}
 use Rattle.vm_file.specs.declared.table.Table.{Table}
 use Rattle.vm_file.proofs.Filled.{shown_without_all}
 use Rattle.vm_file.proofs.Tables.{shown}
-use Rattle.vm_file.proofs.Copied.{on_err}
+use Rattle.vm_file.proofs.Results.{on_err}
 use Rattle.vm_file.proofs.Puts.{few_extents, changed_twice, spared_passes, spared_drifts, spared_sound, put_drifts, put_sound}
 use Rattle.vm_file.proofs.file.VmFile.put_blocks.Goals as goal
 
