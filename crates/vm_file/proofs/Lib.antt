@@ -13,6 +13,7 @@ pub mod Found
 pub mod Imaged
 pub mod KeptBytes
 pub mod LaidOut
+pub mod Listed
 pub mod Live
 pub mod Looking
 pub mod Outcomes
