@@ -1,5 +1,5 @@
 -- What is changed comes into a file batch by batch.
-use Rattle.std.proofs.Common.{◌≡◌, ◌≢◌, ◌⊎◌, ℕ, zero, suc, ◌+◌, ◌<◌, ◌≤◌, Bool, true, false, IsTrue, List, [], ◌∷◌, ◌++◌, All, Option, None, Some, is_some, refl, sym, ap, subst, ◌∙◌, arith, inl, inr, nat_cmp}
+use Rattle.std.proofs.Common.{◌≡◌, ◌≢◌, ◌⊎◌, ℕ, zero, suc, ◌+◌, ◌-◌, ◌<◌, ◌≤◌, Bool, true, false, IsTrue, List, [], ◌∷◌, ◌++◌, All, Option, None, Some, is_some, refl, sym, ap, subst, ◌∙◌, arith, inl, inr, nat_cmp}
 use Rattle.std.proofs.lemmas.Bool.{cases_eq, cases_lt, cases_Bool}
 use Rattle.std.proofs.lemmas.List.Elements.{All-append}
 use Rattle.std.specs.FinMap.{get, same_map, nat_cmp-IsAntisymmetric}
@@ -139,6 +139,28 @@ module _ (d : Document) (changed : List Bool) (from end : ℕ) (order : from ≤
         stays = λ file h out. let here = not_next is h out in others file h here.0 ∙ batch.stays file h here.1;
         map_block = λ file. remove_map (removals ++ g ∷ []) (put_all puts file) ∙ put_map puts file;
       }
+
+module _ (d : Document) (changed : List Bool) (from k : ℕ) (order : from < k) (puts : List PutBlock) (removals : List VmHandle) (batch : IsBatch d changed from (k - 1) puts removals) where
+  next_is : k - 1 + 1 ≡ k
+  next_is = omega (arith, order)
+
+  low : from ≤ k - 1
+  low = omega (arith, order)
+
+  pub next_skips : is_changed changed k ≡ false → IsBatch d changed from k puts removals
+  next_skips same = subst (λ n. IsBatch d changed from n puts removals) next_is (batch_skips d changed from (k - 1) low puts removals batch (ap (is_changed changed) next_is ∙ same))
+
+  pub next_puts : (p : PutBlock) (b : Block) → is_changed changed k ≡ true → IsPut p → p.handle.0 ≡ k → put_block p ≡ b → get d.blocks k ≡ Some b → (all : List PutBlock) → all ≡ puts ++ p ∷ [] → IsBatch d changed from k all removals
+  next_puts p b is put at block there all pushed =
+      subst (λ ps. IsBatch d changed from k ps removals) (sym pushed)
+      (subst (λ n. IsBatch d changed from n (puts ++ p ∷ []) removals) next_is
+      (batch_puts d changed from (k - 1) low puts removals batch p b (ap (is_changed changed) next_is ∙ is) put (at ∙ sym next_is) block (ap (get d.blocks) next_is ∙ there)))
+
+  pub next_removes : (g : VmHandle) → is_changed changed k ≡ true → g.0 ≡ k → get d.blocks k ≡ None → (all : List VmHandle) → all ≡ removals ++ g ∷ [] → IsBatch d changed from k puts all
+  next_removes g is at gone all pushed =
+      subst (λ hs. IsBatch d changed from k puts hs) (sym pushed)
+      (subst (λ n. IsBatch d changed from n puts (removals ++ g ∷ [])) next_is
+      (batch_removes d changed from (k - 1) low puts removals batch g (ap (is_changed changed) next_is ∙ is) (at ∙ sym next_is) (ap (get d.blocks) next_is ∙ gone)))
 
 -- What the file has.
 

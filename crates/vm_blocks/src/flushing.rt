@@ -1,10 +1,10 @@
 // What is changed in memory, written to a document file.
-ghost use Rattle.std.specs.Prelude.{◌≡◌, ◌≤◌, ◌<◌, ℕ, IsTrue, OnOk, IfOk, IfErr, IsErrOf, length};
+ghost use Rattle.std.specs.Prelude.{◌≡◌, ◌≤◌, ◌<◌, ◌+◌, ◌-◌, ℕ, true, IsTrue, OnOk, IfOk, IfErr, IsErrOf, length};
 ghost use Rattle.vm_store.specs.Facts.{Raised};
-ghost use Rattle.geos_model.specs.Document.{is_live, most_blocks};
+ghost use Rattle.geos_model.specs.Document.{is_live, is_vm_handle, most_blocks};
 ghost use Rattle.vm_file.specs.Calls.{IsSupply};
 ghost use Rattle.vm_file.specs.Disk.{Passes};
-ghost use Rattle.vm_blocks.specs.InFile.{IsInFile, IsBatch, IsCleared, AreCleared};
+ghost use Rattle.vm_blocks.specs.InFile.{is_changed, IsInFile, IsBatch, IsCleared, AreCleared};
 
 use crate::Blocks;
 use crate::blocks::MOST_BLOCKS;
@@ -22,41 +22,63 @@ const BATCH: usize = 64;
 struct Batch {
     puts: Vec<PutBlock>,
     removals: Vec<VmHandle>,
-    /// All that is changed before this place is in the file after it.
-    end: usize,
 }
 
-// The next blocks that are changed, from a place on.
+fn is_changed(changed: &[bool], handle: VmHandle) -> bool
+    requires size { length changed.now ≡ most_blocks }
+    requires handle { is_vm_handle handle.0 ≡ true }
+    ensures { result ≡ is_changed changed.now handle.0 }
+{
+    changed[usize::from(handle.0) - 1]
+}
+
+// Adds the block under a handle, if it is changed.
+fn gather_one(
+    alloc: Global,
+    blocks: &Blocks,
+    changed: &[bool],
+    handle: VmHandle,
+    batch: &mut Batch,
+) -> Result<(), AllocError>
+    requires size { length changed.now ≡ most_blocks }
+    requires handle { is_vm_handle handle.0 ≡ true }
+    ensures batch { OnOk result ((from : ℕ) → from < handle.0 → IsBatch blocks.now changed.now from (handle.0 - 1) batch.old.puts.items batch.old.removals.items
+        → IsBatch blocks.now changed.now from handle.0 batch.new.puts.items batch.new.removals.items) }
+    ensures few { length batch.new.puts.items ≤ length batch.old.puts.items + 1 }
+{
+    if !is_changed(changed, handle) {
+        return Ok(());
+    }
+    match blocks.block(handle) {
+        Some(block) => batch.puts.push(put_of(alloc, handle, block)?)?,
+        None => batch.removals.push(handle)?,
+    }
+    Ok(())
+}
+
+// The next blocks that are changed, from a place on, and the place behind them.
 fn gather(
     alloc: Global,
     blocks: &Blocks,
     changed: &[bool],
     from: usize,
-) -> Result<Batch, AllocError>
+) -> Result<(Batch, usize), AllocError>
     requires size { length changed.now ≡ most_blocks }
     requires from { from < MOST_BLOCKS }
-    ensures batch { IfOk result (λ batch. IsBatch blocks.now changed.now from batch.end batch.puts.items batch.removals.items) }
-    ensures few { IfOk result (λ batch. length batch.puts.items ≤ 64) }
-    ensures on { IfOk result (λ batch. (from < batch.end) × (batch.end ≤ MOST_BLOCKS)) }
+    ensures batch { IfOk result (λ p. IsBatch blocks.now changed.now from p.1 p.0.puts.items p.0.removals.items) }
+    ensures few { IfOk result (λ p. length p.0.puts.items ≤ 64) }
+    ensures on { IfOk result (λ p. (from < p.1) × (p.1 ≤ MOST_BLOCKS)) }
 {
-    let mut puts = Vec::new(alloc);
-    let mut removals = Vec::new(alloc);
+    let mut batch = Batch {
+        puts: Vec::new(alloc),
+        removals: Vec::new(alloc),
+    };
     let mut end = from;
-    while end < MOST_BLOCKS && puts.len() < BATCH {
-        let handle = VmHandle(end as u16 + 1);
-        if changed[end] {
-            match blocks.block(handle) {
-                Some(block) => puts.push(put_of(alloc, handle, block)?)?,
-                None => removals.push(handle)?,
-            }
-        }
+    while end < MOST_BLOCKS && batch.puts.len() < BATCH {
+        gather_one(alloc, blocks, changed, VmHandle(end as u16 + 1), &mut batch)?;
         end += 1;
     }
-    Ok(Batch {
-        puts,
-        removals,
-        end,
-    })
+    Ok((batch, end))
 }
 
 fn clear(changed: &mut [bool], from: usize, end: usize)
@@ -88,10 +110,10 @@ fn put_batch<S: Store>(
     ensures file { IsErrOf result Fault.File → Raised (S.facts file.old.disk.store) (S.facts file.new.disk.store) }
     ensures refusals { IfErr result IsSupply }
 {
-    let batch = gather(alloc, blocks, changed, from)?;
+    let (batch, end) = gather(alloc, blocks, changed, from)?;
     file.put_blocks(&batch.puts, &batch.removals)?;
-    clear(changed, from, batch.end);
-    Ok(batch.end)
+    clear(changed, from, end);
+    Ok(end)
 }
 
 // Puts all blocks that are changed into the file. Memory, File.
