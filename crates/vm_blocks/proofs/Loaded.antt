@@ -40,12 +40,15 @@ taken honest d old new h user_id body bytes live is read image valid put =
     let b = block_by (get d.blocks h) live in
     let at : block_at d h ≡ b.0 = ap (λ o. unwrap_or o (record { user_id = 0; body = Raw [] })) b.1 in
     let uid : user_id ≡ b.0.user_id = is ∙ ap (λ o. option_map_or (λ (x : Block). x.user_id) o 0) b.1 in
-    inr (b.0, record {
-      body = body;
-      there = b.1;
-      new_is = put ∙ ap (λ u. with_block old h (record { user_id = u; body = body })) uid;
-      same = λ so. body_is body (block_at d h).body bytes read (image so) (valid so) ∙ ap (λ (x : Block). x.body) at;
-    })
+    inr (
+      b.0,
+      record {
+        body = body;
+        there = b.1;
+        new_is = put ∙ ap (λ u. with_block old h (record { user_id = u; body = body })) uid;
+        same = λ so. body_is body (block_at d h).body bytes read (image so) (valid so) ∙ ap (λ (x : Block). x.body) at;
+      },
+    )
 
 none_by : (o : Option Block) → is_some o ≡ false → o ≡ None
 none_by None none = refl
@@ -121,7 +124,7 @@ module _ (honest : Bool) (d now old new : Document) (n : ℕ) (drifts : Drifts h
         ];
         same = λ so h low. elim (cases_eq h (n + 1)) as (λ _. get new.blocks h ≡ get d.blocks h) [
           | inl here ↦ subst (λ k. get new.blocks k ≡ get d.blocks k) (sym here)
-            (last ∙ ap (λ (x : Body). Some (record { user_id = b.user_id; body = x })) (is.same so) ∙ sym is.there ∙ ap (λ (x : Document). get x.blocks (n + 1)) (drifts.same so))
+              (last ∙ ap (λ (x : Body). Some (record { user_id = b.user_id; body = x })) (is.same so) ∙ sym is.there ∙ ap (λ (x : Document). get x.blocks (n + 1)) (drifts.same so))
           | inr other ↦ others h other ∙ before.same so h (omega (arith, low, other))
         ];
         none = λ h high. others h (λ here. absurd (omega (arith, high, here))) ∙ before.none h (omega (arith, high));

@@ -150,6 +150,7 @@ pub fn flush<S: Store>(
     ensures passes { Passes S.facts file.old.disk file.new.disk }
     ensures kept { IsInFile (S.facts file.old.disk.store).honest file.new.document blocks.now changed.new }
     ensures ok { OnOk result (IsTrue (S.facts file.old.disk.store).honest → file.new.document ≡ blocks.now) }
+    ensures cleared { OnOk result (AreCleared MOST_BLOCKS changed.new) }
     ensures handles { OnOk result ((h : ℕ) → is_live file.new.document h ≡ is_live blocks.now h) }
     ensures file { IsErrOf result Fault.File → Raised (S.facts file.old.disk.store) (S.facts file.new.disk.store) }
     ensures refusals { IfErr result IsSupply }

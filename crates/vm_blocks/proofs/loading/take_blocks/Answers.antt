@@ -20,5 +20,5 @@ loop-i-preserved g c =
     let now = document_at c.args.version c.loop-i.file in (
       looks_trans g.S.Store.facts c.args.version c.args.file.now c.loop-i.file c.take_block.new.file looked c.take_block.ensures.looks,
       taken_more honest d now c.loop-i.blocks c.take_block.new.blocks c.loop-i.i looked.read c.loop-i.invariant.1
-      (subst (λ t. Takes t now (c.loop-i.i + 1) c.loop-i.blocks c.take_block.new.blocks) looked.passes.honest c.in_ok-take_block.ensures.ok),
+          (subst (λ t. Takes t now (c.loop-i.i + 1) c.loop-i.blocks c.take_block.new.blocks) looked.passes.honest c.in_ok-take_block.ensures.ok),
     )
