@@ -4,3 +4,6 @@ pub mod PartLemmas
 pub mod RoomLemmas
 pub mod SavedLemmas
 pub mod ValidLemmas
+pub mod FileImages
+pub mod Loaded
+pub mod Flushed

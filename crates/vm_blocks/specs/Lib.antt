@@ -4,3 +4,5 @@ pub mod Allowing
 pub mod Changes
 pub mod Parts
 pub mod Saved
+pub mod InFile
+pub mod Reading

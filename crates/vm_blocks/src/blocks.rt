@@ -16,7 +16,7 @@ use std::alloc::{AllocError, Global};
 use std::marker::Model;
 
 /// How many blocks a document can have: their handles are 1 to this.
-const MOST_BLOCKS: usize = 2_048;
+pub(crate) const MOST_BLOCKS: usize = 2_048;
 
 /// The live blocks of a document. Contracts see it as the document.
 #[derive(Drop)]
@@ -126,7 +126,7 @@ impl Blocks {
     }
 
     /// It does nothing: its caller learns that the document is valid, as it always is.
-    fn validity(&self)
+    pub(crate) fn validity(&self)
         ensures { IsValid self.now }
     {
         // What is always so of the fields is known where one is named.

@@ -4,14 +4,21 @@
 mod block;
 mod blocks;
 mod change;
+mod flushing;
+mod images;
 mod law;
+mod loading;
 mod part;
 mod prepared;
 mod saved;
+mod version;
 
 pub use block::{Block, BlockBody};
 pub use blocks::Blocks;
 pub use change::{Change, Content, Direction, PartChange};
+pub use flushing::flush;
 pub use law::change_law;
+pub use loading::load;
 pub use prepared::Prepared;
 pub use saved::{SavedBlock, SavedBody, SavedHeap, SavedRaw};
+pub use version::Version;

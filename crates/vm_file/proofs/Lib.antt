@@ -14,6 +14,7 @@ pub mod Imaged
 pub mod KeptBytes
 pub mod KeptDocuments
 pub mod LaidOut
+pub mod Listed
 pub mod Live
 pub mod Looking
 pub mod Made

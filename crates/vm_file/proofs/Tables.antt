@@ -46,7 +46,7 @@ blocks_in-set file (x ∷ xs) (suc i) o = ap (λ t. option_map (block_in file) x
 up : 0 < 1
 up = omega arith
 
-handle_in : (h : ℕ) → 1 ≤ h → h ≤ 2048 → is_vm_handle h ≡ true
+pub handle_in : (h : ℕ) → 1 ≤ h → h ≤ 2048 → is_vm_handle h ≡ true
 handle_in h low high = grind (arith, nat_tests)
 
 pub handle_within : (h : ℕ) → is_vm_handle h ≡ true → (1 ≤ h) × (h ≤ 2048)

@@ -1,8 +1,8 @@
 -- What callers see of a document file, and the words by which the layers above pass its promises on.
-use Rattle.std.specs.Prelude.{◌≡◌, ◌⊎◌, ℕ, ◌+◌, ◌≤◌, Bool, IsTrue, List, [], ◌∷◌, Result, Ok, OnOk, OnErr, MatchResult, refl, Some}
+use Rattle.std.specs.Prelude.{◌≡◌, ◌⊎◌, ℕ, ◌+◌, ◌≤◌, Bool, IsTrue, List, [], ◌∷◌, true, Result, Ok, OnOk, OnErr, MatchResult, refl, Some}
 use Rattle.std.specs.Coded.{Coded, code_by, coded×, coded_ℕ, coded_list}
 use Rattle.vm_store.specs.Facts.{StoreFacts}
-use Rattle.geos_model.specs.Document.{Document, is_live, user_id_of}
+use Rattle.geos_model.specs.Document.{Document, block_at, is_live, is_valid_body, is_vm_handle, user_id_of}
 use Rattle.geos_model.specs.File.{stands}
 use Rattle.geos_model.specs.declared.fault.Fault.{Fault}
 use Rattle.geos_model.proofs.Codes.{document_code}
@@ -66,6 +66,12 @@ pub record Drifts (honest : Bool) (old new : Document) : Type 0 where
   pub user_ids : (h : ℕ) → user_id_of new h ≡ user_id_of old h
   pub map_block : new.map_block ≡ old.map_block
   pub same : IsTrue honest → new ≡ old
+
+-- What a document of a file is: its handles can be, its map block is none or live, and over an honest store so can its bodies.
+pub record IsListed (honest : Bool) (d : Document) : Type 0 where
+  pub handles : (h : ℕ) → is_live d h ≡ true → is_vm_handle h ≡ true
+  pub map_block : (d.map_block ≡ 0) ⊎ (is_live d d.map_block ≡ true)
+  pub bodies : IsTrue honest → (h : ℕ) → is_live d h ≡ true → is_valid_body (block_at d h).body ≡ true
 
 -- Calls that commit nothing.
 pub record Passes {S : Type 0} (facts : S → StoreFacts) (old new : Disk S) : Type 0 where

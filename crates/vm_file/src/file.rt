@@ -3,7 +3,7 @@ ghost use Rattle.vm_store.specs.Facts.{Raised, Rests};
 ghost use Rattle.geos_model.specs.Document.{empty_document, is_live, is_vm_handle, user_id_of, with_user_id, block_at, is_heap_body};
 ghost use Rattle.geos_model.specs.Image.{image};
 ghost use Rattle.geos_model.specs.File.{bytes_in, directory_text, open_slot, stands};
-ghost use Rattle.vm_file.specs.Disk.{FileState, Drifts, Passes, Commits, IsSettled, Numbered};
+ghost use Rattle.vm_file.specs.Disk.{FileState, Drifts, IsListed, Passes, Commits, IsSettled, Numbered};
 ghost use Rattle.vm_file.specs.Documents.{sequence_in};
 ghost use Rattle.vm_file.specs.Making.{first_directory, first_open, no_blocks};
 ghost use Rattle.vm_file.specs.Calls.{IsPut, put_all, remove_all, IsImageLength, IsSupply, IsCommitRefusal, IsOpenRefusal, last_sequence};
@@ -129,6 +129,47 @@ impl<S: Store> VmFile<S> {
             → bytes_in (S.facts self.now.disk.store).content place.extent ≡ image (block_at self.now.document block.0).body) }
     {
         place_of(&self.live.places, block)
+    }
+
+    /// It does nothing: its caller learns what always holds of the document and of the saved one.
+    pub fn validity(&self)
+        ensures document { IsListed (S.facts self.now.disk.store).honest self.now.document }
+        ensures saved { IsListed (S.facts self.now.disk.store).honest self.now.disk.saved }
+    {
+        // What is always so of the fields is known where one is named.
+        let _ = &self.slots;
+    }
+
+    /// Where a block of the saved document lies, its user ID and its kind; None where it isn't live there.
+    pub fn saved_entry(&self, block: VmHandle) -> Option<Place>
+        ensures live { is_some result ≡ is_live self.now.disk.saved block.0 }
+        ensures user_id { IfSome result (λ place. place.user_id ≡ user_id_of self.now.disk.saved block.0) }
+        ensures handle { IfSome result (λ place. is_vm_handle block.0 ≡ true) }
+    {
+        place_of(&self.slots.committed.saved.table.places, block)
+    }
+
+    /// The map block of the saved document, 0 if there is none.
+    pub fn saved_map_block(&self) -> VmHandle
+        ensures { result.0 ≡ self.now.disk.saved.map_block }
+    {
+        VmHandle(self.slots.committed.saved.table.map_block)
+    }
+
+    /// The image of a block of the saved document. Memory, File.
+    pub fn read_saved(&mut self, block: VmHandle) -> Result<Vec<u8>, Fault>
+        requires { is_live self.old.disk.saved block.0 ≡ true }
+        ensures passes { Passes S.facts self.old.disk self.new.disk }
+        ensures drifts { Drifts (S.facts self.old.disk.store).honest self.old.document self.new.document }
+        ensures saved { Drifts (S.facts self.old.disk.store).honest self.old.disk.saved self.new.disk.saved }
+        ensures image { IfOk result (λ bytes. IsTrue (S.facts self.old.disk.store).honest → bytes.items ≡ image (block_at self.old.disk.saved block.0).body) }
+        ensures file { IsErrOf result Fault.File → Raised (S.facts self.old.disk.store) (S.facts self.new.disk.store) }
+        ensures refusals { IfErr result IsSupply }
+    {
+        match place_of(&self.slots.committed.saved.table.places, block) {
+            Some(place) => read_extent(self.alloc, &mut self.store, place.extent),
+            None => unreachable!(),
+        }
     }
 
     /// The map block, 0 if there is none.

@@ -1,0 +1,34 @@
+-- What always holds of the document of a table.
+use Rattle.std.proofs.Common.{◌≡◌, ◌⊎◌, ℕ, ◌-◌, ◌≤◌, Bool, true, IsTrue, List, length, Some, is_some, sym, ap, ◌∙◌, arith, inl, inr}
+use Rattle.geos_model.specs.Document.{is_live, is_valid_body, is_vm_handle, block_at}
+use Rattle.geos_model.specs.Image.{body_read}
+use Rattle.geos_model.specs.File.{bytes_in}
+use Rattle.geos_model.proofs.Files.{body_of-some}
+use Rattle.vm_file.specs.Documents.{IsImaged, AreImaged, document_in}
+use Rattle.vm_file.specs.Disk.{IsListed}
+use Rattle.vm_file.specs.Sound.{IsTable}
+use Rattle.vm_file.specs.declared.table.Table.{Table}
+use Rattle.vm_file.proofs.Tables.{each_at, lies, live_is, block_at_is, handle_in}
+
+module _ (honest : Bool) (file : List ℕ) (table : Table) (is : IsTable table) (images : IsTrue honest → AreImaged file table.places.items) where
+  listed_handle : (h : ℕ) → is_live (document_in file table) h ≡ true → is_vm_handle h ≡ true
+  listed_handle h live =
+      let there = lies file table.places.items table.map_block h live in
+      handle_in h there.low (omega (arith, there.within, is.size, there.low))
+
+  listed_body : IsTrue honest → (h : ℕ) → is_live (document_in file table) h ≡ true → is_valid_body (block_at (document_in file table) h).body ≡ true
+  listed_body so h live =
+      let there = lies file table.places.items table.map_block h live in
+      let image = (each_at (IsImaged file) table.places.items (h - 1) there.place there.at (images so)).image in
+      ap (λ b. is_valid_body b.body) (block_at_is file table.places.items table.map_block h there.place there.low there.at)
+      ∙ (body_of-some (bytes_in file there.place.extent) (body_read (bytes_in file there.place.extent)) image).0
+
+  pub listed : IsListed honest (document_in file table)
+  listed = record {
+    handles = listed_handle;
+    map_block = elim is.map_block as (λ _. (table.map_block ≡ 0) ⊎ (is_live (document_in file table) table.map_block ≡ true)) [
+      | inl none ↦ inl none
+      | inr one ↦ inr (live_is file table.places.items table.map_block table.map_block one.0 ∙ one.1)
+    ];
+    bodies = listed_body;
+  }
