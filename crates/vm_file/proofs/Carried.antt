@@ -15,7 +15,7 @@ use Rattle.vm_file.proofs.Stands.{outcome_stands, sound_readable, outcome_number
 use Rattle.vm_file.proofs.Steps.{leaves_rebased}
 
 module _ {S : Type 0} (facts : S → StoreFacts) (a b : S) (live : Table) (slots : Slots) (sound : IsSound (facts a) live slots) (honest : (facts b).honest ≡ (facts a).honest)
-    (before : IsTrue (facts a).honest → (facts a).may_leave (facts a).content) (now : IsTrue (facts b).honest → (facts b).may_leave (facts b).content)
+    (now : IsTrue (facts b).honest → (facts b).may_leave (facts b).content)
     (leaves : IsTrue (facts a).honest → Leaves (facts b) slots (facts a).content) where
   kept : IsTrue (facts a).honest → KeepsAll (kept_extents slots) (facts a).content (facts b).content
   kept so = outcome_keeps slots (facts a).content (facts b).content (leaves so (facts b).content (now (subst IsTrue (sym honest) so)))

@@ -34,7 +34,6 @@ pub record IsWriting {S : Type 0} (facts : S → StoreFacts) (a b : S) (live : T
   pub is_draft : IsDraft live slots draft
   pub honest : (facts b).honest ≡ (facts a).honest
   pub failures : (facts a).failures ≤ (facts b).failures
-  pub before : IsTrue (facts a).honest → (facts a).may_leave (facts a).content
   pub now : IsTrue (facts b).honest → (facts b).may_leave (facts b).content
   pub elsewhere : IsTrue (facts a).honest → Torn (start_of draft.stored.directory) draft.stored.directory.length (facts a).content (facts b).content
   pub crash : IsTrue (facts a).honest → Leaves (facts a) slots (facts a).content → Outlives (facts a) (facts b) (facts a).content (λ s. s ≡ slots)
@@ -54,10 +53,10 @@ module _ {S : Type 0} (facts : S → StoreFacts) (a b : S) (live : Table) (slots
   live_within so k d inside = (live_keeps so k d inside).within
 
   pub write_passes : Passes facts (disk_of facts a slots) (disk_of facts b slots)
-  write_passes = call_passes facts a b live slots call.sound call.honest call.before call.now (λ so. call.leaves so (call.sound.whole so).leaves) call.failures (λ so. call.crash so (call.sound.whole so).leaves)
+  write_passes = call_passes facts a b live slots call.sound call.honest call.now (λ so. call.leaves so (call.sound.whole so).leaves) call.failures (λ so. call.crash so (call.sound.whole so).leaves)
 
   pub write_sound : IsSound (facts b) live slots
-  write_sound = call_sound facts a b live slots call.sound call.honest call.before call.now (λ so. call.leaves so (call.sound.whole so).leaves) live call.sound.formed (λ so. (live_images so, live_within so))
+  write_sound = call_sound facts a b live slots call.sound call.honest call.now (λ so. call.leaves so (call.sound.whole so).leaves) live call.sound.formed (λ so. (live_images so, live_within so))
 
   pub write_same : IsTrue (facts a).honest → document_in (facts b).content live ≡ document_in (facts a).content live
   write_same so = ap (λ bs. record { blocks = table_map 1 1 bs; map_block = live.map_block }) (blocks_same (facts a).content (facts b).content live.places.items (call.sound.whole so).within (live_keeps so))

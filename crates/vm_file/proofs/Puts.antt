@@ -70,7 +70,7 @@ written_imaged file p e put is = record {
 }
 
 module _ {S : Type 0} (facts : S → StoreFacts) (a b : S) (live : Table) (slots : Slots) (sound : IsSound (facts a) live slots) (honest : (facts b).honest ≡ (facts a).honest)
-    (before : IsTrue (facts a).honest → (facts a).may_leave (facts a).content) (now : IsTrue (facts b).honest → (facts b).may_leave (facts b).content)
+    (now : IsTrue (facts b).honest → (facts b).may_leave (facts b).content)
     (spared : IsTrue (facts a).honest → IsSpared (block_extents live.places.items) slots (facts a) (facts b)) where
   leaves : IsTrue (facts a).honest → Leaves (facts b) slots (facts a).content
   leaves so = (spared so).leaves (facts a).content (sound.whole so).leaves
@@ -85,14 +85,14 @@ module _ {S : Type 0} (facts : S → StoreFacts) (a b : S) (live : Table) (slots
   within so k d inside = (kept so k d inside).within
 
   pub spared_passes : (facts a).failures ≤ (facts b).failures → Passes facts (disk_of facts a slots) (disk_of facts b slots)
-  spared_passes failures = call_passes facts a b live slots sound honest before now leaves failures (λ so. (spared so).crash (facts a).content (sound.whole so).leaves)
+  spared_passes failures = call_passes facts a b live slots sound honest now leaves failures (λ so. (spared so).crash (facts a).content (sound.whole so).leaves)
 
   pub spared_drifts : Drifts (facts a).honest (shown (facts a).content live.places.items live.map_block) (shown (facts b).content live.places.items live.map_block)
   spared_drifts = places_drift (facts a).honest (facts a).content (facts b).content live.places.items live.map_block (λ so. blocks_same (facts a).content (facts b).content live.places.items (sound.whole so).within (kept so))
 
   -- where the table stays
   pub spared_sound : IsSound (facts b) live slots
-  spared_sound = call_sound facts a b live slots sound honest before now leaves live sound.formed (λ so. (images so, within so))
+  spared_sound = call_sound facts a b live slots sound honest now leaves live sound.formed (λ so. (images so, within so))
 
   -- where the images were written, and the table is changed
   module _ (puts : List PutBlock) (extents : List Extent) (removals : List VmHandle) (new : Table) (are : All IsPut puts) (taken : List Extent) (found : AreFor taken puts (length puts) extents)
@@ -134,7 +134,7 @@ module _ {S : Type 0} (facts : S → StoreFacts) (a b : S) (live : Table) (slots
       }
 
       pub put_sound : IsSound (facts b) new slots
-      put_sound = call_sound facts a b live slots sound honest before now leaves new
+      put_sound = call_sound facts a b live slots sound honest now leaves new
           (record {
             table = new_table;
             placed = extents_of IsPlaced new.places.items (each_new (λ p. IsPlaced p.extent) (λ k p e low. found.placed k e (omega (arith, found.count, low))) (places_of IsPlaced live.places.items sound.formed.placed));

@@ -19,7 +19,6 @@ called g c = record {
   is_draft = c.requires.draft;
   honest = c.write_extent.ensures.honest;
   failures = counts_rise c.write_extent.result (g.S.Store.facts c.args.store.now) (g.S.Store.facts c.write_extent.new.store) c.write_extent.ensures.failures;
-  before = λ so. (g.met.S.Store.timely c.args.store.now so).now;
   now = λ so. (g.met.S.Store.timely c.write_extent.new.store so).now;
   elsewhere = c.write_extent.ensures.elsewhere;
   crash = λ so was. c.write_extent.ensures.crash (g.S.Store.facts c.args.store.now).content so was;

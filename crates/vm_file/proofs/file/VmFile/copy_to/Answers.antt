@@ -18,7 +18,7 @@ returns-clause-passes g c =
     let b = g.S.Store.facts c.copy_document.new.source in
     let looks = c.copy_document.ensures.looks in
     subst (λ s. Passes g.S.Store.facts s.disk (disk_of g.S.Store.facts c.copy_document.new.source i.slots)) c.self.view_is
-    (call_passes g.S.Store.facts i.store c.copy_document.new.source i.live i.slots c.self.invariant looks.honest (λ so. (g.met.S.Store.timely i.store so).now) (λ so. (g.met.S.Store.timely c.copy_document.new.source so).now)
+    (call_passes g.S.Store.facts i.store c.copy_document.new.source i.live i.slots c.self.invariant looks.honest (λ so. (g.met.S.Store.timely c.copy_document.new.source so).now)
     (λ so. rests_leaves i.slots a.content a b (looks.rests so) (c.self.invariant.whole so).leaves) looks.failures
     (λ so. rests_outlives i.slots a.content a b (looks.rests so) (c.self.invariant.whole so).leaves))
 

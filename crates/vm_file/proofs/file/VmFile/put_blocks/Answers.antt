@@ -25,7 +25,7 @@ pub invariant_of-self : goal.invariant_of-self
 invariant_of-self g c =
     let i = c.self.inside in
     let b = c.write_puts.new.store in
-    spared_sound g.S.Store.facts i.store b i.live i.slots c.self.invariant c.write_puts.ensures.honest (λ so. (g.met.S.Store.timely i.store so).now) (λ so. (g.met.S.Store.timely b so).now)
+    spared_sound g.S.Store.facts i.store b i.live i.slots c.self.invariant c.write_puts.ensures.honest (λ so. (g.met.S.Store.timely b so).now)
     (λ so. subst (λ ps. IsSpared (block_extents ps) i.slots (g.S.Store.facts i.store) (g.S.Store.facts b)) c.deref.ensures.value (c.write_puts.ensures.spared so))
 
 pub returns-in_err-extents-clause-passes : goal.returns-in_err-extents-clause-passes
@@ -33,7 +33,7 @@ returns-in_err-extents-clause-passes g c =
     let i = c.self.inside in
     let b = c.write_puts.new.store in
     subst (λ s. Passes g.S.Store.facts s.disk (disk_of g.S.Store.facts b i.slots)) c.self.view_is
-    (spared_passes g.S.Store.facts i.store b i.live i.slots c.self.invariant c.write_puts.ensures.honest (λ so. (g.met.S.Store.timely i.store so).now) (λ so. (g.met.S.Store.timely b so).now)
+    (spared_passes g.S.Store.facts i.store b i.live i.slots c.self.invariant c.write_puts.ensures.honest (λ so. (g.met.S.Store.timely b so).now)
     (λ so. subst (λ ps. IsSpared (block_extents ps) i.slots (g.S.Store.facts i.store) (g.S.Store.facts b)) c.deref.ensures.value (c.write_puts.ensures.spared so)) c.write_puts.ensures.failures)
 
 pub returns-in_err-extents-clause-err : goal.returns-in_err-extents-clause-err
@@ -42,7 +42,7 @@ returns-in_err-extents-clause-err g c =
     let b = c.write_puts.new.store in
     on_err c.from_residual.result _
     (subst (λ s. Drifts (g.S.Store.facts s.disk.store).honest s.document (document_in (g.S.Store.facts b).content i.live)) c.self.view_is
-    (spared_drifts g.S.Store.facts i.store b i.live i.slots c.self.invariant c.write_puts.ensures.honest (λ so. (g.met.S.Store.timely i.store so).now) (λ so. (g.met.S.Store.timely b so).now)
+    (spared_drifts g.S.Store.facts i.store b i.live i.slots c.self.invariant c.write_puts.ensures.honest (λ so. (g.met.S.Store.timely b so).now)
     (λ so. subst (λ ps. IsSpared (block_extents ps) i.slots (g.S.Store.facts i.store) (g.S.Store.facts b)) c.deref.ensures.value (c.write_puts.ensures.spared so))))
 
 pub returns-in_err-extents-clause-early : goal.returns-in_err-extents-clause-early
@@ -64,7 +64,7 @@ invariant_of-self-2 g c =
     let new : Table = record { map_block = i.live.map_block; places = with_items (with_items i.live.places c.put_places.new.places) c.remove_places.new.places } in
     let changed : new.places.items ≡ without_places c.args.removals.now (with_places c.args.puts.now es i.live.places.items) =
     changed_twice i.live.places.len i.live.places.items c.put_places.new.places c.remove_places.new.places c.args.puts.now es c.args.removals.now i.live.places.ok.0 filled left in
-    put_sound g.S.Store.facts i.store b i.live i.slots c.self.invariant c.write_puts.ensures.honest (λ so. (g.met.S.Store.timely i.store so).now) (λ so. (g.met.S.Store.timely b so).now)
+    put_sound g.S.Store.facts i.store b i.live i.slots c.self.invariant c.write_puts.ensures.honest (λ so. (g.met.S.Store.timely b so).now)
     (λ so. subst (λ ps. IsSpared (block_extents ps) i.slots (g.S.Store.facts i.store) (g.S.Store.facts b)) c.deref.ensures.value (c.write_puts.ensures.spared so))
     c.args.puts.now es c.args.removals.now new c.requires.puts _ c.in_ok-extents.ensures.found c.in_ok-extents.ensures.written refl changed
     (subst (λ s. All (λ h. h.0 ≢ s.document.map_block) c.args.removals.now) (sym c.self.view_is) c.requires.removals)
@@ -74,7 +74,7 @@ returns-clause-passes g c =
     let i = c.self.inside in
     let b = c.write_puts.new.store in
     subst (λ s. Passes g.S.Store.facts s.disk (disk_of g.S.Store.facts b i.slots)) c.self.view_is
-    (spared_passes g.S.Store.facts i.store b i.live i.slots c.self.invariant c.write_puts.ensures.honest (λ so. (g.met.S.Store.timely i.store so).now) (λ so. (g.met.S.Store.timely b so).now)
+    (spared_passes g.S.Store.facts i.store b i.live i.slots c.self.invariant c.write_puts.ensures.honest (λ so. (g.met.S.Store.timely b so).now)
     (λ so. subst (λ ps. IsSpared (block_extents ps) i.slots (g.S.Store.facts i.store) (g.S.Store.facts b)) c.deref.ensures.value (c.write_puts.ensures.spared so)) c.write_puts.ensures.failures)
 
 pub returns-clause-ok : goal.returns-clause-ok
@@ -88,7 +88,7 @@ returns-clause-ok g c =
     let changed : new.places.items ≡ without_places c.args.removals.now (with_places c.args.puts.now es i.live.places.items) =
     changed_twice i.live.places.len i.live.places.items c.put_places.new.places c.remove_places.new.places c.args.puts.now es c.args.removals.now i.live.places.ok.0 filled left in
     subst (λ s. Drifts (g.S.Store.facts s.disk.store).honest (remove_all c.args.removals.now (put_all c.args.puts.now s.document)) (document_in (g.S.Store.facts b).content new)) c.self.view_is
-    (put_drifts g.S.Store.facts i.store b i.live i.slots c.self.invariant c.write_puts.ensures.honest (λ so. (g.met.S.Store.timely i.store so).now) (λ so. (g.met.S.Store.timely b so).now)
+    (put_drifts g.S.Store.facts i.store b i.live i.slots c.self.invariant c.write_puts.ensures.honest (λ so. (g.met.S.Store.timely b so).now)
     (λ so. subst (λ ps. IsSpared (block_extents ps) i.slots (g.S.Store.facts i.store) (g.S.Store.facts b)) c.deref.ensures.value (c.write_puts.ensures.spared so))
     c.args.puts.now es c.args.removals.now new c.requires.puts _ c.in_ok-extents.ensures.found c.in_ok-extents.ensures.written refl changed)
 
