@@ -27,7 +27,7 @@ returns-clause-passes g c =
     let a = g.S.Store.facts i.store in
     let b = g.S.Store.facts c.read_extent.new.store in
     subst (λ s. Passes g.S.Store.facts s.disk (disk_of g.S.Store.facts c.read_extent.new.store i.slots)) c.self.view_is
-    (call_passes g.S.Store.facts i.store c.read_extent.new.store i.live i.slots c.self.invariant c.read_extent.ensures.honest (λ so. (g.met.S.Store.timely i.store so).now) (λ so. (g.met.S.Store.timely c.read_extent.new.store so).now)
+    (call_passes g.S.Store.facts i.store c.read_extent.new.store i.live i.slots c.self.invariant c.read_extent.ensures.honest (λ so. (g.met.S.Store.timely c.read_extent.new.store so).now)
     (λ so. rests_leaves i.slots a.content a b (c.read_extent.ensures.rests so) (c.self.invariant.whole so).leaves) c.read_extent.ensures.failures
     (λ so. rests_outlives i.slots a.content a b (c.read_extent.ensures.rests so) (c.self.invariant.whole so).leaves))
 
