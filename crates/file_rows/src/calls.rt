@@ -1,0 +1,158 @@
+// Calls of a document file, each with what it has to know beforehand.
+ghost use Rattle.std.specs.Prelude.{IfOk};
+ghost use Rattle.vm_file.specs.Calls.{IsPut};
+
+use geos_model::{Bytes, Fault, VmHandle};
+use lmem_heap::Heap;
+use std::alloc::Global;
+use vm_file::{PutBlock, Refused, VmFile};
+use vm_store::{MemStore, Store};
+
+/// How many handles there are.
+pub(crate) const MOST_BLOCKS: u16 = 2_048;
+
+pub(crate) fn why<S: Store>(refused: Refused<S>) -> Fault {
+    refused.fault
+}
+
+/// A document file in memory with these bytes.
+pub(crate) fn open(alloc: Global, bytes: &[u8]) -> Result<VmFile<MemStore>, Fault> {
+    let store = MemStore::from_bytes(alloc, bytes)?;
+    VmFile::open(alloc, store).map_err(why)
+}
+
+pub(crate) fn create<S: Store>(alloc: Global, store: S) -> Result<VmFile<S>, Fault> {
+    VmFile::create(alloc, store).map_err(why)
+}
+
+/// A raw block. Range where there can be none like it.
+pub(crate) fn raw_block(
+    alloc: Global,
+    handle: u16,
+    user_id: u16,
+    body: &[u8],
+) -> Result<PutBlock, Fault>
+    ensures { IfOk result IsPut }
+{
+    if handle == 0 || handle > MOST_BLOCKS || body.len() > 65_520 {
+        return Err(Fault::Range);
+    }
+    let mut image = Vec::with_capacity(alloc, 1 + body.len())?;
+    image.push(0)?;
+    image.extend_from_slice(body)?;
+    Ok(PutBlock {
+        handle: VmHandle(handle),
+        user_id,
+        image: Bytes::from_vec(image),
+    })
+}
+
+/// A block of a heap. Range where there can be none like it.
+pub(crate) fn heap_block(handle: u16, user_id: u16, heap: &Heap) -> Result<PutBlock, Fault>
+    ensures { IfOk result IsPut }
+{
+    if handle == 0 || handle > MOST_BLOCKS {
+        return Err(Fault::Range);
+    }
+    let image = heap.image()?;
+    Ok(PutBlock {
+        handle: VmHandle(handle),
+        user_id,
+        image: Bytes::from_vec(image),
+    })
+}
+
+/// Puts a raw block into the document.
+pub(crate) fn put<S: Store>(
+    alloc: Global,
+    file: &mut VmFile<S>,
+    handle: u16,
+    user_id: u16,
+    body: &[u8],
+) -> Result<(), Fault> {
+    let block = raw_block(alloc, handle, user_id, body)?;
+    file.put_blocks(&[block], &[])
+}
+
+/// Takes a block out of the document, unless it is the map block.
+pub(crate) fn remove<S: Store>(file: &mut VmFile<S>, handle: u16) -> Result<(), Fault> {
+    if file.map_block().0 == handle {
+        return Err(Fault::IsMap);
+    }
+    file.put_blocks(&[], &[VmHandle(handle)])
+}
+
+/// The image of a block, `None` where it isn't live.
+pub(crate) fn image_of<S: Store>(
+    file: &mut VmFile<S>,
+    handle: u16,
+) -> Result<Option<Vec<u8>>, Fault> {
+    match file.entry(VmHandle(handle)) {
+        Some(_) => Ok(Some(file.read_block(VmHandle(handle))?)),
+        None => Ok(None),
+    }
+}
+
+/// Whether a block is live and has this image.
+pub(crate) fn has<S: Store>(
+    file: &mut VmFile<S>,
+    handle: u16,
+    image: &[u8],
+) -> Result<bool, Fault> {
+    match image_of(file, handle)? {
+        Some(bytes) => Ok(bytes.as_slice() == image),
+        None => Ok(false),
+    }
+}
+
+/// The user ID of a block, `None` where it isn't live.
+pub(crate) fn user_id_of<S: Store>(file: &VmFile<S>, handle: u16) -> Option<u16> {
+    match file.entry(VmHandle(handle)) {
+        Some(place) => Some(place.user_id),
+        None => None,
+    }
+}
+
+pub(crate) fn set_user_id<S: Store>(
+    file: &mut VmFile<S>,
+    handle: u16,
+    user_id: u16,
+) -> Result<(), Fault> {
+    match file.entry(VmHandle(handle)) {
+        Some(_) => {
+            file.set_uid(VmHandle(handle), user_id);
+            Ok(())
+        }
+        None => Err(Fault::NoBlock),
+    }
+}
+
+pub(crate) fn set_map_block<S: Store>(file: &mut VmFile<S>, handle: u16) -> Result<(), Fault> {
+    match file.entry(VmHandle(handle)) {
+        Some(_) => {
+            file.set_map(VmHandle(handle));
+            Ok(())
+        }
+        None => Err(Fault::NoBlock),
+    }
+}
+
+/// The handles of the live blocks, rising.
+pub(crate) fn live_blocks<S: Store>(alloc: Global, file: &VmFile<S>) -> Result<Vec<u16>, Fault> {
+    let mut live = Vec::new(alloc);
+    for handle in 0..u16::MAX {
+        if file.entry(VmHandle(handle)).is_some() {
+            live.push(handle)?;
+        }
+    }
+    Ok(live)
+}
+
+pub(crate) fn has_no_block<S: Store>(file: &VmFile<S>) -> bool {
+    for handle in 1..=MOST_BLOCKS {
+        if file.entry(VmHandle(handle)).is_some() {
+            return false;
+        }
+    }
+    true
+}

@@ -1,0 +1,239 @@
+// What opens, and to which documents.
+use crate::calls::{has, has_no_block, image_of, live_blocks, open, user_id_of, why};
+use crate::example::{LENGTH, example};
+use geos_model::Fault;
+use std::alloc::Global;
+use std::test::Fail;
+use vm_file::VmFile;
+use vm_store::{FuseStore, MemStore};
+
+const VALUES: [u8; 6] = [0, 1, 2, 3, 254, 255];
+
+#[test]
+fn an_open_file_has_its_two_documents(rt: HostRuntime) -> Result<(), Fail> {
+    let alloc = rt.alloc();
+    let mut file = open(alloc, &example())?;
+    assert_eq!(rt; live_blocks(alloc, &file)?.as_slice(), [1].as_slice());
+    assert_eq!(rt; user_id_of(&file, 1), Some(7));
+    assert_eq!(rt; file.map_block().0, 1);
+    assert!(rt; has(&mut file, 1, b"\0ab")?);
+    file.commit_revert()?;
+    assert!(rt; has_no_block(&file));
+    assert_eq!(rt; file.map_block().0, 0);
+    Ok(())
+}
+
+// The next slot, under the next number, leads to a directory on the first free page.
+#[test]
+fn an_update_writes_the_other_slot(rt: HostRuntime) -> Result<(), Fail> {
+    let alloc = rt.alloc();
+    let mut file = open(alloc, &example())?;
+    file.commit_update()?;
+    let mut updated = [0; 2_592];
+    updated[..LENGTH].copy_from_slice(&example());
+    updated[512..544].copy_from_slice(
+        b"GVMF\x01\x01\0\0\x06\0\0\0\0\0\0\0\x05\0\0\0\x20\0\0\0\x03\0\0\0\x10\0\0\0",
+    );
+    updated[2_560..].copy_from_slice(
+        b"GDIR\x01\0\x01\0\x01\0\0\0\0\0\0\0\x01\0\x07\0\x04\0\0\0\x03\0\0\0\0\0\0\0",
+    );
+    assert_eq!(rt; file.close().bytes(), updated.as_slice());
+    Ok(())
+}
+
+// What is read of a file: the one block of the updated document, where the saved one has none.
+#[derive(Debug, PartialEq, Eq, Drop)]
+enum Answer {
+    Refused(Fault),
+    Block {
+        user_id: Option<u16>,
+        map_block: u16,
+        image: Vec<u8>,
+    },
+    Other,
+}
+
+fn look(alloc: Global, bytes: &[u8]) -> Result<Answer, Fault> {
+    let mut file = match open(alloc, bytes) {
+        Ok(file) => file,
+        Err(fault) => return Ok(Answer::Refused(fault)),
+    };
+    let user_id = user_id_of(&file, 1);
+    let map_block = file.map_block().0;
+    let Some(image) = image_of(&mut file, 1)? else {
+        return Ok(Answer::Other);
+    };
+    file.commit_revert()?;
+    if !has_no_block(&file) {
+        return Ok(Answer::Other);
+    }
+    Ok(Answer::Block {
+        user_id,
+        map_block,
+        image,
+    })
+}
+
+fn block(alloc: Global, user_id: u16, map_block: u16, image: &[u8]) -> Result<Answer, Fault> {
+    Ok(Answer::Block {
+        user_id: Some(user_id),
+        map_block,
+        image: image.to_vec(alloc)?,
+    })
+}
+
+fn same(alloc: Global) -> Result<Answer, Fault> {
+    block(alloc, 7, 1, b"\0ab")
+}
+
+// The answer to the example with another byte.
+fn answer_to(alloc: Global, at: usize, value: u8) -> Result<Answer, Fault> {
+    match at {
+        0..=5 => Ok(Answer::Refused(Fault::NotDocument)),
+        8 if value != 0 => same(alloc),
+        9..=15 | 32..=1_023 | 1_056..=1_535 | 1_552..=2_047 => same(alloc),
+        1_032 if value == 0 => block(alloc, 7, 0, b"\0ab"),
+        1_042 => block(alloc, u16::from(value), 1, b"\0ab"),
+        1_043 => block(alloc, u16::from_le_bytes([7, value]), 1, b"\0ab"),
+        1_048 if value == 1 => block(alloc, 7, 1, b"\0"),
+        1_048 if value == 2 => block(alloc, 7, 1, b"\0a"),
+        2_049 => block(alloc, 7, 1, &[0, value, b'b']),
+        2_050 => block(alloc, 7, 1, &[0, b'a', value]),
+        _ => Ok(Answer::Refused(Fault::Damaged)),
+    }
+}
+
+// The first place at which the example with this byte has another answer.
+fn first_wrong(alloc: Global, value: u8) -> Result<Option<usize>, Fault> {
+    for at in 0..LENGTH {
+        let mut bytes = example();
+        let want = if bytes[at] == value {
+            same(alloc)?
+        } else {
+            answer_to(alloc, at, value)?
+        };
+        bytes[at] = value;
+        if look(alloc, &bytes)? != want {
+            return Ok(Some(at));
+        }
+    }
+    Ok(None)
+}
+
+#[test]
+fn each_byte_is_set_to_zero(rt: HostRuntime) -> Result<(), Fail> {
+    assert_eq!(rt; first_wrong(rt.alloc(), 0)?, None);
+    Ok(())
+}
+
+#[test]
+fn each_byte_is_set_to_one(rt: HostRuntime) -> Result<(), Fail> {
+    assert_eq!(rt; first_wrong(rt.alloc(), 1)?, None);
+    Ok(())
+}
+
+#[test]
+fn each_byte_is_set_to_two(rt: HostRuntime) -> Result<(), Fail> {
+    assert_eq!(rt; first_wrong(rt.alloc(), 2)?, None);
+    Ok(())
+}
+
+#[test]
+fn each_byte_is_set_to_three(rt: HostRuntime) -> Result<(), Fail> {
+    assert_eq!(rt; first_wrong(rt.alloc(), 3)?, None);
+    Ok(())
+}
+
+#[test]
+fn each_byte_is_set_to_254(rt: HostRuntime) -> Result<(), Fail> {
+    assert_eq!(rt; first_wrong(rt.alloc(), 254)?, None);
+    Ok(())
+}
+
+#[test]
+fn each_byte_is_set_to_255(rt: HostRuntime) -> Result<(), Fail> {
+    assert_eq!(rt; first_wrong(rt.alloc(), 255)?, None);
+    Ok(())
+}
+
+#[test]
+fn a_file_that_is_cut_is_refused(rt: HostRuntime) -> Result<(), Fail> {
+    let alloc = rt.alloc();
+    for len in 0..LENGTH {
+        let fault = if len < 1_024 {
+            Fault::NotDocument
+        } else {
+            Fault::Damaged
+        };
+        assert_eq!(rt;
+            look(alloc, &example()[..len])?,
+            Answer::Refused(fault),
+            "{len} bytes"
+        );
+    }
+    Ok(())
+}
+
+// The example with so many bytes behind it.
+fn extended(alloc: Global, more: usize, value: u8) -> Result<Vec<u8>, Fault> {
+    let mut bytes = example().to_vec(alloc)?;
+    for _ in 0..more {
+        bytes.push(value)?;
+    }
+    Ok(bytes)
+}
+
+#[test]
+fn a_file_with_bytes_appended_is_the_same(rt: HostRuntime) -> Result<(), Fail> {
+    let alloc = rt.alloc();
+    for value in VALUES {
+        for more in [1, 509, 510, 1_100] {
+            let bytes = extended(alloc, more, value)?;
+            assert_eq!(rt; look(alloc, &bytes)?, same(alloc)?, "{more} bytes");
+        }
+    }
+    Ok(())
+}
+
+// The other slot is open too: there the saved document is the updated one, and the updated one the saved one.
+fn with_two_slots(number: u8) -> [u8; LENGTH] {
+    let mut bytes = example();
+    bytes[512..544].copy_from_slice(
+        b"GVMF\x01\x01\0\0\x05\0\0\0\0\0\0\0\x03\0\0\0\x10\0\0\0\x02\0\0\0\x20\0\0\0",
+    );
+    bytes[520] = number;
+    bytes
+}
+
+#[test]
+fn of_two_open_slots_the_greater_number_counts(rt: HostRuntime) -> Result<(), Fail> {
+    let alloc = rt.alloc();
+    assert_eq!(rt; look(alloc, &with_two_slots(4))?, same(alloc)?);
+    assert_eq!(rt;
+        look(alloc, &with_two_slots(5))?,
+        Answer::Refused(Fault::Damaged)
+    );
+    let mut file = open(alloc, &with_two_slots(6))?;
+    assert!(rt; has_no_block(&file));
+    file.commit_revert()?;
+    assert!(rt; has(&mut file, 1, b"\0ab")?);
+    Ok(())
+}
+
+// The length, two slots, two directories, one image, and a sync.
+#[test]
+fn a_refused_opening_gives_the_store_back(rt: HostRuntime) -> Result<(), Fail> {
+    let alloc = rt.alloc();
+    for passes in 0..7 {
+        let store = FuseStore::new(MemStore::from_bytes(alloc, &example())?, passes, false);
+        let Err(refused) = VmFile::open(alloc, store) else {
+            return Err(Fail::new("the file was opened"));
+        };
+        assert_eq!(rt; refused.fault, Fault::File);
+        assert_eq!(rt; refused.store.calls(), passes + 1);
+        let store = VmFile::open(alloc, refused.store).map_err(why)?.close();
+        assert_eq!(rt; store.calls(), passes + 1 + 7);
+        assert_eq!(rt; store.inner().bytes(), example().as_slice());
+    }
+    Ok(())
+}
