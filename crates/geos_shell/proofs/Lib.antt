@@ -7,6 +7,7 @@ pub mod Lines
 pub mod LookUps
 pub mod Matched
 pub mod Names
+pub mod NewFlag
 pub mod Parses
 pub mod Replying
 pub mod Runs

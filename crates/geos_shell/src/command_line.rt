@@ -1,5 +1,6 @@
 //! Reads the command line: `geosvm [--new] [--cache N] [--as FILE2] FILE`.
-ghost use Rattle.std.specs.Prelude.{◌≡◌, ◌≤◌, false, IfOk, IfErr, map};
+ghost use Rattle.std.specs.Prelude.{◌≡◌, ◌≤◌, codes, drop, true, false, IfOk, IfErr, map};
+ghost use Rattle.std.specs.List.{Contains};
 ghost use Rattle.clap.specs.Words.{FailsBy, app_of, fault_of, found_of, kind_of, matches_of, rows_of, rule_of};
 ghost use Rattle.geos_shell.specs.Options.{IsMatched, IsUsable, Refuses, TurnsInto, as_option, cache_option, command_line, file_operand, geosvm, new_flag, said, told_by};
 
@@ -18,6 +19,7 @@ const FRAMES: u8 = 8;
 /// Reads a command line, whose first word is the name of the program.
 pub fn options<'a, S: AsStr>(alloc: Global, words: &'a [S]) -> Result<Options<'a>, Outcome>
     ensures ok { IfOk result (λ o. (command_line (map S.text words.entry.now) ≡ Some (told_by o)) × IsUsable (told_by o)) }
+    ensures new { IfOk result (λ o. o.new ≡ true → Contains (drop 1 (map S.text words.entry.now)) (codes "--new")) }
     ensures err { IfErr result (Refuses (map S.text words.entry.now)) }
 {
     let options = match parse(alloc, words) {
