@@ -61,6 +61,7 @@ pub record CommandLine : Type 0 where
 abbrev pub read_number : Text → ℕ
 read_number text = digits_value 10 (without_leading_plus text)
 
+-- of what the words give: 8 frames where they have no number
 abbrev pub said : List Row → CommandLine
 said rows = record {
   is_new = option_map_or (λ t. bytes_eq t (codes "true")) (one_of (codes "new") rows) false;
@@ -69,7 +70,7 @@ said rows = record {
   file = unwrap_or (first_of (codes "file") rows) [];
 }
 
--- what the words say, where they are a command line
+-- what the words say, where they are a command line and nothing is wrong with them
 abbrev pub command_line : List Text → Option CommandLine
 command_line words = if is_empty (fault_of geosvm words) then Some (said (matches_of geosvm words)) else None
 
