@@ -5,11 +5,14 @@ pub mod Extending
 pub mod Failing
 pub mod Lines
 pub mod LookUps
+pub mod Matched
 pub mod Names
-pub mod Outcome
+pub mod NewFlag
+pub mod Parses
 pub mod Replying
 pub mod Runs
 pub mod Spelling
 pub mod Steps
 pub mod Taken
+pub mod Telling
 pub mod Words

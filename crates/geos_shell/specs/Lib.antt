@@ -1,4 +1,6 @@
 pub mod Given
+pub mod Options
+pub mod Outcome
 pub mod Progress
 pub mod Reading
 pub mod Replies

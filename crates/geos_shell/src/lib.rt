@@ -1,14 +1,20 @@
-//! Script bytes in, reply bytes out.
+//! Script bytes in, reply bytes out; and the words of a command line.
 #![tactic(auto)]
 
 mod answering;
+mod command_line;
 mod operands;
+mod outcome;
 mod parser;
 mod replies;
 mod runner;
+mod settings;
 mod shapes;
 mod text;
 mod verbs;
 
+pub use command_line::options;
+pub use outcome::Outcome;
 pub use parser::parse;
 pub use runner::{RunFault, run};
+pub use settings::Options;

@@ -1,7 +1,7 @@
 use Rattle.std.proofs.Common.{◌∙◌, sym, ap, map, List, ℕ, Bor, arith, refl, subst}
 use Rattle.geos_model.specs.Script.{command, words}
 use Rattle.geos_shell.specs.Reading.{Reads, command_has_bytes}
-use Rattle.geos_shell.proofs.Outcome.{reads_ok, reads_bad, reads_memory}
+use Rattle.geos_shell.proofs.Parses.{reads_ok, reads_bad, reads_memory}
 use Rattle.geos_shell.proofs.Words.{command-long, command-short}
 use Rattle.geos_shell.proofs.parser.parse.Goals as goal
 

@@ -7,7 +7,7 @@ use Rattle.geos_model.specs.declared.command.Edit.TheVariants as edits
 use Rattle.geos_model.specs.declared.command.Command.TheVariants as commands
 use Rattle.geos_shell.proofs.Counted.{three_taken}
 use Rattle.geos_shell.proofs.Failing.{fails_first, fails_second, third_missing, some_of, name_has, part_has}
-use Rattle.geos_shell.proofs.Outcome.{spelled, unspelled}
+use Rattle.geos_shell.proofs.Parses.{spelled, unspelled}
 use Rattle.geos_shell.proofs.shapes.add_name.Goals as goal
 use Rattle.geos_shell.proofs.shapes.add_name.Goals.{in_default-via-then-rest-lt3, in_default-via-else-rest-lt3+else-rest-lt4}
 

@@ -2,7 +2,7 @@ use Rattle.std.proofs.Common.{sym, ◌∙◌}
 use Rattle.std.proofs.lemmas.Result.{err_from_is_err_and}
 use Rattle.geos_model.specs.Script.{block}
 use Rattle.geos_shell.proofs.Failing.{fails_2}
-use Rattle.geos_shell.proofs.Outcome.{spelled}
+use Rattle.geos_shell.proofs.Parses.{spelled}
 use Rattle.geos_shell.proofs.shapes.attach.Goals as goal
 
 pub returns-in_err-bytes : goal.returns-in_err-bytes

@@ -6,7 +6,7 @@ use Rattle.geos_model.specs.declared.command.Edit.TheVariants as edits
 use Rattle.geos_model.specs.declared.command.Command.TheVariants as commands
 use Rattle.geos_shell.proofs.Counted.{three_taken}
 use Rattle.geos_shell.proofs.Taken.{three_spelled}
-use Rattle.geos_shell.proofs.Outcome.{spelled}
+use Rattle.geos_shell.proofs.Parses.{spelled}
 use Rattle.geos_shell.proofs.shapes.create_array.Goals as goal
 use Rattle.geos_shell.proofs.shapes.create_array.Goals.{in_default-via-then-operands-lt3, in_default-via-else-operands-lt3+else-operands-lt4}
 

@@ -6,7 +6,7 @@ use Rattle.geos_model.specs.Script.{token, bytes}
 use Rattle.geos_shell.specs.Verbs.{change}
 use Rattle.geos_shell.proofs.Counted.{two_taken}
 use Rattle.geos_shell.proofs.Failing.{fails_2, change_has}
-use Rattle.geos_shell.proofs.Outcome.{spelled, unspelled}
+use Rattle.geos_shell.proofs.Parses.{spelled, unspelled}
 use Rattle.geos_shell.proofs.Taken.{two_spelled, first_missing}
 use Rattle.geos_shell.proofs.shapes.Change.read.Goals as goal
 use Rattle.geos_shell.proofs.shapes.Change.read.Goals.{in_default-via-then-rest-lt2, in_default-via-else-rest-lt2+else-rest-lt3}

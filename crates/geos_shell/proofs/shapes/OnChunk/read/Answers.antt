@@ -1,5 +1,5 @@
 use Rattle.std.proofs.Common.{◌∙◌, refl, sym, inl}
-use Rattle.geos_shell.proofs.Outcome.{spelled}
+use Rattle.geos_shell.proofs.Parses.{spelled}
 use Rattle.geos_shell.proofs.Taken.{on_chunk_spelled, too_few}
 use Rattle.geos_shell.proofs.shapes.OnChunk.read.Goals as goal
 

@@ -1,0 +1,25 @@
+use Rattle.std.specs.Str.Parse.{ParsesUnsigned, ExplainsUnsignedError, HasUnsignedDigitsIfOk}
+use Rattle.std.proofs.Common.{◌∙◌, ◌≤◌, subst, sym}
+use Rattle.std.specs.Option.{option_map}
+use Rattle.clap.specs.Words.{found_of}
+use Rattle.geos_shell.proofs.Telling.{flag_told, number_told, told_is}
+use Rattle.geos_shell.proofs.command_line.told.Goals as goal
+
+pub returns-clause-said : goal.returns-clause-said
+returns-clause-said c =
+    let found = found_of c.args.matches.now in
+    let number = number_told (λ bs r. ParsesUnsigned 8 10 bs r × ExplainsUnsignedError 10 bs r × HasUnsignedDigitsIfOk bs r) (λ u x h. h.0) found c.get_one.result c.requires
+    c.get_one.ensures.none c.get_one.ensures.value in
+    told_is found c.get_flag.result c.unwrap_or.result (option_map (λ t. t.now) c.get_str-2.result) c.in-Some.file.now
+    (flag_told found c.get_flag.result c.requires c.get_flag.ensures.none c.get_flag.ensures.value c.get_flag.ensures.other)
+    (c.unwrap_or.ensures ∙ number.is)
+    c.get_str-2.ensures c.in-Some.ensures
+
+pub returns-clause-cache : goal.returns-clause-cache
+returns-clause-cache c =
+    let found = found_of c.args.matches.now in
+    let number = number_told (λ bs r. ParsesUnsigned 8 10 bs r × ExplainsUnsignedError 10 bs r × HasUnsignedDigitsIfOk bs r) (λ u x h. h.0) found c.get_one.result c.requires
+    c.get_one.ensures.none c.get_one.ensures.value in (
+      subst (λ n. 1 ≤ n) (sym c.unwrap_or.ensures) number.low,
+      subst (λ n. n ≤ 64) (sym c.unwrap_or.ensures) number.high,
+    )

@@ -1,0 +1,106 @@
+-- The command line of the program.
+use Rattle.std.specs.Prelude.{◌≡◌, ◌≢◌, ◌≤◌, ◌||◌, false, ℕ, Bool, true, List, [], Option, Some, None, codes, is_some, option_map, unwrap_or, if◌then◌else◌, pos, ⊤}
+use Rattle.std.specs.Option.{option_map_or}
+use Rattle.std.specs.Str.{bytes_eq}
+use Rattle.std.specs.Str.Parse.{digits_value, without_leading_plus}
+use Rattle.clap.specs.Walk.{is_empty}
+use Rattle.clap.specs.declared.parser.matches.Found.{Found}
+use Rattle.clap.specs.Words.{App, IsAmong, IsSignedIn, first_value, one_text, without_minus, Row, Rule, Text, fault_of, first_of, matches_of, new_app, new_rule, one_of, with_rule}
+use Rattle.clap.specs.declared.builder.action.ArgAction.TheVariants.{Set, SetTrue}
+use Rattle.clap.specs.declared.builder.value_parser.ValueParser.TheVariants as parsers
+use Rattle.clap.specs.declared.error.kind.ErrorKind.{ErrorKind}
+use Rattle.clap.specs.declared.error.kind.ErrorKind.TheVariants.{DisplayHelp, OutOfMemory}
+use Rattle.geos_shell.specs.declared.settings.Options.{Options}
+use Rattle.geos_shell.specs.declared.outcome.Outcome.{Outcome}
+use Rattle.geos_shell.specs.declared.outcome.Outcome.TheVariants as outcomes
+use Rattle.geos_shell.specs.declared.runner.RunFault.TheVariants as faults
+
+-- ---- what the program takes: [--new] [--cache N] [--as FILE2] FILE
+
+abbrev pub new_flag : Rule
+new_flag = record (new_rule (codes "new")) {
+  long = Some (codes "new");
+  action = Some SetTrue;
+  parser = Some parsers.Bool;
+}
+
+-- N is 1 to 64
+abbrev pub cache_option : Rule
+cache_option = record (new_rule (codes "cache")) {
+  long = Some (codes "cache");
+  action = Some Set;
+  value_names = 1;
+  parser = Some (parsers.Signed (pos 1) (pos 64));
+}
+
+abbrev pub as_option : Rule
+as_option = record (new_rule (codes "as")) {
+  long = Some (codes "as");
+  action = Some Set;
+  value_names = 1;
+}
+
+abbrev pub file_operand : Rule
+file_operand = record (new_rule (codes "file")) {
+  action = Some Set;
+  value_names = 1;
+  required = true;
+}
+
+abbrev pub geosvm : App
+geosvm = with_rule (with_rule (with_rule (with_rule (new_app (codes "geosvm")) new_flag) cache_option) as_option) file_operand
+
+-- ---- what a command line says
+
+pub record CommandLine : Type 0 where
+  pub is_new : Bool
+  pub cache : ℕ
+  pub target : Option Text
+  pub file : Text
+
+abbrev pub read_number : Text → ℕ
+read_number text = digits_value 10 (without_leading_plus text)
+
+-- of what the words give: 8 frames where they have no number
+abbrev pub said : List Row → CommandLine
+said rows = record {
+  is_new = option_map_or (λ t. bytes_eq t (codes "true")) (one_of (codes "new") rows) false;
+  cache = option_map_or read_number (one_of (codes "cache") rows) 8;
+  target = first_of (codes "as") rows;
+  file = unwrap_or (first_of (codes "file") rows) [];
+}
+
+-- what the words say, where they are a command line and nothing is wrong with them
+abbrev pub command_line : List Text → Option CommandLine
+command_line words = if is_empty (fault_of geosvm words) then Some (said (matches_of geosvm words)) else None
+
+-- the cache has 1 to 64 frames, and the target isn't the file
+abbrev pub IsUsable : CommandLine → Type 0
+IsUsable line = (1 ≤ line.cache) × (line.cache ≤ 64) × (line.target ≡ Some line.file → ⊥)
+
+-- what the options say
+abbrev pub told_by : Options → CommandLine
+told_by o = record { is_new = o.new; cache = o.cache; target = option_map (λ t. t.now) o.target; file = o.file.now }
+
+-- What a match of the command line gives: the flag reads as a truth value, the number is in its range, and the file is there.
+pub record IsMatched (found : Found) : Type 0 where
+  pub flag : (t : Text) → one_text found (codes "new") ≡ Some t → (bytes_eq t (codes "true") || bytes_eq t (codes "false")) ≡ true
+  pub number : (t : Text) → one_text found (codes "cache") ≡ Some t → (raw : Text) × (t ≡ without_minus raw) × IsSignedIn (pos 1) (pos 64) raw
+  pub file : is_some (first_value found (codes "file")) ≡ true
+
+-- ---- why there are no options
+
+-- the outcome that an error of this kind becomes
+abbrev pub TurnsInto : ErrorKind → Outcome → Type 0
+TurnsInto kind (outcomes.Usage text) = (kind ≢ DisplayHelp) × (kind ≢ OutOfMemory)
+TurnsInto kind (outcomes.Help text) = kind ≡ DisplayHelp
+TurnsInto kind (outcomes.Run faults.Memory) = ⊤
+TurnsInto kind _ = ⊥
+
+-- the words end in this outcome and give no options
+abbrev pub Refuses : List Text → Outcome → Type 0
+Refuses words (outcomes.Usage text) = (kind : ErrorKind) × IsAmong kind (fault_of geosvm words) × (kind ≢ DisplayHelp)
+Refuses words (outcomes.Help text) = IsAmong DisplayHelp (fault_of geosvm words)
+Refuses words outcomes.SameFile = (line : CommandLine) × (command_line words ≡ Some line) × (line.target ≡ Some line.file)
+Refuses words (outcomes.Run faults.Memory) = ⊤
+Refuses words _ = ⊥

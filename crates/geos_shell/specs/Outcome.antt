@@ -1,0 +1,42 @@
+-- What the program ends with, by what a run of it comes to.
+use Rattle.std.specs.Prelude.{ℕ, List, [], ◌∷◌, ◌++◌, codes}
+use Rattle.std.specs.Fmt.{decimal}
+use Rattle.geos_model.specs.Script.{line_feed}
+use Rattle.geos_model.specs.Refusal.{number_of_fault, name_of_fault}
+use Rattle.geos_model.specs.declared.fault.Fault.{Fault}
+use Rattle.geos_model.specs.declared.fault.Fault.TheVariants.{File}
+use Rattle.geos_shell.specs.declared.runner.RunFault.{RunFault}
+use Rattle.geos_shell.specs.declared.runner.RunFault.TheVariants as faults
+use Rattle.geos_shell.specs.declared.outcome.Outcome.{Outcome}
+use Rattle.geos_shell.specs.declared.outcome.Outcome.TheVariants as outcomes
+
+-- the exit status
+abbrev pub status_of : Outcome → ℕ
+status_of outcomes.Done = 0
+status_of (outcomes.Help text) = 0
+status_of (outcomes.Create fault) = 1
+status_of (outcomes.Open fault) = 1
+status_of outcomes.Target = 1
+status_of (outcomes.Run fault) = 1
+status_of (outcomes.Usage text) = 2
+status_of outcomes.SameFile = 2
+
+-- a line that tells where a fault was met, and which
+abbrev pub fault_line : List ℕ → Fault → List ℕ
+fault_line place fault = codes "geosvm: " ++ place ++ codes " " ++ decimal (number_of_fault fault) ++ codes " " ++ name_of_fault fault ++ line_feed ∷ []
+
+abbrev pub run_line : RunFault → List ℕ
+run_line faults.Read = codes "geosvm: read fault" ++ line_feed ∷ []
+run_line faults.Write = codes "geosvm: write fault" ++ line_feed ∷ []
+run_line faults.Memory = codes "geosvm: memory" ++ line_feed ∷ []
+
+-- what is written: help on standard output, all else on standard error
+abbrev pub text_of : Outcome → List ℕ
+text_of outcomes.Done = []
+text_of (outcomes.Help text) = text
+text_of (outcomes.Create fault) = fault_line (codes "create") fault
+text_of (outcomes.Open fault) = fault_line (codes "open") fault
+text_of outcomes.Target = fault_line (codes "target") File
+text_of (outcomes.Run fault) = run_line fault
+text_of (outcomes.Usage text) = text
+text_of outcomes.SameFile = codes "geosvm: FILE2 is FILE" ++ line_feed ∷ []

@@ -1,0 +1,132 @@
+//! Reads the command line: `geosvm [--new] [--cache N] [--as FILE2] FILE`.
+ghost use Rattle.std.specs.Prelude.{◌≡◌, ◌≤◌, codes, drop, true, false, IfOk, IfErr, map};
+ghost use Rattle.std.specs.List.{Contains};
+ghost use Rattle.clap.specs.Words.{FailsBy, app_of, fault_of, found_of, kind_of, matches_of, rows_of, rule_of};
+ghost use Rattle.geos_shell.specs.Options.{IsMatched, IsUsable, Refuses, TurnsInto, as_option, cache_option, command_line, file_operand, geosvm, new_flag, said, told_by};
+
+use crate::outcome::Outcome;
+use crate::runner::RunFault;
+use crate::settings::Options;
+use clap::error::ErrorKind;
+use clap::{Arg, ArgAction, ArgMatches, Command, Error, value_parser};
+use geos_model::Bytes;
+use std::alloc::{AllocError, Global};
+use std::convert::AsStr;
+
+/// How many frames the cache has where nothing is said.
+const FRAMES: u8 = 8;
+
+/// Reads a command line, whose first word is the name of the program.
+pub fn options<'a, S: AsStr>(alloc: Global, words: &'a [S]) -> Result<Options<'a>, Outcome>
+    ensures ok { IfOk result (λ o. (command_line (map S.text words.entry.now) ≡ Some (told_by o)) × IsUsable (told_by o)) }
+    ensures new { IfOk result (λ o. o.new ≡ true → Contains (drop 1 (map S.text words.entry.now)) (codes "--new")) }
+    ensures err { IfErr result (Refuses (map S.text words.entry.now)) }
+{
+    let options = match parse(alloc, words) {
+        Ok(matches) => told(&matches),
+        Err(error) => return Err(outcome_of(alloc, &error)),
+    };
+    if options.target == Some(options.file) {
+        return Err(Outcome::SameFile);
+    }
+    Ok(options)
+}
+
+/// Matches the words with the command line that the program takes.
+fn parse<'a, S: AsStr>(alloc: Global, words: &'a [S]) -> Result<ArgMatches<'a>, Error>
+    ensures matched { IfOk result (λ m. IsMatched (found_of m)) }
+    ensures rows { IfOk result (λ m. rows_of (found_of m) ≡ matches_of geosvm (map S.text words.entry.now)) }
+    ensures kinds { FailsBy (fault_of geosvm (map S.text words.entry.now)) result }
+{
+    command(alloc)?.try_get_matches_from(words)
+}
+
+/// The command line that the program takes.
+fn command<'a>(alloc: Global) -> Result<Command<'a>, AllocError>
+    ensures { IfOk result (λ c. app_of c ≡ geosvm) }
+{
+    Command::new(alloc, "geosvm")
+        .about("Runs a script from standard input on a document of blocks")
+        .arg(new_flag(alloc))?
+        .arg(cache_option(alloc))?
+        .arg(as_option(alloc))?
+        .arg(file_operand(alloc))
+}
+
+fn new_flag<'a>(alloc: Global) -> Arg<'a>
+    ensures { (rule_of result ≡ new_flag) × (result.global ≡ false) }
+{
+    Arg::new(alloc, "new")
+        .long("new")
+        .action(ArgAction::SetTrue)
+        .value_parser(value_parser!(bool))
+        .help("Make FILE, or make it anew")
+}
+
+fn cache_option<'a>(alloc: Global) -> Arg<'a>
+    ensures { (rule_of result ≡ cache_option) × (result.global ≡ false) }
+{
+    Arg::new(alloc, "cache")
+        .long("cache")
+        .action(ArgAction::Set)
+        .value_name("N")
+        .value_parser(value_parser!(u8).range(1..=64))
+        .help("Keep at most N blocks in memory, 1 to 64 [default: 8]")
+}
+
+fn as_option<'a>(alloc: Global) -> Arg<'a>
+    ensures { (rule_of result ≡ as_option) × (result.global ≡ false) }
+{
+    Arg::new(alloc, "as")
+        .long("as")
+        .action(ArgAction::Set)
+        .value_name("FILE2")
+        .help("The file that `saveas` writes; it is made if it is missing")
+}
+
+fn file_operand<'a>(alloc: Global) -> Arg<'a>
+    ensures { (rule_of result ≡ file_operand) × (result.global ≡ false) }
+{
+    Arg::new(alloc, "file")
+        .action(ArgAction::Set)
+        .value_name("FILE")
+        .required(true)
+        .help("The file of the document")
+}
+
+/// The options that were matched.
+fn told<'a>(matches: &ArgMatches<'a>) -> Options<'a>
+    requires { IsMatched (found_of matches.now) }
+    ensures said { told_by result ≡ said (rows_of (found_of matches.now)) }
+    ensures cache { (1 ≤ result.cache) × (result.cache ≤ 64) }
+{
+    let Some(file) = matches.get_str("file") else {
+        unreachable!()
+    };
+    Options {
+        new: matches.get_flag("new"),
+        cache: matches.get_one::<u8>("cache").unwrap_or(FRAMES),
+        target: matches.get_str("as"),
+        file,
+    }
+}
+
+/// What the program ends with where the words give no options.
+fn outcome_of(alloc: Global, error: &Error) -> Outcome
+    ensures { TurnsInto (kind_of error.now) result }
+{
+    let kind = error.kind();
+    if kind == ErrorKind::OutOfMemory {
+        return Outcome::Run(RunFault::Memory);
+    }
+    match error.to_string(alloc) {
+        Ok(text) if kind == ErrorKind::DisplayHelp => {
+            Outcome::Help(Bytes::from_vec(text.into_bytes()))
+        }
+        Ok(text) => Outcome::Usage(Bytes::from_vec(text.into_bytes())),
+        Err(_) => Outcome::Run(RunFault::Memory),
+    }
+}
+
+#[cfg(test)]
+mod tests;

@@ -1,0 +1,103 @@
+//! What a run of the program comes to.
+ghost use Rattle.std.specs.Prelude.{◌≡◌, OnOk};
+ghost use Rattle.std.specs.Io.KnownBytes.{Appends};
+ghost use Rattle.geos_shell.specs.Outcome.{fault_line, status_of, text_of};
+
+use crate::runner::RunFault;
+use geos_model::{Bytes, Fault};
+use std::io::{self, Write};
+
+/// What a run of the program comes to, in the order in which the program finds it out.
+#[derive(Drop)]
+pub enum Outcome {
+    /// The words are no command line. The text says why, and how one looks.
+    Usage(Bytes),
+    /// The words ask for help, which the text is.
+    Help(Bytes),
+    /// The target and the file are the same text.
+    SameFile,
+    /// The new document was refused.
+    Create(Fault),
+    /// Opening the document was refused.
+    Open(Fault),
+    /// The target can't be opened.
+    Target,
+    /// The run ended before its script did, or the words or what was made of them found no memory.
+    Run(RunFault),
+    /// The script was run to its end.
+    Done,
+}
+
+impl Outcome {
+    /// The exit status.
+    pub fn status(&self) -> u8
+        ensures { result ≡ status_of self.now }
+    {
+        match self {
+            Outcome::Done | Outcome::Help(_) => 0,
+            Outcome::Create(_) | Outcome::Open(_) | Outcome::Target | Outcome::Run(_) => 1,
+            Outcome::Usage(_) | Outcome::SameFile => 2,
+        }
+    }
+
+    /// Writes what there is to tell: help is for standard output, all else for standard error.
+    pub fn write_line<W: Write>(&self, writer: &mut W) -> io::Result<()>
+        ensures { OnOk result (Appends (W.contents writer.old) (W.contents writer.new) (text_of self.now)) }
+    {
+        match self {
+            Outcome::Usage(text) | Outcome::Help(text) => writer.write_all(text.as_slice()),
+            Outcome::SameFile => writer.write_all(b"geosvm: FILE2 is FILE\n"),
+            Outcome::Create(fault) => write_fault(writer, "create", *fault),
+            Outcome::Open(fault) => write_fault(writer, "open", *fault),
+            Outcome::Target => write_fault(writer, "target", Fault::File),
+            Outcome::Run(RunFault::Read) => writer.write_all(b"geosvm: read fault\n"),
+            Outcome::Run(RunFault::Write) => writer.write_all(b"geosvm: write fault\n"),
+            Outcome::Run(RunFault::Memory) => writer.write_all(b"geosvm: memory\n"),
+            Outcome::Done => Ok(()),
+        }
+    }
+}
+
+/// Writes where a fault was met, and which.
+fn write_fault<W: Write>(writer: &mut W, place: &str, fault: Fault) -> io::Result<()>
+    ensures { OnOk result (Appends (W.contents writer.old) (W.contents writer.new) (fault_line place.now fault)) }
+{
+    let number = fault.number();
+    let name = fault.name();
+    writeln!(writer, "geosvm: {place} {number} {name}")
+}
+
+#[cfg(test)]
+mod tests {
+    use super::*;
+    use std::test::Fail;
+
+    #[test]
+    fn each_outcome_has_its_status_and_line(rt: HostRuntime) -> Result<(), Fail> {
+        let alloc = rt.alloc();
+        let text = Bytes::from_vec(vec![in alloc; b'a', b'b']?);
+        let outcomes = [
+            (Outcome::Done, 0, ""),
+            (Outcome::Help(text), 0, "ab"),
+            (Outcome::Create(Fault::File), 1, "geosvm: create 2 File\n"),
+            (
+                Outcome::Open(Fault::NotDocument),
+                1,
+                "geosvm: open 4 NotDocument\n",
+            ),
+            (Outcome::Open(Fault::Worn), 1, "geosvm: open 27 Worn\n"),
+            (Outcome::Target, 1, "geosvm: target 2 File\n"),
+            (Outcome::Run(RunFault::Read), 1, "geosvm: read fault\n"),
+            (Outcome::Run(RunFault::Write), 1, "geosvm: write fault\n"),
+            (Outcome::Run(RunFault::Memory), 1, "geosvm: memory\n"),
+            (Outcome::SameFile, 2, "geosvm: FILE2 is FILE\n"),
+        ];
+        for (outcome, status, line) in &outcomes {
+            let mut written = Vec::new(alloc);
+            outcome.write_line(&mut written)?;
+            assert_eq!(rt; outcome.status(), *status);
+            assert_eq!(rt; written.as_slice(), line.as_bytes());
+        }
+        Ok(())
+    }
+}
