@@ -34,7 +34,9 @@ fn with_updated_slot() -> [u8; LENGTH] {
 
 fn updated(alloc: Global) -> Result<Vec<u8>, Fault> {
     let mut file = with_updated_slot().to_vec(alloc)?;
-    file.resize(2_560, 0)?;
+    for _ in 0..509 {
+        file.push(0)?;
+    }
     file.extend_from_slice(
         b"GDIR\x01\0\x01\0\x01\0\0\0\0\0\0\0\x01\0\x07\0\x04\0\0\0\x03\0\0\0\0\0\0\0",
     )?;
