@@ -27,8 +27,8 @@ fn source(alloc: Global) -> Result<VmFile<Fused>, Fault> {
 }
 
 // The slots, and the two images from page 2 on, the second of two pages.
-fn copied_images() -> [u8; 2_608] {
-    let mut bytes = [0; 2_608];
+fn copied_images() -> [u8; 2_560] {
+    let mut bytes = [0; 2_560];
     bytes[..32].copy_from_slice(
         b"GVMF\x01\x01\0\0\x01\0\0\0\0\0\0\0\x05\0\0\0\x30\0\0\0\x05\0\0\0\x30\0\0\0",
     );
@@ -39,12 +39,12 @@ fn copied_images() -> [u8; 2_608] {
 }
 
 // Behind the images lies the directory.
-fn copied() -> [u8; 2_608] {
-    let mut bytes = copied_images();
-    bytes[2_560..2_576].copy_from_slice(b"GDIR\x01\0\x02\0\x03\0\0\0\0\0\0\0");
-    bytes[2_576..2_592].copy_from_slice(b"\x01\0\x07\0\x02\0\0\0\x03\0\0\0\0\0\0\0");
-    bytes[2_592..].copy_from_slice(b"\x03\0\x09\0\x03\0\0\0\x01\x02\0\0\0\0\0\0");
-    bytes
+fn copied(alloc: Global) -> Result<Vec<u8>, Fault> {
+    let mut bytes = copied_images().to_vec(alloc)?;
+    bytes.extend_from_slice(b"GDIR\x01\0\x02\0\x03\0\0\0\0\0\0\0")?;
+    bytes.extend_from_slice(b"\x01\0\x07\0\x02\0\0\0\x03\0\0\0\0\0\0\0")?;
+    bytes.extend_from_slice(b"\x03\0\x09\0\x03\0\0\0\x01\x02\0\0\0\0\0\0")?;
+    Ok(bytes)
 }
 
 // Whether the document is the one that is copied.
@@ -69,7 +69,7 @@ fn a_copy_is_a_file_of_the_document_as_it_is(rt: HostRuntime) -> Result<(), Fail
     let store = copy.close();
     // The length, two images, the directory, two slots, the gate, and two syncs.
     assert_eq!(rt; store.calls(), 9);
-    assert_eq!(rt; store.inner().bytes(), copied().as_slice());
+    assert_eq!(rt; store.inner().bytes(), copied(alloc)?.as_slice());
     Ok(())
 }
 

@@ -23,21 +23,32 @@ fn an_open_file_has_its_two_documents(rt: HostRuntime) -> Result<(), Fail> {
     Ok(())
 }
 
-// The next slot, under the next number, leads to a directory on the first free page.
+// With the slot of an update: it has the next number, and leads to a directory on the first free page.
+fn with_updated_slot() -> [u8; LENGTH] {
+    let mut bytes = example();
+    bytes[512..544].copy_from_slice(
+        b"GVMF\x01\x01\0\0\x06\0\0\0\0\0\0\0\x05\0\0\0\x20\0\0\0\x03\0\0\0\x10\0\0\0",
+    );
+    bytes
+}
+
+fn updated(alloc: Global) -> Result<Vec<u8>, Fault> {
+    let mut file = with_updated_slot().to_vec(alloc)?;
+    for _ in 0..509 {
+        file.push(0)?;
+    }
+    file.extend_from_slice(
+        b"GDIR\x01\0\x01\0\x01\0\0\0\0\0\0\0\x01\0\x07\0\x04\0\0\0\x03\0\0\0\0\0\0\0",
+    )?;
+    Ok(file)
+}
+
 #[test]
 fn an_update_writes_the_other_slot(rt: HostRuntime) -> Result<(), Fail> {
     let alloc = rt.alloc();
     let mut file = open(alloc, &example())?;
     file.commit_update()?;
-    let mut updated = [0; 2_592];
-    updated[..LENGTH].copy_from_slice(&example());
-    updated[512..544].copy_from_slice(
-        b"GVMF\x01\x01\0\0\x06\0\0\0\0\0\0\0\x05\0\0\0\x20\0\0\0\x03\0\0\0\x10\0\0\0",
-    );
-    updated[2_560..].copy_from_slice(
-        b"GDIR\x01\0\x01\0\x01\0\0\0\0\0\0\0\x01\0\x07\0\x04\0\0\0\x03\0\0\0\0\0\0\0",
-    );
-    assert_eq!(rt; file.close().bytes(), updated.as_slice());
+    assert_eq!(rt; file.close().bytes(), updated(alloc)?.as_slice());
     Ok(())
 }
 
