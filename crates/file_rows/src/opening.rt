@@ -23,9 +23,10 @@ fn an_open_file_has_its_two_documents(rt: HostRuntime) -> Result<(), Fail> {
     Ok(())
 }
 
-// With the slot of an update: it has the next number, and leads to a directory on the first free page.
-fn with_updated_slot() -> [u8; LENGTH] {
-    let mut bytes = example();
+// The example with the slot of an update, which has the next number and leads to a directory on the first free page.
+fn updated_pages() -> [u8; 2_560] {
+    let mut bytes = [0; 2_560];
+    bytes[..LENGTH].copy_from_slice(&example());
     bytes[512..544].copy_from_slice(
         b"GVMF\x01\x01\0\0\x06\0\0\0\0\0\0\0\x05\0\0\0\x20\0\0\0\x03\0\0\0\x10\0\0\0",
     );
@@ -33,10 +34,7 @@ fn with_updated_slot() -> [u8; LENGTH] {
 }
 
 fn updated(alloc: Global) -> Result<Vec<u8>, Fault> {
-    let mut file = with_updated_slot().to_vec(alloc)?;
-    for _ in 0..509 {
-        file.push(0)?;
-    }
+    let mut file = updated_pages().to_vec(alloc)?;
     file.extend_from_slice(
         b"GDIR\x01\0\x01\0\x01\0\0\0\0\0\0\0\x01\0\x07\0\x04\0\0\0\x03\0\0\0\0\0\0\0",
     )?;
