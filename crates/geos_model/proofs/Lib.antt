@@ -21,5 +21,7 @@ pub mod UsedElements
 pub mod ElementEdits
 pub mod NameEdits
 pub mod Undoing
+mod Saving
+mod Failing
 pub mod Validity
 pub mod ChunkEdits

@@ -19,7 +19,7 @@ use Rattle.geos_model.specs.Heap.{capacity, is_chunk_handle, is_heap_map, fits_w
 use Rattle.geos_model.specs.Document.{Block, Document, empty_document, is_vm_handle, vm_handles, next_handle, is_valid_body, is_heap_body, chunks_of_body, bytes_of_body, is_live, is_heap, chunks_of, raw_bytes_of, user_id_of, block_at, with_block, without_block, with_body, with_user_id, IsValidBlock, IsValid}
 use Rattle.geos_model.specs.Meaning.{chunk_at, with_chunk, without_chunk, past_end, new_chunk, makes_block, makes_chunk, on_chunk, on_new_chunk, on_new_bytes, conditions, effect}
 use Rattle.geos_model.specs.Reply.{Reply, Accepted, Refused}
-use Rattle.geos_model.specs.Machine.{UndoStep, Machine, Request, IsValidMachine, Step, Run, command_conditions, done_by, edited, undone, redone, kind_of}
+use Rattle.geos_model.specs.Machine.{UndoStep, Machine, Request, Call, IsValidMachine, Step, Run, opened_machine, command_conditions, done_by, edited, undone, redone, kind_of}
 use Rattle.geos_model.specs.Validity.{user_id_given, user_id_asked, ValidityLaw}
 use Rattle.geos_model.specs.declared.fault.Fault.{Fault}
 use Rattle.geos_model.specs.declared.fault.Fault.TheVariants.{NoBlock, NoChunk, WrongKind, Full, TooBig, NoHandles, Range, IsMap}
@@ -337,6 +337,8 @@ undone-valid m (s ∷ past) valid all = record {
   document = valid-first s past all;
   past = valid-rest s past all;
   future = valid-push (record s { document = m.document }) m.future valid.document valid.future;
+  updated = valid.updated;
+  saved = valid.saved;
 }
 
 redone-valid : (m : Machine) (future : List UndoStep) → IsValidMachine m → AreValid future → OnDone IsLeftValid (option_map (λ new. (Accepted, new)) (redone m future))
@@ -345,6 +347,8 @@ redone-valid m (s ∷ future) valid all = record {
   document = valid-first s future all;
   past = valid-push (record s { document = m.document }) m.past valid.document valid.past;
   future = valid-rest s future all;
+  updated = valid.updated;
+  saved = valid.saved;
 }
 
 edited-valid : (e : Edit) (m : Machine) → user_id_given e < 65536 → IsValidMachine m → first_refusal (conditions e m.document) ≡ None → IsValidMachine (edited e m).1
@@ -352,6 +356,8 @@ edited-valid e m low valid none = record {
   document = effect-valid e m.document low valid.document none;
   past = valid-push (record { kind = kind_of e; cost = cost e m.document (effect e m.document).0; document = m.document }) m.past valid.document valid.past;
   future = valid-none;
+  updated = valid.updated;
+  saved = valid.saved;
 }
 
 -- what leaves the machine leaves it valid
@@ -363,6 +369,10 @@ done_by-valid : (c : Command) (m : Machine) → user_id_asked (Some c) < 65536 �
 done_by-valid (commands.Edit e) m low valid none = edited-valid e m low valid none
 done_by-valid commands.Undo m low valid none = undone-valid m m.past valid valid.past
 done_by-valid commands.Redo m low valid none = redone-valid m m.future valid valid.future
+done_by-valid commands.Update m low valid none = record { document = valid.document; past = valid.past; future = valid.future; updated = valid.document; saved = valid.saved }
+done_by-valid commands.Save m low valid none = record { document = valid.document; past = valid.past; future = valid.future; updated = valid.document; saved = valid.document }
+done_by-valid commands.Revert m low valid none = record { document = valid.saved; past = valid-none; future = valid-none; updated = valid.saved; saved = valid.saved }
+done_by-valid commands.SaveAs m low valid none = record { document = valid.document; past = valid.past; future = valid.future; updated = valid.document; saved = valid.document }
 done_by-valid c m low valid none = stays-valid m (done_by c m) valid (done_by-stays c m refl)
 
 answered-valid : (refusal : Option Fault) (m new : Machine) (o : Option (Reply × Machine)) (reply : Reply) → IsValidMachine m → (refusal ≡ None → OnDone IsLeftValid o)
@@ -370,19 +380,16 @@ answered-valid : (refusal : Option Fault) (m new : Machine) (o : Option (Reply �
 answered-valid (Some fault) m new o reply valid left is = subst IsValidMachine (same_machine is) valid
 answered-valid None m new o reply valid left is = on_done IsLeftValid o reply new (left refl) is
 
-step-valid : (old new : Machine) (request : Request) (reply : Reply) → user_id_asked request < 65536 → IsValidMachine old → Step old request reply new → IsValidMachine new
-step-valid old new None reply low valid (inl is) = subst IsValidMachine (same_machine is) valid
-step-valid old new (Some c) reply low valid (inl is) =
+step-valid : (old new : Machine) (request : Request) (reply : Reply) (failed : Bool) → user_id_asked request < 65536 → IsValidMachine old → Step failed old request reply new → IsValidMachine new
+step-valid old new None reply failed low valid (inl is) = subst IsValidMachine (same_machine is) valid
+step-valid old new (Some c) reply failed low valid (inl is) =
     answered-valid (first_refusal (command_conditions c old)) old new (done_by c old) reply valid (done_by-valid c old low valid) is
-step-valid old new request reply low valid (inr out) = subst IsValidMachine (sym out.stays) valid
+step-valid old new request reply failed low valid (inr out) = subst IsValidMachine (sym out.stays) valid
 
-run-valid : (old new : Machine) (requests : List Request) (replies : List Reply) → All (λ request. user_id_asked request < 65536) requests
-    → IsValidMachine old → Run old requests replies new → IsValidMachine new
-run-valid old new [] [] low valid run = subst IsValidMachine (sym run) valid
-run-valid old new (request ∷ requests) (reply ∷ replies) low valid run =
-    run-valid run.0 new requests replies (λ k d l. low (suc k) d (omega arith)) (step-valid old run.0 request reply (low 0 request (omega arith)) valid run.1) run.2
-run-valid old new [] (reply ∷ replies) low valid run = absurd run
-run-valid old new (request ∷ requests) [] low valid run = absurd run
+run-valid : (old new : Machine) (calls : List Call) → All (λ c. user_id_asked c.request < 65536) calls → IsValidMachine old → Run old calls new → IsValidMachine new
+run-valid old new [] low valid run = subst IsValidMachine (sym run) valid
+run-valid old new (c ∷ cs) low valid run =
+    run-valid run.0 new cs (λ k d l. low (suc k) d (omega arith)) (step-valid old run.0 c.request c.reply c.failed (low 0 c (omega arith)) valid run.1) run.2
 
 pub empty_document-valid : IsValid empty_document
 empty_document-valid = record {
@@ -390,9 +397,13 @@ empty_document-valid = record {
   map_block = λ some. absurd (some refl);
 }
 
+opened-valid : (updated saved : Document) (sequence frames : ℕ) (target : Bool) → IsValid updated → IsValid saved → IsValidMachine (opened_machine updated saved sequence frames target)
+opened-valid updated saved sequence frames target good was = record { document = good; past = valid-none; future = valid-none; updated = good; saved = was }
+
 pub validity_law : ValidityLaw
 validity_law = record {
-  start = record { document = empty_document-valid; past = valid-none; future = valid-none };
+  start = λ frames target. opened-valid empty_document empty_document 1 frames target empty_document-valid empty_document-valid;
+  opened = opened-valid;
   edit = effect-valid;
   step = step-valid;
   run = run-valid;

@@ -19,5 +19,7 @@ pub mod Machine
 pub mod Laws
 pub mod EditLaws
 pub mod Undoing
+pub mod Saving
+pub mod Failing
 pub mod Validity
 pub mod Script

@@ -1,12 +1,15 @@
--- The machine: a document with its past and its future.
-use Rattle.std.specs.Prelude.{◌≡◌, ◌⊎◌, ℕ, List, [], ◌∷◌, Bool, true, false, ◌==◌, length, All, Option, Some, None}
+-- The machine: a document with its past and its future, and what the file has of it.
+use Rattle.std.specs.Prelude.{◌≡◌, ◌⊎◌, ℕ, ◌+◌, List, [], ◌∷◌, Bool, true, false, not, ◌==◌, ◌&&◌, length, count_by, All, Option, Some, None}
+use Rattle.std.specs.Ordering.{nat_cmp}
+use Rattle.std.specs.FinMap.{FinMap, empty}
 use Rattle.std.specs.Option.{option_map, option_map_or}
 use Rattle.geos_model.specs.Refusal.{Conditions, first_refusal}
 use Rattle.geos_model.specs.Document.{Document, empty_document, IsValid}
 use Rattle.geos_model.specs.Meaning.{conditions, effect}
 use Rattle.geos_model.specs.Cost.{cost}
 use Rattle.geos_model.specs.Reply.{Reply, Accepted, Refused, NumberIs, reply_of_done, look_up_conditions, look_up}
-use Rattle.geos_model.specs.declared.fault.Fault.TheVariants.{Memory, BadCommand, NothingToUndo, NothingToRedo}
+use Rattle.geos_model.specs.declared.fault.Fault.{Fault}
+use Rattle.geos_model.specs.declared.fault.Fault.TheVariants.{Memory, File, BadCommand, NothingToUndo, NothingToRedo, NoTarget, Worn}
 use Rattle.geos_model.specs.declared.command.Kind.{Kind}
 use Rattle.geos_model.specs.declared.command.Kind.TheVariants.{Plain, In, Made, Freed}
 use Rattle.geos_model.specs.declared.command.Edit.{Edit}
@@ -24,16 +27,39 @@ pub record Machine : Type 0 where
   pub document : Document
   pub past : List UndoStep  -- the newest first
   pub future : List UndoStep  -- the next one first
+  pub updated : Document  -- what opening the file gives
+  pub saved : Document  -- what a revert gives
+  pub locks : FinMap nat_cmp ℕ  -- how often each locked block is locked
+  pub frames : ℕ  -- how many blocks may be held in memory
+  pub target : Bool  -- whether a target for a save-as is left
+  pub sequence : ℕ  -- of the last acknowledged commit
 
--- a new session's
-abbrev pub empty_machine : Machine
-empty_machine = record { document = empty_document; past = []; future = [] }
+-- That of a session on a file that was opened: its updated document and its saved one, the sequence number of that commit, the
+-- number of frames, and whether a target is left.
+abbrev pub opened_machine : Document → Document → ℕ → ℕ → Bool → Machine
+opened_machine updated saved sequence frames target = record {
+  document = updated;
+  past = [];
+  future = [];
+  updated = updated;
+  saved = saved;
+  locks = empty;
+  frames = frames;
+  target = target;
+  sequence = sequence;
+}
+
+-- that of a session on a new file
+abbrev pub empty_machine : ℕ → Bool → Machine
+empty_machine frames target = opened_machine empty_document empty_document 1 frames target
 
 -- each of its documents is valid
 pub record IsValidMachine (m : Machine) : Type 0 where
   pub document : IsValid m.document
   pub past : All (λ s. IsValid s.document) m.past
   pub future : All (λ s. IsValid s.document) m.future
+  pub updated : IsValid m.updated
+  pub saved : IsValid m.saved
 
 -- what is asked of the machine: a command, or None for a line that is none
 abbrev pub Request : Type 0
@@ -72,11 +98,23 @@ kind_of (edits.AddName b c text part replace) = In b
 kind_of (edits.ChangeName b c t text) = In b
 kind_of (edits.RemoveName b c t) = In b
 
+-- the last sequence number, 2^64 - 1
+abbrev pub last_sequence : ℕ
+last_sequence = 18446744073709551615
+
+-- what is refused of a commit
+abbrev pub on_commit : Machine → Conditions
+on_commit m = (Worn, m.sequence == last_sequence) ∷ []
+
 -- the refusals of a command; of a look-up they depend on the document alone
 abbrev pub command_conditions : Command → Machine → Conditions
 command_conditions (commands.Edit e) m = conditions e m.document
 command_conditions commands.Undo m = (NothingToUndo, length m.past == 0) ∷ []
 command_conditions commands.Redo m = (NothingToRedo, length m.future == 0) ∷ []
+command_conditions commands.Update m = on_commit m
+command_conditions commands.Save m = on_commit m
+command_conditions commands.Revert m = on_commit m
+command_conditions commands.SaveAs m = (NoTarget, not m.target) ∷ on_commit m
 command_conditions c m = look_up_conditions c m.document
 
 -- an edit puts the old document on the past, and empties the future
@@ -96,11 +134,31 @@ abbrev pub redone : Machine → List UndoStep → Option Machine
 redone m [] = None
 redone m (s ∷ future) = Some (record m { document = s.document; past = record s { document = m.document } ∷ m.past; future = future })
 
+-- the document becomes the updated one
+abbrev pub after_update : Machine → Machine
+after_update m = record m { updated = m.document; sequence = m.sequence + 1 }
+
+-- the document becomes the updated and the saved one
+abbrev pub after_save : Machine → Machine
+after_save m = record m { updated = m.document; saved = m.document; sequence = m.sequence + 1 }
+
+-- the saved document becomes the document and the updated one, and there is nothing left to undo or to redo
+abbrev pub after_revert : Machine → Machine
+after_revert m = record m { document = m.saved; past = []; future = []; updated = m.saved; sequence = m.sequence + 1 }
+
+-- the document becomes the updated and the saved one of the target, which is a new file and is used up as a target
+abbrev pub after_save_as : Machine → Machine
+after_save_as m = record m { updated = m.document; saved = m.document; target = false; sequence = 1 }
+
 -- What a command that nothing refuses answers, and the machine after it. A look-up leaves the machine; a blank line gets no answer.
 abbrev pub done_by : Command → Machine → Option (Reply × Machine)
 done_by (commands.Edit e) m = Some (edited e m)
 done_by commands.Undo m = option_map (λ new. (Accepted, new)) (undone m m.past)
 done_by commands.Redo m = option_map (λ new. (Accepted, new)) (redone m m.future)
+done_by commands.Update m = Some (Accepted, after_update m)
+done_by commands.Save m = Some (Accepted, after_save m)
+done_by commands.Revert m = Some (Accepted, after_revert m)
+done_by commands.SaveAs m = Some (Accepted, after_save_as m)
 done_by commands.Undos m = Some (NumberIs (length m.past), m)
 done_by commands.Redos m = Some (NumberIs (length m.future), m)
 done_by c m = option_map (λ reply. (reply, m)) (look_up c m.document)
@@ -135,6 +193,10 @@ takes_memory commands.Blank m = false
 takes_memory (commands.Edit e) m = true
 takes_memory commands.Undo m = newest_takes undo_takes m.past
 takes_memory commands.Redo m = newest_takes redo_takes m.future
+takes_memory commands.Update m = true
+takes_memory commands.Save m = true
+takes_memory commands.Revert m = true
+takes_memory commands.SaveAs m = m.target
 takes_memory (commands.Info b) m = true
 takes_memory commands.List m = true
 takes_memory (commands.Find uid start) m = false
@@ -156,23 +218,47 @@ takes_memory (commands.NamePart b c t) m = true
 takes_memory commands.Undos m = false
 takes_memory commands.Redos m = false
 
+-- What calls the store, or the target of a save-as: the commits. Where no target is left, a save-as calls nothing.
+abbrev pub calls_store : Command → Machine → Bool
+calls_store commands.Update m = true
+calls_store commands.Save m = true
+calls_store commands.Revert m = true
+calls_store commands.SaveAs m = m.target
+calls_store c m = false
+
+-- The faults that no rule decides, of a call in which the store, or the target of a save-as, failed or didn't: want of memory where
+-- some may be taken, and a file fault where the store is called and failed.
+abbrev pub may_give_up : Bool → Command → Machine → Fault → Bool
+may_give_up failed c m Memory = takes_memory c m
+may_give_up failed c m File = failed && calls_store c m
+may_give_up failed c m fault = false
+
 -- the machine's own answer
 abbrev pub Answers : Machine → Request → Reply → Machine → Type 0
 Answers old request reply new = next request old ≡ Some (reply, new)
 
--- want of memory in place of it, and nothing changes
-pub record RunsOut (old : Machine) (request : Request) (reply : Reply) (new : Machine) : Type 0 where
-  pub may : option_map_or (λ c. takes_memory c old) request false ≡ true
-  pub says : reply ≡ Refused Memory
+-- a fault that no rule decides, in place of it, and nothing changes
+pub record GivesUp (failed : Bool) (old : Machine) (request : Request) (reply : Reply) (new : Machine) : Type 0 where
+  pub fault : Fault
+  pub may : option_map_or (λ c. may_give_up failed c old fault) request false ≡ true
+  pub says : reply ≡ Refused fault
   pub stays : new ≡ old
 
--- The machine may answer a request so, and go on to new.
-abbrev pub Step : Machine → Request → Reply → Machine → Type 0
-Step old request reply new = Answers old request reply new ⊎ RunsOut old request reply new
+-- The machine may answer a request so, and go on to new, in a call in which the store failed or didn't.
+abbrev pub Step : Bool → Machine → Request → Reply → Machine → Type 0
+Step failed old request reply new = Answers old request reply new ⊎ GivesUp failed old request reply new
 
--- The machine may give these replies to these requests, one after another, and go on to new.
-abbrev pub Run : Machine → List Request → List Reply → Machine → Type 0
-Run old [] [] new = new ≡ old
-Run old (request ∷ requests) (reply ∷ replies) new = (mid : Machine) × Step old request reply mid × Run mid requests replies new
-Run old [] (reply ∷ replies) new = ⊥
-Run old (request ∷ requests) [] new = ⊥
+-- a request, its reply, and whether the store failed meanwhile
+pub record Call : Type 0 where
+  pub request : Request
+  pub reply : Reply
+  pub failed : Bool
+
+-- in how many of these calls the store failed
+abbrev pub failed_calls : List Call → ℕ
+failed_calls calls = count_by (λ c. c.failed) calls
+
+-- From old, the machine may answer these calls, one after another, and go on to new.
+abbrev pub Run : Machine → List Call → Machine → Type 0
+Run old [] new = new ≡ old
+Run old (c ∷ cs) new = (mid : Machine) × Step c.failed old c.request c.reply mid × Run mid cs new

@@ -66,6 +66,10 @@ look_up_conditions commands.Blank d = []
 look_up_conditions (commands.Edit e) d = []
 look_up_conditions commands.Undo d = []
 look_up_conditions commands.Redo d = []
+look_up_conditions commands.Update d = []
+look_up_conditions commands.Save d = []
+look_up_conditions commands.Revert d = []
+look_up_conditions commands.SaveAs d = []
 
 -- of a raw block the size of its body, of a heap the bytes that it needs
 abbrev pub body_info : ℕ → Body → Reply
@@ -102,6 +106,10 @@ look_up commands.Blank d = None
 look_up (commands.Edit e) d = None
 look_up commands.Undo d = None
 look_up commands.Redo d = None
+look_up commands.Update d = None
+look_up commands.Save d = None
+look_up commands.Revert d = None
+look_up commands.SaveAs d = None
 
 -- what a call of a session answers, as a reply
 abbrev pub reply_by : {T : Type 0} → (T → Reply) → Result T Fault → Reply

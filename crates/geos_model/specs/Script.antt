@@ -11,7 +11,7 @@ use Rattle.geos_model.specs.declared.handle.Token.{Token}
 pub use Rattle.geos_model.specs.Bytes.{same_bytes}
 use Rattle.geos_model.specs.Refusal.{number_of_fault, name_of_fault}
 use Rattle.geos_model.specs.Reply.{Reply, Accepted, Refused, BlockIs, ChunkIs, TokenIs, NumberIs, BytesAre, BlocksAre, ChunksAre, RawIs, HeapIs}
-use Rattle.geos_model.specs.Machine.{Machine, Request, Run}
+use Rattle.geos_model.specs.Machine.{Machine, Request, Call, failed_calls, Run}
 use Rattle.geos_model.specs.declared.command.Edit.TheVariants as edits
 use Rattle.geos_model.specs.declared.command.Command.{Command}
 use Rattle.geos_model.specs.declared.command.Command.TheVariants as commands
@@ -151,6 +151,10 @@ commands_by_name =
     ∷ (codes "nunref", with_3 block chunk token (λ b c t. commands.Edit (edits.RemoveName b c t)))
     ∷ (codes "undo", with_none commands.Undo)
     ∷ (codes "redo", with_none commands.Redo)
+    ∷ (codes "update", with_none commands.Update)
+    ∷ (codes "save", with_none commands.Save)
+    ∷ (codes "revert", with_none commands.Revert)
+    ∷ (codes "saveas", with_none commands.SaveAs)
     ∷ (codes "info", with_1 block (λ b. commands.Info b))
     ∷ (codes "list", with_none commands.List)
     ∷ (codes "find", with_2 user_id block (λ u b. commands.Find u b))
@@ -230,11 +234,14 @@ reply_line reply = reply_text reply ++ line_feed ∷ []
 abbrev pub output : List Reply → List ℕ
 output replies = flat_map reply_line replies
 
--- From old, this may be written for what is asked, and lead to new. What gets no reply is passed over.
-pub record Answered (old : Machine) (asked : List Request) (written : List ℕ) (new : Machine) : Type 0 where
-  pub replies : List Reply
-  pub run : Run old (filter gets_reply asked) replies new
-  pub text : written ≡ output replies
+-- From old, this may be written for what is asked, and lead to new, the store failing in so many of the calls. What gets no
+-- reply is passed over.
+pub record Answered (old : Machine) (asked : List Request) (written : List ℕ) (failed : ℕ) (new : Machine) : Type 0 where
+  pub calls : List Call
+  pub asks : map (λ c. c.request) calls ≡ filter gets_reply asked
+  pub run : Run old calls new
+  pub text : written ≡ output (map (λ c. c.reply) calls)
+  pub fails : failed_calls calls ≡ failed
 
 -- x goes before the first of these lines, if there is one
 abbrev pub begin_finished : ℕ → List (List ℕ) → List (List ℕ)
@@ -246,10 +253,10 @@ abbrev pub finished_lines : List ℕ → List (List ℕ)
 finished_lines [] = []
 finished_lines (x ∷ xs) = if x == line_feed then [] ∷ finished_lines xs else begin_finished x (finished_lines xs)
 
--- The first ones of these lines are answered, and no other.
-pub record Stopped (old : Machine) (lines : List (List ℕ)) (written : List ℕ) : Type 0 where
+-- The first ones of these lines are answered, and no other, the store failing in so many of the calls.
+pub record Stopped (old : Machine) (lines : List (List ℕ)) (written : List ℕ) (failed : ℕ) : Type 0 where
   pub answered : List (List ℕ)
   pub others : List (List ℕ)
   pub parts : lines ≡ answered ++ others
   pub new : Machine
-  pub run : Answered old (requests answered) written new
+  pub run : Answered old (requests answered) written failed new

@@ -1,17 +1,8 @@
 -- What undoing edits and redoing them comes to, over runs of the machine alone.
-use Rattle.std.specs.Prelude.{◌≡◌, ℕ, List, [], ◌∷◌, Bool, true, false, not, ◌&&◌, ◌||◌, zero, suc, if◌then◌else◌, map, Some}
+use Rattle.std.specs.Prelude.{◌≡◌, ℕ, List, [], ◌∷◌, Bool, true, false, not, ◌&&◌, ◌||◌, zero, suc, if◌then◌else◌, Some}
 use Rattle.geos_model.specs.Reply.{Reply, Refused}
-use Rattle.geos_model.specs.Machine.{Machine, Request, Run}
+use Rattle.geos_model.specs.Machine.{Machine, Request, Call, Run}
 use Rattle.geos_model.specs.declared.command.Command.TheVariants as commands
-
--- a request and its reply
-pub record Call : Type 0 where
-  pub request : Request
-  pub reply : Reply
-
--- from old, the machine may answer these calls, one after another, and go on to new
-abbrev pub Calls : Machine → List Call → Machine → Type 0
-Calls old calls new = Run old (map (λ c. c.request) calls) (map (λ c. c.reply) calls) new
 
 abbrev pub is_refused : Reply → Bool
 is_refused (Refused fault) = true
@@ -29,9 +20,13 @@ abbrev pub is_redo : Request → Bool
 is_redo (Some commands.Redo) = true
 is_redo request = false
 
--- an edit, an undo or a redo
+abbrev pub is_revert : Request → Bool
+is_revert (Some commands.Revert) = true
+is_revert request = false
+
+-- an edit, an undo, a redo or a revert
 abbrev pub moves : Request → Bool
-moves request = is_edit request || is_undo request || is_redo request
+moves request = is_edit request || is_undo request || is_redo request || is_revert request
 
 abbrev pub is_accepted : (Request → Bool) → Call → Bool
 is_accepted kind c = not (is_refused c.reply) && kind c.request
@@ -59,10 +54,10 @@ pub record SamePast (old new : Machine) : Type 0 where
 abbrev pub UndoLaw : Type 0
 UndoLaw =
     (old mid new : Machine) (edits undos : List Call) → only is_edit edits ≡ true → only is_undo undos ≡ true
-    → accepted is_edit edits ≡ accepted is_undo undos → Calls old edits mid → Calls mid undos new → SamePast old new
+    → accepted is_edit edits ≡ accepted is_undo undos → Run old edits mid → Run mid undos new → SamePast old new
 
 -- Redoing as many undos as were accepted gives back the document and the past from before them.
 abbrev pub RedoLaw : Type 0
 RedoLaw =
     (old mid new : Machine) (undos redos : List Call) → only is_undo undos ≡ true → only is_redo redos ≡ true
-    → accepted is_undo undos ≡ accepted is_redo redos → Calls old undos mid → Calls mid redos new → SamePast old new
+    → accepted is_undo undos ≡ accepted is_redo redos → Run old undos mid → Run mid redos new → SamePast old new

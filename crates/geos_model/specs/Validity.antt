@@ -1,10 +1,10 @@
 -- Every step of the machine keeps validity.
-use Rattle.std.specs.Prelude.{◌≡◌, ◌<◌, ℕ, List, All, Some, None}
+use Rattle.std.specs.Prelude.{◌≡◌, ◌<◌, ℕ, Bool, List, All, Some, None}
 use Rattle.geos_model.specs.Refusal.{first_refusal}
 use Rattle.geos_model.specs.Document.{Document, IsValid}
 use Rattle.geos_model.specs.Meaning.{conditions, effect}
 use Rattle.geos_model.specs.Reply.{Reply}
-use Rattle.geos_model.specs.Machine.{Machine, Request, Step, Run, IsValidMachine, empty_machine}
+use Rattle.geos_model.specs.Machine.{Machine, Request, Call, Step, Run, IsValidMachine, opened_machine, empty_machine}
 use Rattle.geos_model.specs.declared.command.Edit.{Edit}
 use Rattle.geos_model.specs.declared.command.Edit.TheVariants as edits
 use Rattle.geos_model.specs.declared.command.Command.TheVariants as commands
@@ -23,8 +23,8 @@ user_id_asked request = 0
 
 -- The machine is valid at the start, and where user IDs are words, an edit that nothing refuses, each step and each run keep validity.
 pub record ValidityLaw : Type 0 where
-  pub start : IsValidMachine empty_machine
+  pub start : (frames : ℕ) (target : Bool) → IsValidMachine (empty_machine frames target)
+  pub opened : (updated saved : Document) (sequence frames : ℕ) (target : Bool) → IsValid updated → IsValid saved → IsValidMachine (opened_machine updated saved sequence frames target)
   pub edit : (e : Edit) (d : Document) → user_id_given e < 65536 → IsValid d → first_refusal (conditions e d) ≡ None → IsValid (effect e d).0
-  pub step : (old new : Machine) (request : Request) (reply : Reply) → user_id_asked request < 65536 → IsValidMachine old → Step old request reply new → IsValidMachine new
-  pub run : (old new : Machine) (requests : List Request) (replies : List Reply) → All (λ request. user_id_asked request < 65536) requests
-      → IsValidMachine old → Run old requests replies new → IsValidMachine new
+  pub step : (old new : Machine) (request : Request) (reply : Reply) (failed : Bool) → user_id_asked request < 65536 → IsValidMachine old → Step failed old request reply new → IsValidMachine new
+  pub run : (old new : Machine) (calls : List Call) → All (λ c. user_id_asked c.request < 65536) calls → IsValidMachine old → Run old calls new → IsValidMachine new

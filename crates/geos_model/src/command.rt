@@ -102,6 +102,14 @@ pub enum Command {
     Edit(Edit),
     Undo,
     Redo,
+    /// The document becomes the updated one of the file.
+    Update,
+    /// The document becomes the updated and the saved one of the file.
+    Save,
+    /// The saved document becomes the document, and the updated one of the file.
+    Revert,
+    /// The document becomes the updated and the saved one of another file, and the session goes on there.
+    SaveAs,
     Info(VmHandle),
     List,
     /// The least handle above a start that has this user ID.

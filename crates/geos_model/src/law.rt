@@ -2,6 +2,8 @@ ghost use Rattle.geos_model.specs.Laws.{WordLaw, NumberLaw, ChunkLaw, ImageLaw, 
 ghost use Rattle.geos_model.specs.EditLaws.{ChunkEditsLaw, ArrayEditsLaw, ElementEditsLaw, NameEditsLaw};
 ghost use Rattle.geos_model.specs.FileLaws.{FileLaw};
 ghost use Rattle.geos_model.specs.Undoing.{UndoLaw, RedoLaw};
+ghost use Rattle.geos_model.specs.Saving.{SaveLaw};
+ghost use Rattle.geos_model.specs.Failing.{FailingLaw};
 ghost use Rattle.geos_model.specs.Validity.{ValidityLaw};
 
 /// Two bytes are the word of one number.
@@ -74,6 +76,16 @@ pub fn undo_law()
 /// Redoing as many undos as were accepted gives back the document from before them.
 pub fn redo_law()
     ensures { RedoLaw }
+{}
+
+/// A save keeps the document, and a revert gives back what was saved last.
+pub fn save_law()
+    ensures { SaveLaw }
+{}
+
+/// A refused request changes nothing, and a file fault is answered only where the store failed.
+pub fn failing_law()
+    ensures { FailingLaw }
 {}
 
 /// What the machine does to a valid document leaves a valid one.

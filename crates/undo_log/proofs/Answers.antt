@@ -12,9 +12,9 @@ use Rattle.vm_blocks.specs.Changes.{made, flipped}
 use Rattle.vm_blocks.specs.declared.change.Change.{Change}
 use Rattle.vm_blocks.specs.declared.change.Direction.TheVariants.{Forwards, Backwards}
 use Rattle.doc_edits.specs.Planning.{kind_of_change, change_cost, Plans}
-use Rattle.undo_log.specs.Records.{after, step, steps, AreSteps}
+use Rattle.undo_log.specs.Records.{after, step, steps, machine_at, AreSteps}
 use Rattle.undo_log.specs.Turning.{Moves, Stays, Turns}
-use Rattle.undo_log.proofs.Steps.{goes_back, machine_at}
+use Rattle.undo_log.proofs.Steps.{goes_back}
 
 -- a list of at least one step isn't empty
 some_steps : (s : UndoStep) (rest : List UndoStep) → (length (s ∷ rest) == 0) ≡ false

@@ -3,3 +3,5 @@ pub mod Steps
 pub mod Answers
 pub mod Weights
 pub mod LookUps
+pub mod Marked
+pub mod Commits

@@ -8,6 +8,7 @@ use Rattle.geos_model.specs.declared.fault.Fault.{Fault}
 use Rattle.geos_model.specs.declared.command.Command.TheVariants as commands
 use Rattle.geos_model.specs.declared.handle.ChunkHandle.{ChunkHandle}
 use Rattle.geos_model.specs.declared.handle.VmHandle.{VmHandle}
+use Rattle.geos_model.specs.declared.handle.Token.{Token}
 use Rattle.doc_edits.specs.LookUps.{LooksUp}
 
 -- a reply with which the machine stays
@@ -28,4 +29,72 @@ pub name_step : (m : Machine) (b : VmHandle) (c : ChunkHandle) (text : List ℕ)
 name_step m b c text reply looks = elim looks [
   | inl memory ↦ inr (record { may = refl; says = memory; stays = refl })
   | inr is ↦ inl (stays_with m (first_refusal (look_up_conditions (commands.NameFind b c text) m.document)) (look_up (commands.NameFind b c text) m.document) reply is)
+]
+
+-- The same of other look-ups of a chunk.
+
+pub count_step : (m : Machine) (b : VmHandle) (c : ChunkHandle) (reply : Reply) → LooksUp (commands.ArrayCount b c) m.document reply → Step m (Some (commands.ArrayCount b c)) reply m
+count_step m b c reply looks = elim looks [
+  | inl memory ↦ inr (record { may = refl; says = memory; stays = refl })
+  | inr is ↦ inl (stays_with m (first_refusal (look_up_conditions (commands.ArrayCount b c) m.document)) (look_up (commands.ArrayCount b c) m.document) reply is)
+]
+
+pub references_step : (m : Machine) (b : VmHandle) (c : ChunkHandle) (t : Token) (reply : Reply) → LooksUp (commands.ElementReferences b c t) m.document reply → Step m (Some (commands.ElementReferences b c t)) reply m
+references_step m b c t reply looks = elim looks [
+  | inl memory ↦ inr (record { may = refl; says = memory; stays = refl })
+  | inr is ↦ inl (stays_with m (first_refusal (look_up_conditions (commands.ElementReferences b c t) m.document)) (look_up (commands.ElementReferences b c t) m.document) reply is)
+]
+
+pub used_step : (m : Machine) (b : VmHandle) (c : ChunkHandle) (reply : Reply) → LooksUp (commands.ElementsUsed b c) m.document reply → Step m (Some (commands.ElementsUsed b c)) reply m
+used_step m b c reply looks = elim looks [
+  | inl memory ↦ inr (record { may = refl; says = memory; stays = refl })
+  | inr is ↦ inl (stays_with m (first_refusal (look_up_conditions (commands.ElementsUsed b c) m.document)) (look_up (commands.ElementsUsed b c) m.document) reply is)
+]
+
+pub token_step : (m : Machine) (b : VmHandle) (c : ChunkHandle) (k : ℕ) (reply : Reply) → LooksUp (commands.TokenOfUsed b c k) m.document reply → Step m (Some (commands.TokenOfUsed b c k)) reply m
+token_step m b c k reply looks = elim looks [
+  | inl memory ↦ inr (record { may = refl; says = memory; stays = refl })
+  | inr is ↦ inl (stays_with m (first_refusal (look_up_conditions (commands.TokenOfUsed b c k) m.document)) (look_up (commands.TokenOfUsed b c k) m.document) reply is)
+]
+
+pub place_step : (m : Machine) (b : VmHandle) (c : ChunkHandle) (t : Token) (reply : Reply) → LooksUp (commands.UsedOfToken b c t) m.document reply → Step m (Some (commands.UsedOfToken b c t)) reply m
+place_step m b c t reply looks = elim looks [
+  | inl memory ↦ inr (record { may = refl; says = memory; stays = refl })
+  | inr is ↦ inl (stays_with m (first_refusal (look_up_conditions (commands.UsedOfToken b c t) m.document)) (look_up (commands.UsedOfToken b c t) m.document) reply is)
+]
+
+pub name_references_step : (m : Machine) (b : VmHandle) (c : ChunkHandle) (t : Token) (reply : Reply) → LooksUp (commands.NameReferences b c t) m.document reply → Step m (Some (commands.NameReferences b c t)) reply m
+name_references_step m b c t reply looks = elim looks [
+  | inl memory ↦ inr (record { may = refl; says = memory; stays = refl })
+  | inr is ↦ inl (stays_with m (first_refusal (look_up_conditions (commands.NameReferences b c t) m.document)) (look_up (commands.NameReferences b c t) m.document) reply is)
+]
+
+pub read_step : (m : Machine) (b : VmHandle) (c : ChunkHandle) (reply : Reply) → LooksUp (commands.Read b c) m.document reply → Step m (Some (commands.Read b c)) reply m
+read_step m b c reply looks = elim looks [
+  | inl memory ↦ inr (record { may = refl; says = memory; stays = refl })
+  | inr is ↦ inl (stays_with m (first_refusal (look_up_conditions (commands.Read b c) m.document)) (look_up (commands.Read b c) m.document) reply is)
+]
+
+pub element_step : (m : Machine) (b : VmHandle) (c : ChunkHandle) (i : ℕ) (reply : Reply) → LooksUp (commands.ArrayElement b c i) m.document reply → Step m (Some (commands.ArrayElement b c i)) reply m
+element_step m b c i reply looks = elim looks [
+  | inl memory ↦ inr (record { may = refl; says = memory; stays = refl })
+  | inr is ↦ inl (stays_with m (first_refusal (look_up_conditions (commands.ArrayElement b c i) m.document)) (look_up (commands.ArrayElement b c i) m.document) reply is)
+]
+
+pub element_bytes_step : (m : Machine) (b : VmHandle) (c : ChunkHandle) (t : Token) (reply : Reply) → LooksUp (commands.ElementBytes b c t) m.document reply → Step m (Some (commands.ElementBytes b c t)) reply m
+element_bytes_step m b c t reply looks = elim looks [
+  | inl memory ↦ inr (record { may = refl; says = memory; stays = refl })
+  | inr is ↦ inl (stays_with m (first_refusal (look_up_conditions (commands.ElementBytes b c t) m.document)) (look_up (commands.ElementBytes b c t) m.document) reply is)
+]
+
+pub name_text_step : (m : Machine) (b : VmHandle) (c : ChunkHandle) (t : Token) (reply : Reply) → LooksUp (commands.NameText b c t) m.document reply → Step m (Some (commands.NameText b c t)) reply m
+name_text_step m b c t reply looks = elim looks [
+  | inl memory ↦ inr (record { may = refl; says = memory; stays = refl })
+  | inr is ↦ inl (stays_with m (first_refusal (look_up_conditions (commands.NameText b c t) m.document)) (look_up (commands.NameText b c t) m.document) reply is)
+]
+
+pub name_part_step : (m : Machine) (b : VmHandle) (c : ChunkHandle) (t : Token) (reply : Reply) → LooksUp (commands.NamePart b c t) m.document reply → Step m (Some (commands.NamePart b c t)) reply m
+name_part_step m b c t reply looks = elim looks [
+  | inl memory ↦ inr (record { may = refl; says = memory; stays = refl })
+  | inr is ↦ inl (stays_with m (first_refusal (look_up_conditions (commands.NamePart b c t) m.document)) (look_up (commands.NamePart b c t) m.document) reply is)
 ]

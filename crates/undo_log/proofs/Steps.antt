@@ -1,7 +1,7 @@
 -- A change that was carried out can be carried out the other way round, and documents stay valid along the records.
 use Rattle.std.proofs.Common.{◌≡◌, Bool, true, false, List, [], ◌∷◌, None, refl, sym, ap, subst, ◌∙◌}
 use Rattle.geos_model.specs.Document.{Document, IsValid}
-use Rattle.geos_model.specs.Machine.{Machine, IsValidMachine}
+use Rattle.geos_model.specs.Machine.{IsValidMachine}
 use Rattle.geos_model.proofs.Validity.{AreValid, valid-push, valid-none}
 use Rattle.vm_blocks.specs.Changes.{made, flipped, turned, block_in, Applies}
 use Rattle.vm_blocks.specs.declared.change.Change.{Change}
@@ -10,7 +10,7 @@ use Rattle.vm_blocks.specs.declared.change.Direction.{Direction}
 use Rattle.vm_blocks.specs.declared.change.Direction.TheVariants.{Forwards, Backwards}
 use Rattle.vm_blocks.proofs.ChangeLaws.{change_back, flip_twice}
 use Rattle.doc_edits.specs.Planning.{kind_of_change}
-use Rattle.undo_log.specs.Records.{opposite, after, step, steps, machine_of, CanTake, AreSteps}
+use Rattle.undo_log.specs.Records.{opposite, after, step, steps, machine_at, CanTake, AreSteps}
 use Rattle.undo_log.specs.Turning.{takes, Moves, Turns}
 
 -- what holds of a change that was carried out
@@ -48,10 +48,6 @@ steps-valid direction [] d valid can = valid-none
 steps-valid direction (c ∷ cs) d valid can =
     let back = goes_back direction c d valid can.0 in
     valid-push (step direction c d) (steps direction cs (after direction c d)) back.valid (steps-valid direction cs (after direction c d) back.valid can.1)
-
--- the machine of a document and two lists of records
-abbrev pub machine_at : Document → List Change → List Change → Machine
-machine_at d undo redo = machine_of (record { document = d; undo = undo; redo = redo })
 
 pub machine-valid : (d : Document) (undo redo : List Change) → AreSteps Backwards d undo redo → IsValidMachine (machine_at d undo redo)
 machine-valid d undo redo are = record {

@@ -1,8 +1,11 @@
 -- The records of a session are changes. What steps they are, and that each can be taken.
-use Rattle.std.specs.Prelude.{◌≡◌, ℕ, List, [], ◌∷◌}
+use Rattle.std.specs.Prelude.{◌≡◌, ℕ, Bool, nat_le, List, [], ◌∷◌}
+use Rattle.std.specs.FinMap.{empty}
 use Rattle.std.specs.List.{sum_by}
-use Rattle.geos_model.specs.Document.{Document, empty_document, IsValid}
+use Rattle.geos_model.specs.Document.{Document, IsValid}
 use Rattle.geos_model.specs.Machine.{Machine, UndoStep}
+use Rattle.vm_store.specs.Facts.{StoreFacts, raised}
+use Rattle.vm_file.specs.Disk.{Disk}
 use Rattle.vm_blocks.specs.Changes.{made, turned, weight, Applies}
 use Rattle.vm_blocks.specs.declared.change.Change.{Change}
 use Rattle.vm_blocks.specs.declared.change.Direction.{Direction}
@@ -26,19 +29,32 @@ abbrev pub steps : Direction → List Change → Document → List UndoStep
 steps direction [] d = []
 steps direction (c ∷ cs) d = step direction c d ∷ steps direction cs (after direction c d)
 
--- A session: its document, the changes that can be taken back, and those that were taken back, of both the newest first.
-pub record SessionState : Type 0 where
+-- A session: the disk, its document as it is now, the changes that can be taken back, and those that were taken back, of both the
+-- newest first, and how many blocks may be in memory one day.
+pub record SessionState (S : Type 0) : Type 0 where
+  pub disk : Disk S
   pub document : Document
   pub undo : List Change
   pub redo : List Change
+  pub frames : ℕ
 
--- a new one
-abbrev pub empty_session : SessionState
-empty_session = record { document = empty_document; undo = []; redo = [] }
+-- the machine that a session is, where a target for a save-as is left and where none is
+abbrev pub machine_of : {S : Type 0} → Bool → SessionState S → Machine
+machine_of target s = record {
+  document = s.document;
+  past = steps Backwards s.undo s.document;
+  future = steps Forwards s.redo s.document;
+  updated = s.disk.updated;
+  saved = s.disk.saved;
+  locks = empty;
+  frames = s.frames;
+  target = target;
+  sequence = s.disk.sequence;
+}
 
--- The machine that a session is: the past takes changes back, the future makes them again.
-abbrev pub machine_of : SessionState → Machine
-machine_of s = record { document = s.document; past = steps Backwards s.undo s.document; future = steps Forwards s.redo s.document }
+-- whether a call of the store has failed since
+abbrev pub has_failed : StoreFacts → StoreFacts → Bool
+has_failed old new = nat_le (raised old.failures) new.failures
 
 -- each change can be carried out in a direction, one after another
 abbrev pub CanTake : Direction → List Change → Document → Type 0
@@ -52,7 +68,7 @@ pub record AreSteps (direction : Direction) (d : Document) (from to : List Chang
   pub second : CanTake (opposite direction) to d
 
 -- The edit's change is made, and its record is the newest; nothing is left to redo.
-pub record Records (old new : SessionState) : Type 0 where
+pub record Records {S : Type 0} (old new : SessionState S) : Type 0 where
   pub change : Change
   pub undo : new.undo ≡ change ∷ old.undo
   pub redo : new.redo ≡ []

@@ -1,6 +1,9 @@
-//! A session: a document that is edited, and exact undo.
+//! A session: a document of a file that is edited, and exact undo.
 #![tactic(auto)]
 
+mod committing;
+mod marking;
+mod opening;
 mod session;
 mod turn;
 mod weighing;

@@ -1,79 +1,325 @@
 //! A document that is edited, with what undo needs.
-ghost use Rattle.std.specs.Prelude.{◌≡◌, ◌+◌, ◌-◌, ◌^◌, ◌≤◌, ℕ, Some, IfOk, OnOk, OnErr, length, min};
+ghost use Rattle.std.specs.Prelude.{◌≡◌, ◌⊎◌, ◌↔◌, ◌+◌, ◌-◌, ◌^◌, ◌≤◌, ◌&&◌, ◌||◌, ℕ, Bool, true, false, List, [], Some, Ok, Err, All, IsTrue, IfOk, IfErr, OnOk, OnErr, IsErrOf, MatchResult, length, min};
+ghost use Rattle.std.specs.Result.{IsErrAnd};
 ghost use Rattle.std.specs.Borrow.{sem};
 ghost use Rattle.std.specs.Option.{option_map};
-ghost use Rattle.geos_model.specs.Reply.{Accepted, BytesAre, NumberIs, TokenIs, reply_by, reply_of_done, info_is, blocks_are, chunks_are, found};
+ghost use Rattle.geos_model.specs.Document.{empty_document, most_blocks, IsValid};
+ghost use Rattle.geos_model.specs.File.{stands};
+ghost use Rattle.geos_model.specs.Reply.{Accepted, Refused, BytesAre, NumberIs, TokenIs, reply_by, reply_of_done, info_is, blocks_are, chunks_are, found};
 ghost use Rattle.geos_model.specs.Machine.{IsValidMachine, Step};
 ghost use Rattle.geos_model.specs.declared.command.Command.TheVariants as commands;
+ghost use Rattle.vm_store.specs.Facts.{Raised, Rests};
+ghost use Rattle.vm_file.specs.Calls.{IsSupply, IsCommitRefusal, IsOpenRefusal, last_sequence};
+ghost use Rattle.vm_file.specs.Disk.{Disk, Commits, Drifts, IsSettled, Numbered, Passes};
+ghost use Rattle.vm_file.specs.Documents.{sequence_in};
 ghost use Rattle.vm_blocks.specs.Blocks.{is_resident};
+ghost use Rattle.vm_blocks.specs.InFile.{IsInFile};
+ghost use Rattle.vm_blocks.specs.Reading.{IsLoadRefusal};
 ghost use Rattle.vm_blocks.specs.declared.change.Direction.TheVariants.{Backwards, Forwards};
 ghost use Rattle.doc_edits.specs.LookUps.{Stays};
-ghost use Rattle.undo_log.specs.Records.{empty_session, machine_of, total_cost, total_weight, Records};
+ghost use Rattle.undo_log.specs.Records.{machine_of, has_failed, total_cost, total_weight, Records};
 ghost use Rattle.undo_log.specs.Turning.{Moves};
 ghost use Rattle.undo_log.specs.contracts.session.Session.{the_row};
 
+use crate::committing::{revert, save, update};
+use crate::opening::{clean_marks, nothing};
 use crate::turn::{take, turn};
 use crate::weighing::total_weight;
 use doc_edits::{look_ups, plan};
 use geos_model::{Bytes, ChunkHandle, Done, Edit, Fault, Info, Token, VmHandle};
-use std::alloc::{AllocError, Global};
+use std::alloc::Global;
 use std::marker::Model;
-use vm_blocks::{Blocks, Change, Direction};
+use vm_blocks::{Blocks, Change, Direction, Version, load};
+use vm_file::{Refused, VmFile};
+use vm_store::Store;
 
-/// A document that is edited, with what undo needs. Contracts see it as the document with its records, of which the machine
-/// of documents is a function: each call is one step of it, refused or not.
+/// A document of a file that is edited, with what undo needs. Contracts see it as the disk and the document with its records, of
+/// which the machine of documents is a function: each call is one step of it, refused or not.
 #[derive(Drop)]
-pub struct Session {
+pub struct Session<S: Store> {
     alloc: Global,
+    file: VmFile<S>,
     blocks: Blocks,
+    /// For each block whether it isn't in the file as it is in memory.
+    changed: Vec<bool>,
     /// The newest edit is the last. There is room for the changes of both lists.
     undo: Vec<Change>,
     /// The next edit to make again is the last. There is room for the changes of both lists.
     redo: Vec<Change>,
+    /// How many blocks may be in memory one day; today all are.
+    frames: usize,
 }
 
-impl Model for Session {
+impl<S: Store> Model for Session<S> {
     ghost use Rattle.undo_log.specs.Records.{SessionState};
     ghost use Rattle.undo_log.specs.Codes.{session_code};
 
-    ghost Value = { SessionState };
+    ghost Value = { SessionState S };
 
-    ghost coded = { session_code };
+    ghost coded = { session_code S.code };
 
     ghost use Rattle.std.specs.Prelude.{◌+◌, ◌≤◌, reverse, vec_len, vec_capacity};
+    ghost use Rattle.vm_file.specs.Disk.{IsSettled};
+    ghost use Rattle.vm_blocks.specs.InFile.{IsInFile};
     ghost use Rattle.vm_blocks.specs.declared.change.Direction.TheVariants.{Backwards};
     ghost use Rattle.undo_log.specs.Records.{AreSteps};
 
-    ghost view = { λ s. record { document = s.blocks; undo = reverse s.undo.items; redo = reverse s.redo.items } };
+    ghost view = { λ s. record { disk = s.file.disk; document = s.blocks; undo = reverse s.undo.items; redo = reverse s.redo.items; frames = s.frames } };
 
     ghost invariant = { λ s. (vec_len s.undo + vec_len s.redo ≤ vec_capacity s.undo)
         × (vec_len s.undo + vec_len s.redo ≤ vec_capacity s.redo)
-        × AreSteps Backwards s.blocks (reverse s.undo.items) (reverse s.redo.items) };
+        × AreSteps Backwards s.blocks (reverse s.undo.items) (reverse s.redo.items)
+        × IsInFile (S.facts s.file.disk.store).honest s.file.document s.blocks s.changed.items
+        × IsSettled S.facts s.file.disk };
 }
 
-impl Session {
-    /// The empty document, with nothing to undo.
-    pub fn new(alloc: Global) -> Result<Session, AllocError>
-        ensures { IfOk result (λ s. s ≡ empty_session) }
+impl<S: Store> Session<S> {
+    // A session of a file, with nothing to undo.
+    fn begin(
+        alloc: Global,
+        file: VmFile<S>,
+        blocks: Blocks,
+        changed: Vec<bool>,
+        frames: usize,
+    ) -> Session<S>
+        requires kept { IsInFile (S.facts file.disk.store).honest file.document blocks changed.items }
+        requires settled { IsSettled S.facts file.disk }
+        ensures { result ≡ record { disk = file.disk; document = blocks; undo = []; redo = []; frames = frames } }
     {
-        Ok(Session {
+        blocks.validity();
+        Session {
             alloc,
-            blocks: Blocks::new(alloc)?,
+            file,
+            blocks,
+            changed,
             undo: Vec::new(alloc),
             redo: Vec::new(alloc),
+            frames,
+        }
+    }
+
+    // A session of a file that was opened. What is read and isn't an image, which an honest store never gives, is Damaged;
+    // Memory, File.
+    fn read(
+        alloc: Global,
+        file: VmFile<S>,
+        changed: Vec<bool>,
+        frames: usize,
+    ) -> Result<Session<S>, Refused<S>>
+        requires size { length changed.items ≡ most_blocks }
+        requires settled { IsSettled S.facts file.disk }
+        ensures passes { IfOk result (λ session. Passes S.facts file.disk session.disk) }
+        ensures document { IfOk result (λ session. Drifts (S.facts file.disk.store).honest file.document session.document) }
+        ensures new { IfOk result (λ session. (session.undo ≡ []) × (session.redo ≡ []) × (session.frames ≡ frames)) }
+        ensures settled { IfOk result (λ session. IsSettled S.facts session.disk) }
+        ensures honest { IfErr result (λ refused. (S.facts refused.store).honest ≡ (S.facts file.disk.store).honest) }
+        ensures failures { IfErr result (λ refused. (S.facts file.disk.store).failures ≤ (S.facts refused.store).failures) }
+        ensures damaged { IfErr result (λ refused. refused.fault ≡ Fault.Damaged → IsTrue (S.facts file.disk.store).honest → ⊥) }
+        ensures file { IfErr result (λ refused. refused.fault ≡ Fault.File → Raised (S.facts file.disk.store) (S.facts refused.store)) }
+        ensures refusals { IfErr result (λ refused. IsLoadRefusal refused.fault) }
+    {
+        let mut file = file;
+        match load(alloc, &mut file, Version::Present) {
+            Ok(blocks) => Ok(Session::begin(alloc, file, blocks, changed, frames)),
+            Err(fault) => Err(Refused {
+                fault,
+                store: file.close(),
+            }),
+        }
+    }
+
+    /// Makes the store an empty document file, with nothing to undo, whatever was in it. Memory, before the store is called; File.
+    pub fn create(alloc: Global, store: S, frames: usize) -> Result<Session<S>, Refused<S>>
+        requires { (1 ≤ frames) × (frames ≤ 64) }
+        ensures honest { MatchResult result
+            (λ session. (S.facts session.disk.store).honest ≡ (S.facts store).honest)
+            (λ refused. (S.facts refused.store).honest ≡ (S.facts store).honest) }
+        ensures failures { MatchResult result
+            (λ session. (S.facts store).failures ≤ (S.facts session.disk.store).failures)
+            (λ refused. (S.facts store).failures ≤ (S.facts refused.store).failures) }
+        ensures made { IfOk result (λ session. (session.document ≡ empty_document) × (session.disk.updated ≡ empty_document) × (session.disk.saved ≡ empty_document)
+            × (session.disk.attempted ≡ []) × (session.disk.sequence ≡ 1)) }
+        ensures new { IfOk result (λ session. (session.undo ≡ []) × (session.redo ≡ []) × (session.frames ≡ frames)) }
+        ensures numbered { IfOk result (λ session. IsTrue (S.facts store).honest → Numbered (S.facts session.disk.store) 1) }
+        ensures settled { IfOk result (λ session. IsSettled S.facts session.disk) }
+        // the slots, and a directory of no block
+        ensures size { IfOk result (λ session. IsTrue (S.facts store).honest → length (S.facts session.disk.store).content ≡ 1040) }
+        ensures file { IfErr result (λ refused. refused.fault ≡ Fault.File → Raised (S.facts store) (S.facts refused.store)) }
+        ensures refusals { IfErr result (λ refused. IsSupply refused.fault) }
+    {
+        let Ok((blocks, changed)) = nothing(alloc) else {
+            return Err(Refused {
+                fault: Fault::Memory,
+                store,
+            });
+        };
+        match VmFile::create(alloc, store) {
+            Ok(file) => Ok(Session::begin(alloc, file, blocks, changed, frames)),
+            Err(refused) => Err(refused),
+        }
+    }
+
+    /// Opens the file that a store has, with its updated document as it is now and nothing to undo: NotDocument or Damaged where
+    /// it is none, and the store comes back as it was. Where a crash left the store, what is read is on the disk from then on.
+    pub fn open(alloc: Global, store: S, frames: usize) -> Result<Session<S>, Refused<S>>
+        requires { (1 ≤ frames) × (frames ≤ 64) }
+        ensures honest { MatchResult result
+            (λ session. (S.facts session.disk.store).honest ≡ (S.facts store).honest)
+            (λ refused. (S.facts refused.store).honest ≡ (S.facts store).honest) }
+        ensures failures { MatchResult result
+            (λ session. (S.facts store).failures ≤ (S.facts session.disk.store).failures)
+            (λ refused. (S.facts store).failures ≤ (S.facts refused.store).failures) }
+        ensures stands { IfOk result (λ session. IsTrue (S.facts store).honest → stands (S.facts store).content ≡ Ok (session.disk.updated, session.disk.saved)) }
+        ensures document { IfOk result (λ session. IsTrue (S.facts store).honest → (session.document ≡ session.disk.updated) × (session.disk.attempted ≡ [])) }
+        ensures new { IfOk result (λ session. (session.undo ≡ []) × (session.redo ≡ []) × (session.frames ≡ frames)) }
+        ensures numbered { IfOk result (λ session. IsTrue (S.facts store).honest → sequence_in (S.facts store).content ≡ Some session.disk.sequence) }
+        ensures settled { IfOk result (λ session. IsSettled S.facts session.disk) }
+        ensures refused { IfErr result (λ refused. IsTrue (S.facts store).honest → IsSupply refused.fault ⊎ (stands (S.facts store).content ≡ Err refused.fault)) }
+        ensures rests { IfErr result (λ refused. IsTrue (S.facts store).honest → IsSupply refused.fault ⊎ Rests (S.facts store) (S.facts refused.store)) }
+        ensures file { IfErr result (λ refused. refused.fault ≡ Fault.File → Raised (S.facts store) (S.facts refused.store)) }
+        ensures refusals { IfErr result (λ refused. IsOpenRefusal refused.fault) }
+    {
+        let Ok(changed) = clean_marks(alloc) else {
+            return Err(Refused {
+                fault: Fault::Memory,
+                store,
+            });
+        };
+        match VmFile::open(alloc, store) {
+            Ok(file) => Session::read(alloc, file, changed, frames),
+            Err(refused) => Err(refused),
+        }
+    }
+
+    /// Gives the store back. Nothing is written.
+    pub fn close(self) -> S
+        ensures { result ≡ self.disk.store }
+    {
+        self.file.close()
+    }
+
+    /// Makes the document as it is now the updated one. Worn where the sequence number can't rise, before anything is written;
+    /// Memory, File.
+    pub fn update(&mut self) -> Result<(), Fault>
+        ensures step { IsTrue (S.facts self.old.disk.store).honest → (target : Bool)
+            → Step (has_failed (S.facts self.old.disk.store) (S.facts self.new.disk.store)) (machine_of target self.old) (Some commands.Update) (reply_by (λ _. Accepted) result) (machine_of target self.new) }
+        ensures commits { Commits S.facts (self.old.document, self.old.disk.saved) self.old.disk self.new.disk result }
+        ensures drifts { Drifts (S.facts self.old.disk.store).honest self.old.document self.new.document }
+        ensures lists { (self.new.undo ≡ self.old.undo) × (self.new.redo ≡ self.old.redo) × (self.new.frames ≡ self.old.frames) }
+        ensures worn { IsErrOf result Fault.Worn ↔ self.old.disk.sequence ≡ last_sequence }
+        ensures early { IsErrOf result Fault.Worn → self.new ≡ self.old }
+        ensures file { IsErrOf result Fault.File → Raised (S.facts self.old.disk.store) (S.facts self.new.disk.store) }
+        ensures refusals { IfErr result IsCommitRefusal }
+    {
+        update(self.alloc, &mut self.file, &self.blocks, &mut self.changed)
+    }
+
+    /// Makes the document as it is now the updated and the saved one. Refused as an update is.
+    pub fn save(&mut self) -> Result<(), Fault>
+        ensures step { IsTrue (S.facts self.old.disk.store).honest → (target : Bool)
+            → Step (has_failed (S.facts self.old.disk.store) (S.facts self.new.disk.store)) (machine_of target self.old) (Some commands.Save) (reply_by (λ _. Accepted) result) (machine_of target self.new) }
+        ensures commits { Commits S.facts (self.old.document, self.old.document) self.old.disk self.new.disk result }
+        ensures drifts { Drifts (S.facts self.old.disk.store).honest self.old.document self.new.document }
+        ensures lists { (self.new.undo ≡ self.old.undo) × (self.new.redo ≡ self.old.redo) × (self.new.frames ≡ self.old.frames) }
+        ensures worn { IsErrOf result Fault.Worn ↔ self.old.disk.sequence ≡ last_sequence }
+        ensures early { IsErrOf result Fault.Worn → self.new ≡ self.old }
+        ensures file { IsErrOf result Fault.File → Raised (S.facts self.old.disk.store) (S.facts self.new.disk.store) }
+        ensures refusals { IfErr result IsCommitRefusal }
+    {
+        save(self.alloc, &mut self.file, &self.blocks, &mut self.changed)
+    }
+
+    /// Makes the saved document the updated one and the document as it is now, with nothing to undo. Where it is refused nothing
+    /// changes. Refused as an update is; over a store that isn't honest what is read may be no image, which is Damaged.
+    pub fn revert(&mut self) -> Result<(), Fault>
+        ensures step { IsTrue (S.facts self.old.disk.store).honest → (target : Bool)
+            → Step (has_failed (S.facts self.old.disk.store) (S.facts self.new.disk.store)) (machine_of target self.old) (Some commands.Revert) (reply_by (λ _. Accepted) result) (machine_of target self.new) }
+        ensures commits { Commits S.facts (self.old.disk.saved, self.old.disk.saved) self.old.disk self.new.disk result }
+        ensures ok { OnOk result (Drifts (S.facts self.old.disk.store).honest self.old.disk.saved self.new.document × (self.new.undo ≡ []) × (self.new.redo ≡ [])) }
+        ensures err { OnErr result (Drifts (S.facts self.old.disk.store).honest self.old.document self.new.document × (self.new.undo ≡ self.old.undo) × (self.new.redo ≡ self.old.redo)) }
+        ensures frames { self.new.frames ≡ self.old.frames }
+        ensures worn { IsErrOf result Fault.Worn ↔ self.old.disk.sequence ≡ last_sequence }
+        ensures early { IsErrOf result Fault.Worn → self.new ≡ self.old }
+        ensures damaged { IsErrOf result Fault.Damaged → IsTrue (S.facts self.old.disk.store).honest → ⊥ }
+        ensures file { IsErrOf result Fault.File → Raised (S.facts self.old.disk.store) (S.facts self.new.disk.store) }
+        ensures refusals { IfErr result (λ fault. IsCommitRefusal fault ⊎ (fault ≡ Fault.Damaged)) }
+    {
+        revert(
+            self.alloc,
+            &mut self.file,
+            &mut self.blocks,
+            &mut self.changed,
+        )?;
+        self.blocks.validity();
+        self.undo.clear();
+        self.redo.clear();
+        Ok(())
+    }
+
+    /// Makes another store a file of its own, with the document as it is now as its updated and its saved one, and goes on in
+    /// that. The file so far goes back to its saved document, and its store comes back. Where it is refused the session stays in
+    /// its file, and the target comes back, with any bytes. Worn where the sequence number of the file so far can't rise, before
+    /// anything is written; over a store that isn't honest what is read may be no image, which is Damaged; Memory, File.
+    pub fn save_as(&mut self, target: S) -> Result<S, Refused<S>>
+        // over an honest file and target
+        ensures ok { IfOk result (λ _. IsTrue (S.facts self.old.disk.store).honest → IsTrue (S.facts target).honest
+            → Step false (machine_of true self.old) (Some commands.SaveAs) Accepted (machine_of false self.new)) }
+        ensures err { IfErr result (λ refused. IsTrue (S.facts self.old.disk.store).honest → IsTrue (S.facts target).honest
+            → Step (has_failed (S.facts self.old.disk.store) (S.facts self.new.disk.store) || has_failed (S.facts target) (S.facts refused.store))
+                (machine_of true self.old) (Some commands.SaveAs) (Refused refused.fault) (machine_of true self.new)) }
+        // of the file so far: a commit of its saved document, with which its store comes back
+        ensures commits { MatchResult result
+            (λ store. (disk : Disk S) × (disk.store ≡ store) × Commits S.facts (self.old.disk.saved, self.old.disk.saved) self.old.disk disk (Ok tt))
+            (λ refused. Commits S.facts (self.old.disk.saved, self.old.disk.saved) self.old.disk self.new.disk (Err refused.fault)) }
+        // of the target: a new file
+        ensures made { IfOk result (λ _. IsTrue (S.facts self.old.disk.store).honest → IsTrue (S.facts target).honest
+            → (self.new.disk.updated ≡ self.old.document) × (self.new.disk.saved ≡ self.old.document)) }
+        ensures new_file { IfOk result (λ _. (self.new.disk.attempted ≡ []) × (self.new.disk.sequence ≡ 1)) }
+        ensures numbered { IfOk result (λ _. IsTrue (S.facts target).honest → Numbered (S.facts self.new.disk.store) 1) }
+        ensures settled { IfOk result (λ _. IsSettled S.facts self.new.disk) }
+        ensures honest { MatchResult result
+            (λ _. (S.facts self.new.disk.store).honest ≡ (S.facts target).honest)
+            (λ refused. (S.facts refused.store).honest ≡ (S.facts target).honest) }
+        ensures failures { MatchResult result
+            (λ _. (S.facts target).failures ≤ (S.facts self.new.disk.store).failures)
+            (λ refused. (S.facts target).failures ≤ (S.facts refused.store).failures) }
+        ensures drifts { Drifts ((S.facts self.old.disk.store).honest && (S.facts target).honest) self.old.document self.new.document }
+        ensures lists { (self.new.undo ≡ self.old.undo) × (self.new.redo ≡ self.old.redo) × (self.new.frames ≡ self.old.frames) }
+        ensures worn { IsErrAnd result (λ refused. refused.fault ≡ Fault.Worn) ↔ self.old.disk.sequence ≡ last_sequence }
+        ensures early { IfErr result (λ refused. refused.fault ≡ Fault.Worn → (self.new ≡ self.old) × (refused.store ≡ target)) }
+        ensures damaged { IfErr result (λ refused. refused.fault ≡ Fault.Damaged → IsTrue (S.facts self.old.disk.store).honest → ⊥) }
+        ensures file { IfErr result (λ refused. refused.fault ≡ Fault.File
+            → Raised (S.facts self.old.disk.store) (S.facts self.new.disk.store) ⊎ Raised (S.facts target) (S.facts refused.store)) }
+        ensures refusals { IfErr result (λ refused. IsCommitRefusal refused.fault ⊎ (refused.fault ≡ Fault.Damaged)) }
+    {
+        // A stub.
+        let fault = if self.file.is_worn() {
+            Fault::Worn
+        } else {
+            Fault::Memory
+        };
+        Err(Refused {
+            fault,
+            store: target,
         })
     }
 
     /// Makes an edit, which can be undone from then on.
     pub fn edit(&mut self, edit: &Edit) -> Result<Done, Fault>
-        ensures step { Step (machine_of self.old) (Some (commands.Edit edit.now)) (reply_by reply_of_done result) (machine_of self.new) }
+        ensures step { (target : Bool) → Step false (machine_of target self.old) (Some (commands.Edit edit.now)) (reply_by reply_of_done result) (machine_of target self.new) }
         ensures ok { OnOk result (Records self.old self.new) }
+        ensures rests { (self.new.disk ≡ self.old.disk) × (self.new.frames ≡ self.old.frames) }
         ensures err { OnErr result (self.new ≡ self.old) }
     {
         self.undo.reserve(self.redo.len() + 1)?;
         self.redo.reserve(self.undo.len() + 1)?;
         let (change, done) = plan(self.alloc, &mut self.blocks, edit)?;
-        take(&mut self.blocks, &change, Direction::Forwards)?;
+        take(
+            &mut self.blocks,
+            &mut self.changed,
+            &change,
+            Direction::Forwards,
+        )?;
         self.redo.clear();
         self.undo.push_reserved(change);
         Ok(done)
@@ -81,12 +327,14 @@ impl Session {
 
     /// Goes back to the document before the newest edit.
     pub fn undo(&mut self) -> Result<(), Fault>
-        ensures step { Step (machine_of self.old) (Some commands.Undo) (reply_by (λ _. Accepted) result) (machine_of self.new) }
+        ensures step { (target : Bool) → Step false (machine_of target self.old) (Some commands.Undo) (reply_by (λ _. Accepted) result) (machine_of target self.new) }
         ensures ok { OnOk result (Moves Backwards self.old.document self.new.document self.old.undo self.old.redo self.new.undo self.new.redo) }
+        ensures rests { (self.new.disk ≡ self.old.disk) × (self.new.frames ≡ self.old.frames) }
         ensures err { OnErr result (self.new ≡ self.old) }
     {
         if turn(
             &mut self.blocks,
+            &mut self.changed,
             &mut self.undo,
             &mut self.redo,
             Direction::Backwards,
@@ -99,12 +347,14 @@ impl Session {
 
     /// Makes the edit again that the newest undo took back.
     pub fn redo(&mut self) -> Result<(), Fault>
-        ensures step { Step (machine_of self.old) (Some commands.Redo) (reply_by (λ _. Accepted) result) (machine_of self.new) }
+        ensures step { (target : Bool) → Step false (machine_of target self.old) (Some commands.Redo) (reply_by (λ _. Accepted) result) (machine_of target self.new) }
         ensures ok { OnOk result (Moves Forwards self.old.document self.new.document self.old.redo self.old.undo self.new.redo self.new.undo) }
+        ensures rests { (self.new.disk ≡ self.old.disk) × (self.new.frames ≡ self.old.frames) }
         ensures err { OnErr result (self.new ≡ self.old) }
     {
         if turn(
             &mut self.blocks,
+            &mut self.changed,
             &mut self.redo,
             &mut self.undo,
             Direction::Forwards,
@@ -118,7 +368,7 @@ impl Session {
     /// How many edits can be undone.
     pub fn undo_count(&self) -> usize
         ensures records { result ≡ length self.now.undo }
-        ensures past { result ≡ length (machine_of self.now).past }
+        ensures past { (target : Bool) → result ≡ length (machine_of target self.now).past }
     {
         self.undo.len()
     }
@@ -126,14 +376,18 @@ impl Session {
     /// How many edits can be redone.
     pub fn redo_count(&self) -> usize
         ensures records { result ≡ length self.now.redo }
-        ensures future { result ≡ length (machine_of self.now).future }
+        ensures future { (target : Bool) → result ≡ length (machine_of target self.now).future }
     {
         self.redo.len()
     }
 
-    /// It does nothing: its caller learns that each document of the machine is valid, as it always is.
+    /// It does nothing: its caller learns that each document of the machine is valid, as it always is. What a store that isn't
+    /// honest has of the updated and the saved one isn't known.
     pub fn validity(&self)
-        ensures { IsValidMachine (machine_of self.now) }
+        ensures document { IsValid self.now.document }
+        ensures past { (target : Bool) → All (λ s. IsValid s.document) (machine_of target self.now).past }
+        ensures future { (target : Bool) → All (λ s. IsValid s.document) (machine_of target self.now).future }
+        ensures machine { IsTrue (S.facts self.now.disk.store).honest → (target : Bool) → IsValidMachine (machine_of target self.now) }
     {
         // What is always so of the fields is known where one is named.
         let _ = &self.undo;
@@ -142,7 +396,7 @@ impl Session {
     /// How many content bytes the records of undo and redo hold, 2^64 - 1 where these are more.
     pub fn weight(&self) -> u64
         ensures exact { result ≡ min (total_weight self.now.undo + total_weight self.now.redo) (2 ^ 64 - 1) }
-        ensures charged { result ≤ total_cost (machine_of self.now).past + total_cost (machine_of self.now).future }
+        ensures charged { (target : Bool) → result ≤ total_cost (machine_of target self.now).past + total_cost (machine_of target self.now).future }
     {
         total_weight(self.undo.as_slice()).saturating_add(total_weight(self.redo.as_slice()))
     }
@@ -156,7 +410,7 @@ impl Session {
 
     /// The live blocks, rising.
     pub fn list(&self) -> Result<Vec<VmHandle>, Fault>
-        ensures { Step (machine_of self.now) (Some commands.List) (reply_by (λ handles. blocks_are handles.items) result) (machine_of self.now) }
+        ensures { (target : Bool) → Step false (machine_of target self.now) (Some commands.List) (reply_by (λ handles. blocks_are handles.items) result) (machine_of target self.now) }
     {
         Ok(self.blocks.list()?)
     }
@@ -177,7 +431,7 @@ impl Session {
 
     /// A block's user ID and size.
     pub fn info(&mut self, block: VmHandle) -> Result<Info, Fault>
-        ensures step { Step (machine_of self.old) (Some (commands.Info block)) (reply_by info_is result) (machine_of self.old) }
+        ensures step { (target : Bool) → Step false (machine_of target self.old) (Some (commands.Info block)) (reply_by info_is result) (machine_of target self.old) }
         ensures stays { self.new ≡ self.old }
     {
         look_ups::info(&mut self.blocks, block)
@@ -185,15 +439,15 @@ impl Session {
 
     /// The bytes of a raw block.
     pub fn read_raw(&mut self, block: VmHandle) -> Result<&[u8], Fault>
-        ensures step { Step (machine_of self.old) (Some (commands.ReadRaw block)) (reply_by (λ bytes. BytesAre bytes.now) result) (machine_of self.old) }
-        ensures* stays { sem 𝓛 (Stays the_row self.entry) }
+        ensures step { (target : Bool) → Step false (machine_of target self.old) (Some (commands.ReadRaw block)) (reply_by (λ bytes. BytesAre bytes.now) result) (machine_of target self.old) }
+        ensures* stays { sem 𝓛 (Stays (the_row S.row S.Store) self.entry) }
     {
         look_ups::read_raw(&mut self.blocks, block)
     }
 
     /// The live chunks of a heap, rising.
     pub fn chunks(&mut self, block: VmHandle) -> Result<Vec<ChunkHandle>, Fault>
-        ensures step { Step (machine_of self.old) (Some (commands.Chunks block)) (reply_by (λ handles. chunks_are handles.items) result) (machine_of self.old) }
+        ensures step { (target : Bool) → Step false (machine_of target self.old) (Some (commands.Chunks block)) (reply_by (λ handles. chunks_are handles.items) result) (machine_of target self.old) }
         ensures stays { self.new ≡ self.old }
     {
         look_ups::chunks(&mut self.blocks, block)
@@ -201,15 +455,15 @@ impl Session {
 
     /// The bytes of a chunk.
     pub fn read_chunk(&mut self, block: VmHandle, chunk: ChunkHandle) -> Result<&[u8], Fault>
-        ensures step { Step (machine_of self.old) (Some (commands.Read block chunk)) (reply_by (λ bytes. BytesAre bytes.now) result) (machine_of self.old) }
-        ensures* stays { sem 𝓛 (Stays the_row self.entry) }
+        ensures step { (target : Bool) → Step false (machine_of target self.old) (Some (commands.Read block chunk)) (reply_by (λ bytes. BytesAre bytes.now) result) (machine_of target self.old) }
+        ensures* stays { sem 𝓛 (Stays (the_row S.row S.Store) self.entry) }
     {
         look_ups::read_chunk(&mut self.blocks, block, chunk)
     }
 
     /// How many elements the array in a chunk has.
     pub fn array_count(&mut self, block: VmHandle, chunk: ChunkHandle) -> Result<usize, Fault>
-        ensures step { Step (machine_of self.old) (Some (commands.ArrayCount block chunk)) (reply_by NumberIs result) (machine_of self.old) }
+        ensures step { (target : Bool) → Step false (machine_of target self.old) (Some (commands.ArrayCount block chunk)) (reply_by NumberIs result) (machine_of target self.old) }
         ensures stays { self.new ≡ self.old }
     {
         look_ups::array_count(&mut self.blocks, block, chunk)
@@ -222,8 +476,8 @@ impl Session {
         chunk: ChunkHandle,
         i: u32,
     ) -> Result<&[u8], Fault>
-        ensures step { Step (machine_of self.old) (Some (commands.ArrayElement block chunk i)) (reply_by (λ bytes. BytesAre bytes.now) result) (machine_of self.old) }
-        ensures* stays { sem 𝓛 (Stays the_row self.entry) }
+        ensures step { (target : Bool) → Step false (machine_of target self.old) (Some (commands.ArrayElement block chunk i)) (reply_by (λ bytes. BytesAre bytes.now) result) (machine_of target self.old) }
+        ensures* stays { sem 𝓛 (Stays (the_row S.row S.Store) self.entry) }
     {
         look_ups::array_element(&mut self.blocks, block, chunk, i)
     }
@@ -235,7 +489,7 @@ impl Session {
         chunk: ChunkHandle,
         token: Token,
     ) -> Result<u32, Fault>
-        ensures step { Step (machine_of self.old) (Some (commands.ElementReferences block chunk token)) (reply_by NumberIs result) (machine_of self.old) }
+        ensures step { (target : Bool) → Step false (machine_of target self.old) (Some (commands.ElementReferences block chunk token)) (reply_by NumberIs result) (machine_of target self.old) }
         ensures stays { self.new ≡ self.old }
     {
         look_ups::element_refs(&mut self.blocks, block, chunk, token)
@@ -248,15 +502,15 @@ impl Session {
         chunk: ChunkHandle,
         token: Token,
     ) -> Result<&[u8], Fault>
-        ensures step { Step (machine_of self.old) (Some (commands.ElementBytes block chunk token)) (reply_by (λ bytes. BytesAre bytes.now) result) (machine_of self.old) }
-        ensures* stays { sem 𝓛 (Stays the_row self.entry) }
+        ensures step { (target : Bool) → Step false (machine_of target self.old) (Some (commands.ElementBytes block chunk token)) (reply_by (λ bytes. BytesAre bytes.now) result) (machine_of target self.old) }
+        ensures* stays { sem 𝓛 (Stays (the_row S.row S.Store) self.entry) }
     {
         look_ups::element_bytes(&mut self.blocks, block, chunk, token)
     }
 
     /// How many elements of the element array in a chunk are used.
     pub fn elements_used(&mut self, block: VmHandle, chunk: ChunkHandle) -> Result<usize, Fault>
-        ensures step { Step (machine_of self.old) (Some (commands.ElementsUsed block chunk)) (reply_by NumberIs result) (machine_of self.old) }
+        ensures step { (target : Bool) → Step false (machine_of target self.old) (Some (commands.ElementsUsed block chunk)) (reply_by NumberIs result) (machine_of target self.old) }
         ensures stays { self.new ≡ self.old }
     {
         look_ups::elements_used(&mut self.blocks, block, chunk)
@@ -269,7 +523,7 @@ impl Session {
         chunk: ChunkHandle,
         k: u32,
     ) -> Result<Token, Fault>
-        ensures step { Step (machine_of self.old) (Some (commands.TokenOfUsed block chunk k)) (reply_by (λ token. TokenIs token.0) result) (machine_of self.old) }
+        ensures step { (target : Bool) → Step false (machine_of target self.old) (Some (commands.TokenOfUsed block chunk k)) (reply_by (λ token. TokenIs token.0) result) (machine_of target self.old) }
         ensures stays { self.new ≡ self.old }
     {
         look_ups::token_of_used(&mut self.blocks, block, chunk, k)
@@ -282,7 +536,7 @@ impl Session {
         chunk: ChunkHandle,
         token: Token,
     ) -> Result<usize, Fault>
-        ensures step { Step (machine_of self.old) (Some (commands.UsedOfToken block chunk token)) (reply_by NumberIs result) (machine_of self.old) }
+        ensures step { (target : Bool) → Step false (machine_of target self.old) (Some (commands.UsedOfToken block chunk token)) (reply_by NumberIs result) (machine_of target self.old) }
         ensures stays { self.new ≡ self.old }
     {
         look_ups::used_of_token(&mut self.blocks, block, chunk, token)
@@ -295,7 +549,7 @@ impl Session {
         chunk: ChunkHandle,
         name: &Bytes,
     ) -> Result<Token, Fault>
-        ensures step { Step (machine_of self.old) (Some (commands.NameFind block chunk name.now)) (reply_by (λ token. TokenIs token.0) result) (machine_of self.old) }
+        ensures step { (target : Bool) → Step false (machine_of target self.old) (Some (commands.NameFind block chunk name.now)) (reply_by (λ token. TokenIs token.0) result) (machine_of target self.old) }
         ensures stays { self.new ≡ self.old }
     {
         look_ups::name_find(&mut self.blocks, block, chunk, name)
@@ -308,7 +562,7 @@ impl Session {
         chunk: ChunkHandle,
         token: Token,
     ) -> Result<u32, Fault>
-        ensures step { Step (machine_of self.old) (Some (commands.NameReferences block chunk token)) (reply_by NumberIs result) (machine_of self.old) }
+        ensures step { (target : Bool) → Step false (machine_of target self.old) (Some (commands.NameReferences block chunk token)) (reply_by NumberIs result) (machine_of target self.old) }
         ensures stays { self.new ≡ self.old }
     {
         look_ups::name_refs(&mut self.blocks, block, chunk, token)
@@ -321,8 +575,8 @@ impl Session {
         chunk: ChunkHandle,
         token: Token,
     ) -> Result<&[u8], Fault>
-        ensures step { Step (machine_of self.old) (Some (commands.NameText block chunk token)) (reply_by (λ bytes. BytesAre bytes.now) result) (machine_of self.old) }
-        ensures* stays { sem 𝓛 (Stays the_row self.entry) }
+        ensures step { (target : Bool) → Step false (machine_of target self.old) (Some (commands.NameText block chunk token)) (reply_by (λ bytes. BytesAre bytes.now) result) (machine_of target self.old) }
+        ensures* stays { sem 𝓛 (Stays (the_row S.row S.Store) self.entry) }
     {
         look_ups::name_text(&mut self.blocks, block, chunk, token)
     }
@@ -334,8 +588,8 @@ impl Session {
         chunk: ChunkHandle,
         token: Token,
     ) -> Result<&[u8], Fault>
-        ensures step { Step (machine_of self.old) (Some (commands.NamePart block chunk token)) (reply_by (λ bytes. BytesAre bytes.now) result) (machine_of self.old) }
-        ensures* stays { sem 𝓛 (Stays the_row self.entry) }
+        ensures step { (target : Bool) → Step false (machine_of target self.old) (Some (commands.NamePart block chunk token)) (reply_by (λ bytes. BytesAre bytes.now) result) (machine_of target self.old) }
+        ensures* stays { sem 𝓛 (Stays (the_row S.row S.Store) self.entry) }
     {
         look_ups::name_part(&mut self.blocks, block, chunk, token)
     }

@@ -126,7 +126,7 @@ impl Blocks {
     }
 
     /// It does nothing: its caller learns that the document is valid, as it always is.
-    pub(crate) fn validity(&self)
+    pub fn validity(&self)
         ensures { IsValid self.now }
     {
         // What is always so of the fields is known where one is named.

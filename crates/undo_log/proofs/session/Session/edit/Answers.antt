@@ -1,18 +1,20 @@
 use Rattle.std.proofs.Common.{◌≡◌, List, ◌∷◌, reverse, Some, sym, subst, ap, ◌∙◌, rules}
+use Rattle.geos_model.specs.Document.{Document}
 use Rattle.geos_model.specs.Machine.{Step}
 use Rattle.geos_model.specs.Reply.{reply_of_done}
 use Rattle.geos_model.specs.declared.command.Command.TheVariants as commands
 use Rattle.vm_blocks.specs.Changes.{made}
+use Rattle.vm_blocks.specs.InFile.{IsInFile}
 use Rattle.vm_blocks.specs.declared.change.Change.{Change}
 use Rattle.vm_blocks.specs.declared.change.Direction.TheVariants.{Backwards}
-use Rattle.undo_log.specs.Records.{SessionState, machine_of, AreSteps}
+use Rattle.undo_log.specs.Records.{SessionState, machine_at, machine_of, AreSteps}
 use Rattle.undo_log.proofs.Answers.{edit_answers}
 use Rattle.undo_log.proofs.Lists.{pushed_first}
-use Rattle.undo_log.proofs.Steps.{machine_at, edited_steps}
+use Rattle.undo_log.proofs.Steps.{edited_steps}
 use Rattle.undo_log.proofs.session.Session.edit.Goals as goal
 
 pub invariant_of-self-2 : goal.invariant_of-self-2
-invariant_of-self-2 c =
+invariant_of-self-2 g c =
     let old = c.self.inside.blocks in let new = c.take.new.blocks in let plans = c.in_ok-change.ensures.planned in let change = c.in_ok-change.change in
     let undo = reverse c.self.inside.undo.items in
     let is : new ≡ made change old = c.in_ok-take.ensures.ok ∙ ap (made change) c.in_ok-change.ensures.stays in
@@ -22,14 +24,27 @@ invariant_of-self-2 c =
       search rules,
       subst (λ (cs : List Change). AreSteps Backwards new cs (reverse c.clear.new.self.items)) (sym pushed)
           (subst (λ (cs : List Change). AreSteps Backwards new (change ∷ undo) (reverse cs)) (sym c.clear.ensures.items) steps),
+      c.take.ensures.tells (g.S.Store.facts c.self.inside.file.disk.store).honest c.self.inside.file.document
+          (subst (λ (d : Document). IsInFile (g.S.Store.facts c.self.inside.file.disk.store).honest c.self.inside.file.document d c.self.inside.changed.items) (sym c.in_ok-change.ensures.stays) c.self.invariant.3),
+      c.self.invariant.4,
     )
 
 pub returns-clause-step : goal.returns-clause-step
-returns-clause-step c =
+returns-clause-step g c =
     let old = c.self.inside.blocks in let new = c.take.new.blocks in let plans = c.in_ok-change.ensures.planned in let change = c.in_ok-change.change in
     let undo = reverse c.self.inside.undo.items in
     let is : new ≡ made change old = c.in_ok-take.ensures.ok ∙ ap (made change) c.in_ok-change.ensures.stays in
     let pushed : reverse c.push_reserved.new.self.items ≡ change ∷ undo = pushed_first c.self.inside.undo.items _ _ change c.in_ok-reserve.ensures.items c.push_reserved.ensures.items in
     let answers = edit_answers c.args.edit.now old undo (reverse c.self.inside.redo.items) change c.in_ok-change.done c.self.invariant.2 plans in
-    subst (λ (s : SessionState). Step (machine_of s) (Some (commands.Edit c.args.edit.now)) (reply_of_done c.in_ok-change.done) (machine_at new (reverse c.push_reserved.new.self.items) (reverse c.clear.new.self.items))) c.self.view_is
+    subst (λ (s : SessionState g.row.S.Denot). Step (machine_of s) (Some (commands.Edit c.args.edit.now)) (reply_of_done c.in_ok-change.done) (machine_at new (reverse c.push_reserved.new.self.items) (reverse c.clear.new.self.items))) c.self.view_is
     (rw (pushed, is, c.clear.ensures.items) answers)
+
+pub invariant_of-self-in_err-take : goal.invariant_of-self-in_err-take
+invariant_of-self-in_err-take g c = (
+  search rules,
+  search rules,
+  search rules,
+  c.take.ensures.tells (g.S.Store.facts c.self.inside.file.disk.store).honest c.self.inside.file.document
+      (subst (λ (d : Document). IsInFile (g.S.Store.facts c.self.inside.file.disk.store).honest c.self.inside.file.document d c.self.inside.changed.items) (sym c.in_ok-change.ensures.stays) c.self.invariant.3),
+  c.self.invariant.4,
+)

@@ -7,6 +7,6 @@ use Rattle.undo_log.proofs.LookUps.{name_step}
 use Rattle.undo_log.proofs.session.Session.name_find.Goals as goal
 
 pub returns-clause-step : goal.returns-clause-step
-returns-clause-step c =
-    subst (λ (s : SessionState). Step (machine_of s) (Some (commands.NameFind c.args.block c.args.chunk c.args.name.now)) (reply_by (λ token. TokenIs token.0) c.name_find.result) (machine_of s)) c.self.view_is
+returns-clause-step g c =
+    subst (λ (s : SessionState g.row.S.Denot). Step (machine_of s) (Some (commands.NameFind c.args.block c.args.chunk c.args.name.now)) (reply_by (λ token. TokenIs token.0) c.name_find.result) (machine_of s)) c.self.view_is
     (name_step _ c.args.block c.args.chunk c.args.name.now _ c.name_find.ensures.value)

@@ -1,0 +1,83 @@
+-- No rule of the document answers want of memory or a file fault.
+use Rattle.std.proofs.Common.{◌≡◌, List, [], ◌∷◌, Bool, true, false, Option, Some, None, find, refl, sym, ap, subst, ◌∙◌, inl, inr}
+use Rattle.std.proofs.lemmas.Bool.{cases_Bool}
+use Rattle.std.specs.List.{list_all}
+use Rattle.std.specs.Option.{option_map_or}
+use Rattle.geos_model.specs.Refusal.{one_order, applies, first_refusal}
+use Rattle.geos_model.specs.Reply.{Reply, Refused}
+use Rattle.geos_model.specs.Machine.{Machine, Request, Step, Answers, command_conditions, done_by, takes_memory, calls_store, may_give_up}
+use Rattle.geos_model.specs.Undoing.{is_refused}
+use Rattle.geos_model.specs.Failing.{FailingLaw}
+use Rattle.geos_model.specs.declared.fault.Fault.{Fault}
+use Rattle.geos_model.specs.declared.fault.Fault.TheVariants.{Memory, File}
+use Rattle.geos_model.specs.declared.command.Command.{Command}
+use Rattle.geos_model.proofs.Undoing.{OnDone, IsAnswer, on_done, done_by-answers, same_reply, refused, both_true}
+
+-- neither want of memory nor a file fault
+abbrev is_rule : Fault → Bool
+is_rule Memory = false
+is_rule File = false
+is_rule fault = true
+
+abbrev answers_rule : Reply → Bool
+answers_rule (Refused fault) = is_rule fault
+answers_rule reply = true
+
+-- what is found in a list has what all of it has
+found-all : (p q : Fault → Bool) (faults : List Fault) (fault : Fault) → list_all q faults ≡ true → find p faults ≡ Some fault → q fault ≡ true
+found-all p q [] fault all is = absurd (cc is)
+found-all p q (f ∷ faults) fault all is = elim (cases_Bool (p f)) [
+  | inl e ↦ let some : Some f ≡ Some fault = rw e at is in let same : f ≡ fault = cc some in subst (λ x. q x ≡ true) same (both_true (q f) (list_all q faults) all).0
+  | inr e ↦ found-all p q faults fault (both_true (q f) (list_all q faults) all).1 (rw e at is)
+]
+
+-- what is no refusal is neither
+answer-rule : (reply : Reply) → is_refused reply ≡ false → answers_rule reply ≡ true
+answer-rule (Refused fault) h = absurd (cc h)
+answer-rule _ h = refl
+
+-- a refusal of the one order, or what is answered where there is none
+own-rule : (refusal : Option Fault) (m new : Machine) (after : Option (Reply × Machine)) (reply : Reply) → ((f : Fault) → refusal ≡ Some f → is_rule f ≡ true) → OnDone IsAnswer after
+    → option_map_or (λ fault. Some (Refused fault, m)) refusal after ≡ Some (reply, new) → answers_rule reply ≡ true
+own-rule (Some fault) m new after reply rule answers is = sym (ap answers_rule (same_reply is)) ∙ rule fault refl
+own-rule None m new after reply rule answers is = answer-rule reply (on_done IsAnswer after reply new answers is)
+
+-- the machine's own answer is neither
+answers-rule : (old new : Machine) (request : Request) (reply : Reply) → Answers old request reply new → answers_rule reply ≡ true
+answers-rule old new None reply is = sym (ap answers_rule (same_reply is))
+answers-rule old new (Some c) reply is =
+    own-rule (first_refusal (command_conditions c old)) old new (done_by c old) reply
+    (λ f first. found-all (applies (command_conditions c old)) is_rule one_order f refl first) (done_by-answers c old) is
+
+-- what may give up by a fault is a command that may
+by_command : (failed : Bool) (old : Machine) (request : Request) (fault : Fault) → option_map_or (λ c. may_give_up failed c old fault) request false ≡ true
+    → (c : Command) × (request ≡ Some c) × (may_give_up failed c old fault ≡ true)
+by_command failed old None fault may = absurd (cc may)
+by_command failed old (Some c) fault may = (c, refl, may)
+
+-- a fault that no rule answers came in place of the answer
+gave_up : (failed : Bool) (old new : Machine) (request : Request) (fault : Fault) → is_rule fault ≡ false → Step failed old request (Refused fault) new
+    → (c : Command) × (request ≡ Some c) × (may_give_up failed c old fault ≡ true)
+gave_up failed old new request fault none (inl is) = let no : true ≡ false = sym (answers-rule old new request (Refused fault) is) ∙ none in absurd (cc no)
+gave_up failed old new request fault none (inr out) =
+    let says : Refused fault ≡ Refused out.fault = out.says in
+    let same : out.fault ≡ fault = cc says in
+    by_command failed old request fault (subst (λ f. option_map_or (λ c. may_give_up failed c old f) request false ≡ true) same out.may)
+
+memory-taken : (failed : Bool) (old new : Machine) (request : Request) → Step failed old request (Refused Memory) new
+    → (c : Command) × (request ≡ Some c) × (takes_memory c old ≡ true)
+memory-taken failed old new request step = gave_up failed old new request Memory refl step
+
+store-failed : (failed : Bool) (old new : Machine) (request : Request) → Step failed old request (Refused File) new
+    → (failed ≡ true) × (c : Command) × (request ≡ Some c) × (calls_store c old ≡ true)
+store-failed failed old new request step =
+    let gave = gave_up failed old new request File refl step in
+    let both = both_true failed (calls_store gave.0 old) gave.2 in
+    (both.0, gave.0, gave.1, both.1)
+
+pub failing_law : FailingLaw
+failing_law = record {
+  stays = λ failed old new request reply step h. refused request reply step h;
+  memory = memory-taken;
+  file = store-failed;
+}

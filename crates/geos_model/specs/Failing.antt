@@ -1,0 +1,16 @@
+-- When a call may fail in place of its answer.
+use Rattle.std.specs.Prelude.{◌≡◌, Bool, true, Some}
+use Rattle.geos_model.specs.Reply.{Reply, Refused}
+use Rattle.geos_model.specs.Machine.{Machine, Request, Step, takes_memory, calls_store}
+use Rattle.geos_model.specs.Undoing.{is_refused}
+use Rattle.geos_model.specs.declared.command.Command.{Command}
+use Rattle.geos_model.specs.declared.fault.Fault.TheVariants.{Memory, File}
+
+-- A request that is refused leaves the machine. Want of memory is answered to nothing but a command that may take some, and a file
+-- fault to nothing but one that calls the store, where it failed.
+pub record FailingLaw : Type 0 where
+  pub stays : (failed : Bool) (old new : Machine) (request : Request) (reply : Reply) → Step failed old request reply new → is_refused reply ≡ true → new ≡ old
+  pub memory : (failed : Bool) (old new : Machine) (request : Request) → Step failed old request (Refused Memory) new
+      → (c : Command) × (request ≡ Some c) × (takes_memory c old ≡ true)
+  pub file : (failed : Bool) (old new : Machine) (request : Request) → Step failed old request (Refused File) new
+      → (failed ≡ true) × (c : Command) × (request ≡ Some c) × (calls_store c old ≡ true)
