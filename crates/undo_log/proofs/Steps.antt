@@ -1,7 +1,6 @@
 -- A change that was carried out can be carried out the other way round, and documents stay valid along the records.
 use Rattle.std.proofs.Common.{◌≡◌, Bool, true, false, List, [], ◌∷◌, None, refl, sym, ap, subst, ◌∙◌}
 use Rattle.geos_model.specs.Document.{Document, IsValid}
-use Rattle.geos_model.specs.Machine.{IsValidMachine}
 use Rattle.geos_model.proofs.Validity.{AreValid, valid-push, valid-none}
 use Rattle.vm_blocks.specs.Changes.{made, flipped, turned, block_in, Applies}
 use Rattle.vm_blocks.specs.declared.change.Change.{Change}
@@ -10,7 +9,7 @@ use Rattle.vm_blocks.specs.declared.change.Direction.{Direction}
 use Rattle.vm_blocks.specs.declared.change.Direction.TheVariants.{Forwards, Backwards}
 use Rattle.vm_blocks.proofs.ChangeLaws.{change_back, flip_twice}
 use Rattle.doc_edits.specs.Planning.{kind_of_change}
-use Rattle.undo_log.specs.Records.{opposite, after, step, steps, machine_at, CanTake, AreSteps}
+use Rattle.undo_log.specs.Records.{opposite, after, step, steps, CanTake, AreSteps}
 use Rattle.undo_log.specs.Turning.{takes, Moves, Turns}
 
 -- what holds of a change that was carried out
@@ -49,12 +48,11 @@ steps-valid direction (c ∷ cs) d valid can =
     let back = goes_back direction c d valid can.0 in
     valid-push (step direction c d) (steps direction cs (after direction c d)) back.valid (steps-valid direction cs (after direction c d) back.valid can.1)
 
-pub machine-valid : (d : Document) (undo redo : List Change) → AreSteps Backwards d undo redo → IsValidMachine (machine_at d undo redo)
-machine-valid d undo redo are = record {
-  document = are.valid;
-  past = steps-valid Backwards undo d are.valid are.first;
-  future = steps-valid Forwards redo d are.valid are.second;
-}
+pub past-valid : (d : Document) (undo redo : List Change) → AreSteps Backwards d undo redo → AreValid (steps Backwards undo d)
+past-valid d undo redo are = steps-valid Backwards undo d are.valid are.first
+
+pub future-valid : (d : Document) (undo redo : List Change) → AreSteps Backwards d undo redo → AreValid (steps Forwards redo d)
+future-valid d undo redo are = steps-valid Forwards redo d are.valid are.second
 
 -- The two lists in the other order.
 pub swapped : (d : Document) (undo redo : List Change) → AreSteps Backwards d undo redo → AreSteps Forwards d redo undo

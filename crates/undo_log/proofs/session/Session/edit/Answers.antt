@@ -1,4 +1,4 @@
-use Rattle.std.proofs.Common.{◌≡◌, List, ◌∷◌, reverse, Some, sym, subst, ap, ◌∙◌, rules}
+use Rattle.std.proofs.Common.{◌≡◌, false, List, [], ◌∷◌, reverse, Some, sym, subst, ap, ◌∙◌, rules}
 use Rattle.geos_model.specs.Document.{Document}
 use Rattle.geos_model.specs.Machine.{Step}
 use Rattle.geos_model.specs.Reply.{reply_of_done}
@@ -7,8 +7,8 @@ use Rattle.vm_blocks.specs.Changes.{made}
 use Rattle.vm_blocks.specs.InFile.{IsInFile}
 use Rattle.vm_blocks.specs.declared.change.Change.{Change}
 use Rattle.vm_blocks.specs.declared.change.Direction.TheVariants.{Backwards}
-use Rattle.undo_log.specs.Records.{SessionState, machine_at, machine_of, AreSteps}
-use Rattle.undo_log.proofs.Answers.{edit_answers}
+use Rattle.undo_log.specs.Records.{SessionState, machine_of, AreSteps}
+use Rattle.undo_log.proofs.Answers.{machine_with, edit_answers}
 use Rattle.undo_log.proofs.Lists.{pushed_first}
 use Rattle.undo_log.proofs.Steps.{edited_steps}
 use Rattle.undo_log.proofs.session.Session.edit.Goals as goal
@@ -30,13 +30,14 @@ invariant_of-self-2 g c =
     )
 
 pub returns-clause-step : goal.returns-clause-step
-returns-clause-step g c =
+returns-clause-step g c = λ target.
+    let m = machine_of target (record { disk = c.self.inside.file.disk; document = c.self.inside.blocks; undo = []; redo = []; frames = c.self.inside.frames }) in
     let old = c.self.inside.blocks in let new = c.take.new.blocks in let plans = c.in_ok-change.ensures.planned in let change = c.in_ok-change.change in
     let undo = reverse c.self.inside.undo.items in
     let is : new ≡ made change old = c.in_ok-take.ensures.ok ∙ ap (made change) c.in_ok-change.ensures.stays in
     let pushed : reverse c.push_reserved.new.self.items ≡ change ∷ undo = pushed_first c.self.inside.undo.items _ _ change c.in_ok-reserve.ensures.items c.push_reserved.ensures.items in
-    let answers = edit_answers c.args.edit.now old undo (reverse c.self.inside.redo.items) change c.in_ok-change.done c.self.invariant.2 plans in
-    subst (λ (s : SessionState g.row.S.Denot). Step (machine_of s) (Some (commands.Edit c.args.edit.now)) (reply_of_done c.in_ok-change.done) (machine_at new (reverse c.push_reserved.new.self.items) (reverse c.clear.new.self.items))) c.self.view_is
+    let answers = edit_answers m c.args.edit.now old undo (reverse c.self.inside.redo.items) change c.in_ok-change.done c.self.invariant.2 plans in
+    subst (λ (s : SessionState g.row.S.Denot). Step false (machine_of target s) (Some (commands.Edit c.args.edit.now)) (reply_of_done c.in_ok-change.done) (machine_with m new (reverse c.push_reserved.new.self.items) (reverse c.clear.new.self.items))) c.self.view_is
     (rw (pushed, is, c.clear.ensures.items) answers)
 
 pub invariant_of-self-in_err-take : goal.invariant_of-self-in_err-take

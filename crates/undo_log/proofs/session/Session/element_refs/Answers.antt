@@ -1,12 +1,12 @@
-use Rattle.std.proofs.Common.{Some, subst}
+use Rattle.std.proofs.Common.{false, Some, subst, refl}
 use Rattle.geos_model.specs.Machine.{Step}
 use Rattle.geos_model.specs.Reply.{NumberIs, reply_by}
 use Rattle.geos_model.specs.declared.command.Command.TheVariants as commands
 use Rattle.undo_log.specs.Records.{SessionState, machine_of}
-use Rattle.undo_log.proofs.LookUps.{references_step}
+use Rattle.undo_log.proofs.LookUps.{look_up_step}
 use Rattle.undo_log.proofs.session.Session.element_refs.Goals as goal
 
 pub returns-clause-step : goal.returns-clause-step
-returns-clause-step g c =
-    subst (λ (s : SessionState g.row.S.Denot). Step (machine_of s) (Some (commands.ElementReferences c.args.block c.args.chunk c.args.token)) (reply_by NumberIs c.element_refs.result) (machine_of s)) c.self.view_is
-    (references_step _ c.args.block c.args.chunk c.args.token _ c.element_refs.ensures.value)
+returns-clause-step g c = λ target.
+    subst (λ (s : SessionState g.row.S.Denot). Step false (machine_of target s) (Some (commands.ElementReferences c.args.block c.args.chunk c.args.token)) (reply_by NumberIs c.element_refs.result) (machine_of target s)) c.self.view_is
+    (look_up_step _ (commands.ElementReferences c.args.block c.args.chunk c.args.token) _ refl refl refl c.element_refs.ensures.value)

@@ -1,12 +1,12 @@
-use Rattle.std.proofs.Common.{Some, subst}
+use Rattle.std.proofs.Common.{false, Some, subst, refl}
 use Rattle.geos_model.specs.Machine.{Step}
 use Rattle.geos_model.specs.Reply.{TokenIs, reply_by}
 use Rattle.geos_model.specs.declared.command.Command.TheVariants as commands
 use Rattle.undo_log.specs.Records.{SessionState, machine_of}
-use Rattle.undo_log.proofs.LookUps.{name_step}
+use Rattle.undo_log.proofs.LookUps.{look_up_step}
 use Rattle.undo_log.proofs.session.Session.name_find.Goals as goal
 
 pub returns-clause-step : goal.returns-clause-step
-returns-clause-step g c =
-    subst (λ (s : SessionState g.row.S.Denot). Step (machine_of s) (Some (commands.NameFind c.args.block c.args.chunk c.args.name.now)) (reply_by (λ token. TokenIs token.0) c.name_find.result) (machine_of s)) c.self.view_is
-    (name_step _ c.args.block c.args.chunk c.args.name.now _ c.name_find.ensures.value)
+returns-clause-step g c = λ target.
+    subst (λ (s : SessionState g.row.S.Denot). Step false (machine_of target s) (Some (commands.NameFind c.args.block c.args.chunk c.args.name.now)) (reply_by (λ token. TokenIs token.0) c.name_find.result) (machine_of target s)) c.self.view_is
+    (look_up_step _ (commands.NameFind c.args.block c.args.chunk c.args.name.now) _ refl refl refl c.name_find.ensures.value)

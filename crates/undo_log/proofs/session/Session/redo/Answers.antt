@@ -1,10 +1,10 @@
-use Rattle.std.proofs.Common.{Some, reverse, subst, rules}
+use Rattle.std.proofs.Common.{false, Some, [], reverse, subst, rules}
 use Rattle.geos_model.specs.Machine.{Step}
 use Rattle.geos_model.specs.Reply.{Accepted, reply_by}
 use Rattle.geos_model.specs.declared.command.Command.TheVariants as commands
 use Rattle.vm_blocks.specs.declared.change.Direction.TheVariants.{Forwards}
-use Rattle.undo_log.specs.Records.{SessionState, machine_at, machine_of}
-use Rattle.undo_log.proofs.Answers.{redo_answers}
+use Rattle.undo_log.specs.Records.{SessionState, machine_of}
+use Rattle.undo_log.proofs.Answers.{machine_with, redo_answers}
 use Rattle.undo_log.proofs.Steps.{kept_steps, swapped, swapped_back}
 use Rattle.undo_log.proofs.session.Session.redo.Goals as goal
 use Rattle.undo_log.proofs.session.Session.redo.Goals.{then-branch, else-branch}
@@ -21,10 +21,11 @@ invariant_of-self-2 g c = (
 )
 
 pub returns-clause-step : goal.returns-clause-step
-returns-clause-step g c =
-    let new = machine_at c.turn.new.blocks (reverse c.turn.new.to.items) (reverse c.turn.new.from.items) in
-    let answers = redo_answers c.in_ok-turn.field-0 c.self.inside.blocks c.turn.new.blocks (reverse c.self.inside.undo.items) (reverse c.self.inside.redo.items) (reverse c.turn.new.to.items) (reverse c.turn.new.from.items) (swapped c.self.inside.blocks (reverse c.self.inside.undo.items) (reverse c.self.inside.redo.items) c.self.invariant.2) c.in_ok-turn.ensures.ok in
-    subst (λ (s : SessionState g.row.S.Denot). Step (machine_of s) (Some commands.Redo) (reply_by (λ _. Accepted) c.if-branch.result) new) c.self.view_is (elim c.if-branch.branch [
+returns-clause-step g c = λ target.
+    let m = machine_of target (record { disk = c.self.inside.file.disk; document = c.self.inside.blocks; undo = []; redo = []; frames = c.self.inside.frames }) in
+    let new = machine_with m c.turn.new.blocks (reverse c.turn.new.to.items) (reverse c.turn.new.from.items) in
+    let answers = redo_answers m c.in_ok-turn.field-0 c.self.inside.blocks c.turn.new.blocks (reverse c.self.inside.undo.items) (reverse c.self.inside.redo.items) (reverse c.turn.new.to.items) (reverse c.turn.new.from.items) (swapped c.self.inside.blocks (reverse c.self.inside.undo.items) (reverse c.self.inside.redo.items) c.self.invariant.2) c.in_ok-turn.ensures.ok in
+    subst (λ (s : SessionState g.row.S.Denot). Step false (machine_of target s) (Some commands.Redo) (reply_by (λ _. Accepted) c.if-branch.result) new) c.self.view_is (elim c.if-branch.branch [
       | then-branch w ↦ rw w.result-is (rw w.if-branch.true at answers)
       | else-branch w ↦ rw w.result-is (rw w.if-branch.false at answers)
     ])

@@ -1,12 +1,12 @@
-use Rattle.std.proofs.Common.{Some, subst}
+use Rattle.std.proofs.Common.{false, Some, subst, refl}
 use Rattle.geos_model.specs.Machine.{Step}
 use Rattle.geos_model.specs.Reply.{TokenIs, reply_by}
 use Rattle.geos_model.specs.declared.command.Command.TheVariants as commands
 use Rattle.undo_log.specs.Records.{SessionState, machine_of}
-use Rattle.undo_log.proofs.LookUps.{token_step}
+use Rattle.undo_log.proofs.LookUps.{look_up_step}
 use Rattle.undo_log.proofs.session.Session.token_of_used.Goals as goal
 
 pub returns-clause-step : goal.returns-clause-step
-returns-clause-step g c =
-    subst (λ (s : SessionState g.row.S.Denot). Step (machine_of s) (Some (commands.TokenOfUsed c.args.block c.args.chunk c.args.k)) (reply_by (λ token. TokenIs token.0) c.token_of_used.result) (machine_of s)) c.self.view_is
-    (token_step _ c.args.block c.args.chunk c.args.k _ c.token_of_used.ensures.value)
+returns-clause-step g c = λ target.
+    subst (λ (s : SessionState g.row.S.Denot). Step false (machine_of target s) (Some (commands.TokenOfUsed c.args.block c.args.chunk c.args.k)) (reply_by (λ token. TokenIs token.0) c.token_of_used.result) (machine_of target s)) c.self.view_is
+    (look_up_step _ (commands.TokenOfUsed c.args.block c.args.chunk c.args.k) _ refl refl refl c.token_of_used.ensures.value)

@@ -1,0 +1,18 @@
+use Rattle.std.proofs.Common.{List, ℕ, false, Some, subst, refl, rules, Bor}
+use Rattle.geos_model.specs.Machine.{Step}
+use Rattle.geos_model.specs.Reply.{BytesAre, reply_by}
+use Rattle.geos_model.specs.declared.command.Command.TheVariants as commands
+use Rattle.undo_log.specs.Records.{SessionState, machine_of}
+use Rattle.undo_log.proofs.LookUps.{look_up_step}
+use Rattle.undo_log.proofs.session.Session.read_raw.Goals as goal
+
+pub returns : goal.returns
+returns g c = (
+  (refl, λ _. tt, search rules),
+  record {
+    step = λ target.
+        subst (λ (s : SessionState g.row.S.Denot). Step false (machine_of target s) (Some (commands.ReadRaw c.args.block)) (reply_by {T = Bor (List ℕ)} (λ bytes. BytesAre bytes.now) c.read_raw.result) (machine_of target s)) c.self.view_is
+        (look_up_step _ (commands.ReadRaw c.args.block) _ refl refl refl c.read_raw.ensures.value);
+    stays = tt;
+  },
+)
