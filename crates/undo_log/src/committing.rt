@@ -1,9 +1,11 @@
 // What a session's commits do to its file.
 ghost use Rattle.std.specs.Prelude.{◌≡◌, ◌⊎◌, ◌↔◌, IsTrue, OnOk, OnErr, IfErr, IsErrOf, length};
+ghost use Rattle.geos_model.specs.Document.{IsValid};
 ghost use Rattle.vm_store.specs.Facts.{Raised};
 ghost use Rattle.vm_file.specs.Calls.{IsCommitRefusal, last_sequence};
 ghost use Rattle.vm_file.specs.Disk.{Commits, Drifts, IsSettled};
 ghost use Rattle.vm_blocks.specs.InFile.{IsInFile};
+ghost use Rattle.undo_log.specs.Records.{AreValidOn};
 
 use geos_model::Fault;
 use std::alloc::Global;
@@ -20,8 +22,11 @@ pub fn update<S: Store>(
 ) -> Result<(), Fault>
     requires kept { IsInFile (S.facts file.old.disk.store).honest file.old.document blocks.now changed.old }
     requires settled { IsSettled S.facts file.old.disk }
+    requires valid { IsValid blocks.now }
+    requires disk_valid { AreValidOn S.facts file.old.disk }
     ensures commits { Commits S.facts (blocks.now, file.old.disk.saved) file.old.disk file.new.disk result }
     ensures kept { IsInFile (S.facts file.new.disk.store).honest file.new.document blocks.now changed.new }
+    ensures disk_valid { AreValidOn S.facts file.new.disk }
     ensures worn { IsErrOf result Fault.Worn ↔ file.old.disk.sequence ≡ last_sequence }
     ensures early { IsErrOf result Fault.Worn → file.new ≡ file.old }
     ensures file { IsErrOf result Fault.File → Raised (S.facts file.old.disk.store) (S.facts file.new.disk.store) }
@@ -43,8 +48,11 @@ pub fn save<S: Store>(
 ) -> Result<(), Fault>
     requires kept { IsInFile (S.facts file.old.disk.store).honest file.old.document blocks.now changed.old }
     requires settled { IsSettled S.facts file.old.disk }
+    requires valid { IsValid blocks.now }
+    requires disk_valid { AreValidOn S.facts file.old.disk }
     ensures commits { Commits S.facts (blocks.now, blocks.now) file.old.disk file.new.disk result }
     ensures kept { IsInFile (S.facts file.new.disk.store).honest file.new.document blocks.now changed.new }
+    ensures disk_valid { AreValidOn S.facts file.new.disk }
     ensures worn { IsErrOf result Fault.Worn ↔ file.old.disk.sequence ≡ last_sequence }
     ensures early { IsErrOf result Fault.Worn → file.new ≡ file.old }
     ensures file { IsErrOf result Fault.File → Raised (S.facts file.old.disk.store) (S.facts file.new.disk.store) }
@@ -76,10 +84,13 @@ pub fn revert<S: Store>(
 ) -> Result<(), Fault>
     requires kept { IsInFile (S.facts file.old.disk.store).honest file.old.document blocks.old changed.old }
     requires settled { IsSettled S.facts file.old.disk }
+    requires valid { IsValid blocks.old }
+    requires disk_valid { AreValidOn S.facts file.old.disk }
     ensures commits { Commits S.facts (file.old.disk.saved, file.old.disk.saved) file.old.disk file.new.disk result }
     ensures ok { OnOk result (Drifts (S.facts file.old.disk.store).honest file.old.disk.saved blocks.new) }
     ensures err { OnErr result (blocks.new ≡ blocks.old) }
     ensures kept { IsInFile (S.facts file.new.disk.store).honest file.new.document blocks.new changed.new }
+    ensures disk_valid { AreValidOn S.facts file.new.disk }
     ensures worn { IsErrOf result Fault.Worn ↔ file.old.disk.sequence ≡ last_sequence }
     ensures early { IsErrOf result Fault.Worn → file.new ≡ file.old }
     ensures damaged { IsErrOf result Fault.Damaged → IsTrue (S.facts file.old.disk.store).honest → ⊥ }

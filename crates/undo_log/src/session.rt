@@ -17,7 +17,7 @@ ghost use Rattle.vm_blocks.specs.InFile.{IsInFile};
 ghost use Rattle.vm_blocks.specs.Reading.{IsLoadRefusal};
 ghost use Rattle.vm_blocks.specs.declared.change.Direction.TheVariants.{Backwards, Forwards};
 ghost use Rattle.doc_edits.specs.LookUps.{Stays};
-ghost use Rattle.undo_log.specs.Records.{machine_of, has_failed, total_cost, total_weight, Records};
+ghost use Rattle.undo_log.specs.Records.{machine_of, has_failed, AreValidOn, total_cost, total_weight, Records};
 ghost use Rattle.undo_log.specs.Turning.{Moves};
 ghost use Rattle.undo_log.specs.contracts.session.Session.{the_row};
 
@@ -62,7 +62,7 @@ impl<S: Store> Model for Session<S> {
     ghost use Rattle.vm_file.specs.Disk.{IsSettled};
     ghost use Rattle.vm_blocks.specs.InFile.{IsInFile};
     ghost use Rattle.vm_blocks.specs.declared.change.Direction.TheVariants.{Backwards};
-    ghost use Rattle.undo_log.specs.Records.{AreSteps};
+    ghost use Rattle.undo_log.specs.Records.{AreSteps, AreValidOn};
 
     ghost view = { λ s. record { disk = s.file.disk; document = s.blocks; undo = reverse s.undo.items; redo = reverse s.redo.items; frames = s.frames } };
 
@@ -70,7 +70,8 @@ impl<S: Store> Model for Session<S> {
         × (vec_len s.undo + vec_len s.redo ≤ vec_capacity s.redo)
         × AreSteps Backwards s.blocks (reverse s.undo.items) (reverse s.redo.items)
         × IsInFile (S.facts s.file.disk.store).honest s.file.document s.blocks s.changed.items
-        × IsSettled S.facts s.file.disk };
+        × IsSettled S.facts s.file.disk
+        × AreValidOn S.facts s.file.disk };
 }
 
 impl<S: Store> Session<S> {
@@ -84,6 +85,7 @@ impl<S: Store> Session<S> {
     ) -> Session<S>
         requires kept { IsInFile (S.facts file.disk.store).honest file.document blocks changed.items }
         requires settled { IsSettled S.facts file.disk }
+        requires valid { AreValidOn S.facts file.disk }
         ensures { result ≡ record { disk = file.disk; document = blocks; undo = []; redo = []; frames = frames } }
     {
         blocks.validity();
@@ -108,6 +110,7 @@ impl<S: Store> Session<S> {
     ) -> Result<Session<S>, Refused<S>>
         requires size { length changed.items ≡ most_blocks }
         requires settled { IsSettled S.facts file.disk }
+        requires valid { AreValidOn S.facts file.disk }
         ensures passes { IfOk result (λ session. Passes S.facts file.disk session.disk) }
         ensures document { IfOk result (λ session. Drifts (S.facts file.disk.store).honest file.document session.document) }
         ensures new { IfOk result (λ session. (session.undo ≡ []) × (session.redo ≡ []) × (session.frames ≡ frames)) }

@@ -6,6 +6,7 @@ use Rattle.vm_file.specs.Disk.{Commits, Drifts}
 use Rattle.vm_file.proofs.Passing.{Passes-fails, Passes-Commits}
 use Rattle.geos_model.specs.declared.fault.Fault.TheVariants.{Worn}
 use Rattle.undo_log.proofs.Commits.{settled_after, raised_after}
+use Rattle.undo_log.proofs.CommitSteps.{valid_after, valid_committed}
 use Rattle.undo_log.proofs.Marked.{in_file_on}
 use Rattle.undo_log.proofs.committing.save.Goals as goal
 
@@ -42,3 +43,10 @@ returns-clause-early g c = λ e.
 
 pub returns-clause-file : goal.returns-clause-file
 returns-clause-file g c = λ e. raised_after (g.S.Store.facts c.args.file.now.disk.store) (g.S.Store.facts c.flush.new.file.disk.store) (g.S.Store.facts c.commit_save.new.self.disk.store) c.flush.ensures.passes.failures (c.commit_save.ensures.file e)
+
+pub returns-in_err-flush-clause-disk_valid : goal.returns-in_err-flush-clause-disk_valid
+returns-in_err-flush-clause-disk_valid g c = valid_after g.S.Store.facts c.args.file.now.disk c.flush.new.file.disk c.in_err-flush.ensures.passes c.requires.disk_valid
+
+pub returns-clause-disk_valid : goal.returns-clause-disk_valid
+returns-clause-disk_valid g c =
+    valid_committed g.S.Store.facts (c.args.blocks.now, c.args.blocks.now) c.args.file.now.disk c.commit_save.new.self.disk c.commit_save.result (returns-clause-commits g c) (λ so. (c.requires.valid, c.requires.valid)) c.requires.disk_valid

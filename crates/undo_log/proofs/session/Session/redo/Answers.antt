@@ -18,6 +18,7 @@ invariant_of-self-2 g c = (
       (swapped c.self.inside.blocks (reverse c.self.inside.undo.items) (reverse c.self.inside.redo.items) c.self.invariant.2)),
   c.turn.ensures.tells (g.S.Store.facts c.self.inside.file.disk.store).honest c.self.inside.file.document c.self.invariant.3,
   c.self.invariant.4,
+  c.self.invariant.5,
 )
 
 pub returns-clause-step : goal.returns-clause-step
@@ -37,4 +38,5 @@ invariant_of-self g c = (
   search rules,
   c.turn.ensures.tells (g.S.Store.facts c.self.inside.file.disk.store).honest c.self.inside.file.document c.self.invariant.3,
   c.self.invariant.4,
+  c.self.invariant.5,
 )

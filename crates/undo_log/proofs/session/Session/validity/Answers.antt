@@ -1,8 +1,29 @@
-use Rattle.std.proofs.Common.{subst, reverse}
+use Rattle.std.proofs.Common.{All, IsTrue, Bool, reverse, subst}
+use Rattle.geos_model.specs.Document.{IsValid}
 use Rattle.geos_model.specs.Machine.{IsValidMachine}
 use Rattle.undo_log.specs.Records.{SessionState, machine_of}
-use Rattle.undo_log.proofs.Steps.{machine-valid}
+use Rattle.undo_log.proofs.Steps.{past-valid, future-valid}
 use Rattle.undo_log.proofs.session.Session.validity.Goals as goal
 
-pub returns : goal.returns
-returns g c = subst (λ (s : SessionState g.row.S.Denot). IsValidMachine (machine_of s)) c.self.view_is (machine-valid c.self.inside.blocks (reverse c.self.inside.undo.items) (reverse c.self.inside.redo.items) c.self.invariant.2)
+pub returns-clause-document : goal.returns-clause-document
+returns-clause-document g c = subst (λ (s : SessionState g.row.S.Denot). IsValid s.document) c.self.view_is c.self.invariant.2.valid
+
+pub returns-clause-past : goal.returns-clause-past
+returns-clause-past g c = λ target.
+    subst (λ (s : SessionState g.row.S.Denot). All (λ u. IsValid u.document) (machine_of target s).past) c.self.view_is
+    (past-valid c.self.inside.blocks (reverse c.self.inside.undo.items) (reverse c.self.inside.redo.items) c.self.invariant.2)
+
+pub returns-clause-future : goal.returns-clause-future
+returns-clause-future g c = λ target.
+    subst (λ (s : SessionState g.row.S.Denot). All (λ u. IsValid u.document) (machine_of target s).future) c.self.view_is
+    (future-valid c.self.inside.blocks (reverse c.self.inside.undo.items) (reverse c.self.inside.redo.items) c.self.invariant.2)
+
+pub returns-clause-machine : goal.returns-clause-machine
+returns-clause-machine g c =
+    subst (λ (s : SessionState g.row.S.Denot). IsTrue (g.S.Store.facts s.disk.store).honest → (target : Bool) → IsValidMachine (machine_of target s)) c.self.view_is (λ so target. record {
+      document = c.self.invariant.2.valid;
+      past = past-valid c.self.inside.blocks (reverse c.self.inside.undo.items) (reverse c.self.inside.redo.items) c.self.invariant.2;
+      future = future-valid c.self.inside.blocks (reverse c.self.inside.undo.items) (reverse c.self.inside.redo.items) c.self.invariant.2;
+      updated = (c.self.invariant.5 so).0;
+      saved = (c.self.invariant.5 so).1;
+    })
