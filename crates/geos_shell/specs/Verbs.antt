@@ -38,6 +38,10 @@ use Rattle.geos_shell.specs.declared.verbs.Verb.TheVariants as verbs
 abbrev pub alone : Alone → Command
 alone alones.Undo = commands.Undo
 alone alones.Redo = commands.Redo
+alone alones.Update = commands.Update
+alone alones.Save = commands.Save
+alone alones.Revert = commands.Revert
+alone alones.SaveAs = commands.SaveAs
 alone alones.List = commands.List
 alone alones.MapBlock = commands.MapBlock
 alone alones.Undos = commands.Undos

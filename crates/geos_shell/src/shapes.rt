@@ -14,6 +14,10 @@ use std::alloc::Global;
 pub(crate) enum Alone {
     Undo,
     Redo,
+    Update,
+    Save,
+    Revert,
+    SaveAs,
     List,
     MapBlock,
     Undos,
@@ -27,6 +31,10 @@ impl Alone {
         match self {
             Self::Undo => Command::Undo,
             Self::Redo => Command::Redo,
+            Self::Update => Command::Update,
+            Self::Save => Command::Save,
+            Self::Revert => Command::Revert,
+            Self::SaveAs => Command::SaveAs,
             Self::List => Command::List,
             Self::MapBlock => Command::MapBlock,
             Self::Undos => Command::Undos,

@@ -26,7 +26,7 @@ pub(crate) enum Verb {
 }
 
 /// Each verb by its name.
-const VERBS: [(&[u8], Verb); 52] = [
+const VERBS: [(&[u8], Verb); 56] = [
     (b"newraw", Verb::NewRaw),
     (b"newheap", Verb::NewHeap),
     (b"vfree", Verb::Block(OnBlock::Free)),
@@ -65,6 +65,10 @@ const VERBS: [(&[u8], Verb); 52] = [
     (b"nunref", Verb::Chunk(OnChunk::Token(OnToken::RemoveName))),
     (b"undo", Verb::Alone(Alone::Undo)),
     (b"redo", Verb::Alone(Alone::Redo)),
+    (b"update", Verb::Alone(Alone::Update)),
+    (b"save", Verb::Alone(Alone::Save)),
+    (b"revert", Verb::Alone(Alone::Revert)),
+    (b"saveas", Verb::Alone(Alone::SaveAs)),
     (b"info", Verb::Block(OnBlock::Info)),
     (b"list", Verb::Alone(Alone::List)),
     (b"find", Verb::Find),
