@@ -1,6 +1,7 @@
 pub mod Given
 pub mod Options
 pub mod Outcome
+pub mod Program
 pub mod Progress
 pub mod Reading
 pub mod Replies
