@@ -5,3 +5,4 @@ pub mod Weights
 pub mod LookUps
 pub mod Marked
 pub mod Commits
+pub mod SavingAs

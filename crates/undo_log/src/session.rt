@@ -23,6 +23,7 @@ ghost use Rattle.undo_log.specs.contracts.session.Session.{the_row};
 
 use crate::committing::{revert, save, update};
 use crate::opening::{clean_marks, nothing};
+use crate::saving_as::save_as;
 use crate::turn::{take, turn};
 use crate::weighing::total_weight;
 use doc_edits::{look_ups, plan};
@@ -292,16 +293,13 @@ impl<S: Store> Session<S> {
             → Raised (S.facts self.old.disk.store) (S.facts self.new.disk.store) ⊎ Raised (S.facts target) (S.facts refused.store)) }
         ensures refusals { IfErr result (λ refused. IsCommitRefusal refused.fault ⊎ (refused.fault ≡ Fault.Damaged)) }
     {
-        // A stub.
-        let fault = if self.file.is_worn() {
-            Fault::Worn
-        } else {
-            Fault::Memory
-        };
-        Err(Refused {
-            fault,
-            store: target,
-        })
+        save_as(
+            self.alloc,
+            &mut self.file,
+            &self.blocks,
+            &mut self.changed,
+            target,
+        )
     }
 
     /// Makes an edit, which can be undone from then on.
