@@ -1,24 +1,28 @@
--- A save-as, done or refused, is a step of the machine.
-use Rattle.std.proofs.Common.{◌≡◌, ◌⊎◌, ◌==◌, ◌||◌, ◌&&◌, ◌≤◌, Bool, true, false, None, Some, refl, sym, ap, subst, ◌∙◌, inl, inr}
-use Rattle.std.specs.Prelude.{ℕ, List, ◌∷◌, [], Option}
-use Rattle.std.proofs.lemmas.Bool.{ne_eqb, eq-eqb, le-leb, or_left, or_right}
-use Rattle.geos_model.specs.Document.{Document}
+-- A save-as that is refused is a step of the machine.
+use Rattle.std.proofs.Common.{◌≡◌, ◌⊎◌, ◌↔◌, ◌==◌, ◌||◌, Bool, true, false, IsTrue, IfErr, Some, refl, inl, inr}
+use Rattle.std.specs.Prelude.{◌∷◌, [], Result, Ok, Err, MatchResult}
+use Rattle.std.specs.Result.{IsErrAnd}
+use Rattle.std.proofs.lemmas.Bool.{eq-eqb, le-leb, or_left, or_right}
 use Rattle.geos_model.specs.Refusal.{first_refusal}
-use Rattle.geos_model.specs.Reply.{Accepted, Refused}
-use Rattle.geos_model.specs.Machine.{Machine, Step, Answers}
+use Rattle.geos_model.specs.Reply.{Refused}
+use Rattle.geos_model.specs.Machine.{Step}
 use Rattle.geos_model.specs.declared.command.Command.TheVariants as commands
 use Rattle.geos_model.specs.declared.fault.Fault.{Fault}
-use Rattle.geos_model.specs.declared.fault.Fault.TheVariants.{Memory, File, NoTarget, Worn}
+use Rattle.geos_model.specs.declared.fault.Fault.TheVariants.{Memory, File, Damaged, NoTarget, Worn}
 use Rattle.vm_store.specs.Facts.{StoreFacts, Raised}
-use Rattle.vm_file.specs.Calls.{last_sequence}
-use Rattle.vm_blocks.specs.declared.change.Change.{Change}
-use Rattle.vm_blocks.specs.declared.change.Direction.TheVariants.{Forwards, Backwards}
-use Rattle.undo_log.specs.Records.{SessionState, machine_of, has_failed, steps}
+use Rattle.vm_file.specs.Calls.{IsCommitRefusal, last_sequence}
+use Rattle.vm_file.specs.Disk.{Commits}
+use Rattle.vm_file.specs.Documents.{Documents}
+use Rattle.undo_log.specs.Records.{SessionState, machine_of, has_failed}
 
--- where a target is left, only a worn file is refused
-not_worn : (worn : Bool) → worn ≡ false → first_refusal ((NoTarget, false) ∷ (Worn, worn) ∷ []) ≡ None
-not_worn worn no = rw no refl
+-- one of two stores failed
+one_failed : (a b c d : StoreFacts) → Raised a b ⊎ Raised c d → (has_failed a b || has_failed c d) ≡ true
+one_failed a b c d either = elim either as (λ _. (has_failed a b || has_failed c d) ≡ true) [
+  | inl first ↦ or_left (has_failed a b) (has_failed c d) (le-leb _ _ first)
+  | inr second ↦ or_right (has_failed a b) (has_failed c d) (le-leb _ _ second)
+]
 
+-- where a target is left
 is_worn : (worn : Bool) → worn ≡ true → first_refusal ((NoTarget, false) ∷ (Worn, worn) ∷ []) ≡ Some Worn
 is_worn worn so = rw so refl
 
@@ -29,30 +33,27 @@ pub record Keeps {S : Type 0} (old new : SessionState S) : Type 0 where
   pub redo : new.redo ≡ old.redo
   pub frames : new.frames ≡ old.frames
 
-module _ {S : Type 0} (old new : SessionState S) (keeps : Keeps old new) where
-  pub saved_as : (old.disk.sequence ≡ last_sequence → ⊥) → new.disk.updated ≡ old.document → new.disk.saved ≡ old.document → new.disk.sequence ≡ 1
-      → Step false (machine_of true old) (Some commands.SaveAs) Accepted (machine_of false new)
-  saved_as left updated saved sequence =
-      inl (rw (not_worn (old.disk.sequence == last_sequence) (ne_eqb old.disk.sequence last_sequence left), keeps.document, keeps.undo, keeps.redo, keeps.frames, updated, saved, sequence) refl)
+module _ {S : Type 0} (facts : S → StoreFacts) (old new : SessionState S) (keeps : Keeps old new) where
+  same_machine : (pair : Documents) (fault : Fault) → Commits facts pair old.disk new.disk (Err fault) → IsTrue (facts old.disk.store).honest → machine_of true new ≡ machine_of true old
+  same_machine pair fault commits so = rw (keeps.document, keeps.undo, keeps.redo, keeps.frames, (commits.err so).0, (commits.err so).1, commits.sequence) refl
 
-  -- what a save-as that is refused leaves
-  pub same_machine : new.disk.updated ≡ old.disk.updated → new.disk.saved ≡ old.disk.saved → new.disk.sequence ≡ old.disk.sequence → machine_of true new ≡ machine_of true old
-  same_machine updated saved sequence = rw (keeps.document, keeps.undo, keeps.redo, keeps.frames, updated, saved, sequence) refl
+  refusal : (fault : Fault) (failed : Bool) → machine_of true new ≡ machine_of true old → (fault ≡ Worn → old.disk.sequence ≡ last_sequence) → (fault ≡ File → failed ≡ true) → (fault ≡ Damaged → ⊥)
+      → IsCommitRefusal fault ⊎ (fault ≡ Damaged) → Step failed (machine_of true old) (Some commands.SaveAs) (Refused fault) (machine_of true new)
+  refusal fault failed same worn file damaged is = elim is as (λ _. Step failed (machine_of true old) (Some commands.SaveAs) (Refused fault) (machine_of true new)) [
+    | inl (inl (inl memory)) ↦ inr (record { fault = Memory; may = refl; says = rw memory refl; stays = same })
+    | inl (inl (inr failing)) ↦ inr (record { fault = File; may = rw (file failing) refl; says = rw failing refl; stays = same })
+    | inl (inr last) ↦ inl (rw (last, same, is_worn (old.disk.sequence == last_sequence) (eq-eqb old.disk.sequence last_sequence (worn last))) refl)
+    | inr other ↦ absurd (damaged other)
+  ]
 
-  module _ (same : machine_of true new ≡ machine_of true old) where
-    pub worn_refused : (failed : Bool) → old.disk.sequence ≡ last_sequence → Step failed (machine_of true old) (Some commands.SaveAs) (Refused Worn) (machine_of true new)
-    worn_refused failed last =
-        inl (rw (is_worn (old.disk.sequence == last_sequence) (eq-eqb old.disk.sequence last_sequence last), same) refl)
-
-    pub memory_refused : (failed : Bool) → Step failed (machine_of true old) (Some commands.SaveAs) (Refused Memory) (machine_of true new)
-    memory_refused failed = inr (record { fault = Memory; may = refl; says = refl; stays = same })
-
-    pub file_refused : (failed : Bool) → failed ≡ true → Step failed (machine_of true old) (Some commands.SaveAs) (Refused File) (machine_of true new)
-    file_refused failed so = inr (record { fault = File; may = rw so refl; says = refl; stays = same })
-
--- one of two stores failed
-pub one_failed : (a b c d : StoreFacts) → Raised a b ⊎ Raised c d → (has_failed a b || has_failed c d) ≡ true
-one_failed a b c d either = elim either as (λ _. (has_failed a b || has_failed c d) ≡ true) [
-  | inl first ↦ or_left (has_failed a b) (has_failed c d) (le-leb _ _ first)
-  | inr second ↦ or_right (has_failed a b) (has_failed c d) (le-leb _ _ second)
-]
+  pub refused : {T E : Type 0} (fault : E → Fault) (store : E → S) (target : S) (pair : Documents) (P : T → Type 0) (r : Result T E) → MatchResult r P (λ e. Commits facts pair old.disk new.disk (Err (fault e)))
+      → (IsErrAnd r (λ e. fault e ≡ Worn) ↔ (old.disk.sequence ≡ last_sequence))
+      → IfErr r (λ e. fault e ≡ Damaged → IsTrue (facts old.disk.store).honest → ⊥)
+      → IfErr r (λ e. fault e ≡ File → Raised (facts old.disk.store) (facts new.disk.store) ⊎ Raised (facts target) (facts (store e)))
+      → IfErr r (λ e. IsCommitRefusal (fault e) ⊎ (fault e ≡ Damaged))
+      → IfErr r (λ e. IsTrue (facts old.disk.store).honest → IsTrue (facts target).honest
+      → Step (has_failed (facts old.disk.store) (facts new.disk.store) || has_failed (facts target) (facts (store e))) (machine_of true old) (Some commands.SaveAs) (Refused (fault e)) (machine_of true new))
+  refused fault store target pair P (Ok x) commits worn damaged file is = tt
+  refused fault store target pair P (Err e) commits worn damaged file is = λ so target_so.
+      refusal (fault e) (has_failed (facts old.disk.store) (facts new.disk.store) || has_failed (facts target) (facts (store e))) (same_machine pair (fault e) commits so) worn.0
+      (λ failing. one_failed (facts old.disk.store) (facts new.disk.store) (facts target) (facts (store e)) (file failing)) (λ is_damaged. damaged is_damaged so) is

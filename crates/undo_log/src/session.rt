@@ -5,7 +5,7 @@ ghost use Rattle.std.specs.Borrow.{sem};
 ghost use Rattle.std.specs.Option.{option_map};
 ghost use Rattle.geos_model.specs.Document.{empty_document, most_blocks, IsValid};
 ghost use Rattle.geos_model.specs.File.{stands};
-ghost use Rattle.geos_model.specs.Reply.{Accepted, Refused, BytesAre, NumberIs, TokenIs, reply_by, reply_of_done, info_is, blocks_are, chunks_are, found};
+ghost use Rattle.geos_model.specs.Reply.{Accepted, Refused as RefusedWith, BytesAre, NumberIs, TokenIs, reply_by, reply_of_done, info_is, blocks_are, chunks_are, found};
 ghost use Rattle.geos_model.specs.Machine.{IsValidMachine, Step};
 ghost use Rattle.geos_model.specs.declared.command.Command.TheVariants as commands;
 ghost use Rattle.vm_store.specs.Facts.{Raised, Rests};
@@ -267,7 +267,7 @@ impl<S: Store> Session<S> {
             → Step false (machine_of true self.old) (Some commands.SaveAs) Accepted (machine_of false self.new)) }
         ensures err { IfErr result (λ refused. IsTrue (S.facts self.old.disk.store).honest → IsTrue (S.facts target).honest
             → Step (has_failed (S.facts self.old.disk.store) (S.facts self.new.disk.store) || has_failed (S.facts target) (S.facts refused.store))
-                (machine_of true self.old) (Some commands.SaveAs) (Refused refused.fault) (machine_of true self.new)) }
+            (machine_of true self.old) (Some commands.SaveAs) (RefusedWith refused.fault) (machine_of true self.new)) }
         // of the file so far: a commit of its saved document, with which its store comes back
         ensures commits { MatchResult result
             (λ store. (disk : Disk S) × (disk.store ≡ store) × Commits S.facts (self.old.disk.saved, self.old.disk.saved) self.old.disk disk (Ok tt))

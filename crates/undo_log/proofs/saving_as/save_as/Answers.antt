@@ -49,7 +49,7 @@ returns-clause-commits g c =
       c.commit_revert.new.self.disk,
       sym (c.close-2.ensures ∙ ap (λ (f : FileState g.row.S.Denot). f.disk.store) c.replace.ensures.value),
       Passes-Commits g.S.Store.facts a d c.commit_revert.new.self.disk (a.saved, a.saved) (d.saved, d.saved) (Ok tt) passes
-      (λ so i. (passes.saved so i, passes.saved so i)) c.in_default-commit_revert.ensures.commits,
+          (λ so i. (passes.saved so i, passes.saved so i)) c.in_default-commit_revert.ensures.commits,
     )
 
 pub returns-clause-numbered : goal.returns-clause-numbered
