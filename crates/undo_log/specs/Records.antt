@@ -1,5 +1,5 @@
 -- The records of a session are changes. What steps they are, and that each can be taken.
-use Rattle.std.specs.Prelude.{◌≡◌, ℕ, Bool, nat_le, List, [], ◌∷◌}
+use Rattle.std.specs.Prelude.{◌≡◌, ℕ, Bool, IsTrue, nat_le, List, [], ◌∷◌}
 use Rattle.std.specs.FinMap.{empty}
 use Rattle.std.specs.List.{sum_by}
 use Rattle.geos_model.specs.Document.{Document, IsValid}
@@ -51,6 +51,10 @@ machine_of target s = record {
   target = target;
   sequence = s.disk.sequence;
 }
+
+-- of an honest store the updated and the saved document are valid
+abbrev pub AreValidOn : {S : Type 0} → (S → StoreFacts) → Disk S → Type 0
+AreValidOn facts disk = IsTrue (facts disk.store).honest → IsValid disk.updated × IsValid disk.saved
 
 -- whether a call of the store has failed since
 abbrev pub has_failed : StoreFacts → StoreFacts → Bool

@@ -6,6 +6,7 @@ ghost use Rattle.vm_file.specs.Calls.{IsCommitRefusal, last_sequence};
 ghost use Rattle.vm_file.specs.Disk.{Disk, Commits, IsSettled, Numbered};
 ghost use Rattle.vm_blocks.specs.InFile.{IsInFile};
 ghost use Rattle.undo_log.specs.Marking.{AreMarked};
+ghost use Rattle.undo_log.specs.Records.{AreValidOn};
 
 use geos_model::Fault;
 use std::alloc::Global;
@@ -53,6 +54,7 @@ pub fn save_as<S: Store>(
         (λ _. (S.facts target).failures ≤ (S.facts file.new.disk.store).failures)
         (λ refused. (S.facts target).failures ≤ (S.facts refused.store).failures) }
     ensures kept { IsInFile (S.facts file.new.disk.store).honest file.new.document blocks.now changed.new }
+    ensures disk_valid { AreValidOn S.facts file.old.disk → AreValidOn S.facts file.new.disk }
     ensures worn { IsErrAnd result (λ refused. refused.fault ≡ Fault.Worn) ↔ file.old.disk.sequence ≡ last_sequence }
     ensures early { IfErr result (λ refused. refused.fault ≡ Fault.Worn → (file.new ≡ file.old) × (refused.store ≡ target)) }
     ensures damaged { IfErr result (λ refused. refused.fault ≡ Fault.Damaged → IsTrue (S.facts file.old.disk.store).honest → ⊥) }
