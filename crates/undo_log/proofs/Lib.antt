@@ -6,3 +6,4 @@ pub mod LookUps
 pub mod Marked
 pub mod Commits
 pub mod CommitSteps
+pub mod SavingAs

@@ -14,7 +14,7 @@ use Rattle.vm_blocks.specs.declared.change.Direction.{Direction}
 use Rattle.vm_blocks.specs.declared.change.Direction.TheVariants.{Forwards, Backwards}
 use Rattle.vm_blocks.proofs.Flushed.{in_file_drifts}
 use Rattle.undo_log.specs.Records.{after}
-use Rattle.undo_log.specs.Marking.{touched, Marks, Tells}
+use Rattle.undo_log.specs.Marking.{touched, AreMarked, Marks, Tells}
 
 other_handle : (b h : ℕ) → (Some b ≡ Some h → ⊥) → h ≢ b
 other_handle b h other = λ e. other (ap Some (sym e))
@@ -68,3 +68,11 @@ in_file_both before honest first file d changed same left right size = subst (λ
   live = λ h handle clear. left.live h ∙ sym (right.live h);
   same = λ so h handle clear. ap (λ (x : Document). get x.blocks h) (left.same so ∙ sym (right.same so));
 })
+
+-- Where every block is marked, any file will do.
+pub in_file_marked : (honest : Bool) (file d : Document) (changed : List Bool) → length changed ≡ most_blocks → AreMarked changed → IsInFile honest file d changed
+in_file_marked honest file d changed size all = record {
+  size = size;
+  live = λ h handle clear. absurd (cc (sym clear ∙ all h));
+  same = λ so h handle clear. absurd (cc (sym clear ∙ all h));
+}

@@ -21,3 +21,7 @@ pub record Marks (c : Change) (old new : List Bool) : Type 0 where
 -- What a file has of the blocks in memory is still told by the marks.
 abbrev pub Tells : Document → Document → List Bool → List Bool → Type 0
 Tells old new marks marks' = (honest : Bool) (file : Document) → IsInFile honest file old marks → IsInFile honest file new marks'
+
+-- every block is marked
+abbrev pub AreMarked : List Bool → Type 0
+AreMarked marks = (h : ℕ) → is_changed marks h ≡ true

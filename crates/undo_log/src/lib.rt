@@ -4,6 +4,7 @@
 mod committing;
 mod marking;
 mod opening;
+mod saving_as;
 mod session;
 mod turn;
 mod weighing;

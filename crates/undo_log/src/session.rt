@@ -5,7 +5,7 @@ ghost use Rattle.std.specs.Borrow.{sem};
 ghost use Rattle.std.specs.Option.{option_map};
 ghost use Rattle.geos_model.specs.Document.{empty_document, most_blocks, IsValid};
 ghost use Rattle.geos_model.specs.File.{stands};
-ghost use Rattle.geos_model.specs.Reply.{Accepted, Refused, BytesAre, NumberIs, TokenIs, reply_by, reply_of_done, info_is, blocks_are, chunks_are, found};
+ghost use Rattle.geos_model.specs.Reply.{Accepted, Refused as RefusedWith, BytesAre, NumberIs, TokenIs, reply_by, reply_of_done, info_is, blocks_are, chunks_are, found};
 ghost use Rattle.geos_model.specs.Machine.{IsValidMachine, Step};
 ghost use Rattle.geos_model.specs.declared.command.Command.TheVariants as commands;
 ghost use Rattle.vm_store.specs.Facts.{Raised, Rests};
@@ -23,6 +23,7 @@ ghost use Rattle.undo_log.specs.contracts.session.Session.{the_row};
 
 use crate::committing::{revert, save, update};
 use crate::opening::{clean_marks, nothing};
+use crate::saving_as::save_as;
 use crate::turn::{take, turn};
 use crate::weighing::total_weight;
 use doc_edits::{look_ups, plan};
@@ -269,7 +270,7 @@ impl<S: Store> Session<S> {
             → Step false (machine_of true self.old) (Some commands.SaveAs) Accepted (machine_of false self.new)) }
         ensures err { IfErr result (λ refused. IsTrue (S.facts self.old.disk.store).honest → IsTrue (S.facts target).honest
             → Step (has_failed (S.facts self.old.disk.store) (S.facts self.new.disk.store) || has_failed (S.facts target) (S.facts refused.store))
-                (machine_of true self.old) (Some commands.SaveAs) (Refused refused.fault) (machine_of true self.new)) }
+            (machine_of true self.old) (Some commands.SaveAs) (RefusedWith refused.fault) (machine_of true self.new)) }
         // of the file so far: a commit of its saved document, with which its store comes back
         ensures commits { MatchResult result
             (λ store. (disk : Disk S) × (disk.store ≡ store) × Commits S.facts (self.old.disk.saved, self.old.disk.saved) self.old.disk disk (Ok tt))
@@ -295,16 +296,13 @@ impl<S: Store> Session<S> {
             → Raised (S.facts self.old.disk.store) (S.facts self.new.disk.store) ⊎ Raised (S.facts target) (S.facts refused.store)) }
         ensures refusals { IfErr result (λ refused. IsCommitRefusal refused.fault ⊎ (refused.fault ≡ Fault.Damaged)) }
     {
-        // A stub.
-        let fault = if self.file.is_worn() {
-            Fault::Worn
-        } else {
-            Fault::Memory
-        };
-        Err(Refused {
-            fault,
-            store: target,
-        })
+        save_as(
+            self.alloc,
+            &mut self.file,
+            &self.blocks,
+            &mut self.changed,
+            target,
+        )
     }
 
     /// Makes an edit, which can be undone from then on.

@@ -1,0 +1,85 @@
+-- A save-as that is refused is a step of the machine, and done or refused it leaves valid documents on the disk.
+use Rattle.std.proofs.Common.{◌≡◌, ◌⊎◌, ◌↔◌, ◌==◌, ◌||◌, Bool, true, false, IsTrue, IfErr, Some, refl, sym, subst, inl, inr}
+use Rattle.std.specs.Prelude.{◌∷◌, [], Result, Ok, Err, MatchResult}
+use Rattle.std.specs.Result.{IsErrAnd}
+use Rattle.std.proofs.lemmas.Bool.{eq-eqb, le-leb, or_left, or_right}
+use Rattle.geos_model.specs.Refusal.{first_refusal}
+use Rattle.geos_model.specs.Reply.{Refused}
+use Rattle.geos_model.specs.Machine.{Step}
+use Rattle.geos_model.specs.declared.command.Command.TheVariants as commands
+use Rattle.geos_model.specs.declared.fault.Fault.{Fault}
+use Rattle.geos_model.specs.declared.fault.Fault.TheVariants.{Memory, File, Damaged, NoTarget, Worn}
+use Rattle.geos_model.specs.Document.{IsValid}
+use Rattle.geos_model.proofs.FileDocuments.{document_at-valid}
+use Rattle.geos_model.proofs.FileStands.{stands-by}
+use Rattle.vm_store.specs.Facts.{StoreFacts, IsTimely, Raised}
+use Rattle.vm_file.specs.Calls.{IsCommitRefusal, last_sequence}
+use Rattle.vm_file.specs.Disk.{Disk, StandsForOne, IsSettled, Passes, Commits}
+use Rattle.vm_file.specs.Documents.{Documents}
+use Rattle.undo_log.specs.Records.{SessionState, machine_of, has_failed, AreValidOn}
+
+-- one of two stores failed
+one_failed : (a b c d : StoreFacts) → Raised a b ⊎ Raised c d → (has_failed a b || has_failed c d) ≡ true
+one_failed a b c d either = elim either as (λ _. (has_failed a b || has_failed c d) ≡ true) [
+  | inl first ↦ or_left (has_failed a b) (has_failed c d) (le-leb _ _ first)
+  | inr second ↦ or_right (has_failed a b) (has_failed c d) (le-leb _ _ second)
+]
+
+-- where a target is left
+is_worn : (worn : Bool) → worn ≡ true → first_refusal ((NoTarget, false) ∷ (Worn, worn) ∷ []) ≡ Some Worn
+is_worn worn so = rw so refl
+
+-- the document and the records stay
+pub record Keeps {S : Type 0} (old new : SessionState S) : Type 0 where
+  pub document : new.document ≡ old.document
+  pub undo : new.undo ≡ old.undo
+  pub redo : new.redo ≡ old.redo
+  pub frames : new.frames ≡ old.frames
+
+module _ {S : Type 0} (facts : S → StoreFacts) (old new : SessionState S) (keeps : Keeps old new) where
+  same_machine : (pair : Documents) (fault : Fault) → Commits facts pair old.disk new.disk (Err fault) → IsTrue (facts old.disk.store).honest → machine_of true new ≡ machine_of true old
+  same_machine pair fault commits so = rw (keeps.document, keeps.undo, keeps.redo, keeps.frames, (commits.err so).0, (commits.err so).1, commits.sequence) refl
+
+  refusal : (fault : Fault) (failed : Bool) → machine_of true new ≡ machine_of true old → (fault ≡ Worn → old.disk.sequence ≡ last_sequence) → (fault ≡ File → failed ≡ true) → (fault ≡ Damaged → ⊥)
+      → IsCommitRefusal fault ⊎ (fault ≡ Damaged) → Step failed (machine_of true old) (Some commands.SaveAs) (Refused fault) (machine_of true new)
+  refusal fault failed same worn file damaged is = elim is as (λ _. Step failed (machine_of true old) (Some commands.SaveAs) (Refused fault) (machine_of true new)) [
+    | inl (inl (inl memory)) ↦ inr (record { fault = Memory; may = refl; says = rw memory refl; stays = same })
+    | inl (inl (inr failing)) ↦ inr (record { fault = File; may = rw (file failing) refl; says = rw failing refl; stays = same })
+    | inl (inr last) ↦ inl (rw (last, same, is_worn (old.disk.sequence == last_sequence) (eq-eqb old.disk.sequence last_sequence (worn last))) refl)
+    | inr other ↦ absurd (damaged other)
+  ]
+
+  pub refused : {T E : Type 0} (fault : E → Fault) (store : E → S) (target : S) (pair : Documents) (P : T → Type 0) (r : Result T E) → MatchResult r P (λ e. Commits facts pair old.disk new.disk (Err (fault e)))
+      → (IsErrAnd r (λ e. fault e ≡ Worn) ↔ (old.disk.sequence ≡ last_sequence))
+      → IfErr r (λ e. fault e ≡ Damaged → IsTrue (facts old.disk.store).honest → ⊥)
+      → IfErr r (λ e. fault e ≡ File → Raised (facts old.disk.store) (facts new.disk.store) ⊎ Raised (facts target) (facts (store e)))
+      → IfErr r (λ e. IsCommitRefusal (fault e) ⊎ (fault e ≡ Damaged))
+      → IfErr r (λ e. IsTrue (facts old.disk.store).honest → IsTrue (facts target).honest
+      → Step (has_failed (facts old.disk.store) (facts new.disk.store) || has_failed (facts target) (facts (store e))) (machine_of true old) (Some commands.SaveAs) (Refused (fault e)) (machine_of true new))
+  refused fault store target pair P (Ok x) commits worn damaged file is = tt
+  refused fault store target pair P (Err e) commits worn damaged file is = λ so target_so.
+      refusal (fault e) (has_failed (facts old.disk.store) (facts new.disk.store) || has_failed (facts target) (facts (store e))) (same_machine pair (fault e) commits so) worn.0
+      (λ failing. one_failed (facts old.disk.store) (facts new.disk.store) (facts target) (facts (store e)) (file failing)) (λ is_damaged. damaged is_damaged so) is
+
+-- What a file stands for that nothing else is tried on is valid.
+pub settled_valid : {S : Type 0} (facts : S → StoreFacts) (disk : Disk S) → (IsTrue (facts disk.store).honest → IsTimely (facts disk.store)) → IsSettled facts disk → disk.attempted ≡ [] → AreValidOn facts disk
+settled_valid facts disk timely settled none = λ so.
+    let file = (facts disk.store).content in
+    elim (settled so file (timely so).now) as (λ _. IsValid disk.updated × IsValid disk.saved) [
+      | inl stands ↦ (let by = stands-by file (disk.updated, disk.saved) stands in (document_at-valid file by.0.working disk.updated by.1.working, document_at-valid file by.0.saved disk.saved by.1.saved_is))
+      | inr other ↦ absurd (subst (λ ds. StandsForOne ds file) none other)
+    ]
+
+module _ {S : Type 0} (facts : S → StoreFacts) (old new : Disk S) where
+  same_valid : (facts new.store).honest ≡ (facts old.store).honest → (IsTrue (facts old.store).honest → (new.updated ≡ old.updated) × (new.saved ≡ old.saved)) → AreValidOn facts old → AreValidOn facts new
+  same_valid honest same valid = λ so.
+      let was = subst IsTrue honest so in (
+        subst IsValid (sym (same was).0) (valid was).0,
+        subst IsValid (sym (same was).1) (valid was).1,
+      )
+
+  pub passed_valid : Passes facts old new → AreValidOn facts old → AreValidOn facts new
+  passed_valid passes = same_valid passes.honest (λ so. (passes.updated so, passes.saved so))
+
+  pub refused_valid : (pair : Documents) (fault : Fault) → Commits facts pair old new (Err fault) → AreValidOn facts old → AreValidOn facts new
+  refused_valid pair fault commits = same_valid commits.honest commits.err
