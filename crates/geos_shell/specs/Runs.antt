@@ -1,40 +1,68 @@
 -- What a run reads and writes. Where a reader or a writer tells its bytes, it is they.
-use Rattle.std.specs.Prelude.{ℕ, ◌<◌, List, length, Option}
+use Rattle.std.specs.Prelude.{◌≡◌, ℕ, ◌+◌, ◌<◌, ◌≤◌, min, Bool, false, IsTrue, List, length, Option, IfSome}
 use Rattle.std.specs.Io.KnownBytes.{Appends, Consumes, IsAtEnd}
-use Rattle.geos_model.specs.Machine.{Machine}
+use Rattle.geos_model.specs.Machine.{Machine, Request}
 use Rattle.geos_model.specs.Script.{lines, finished_lines, requests, Answered, Stopped}
+use Rattle.vm_store.specs.Facts.{StoreFacts, last_count}
+use Rattle.undo_log.specs.Records.{SessionState, machine_of}
 use Rattle.geos_shell.specs.declared.runner.RunFault.{RunFault}
 use Rattle.geos_shell.specs.declared.runner.RunFault.TheVariants as faults
 
+-- a session's machine, and how often its store has failed
+pub record State : Type 0 where
+  pub machine : Machine
+  pub failures : ℕ
+
+-- that of a session over a store, where a target for a save-as is left and where none is
+abbrev pub state_of : {S : Type 0} → (S → StoreFacts) → Bool → SessionState S → State
+state_of facts target session = record { machine = machine_of target session; failures = (facts session.disk.store).failures }
+
+-- the session's store is honest, and so is the target where there is one
+abbrev pub AreHonest : {S : Type 0} → (S → StoreFacts) → SessionState S → Option S → Type 0
+AreHonest facts session target = IsTrue (facts session.disk.store).honest × IfSome target (λ store. IsTrue (facts store).honest)
+
+-- Where there is no target to begin with there never is one, and the store fails in no more calls than these without its count
+-- of failures rising by as many.
+abbrev pub Counts : State → ℕ → State → Type 0
+Counts old failed new =
+    old.machine.target ≡ false → (new.machine.target ≡ false) × (min (old.failures + failed) last_count ≤ new.failures)
+
+-- From one state to another the requests are answered so.
+pub record AnswersOf (old : State) (asked : List Request) (written : List ℕ) (new : State) : Type 0 where
+  pub failed : ℕ
+  pub answered : Answered old.machine asked written failed new.machine
+  pub counted : Counts old failed new
+
 -- A script was read to its end, each line of it is answered, and what is written is the replies and nothing else.
-pub record AnswersAll (old : Machine) (from to before after : Option (List ℕ)) (new : Machine) : Type 0 where
+pub record AnswersAll (old : State) (from to before after : Option (List ℕ)) (new : State) : Type 0 where
   pub script : List ℕ
   pub consumed : Consumes from to script
   pub ended : IsAtEnd to
   pub written : List ℕ
-  pub answered : Answered old (requests (lines script)) written new
+  pub answered : AnswersOf old (requests (lines script)) written new
   pub appended : Appends before after written
 
 -- Each line of what was read that a line feed ends is answered, and nothing else is written.
-pub record AnswersFinished (old : Machine) (from to before after : Option (List ℕ)) : Type 0 where
+pub record AnswersFinished (old : State) (from to before after : Option (List ℕ)) : Type 0 where
   pub read : List ℕ
   pub consumed : Consumes from to read
   pub written : List ℕ
-  pub new : Machine
-  pub answered : Answered old (requests (finished_lines read)) written new
+  pub new : State
+  pub answered : AnswersOf old (requests (finished_lines read)) written new
   pub appended : Appends before after written
 
 -- Something was read, the first ones of its lines that a line feed ends are answered, and nothing else is written.
-pub record AnswersSome (old : Machine) (from to before after : Option (List ℕ)) : Type 0 where
+pub record AnswersSome (old : State) (from to before after : Option (List ℕ)) : Type 0 where
   pub read : List ℕ
   pub some : 0 < length read
   pub consumed : Consumes from to read
   pub written : List ℕ
-  pub answered : Stopped old (finished_lines read) written
+  pub failed : ℕ
+  pub answered : Stopped old.machine (finished_lines read) written failed
   pub appended : Appends before after written
 
 -- what a run has done that ends by this fault; of a fault of the writer nothing is said
-abbrev pub EndsBy : RunFault → Machine → Option (List ℕ) → Option (List ℕ) → Option (List ℕ) → Option (List ℕ) → Type 0
+abbrev pub EndsBy : RunFault → State → Option (List ℕ) → Option (List ℕ) → Option (List ℕ) → Option (List ℕ) → Type 0
 EndsBy faults.Read old from to before after = AnswersFinished old from to before after
 EndsBy faults.Memory old from to before after = AnswersSome old from to before after
 EndsBy faults.Write old from to before after = Unit {0}

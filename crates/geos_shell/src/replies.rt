@@ -1,23 +1,27 @@
-ghost use Rattle.std.specs.Prelude.{◌≡◌, ◌++◌, List, ℕ, [], ◌∷◌, OnOk, OnErr, Some, IsTrue};
-ghost use Rattle.geos_model.specs.Script.{command, Answered};
+ghost use Rattle.std.specs.Prelude.{◌≡◌, Bool, OnOk, OnErr, Some, IsTrue};
+ghost use Rattle.geos_model.specs.Reply.{Accepted, reply_by};
+ghost use Rattle.geos_model.specs.Script.{command};
+ghost use Rattle.geos_model.specs.declared.command.Command.TheVariants as commands;
 ghost use Rattle.undo_log.specs.Records.{machine_of};
-ghost use Rattle.geos_shell.specs.Replies.{Extends, Told, asks_array, asks_names, asks_slots, is_look_up};
+ghost use Rattle.geos_shell.specs.Runs.{AreHonest};
+ghost use Rattle.geos_shell.specs.Replies.{Extends, Told, Serves, Responds, asks_array, asks_names, asks_slots, is_look_up};
 
 use crate::parser::parse;
 use crate::text;
 use geos_model::{Command, Fault};
 use std::alloc::{AllocError, Global};
 use undo_log::Session;
+use vm_store::Store;
 
 // Puts the reply to a look-up of a name array behind `out`, without its line feed.
-fn push_name_look_up(
+fn push_name_look_up<S: Store>(
     alloc: Global,
-    session: &mut Session,
+    session: &mut Session<S>,
     look_up: &Command,
     out: &mut Vec<u8>,
 ) -> Result<(), AllocError>
     requires { IsTrue (asks_names look_up.now) }
-    ensures ok { OnOk result (Told (machine_of session.old) look_up.now out.old.items out.new.items) }
+    ensures ok { OnOk result ((target : Bool) → Told (machine_of target session.old) look_up.now out.old.items out.new.items) }
     ensures stays { session.new ≡ session.old }
     ensures err { OnErr result (Extends out.old.items out.new.items) }
 {
@@ -39,14 +43,14 @@ fn push_name_look_up(
 }
 
 // Puts the reply to a look-up of an element array or a name array behind `out`, without its line feed.
-fn push_slot_look_up(
+fn push_slot_look_up<S: Store>(
     alloc: Global,
-    session: &mut Session,
+    session: &mut Session<S>,
     look_up: &Command,
     out: &mut Vec<u8>,
 ) -> Result<(), AllocError>
     requires { IsTrue (asks_slots look_up.now) }
-    ensures ok { OnOk result (Told (machine_of session.old) look_up.now out.old.items out.new.items) }
+    ensures ok { OnOk result ((target : Bool) → Told (machine_of target session.old) look_up.now out.old.items out.new.items) }
     ensures stays { session.new ≡ session.old }
     ensures err { OnErr result (Extends out.old.items out.new.items) }
 {
@@ -71,14 +75,14 @@ fn push_slot_look_up(
 }
 
 // Puts the reply to a look-up of an array of any kind behind `out`, without its line feed.
-fn push_array_look_up(
+fn push_array_look_up<S: Store>(
     alloc: Global,
-    session: &mut Session,
+    session: &mut Session<S>,
     look_up: &Command,
     out: &mut Vec<u8>,
 ) -> Result<(), AllocError>
     requires { IsTrue (asks_array look_up.now) }
-    ensures ok { OnOk result (Told (machine_of session.old) look_up.now out.old.items out.new.items) }
+    ensures ok { OnOk result ((target : Bool) → Told (machine_of target session.old) look_up.now out.old.items out.new.items) }
     ensures stays { session.new ≡ session.old }
     ensures err { OnErr result (Extends out.old.items out.new.items) }
 {
@@ -94,14 +98,14 @@ fn push_array_look_up(
 }
 
 // Puts the reply to a look-up behind `out`, without its line feed.
-fn push_look_up(
+fn push_look_up<S: Store>(
     alloc: Global,
-    session: &mut Session,
+    session: &mut Session<S>,
     look_up: &Command,
     out: &mut Vec<u8>,
 ) -> Result<(), AllocError>
     requires { IsTrue (is_look_up look_up.now) }
-    ensures ok { OnOk result (Told (machine_of session.old) look_up.now out.old.items out.new.items) }
+    ensures ok { OnOk result ((target : Bool) → Told (machine_of target session.old) look_up.now out.old.items out.new.items) }
     ensures stays { session.new ≡ session.old }
     ensures err { OnErr result (Extends out.old.items out.new.items) }
 {
@@ -121,15 +125,34 @@ fn push_look_up(
     }
 }
 
+// Saves to the target, which is used up where that goes well, and then the old store is dropped. Else the target goes back into
+// its place.
+fn save_as<S: Store>(session: &mut Session<S>, target: &mut Option<S>) -> Result<(), Fault>
+    ensures { AreHonest S.facts session.old target.old
+        → Serves S.facts (session.old, target.old) commands.SaveAs (reply_by (λ _. Accepted) result) (session.new, target.new) }
+{
+    let Some(store) = target.take() else {
+        return Err(Fault::NoTarget);
+    };
+    match session.save_as(store) {
+        Ok(_) => Ok(()),
+        Err(refused) => {
+            *target = Some(refused.store);
+            Err(refused.fault)
+        }
+    }
+}
+
 // Carries out a command, and puts its reply line behind `out`. Where memory is wanting, a part of the line may stand there.
-fn respond(
+fn respond<S: Store>(
     alloc: Global,
-    session: &mut Session,
+    session: &mut Session<S>,
+    target: &mut Option<S>,
     command: &Command,
     out: &mut Vec<u8>,
 ) -> Result<(), AllocError>
-    ensures ok { OnOk result ((written : List ℕ) × Answered (machine_of session.old) (Some command.now ∷ []) written (machine_of session.new)
-        × (out.new.items ≡ out.old.items ++ written)) }
+    ensures ok { OnOk result (AreHonest S.facts session.old target.old
+        → Responds S.facts (session.old, target.old) (Some command.now) (session.new, target.new) out.old.items out.new.items) }
     ensures err { OnErr result (Extends out.old.items out.new.items) }
 {
     match command {
@@ -137,6 +160,10 @@ fn respond(
         Command::Edit(edit) => text::push_done(alloc, out, session.edit(edit)),
         Command::Undo => text::push_accepted(alloc, out, session.undo()),
         Command::Redo => text::push_accepted(alloc, out, session.redo()),
+        Command::Update => text::push_accepted(alloc, out, session.update()),
+        Command::Save => text::push_accepted(alloc, out, session.save()),
+        Command::Revert => text::push_accepted(alloc, out, session.revert()),
+        Command::SaveAs => text::push_accepted(alloc, out, save_as(session, target)),
         look_up => push_look_up(alloc, session, look_up, out),
     }?;
     out.push(b'\n')?;
@@ -144,18 +171,19 @@ fn respond(
 }
 
 // Answers a line, and may leave a part of its reply line where memory is wanting.
-fn push_answer(
+fn push_answer<S: Store>(
     alloc: Global,
-    session: &mut Session,
+    session: &mut Session<S>,
+    target: &mut Option<S>,
     line: &[u8],
     out: &mut Vec<u8>,
 ) -> Result<(), AllocError>
-    ensures ok { OnOk result ((written : List ℕ) × Answered (machine_of session.old) (command line.now ∷ []) written (machine_of session.new)
-        × (out.new.items ≡ out.old.items ++ written)) }
+    ensures ok { OnOk result (AreHonest S.facts session.old target.old
+        → Responds S.facts (session.old, target.old) (command line.now) (session.new, target.new) out.old.items out.new.items) }
     ensures err { OnErr result (Extends out.old.items out.new.items) }
 {
     match parse(alloc, line) {
-        Ok(command) => respond(alloc, session, &command, out),
+        Ok(command) => respond(alloc, session, target, &command, out),
         Err(Fault::BadCommand) => {
             text::push_refusal(alloc, out, Fault::BadCommand)?;
             Ok(out.push(b'\n')?)
@@ -165,20 +193,22 @@ fn push_answer(
     }
 }
 
-/// Answers a line, without its line feed, and puts its reply line behind `out`; a blank line and a note get none.
+/// Answers a line, without its line feed, and puts its reply line behind `out`; a blank line and a note get none. A save-as
+/// uses up the target.
 /// An `Err` is want of memory for the line or the text of its reply, and then the session may have gone on.
-pub(crate) fn answer_line(
+pub(crate) fn answer_line<S: Store>(
     alloc: Global,
-    session: &mut Session,
+    session: &mut Session<S>,
+    target: &mut Option<S>,
     line: &[u8],
     out: &mut Vec<u8>,
 ) -> Result<(), AllocError>
-    ensures ok { OnOk result ((written : List ℕ) × Answered (machine_of session.old) (command line.now ∷ []) written (machine_of session.new)
-        × (out.new.items ≡ out.old.items ++ written)) }
+    ensures ok { OnOk result (AreHonest S.facts session.old target.old
+        → Responds S.facts (session.old, target.old) (command line.now) (session.new, target.new) out.old.items out.new.items) }
     ensures err { OnErr result (out.new.items ≡ out.old.items) }
 {
     let start = out.len();
-    let answered = push_answer(alloc, session, line, out);
+    let answered = push_answer(alloc, session, target, line, out);
     if answered.is_err() {
         out.truncate(start);
     }

@@ -1,7 +1,6 @@
-ghost use Rattle.std.specs.Prelude.{◌≡◌, ◌⊎◌, ℕ, [], IfSome, IfOk, IfErr, OnOk, OnErr, ◌<◌, ◌≤◌, length};
+ghost use Rattle.std.specs.Prelude.{◌≡◌, ◌⊎◌, ℕ, Bool, [], is_some, IfSome, IfOk, IfErr, OnOk, OnErr, ◌<◌, ◌≤◌, length};
 ghost use Rattle.std.specs.Io.KnownBytes.{Appends, IsAtEnd, Keeps};
-ghost use Rattle.undo_log.specs.Records.{machine_of};
-ghost use Rattle.geos_shell.specs.Runs.{AnswersAll, EndsBy};
+ghost use Rattle.geos_shell.specs.Runs.{AreHonest, AnswersAll, EndsBy, state_of};
 ghost use Rattle.geos_shell.specs.Given.{Gives};
 ghost use Rattle.geos_shell.specs.Progress.{AnswersPiece, StopsPiece, AnswersRest, StopsRest};
 
@@ -10,6 +9,7 @@ use std::alloc::Global;
 use std::fmt;
 use std::io::{ErrorKind, Read, Write};
 use undo_log::Session;
+use vm_store::Store;
 
 /// How many bytes a read may give.
 const PIECE: usize = 4_096;
@@ -40,21 +40,26 @@ impl fmt::Display for RunFault {
 
 /// Answers a script line by line, from the session's state on. It reads pieces of at most 4,096 bytes, and writes the
 /// replies to the lines of a piece together. A read that was interrupted is tried again.
-pub fn run<R: Read, W: Write>(
+///
+/// The target is where the script's first save-as goes that goes well: its store is the session's from then on, and the store
+/// before is dropped. A later save-as has no target, as the first one has none where there is none to begin with.
+pub fn run<S: Store, R: Read, W: Write>(
     alloc: Global,
-    session: Session,
+    session: Session<S>,
+    target: Option<S>,
     reader: &mut R,
     writer: &mut W,
-) -> Result<Session, RunFault>
+) -> Result<Session<S>, RunFault>
     // Where the run ends well, a whole script was read and each line of it answered.
-    ensures ok { IfOk result (λ after.
-        AnswersAll (machine_of session) (R.remaining reader.old) (R.remaining reader.new) (W.contents writer.old) (W.contents writer.new) (machine_of after)) }
+    ensures ok { IfOk result (λ after. AreHonest S.facts session target → (left : Bool)
+        × AnswersAll (state_of S.facts (is_some target) session) (R.remaining reader.old) (R.remaining reader.new) (W.contents writer.old) (W.contents writer.new) (state_of S.facts left after)) }
     // Where reading fails, each line that had ended is answered; where memory runs out, the first ones.
-    ensures err { IfErr result (λ fault.
-        EndsBy fault (machine_of session) (R.remaining reader.old) (R.remaining reader.new) (W.contents writer.old) (W.contents writer.new)) }
+    ensures err { IfErr result (λ fault. AreHonest S.facts session target
+        → EndsBy fault (state_of S.facts (is_some target) session) (R.remaining reader.old) (R.remaining reader.new) (W.contents writer.old) (W.contents writer.new)) }
 {
     let mut answering = Answering {
         session,
+        target,
         begun: Vec::new(alloc),
         replies: Vec::new(alloc),
     };
@@ -94,15 +99,15 @@ fn read_piece<R: Read>(reader: &mut R, piece: &mut [u8]) -> Result<Given, RunFau
 }
 
 /// Answers the lines that end in this piece, and writes the replies.
-fn answer_piece<W: Write>(
+fn answer_piece<S: Store, W: Write>(
     alloc: Global,
-    answering: &mut Answering,
+    answering: &mut Answering<S>,
     piece: &[u8],
     writer: &mut W,
 ) -> Result<(), RunFault>
-    ensures ok { OnOk result (AnswersPiece answering.old piece.now answering.new (W.contents writer.old) (W.contents writer.new)) }
+    ensures ok { OnOk result (AnswersPiece S.facts answering.old piece.now answering.new (W.contents writer.old) (W.contents writer.new)) }
     ensures err { IfErr result (λ fault. (fault ≡ RunFault.Write)
-        ⊎ ((fault ≡ RunFault.Memory) × StopsPiece answering.old piece.now (W.contents writer.old) (W.contents writer.new))) }
+        ⊎ ((fault ≡ RunFault.Memory) × StopsPiece S.facts answering.old piece.now (W.contents writer.old) (W.contents writer.new))) }
 {
     let fed = answering.feed(alloc, piece);
     send(&mut answering.replies, writer)?;
@@ -113,12 +118,12 @@ fn answer_piece<W: Write>(
 }
 
 /// Answers the last line if no line feed ended it, and writes its reply.
-fn answer_rest<W: Write>(
+fn answer_rest<S: Store, W: Write>(
     alloc: Global,
-    mut answering: Answering,
+    mut answering: Answering<S>,
     writer: &mut W,
-) -> Result<Session, RunFault>
-    ensures ok { IfOk result (λ after. AnswersRest answering (machine_of after) (W.contents writer.old) (W.contents writer.new)) }
+) -> Result<Session<S>, RunFault>
+    ensures ok { IfOk result (λ after. AnswersRest S.facts answering after (W.contents writer.old) (W.contents writer.new)) }
     ensures err { IfErr result (λ fault. (fault ≡ RunFault.Write)
         ⊎ ((fault ≡ RunFault.Memory) × StopsRest answering (W.contents writer.old) (W.contents writer.new))) }
 {
