@@ -118,23 +118,27 @@ stands-valid file updated saved is =
       document_at-valid file by.0.saved saved by.1.saved_is,
     )
 
--- Calls that commit nothing keep that.
-pub valid_after : {S : Type 0} (facts : S → StoreFacts) (a b : Disk S) → Passes facts a b → AreValidOn facts a → AreValidOn facts b
-valid_after facts a b p valid = λ so.
-    let was = subst IsTrue p.honest so in
-    let both = valid was in
-    (subst IsValid (sym (p.updated was)) both.0, subst IsValid (sym (p.saved was)) both.1)
+-- Where a call keeps both documents over an honest store, they stay valid.
+same_valid : {S : Type 0} (facts : S → StoreFacts) (a b : Disk S) → (facts b.store).honest ≡ (facts a.store).honest → (IsTrue (facts a.store).honest → (b.updated ≡ a.updated) × (b.saved ≡ a.saved)) → AreValidOn facts a → AreValidOn facts b
+same_valid facts a b honest same valid = λ so.
+    let was = subst IsTrue honest so in (
+      subst IsValid (sym (same was).0) (valid was).0,
+      subst IsValid (sym (same was).1) (valid was).1,
+    )
 
--- So does a commit of valid documents.
+pub valid_after : {S : Type 0} (facts : S → StoreFacts) (a b : Disk S) → Passes facts a b → AreValidOn facts a → AreValidOn facts b
+valid_after facts a b passes = same_valid facts a b passes.honest (λ so. (passes.updated so, passes.saved so))
+
+pub valid_refused : {S : Type 0} (facts : S → StoreFacts) (a b : Disk S) (pair : Documents) (fault : Fault) → Commits facts pair a b (Err fault) → AreValidOn facts a → AreValidOn facts b
+valid_refused facts a b pair fault commits = same_valid facts a b commits.honest commits.err
+
+-- So a commit of valid documents leaves valid ones.
 pub valid_committed : {S : Type 0} (facts : S → StoreFacts) (pair : Documents) (a b : Disk S) (result : Result (Unit {0}) Fault) → Commits facts pair a b result
     → (IsTrue (facts a.store).honest → IsValid pair.0 × IsValid pair.1) → AreValidOn facts a → AreValidOn facts b
 valid_committed facts pair a b (Ok x) commits new valid = λ so.
     let was = subst IsTrue commits.honest so in
-    let is = (commits.ok was).0 in
-    let both = new was in
-    (subst IsValid (sym (ap (λ p. p.0) is)) both.0, subst IsValid (sym (ap (λ p. p.1) is)) both.1)
-valid_committed facts pair a b (Err fault) commits new valid = λ so.
-    let was = subst IsTrue commits.honest so in
-    let same = commits.err was in
-    let both = valid was in
-    (subst IsValid (sym same.0) both.0, subst IsValid (sym same.1) both.1)
+    let is = (commits.ok was).0 in (
+      subst IsValid (sym (ap (λ p. p.0) is)) (new was).0,
+      subst IsValid (sym (ap (λ p. p.1) is)) (new was).1,
+    )
+valid_committed facts pair a b (Err fault) commits new valid = valid_refused facts a b pair fault commits valid

@@ -10,13 +10,12 @@ use Rattle.geos_model.specs.declared.command.Command.TheVariants as commands
 use Rattle.geos_model.specs.declared.fault.Fault.{Fault}
 use Rattle.geos_model.specs.declared.fault.Fault.TheVariants.{Memory, File, Damaged, NoTarget, Worn}
 use Rattle.geos_model.specs.Document.{IsValid}
-use Rattle.geos_model.proofs.FileDocuments.{document_at-valid}
-use Rattle.geos_model.proofs.FileStands.{stands-by}
 use Rattle.vm_store.specs.Facts.{StoreFacts, IsTimely, Raised}
 use Rattle.vm_file.specs.Calls.{IsCommitRefusal, last_sequence}
-use Rattle.vm_file.specs.Disk.{Disk, StandsForOne, IsSettled, Passes, Commits}
+use Rattle.vm_file.specs.Disk.{Disk, StandsForOne, IsSettled, Commits}
 use Rattle.vm_file.specs.Documents.{Documents}
 use Rattle.undo_log.specs.Records.{SessionState, machine_of, has_failed, AreValidOn}
+use Rattle.undo_log.proofs.CommitSteps.{stands-valid}
 
 -- one of two stores failed
 one_failed : (a b c d : StoreFacts) → Raised a b ⊎ Raised c d → (has_failed a b || has_failed c d) ≡ true
@@ -66,20 +65,6 @@ pub settled_valid : {S : Type 0} (facts : S → StoreFacts) (disk : Disk S) → 
 settled_valid facts disk timely settled none = λ so.
     let file = (facts disk.store).content in
     elim (settled so file (timely so).now) as (λ _. IsValid disk.updated × IsValid disk.saved) [
-      | inl stands ↦ (let by = stands-by file (disk.updated, disk.saved) stands in (document_at-valid file by.0.working disk.updated by.1.working, document_at-valid file by.0.saved disk.saved by.1.saved_is))
+      | inl stands ↦ stands-valid file disk.updated disk.saved stands
       | inr other ↦ absurd (subst (λ ds. StandsForOne ds file) none other)
     ]
-
-module _ {S : Type 0} (facts : S → StoreFacts) (old new : Disk S) where
-  same_valid : (facts new.store).honest ≡ (facts old.store).honest → (IsTrue (facts old.store).honest → (new.updated ≡ old.updated) × (new.saved ≡ old.saved)) → AreValidOn facts old → AreValidOn facts new
-  same_valid honest same valid = λ so.
-      let was = subst IsTrue honest so in (
-        subst IsValid (sym (same was).0) (valid was).0,
-        subst IsValid (sym (same was).1) (valid was).1,
-      )
-
-  pub passed_valid : Passes facts old new → AreValidOn facts old → AreValidOn facts new
-  passed_valid passes = same_valid passes.honest (λ so. (passes.updated so, passes.saved so))
-
-  pub refused_valid : (pair : Documents) (fault : Fault) → Commits facts pair old new (Err fault) → AreValidOn facts old → AreValidOn facts new
-  refused_valid pair fault commits = same_valid commits.honest commits.err

@@ -5,7 +5,8 @@ use Rattle.vm_file.proofs.Passing.{Passes-trans, Passes-fails, Passes-Commits}
 use Rattle.undo_log.proofs.Commits.{settled_after}
 use Rattle.undo_log.specs.Records.{AreValidOn}
 use Rattle.undo_log.proofs.Marked.{in_file_marked}
-use Rattle.undo_log.proofs.SavingAs.{settled_valid, passed_valid, refused_valid}
+use Rattle.undo_log.proofs.CommitSteps.{valid_after, valid_refused}
+use Rattle.undo_log.proofs.SavingAs.{settled_valid}
 use Rattle.undo_log.proofs.saving_as.save_as.Goals as goal
 
 -- what is in memory couldn't be written
@@ -66,17 +67,17 @@ returns-clause-kept g c = in_file_marked _ _ _ _ (c.mark_all.ensures.size ∙ c.
 -- what is on the disk stays valid
 
 pub returns-in-Err-clause-disk_valid : goal.returns-in-Err-clause-disk_valid
-returns-in-Err-clause-disk_valid g c = passed_valid g.S.Store.facts c.args.file.now.disk c.flush.new.file.disk c.flush.ensures.passes
+returns-in-Err-clause-disk_valid g c = valid_after g.S.Store.facts c.args.file.now.disk c.flush.new.file.disk c.flush.ensures.passes
 
 pub returns-in_err-copied-clause-disk_valid : goal.returns-in_err-copied-clause-disk_valid
 returns-in_err-copied-clause-disk_valid g c =
     let a = c.args.file.now.disk in let b = c.flush.new.file.disk in let d = c.copy_to.new.self.disk in
-    passed_valid g.S.Store.facts a d (Passes-trans g.S.Store.facts a b d c.flush.ensures.passes c.copy_to.ensures.passes)
+    valid_after g.S.Store.facts a d (Passes-trans g.S.Store.facts a b d c.flush.ensures.passes c.copy_to.ensures.passes)
 
 pub returns-in-Err-commit_revert-clause-disk_valid : goal.returns-in-Err-commit_revert-clause-disk_valid
 returns-in-Err-commit_revert-clause-disk_valid g c =
     let a = c.args.file.now.disk in
-    refused_valid g.S.Store.facts a c.commit_revert.new.self.disk (a.saved, a.saved) c.in-Err-commit_revert.fault (returns-in-Err-commit_revert-clause-commits g c)
+    valid_refused g.S.Store.facts a c.commit_revert.new.self.disk (a.saved, a.saved) c.in-Err-commit_revert.fault (returns-in-Err-commit_revert-clause-commits g c)
 
 pub returns-clause-disk_valid : goal.returns-clause-disk_valid
 returns-clause-disk_valid g c = λ _.
