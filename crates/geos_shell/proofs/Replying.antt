@@ -1,6 +1,7 @@
 -- A reply's line is what is written for its request.
-use Rattle.std.proofs.Common.{◌≡◌, ℕ, ◌+◌, List, [], ◌∷◌, ◌++◌, Bool, true, false, cond, refl, ◌∙◌, sym, ap, append_assoc, append-nil, Result, Ok, OnOk, Err, None, Some, is_some, inl}
+use Rattle.std.proofs.Common.{◌≡◌, ℕ, ◌+◌, List, [], ◌∷◌, ◌++◌, Bool, true, false, length, cond, refl, ◌∙◌, sym, ap, append_assoc, append-nil, Result, Ok, OnOk, Err, None, Some, is_some, inl}
 use Rattle.std.specs.Prelude.{filter}
+use Rattle.std.proofs.lemmas.List.{take_at}
 use Rattle.std.proofs.lemmas.Result.{IfOk-at_ok}
 use Rattle.geos_model.specs.Reply.{Reply, Refused}
 use Rattle.geos_model.specs.declared.fault.Fault.TheVariants.{BadCommand}
@@ -11,7 +12,7 @@ use Rattle.geos_model.specs.declared.command.Command.TheVariants as commands
 use Rattle.vm_store.specs.Facts.{StoreFacts}
 use Rattle.undo_log.specs.Records.{SessionState, machine_of}
 use Rattle.geos_shell.specs.Runs.{AreHonest}
-use Rattle.geos_shell.specs.Replies.{Told, Held, state_held, Serves, Responds}
+use Rattle.geos_shell.specs.Replies.{Extends, Told, Held, state_held, Serves, Responds}
 use Rattle.geos_shell.proofs.Composed.{Counts-none}
 use Rattle.geos_shell.proofs.Serving.{serves_at_rest}
 
@@ -101,3 +102,17 @@ pub told : {S T E : Type 0} (put : Result T E) (session : SessionState S) (c : C
     → OnOk put ((target : Bool) → Told (machine_of target session) c before after)
 told (Ok x) session c reply before after step said = λ target. record { reply = reply; step = step target; text = said }
 told (Err e) session c reply before after step said = said
+
+extends_by : (old more new : List ℕ) → new ≡ old ++ more → Extends old new
+extends_by old more new e = rw e (take_at old more (length old) refl)
+
+-- a text that was put behind what was there leaves that
+pub extends_on_ok : {T E : Type 0} (put : Result T E) (x : T) (old more new : List ℕ) → put ≡ Ok x → OnOk put (new ≡ old ++ more) → Extends old new
+extends_on_ok put x old more new was said = extends_by old more new (IfOk-at_ok (λ _. new ≡ old ++ more) was said)
+
+-- and so does that of a look-up's reply
+pub extends_told : {S T E : Type 0} (put : Result T E) (x : T) (session : SessionState S) (c : Command) (old new : List ℕ) → put ≡ Ok x
+    → OnOk put ((target : Bool) → Told (machine_of target session) c old new) → Extends old new
+extends_told put x session c old new was told_it =
+    let t : Told (machine_of false session) c old new = IfOk-at_ok (λ _. (target : Bool) → Told (machine_of target session) c old new) was told_it false in
+    extends_by old (reply_text t.reply) new t.text

@@ -1,8 +1,12 @@
 use Rattle.std.proofs.Common.{◌∙◌, refl, sym}
-use Rattle.geos_shell.proofs.Replying.{responds_blank, responds_on_ok, responds_told}
+use Rattle.geos_shell.proofs.Calls.{on_err_always}
+use Rattle.geos_shell.proofs.Replying.{responds_blank, responds_on_ok, responds_told, extends_on_ok, extends_told}
 use Rattle.geos_shell.proofs.Serving.{serves_at_rest, serves_commit}
 use Rattle.geos_shell.proofs.replies.respond.Goals as goal
 use Rattle.geos_shell.proofs.replies.respond.Goals.{in-Edit, in-Undo, in-Redo, in-Update, in-Save, in-Revert, in-SaveAs, in_default}
+
+pub returns-in-Blank-clause-ok : goal.returns-in-Blank-clause-ok
+returns-in-Blank-clause-ok g c = λ honest. rw c.in-Blank.is (responds_blank g.S.Store.facts (c.args.session.now, c.args.target.now) c.args.out.now.items honest)
 
 pub returns-clause-ok : goal.returns-clause-ok
 returns-clause-ok g c = λ honest.
@@ -45,3 +49,17 @@ returns-clause-ok g c = λ honest.
           (responds_told facts w.push_look_up.result _ (c.args.session.now, c.args.target.now) _ _ _ _ w.in_default.not-Blank (sym w.branch'-is ∙ c.in_ok-push_look_up.was) w.push_look_up.ensures.ok
           (rw w.out-is at ended) honest)
     ]
+
+-- No memory for the line feed: the reply's text stands there.
+pub returns-in_err-push-clause-err : goal.returns-in_err-push-clause-err
+returns-in_err-push-clause-err g c =
+    on_err_always c.from_residual-in_err-push.result (rw c.in_err-push.ensures.items (elim c.match-command.branch [
+      | in-Edit w ↦ rw w.out-is (extends_on_ok w.push_done.result _ _ _ _ (sym w.branch'-is ∙ c.in_ok-push_look_up.was) w.push_done.ensures.ok)
+      | in-Undo w ↦ rw w.out-is (extends_on_ok w.push_accepted.result _ _ _ _ (sym w.branch'-is ∙ c.in_ok-push_look_up.was) w.push_accepted.ensures.ok)
+      | in-Redo w ↦ rw w.out-is (extends_on_ok w.push_accepted-in-Redo.result _ _ _ _ (sym w.branch'-is ∙ c.in_ok-push_look_up.was) w.push_accepted-in-Redo.ensures.ok)
+      | in-Update w ↦ rw w.out-is (extends_on_ok w.push_accepted-in-Update.result _ _ _ _ (sym w.branch'-is ∙ c.in_ok-push_look_up.was) w.push_accepted-in-Update.ensures.ok)
+      | in-Save w ↦ rw w.out-is (extends_on_ok w.push_accepted-in-Save.result _ _ _ _ (sym w.branch'-is ∙ c.in_ok-push_look_up.was) w.push_accepted-in-Save.ensures.ok)
+      | in-Revert w ↦ rw w.out-is (extends_on_ok w.push_accepted-in-Revert.result _ _ _ _ (sym w.branch'-is ∙ c.in_ok-push_look_up.was) w.push_accepted-in-Revert.ensures.ok)
+      | in-SaveAs w ↦ rw w.out-is (extends_on_ok w.push_accepted-in-SaveAs.result _ _ _ _ (sym w.branch'-is ∙ c.in_ok-push_look_up.was) w.push_accepted-in-SaveAs.ensures.ok)
+      | in_default w ↦ rw w.out-is (extends_told w.push_look_up.result _ c.args.session.now _ _ _ (sym w.branch'-is ∙ c.in_ok-push_look_up.was) w.push_look_up.ensures.ok)
+    ]))
