@@ -1,23 +1,47 @@
 -- Runs compose.
-use Rattle.std.proofs.Common.{ℕ, List, [], ◌∷◌, ◌++◌, subst}
-use Rattle.std.specs.Prelude.{filter}
+use Rattle.std.proofs.Common.{ℕ, ◌+◌, List, [], ◌∷◌, ◌++◌, subst, refl, sym, ◌∙◌, cond, arith}
+use Rattle.std.specs.Prelude.{filter, map}
+use Rattle.std.proofs.lemmas.List.{map-append}
 use Rattle.std.proofs.lemmas.List.Elements.{filter-append}
+use Rattle.std.proofs.lemmas.List.Sums.{sum_by-append}
 use Rattle.std.proofs.lemmas.Grind.{flat_map-append}
-use Rattle.geos_model.specs.Machine.{Machine, Request, Run}
-use Rattle.geos_model.specs.Reply.{Reply}
+use Rattle.geos_model.specs.Machine.{Machine, Request, Call, Run}
 use Rattle.geos_model.specs.Script.{Answered, gets_reply, reply_line}
+use Rattle.geos_shell.specs.Runs.{State, Counts, AnswersOf}
 
-pub Run-append : (old mid new : Machine) (xs ys : List Request) (rs ss : List Reply) → Run old xs rs mid → Run mid ys ss new → Run old (xs ++ ys) (rs ++ ss) new
-Run-append old mid new [] ys [] ss p q = subst (λ m. Run m ys ss new) p q
-Run-append old mid new (x ∷ xs) ys (r ∷ rs) ss p q = (p.0, p.1, Run-append p.0 mid new xs ys rs ss p.2 q)
-Run-append old mid new [] ys (r ∷ rs) ss p q = absurd p
-Run-append old mid new (x ∷ xs) ys [] ss p q = absurd p
+pub Run-append : (old mid new : Machine) (xs ys : List Call) → Run old xs mid → Run mid ys new → Run old (xs ++ ys) new
+Run-append old mid new [] ys p q = subst (λ m. Run m ys new) p q
+Run-append old mid new (x ∷ xs) ys p q = (p.0, p.1, Run-append p.0 mid new xs ys p.2 q)
 
 -- the replies to more requests come behind the replies to the first ones
-pub Answered-append : {old mid new : Machine} {xs ys : List Request} {ws vs : List ℕ} → Answered old xs ws mid → Answered mid ys vs new → Answered old (xs ++ ys) (ws ++ vs) new
-Answered-append {old} {mid} {new} {xs} {ys} {ws} {vs} p q =
+pub Answered-append : {old mid new : Machine} {xs ys : List Request} {ws vs : List ℕ} {m n : ℕ} → Answered old xs ws m mid → Answered mid ys vs n new → Answered old (xs ++ ys) (ws ++ vs) (m + n) new
+Answered-append {old} {mid} {new} {xs} {ys} {ws} {vs} {m} {n} p q =
     record {
-      replies = p.replies ++ q.replies;
-      run = rw (filter-append gets_reply xs ys) (Run-append old mid new (filter gets_reply xs) (filter gets_reply ys) p.replies q.replies p.run q.run);
-      text = rw (flat_map-append reply_line p.replies q.replies, p.text, q.text);
+      calls = p.calls ++ q.calls;
+      asks = map-append (λ (c : Call). c.request) p.calls q.calls ∙ rw (p.asks, q.asks) (sym (filter-append gets_reply xs ys));
+      run = Run-append old mid new p.calls q.calls p.run q.run;
+      text = rw (map-append (λ (c : Call). c.reply) p.calls q.calls, flat_map-append reply_line (map (λ (c : Call). c.reply) p.calls) (map (λ (c : Call). c.reply) q.calls), p.text, q.text);
+      fails = sum_by-append (λ (c : Call). cond c.failed 1 0) p.calls q.calls ∙ rw (p.fails, q.fails) refl;
+    }
+
+pub Counts-none : (s : State) → Counts s 0 s
+Counts-none s none = (none, omega arith)
+
+pub Counts-append : (old mid new : State) (m n : ℕ) → Counts old m mid → Counts mid n new → Counts old (m + n) new
+Counts-append old mid new m n p q none =
+    let first = p none in
+    let second = q first.0 in
+    (second.0, omega (arith, first.1, second.1))
+
+-- where nothing is asked
+pub AnswersOf-none : (s : State) → AnswersOf s [] [] s
+AnswersOf-none s =
+    record { failed = 0; answered = record { calls = []; asks = refl; run = refl; text = refl; fails = refl }; counted = Counts-none s }
+
+pub AnswersOf-append : {old mid new : State} {xs ys : List Request} {ws vs : List ℕ} → AnswersOf old xs ws mid → AnswersOf mid ys vs new → AnswersOf old (xs ++ ys) (ws ++ vs) new
+AnswersOf-append {old} {mid} {new} p q =
+    record {
+      failed = p.failed + q.failed;
+      answered = Answered-append p.answered q.answered;
+      counted = Counts-append old mid new p.failed q.failed p.counted q.counted;
     }

@@ -11,6 +11,7 @@ pub mod NewFlag
 pub mod Parses
 pub mod Replying
 pub mod Runs
+pub mod Serving
 pub mod Spelling
 pub mod Steps
 pub mod Taken

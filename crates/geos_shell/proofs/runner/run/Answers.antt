@@ -1,13 +1,13 @@
 use Rattle.std.proofs.Common.{◌<◌, length, take, arith, length-take}
 use Rattle.std.proofs.KnownBytes.{Keeps-refl}
 use Rattle.std.proofs.lemmas.Result.{IfOk-weaker, IfErr-weaker, err_from_is_err_and}
-use Rattle.undo_log.specs.Records.{machine_of}
 use Rattle.geos_shell.proofs.Runs.{Ran-none, Ran-kept, Ran-piece, AnswersFinished-now, AnswersSome-piece, AnswersSome-rest, AnswersAll-end, EndsBy-or}
 use Rattle.geos_shell.proofs.runner.run.Goals as goal
 use Rattle.geos_shell.proofs.runner.run.Goals.{in-Interrupted, in-Bytes+in_ok-answer_piece-in-Bytes}
 
 pub loop-init : goal.loop-init
-loop-init g c = Ran-none _ _ (record { session = c.args.session; begun = c.new.result; replies = c.new-2.result }) c.new.ensures.items c.new-2.ensures.items
+loop-init g c = λ honest.
+    Ran-none g.S.Store.facts _ _ (record { session = c.args.session; target = c.args.target; begun = c.new.result; replies = c.new-2.result }) honest c.new.ensures.items c.new-2.ensures.items
 
 -- The reader failed.
 pub returns-in_err-read_piece-clause-err : goal.returns-in_err-read_piece-clause-err
@@ -15,7 +15,7 @@ returns-in_err-read_piece-clause-err g c =
     let r = c.from_residual in
     let p = err_from_is_err_and r.result r.ensures.1 in
     let failed = c.in_err-read_piece.ensures.err in
-    rw (p.1, p.2, failed.0) (AnswersFinished-now c.loop.invariant _ failed.1)
+    rw (p.1, p.2, failed.0) (λ honest. AnswersFinished-now (c.loop.invariant honest) _ failed.1)
 
 -- The script ended, and so did the run.
 pub returns-in-End-clause-ok : goal.returns-in-End-clause-ok
@@ -23,7 +23,7 @@ returns-in-End-clause-ok g c =
     let to = g.R.Read.remaining c.read_piece.new.reader in
     let after = g.W.Write.contents c.answer_rest.new.writer in
     let gives = rw c.in-End.is at c.in_ok-read_piece.ensures.ok in
-    IfOk-weaker c.answer_rest.result _ _ (λ new. AnswersAll-end c.loop.invariant to after (machine_of new) gives.0 gives.1) c.answer_rest.ensures.ok
+    IfOk-weaker c.answer_rest.result _ _ (λ new rest honest. (rest.left, AnswersAll-end (c.loop.invariant honest) to after new gives.0 gives.1 rest)) c.answer_rest.ensures.ok
 
 -- The script ended, and its last line stopped the run.
 pub returns-in-End-clause-err : goal.returns-in-End-clause-err
@@ -31,7 +31,7 @@ returns-in-End-clause-err g c =
     let to = g.R.Read.remaining c.read_piece.new.reader in
     let after = g.W.Write.contents c.answer_rest.new.writer in
     let gives = rw c.in-End.is at c.in_ok-read_piece.ensures.ok in
-    IfErr-weaker c.answer_rest.result _ _ (λ fault. EndsBy-or fault _ _ to _ after (AnswersSome-rest c.loop.invariant to after gives.0)) c.answer_rest.ensures.err
+    IfErr-weaker c.answer_rest.result _ _ (λ fault stops honest. EndsBy-or fault _ _ to _ after (AnswersSome-rest (c.loop.invariant honest) to after gives.0) stops) c.answer_rest.ensures.err
 
 -- A piece stopped the run.
 pub returns-in_err-answer_piece-in-Bytes-clause-err :
@@ -45,7 +45,7 @@ returns-in_err-answer_piece-in-Bytes-clause-err g c =
     let some : 0 < length (take count piece) = omega (arith, length-take count piece, gives.0, gives.1) in
     let r = c.from_residual-in_err-answer_piece-in-Bytes in
     let p = err_from_is_err_and r.result r.ensures.1 in
-    rw (p.1, p.2) (EndsBy-or _ _ _ to _ after (AnswersSome-piece c.loop.invariant to after (take count piece) some gives.2) c.in_err-answer_piece-in-Bytes.ensures.err)
+    rw (p.1, p.2) (λ honest. EndsBy-or _ _ _ to _ after (AnswersSome-piece (c.loop.invariant honest) to after (take count piece) some gives.2) c.in_err-answer_piece-in-Bytes.ensures.err)
 
 -- One more read.
 pub loop-preserved : goal.loop-preserved
@@ -53,12 +53,12 @@ loop-preserved g c =
     elim c.match-branch-2.branch [
       | in-Interrupted w ↦
           let gives = rw w.in-Interrupted.is at c.in_ok-read_piece.ensures.ok in
-          rw (w.writer-is, w.answering-is) (Ran-kept c.loop.invariant _ gives)
+          rw (w.writer-is, w.answering-is) (λ honest. Ran-kept (c.loop.invariant honest) _ gives)
       | in-Bytes+in_ok-answer_piece-in-Bytes w ↦
           let gives = rw w.in-Bytes.is at c.in_ok-read_piece.ensures.ok in
-          rw (w.writer-is, w.answering-is) (Ran-piece c.loop.invariant _ _ (take w.in-Bytes.count c.read_piece.new.piece) _ gives.2 w.in_ok-answer_piece-in-Bytes.ensures.ok)
+          rw (w.writer-is, w.answering-is) (λ honest. Ran-piece (c.loop.invariant honest) _ _ (take w.in-Bytes.count c.read_piece.new.piece) _ gives.2 w.in_ok-answer_piece-in-Bytes.ensures.ok)
     ]
 
 -- The reader did not end.
 pub returns-clause-err : goal.returns-clause-err
-returns-clause-err g c = AnswersFinished-now c.loop.invariant _ (Keeps-refl _)
+returns-clause-err g c = λ honest. AnswersFinished-now (c.loop.invariant honest) _ (Keeps-refl _)

@@ -7,16 +7,17 @@ use Rattle.geos_shell.proofs.answering.Answering.end.Goals as goal
 
 -- Nothing is kept, so the last line feed ended the last line.
 pub returns-then-is_empty-clause-ok : goal.returns-then-is_empty-clause-ok
-returns-then-is_empty-clause-ok c start read sent p =
+returns-then-is_empty-clause-ok g c start read sent p =
     let old = c.args.self.now in
     let none : length old.begun.items ≡ 0 = grind (arith, nat_tests, old.begun.ok.0) in
-    Answered-all p none
+    Answered-all p.1 none
 
 -- What is kept is the last line.
 pub returns-clause-ok : goal.returns-clause-ok
-returns-clause-ok c =
+returns-clause-ok g c =
     let old = c.args.self.now in
     let some : 0 < length old.begun.items = grind (arith, nat_tests, old.begun.ok.0) in
-    on_ok_weaker c.answer_line.result (λ h start read sent p.
-    let answered = rw c.deref.ensures.value at h.1 in
-    rw (h.2, ← append_assoc sent old.replies.items h.0) (Answered-last p h.0 some answered)) c.answer_line.ensures.ok
+    on_ok_weaker c.answer_line.result (λ responds start read sent p.
+    let h = responds p.0 in
+    let answers = rw c.deref.ensures.value at h.answers in
+    rw (h.text, ← append_assoc sent old.replies.items h.written) (Answered-last p.1 h.written some answers)) c.answer_line.ensures.ok

@@ -8,13 +8,13 @@ use Rattle.geos_shell.proofs.answering.Answering.feed.Goals as goal
 
 -- No memory for a line: the lines before it are answered.
 pub returns-in_err-end_line-clause-err : goal.returns-in_err-end_line-clause-err
-returns-in_err-end_line-clause-err c =
+returns-in_err-end_line-clause-err g c =
     let (used, cut, goes) = c.loop-end.invariant in
-    on_err_always c.from_residual.result (rw cut (StopsIn-after c.args.self.now c.loop-end.self c.end_line.new.self used c.loop-end.rest.now goes c.in_err-end_line.ensures.err))
+    on_err_always c.from_residual.result (rw cut (StopsIn-after g.S.Store.facts c.args.self.now c.loop-end.self c.end_line.new.self used c.loop-end.rest.now goes c.in_err-end_line.ensures.err))
 
 -- A line ends.
 pub loop-end-preserved : goal.loop-end-preserved
-loop-end-preserved c =
+loop-end-preserved g c =
     let (used, cut, goes) = c.loop-end.invariant in
     let rest = c.loop-end.rest.now in
     let end = c.in-Some.end in
@@ -24,22 +24,22 @@ loop-end-preserved c =
     let line = take end rest ++ 10 ∷ [] in
     let all : c.args.piece.now ≡ (used ++ line) ++ drop (end + 1) rest =
     cut ∙ ap (λ l. used ++ l) (cut_at_feed rest end within found.1) ∙ sym (append_assoc used line (drop (end + 1) rest)) in
-    (used ++ line, rw (take_rest rest (end + 1)) all, GoesOver-trans c.args.self.now c.loop-end.self c.end_line.new.self used line goes (c.in_ok-end_line.ensures.ok free))
+    (used ++ line, rw (take_rest rest (end + 1)) all, GoesOver-trans g.S.Store.facts c.args.self.now c.loop-end.self c.end_line.new.self used line goes (c.in_ok-end_line.ensures.ok free))
 
 -- The rest of the piece is kept.
 pub returns-clause-ok : goal.returns-clause-ok
-returns-clause-ok c =
+returns-clause-ok g c =
     let (used, cut, goes) = c.loop-end.invariant in
     let before = c.loop-end.self in
     let rest = c.loop-end.rest.now in
     let after = record before { begun = c.keep.new.begun } in
     let free = HasNoFeed-from_reads rest (λ k low. c.in_default.ensures k (omega arith) low) in
-    on_ok_weaker c.keep.result (λ stands. rw cut (GoesOver-trans c.args.self.now before after used rest goes (λ start read sent p. Progress-part p rest c.keep.new.begun.items free stands))) c.keep.ensures.ok
+    on_ok_weaker c.keep.result (λ stands. rw cut (GoesOver-trans g.S.Store.facts c.args.self.now before after used rest goes (λ start read sent p. (p.0, Progress-part p.1 rest c.keep.new.begun.items free stands)))) c.keep.ensures.ok
 
 -- No memory to keep it.
 pub returns-clause-err : goal.returns-clause-err
-returns-clause-err c =
+returns-clause-err g c =
     let (used, cut, goes) = c.loop-end.invariant in
     let before = c.loop-end.self in
     let after = record before { begun = c.keep.new.begun } in
-    on_err_always c.keep.result (rw cut (StopsIn-after c.args.self.now before after used c.loop-end.rest.now goes refl))
+    on_err_always c.keep.result (rw cut (StopsIn-after g.S.Store.facts c.args.self.now before after used c.loop-end.rest.now goes refl))

@@ -4,7 +4,7 @@ use Rattle.geos_shell.specs.Progress.{GoesOver}
 use Rattle.geos_shell.proofs.answering.Answering.feed.Given as goal
 
 abbrev pub invariant-loop-end : goal.invariant-loop-end
-invariant-loop-end l = (used : List ℕ) × (l.piece ≡ used ++ l.rest) × GoesOver l.initial.self used l.self
+invariant-loop-end g l = (used : List ℕ) × (l.piece ≡ used ++ l.rest) × GoesOver g.S.Store.facts l.initial.self used l.self
 
 abbrev pub decreases-loop-end : goal.decreases-loop-end
-decreases-loop-end l = length l.rest
+decreases-loop-end g l = length l.rest
