@@ -1,23 +1,41 @@
--- A run from the empty document that writes the replies.
-use Rattle.std.proofs.Common.{◌≡◌, ◌++◌, ℕ, List, [], Some, ap, sym, subst, ◌∙◌, append-nil}
+-- A run that writes the replies.
+use Rattle.std.proofs.Common.{◌≡◌, ◌++◌, ℕ, List, [], false, Some, refl, ap, sym, subst, ◌∙◌, append-nil}
+use Rattle.geos_model.specs.Document.{empty_document}
 use Rattle.geos_model.specs.Machine.{Machine, empty_machine}
 use Rattle.geos_model.specs.Script.{lines, requests, Answered}
-use Rattle.geos_shell.specs.Runs.{AnswersAll}
+use Rattle.vm_store.specs.Facts.{StoreFacts}
+use Rattle.undo_log.specs.Records.{SessionState, machine_of}
+use Rattle.geos_shell.specs.Runs.{State, AnswersAll, AnswersOf, state_of}
 use Rattle.dialogues.specs.Dialogues.{Goes}
 
-module _ (start after : Machine) (script left replies before out : List ℕ) (empty : start ≡ empty_machine) (none : before ≡ []) (all : AnswersAll start (Some script) (Some left) (Some before) (Some out) after) (same : out ≡ replies) where
+module _ (old new : State) (script left replies before out : List ℕ) (none : before ≡ []) (all : AnswersAll old (Some script) (Some left) (Some before) (Some out) new) (same : out ≡ replies) where
   written_is : all.written ≡ replies
   written_is = sym (all.appended ∙ ap (λ (l : List ℕ). l ++ all.written) none) ∙ same
 
   script_is : all.script ≡ script
   script_is = sym (all.consumed ∙ ap (λ (l : List ℕ). all.script ++ l) all.ended ∙ append-nil all.script)
 
-  pub goes : (dialogue : List ℕ × List ℕ) → dialogue ≡ (script, replies) → Goes dialogue.0 dialogue.1
+  pub goes : (dialogue : List ℕ × List ℕ) → dialogue ≡ (script, replies) → AnswersOf old (requests (lines dialogue.0)) dialogue.1 new
   goes dialogue is =
-      subst (λ (d : List ℕ × List ℕ). Goes d.0 d.1) (sym is)
-      (record {
-        after = after;
-        answered = subst (λ (m : Machine). Answered m (requests (lines script)) replies after) empty
-            (subst (λ (read : List ℕ). Answered start (requests (lines read)) replies after) script_is
-            (subst (λ (written : List ℕ). Answered start (requests (lines all.script)) written after) written_is all.answered));
-      })
+      subst (λ (d : List ℕ × List ℕ). AnswersOf old (requests (lines d.0)) d.1 new) (sym is)
+      (subst (λ (read : List ℕ). AnswersOf old (requests (lines read)) replies new) script_is
+      (subst (λ (written : List ℕ). AnswersOf old (requests (lines all.script)) written new) written_is all.answered))
+
+-- A session on a new document answers so.
+
+abbrev pub Made : {S : Type 0} → SessionState S → Type 0
+Made session =
+    (session.document ≡ empty_document) × (session.disk.updated ≡ empty_document) × (session.disk.saved ≡ empty_document) × (session.disk.attempted ≡ []) × (session.disk.sequence ≡ 1)
+
+abbrev pub New : {S : Type 0} → SessionState S → Type 0
+New session = (session.undo ≡ []) × (session.redo ≡ []) × (session.frames ≡ 8)
+
+machine_is : {S : Type 0} (session : SessionState S) → Made session → New session → machine_of false session ≡ empty_machine 8 false
+machine_is session made new = rw (made.0, made.1, made.2, made.4, new.0, new.1, new.2) refl
+
+pub begins : {S : Type 0} (facts : S → StoreFacts) (session : SessionState S) (script replies : List ℕ) (after : State) → Made session → New session → AnswersOf (state_of facts false session) (requests (lines script)) replies after → Goes script replies
+begins facts session script replies after made new answers = record {
+  after = after.machine;
+  failed = answers.failed;
+  answered = subst (λ (m : Machine). Answered m (requests (lines script)) replies answers.failed after.machine) (machine_is session made new) answers.answered;
+}

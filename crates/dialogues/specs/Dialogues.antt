@@ -1,9 +1,10 @@
 -- Which replies a script may get.
-use Rattle.std.specs.Prelude.{ℕ, List}
+use Rattle.std.specs.Prelude.{ℕ, List, false}
 use Rattle.geos_model.specs.Machine.{Machine, empty_machine}
 use Rattle.geos_model.specs.Script.{lines, requests, Answered}
 
--- From the empty document, the lines of the script may be answered by these replies.
+-- From a new document, held in 8 frames and with no target for a save-as, the lines of the script may be answered by these replies.
 pub record Goes (script replies : List ℕ) : Type 0 where
   pub after : Machine
-  pub answered : Answered empty_machine (requests (lines script)) replies after
+  pub failed : ℕ
+  pub answered : Answered (empty_machine 8 false) (requests (lines script)) replies failed after

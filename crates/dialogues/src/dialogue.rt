@@ -1,19 +1,27 @@
 //! A dialogue, and whether a run goes as it is written.
-ghost use Rattle.std.specs.Prelude.{◌≡◌, ◌++◌, ◌∷◌, [], OnOk};
-ghost use Rattle.geos_model.specs.Script.{line_feed};
+ghost use Rattle.std.specs.Prelude.{◌≡◌, ◌++◌, ◌∷◌, [], Bool, is_some, IfOk, OnOk};
+ghost use Rattle.geos_model.specs.Script.{line_feed, lines, requests};
+ghost use Rattle.geos_shell.specs.Runs.{AreHonest, AnswersOf, state_of};
 ghost use Rattle.dialogues.specs.Dialogues.{Goes};
 
 use crate::told::push_told;
+use geos_model::Fault;
 use geos_shell::{RunFault, run};
 use std::alloc::{AllocError, Global};
 use std::marker::Model;
 use undo_log::Session;
+use vm_store::{MemStore, Store};
+
+/// The frames of a session on a new document.
+const FRAMES: usize = 8;
 
 /// Why a run did not go as the dialogue is written.
 #[derive(Debug, Drop)]
 pub enum Departure {
     /// Memory ran out.
     Memory,
+    /// There was no new document.
+    Refused(Fault),
     /// The run ended before the script did.
     Run(RunFault),
     /// The first reply that differs: its number from 0 on, the one that is wanted and the one that came.
@@ -114,20 +122,39 @@ impl Dialogue {
         self.replies.as_str()
     }
 
-    /// Runs the script on an empty document, and compares the replies.
+    /// Runs the script on a new document, in a file in memory, and compares the replies.
     pub fn hold(&self) -> Result<(), Departure>
         ensures { OnOk result (Goes self.now.0 self.now.1) }
     {
-        let session = Session::new(self.alloc)?;
+        match Session::create(self.alloc, MemStore::new(self.alloc), FRAMES) {
+            Ok(session) => {
+                self.hold_on(session, None)?;
+                Ok(())
+            }
+            Err(refused) => Err(Departure::Refused(refused.fault)),
+        }
+    }
+
+    /// Runs the script on the document of a session, with what a save-as may make a file of, and compares the replies. Gives the
+    /// session back.
+    pub fn hold_on<S: Store>(
+        &self,
+        session: Session<S>,
+        target: Option<S>,
+    ) -> Result<Session<S>, Departure>
+        ensures { IfOk result (λ after. AreHonest S.facts session target → (left : Bool)
+            × AnswersOf (state_of S.facts (is_some target) session) (requests (lines self.now.0)) self.now.1 (state_of S.facts left after)) }
+    {
         let mut written = Vec::new(self.alloc);
-        run(
+        let session = run(
             self.alloc,
             session,
+            target,
             &mut self.script.as_bytes(),
             &mut written,
         )?;
         if written.as_slice() == self.replies.as_bytes() {
-            return Ok(());
+            return Ok(session);
         }
         Err(first_departure(self.alloc, &self.replies, &written)?)
     }
