@@ -1,0 +1,50 @@
+// Bytes of document files.
+use std::alloc::{AllocError, Global};
+
+const FIRST_SLOT: &[u8; 32] =
+    b"GVMF\x01\x01\0\0\x01\0\0\0\0\0\0\0\x02\0\0\0\x10\0\0\0\x02\0\0\0\x10\0\0\0";
+
+const SECOND_SLOT: &[u8; 4] = b"GVMF";
+
+const NO_BLOCKS: &[u8; 16] = b"GDIR\x01\0\0\0\0\0\0\0\0\0\0\0";
+
+const ONE_BLOCK: &[u8; 32] =
+    b"GDIR\x01\0\x01\0\x01\0\0\0\0\0\0\0\x01\0\x07\0\x04\0\0\0\x03\0\0\0\0\0\0\0";
+
+const SLOT_START: &[u8; 8] = b"GVMF\x01\x01\0\0";
+
+const SLOT_END: &[u8; 16] = b"\x02\0\0\0\x20\0\0\0\x03\0\0\0\x10\0\0\0";
+
+/// A sequence number as it stands in a slot.
+pub(crate) const FIFTH: &[u8; 8] = b"\x05\0\0\0\0\0\0\0";
+
+/// The last sequence number, after which nothing can be committed.
+pub(crate) const LAST: &[u8; 8] = b"\xff\xff\xff\xff\xff\xff\xff\xff";
+
+// Puts bytes where a page starts, with zeros before them.
+fn put_page(bytes: &mut Vec<u8>, page: usize, text: &[u8]) -> Result<(), AllocError> {
+    bytes.resize(page.saturating_mul(512), 0)?;
+    bytes.extend_from_slice(text)
+}
+
+/// A document file as it is made, with no block.
+pub(crate) fn made(alloc: Global) -> Result<Vec<u8>, AllocError> {
+    let mut bytes = Vec::new(alloc);
+    put_page(&mut bytes, 0, FIRST_SLOT)?;
+    put_page(&mut bytes, 1, SECOND_SLOT)?;
+    put_page(&mut bytes, 2, NO_BLOCKS)?;
+    Ok(bytes)
+}
+
+/// A file of two documents, with this sequence number. The updated one has one block, handle 1, user ID 7, raw, with the bytes
+/// `ab`; it is the map block. The saved one has no block.
+pub(crate) fn two_documents(alloc: Global, sequence: &[u8; 8]) -> Result<Vec<u8>, AllocError> {
+    let mut bytes = Vec::new(alloc);
+    bytes.extend_from_slice(SLOT_START)?;
+    bytes.extend_from_slice(sequence)?;
+    bytes.extend_from_slice(SLOT_END)?;
+    put_page(&mut bytes, 2, ONE_BLOCK)?;
+    put_page(&mut bytes, 3, NO_BLOCKS)?;
+    put_page(&mut bytes, 4, b"\0ab")?;
+    Ok(bytes)
+}
