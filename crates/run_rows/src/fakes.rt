@@ -2,19 +2,26 @@
 ghost use Rattle.std.specs.Prelude.{◌≤◌, length};
 
 use geos_shell::{RunFault, run};
-use std::alloc::{AllocError, Global};
+use std::alloc::Global;
 use std::cell::Cell;
 use std::io::{self, ErrorKind, Read, Write};
+use std::test::Fail;
 use undo_log::Session;
+use vm_store::MemStore;
 
 // Runs a script on an empty document. Gives the fault that ended the run, if one did.
 pub(crate) fn fault_of<R: Read, W: Write>(
     alloc: Global,
     reader: &mut R,
     writer: &mut W,
-) -> Result<Option<RunFault>, AllocError> {
-    let session = Session::new(alloc)?;
-    Ok(run(alloc, session, reader, writer).err())
+) -> Result<Option<RunFault>, Fail> {
+    Ok(run(alloc, new_session(alloc)?, None, reader, writer).err())
+}
+
+/// A session on a new document, in a file in memory.
+pub(crate) fn new_session(alloc: Global) -> Result<Session<MemStore>, Fail> {
+    let session = Session::create(alloc, MemStore::new(alloc), 8).map_err(|refused| refused.fault)?;
+    Ok(session)
 }
 
 // What one read gives.

@@ -1,9 +1,11 @@
 // What the records of a session hold.
+use crate::fakes::new_session;
 use geos_model::{Bytes, ChunkHandle, Edit, VmHandle};
 use std::alloc::{AllocError, Global};
 use std::process::Abort;
 use std::test::Fail;
 use undo_log::Session;
+use vm_store::MemStore;
 
 const BLOCK: VmHandle = VmHandle(1);
 
@@ -15,8 +17,8 @@ fn written(alloc: Global, bytes: &[u8]) -> Result<Edit, AllocError> {
 }
 
 // A session with a chunk of so many bytes in a heap.
-fn with_chunk<R: Abort + AllocGlobal>(rt: &R, size: u32) -> Result<Session, Fail> {
-    let mut session = Session::new(rt.alloc())?;
+fn with_chunk<R: Abort + AllocGlobal>(rt: &R, size: u32) -> Result<Session<MemStore>, Fail> {
+    let mut session = new_session(rt.alloc())?;
     assert!(rt; session.edit(&Edit::NewHeap(7)).is_ok());
     assert!(rt; session.edit(&Edit::Alloc(BLOCK, size)).is_ok());
     Ok(session)
