@@ -1,13 +1,13 @@
 -- Runs compose.
 use Rattle.std.proofs.Common.{ℕ, ◌+◌, List, [], ◌∷◌, ◌++◌, subst, refl, sym, ◌∙◌, cond, arith}
-use Rattle.std.specs.Prelude.{filter, map}
+use Rattle.std.specs.Prelude.{map}
 use Rattle.std.proofs.lemmas.List.{map-append}
 use Rattle.std.proofs.lemmas.List.Elements.{filter-append}
 use Rattle.std.proofs.lemmas.List.Sums.{sum_by-append}
 use Rattle.std.proofs.lemmas.Grind.{flat_map-append}
 use Rattle.geos_model.specs.Machine.{Machine, Request, Call, Run}
 use Rattle.geos_model.specs.Script.{Answered, gets_reply, reply_line}
-use Rattle.geos_shell.specs.Runs.{State, Counts, AnswersOf}
+use Rattle.geos_shell.specs.Runs.{State, CountsFailures, AnswersOf}
 
 pub Run-append : (old mid new : Machine) (xs ys : List Call) → Run old xs mid → Run mid ys new → Run old (xs ++ ys) new
 Run-append old mid new [] ys p q = subst (λ m. Run m ys new) p q
@@ -24,10 +24,10 @@ Answered-append {old} {mid} {new} {xs} {ys} {ws} {vs} {m} {n} p q =
       fails = sum_by-append (λ (c : Call). cond c.failed 1 0) p.calls q.calls ∙ rw (p.fails, q.fails) refl;
     }
 
-pub Counts-none : (s : State) → Counts s 0 s
+pub Counts-none : (s : State) → CountsFailures s 0 s
 Counts-none s none = (none, omega arith)
 
-pub Counts-append : (old mid new : State) (m n : ℕ) → Counts old m mid → Counts mid n new → Counts old (m + n) new
+pub Counts-append : (old mid new : State) (m n : ℕ) → CountsFailures old m mid → CountsFailures mid n new → CountsFailures old (m + n) new
 Counts-append old mid new m n p q none =
     let first = p none in
     let second = q first.0 in

@@ -1,5 +1,5 @@
 -- How a session and a target for a save-as serve a command.
-use Rattle.std.proofs.Common.{◌≡◌, ◌||◌, ℕ, ◌+◌, ◌≤◌, min, Bool, true, false, cond, nat_le, Option, None, Some, is_some, IsTrue, refl, sym, ap, subst, inl, arith}
+use Rattle.std.proofs.Common.{◌≡◌, ℕ, ◌+◌, ◌≤◌, min, Bool, true, false, cond, nat_le, Option, None, Some, is_some, IsTrue, refl, sym, ap, subst, inl, arith}
 use Rattle.std.proofs.lemmas.Bool.{leb-true}
 use Rattle.geos_model.specs.Reply.{Reply, Accepted, Refused}
 use Rattle.geos_model.specs.Machine.{Step}

@@ -21,17 +21,17 @@ state_of facts target session = record { machine = machine_of target session; fa
 abbrev pub AreHonest : {S : Type 0} → (S → StoreFacts) → SessionState S → Option S → Type 0
 AreHonest facts session target = IsTrue (facts session.disk.store).honest × IfSome target (λ store. IsTrue (facts store).honest)
 
--- Where there is no target to begin with there never is one, and the store fails in no more calls than these without its count
--- of failures rising by as many.
-abbrev pub Counts : State → ℕ → State → Type 0
-Counts old failed new =
+-- Where there is no target to begin with there never is one, and the store failed in no more calls than its count of failures
+-- rose by, up to the count's last value.
+abbrev pub CountsFailures : State → ℕ → State → Type 0
+CountsFailures old failed new =
     old.machine.target ≡ false → (new.machine.target ≡ false) × (min (old.failures + failed) last_count ≤ new.failures)
 
 -- From one state to another the requests are answered so.
 pub record AnswersOf (old : State) (asked : List Request) (written : List ℕ) (new : State) : Type 0 where
   pub failed : ℕ
   pub answered : Answered old.machine asked written failed new.machine
-  pub counted : Counts old failed new
+  pub counted : CountsFailures old failed new
 
 -- A script was read to its end, each line of it is answered, and what is written is the replies and nothing else.
 pub record AnswersAll (old : State) (from to before after : Option (List ℕ)) (new : State) : Type 0 where

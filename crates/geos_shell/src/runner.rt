@@ -1,4 +1,4 @@
-ghost use Rattle.std.specs.Prelude.{◌≡◌, ◌⊎◌, ℕ, Bool, [], is_some, IfSome, IfOk, IfErr, OnOk, OnErr, ◌<◌, ◌≤◌, length};
+ghost use Rattle.std.specs.Prelude.{◌≡◌, ◌⊎◌, Bool, [], is_some, IfOk, IfErr, OnOk, ◌<◌, length};
 ghost use Rattle.std.specs.Io.KnownBytes.{Appends, IsAtEnd, Keeps};
 ghost use Rattle.geos_shell.specs.Runs.{AreHonest, AnswersAll, EndsBy, state_of};
 ghost use Rattle.geos_shell.specs.Given.{Gives};
