@@ -1,0 +1,20 @@
+//! Tests of sessions over document files: what a crash and a store that fails leave, undo over commits, files of their own, limits,
+//! and stores that lie.
+#![tactic(auto)]
+
+#[cfg(test)]
+mod calls;
+#[cfg(test)]
+mod copying;
+#[cfg(test)]
+mod crashing;
+#[cfg(test)]
+mod failing;
+#[cfg(test)]
+mod limits;
+#[cfg(test)]
+mod lying;
+#[cfg(test)]
+mod undoing;
+#[cfg(test)]
+mod vectors;

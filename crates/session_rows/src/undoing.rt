@@ -1,0 +1,128 @@
+// Undo over commits.
+use crate::calls::{both, create, hold, pair_in};
+use std::alloc::Global;
+use std::test::Fail;
+use undo_log::Session;
+use vm_store::MemStore;
+
+// A session with five edits, and commits between them.
+fn edited(alloc: Global) -> Result<Session<MemStore>, Fail> {
+    let session = create(alloc, MemStore::new(alloc))?;
+    let session = hold(
+        alloc,
+        session,
+        None,
+        "newraw 7 1 = block 0001
+        save = ok
+        vwrite 0001 0 61 = ok
+        update = ok
+        newheap 8 = block 0002
+        alloc 0002 3 = chunk 0010
+        save = ok
+        uid 0001 9 = ok
+        undos = number 5
+        redos = number 0",
+    )?;
+    Ok(session)
+}
+
+#[test]
+fn edits_before_commits_are_undone_and_made_again(rt: HostRuntime) -> Result<(), Fail> {
+    let alloc = rt.alloc();
+    let session = hold(
+        alloc,
+        edited(alloc)?,
+        None,
+        "undo = ok
+        info 0001 = raw 7 1
+        undo = ok
+        chunks 0002 = chunks
+        update = ok
+        undo = ok
+        list = blocks 0001
+        undo = ok
+        vread 0001 = bytes 00
+        undo = ok
+        undo = no 22 NothingToUndo
+        list = blocks
+        save = ok
+        undos = number 0
+        redos = number 5
+        redo = ok
+        redo = ok
+        vread 0001 = bytes 61
+        save = ok
+        redo = ok
+        redo = ok
+        chunks 0002 = chunks 0010
+        redo = ok
+        redo = no 23 NothingToRedo
+        info 0001 = raw 9 1
+        undos = number 5",
+    )?;
+    assert_eq!(rt; pair_in(alloc, session.close().bytes())?, both(0x61));
+    Ok(())
+}
+
+#[test]
+fn an_update_keeps_what_can_be_undone_and_a_revert_drops_it(rt: HostRuntime) -> Result<(), Fail> {
+    let alloc = rt.alloc();
+    hold(
+        alloc,
+        edited(alloc)?,
+        None,
+        "undo = ok
+        update = ok
+        undos = number 4
+        redos = number 1
+        redo = ok
+        update = ok
+        undo = ok
+        undo = ok
+        undos = number 3
+        redos = number 2
+        revert = ok
+        undos = number 0
+        redos = number 0
+        undo = no 22 NothingToUndo
+        redo = no 23 NothingToRedo
+        info 0001 = raw 7 1
+        vread 0001 = bytes 61
+        chunks 0002 = chunks 0010",
+    )?;
+    Ok(())
+}
+
+#[test]
+fn edits_on_both_sides_of_a_save_as_are_undone(rt: HostRuntime) -> Result<(), Fail> {
+    let alloc = rt.alloc();
+    let target = Some(MemStore::new(alloc));
+    let session = hold(
+        alloc,
+        edited(alloc)?,
+        target,
+        "saveas = ok
+        vwrite 0001 0 62 = ok
+        undos = number 6
+        undo = ok
+        undo = ok
+        undo = ok
+        undo = ok
+        undo = ok
+        list = blocks 0001
+        vread 0001 = bytes 00
+        update = ok
+        undo = ok
+        list = blocks
+        undos = number 0
+        redos = number 6
+        redo = ok
+        redo = ok
+        revert = ok
+        info 0001 = raw 9 1
+        chunks 0002 = chunks 0010
+        redos = number 0",
+    )?;
+    assert_eq!(rt; pair_in(alloc, session.close().bytes())?, both(0x61));
+    Ok(())
+}
