@@ -3,27 +3,39 @@
 
 use geos_model::Bytes;
 use geos_shell::{Outcome, RunFault, serve};
+use std::alloc::Global;
 use std::env;
-use std::io;
+use std::io::{self, ErrorKind};
 use std::process::ExitCode;
 
 /// What `clap` writes of a word that isn't text.
 const NOT_TEXT: &[u8] = b"error: invalid UTF-8 was detected in one or more arguments\n";
 
-/// Runs the program on the words of its command line.
-fn come_to(rt: &HostRuntime) -> Outcome {
-    match env::args(rt) {
-        Ok(words) => serve(rt, words.as_slice(), &mut rt.reader(), &mut io::writer(rt)),
-        Err(error) if error.kind() == io::ErrorKind::OutOfMemory => Outcome::Run(RunFault::Memory),
-        Err(_) => match NOT_TEXT.to_vec(rt.alloc()) {
-            Ok(text) => Outcome::Usage(Bytes::from_vec(text)),
-            Err(_) => Outcome::Run(RunFault::Memory),
-        },
+/// The words of the command line.
+fn words(rt: &HostRuntime) -> io::Result<Vec<String>> {
+    let mut words = Vec::new(rt.alloc());
+    for word in env::args(rt)? {
+        words.push(word)?;
+    }
+    Ok(words)
+}
+
+/// What the words come to that couldn't be read.
+fn refused(alloc: Global, kind: ErrorKind) -> Outcome {
+    if kind == ErrorKind::OutOfMemory {
+        return Outcome::Run(RunFault::Memory);
+    }
+    match NOT_TEXT.to_vec(alloc) {
+        Ok(text) => Outcome::Usage(Bytes::from_vec(text)),
+        Err(_) => Outcome::Run(RunFault::Memory),
     }
 }
 
 fn main(rt: HostRuntime) -> ExitCode {
-    let outcome = come_to(&rt);
+    let outcome = match words(&rt) {
+        Ok(words) => serve(&rt, &words, &mut rt.reader(), &mut io::writer(&rt)),
+        Err(error) => refused(rt.alloc(), error.kind()),
+    };
     // Where not even this can be told, the status still says what became of the run.
     let _ = match &outcome {
         Outcome::Help(_) => outcome.write_line(&mut io::writer(&rt)),
