@@ -1,6 +1,7 @@
 //! The program: a document file, a script and its replies.
 ghost use Rattle.std.specs.Prelude.{◌≤◌, IfErr, map};
-ghost use Rattle.geos_shell.specs.Program.{ComesTo, IsPastOptions};
+ghost use Rattle.geos_shell.specs.Options.{told_by};
+ghost use Rattle.geos_shell.specs.Program.{ComesTo, MayCome};
 
 use crate::command_line::options;
 use crate::outcome::Outcome;
@@ -41,10 +42,10 @@ fn answer<R: Read, W: Write>(
     writer: &mut W,
 ) -> Result<(), Outcome>
     requires { (1 ≤ options.cache) × (options.cache ≤ 64) }
-    ensures { IfErr result IsPastOptions }
+    ensures { IfErr result (MayCome (told_by options.entry)) }
 {
     let session = begin(rt, options)?;
-    let target = open_target(rt, options.target)?;
+    let target = open_target(rt, options)?;
     match run(rt.alloc(), session, target, reader, writer) {
         Ok(_) => Ok(()),
         Err(fault) => Err(Outcome::Run(fault)),
@@ -54,7 +55,7 @@ fn answer<R: Read, W: Write>(
 /// The session on the file of the document, which is made or opened.
 fn begin(rt: &HostRuntime, options: Options) -> Result<Session<HostStore>, Outcome>
     requires { (1 ≤ options.cache) × (options.cache ≤ 64) }
-    ensures { IfErr result IsPastOptions }
+    ensures { IfErr result (MayCome (told_by options.entry)) }
 {
     let frames = usize::from(options.cache);
     match (HostStore::open(rt, options.file, options.new), options.new) {
@@ -72,10 +73,10 @@ fn begin(rt: &HostRuntime, options: Options) -> Result<Session<HostStore>, Outco
 }
 
 /// The target of a save-as, if there is one. A missing file is made; nothing is written to it before a save-as.
-fn open_target(rt: &HostRuntime, path: Option<&str>) -> Result<Option<HostStore>, Outcome>
-    ensures { IfErr result IsPastOptions }
+fn open_target(rt: &HostRuntime, options: Options) -> Result<Option<HostStore>, Outcome>
+    ensures { IfErr result (MayCome (told_by options.entry)) }
 {
-    match path {
+    match options.target {
         Some(path) => match HostStore::open(rt, path, true) {
             Ok(store) => Ok(Some(store)),
             Err(_) => Err(Outcome::Target),
