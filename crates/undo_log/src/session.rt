@@ -1,5 +1,5 @@
 //! A document that is edited, with what undo needs.
-ghost use Rattle.std.specs.Prelude.{◌≡◌, ◌⊎◌, ◌↔◌, ◌+◌, ◌-◌, ◌^◌, ◌≤◌, ◌&&◌, ◌||◌, ℕ, Bool, true, false, List, [], Some, Ok, Err, All, IsTrue, IfOk, IfErr, OnOk, OnErr, IsErrOf, MatchResult, length, min};
+ghost use Rattle.std.specs.Prelude.{◌≡◌, ◌≢◌, ◌⊎◌, ◌↔◌, ◌+◌, ◌-◌, ◌^◌, ◌≤◌, ◌&&◌, ◌||◌, ℕ, Bool, true, false, List, [], Some, Ok, Err, All, IsTrue, IfOk, IfErr, OnOk, OnErr, IsErrOf, MatchResult, length, min};
 ghost use Rattle.std.specs.Result.{IsErrAnd};
 ghost use Rattle.std.specs.Borrow.{sem};
 ghost use Rattle.std.specs.Option.{option_map};
@@ -148,6 +148,7 @@ impl<S: Store> Session<S> {
         ensures settled { IfOk result (λ session. IsSettled S.facts session.disk) }
         // the slots, and a directory of no block
         ensures size { IfOk result (λ session. IsTrue (S.facts store).honest → length (S.facts session.disk.store).content ≡ 1040) }
+        ensures early { IfErr result (λ refused. refused.fault ≢ Fault.File → refused.store ≡ store) }
         ensures file { IfErr result (λ refused. refused.fault ≡ Fault.File → Raised (S.facts store) (S.facts refused.store)) }
         ensures refusals { IfErr result (λ refused. IsSupply refused.fault) }
     {
@@ -288,6 +289,7 @@ impl<S: Store> Session<S> {
             (λ _. (S.facts target).failures ≤ (S.facts self.new.disk.store).failures)
             (λ refused. (S.facts target).failures ≤ (S.facts refused.store).failures) }
         ensures drifts { Drifts ((S.facts self.old.disk.store).honest && (S.facts target).honest) self.old.document self.new.document }
+        ensures stays { IfErr result (λ _. Drifts (S.facts self.old.disk.store).honest self.old.document self.new.document) }
         ensures lists { (self.new.undo ≡ self.old.undo) × (self.new.redo ≡ self.old.redo) × (self.new.frames ≡ self.old.frames) }
         ensures worn { IsErrAnd result (λ refused. refused.fault ≡ Fault.Worn) ↔ self.old.disk.sequence ≡ last_sequence }
         ensures early { IfErr result (λ refused. refused.fault ≡ Fault.Worn → (self.new ≡ self.old) × (refused.store ≡ target)) }

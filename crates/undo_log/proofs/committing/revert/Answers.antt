@@ -23,7 +23,7 @@ returns-in_err-commit_revert-clause-commits g c =
     let pair : Document × Document = (a.saved, a.saved) in
     let passes = c.load.ensures.looks.passes in
     let all : Commits g.S.Store.facts pair a d (Err c.in_err-commit_revert.field-0.0) = Passes-Commits g.S.Store.facts a b d pair (b.saved, b.saved) (Err c.in_err-commit_revert.field-0.0) passes
-        (λ so i. (passes.saved so i, passes.saved so i)) c.in_err-commit_revert.ensures.commits in
+    (λ so i. (passes.saved so i, passes.saved so i)) c.in_err-commit_revert.ensures.commits in
     subst (λ r. Commits g.S.Store.facts pair a d r) (sym (p.1 ∙ ap Err p.2)) all
 
 pub returns-in_err-saved-clause-disk_valid : goal.returns-in_err-saved-clause-disk_valid
