@@ -62,6 +62,24 @@ pub(crate) fn heap_block(handle: u16, user_id: u16, heap: &Heap) -> Result<PutBl
     })
 }
 
+// The commits and the copy, without what their contracts say: a test that calls them is proved to be safe, no more.
+
+pub(crate) fn update<S: Store>(file: &mut VmFile<S>) -> Result<(), Fault> {
+    file.commit_update()
+}
+
+pub(crate) fn save<S: Store>(file: &mut VmFile<S>) -> Result<(), Fault> {
+    file.commit_save()
+}
+
+pub(crate) fn revert<S: Store>(file: &mut VmFile<S>) -> Result<(), Fault> {
+    file.commit_revert()
+}
+
+pub(crate) fn copy<S: Store>(file: &mut VmFile<S>, target: S) -> Result<VmFile<S>, Refused<S>> {
+    file.copy_to(target)
+}
+
 /// Puts a raw block into the document.
 pub(crate) fn put<S: Store>(
     alloc: Global,

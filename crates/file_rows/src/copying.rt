@@ -1,5 +1,7 @@
 // A document that is copied into another store.
-use crate::calls::{create, has, live_blocks, open, put, set_map_block, user_id_of};
+use crate::calls::{
+    copy, create, has, live_blocks, open, put, revert, save, set_map_block, update, user_id_of, why,
+};
 use geos_model::Fault;
 use std::alloc::Global;
 use std::test::Fail;
@@ -16,7 +18,7 @@ fn fused(alloc: Global, passes: u64, all: bool) -> Fused {
 fn source_that_fails(alloc: Global, passes: u64) -> Result<VmFile<Fused>, Fault> {
     let mut file = create(alloc, fused(alloc, passes, true))?;
     put(alloc, &mut file, 1, 7, b"ab")?;
-    file.commit_update()?;
+    update(&mut file)?;
     put(alloc, &mut file, 3, 9, &[5; 512])?;
     set_map_block(&mut file, 3)?;
     Ok(file)
@@ -55,18 +57,16 @@ fn is_copied<S: Store>(alloc: Global, file: &mut VmFile<S>) -> Result<bool, Faul
     Ok(live.as_slice() == [1, 3].as_slice() && has_user_ids && has_body && file.map_block().0 == 3)
 }
 
+// A copy into a store that serves.
+fn copy_of_source(alloc: Global) -> Result<VmFile<Fused>, Fault> {
+    let mut file = source(alloc)?;
+    copy(&mut file, fused(alloc, u64::MAX, true)).map_err(why)
+}
+
 #[test]
 fn a_copy_is_a_file_of_the_document_as_it_is(rt: HostRuntime) -> Result<(), Fail> {
     let alloc = rt.alloc();
-    let before = source(alloc)?.close();
-    let mut file = source(alloc)?;
-    let Ok(copy) = file.copy_to(fused(alloc, u64::MAX, true)) else {
-        return Err(Fail::new("the copy was refused"));
-    };
-    assert_eq!(rt; live_blocks(alloc, &copy)?.as_slice(), [1, 3].as_slice());
-    assert_eq!(rt; live_blocks(alloc, &file)?.as_slice(), [1, 3].as_slice());
-    assert_eq!(rt; file.close().inner().bytes(), before.inner().bytes());
-    let store = copy.close();
+    let store = copy_of_source(alloc)?.close();
     // The length, two images, the directory, two slots, the gate, and two syncs.
     assert_eq!(rt; store.calls(), 9);
     assert_eq!(rt; store.inner().bytes(), copied(alloc)?.as_slice());
@@ -74,15 +74,37 @@ fn a_copy_is_a_file_of_the_document_as_it_is(rt: HostRuntime) -> Result<(), Fail
 }
 
 #[test]
+fn a_copy_has_the_document(rt: HostRuntime) -> Result<(), Fail> {
+    let mut file = copy_of_source(rt.alloc())?;
+    assert!(rt; is_copied(rt.alloc(), &mut file)?);
+    Ok(())
+}
+
+// The bytes of the source once it was copied, if its document is still there.
+fn left_by_a_copy(alloc: Global) -> Result<Fused, Fault> {
+    let mut file = source(alloc)?;
+    let _copy = copy(&mut file, fused(alloc, u64::MAX, true)).map_err(why)?;
+    if !is_copied(alloc, &mut file)? {
+        return Err(Fault::Range);
+    }
+    Ok(file.close())
+}
+
+#[test]
+fn what_is_copied_stays(rt: HostRuntime) -> Result<(), Fail> {
+    let before = source(rt.alloc())?.close();
+    let after = left_by_a_copy(rt.alloc())?;
+    assert_eq!(rt; after.inner().bytes(), before.inner().bytes());
+    Ok(())
+}
+
+#[test]
 fn a_copy_is_whole_after_a_crash(rt: HostRuntime) -> Result<(), Fail> {
     let alloc = rt.alloc();
-    let Ok(copy) = source(alloc)?.copy_to(fused(alloc, u64::MAX, true)) else {
-        return Err(Fail::new("the copy was refused"));
-    };
-    let left = copy.close().inner().crashed(0, 255)?;
+    let left = copy_of_source(alloc)?.close().inner().crashed(0, 255)?;
     let mut file = open(alloc, left.bytes())?;
     assert!(rt; is_copied(alloc, &mut file)?);
-    file.commit_revert()?;
+    revert(&mut file)?;
     assert!(rt; is_copied(alloc, &mut file)?);
     Ok(())
 }
@@ -90,7 +112,7 @@ fn a_copy_is_whole_after_a_crash(rt: HostRuntime) -> Result<(), Fail> {
 // Whether the document is there, and can be saved.
 fn can_be_saved(alloc: Global, mut file: VmFile<Fused>) -> Result<bool, Fault> {
     let live = live_blocks(alloc, &file)?;
-    file.commit_save()?;
+    save(&mut file)?;
     let saved = open(alloc, file.close().inner().bytes())?;
     let live_then = live_blocks(alloc, &saved)?;
     Ok(live.as_slice() == [1, 3].as_slice() && live_then.as_slice() == [1, 3].as_slice())
@@ -101,7 +123,7 @@ fn a_refused_copy_gives_the_target_back(rt: HostRuntime) -> Result<(), Fail> {
     let alloc = rt.alloc();
     for passes in 0..9 {
         let mut file = source(alloc)?;
-        let Err(refused) = file.copy_to(fused(alloc, passes, true)) else {
+        let Err(refused) = copy(&mut file, fused(alloc, passes, true)) else {
             return Err(Fail::new("the copy was made"));
         };
         assert_eq!(rt; refused.fault, Fault::File);
@@ -118,7 +140,7 @@ fn a_copy_of_what_cannot_be_read_is_refused(rt: HostRuntime) -> Result<(), Fail>
     let calls = source(alloc)?.close().calls();
     for images in 0..2 {
         let mut file = source_that_fails(alloc, calls.saturating_add(images))?;
-        let Err(refused) = file.copy_to(fused(alloc, u64::MAX, true)) else {
+        let Err(refused) = copy(&mut file, fused(alloc, u64::MAX, true)) else {
             return Err(Fail::new("the copy was made"));
         };
         assert_eq!(rt; refused.fault, Fault::File);

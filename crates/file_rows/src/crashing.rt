@@ -1,5 +1,5 @@
 // What a crash leaves while the store fails: the documents last acknowledged, or those of a commit that was tried since.
-use crate::calls::{create, image_of, open, put};
+use crate::calls::{create, image_of, open, put, revert, save, update};
 use geos_model::Fault;
 use std::alloc::Global;
 use std::test::Fail;
@@ -105,9 +105,9 @@ impl Run {
             },
         };
         let answer = match step {
-            Step::Revert => self.file.commit_revert(),
-            Step::Save => self.file.commit_save(),
-            _ => self.file.commit_update(),
+            Step::Revert => revert(&mut self.file),
+            Step::Save => save(&mut self.file),
+            _ => update(&mut self.file),
         };
         if answer.is_err() {
             self.tried.push(pair)?;
@@ -193,7 +193,7 @@ fn byte_in(file: &mut VmFile<MemStore>) -> Result<Byte, Fault> {
 fn read(alloc: Global, bytes: &[u8]) -> Result<Pair, Fault> {
     let mut file = open(alloc, bytes)?;
     let updated = byte_in(&mut file)?;
-    file.commit_revert()?;
+    revert(&mut file)?;
     let saved = byte_in(&mut file)?;
     Ok(Pair { updated, saved })
 }

@@ -3,8 +3,8 @@ ghost use Rattle.std.specs.Prelude.{◌≡◌, ◌≤◌, All, IfOk, length};
 ghost use Rattle.vm_file.specs.Calls.{IsPut};
 
 use crate::calls::{
-    MOST_BLOCKS, create, has, heap_block, live_blocks, open, put, raw_block, remove, set_map_block,
-    user_id_of,
+    MOST_BLOCKS, create, has, heap_block, live_blocks, open, put, raw_block, remove, revert, save,
+    set_map_block, update, user_id_of,
 };
 use geos_model::Fault;
 use lmem_heap::Heap;
@@ -34,28 +34,51 @@ fn is_full(alloc: Global, file: &VmFile<MemStore>) -> Result<bool, Fault> {
     Ok(is_each)
 }
 
+// Puts a block with this body under each handle.
+fn put_all(alloc: Global, file: &mut VmFile<MemStore>, body: &[u8]) -> Result<(), Fault> {
+    file.put_blocks(&all_blocks(alloc, body)?, &[])
+}
+
+// A store of a file that was saved with all blocks.
+fn full_store(alloc: Global) -> Result<MemStore, Fault> {
+    let mut file = create(alloc, MemStore::new(alloc))?;
+    put_all(alloc, &mut file, b"a")?;
+    save(&mut file)?;
+    Ok(file.close())
+}
+
 #[test]
 fn each_handle_has_a_block(rt: HostRuntime) -> Result<(), Fail> {
     let alloc = rt.alloc();
-    let mut file = create(alloc, MemStore::new(alloc))?;
-    file.put_blocks(&all_blocks(alloc, b"a")?, &[])?;
-    file.commit_save()?;
-    let store = file.close();
+    let store = full_store(alloc)?;
     // 2,050 pages with the slots and the first directory, and 64 whole ones and 16 bytes of the new one.
     assert_eq!(rt; store.bytes().len(), (3 + 2_048 + 64) * 512 + 16);
     let mut file = open(alloc, store.bytes())?;
     assert!(rt; is_full(alloc, &file)?);
     assert!(rt; has(&mut file, 1, b"\0a")?);
     assert!(rt; has(&mut file, 2_048, b"\0a")?);
-    // All of them again, while none of the old ones may be written over.
-    file.put_blocks(&all_blocks(alloc, b"b")?, &[])?;
-    file.commit_update()?;
-    file.put_blocks(&all_blocks(alloc, b"c")?, &[])?;
-    assert!(rt; has(&mut file, 1_024, b"\0c")?);
-    let mut file = open(alloc, file.close().bytes())?;
+    Ok(())
+}
+
+// All of them put again and updated, while none of the old ones may be written over, and once more and not updated.
+fn updated_store(alloc: Global) -> Result<MemStore, Fault> {
+    let mut file = open(alloc, full_store(alloc)?.bytes())?;
+    put_all(alloc, &mut file, b"b")?;
+    update(&mut file)?;
+    put_all(alloc, &mut file, b"c")?;
+    if !has(&mut file, 1_024, b"\0c")? {
+        return Err(Fault::Range);
+    }
+    Ok(file.close())
+}
+
+#[test]
+fn each_block_is_put_again(rt: HostRuntime) -> Result<(), Fail> {
+    let alloc = rt.alloc();
+    let mut file = open(alloc, updated_store(alloc)?.bytes())?;
     assert!(rt; is_full(alloc, &file)?);
     assert!(rt; has(&mut file, 1_024, b"\0b")?);
-    file.commit_revert()?;
+    revert(&mut file)?;
     assert!(rt; has(&mut file, 1_024, b"\0a")?);
     Ok(())
 }
@@ -69,7 +92,7 @@ fn raw_bodies_have_up_to_65520_bytes(rt: HostRuntime) -> Result<(), Fail> {
     for handle in 1..=20 {
         put(alloc, &mut file, handle, handle, &image[1..])?;
     }
-    file.commit_save()?;
+    save(&mut file)?;
     let mut file = open(alloc, file.close().bytes())?;
     for handle in 1..=20 {
         assert!(rt; has(&mut file, handle, &image)?);
@@ -87,7 +110,7 @@ fn a_heap_has_up_to_65520_bytes(rt: HostRuntime) -> Result<(), Fail> {
     let image = heap.image()?;
     let mut file = create(alloc, MemStore::new(alloc))?;
     file.put_blocks(&[heap_block(5, 6, &heap)?], &[])?;
-    file.commit_save()?;
+    save(&mut file)?;
     let mut file = open(alloc, file.close().bytes())?;
     assert!(rt; has(&mut file, 5, &image)?);
     assert_eq!(rt; user_id_of(&file, 5), Some(6));
@@ -104,19 +127,32 @@ fn remove_others(file: &mut VmFile<MemStore>, kept: u16) -> Result<(), Fault> {
     Ok(())
 }
 
+// A file of which all blocks but the map block were taken out.
+fn file_of_one_block(alloc: Global) -> Result<VmFile<MemStore>, Fault> {
+    let mut file = create(alloc, MemStore::new(alloc))?;
+    put_all(alloc, &mut file, b"a")?;
+    set_map_block(&mut file, 9)?;
+    remove_others(&mut file, 9)?;
+    Ok(file)
+}
+
 #[test]
 fn blocks_are_taken_out(rt: HostRuntime) -> Result<(), Fail> {
     let alloc = rt.alloc();
-    let mut file = create(alloc, MemStore::new(alloc))?;
-    file.put_blocks(&all_blocks(alloc, b"a")?, &[])?;
-    set_map_block(&mut file, 9)?;
-    remove_others(&mut file, 9)?;
+    let mut file = file_of_one_block(alloc)?;
     assert_eq!(rt; remove(&mut file, 9), Err(Fault::IsMap));
-    assert_eq!(rt; live_blocks(alloc, &file)?.as_slice(), [9].as_slice());
     // One that isn't there changes nothing.
     remove(&mut file, 10)?;
     remove(&mut file, 0)?;
-    file.commit_save()?;
+    assert_eq!(rt; live_blocks(alloc, &file)?.as_slice(), [9].as_slice());
+    Ok(())
+}
+
+#[test]
+fn blocks_that_were_taken_out_are_not_saved(rt: HostRuntime) -> Result<(), Fail> {
+    let alloc = rt.alloc();
+    let mut file = file_of_one_block(alloc)?;
+    save(&mut file)?;
     let file = open(alloc, file.close().bytes())?;
     assert_eq!(rt; live_blocks(alloc, &file)?.as_slice(), [9].as_slice());
     assert_eq!(rt; file.map_block().0, 9);

@@ -1,5 +1,7 @@
 // What opens, and to which documents.
-use crate::calls::{has, has_no_block, image_of, live_blocks, open, user_id_of, why};
+use crate::calls::{
+    has, has_no_block, image_of, live_blocks, open, revert, update, user_id_of, why,
+};
 use crate::example::{LENGTH, example};
 use geos_model::Fault;
 use std::alloc::Global;
@@ -17,7 +19,7 @@ fn an_open_file_has_its_two_documents(rt: HostRuntime) -> Result<(), Fail> {
     assert_eq!(rt; user_id_of(&file, 1), Some(7));
     assert_eq!(rt; file.map_block().0, 1);
     assert!(rt; has(&mut file, 1, b"\0ab")?);
-    file.commit_revert()?;
+    revert(&mut file)?;
     assert!(rt; has_no_block(&file));
     assert_eq!(rt; file.map_block().0, 0);
     Ok(())
@@ -45,7 +47,7 @@ fn updated(alloc: Global) -> Result<Vec<u8>, Fault> {
 fn an_update_writes_the_other_slot(rt: HostRuntime) -> Result<(), Fail> {
     let alloc = rt.alloc();
     let mut file = open(alloc, &example())?;
-    file.commit_update()?;
+    update(&mut file)?;
     assert_eq!(rt; file.close().bytes(), updated(alloc)?.as_slice());
     Ok(())
 }
@@ -72,7 +74,7 @@ fn look(alloc: Global, bytes: &[u8]) -> Result<Answer, Fault> {
     let Some(image) = image_of(&mut file, 1)? else {
         return Ok(Answer::Other);
     };
-    file.commit_revert()?;
+    revert(&mut file)?;
     if !has_no_block(&file) {
         return Ok(Answer::Other);
     }
@@ -224,7 +226,7 @@ fn of_two_open_slots_the_greater_number_counts(rt: HostRuntime) -> Result<(), Fa
     );
     let mut file = open(alloc, &with_two_slots(6))?;
     assert!(rt; has_no_block(&file));
-    file.commit_revert()?;
+    revert(&mut file)?;
     assert!(rt; has(&mut file, 1, b"\0ab")?);
     Ok(())
 }

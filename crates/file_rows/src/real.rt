@@ -1,5 +1,5 @@
 // A real file, in the folder where the tests run.
-use crate::calls::{create, has, live_blocks, put, user_id_of, why};
+use crate::calls::{create, has, live_blocks, put, revert, save, update, user_id_of, why};
 use geos_model::Fault;
 use std::alloc::Global;
 use std::fs;
@@ -10,9 +10,9 @@ use vm_store::{HostStore, Store};
 // Puts a block, which is saved, another one, which is updated, and a third one.
 fn fill<S: Store>(alloc: Global, mut file: VmFile<S>) -> Result<(), Fault> {
     put(alloc, &mut file, 1, 7, b"ab")?;
-    file.commit_save()?;
+    save(&mut file)?;
     put(alloc, &mut file, 2, 8, b"c")?;
-    file.commit_update()?;
+    update(&mut file)?;
     put(alloc, &mut file, 3, 9, b"d")
 }
 
@@ -21,7 +21,7 @@ fn is_filled<S: Store>(alloc: Global, mut file: VmFile<S>) -> Result<bool, Fault
     let updated = live_blocks(alloc, &file)?;
     let user_id = user_id_of(&file, 2);
     let has_body = has(&mut file, 2, b"\0c")?;
-    file.commit_revert()?;
+    revert(&mut file)?;
     let saved = live_blocks(alloc, &file)?;
     Ok(
         updated.as_slice() == [1, 2].as_slice()

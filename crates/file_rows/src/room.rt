@@ -1,5 +1,5 @@
 // Pages that were given up are used again.
-use crate::calls::{create, has, put};
+use crate::calls::{create, has, put, revert, save, update};
 use geos_model::Fault;
 use std::alloc::Global;
 use std::test::Fail;
@@ -13,7 +13,7 @@ fn a_thousand_saves_need_six_pages(rt: HostRuntime) -> Result<(), Fail> {
     let mut file = create(alloc, MemStore::new(alloc))?;
     for number in 0..1_000u16 {
         put(alloc, &mut file, 1, 0, &number.to_le_bytes())?;
-        file.commit_save()?;
+        save(&mut file)?;
     }
     assert!(rt; has(&mut file, 1, &[0, 0xe7, 3])?);
     assert!(rt; file.close().bytes().len() <= 6 * 512);
@@ -28,9 +28,9 @@ fn a_thousand_updates_need_eight_pages(rt: HostRuntime) -> Result<(), Fail> {
     for number in 0..1_000u16 {
         put(alloc, &mut file, 1, 0, &number.to_le_bytes())?;
         match number % 10 {
-            8 => file.commit_save()?,
-            9 => file.commit_revert()?,
-            _ => file.commit_update()?,
+            8 => save(&mut file)?,
+            9 => revert(&mut file)?,
+            _ => update(&mut file)?,
         }
     }
     assert!(rt; has(&mut file, 1, &[0, 0xe6, 3])?);
@@ -55,10 +55,10 @@ fn put_first<S: Store>(
 fn calls_for(alloc: Global, blocks: u16) -> Result<u64, Fault> {
     let mut file = create(alloc, FuseStore::new(MemStore::new(alloc), u64::MAX, true))?;
     put_first(alloc, &mut file, blocks, b"a")?;
-    file.commit_save()?;
+    save(&mut file)?;
     put_first(alloc, &mut file, blocks, b"b")?;
-    file.commit_update()?;
-    file.commit_revert()?;
+    update(&mut file)?;
+    revert(&mut file)?;
     Ok(file.close().calls())
 }
 

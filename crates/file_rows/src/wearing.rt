@@ -1,5 +1,5 @@
 // A file whose number is at its last value.
-use crate::calls::{has, open, put, remove, set_user_id, user_id_of};
+use crate::calls::{has, open, put, remove, revert, save, set_user_id, update, user_id_of};
 use crate::example::{LENGTH, example};
 use geos_model::Fault;
 use std::test::Fail;
@@ -15,9 +15,9 @@ fn worn() -> [u8; LENGTH] {
 // Whether each commit is refused.
 fn is_worn_out(file: &mut VmFile<MemStore>) -> bool {
     file.is_worn()
-        && file.commit_update() == Err(Fault::Worn)
-        && file.commit_save() == Err(Fault::Worn)
-        && file.commit_revert() == Err(Fault::Worn)
+        && update(file) == Err(Fault::Worn)
+        && save(file) == Err(Fault::Worn)
+        && revert(file) == Err(Fault::Worn)
 }
 
 #[test]
@@ -57,7 +57,7 @@ fn the_last_number_is_given_once(rt: HostRuntime) -> Result<(), Fail> {
     bytes[8] = 254;
     let mut file = open(rt.alloc(), &bytes)?;
     assert!(rt; !file.is_worn());
-    file.commit_save()?;
+    save(&mut file)?;
     assert!(rt; is_worn_out(&mut file));
     assert!(rt; file.close().bytes().get(520..528) == Some([255; 8].as_slice()));
     Ok(())
