@@ -69,13 +69,13 @@ module _ {S : Type 0} (facts : S → StoreFacts) where
 
   -- a save-as that was refused, after which the target is there again
   pub serves_refused : (old new : SessionState S) (target back : S) (fault : Fault) (failed : Bool)
-      → (IsTrue (facts old.disk.store).honest → IsTrue (facts target).honest → Step failed (machine_of true old) (Some commands.SaveAs) (Refused fault) (machine_of true new))
+      → (IsTrue (facts old.disk.store).honest → Step failed (machine_of true old) (Some commands.SaveAs) (Refused fault) (machine_of true new))
       → (facts new.disk.store).honest ≡ (facts old.disk.store).honest → (facts back).honest ≡ (facts target).honest
       → AreHonest facts old (Some target) → Serves facts (old, Some target) commands.SaveAs (Refused fault) (new, Some back)
   serves_refused old new target back fault failed step same same_target honest =
       record {
         honest = (subst IsTrue (sym same) honest.0, subst IsTrue (sym same_target) honest.1);
         failed = failed;
-        step = step honest.0 honest.1;
+        step = step honest.0;
         counted = λ none. absurd (not_both none);
       }
