@@ -1,4 +1,4 @@
-ghost use Rattle.std.specs.Prelude.{◌≡◌, ◌⊎◌, Bool, [], is_some, IfOk, IfErr, OnOk, ◌<◌, length};
+ghost use Rattle.std.specs.Prelude.{◌≡◌, ◌⊎◌, Bool, [], is_some, IsTrue, IfOk, IfErr, OnOk, ◌<◌, length};
 ghost use Rattle.std.specs.Io.KnownBytes.{Appends, IsAtEnd, Keeps};
 ghost use Rattle.geos_shell.specs.Runs.{AreHonest, AnswersAll, EndsBy, state_of};
 ghost use Rattle.geos_shell.specs.Given.{Gives};
@@ -53,6 +53,7 @@ pub fn run<S: Store, R: Read, W: Write>(
     // Where the run ends well, a whole script was read and each line of it answered.
     ensures ok { IfOk result (λ after. AreHonest S.facts session target → (left : Bool)
         × AnswersAll (state_of S.facts (is_some target) session) (R.remaining reader.old) (R.remaining reader.new) (W.contents writer.old) (W.contents writer.new) (state_of S.facts left after)) }
+    ensures honest { IfOk result (λ after. AreHonest S.facts session target → IsTrue (S.facts after.disk.store).honest) }
     // Where reading fails, each line that had ended is answered; where memory runs out, the first ones.
     ensures err { IfErr result (λ fault. AreHonest S.facts session target
         → EndsBy fault (state_of S.facts (is_some target) session) (R.remaining reader.old) (R.remaining reader.new) (W.contents writer.old) (W.contents writer.new)) }
