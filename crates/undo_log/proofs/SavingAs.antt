@@ -1,5 +1,5 @@
 -- A save-as that is refused is a step of the machine, and done or refused it leaves valid documents on the disk.
-use Rattle.std.proofs.Common.{◌≡◌, ◌⊎◌, ◌↔◌, ◌==◌, ◌||◌, Bool, true, false, IsTrue, IfErr, Some, refl, sym, subst, inl, inr}
+use Rattle.std.proofs.Common.{◌≡◌, ◌⊎◌, ◌↔◌, ◌==◌, ◌||◌, Bool, true, false, IsTrue, IfErr, Some, refl, subst, inl, inr}
 use Rattle.std.specs.Prelude.{◌∷◌, [], Result, Ok, Err, MatchResult}
 use Rattle.std.specs.Result.{IsErrAnd}
 use Rattle.std.proofs.lemmas.Bool.{eq-eqb, le-leb, or_left, or_right}
@@ -53,10 +53,10 @@ module _ {S : Type 0} (facts : S → StoreFacts) (old new : SessionState S) (kee
       → IfErr r (λ e. fault e ≡ Damaged → IsTrue (facts old.disk.store).honest → ⊥)
       → IfErr r (λ e. fault e ≡ File → Raised (facts old.disk.store) (facts new.disk.store) ⊎ Raised (facts target) (facts (store e)))
       → IfErr r (λ e. IsCommitRefusal (fault e) ⊎ (fault e ≡ Damaged))
-      → IfErr r (λ e. IsTrue (facts old.disk.store).honest → IsTrue (facts target).honest
+      → IfErr r (λ e. IsTrue (facts old.disk.store).honest
       → Step (has_failed (facts old.disk.store) (facts new.disk.store) || has_failed (facts target) (facts (store e))) (machine_of true old) (Some commands.SaveAs) (Refused (fault e)) (machine_of true new))
   refused fault store target pair P (Ok x) commits worn damaged file is = tt
-  refused fault store target pair P (Err e) commits worn damaged file is = λ so target_so.
+  refused fault store target pair P (Err e) commits worn damaged file is = λ so.
       refusal (fault e) (has_failed (facts old.disk.store) (facts new.disk.store) || has_failed (facts target) (facts (store e))) (same_machine pair (fault e) commits so) worn.0
       (λ failing. one_failed (facts old.disk.store) (facts new.disk.store) (facts target) (facts (store e)) (file failing)) (λ is_damaged. damaged is_damaged so) is
 

@@ -1,9 +1,9 @@
 // What a session's commits do to its file.
-ghost use Rattle.std.specs.Prelude.{◌≡◌, ◌⊎◌, ◌↔◌, IsTrue, OnOk, OnErr, IfErr, IsErrOf, length};
+ghost use Rattle.std.specs.Prelude.{◌≡◌, ◌≢◌, ◌⊎◌, ◌↔◌, IsTrue, OnOk, OnErr, IfErr, IsErrOf, length};
 ghost use Rattle.geos_model.specs.Document.{IsValid};
 ghost use Rattle.vm_store.specs.Facts.{Raised};
 ghost use Rattle.vm_file.specs.Calls.{IsCommitRefusal, last_sequence};
-ghost use Rattle.vm_file.specs.Disk.{Commits, Drifts, IsSettled};
+ghost use Rattle.vm_file.specs.Disk.{Commits, Drifts, IsSettled, Passes};
 ghost use Rattle.vm_blocks.specs.InFile.{IsInFile};
 ghost use Rattle.undo_log.specs.Records.{AreValidOn};
 
@@ -13,7 +13,7 @@ use vm_blocks::{Blocks, Version, flush, load};
 use vm_file::VmFile;
 use vm_store::Store;
 
-/// Makes what is in memory the updated document. Worn, before anything is written; Memory, File.
+/// Makes what is in memory the updated document. Worn, before anything is written; Memory, where nothing is committed; File.
 pub fn update<S: Store>(
     alloc: Global,
     file: &mut VmFile<S>,
@@ -29,6 +29,7 @@ pub fn update<S: Store>(
     ensures disk_valid { AreValidOn S.facts file.new.disk }
     ensures worn { IsErrOf result Fault.Worn ↔ file.old.disk.sequence ≡ last_sequence }
     ensures early { IsErrOf result Fault.Worn → file.new ≡ file.old }
+    ensures passes { IfErr result (λ fault. fault ≢ Fault.File → Passes S.facts file.old.disk file.new.disk) }
     ensures file { IsErrOf result Fault.File → Raised (S.facts file.old.disk.store) (S.facts file.new.disk.store) }
     ensures refusals { IfErr result IsCommitRefusal }
 {
@@ -55,6 +56,7 @@ pub fn save<S: Store>(
     ensures disk_valid { AreValidOn S.facts file.new.disk }
     ensures worn { IsErrOf result Fault.Worn ↔ file.old.disk.sequence ≡ last_sequence }
     ensures early { IsErrOf result Fault.Worn → file.new ≡ file.old }
+    ensures passes { IfErr result (λ fault. fault ≢ Fault.File → Passes S.facts file.old.disk file.new.disk) }
     ensures file { IsErrOf result Fault.File → Raised (S.facts file.old.disk.store) (S.facts file.new.disk.store) }
     ensures refusals { IfErr result IsCommitRefusal }
 {
@@ -93,6 +95,7 @@ pub fn revert<S: Store>(
     ensures disk_valid { AreValidOn S.facts file.new.disk }
     ensures worn { IsErrOf result Fault.Worn ↔ file.old.disk.sequence ≡ last_sequence }
     ensures early { IsErrOf result Fault.Worn → file.new ≡ file.old }
+    ensures passes { IfErr result (λ fault. fault ≢ Fault.File → Passes S.facts file.old.disk file.new.disk) }
     ensures damaged { IsErrOf result Fault.Damaged → IsTrue (S.facts file.old.disk.store).honest → ⊥ }
     ensures file { IsErrOf result Fault.File → Raised (S.facts file.old.disk.store) (S.facts file.new.disk.store) }
     ensures refusals { IfErr result (λ fault. IsCommitRefusal fault ⊎ (fault ≡ Fault.Damaged)) }

@@ -3,7 +3,7 @@ ghost use Rattle.std.specs.Prelude.{◌≡◌, ◌⊎◌, ◌↔◌, ◌≤◌, 
 ghost use Rattle.std.specs.Result.{IsErrAnd};
 ghost use Rattle.vm_store.specs.Facts.{Raised};
 ghost use Rattle.vm_file.specs.Calls.{IsCommitRefusal, last_sequence};
-ghost use Rattle.vm_file.specs.Disk.{Disk, Commits, IsSettled, Numbered};
+ghost use Rattle.vm_file.specs.Disk.{Disk, Commits, IsSettled, Numbered, Passes};
 ghost use Rattle.vm_blocks.specs.InFile.{IsInFile};
 ghost use Rattle.undo_log.specs.Marking.{AreMarked};
 ghost use Rattle.undo_log.specs.Records.{AreValidOn};
@@ -26,8 +26,9 @@ fn mark_all(changed: &mut [bool])
 }
 
 /// Makes the target a file of its own of what is in memory, which takes the place of the file, and reverts the file so far to its
-/// saved document. Where it is refused the file stays, and the target comes back. Worn, before anything is written; Damaged where
-/// what is read is no image, which an honest store never gives; Memory, File.
+/// saved document. Where it is refused the file stays, and the target comes back; nothing is committed then, but where the store of
+/// the file so far fails. Worn, before anything is written; Damaged where what is read is no image, which an honest store never
+/// gives; Memory, File.
 pub fn save_as<S: Store>(
     alloc: Global,
     file: &mut VmFile<S>,
@@ -44,7 +45,7 @@ pub fn save_as<S: Store>(
     // of the target
     ensures made { IfOk result (λ _. IsTrue (S.facts file.old.disk.store).honest → IsTrue (S.facts target).honest
         → (file.new.disk.updated ≡ blocks.now) × (file.new.disk.saved ≡ blocks.now)) }
-    ensures new_file { IfOk result (λ _. (file.new.disk.attempted ≡ []) × (file.new.disk.sequence ≡ 1)) }
+    ensures new_file { IfOk result (λ _. (file.new.disk.attempted ≡ []) × (file.new.disk.sequence ≡ 1) × (file.new.disk.updated ≡ file.new.disk.saved)) }
     ensures numbered { IfOk result (λ _. IsTrue (S.facts target).honest → Numbered (S.facts file.new.disk.store) 1) }
     ensures settled { IsSettled S.facts file.new.disk }
     ensures honest { MatchResult result
@@ -57,6 +58,8 @@ pub fn save_as<S: Store>(
     ensures disk_valid { AreValidOn S.facts file.old.disk → AreValidOn S.facts file.new.disk }
     ensures worn { IsErrAnd result (λ refused. refused.fault ≡ Fault.Worn) ↔ file.old.disk.sequence ≡ last_sequence }
     ensures early { IfErr result (λ refused. refused.fault ≡ Fault.Worn → (file.new ≡ file.old) × (refused.store ≡ target)) }
+    ensures passes { IfErr result (λ refused. (refused.fault ≡ Fault.File → Raised (S.facts file.old.disk.store) (S.facts file.new.disk.store) → ⊥)
+        → Passes S.facts file.old.disk file.new.disk) }
     ensures damaged { IfErr result (λ refused. refused.fault ≡ Fault.Damaged → IsTrue (S.facts file.old.disk.store).honest → ⊥) }
     ensures file { IfErr result (λ refused. refused.fault ≡ Fault.File
         → Raised (S.facts file.old.disk.store) (S.facts file.new.disk.store) ⊎ Raised (S.facts target) (S.facts refused.store)) }

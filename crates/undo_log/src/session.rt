@@ -116,6 +116,10 @@ impl<S: Store> Session<S> {
         ensures document { IfOk result (λ session. Drifts (S.facts file.disk.store).honest file.document session.document) }
         ensures new { IfOk result (λ session. (session.undo ≡ []) × (session.redo ≡ []) × (session.frames ≡ frames)) }
         ensures settled { IfOk result (λ session. IsSettled S.facts session.disk) }
+        // Nothing is written.
+        ensures rests { IsTrue (S.facts file.disk.store).honest → MatchResult result
+            (λ session. Rests (S.facts file.disk.store) (S.facts session.disk.store))
+            (λ refused. Rests (S.facts file.disk.store) (S.facts refused.store)) }
         ensures honest { IfErr result (λ refused. (S.facts refused.store).honest ≡ (S.facts file.disk.store).honest) }
         ensures failures { IfErr result (λ refused. (S.facts file.disk.store).failures ≤ (S.facts refused.store).failures) }
         ensures damaged { IfErr result (λ refused. refused.fault ≡ Fault.Damaged → IsTrue (S.facts file.disk.store).honest → ⊥) }
@@ -164,8 +168,9 @@ impl<S: Store> Session<S> {
         }
     }
 
-    /// Opens the file that a store has, with its updated document as it is now and nothing to undo: NotDocument or Damaged where
-    /// it is none, and the store comes back as it was. Where a crash left the store, what is read is on the disk from then on.
+    /// Opens the file that a store has, with its updated document as it is now and nothing to undo. Where it is refused the store
+    /// comes back as it was: NotDocument or Damaged where it has no file; Memory, File. Where a crash left the store, what is read
+    /// is on the disk from then on.
     pub fn open(alloc: Global, store: S, frames: usize) -> Result<Session<S>, Refused<S>>
         requires { (1 ≤ frames) × (frames ≤ 64) }
         ensures honest { MatchResult result
@@ -174,13 +179,17 @@ impl<S: Store> Session<S> {
         ensures failures { MatchResult result
             (λ session. (S.facts store).failures ≤ (S.facts session.disk.store).failures)
             (λ refused. (S.facts store).failures ≤ (S.facts refused.store).failures) }
+        // Nothing is written.
+        ensures rests { IsTrue (S.facts store).honest → MatchResult result
+            (λ session. Rests (S.facts store) (S.facts session.disk.store))
+            (λ refused. Rests (S.facts store) (S.facts refused.store)) }
         ensures stands { IfOk result (λ session. IsTrue (S.facts store).honest → stands (S.facts store).content ≡ Ok (session.disk.updated, session.disk.saved)) }
         ensures document { IfOk result (λ session. IsTrue (S.facts store).honest → (session.document ≡ session.disk.updated) × (session.disk.attempted ≡ [])) }
         ensures new { IfOk result (λ session. (session.undo ≡ []) × (session.redo ≡ []) × (session.frames ≡ frames)) }
         ensures numbered { IfOk result (λ session. IsTrue (S.facts store).honest → sequence_in (S.facts store).content ≡ Some session.disk.sequence) }
+        ensures numbered_now { IfOk result (λ session. IsTrue (S.facts store).honest → Numbered (S.facts session.disk.store) session.disk.sequence) }
         ensures settled { IfOk result (λ session. IsSettled S.facts session.disk) }
         ensures refused { IfErr result (λ refused. IsTrue (S.facts store).honest → IsSupply refused.fault ⊎ (stands (S.facts store).content ≡ Err refused.fault)) }
-        ensures rests { IfErr result (λ refused. IsTrue (S.facts store).honest → IsSupply refused.fault ⊎ Rests (S.facts store) (S.facts refused.store)) }
         ensures file { IfErr result (λ refused. refused.fault ≡ Fault.File → Raised (S.facts store) (S.facts refused.store)) }
         ensures refusals { IfErr result (λ refused. IsOpenRefusal refused.fault) }
     {
@@ -204,7 +213,7 @@ impl<S: Store> Session<S> {
     }
 
     /// Makes the document as it is now the updated one. Worn where the sequence number can't rise, before anything is written;
-    /// Memory, File.
+    /// Memory, where nothing is committed; File, where what was to be may be read after a crash.
     pub fn update(&mut self) -> Result<(), Fault>
         ensures step { IsTrue (S.facts self.old.disk.store).honest → (target : Bool)
             → Step (has_failed (S.facts self.old.disk.store) (S.facts self.new.disk.store)) (machine_of target self.old) (Some commands.Update) (reply_by (λ _. Accepted) result) (machine_of target self.new) }
@@ -213,6 +222,7 @@ impl<S: Store> Session<S> {
         ensures lists { (self.new.undo ≡ self.old.undo) × (self.new.redo ≡ self.old.redo) × (self.new.frames ≡ self.old.frames) }
         ensures worn { IsErrOf result Fault.Worn ↔ self.old.disk.sequence ≡ last_sequence }
         ensures early { IsErrOf result Fault.Worn → self.new ≡ self.old }
+        ensures passes { IfErr result (λ fault. fault ≢ Fault.File → Passes S.facts self.old.disk self.new.disk) }
         ensures file { IsErrOf result Fault.File → Raised (S.facts self.old.disk.store) (S.facts self.new.disk.store) }
         ensures refusals { IfErr result IsCommitRefusal }
     {
@@ -228,6 +238,7 @@ impl<S: Store> Session<S> {
         ensures lists { (self.new.undo ≡ self.old.undo) × (self.new.redo ≡ self.old.redo) × (self.new.frames ≡ self.old.frames) }
         ensures worn { IsErrOf result Fault.Worn ↔ self.old.disk.sequence ≡ last_sequence }
         ensures early { IsErrOf result Fault.Worn → self.new ≡ self.old }
+        ensures passes { IfErr result (λ fault. fault ≢ Fault.File → Passes S.facts self.old.disk self.new.disk) }
         ensures file { IsErrOf result Fault.File → Raised (S.facts self.old.disk.store) (S.facts self.new.disk.store) }
         ensures refusals { IfErr result IsCommitRefusal }
     {
@@ -245,6 +256,7 @@ impl<S: Store> Session<S> {
         ensures frames { self.new.frames ≡ self.old.frames }
         ensures worn { IsErrOf result Fault.Worn ↔ self.old.disk.sequence ≡ last_sequence }
         ensures early { IsErrOf result Fault.Worn → self.new ≡ self.old }
+        ensures passes { IfErr result (λ fault. fault ≢ Fault.File → Passes S.facts self.old.disk self.new.disk) }
         ensures damaged { IsErrOf result Fault.Damaged → IsTrue (S.facts self.old.disk.store).honest → ⊥ }
         ensures file { IsErrOf result Fault.File → Raised (S.facts self.old.disk.store) (S.facts self.new.disk.store) }
         ensures refusals { IfErr result (λ fault. IsCommitRefusal fault ⊎ (fault ≡ Fault.Damaged)) }
@@ -263,13 +275,14 @@ impl<S: Store> Session<S> {
 
     /// Makes another store a file of its own, with the document as it is now as its updated and its saved one, and goes on in
     /// that. The file so far goes back to its saved document, and its store comes back. Where it is refused the session stays in
-    /// its file, and the target comes back, with any bytes. Worn where the sequence number of the file so far can't rise, before
-    /// anything is written; over a store that isn't honest what is read may be no image, which is Damaged; Memory, File.
+    /// its file, and the target comes back, with any bytes; in the file so far nothing is committed then, but where its store
+    /// fails. Worn where the sequence number of the file so far can't rise, before anything is written; over a store that isn't
+    /// honest what is read may be no image, which is Damaged; Memory, File.
     pub fn save_as(&mut self, target: S) -> Result<S, Refused<S>>
-        // over an honest file and target
+        // a step of the machine, over an honest file so far, and where it is accepted an honest target
         ensures ok { IfOk result (λ _. IsTrue (S.facts self.old.disk.store).honest → IsTrue (S.facts target).honest
             → Step false (machine_of true self.old) (Some commands.SaveAs) Accepted (machine_of false self.new)) }
-        ensures err { IfErr result (λ refused. IsTrue (S.facts self.old.disk.store).honest → IsTrue (S.facts target).honest
+        ensures err { IfErr result (λ refused. IsTrue (S.facts self.old.disk.store).honest
             → Step (has_failed (S.facts self.old.disk.store) (S.facts self.new.disk.store) || has_failed (S.facts target) (S.facts refused.store))
             (machine_of true self.old) (Some commands.SaveAs) (RefusedWith refused.fault) (machine_of true self.new)) }
         // of the file so far: a commit of its saved document, with which its store comes back
@@ -279,7 +292,7 @@ impl<S: Store> Session<S> {
         // of the target: a new file
         ensures made { IfOk result (λ _. IsTrue (S.facts self.old.disk.store).honest → IsTrue (S.facts target).honest
             → (self.new.disk.updated ≡ self.old.document) × (self.new.disk.saved ≡ self.old.document)) }
-        ensures new_file { IfOk result (λ _. (self.new.disk.attempted ≡ []) × (self.new.disk.sequence ≡ 1)) }
+        ensures new_file { IfOk result (λ _. (self.new.disk.attempted ≡ []) × (self.new.disk.sequence ≡ 1) × (self.new.disk.updated ≡ self.new.disk.saved)) }
         ensures numbered { IfOk result (λ _. IsTrue (S.facts target).honest → Numbered (S.facts self.new.disk.store) 1) }
         ensures settled { IfOk result (λ _. IsSettled S.facts self.new.disk) }
         ensures honest { MatchResult result
@@ -293,6 +306,8 @@ impl<S: Store> Session<S> {
         ensures lists { (self.new.undo ≡ self.old.undo) × (self.new.redo ≡ self.old.redo) × (self.new.frames ≡ self.old.frames) }
         ensures worn { IsErrAnd result (λ refused. refused.fault ≡ Fault.Worn) ↔ self.old.disk.sequence ≡ last_sequence }
         ensures early { IfErr result (λ refused. refused.fault ≡ Fault.Worn → (self.new ≡ self.old) × (refused.store ≡ target)) }
+        ensures passes { IfErr result (λ refused. (refused.fault ≡ Fault.File → Raised (S.facts self.old.disk.store) (S.facts self.new.disk.store) → ⊥)
+            → Passes S.facts self.old.disk self.new.disk) }
         ensures damaged { IfErr result (λ refused. refused.fault ≡ Fault.Damaged → IsTrue (S.facts self.old.disk.store).honest → ⊥) }
         ensures file { IfErr result (λ refused. refused.fault ≡ Fault.File
             → Raised (S.facts self.old.disk.store) (S.facts self.new.disk.store) ⊎ Raised (S.facts target) (S.facts refused.store)) }
@@ -384,10 +399,11 @@ impl<S: Store> Session<S> {
         self.redo.len()
     }
 
-    /// It does nothing: its caller learns that each document of the machine is valid, as it always is. What a store that isn't
-    /// honest has of the updated and the saved one isn't known.
+    /// It does nothing: its caller learns that each document of the machine is valid, as it always is, and what a crash now leaves.
+    /// What a store that isn't honest has of the updated and the saved one isn't known.
     pub fn validity(&self)
         ensures document { IsValid self.now.document }
+        ensures settled { IsSettled S.facts self.now.disk }
         ensures past { (target : Bool) → All (λ s. IsValid s.document) (machine_of target self.now).past }
         ensures future { (target : Bool) → All (λ s. IsValid s.document) (machine_of target self.now).future }
         ensures machine { IsTrue (S.facts self.now.disk.store).honest → (target : Bool) → IsValidMachine (machine_of target self.now) }

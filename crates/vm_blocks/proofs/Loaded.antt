@@ -11,9 +11,10 @@ use Rattle.geos_model.specs.declared.command.Body.{Body}
 use Rattle.geos_model.specs.declared.command.Body.TheVariants.{Raw}
 use Rattle.geos_model.proofs.Files.{body_of-image}
 use Rattle.geos_model.proofs.HeapEdits.{get-put_same, get-put_other}
-use Rattle.vm_store.specs.Facts.{StoreFacts}
+use Rattle.vm_store.specs.Facts.{StoreFacts, IsTimely}
 use Rattle.vm_file.specs.Disk.{FileState, Drifts, IsListed}
 use Rattle.vm_file.proofs.Tables.{handle_within}
+use Rattle.vm_file.proofs.Looking.{Rests-refl, Rests-trans}
 use Rattle.vm_file.proofs.Passing.{Drifts-refl, Drifts-trans, Passes-refl, Passes-trans}
 use Rattle.vm_blocks.specs.Reading.{Looks}
 use Rattle.vm_blocks.specs.InFile.{document_at, IsTaken, Takes, AreTaken}
@@ -136,11 +137,12 @@ module _ (honest : Bool) (d now old new : Document) (n : ℕ) (drifts : Drifts h
 
 module _ {S : Type 0} (facts : S → StoreFacts) (version : Version) where
   pub looks_refl : (a : FileState S) → Looks facts version a a
-  looks_refl a = record { passes = Passes-refl facts a.disk; present = Drifts-refl _ a.document; read = Drifts-refl _ (document_at version a) }
+  looks_refl a = record { passes = Passes-refl facts a.disk; rests = λ so. Rests-refl (facts a.disk.store); present = Drifts-refl _ a.document; read = Drifts-refl _ (document_at version a) }
 
-  pub looks_trans : (a b c : FileState S) → Looks facts version a b → Looks facts version b c → Looks facts version a c
-  looks_trans a b c p q = record {
+  pub looks_trans : (a b c : FileState S) → (IsTrue (facts a.disk.store).honest → IsTimely (facts a.disk.store)) → Looks facts version a b → Looks facts version b c → Looks facts version a c
+  looks_trans a b c timely p q = record {
     passes = Passes-trans facts a.disk b.disk c.disk p.passes q.passes;
+    rests = λ so. Rests-trans (facts a.disk.store) (facts b.disk.store) (facts c.disk.store) (timely so) (p.rests so) (q.rests (subst IsTrue (sym p.passes.honest) so));
     present = Drifts-trans _ a.document b.document c.document p.present (subst (λ t. Drifts t b.document c.document) p.passes.honest q.present);
     read = Drifts-trans _ (document_at version a) (document_at version b) (document_at version c) p.read (subst (λ t. Drifts t (document_at version b) (document_at version c)) p.passes.honest q.read);
   }

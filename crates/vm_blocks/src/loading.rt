@@ -103,8 +103,8 @@ fn take_blocks<S: Store>(
     Ok(blocks)
 }
 
-/// A document of a file, all of it in memory. Damaged where what is read is no image, which an honest store never gives;
-/// Memory, File.
+/// A document of a file, all of it in memory; nothing is written. Damaged where what is read is no image, which an honest store
+/// never gives; Memory, File.
 pub fn load<S: Store>(
     alloc: Global,
     file: &mut VmFile<S>,

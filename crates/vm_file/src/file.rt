@@ -102,6 +102,7 @@ impl<S: Store> VmFile<S> {
         ensures stands { IfOk result (λ file. IsTrue (S.facts store).honest → stands (S.facts store).content ≡ Ok (file.disk.updated, file.disk.saved)) }
         ensures document { IfOk result (λ file. (file.document ≡ file.disk.updated) × (file.disk.attempted ≡ [])) }
         ensures numbered { IfOk result (λ file. IsTrue (S.facts store).honest → sequence_in (S.facts store).content ≡ Some file.disk.sequence) }
+        ensures numbered_now { IfOk result (λ file. IsTrue (S.facts store).honest → Numbered (S.facts file.disk.store) file.disk.sequence) }
         ensures settled { IfOk result (λ file. IsSettled S.facts file.disk) }
         ensures refused { IfErr result (λ refused. IsTrue (S.facts store).honest → IsSupply refused.fault ⊎ (stands (S.facts store).content ≡ Err refused.fault)) }
         ensures file { IfErr result (λ refused. refused.fault ≡ Fault.File → Raised (S.facts store) (S.facts refused.store)) }
@@ -160,6 +161,8 @@ impl<S: Store> VmFile<S> {
     pub fn read_saved(&mut self, block: VmHandle) -> Result<Vec<u8>, Fault>
         requires { is_live self.old.disk.saved block.0 ≡ true }
         ensures passes { Passes S.facts self.old.disk self.new.disk }
+        // Nothing is written.
+        ensures rests { IsTrue (S.facts self.old.disk.store).honest → Rests (S.facts self.old.disk.store) (S.facts self.new.disk.store) }
         ensures drifts { Drifts (S.facts self.old.disk.store).honest self.old.document self.new.document }
         ensures saved { Drifts (S.facts self.old.disk.store).honest self.old.disk.saved self.new.disk.saved }
         ensures image { IfOk result (λ bytes. IsTrue (S.facts self.old.disk.store).honest → bytes.items ≡ image (block_at self.old.disk.saved block.0).body) }
@@ -183,6 +186,8 @@ impl<S: Store> VmFile<S> {
     pub fn read_block(&mut self, block: VmHandle) -> Result<Vec<u8>, Fault>
         requires { is_live self.old.document block.0 ≡ true }
         ensures passes { Passes S.facts self.old.disk self.new.disk }
+        // Nothing is written.
+        ensures rests { IsTrue (S.facts self.old.disk.store).honest → Rests (S.facts self.old.disk.store) (S.facts self.new.disk.store) }
         ensures drifts { Drifts (S.facts self.old.disk.store).honest self.old.document self.new.document }
         ensures image { IfOk result (λ bytes. IsTrue (S.facts self.old.disk.store).honest → bytes.items ≡ image (block_at self.old.document block.0).body) }
         ensures size { IfOk result (λ bytes. IsImageLength (length bytes.items)) }
@@ -298,6 +303,8 @@ impl<S: Store> VmFile<S> {
     /// and isn't an image, which an honest store never gives, is Damaged; Memory, File.
     pub fn copy_to(&mut self, target: S) -> Result<VmFile<S>, Refused<S>>
         ensures passes { Passes S.facts self.old.disk self.new.disk }
+        // The file so far is only read.
+        ensures rests { IsTrue (S.facts self.old.disk.store).honest → Rests (S.facts self.old.disk.store) (S.facts self.new.disk.store) }
         ensures drifts { Drifts (S.facts self.old.disk.store).honest self.old.document self.new.document }
         ensures honest { MatchResult result
             (λ file. (S.facts file.disk.store).honest ≡ (S.facts target).honest)

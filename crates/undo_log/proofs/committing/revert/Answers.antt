@@ -1,9 +1,10 @@
 use Rattle.geos_model.specs.Document.{Document}
-use Rattle.std.proofs.Common.{Err, sym, subst, ap, ◌∙◌}
+use Rattle.std.proofs.Common.{◌≢◌, Err, IfErr, sym, subst, ap, ◌∙◌}
 use Rattle.std.proofs.lemmas.Result.{err_from_is_err_and}
-use Rattle.vm_file.specs.Disk.{Commits}
+use Rattle.vm_file.specs.Disk.{Commits, Passes}
 use Rattle.vm_file.proofs.Passing.{Passes-fails, Passes-Commits}
-use Rattle.undo_log.proofs.Commits.{settled_after}
+use Rattle.geos_model.specs.declared.fault.Fault.TheVariants.{File}
+use Rattle.undo_log.proofs.Commits.{settled_after, refused_passes}
 use Rattle.undo_log.proofs.CommitSteps.{valid_after, valid_committed}
 use Rattle.undo_log.proofs.committing.revert.Goals as goal
 
@@ -33,3 +34,15 @@ pub returns-in_err-commit_revert-clause-disk_valid : goal.returns-in_err-commit_
 returns-in_err-commit_revert-clause-disk_valid g c =
     valid_committed g.S.Store.facts (c.args.file.now.disk.saved, c.args.file.now.disk.saved) c.args.file.now.disk c.commit_revert.new.self.disk _ (returns-in_err-commit_revert-clause-commits g c)
     (λ so. ((c.requires.disk_valid so).1, (c.requires.disk_valid so).1)) c.requires.disk_valid
+
+pub returns-in_err-saved-clause-passes : goal.returns-in_err-saved-clause-passes
+returns-in_err-saved-clause-passes g c =
+    let p = err_from_is_err_and c.from_residual.result c.from_residual.ensures.1 in
+    subst (λ r. IfErr r (λ fault. fault ≢ File → Passes g.S.Store.facts c.args.file.now.disk c.load.new.file.disk)) (sym p.1) (λ _. c.in_err-saved.ensures.looks.passes)
+
+pub returns-in_err-commit_revert-clause-passes : goal.returns-in_err-commit_revert-clause-passes
+returns-in_err-commit_revert-clause-passes g c =
+    let p = err_from_is_err_and c.from_residual-in_err-commit_revert.result c.from_residual-in_err-commit_revert.ensures.1 in
+    let a = c.args.file.now in let b = c.load.new.file in let d = c.commit_revert.new.self in
+    subst (λ r. IfErr r (λ fault. fault ≢ File → Passes g.S.Store.facts a.disk d.disk)) (sym (p.1 ∙ ap Err p.2))
+    (refused_passes g.S.Store.facts a b d c.in_err-commit_revert.field-0.0 c.load.ensures.looks.passes c.in_err-commit_revert.ensures.early)

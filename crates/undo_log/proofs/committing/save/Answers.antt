@@ -1,11 +1,11 @@
 use Rattle.geos_model.specs.Document.{Document}
-use Rattle.std.proofs.Common.{◌≡◌, ◌↔◌, IsErrOf, sym, subst, ◌∙◌}
-use Rattle.std.proofs.lemmas.Result.{err_from_is_err_and}
+use Rattle.std.proofs.Common.{◌≡◌, ◌≢◌, ◌↔◌, IfErr, IsErrOf, sym, subst, ◌∙◌}
+use Rattle.std.proofs.lemmas.Result.{IfErr-weaker, err_from_is_err_and}
 use Rattle.vm_file.specs.Calls.{last_sequence}
-use Rattle.vm_file.specs.Disk.{Commits, Drifts}
+use Rattle.vm_file.specs.Disk.{Commits, Drifts, Passes}
 use Rattle.vm_file.proofs.Passing.{Passes-fails, Passes-Commits}
-use Rattle.geos_model.specs.declared.fault.Fault.TheVariants.{Worn}
-use Rattle.undo_log.proofs.Commits.{settled_after, raised_after}
+use Rattle.geos_model.specs.declared.fault.Fault.TheVariants.{File, Worn}
+use Rattle.undo_log.proofs.Commits.{settled_after, refused_passes, raised_after}
 use Rattle.undo_log.proofs.CommitSteps.{valid_after, valid_committed}
 use Rattle.undo_log.proofs.Marked.{in_file_on}
 use Rattle.undo_log.proofs.committing.save.Goals as goal
@@ -50,3 +50,13 @@ returns-in_err-flush-clause-disk_valid g c = valid_after g.S.Store.facts c.args.
 pub returns-clause-disk_valid : goal.returns-clause-disk_valid
 returns-clause-disk_valid g c =
     valid_committed g.S.Store.facts (c.args.blocks.now, c.args.blocks.now) c.args.file.now.disk c.commit_save.new.self.disk c.commit_save.result (returns-clause-commits g c) (λ so. (c.requires.valid, c.requires.valid)) c.requires.disk_valid
+
+pub returns-in_err-flush-clause-passes : goal.returns-in_err-flush-clause-passes
+returns-in_err-flush-clause-passes g c =
+    let p = err_from_is_err_and c.from_residual.result c.from_residual.ensures.1 in
+    subst (λ r. IfErr r (λ fault. fault ≢ File → Passes g.S.Store.facts c.args.file.now.disk c.flush.new.file.disk)) (sym p.1) (λ _. c.in_err-flush.ensures.passes)
+
+pub returns-clause-passes : goal.returns-clause-passes
+returns-clause-passes g c =
+    let a = c.args.file.now in let b = c.flush.new.file in let d = c.commit_save.new.self in
+    IfErr-weaker c.commit_save.result _ _ (λ fault early. refused_passes g.S.Store.facts a b d fault c.flush.ensures.passes early) c.commit_save.ensures.early

@@ -1,8 +1,9 @@
-use Rattle.std.proofs.Common.{Ok, Err, sym, ap, subst, ◌∙◌}
+use Rattle.std.proofs.Common.{◌≢◌, Ok, Err, sym, ap, subst, ◌∙◌}
 use Rattle.std.proofs.lemmas.Result.{err_from_is_err_and}
 use Rattle.vm_file.specs.Disk.{FileState, IsSettled, Numbered}
 use Rattle.vm_file.proofs.Passing.{Passes-trans, Passes-fails, Passes-Commits}
-use Rattle.undo_log.proofs.Commits.{settled_after}
+use Rattle.geos_model.specs.declared.fault.Fault.TheVariants.{File}
+use Rattle.undo_log.proofs.Commits.{settled_after, refused_passes, raised_after}
 use Rattle.undo_log.specs.Records.{AreValidOn}
 use Rattle.undo_log.proofs.Marked.{in_file_marked}
 use Rattle.undo_log.proofs.CommitSteps.{valid_after, valid_refused}
@@ -83,3 +84,21 @@ pub returns-clause-disk_valid : goal.returns-clause-disk_valid
 returns-clause-disk_valid g c = λ _.
     subst (λ (f : FileState g.row.S.Denot). AreValidOn g.S.Store.facts f.disk) (sym c.replace.ensures.after)
     (settled_valid g.S.Store.facts c.in_ok-copied.copied.disk (λ so. g.met.S.Store.timely c.in_ok-copied.copied.disk.store so) c.in_ok-copied.ensures.settled c.in_ok-copied.ensures.made.2)
+
+-- what commits nothing where the file so far didn't fail
+
+pub returns-in-Err-clause-passes : goal.returns-in-Err-clause-passes
+returns-in-Err-clause-passes g c = λ _. c.flush.ensures.passes
+
+pub returns-in_err-copied-clause-passes : goal.returns-in_err-copied-clause-passes
+returns-in_err-copied-clause-passes g c =
+    let p = err_from_is_err_and c.from_residual.result c.from_residual.ensures.1 in
+    rw p.1 (λ _. Passes-trans g.S.Store.facts c.args.file.now.disk c.flush.new.file.disk c.copy_to.new.self.disk c.flush.ensures.passes c.copy_to.ensures.passes)
+
+pub returns-in-Err-commit_revert-clause-passes : goal.returns-in-Err-commit_revert-clause-passes
+returns-in-Err-commit_revert-clause-passes g c = λ unfailed.
+    let a = c.args.file.now in let b = c.flush.new.file in let d = c.copy_to.new.self in let e = c.commit_revert.new.self in
+    let passes = Passes-trans g.S.Store.facts a.disk b.disk d.disk c.flush.ensures.passes c.copy_to.ensures.passes in
+    let refused = c.in-Err-commit_revert.ensures in
+    let other : c.in-Err-commit_revert.fault ≢ File = λ is. unfailed is (raised_after (g.S.Store.facts a.disk.store) (g.S.Store.facts d.disk.store) (g.S.Store.facts e.disk.store) passes.failures (refused.file (ap Err is))) in
+    refused_passes g.S.Store.facts a d e c.in-Err-commit_revert.fault passes refused.early other

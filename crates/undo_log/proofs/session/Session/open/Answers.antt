@@ -1,4 +1,7 @@
-use Rattle.std.proofs.Common.{IsTrue, subst}
+use Rattle.std.proofs.Common.{IsTrue, sym, subst}
+use Rattle.std.proofs.lemmas.Result.{IfOk-weaker, MatchResult-weaker}
+use Rattle.vm_store.specs.Facts.{StoreFacts, Rests}
+use Rattle.vm_file.proofs.Looking.{Rests-trans}
 use Rattle.undo_log.proofs.CommitSteps.{stands-valid}
 use Rattle.undo_log.proofs.session.Session.open.Goals as goal
 
@@ -6,3 +9,16 @@ pub read-requires-clause-valid : goal.read-requires-clause-valid
 read-requires-clause-valid g c = λ so.
     let was = subst IsTrue c.in-Ok-open.ensures.honest so in
     stands-valid (g.S.Store.facts c.args.store).content c.in-Ok-open.file.disk.updated c.in-Ok-open.file.disk.saved (c.in-Ok-open.ensures.stands was)
+
+pub returns-in-Ok-open-clause-rests : goal.returns-in-Ok-open-clause-rests
+returns-in-Ok-open-clause-rests g c = λ so.
+    let a = g.S.Store.facts c.args.store in
+    let b = g.S.Store.facts c.in-Ok-open.file.disk.store in
+    let opened = c.in-Ok-open.ensures in
+    let trans : (x : StoreFacts) → Rests b x → Rests a x = λ x q. Rests-trans a b x (g.met.S.Store.timely c.args.store so) (opened.rests so) q in
+    MatchResult-weaker c.read.result (c.read.ensures.rests (subst IsTrue (sym opened.honest) so)) (λ session q. trans _ q) (λ refused q. trans _ q)
+
+pub returns-in-Ok-open-clause-numbered_now : goal.returns-in-Ok-open-clause-numbered_now
+returns-in-Ok-open-clause-numbered_now g c =
+    let opened = c.in-Ok-open.ensures in
+    IfOk-weaker c.read.result _ _ (λ session passes so. passes.numbered (subst IsTrue (sym opened.honest) so) opened.document.1 (opened.numbered_now so)) c.read.ensures.passes

@@ -1,4 +1,5 @@
 use Rattle.std.proofs.Common.{subst, sym}
+use Rattle.vm_store.specs.Facts.{Rests}
 use Rattle.vm_file.specs.Disk.{IsSettled, Passes, Drifts}
 use Rattle.undo_log.specs.Records.{SessionState}
 use Rattle.undo_log.proofs.Commits.{settled_after}
@@ -23,3 +24,11 @@ pub returns-in-Ok-clause-settled : goal.returns-in-Ok-clause-settled
 returns-in-Ok-clause-settled g c =
     subst (λ (s : SessionState g.row.S.Denot). IsSettled g.S.Store.facts s.disk) (sym c.begin.ensures)
     (settled_after g.S.Store.facts c.args.file.disk c.load.new.file.disk (λ s so. g.met.S.Store.timely s so) c.load.ensures.looks.passes c.requires.settled)
+
+pub returns-in-Ok-clause-rests : goal.returns-in-Ok-clause-rests
+returns-in-Ok-clause-rests g c = λ so.
+    subst (λ (s : SessionState g.row.S.Denot). Rests (g.S.Store.facts c.args.file.disk.store) (g.S.Store.facts s.disk.store)) (sym c.begin.ensures) (c.load.ensures.looks.rests so)
+
+pub returns-in-Err-clause-rests : goal.returns-in-Err-clause-rests
+returns-in-Err-clause-rests g c = λ so.
+    subst (λ s. Rests (g.S.Store.facts c.args.file.disk.store) (g.S.Store.facts s)) (sym c.close.ensures) (c.load.ensures.looks.rests so)

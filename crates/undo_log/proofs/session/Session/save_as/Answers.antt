@@ -12,7 +12,7 @@ returns-clause-err g c =
     let i = c.self.inside in let facts = g.S.Store.facts in let e = c.save_as.ensures in
     let old : SessionState g.row.S.Denot = record { disk = i.file.disk; document = i.blocks; undo = reverse i.undo.items; redo = reverse i.redo.items; frames = i.frames } in
     let new : SessionState g.row.S.Denot = record old { disk = c.save_as.new.file.disk } in
-    subst (λ (s : SessionState g.row.S.Denot). IfErr c.save_as.result (λ refused. IsTrue (facts s.disk.store).honest → IsTrue (facts c.args.target).honest
+    subst (λ (s : SessionState g.row.S.Denot). IfErr c.save_as.result (λ refused. IsTrue (facts s.disk.store).honest
     → Step (has_failed (facts s.disk.store) (facts c.save_as.new.file.disk.store) || has_failed (facts c.args.target) (facts refused.store)) (machine_of true s) (Some commands.SaveAs) (Refused refused.fault) (machine_of true new))) c.self.view_is
     (refused facts old new (record { document = refl; undo = refl; redo = refl; frames = refl }) (λ refused. refused.fault) (λ refused. refused.store) c.args.target (old.disk.saved, old.disk.saved) _ c.save_as.result
     e.commits e.worn e.damaged e.file e.refusals)

@@ -1,12 +1,16 @@
 use Rattle.std.proofs.Common.{All, IsTrue, Bool, reverse, subst}
 use Rattle.geos_model.specs.Document.{IsValid}
 use Rattle.geos_model.specs.Machine.{IsValidMachine}
+use Rattle.vm_file.specs.Disk.{IsSettled}
 use Rattle.undo_log.specs.Records.{SessionState, machine_of}
 use Rattle.undo_log.proofs.Steps.{past-valid, future-valid}
 use Rattle.undo_log.proofs.session.Session.validity.Goals as goal
 
 pub returns-clause-document : goal.returns-clause-document
 returns-clause-document g c = subst (λ (s : SessionState g.row.S.Denot). IsValid s.document) c.self.view_is c.self.invariant.2.valid
+
+pub returns-clause-settled : goal.returns-clause-settled
+returns-clause-settled g c = subst (λ (s : SessionState g.row.S.Denot). IsSettled g.S.Store.facts s.disk) c.self.view_is c.self.invariant.4
 
 pub returns-clause-past : goal.returns-clause-past
 returns-clause-past g c = λ target.
