@@ -43,6 +43,11 @@ impl fmt::Display for RunFault {
 ///
 /// The target is where the script's first save-as goes that goes well: its store is the session's from then on, and the store
 /// before is dropped. A later save-as has no target, as the first one has none where there is none to begin with.
+///
+/// Over an honest store and target, the session handed back has the document, the records and the acknowledged documents that the
+/// answers lead to, and an honest store. A crash now leaves that with the documents acknowledged last or with those of a commit
+/// that failed since, as a session's `validity` says; where no call of a store failed in this run, with those of none that failed
+/// in it. A session that isn't handed back is dropped, with nothing more written.
 pub fn run<S: Store, R: Read, W: Write>(
     alloc: Global,
     session: Session<S>,
