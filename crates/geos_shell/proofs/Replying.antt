@@ -13,7 +13,7 @@ use Rattle.vm_store.specs.Facts.{StoreFacts}
 use Rattle.undo_log.specs.Records.{SessionState, machine_of}
 use Rattle.geos_shell.specs.Runs.{AreHonest}
 use Rattle.geos_shell.specs.Replies.{Extends, Told, Held, state_held, Serves, Responds}
-use Rattle.geos_shell.proofs.Composed.{Counts-none}
+use Rattle.geos_shell.proofs.Composed.{AfterFailures-none}
 use Rattle.geos_shell.proofs.Serving.{serves_at_rest}
 
 -- in so many of one call the store failed
@@ -44,7 +44,7 @@ module _ {S : Type 0} (facts : S → StoreFacts) where
       record {
         honest = serves.honest;
         written = a.0;
-        answers = record { failed = cond serves.failed 1 0; answered = a.1; counted = serves.counted };
+        answers = record { failed = cond serves.failed 1 0; answered = a.1; stores = serves.stores };
         text = a.2;
       }
 
@@ -63,7 +63,7 @@ module _ {S : Type 0} (facts : S → StoreFacts) where
       record {
         honest = honest;
         written = [];
-        answers = record { failed = 0; answered = record { calls = []; asks = refl; run = refl; text = refl; fails = refl }; counted = Counts-none (state_held facts held) };
+        answers = record { failed = 0; answered = record { calls = []; asks = refl; run = refl; text = refl; fails = refl }; stores = AfterFailures-none (state_held facts held) };
         text = sym (append-nil out);
       }
 
@@ -78,7 +78,7 @@ module _ {S : Type 0} (facts : S → StoreFacts) where
       rw none (record {
         honest = honest;
         written = a.0;
-        answers = record { failed = 0; answered = a.1; counted = Counts-none (state_held facts held) };
+        answers = record { failed = 0; answered = a.1; stores = AfterFailures-none (state_held facts held) };
         text = a.2;
       })
 

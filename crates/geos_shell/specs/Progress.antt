@@ -1,5 +1,5 @@
 -- How far a run has come between two of its reads.
-use Rattle.std.specs.Prelude.{◌≡◌, ◌↔◌, ℕ, ◌<◌, List, [], ◌∷◌, ◌++◌, Bool, false, ◌==◌, length, Option, is_some}
+use Rattle.std.specs.Prelude.{◌≡◌, ◌↔◌, ℕ, ◌<◌, List, [], ◌∷◌, ◌++◌, Bool, false, ◌==◌, length, Option, is_some, IsTrue}
 use Rattle.std.specs.Io.KnownBytes.{Appends}
 use Rattle.geos_model.specs.Script.{line_feed, command, lines, finished_lines, requests, Stopped}
 use Rattle.vm_store.specs.Facts.{StoreFacts}
@@ -63,9 +63,10 @@ pub record StopsRest {S : Type 0} (old : Answering S) (before after : Option (Li
   pub begun : 0 < length old.begun.items
   pub appended : Appends before after old.replies.items
 
--- The run answered the last line too, and wrote its replies. A target may be left.
+-- The run answered the last line too, and wrote its replies. A target may be left, and the store that is left is honest.
 pub record AnswersRest {S : Type 0} (facts : S → StoreFacts) (old : Answering S) (new : SessionState S) (before after : Option (List ℕ)) : Type 0 where
   pub left : Bool
   pub written : List ℕ
   pub appended : Appends before after written
+  pub honest : AreHonest facts old.session old.target → IsTrue (facts new.disk.store).honest
   pub answered : (start : State) (read sent : List ℕ) → ProgressOf facts start read sent old → AnswersOf start (requests (lines read)) (sent ++ written) (state_of facts left new)

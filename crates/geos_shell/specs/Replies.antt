@@ -7,7 +7,7 @@ use Rattle.geos_model.specs.declared.command.Command.{Command}
 use Rattle.geos_model.specs.declared.command.Command.TheVariants as commands
 use Rattle.vm_store.specs.Facts.{StoreFacts}
 use Rattle.undo_log.specs.Records.{SessionState}
-use Rattle.geos_shell.specs.Runs.{State, AnswersOf, AreHonest, CountsFailures, state_of}
+use Rattle.geos_shell.specs.Runs.{State, AfterFailures, AnswersOf, AreHonest, state_of}
 
 -- The bytes are still there, whatever stands behind them.
 abbrev pub Extends : List ℕ → List ℕ → Type 0
@@ -67,7 +67,7 @@ pub record Serves {S : Type 0} (facts : S → StoreFacts) (old : Held S) (comman
   pub honest : AreHonest facts new.0 new.1
   pub failed : Bool
   pub step : Step failed (state_held facts old).machine (Some command) reply (state_held facts new).machine
-  pub counted : CountsFailures (state_held facts old) (if failed then 1 else 0) (state_held facts new)
+  pub stores : AfterFailures (state_held facts old) (if failed then 1 else 0) (state_held facts new)
 
 -- The request is answered, the stores stay honest, and what is written for it was put behind what was there.
 pub record Responds {S : Type 0} (facts : S → StoreFacts) (old : Held S) (request : Request) (new : Held S) (before after : List ℕ) : Type 0 where

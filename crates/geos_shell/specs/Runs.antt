@@ -1,21 +1,23 @@
 -- What a run reads and writes. Where a reader or a writer tells its bytes, it is they.
-use Rattle.std.specs.Prelude.{◌≡◌, ℕ, ◌+◌, ◌<◌, ◌≤◌, min, Bool, false, IsTrue, List, length, Option, IfSome}
+use Rattle.std.specs.Prelude.{◌≡◌, ◌⊎◌, ℕ, ◌+◌, ◌<◌, ◌≤◌, min, Bool, false, IsTrue, List, [], length, Option, IfSome}
 use Rattle.std.specs.Io.KnownBytes.{Appends, Consumes, IsAtEnd}
 use Rattle.geos_model.specs.Machine.{Machine, Request}
 use Rattle.geos_model.specs.Script.{lines, finished_lines, requests, Answered, Stopped}
 use Rattle.vm_store.specs.Facts.{StoreFacts, last_count}
+use Rattle.vm_file.specs.Documents.{Documents}
 use Rattle.undo_log.specs.Records.{SessionState, machine_of}
 use Rattle.geos_shell.specs.declared.runner.RunFault.{RunFault}
 use Rattle.geos_shell.specs.declared.runner.RunFault.TheVariants as faults
 
--- a session's machine, and how often its store has failed
+-- a session's machine, how often its store has failed, and the pairs of a commit that failed which may be read too
 pub record State : Type 0 where
   pub machine : Machine
   pub failures : ℕ
+  pub attempted : List Documents
 
 -- that of a session over a store, where a target for a save-as is left and where none is
 abbrev pub state_of : {S : Type 0} → (S → StoreFacts) → Bool → SessionState S → State
-state_of facts target session = record { machine = machine_of target session; failures = (facts session.disk.store).failures }
+state_of facts target session = record { machine = machine_of target session; failures = (facts session.disk.store).failures; attempted = session.disk.attempted }
 
 -- the session's store is honest, and so is the target where there is one
 abbrev pub AreHonest : {S : Type 0} → (S → StoreFacts) → SessionState S → Option S → Type 0
@@ -27,11 +29,20 @@ abbrev pub CountsFailures : State → ℕ → State → Type 0
 CountsFailures old failed new =
     old.machine.target ≡ false → (new.machine.target ≡ false) × (min (old.failures + failed) last_count ≤ new.failures)
 
+-- Where no call failed, the pairs of a failed commit that may be read are those from before, or there is none any more.
+abbrev pub AddsNoPair : State → ℕ → State → Type 0
+AddsNoPair old failed new = failed ≡ 0 → (new.attempted ≡ old.attempted) ⊎ (new.attempted ≡ [])
+
+-- What is known of the stores after calls of which so many failed.
+pub record AfterFailures (old : State) (failed : ℕ) (new : State) : Type 0 where
+  pub counted : CountsFailures old failed new
+  pub adds : AddsNoPair old failed new
+
 -- From one state to another the requests are answered so.
 pub record AnswersOf (old : State) (asked : List Request) (written : List ℕ) (new : State) : Type 0 where
   pub failed : ℕ
   pub answered : Answered old.machine asked written failed new.machine
-  pub counted : CountsFailures old failed new
+  pub stores : AfterFailures old failed new
 
 -- A script was read to its end, each line of it is answered, and what is written is the replies and nothing else.
 pub record AnswersAll (old : State) (from to before after : Option (List ℕ)) (new : State) : Type 0 where

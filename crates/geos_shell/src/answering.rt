@@ -1,7 +1,7 @@
 //! The lines of a script and their replies, as the script comes piece by piece.
 ghost use Rattle.std.specs.Prelude.{◌≡◌, ◌++◌, ◌∷◌, [], ◌<◌, ◌≤◌, ℕ, List, length, is_some, OnOk, OnErr};
 ghost use Rattle.geos_model.specs.Script.{line_feed, lines, requests};
-ghost use Rattle.geos_shell.specs.Runs.{State, AnswersOf, state_of};
+ghost use Rattle.geos_shell.specs.Runs.{State, AnswersOf, AreHonest, state_of};
 ghost use Rattle.geos_shell.specs.Progress.{HasNoFeed, StandsFor, ProgressOf, GoesOver, StopsIn};
 
 use crate::replies::answer_line;
@@ -69,6 +69,7 @@ impl<S: Store> Answering<S> {
     pub(crate) fn end(&mut self, alloc: Global) -> Result<(), AllocError>
         ensures ok { OnOk result ((start : State) (read sent : List ℕ) → ProgressOf S.facts start read sent self.old
             → AnswersOf start (requests (lines read)) (sent ++ self.new.replies.items) (state_of S.facts (is_some self.new.target) self.new.session)) }
+        ensures honest { OnOk result (AreHonest S.facts self.old.session self.old.target → AreHonest S.facts self.new.session self.new.target) }
         ensures err { OnErr result ((0 < length self.old.begun.items) × (self.new.replies.items ≡ self.old.replies.items)) }
     {
         if self.begun.is_empty() {

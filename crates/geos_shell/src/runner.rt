@@ -1,4 +1,4 @@
-ghost use Rattle.std.specs.Prelude.{◌≡◌, ◌⊎◌, Bool, [], is_some, IfOk, IfErr, OnOk, ◌<◌, length};
+ghost use Rattle.std.specs.Prelude.{◌≡◌, ◌⊎◌, Bool, [], is_some, IsTrue, IfOk, IfErr, OnOk, ◌<◌, length};
 ghost use Rattle.std.specs.Io.KnownBytes.{Appends, IsAtEnd, Keeps};
 ghost use Rattle.geos_shell.specs.Runs.{AreHonest, AnswersAll, EndsBy, state_of};
 ghost use Rattle.geos_shell.specs.Given.{Gives};
@@ -43,6 +43,11 @@ impl fmt::Display for RunFault {
 ///
 /// The target is where the script's first save-as goes that goes well: its store is the session's from then on, and the store
 /// before is dropped. A later save-as has no target, as the first one has none where there is none to begin with.
+///
+/// Over an honest store and target, the session handed back has the document, the records and the acknowledged documents that the
+/// answers lead to, and an honest store. A crash now leaves that with the documents acknowledged last or with those of a commit
+/// that failed since, as a session's `validity` says; where no call of a store failed in this run, with those of none that failed
+/// in it. A session that isn't handed back is dropped, with nothing more written.
 pub fn run<S: Store, R: Read, W: Write>(
     alloc: Global,
     session: Session<S>,
@@ -53,6 +58,7 @@ pub fn run<S: Store, R: Read, W: Write>(
     // Where the run ends well, a whole script was read and each line of it answered.
     ensures ok { IfOk result (λ after. AreHonest S.facts session target → (left : Bool)
         × AnswersAll (state_of S.facts (is_some target) session) (R.remaining reader.old) (R.remaining reader.new) (W.contents writer.old) (W.contents writer.new) (state_of S.facts left after)) }
+    ensures honest { IfOk result (λ after. AreHonest S.facts session target → IsTrue (S.facts after.disk.store).honest) }
     // Where reading fails, each line that had ended is answered; where memory runs out, the first ones.
     ensures err { IfErr result (λ fault. AreHonest S.facts session target
         → EndsBy fault (state_of S.facts (is_some target) session) (R.remaining reader.old) (R.remaining reader.new) (W.contents writer.old) (W.contents writer.new)) }

@@ -28,17 +28,17 @@ returns-clause-ok g c = λ honest.
       | in-Update w ↦
           rw (w.in-Update.is, w.session-is, w.target-is)
           (responds_on_ok facts w.push_accepted-in-Update.result _ _ _ _ _ _ _ _ refl
-          (serves_commit facts _ _ _ _ _ w.update.ensures.commits.honest w.update.ensures.commits.failures w.update.ensures.step honest)
+          (serves_commit facts _ _ _ _ _ _ _ w.update.ensures.commits w.update.ensures.passes w.update.ensures.file w.update.ensures.step honest)
           (sym w.branch'-is ∙ c.in_ok-push_look_up.was) w.push_accepted-in-Update.ensures.ok (rw w.out-is at ended))
       | in-Save w ↦
           rw (w.in-Save.is, w.session-is, w.target-is)
           (responds_on_ok facts w.push_accepted-in-Save.result _ _ _ _ _ _ _ _ refl
-          (serves_commit facts _ _ _ _ _ w.save.ensures.commits.honest w.save.ensures.commits.failures w.save.ensures.step honest)
+          (serves_commit facts _ _ _ _ _ _ _ w.save.ensures.commits w.save.ensures.passes w.save.ensures.file w.save.ensures.step honest)
           (sym w.branch'-is ∙ c.in_ok-push_look_up.was) w.push_accepted-in-Save.ensures.ok (rw w.out-is at ended))
       | in-Revert w ↦
           rw (w.in-Revert.is, w.session-is, w.target-is)
           (responds_on_ok facts w.push_accepted-in-Revert.result _ _ _ _ _ _ _ _ refl
-          (serves_commit facts _ _ _ _ _ w.revert.ensures.commits.honest w.revert.ensures.commits.failures w.revert.ensures.step honest)
+          (serves_commit facts _ _ _ _ _ _ _ w.revert.ensures.commits w.revert.ensures.passes w.revert.ensures.file w.revert.ensures.step honest)
           (sym w.branch'-is ∙ c.in_ok-push_look_up.was) w.push_accepted-in-Revert.ensures.ok (rw w.out-is at ended))
       | in-SaveAs w ↦
           rw (w.in-SaveAs.is, w.session-is, w.target-is)

@@ -7,4 +7,4 @@ pub returns : goal.returns
 returns g c =
     let was = sym c.take.ensures.value ∙ c.in-Some.is in
     let refused = c.in-Err.ensures in
-    rw was (serves_refused g.S.Store.facts c.args.session.now c.save_as.new.self c.in-Some.store c.in-Err.refused.store c.in-Err.refused.fault _ refused.err refused.commits.honest refused.honest)
+    rw was (serves_refused g.S.Store.facts c.args.session.now c.save_as.new.self c.in-Some.store c.in-Err.refused.store c.in-Err.refused.fault refused.err refused.passes refused.commits.honest refused.honest)

@@ -5,7 +5,13 @@ use Rattle.geos_shell.proofs.runner.answer_rest.Goals as goal
 pub returns-in-Ok-clause-ok : goal.returns-in-Ok-clause-ok
 returns-in-Ok-clause-ok g c =
     let new = c.end-ended.new.self in
-    record { left = is_some new.target; written = new.replies.items; appended = c.in_ok-send.ensures.ok; answered = c.in-Ok.ensures.ok }
+    record {
+      left = is_some new.target;
+      written = new.replies.items;
+      appended = c.in_ok-send.ensures.ok;
+      honest = λ honest. (c.in-Ok.ensures.honest honest).0;
+      answered = c.in-Ok.ensures.ok;
+    }
 
 -- No memory for the last line: those before it are answered.
 pub returns-in-Err-clause-err : goal.returns-in-Err-clause-err

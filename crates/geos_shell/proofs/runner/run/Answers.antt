@@ -25,6 +25,9 @@ returns-in-End-clause-ok g c =
     let gives = rw c.in-End.is at c.in_ok-read_piece.ensures.ok in
     IfOk-weaker c.answer_rest.result _ _ (λ new rest honest. (rest.left, AnswersAll-end (c.loop.invariant honest) to after new gives.0 gives.1 rest)) c.answer_rest.ensures.ok
 
+pub returns-in-End-clause-honest : goal.returns-in-End-clause-honest
+returns-in-End-clause-honest g c = IfOk-weaker c.answer_rest.result _ _ (λ new rest honest. rest.honest (c.loop.invariant honest).progress.0) c.answer_rest.ensures.ok
+
 -- The script ended, and its last line stopped the run.
 pub returns-in-End-clause-err : goal.returns-in-End-clause-err
 returns-in-End-clause-err g c =

@@ -3,8 +3,8 @@ use Rattle.std.proofs.Common.{sym, ◌∙◌}
 use Rattle.dialogues.proofs.Going.{goes}
 use Rattle.dialogues.proofs.dialogue.Dialogue.hold_on.Goals as goal
 
-pub returns-then-eq : goal.returns-then-eq
-returns-then-eq g c honest =
+pub returns-then-eq-clause-answers : goal.returns-then-eq-clause-answers
+returns-then-eq-clause-answers g c honest =
     let same = (bytes_decides c.as_slice.result.now c.as_bytes-2.result.now).0 (sym c.if-eq.ensures) in
     let all = (rw c.as_bytes.ensures.value at c.in_ok-session.ensures.ok) honest in
     (all.0, goes _ _ _ _ _ _ _ c.new-written.ensures.items all.1 (sym c.as_slice.ensures.value ∙ (same ∙ c.as_bytes-2.ensures.value)) _ (sym c.self.view_is))

@@ -12,6 +12,9 @@ returns-then-is_empty-clause-ok g c start read sent p =
     let none : length old.begun.items ≡ 0 = grind (arith, nat_tests, old.begun.ok.0) in
     Answered-all p.1 none
 
+pub returns-then-is_empty-clause-honest : goal.returns-then-is_empty-clause-honest
+returns-then-is_empty-clause-honest g c = λ honest. honest
+
 -- What is kept is the last line.
 pub returns-clause-ok : goal.returns-clause-ok
 returns-clause-ok g c =
@@ -21,3 +24,6 @@ returns-clause-ok g c =
     let h = responds p.0 in
     let answers = rw c.deref.ensures.value at h.answers in
     rw (h.text, ← append_assoc sent old.replies.items h.written) (Answered-last p.1 h.written some answers)) c.answer_line.ensures.ok
+
+pub returns-clause-honest : goal.returns-clause-honest
+returns-clause-honest g c = on_ok_weaker c.answer_line.result (λ responds honest. (responds honest).honest) c.answer_line.ensures.ok
