@@ -269,6 +269,7 @@ module _ {S : Type 0} (facts : S → StoreFacts) (a b : S) (live : Table) (slots
       settled = sound_settled facts b live now err_sound;
       ok = tt;
       numbered = tt;
+      still_numbered = λ so was none. sound_numbered facts b live now err_sound (subst IsTrue (sym call.honest) so) none;
       err = λ so.
           let documents = settle_committed now_formed has_all so ∙ ap (documents_in (facts a).content) same_pair in
           (ap (λ (d : Documents). d.0) documents, ap (λ (d : Documents). d.1) documents);
@@ -301,6 +302,7 @@ module _ {S : Type 0} (facts : S → StoreFacts) (a b : S) (live : Table) (slots
       settled = sound_settled facts b live now ok_sound;
       ok = λ so. (settle_committed turned_is turned_has so ∙ ap (λ (s : Slots). documents_in (facts a).content s.committed) is, settle_attempted turned_is turned_has so ∙ ap (λ (s : Slots). attempted_in (facts a).content s.other) is);
       numbered = λ so. sound_numbered facts b live now ok_sound (subst IsTrue (sym call.honest) so) (ap (λ (s : Slots). attempted_in (facts b).content s.other) is);
+      still_numbered = tt;
       err = tt;
       adds = tt;
       sequence = ap (λ (s : Slots). s.sequence) is;

@@ -6,7 +6,7 @@ use Rattle.vm_store.specs.Facts.{StoreFacts, IsTimely}
 use Rattle.geos_model.specs.Document.{Document}
 use Rattle.geos_model.specs.declared.fault.Fault.{Fault}
 use Rattle.vm_file.specs.Documents.{Documents}
-use Rattle.vm_file.specs.Disk.{Disk, readable, StandsForOne, Settled, IsSettled, Crash, Drifts, Passes, AddsNothing, Commits}
+use Rattle.vm_file.specs.Disk.{Disk, readable, StandsForOne, Settled, IsSettled, Numbered, Crash, Drifts, Passes, AddsNothing, Commits}
 use Rattle.vm_file.specs.Passing.{PassingLaw}
 use Rattle.vm_file.proofs.Results.{on_ok_both, on_err_both}
 
@@ -67,6 +67,10 @@ module _ {S : Type 0} (facts : S → StoreFacts) where
         Crash-trans _ _ _ _ (p.crash so) (subst P (same_readable a b p so) (q.crash (still a b p.honest so)));
   }
 
+  -- the number stays, where no other pair may be read
+  Passes-numbered : (a b : Disk S) → Passes facts a b → IsTrue (facts a.store).honest → (a.attempted ≡ [] → Numbered (facts a.store) a.sequence) → b.attempted ≡ [] → Numbered (facts b.store) b.sequence
+  Passes-numbered a b p so was none = let before = sym (p.attempted so) ∙ none in p.numbered so before (was before)
+
   -- what a crash may leave stays one of what may be read
   pub Passes-settled : (a b : Disk S) → IsTimely (facts a.store) → IsTimely (facts b.store) → Passes facts a b → IsSettled facts a → IsSettled facts b
   Passes-settled a b timely later p settled so c left =
@@ -96,6 +100,7 @@ module _ {S : Type 0} (facts : S → StoreFacts) where
     settled = settled;
     ok = tt;
     numbered = tt;
+    still_numbered = λ _ was none. was none;
     err = λ _. (refl, refl);
     adds = λ _. inr (record { crash = Crash-refl _ _; attempted = inl refl });
     sequence = refl;
@@ -110,6 +115,7 @@ module _ {S : Type 0} (facts : S → StoreFacts) where
     settled = settled;
     ok = tt;
     numbered = tt;
+    still_numbered = λ so was none. Passes-numbered a b p so was none;
     err = λ so. (p.updated so, p.saved so);
     adds = λ so. inr (Passes-adds a b p so);
     sequence = p.sequence;
@@ -138,6 +144,7 @@ module _ {S : Type 0} (facts : S → StoreFacts) where
         settled = q.settled;
         ok = on_ok_weaker result (λ given so. ((given (now so)).0 ∙ same so, (given (now so)).1)) q.ok;
         numbered = on_ok_weaker result (λ given so. given (now so)) q.numbered;
+        still_numbered = on_err_weaker result (λ given so was none. given (now so) (Passes-numbered a b p so was) none) q.still_numbered;
         err = on_err_weaker result (λ given so. ((given (now so)).0 ∙ p.updated so, (given (now so)).1 ∙ p.saved so)) q.err;
         adds = on_err_weaker result (λ given so. elim (given (now so)) as (λ _. (c.attempted ≡ first ∷ []) ⊎ AddsNothing facts a c) [
           | inl tried ↦ inl (tried ∙ ap (λ d. d ∷ []) (same so))
@@ -181,6 +188,7 @@ module _ {S : Type 0} (facts : S → StoreFacts) where
           settled = settled;
           ok = on_ok_weaker result (λ given so. ((λ i. (q.updated (now so) i, q.saved (now so) i)) ∙ (given so).0, q.attempted (now so) ∙ (given so).1)) p.ok;
           numbered = on_ok_both result (λ given ok so. q.numbered (now so) (ok so).1 (given so)) p.numbered p.ok;
+          still_numbered = on_err_weaker result (λ given so was none. Passes-numbered b c q (now so) (given so was) none) p.still_numbered;
           err = on_err_weaker result (λ given so. (q.updated (now so) ∙ (given so).0, q.saved (now so) ∙ (given so).1)) p.err;
           adds = on_err_both result (λ given same so. elim (given so) as (λ _. (c.attempted ≡ pair ∷ []) ⊎ AddsNothing facts a c) [
             | inl tried ↦ inl (q.attempted (now so) ∙ tried)

@@ -101,4 +101,6 @@ pub record Commits {S : Type 0} (facts : S → StoreFacts) (pair : Documents) (o
   -- where its last step failed, the pair may be read from then on; where an earlier one did, nothing of it can be, at any moment
   pub adds : OnErr result (IsTrue (facts old.store).honest → (new.attempted ≡ pair ∷ []) ⊎ AddsNothing facts old new)
   pub numbered : OnOk result (IsTrue (facts old.store).honest → Numbered (facts new.store) new.sequence)
+  -- a refusal keeps the number, where no pair of a commit that failed may be read
+  pub still_numbered : OnErr result (IsTrue (facts old.store).honest → (old.attempted ≡ [] → Numbered (facts old.store) old.sequence) → new.attempted ≡ [] → Numbered (facts new.store) new.sequence)
   pub sequence : MatchResult result (λ _. new.sequence ≡ old.sequence + 1) (λ _. new.sequence ≡ old.sequence)
