@@ -1,11 +1,11 @@
 -- How a session and a target for a save-as serve a command.
-use Rattle.std.proofs.Common.{◌≡◌, ◌≢◌, ◌⊎◌, ℕ, ◌+◌, ◌≤◌, ◌||◌, min, Bool, true, false, cond, nat_le, [], Option, None, Some, is_some, IsTrue, Result, Ok, Err, IfErr, refl, sym, ap, subst, inl, inr, arith}
+use Rattle.std.proofs.Common.{◌≡◌, ◌≢◌, ◌⊎◌, ℕ, ◌+◌, ◌≤◌, ◌||◌, min, Bool, true, false, cond, nat_le, [], Option, Some, is_some, IsTrue, Result, Ok, Err, IfErr, refl, sym, ap, subst, inl, inr, arith}
 use Rattle.std.specs.Prelude.{IsErrOf}
 use Rattle.std.proofs.lemmas.Bool.{leb-true, or_left}
-use Rattle.geos_model.specs.Reply.{Reply, Accepted, Refused}
+use Rattle.geos_model.specs.Reply.{Reply, Refused}
 use Rattle.geos_model.specs.Machine.{Step}
 use Rattle.geos_model.specs.declared.fault.Fault.{Fault}
-use Rattle.geos_model.specs.declared.fault.Fault.TheVariants.{File, NoTarget}
+use Rattle.geos_model.specs.declared.fault.Fault.TheVariants.{File}
 use Rattle.geos_model.specs.declared.command.Command.{Command}
 use Rattle.geos_model.specs.declared.command.Command.TheVariants as commands
 use Rattle.vm_store.specs.Facts.{StoreFacts, Raised, last_count, raised}
@@ -14,8 +14,7 @@ use Rattle.vm_file.specs.Documents.{Documents}
 use Rattle.undo_log.specs.Records.{SessionState, machine_of, has_failed}
 use Rattle.undo_log.proofs.CommitSteps.{failed_true}
 use Rattle.geos_shell.specs.Runs.{AreHonest}
-use Rattle.geos_shell.specs.Replies.{Serves, state_held}
-use Rattle.geos_shell.proofs.Composed.{AfterFailures-none}
+use Rattle.geos_shell.specs.Replies.{Serves}
 
 -- where a count rose, by one at least or to the last value
 counts_if : (rose : Bool) (m n : ℕ) → nat_le (raised m) n ≡ rose → m ≤ n → min (m + cond rose 1 0) last_count ≤ n
@@ -70,24 +69,6 @@ module _ {S : Type 0} (facts : S → StoreFacts) where
           counted = λ none. (none, counts_if failed before.failures after.failures refl commits.failures);
           adds = λ none. adds_by_commit pair old.disk new.disk result commits passes file honest.0 (λ raised. not_failed failed none (failed_true before after raised));
         };
-      }
-
-  -- a save-as with no target
-  pub serves_none : (session : SessionState S) → AreHonest facts session None → Serves facts (session, None) commands.SaveAs (Refused NoTarget) (session, None)
-  serves_none session honest =
-      record { honest = honest; failed = false; step = inl refl; stores = AfterFailures-none (state_held facts (session, None)) }
-
-  -- a save-as that went well
-  pub serves_save_as : (old new : SessionState S) (target : S)
-      → (IsTrue (facts old.disk.store).honest → IsTrue (facts target).honest → Step false (machine_of true old) (Some commands.SaveAs) Accepted (machine_of false new))
-      → (facts new.disk.store).honest ≡ (facts target).honest → new.disk.attempted ≡ []
-      → AreHonest facts old (Some target) → Serves facts (old, Some target) commands.SaveAs Accepted (new, None)
-  serves_save_as old new target step same fresh honest =
-      record {
-        honest = (subst IsTrue (sym same) honest.1, tt);
-        failed = false;
-        step = step honest.0 honest.1;
-        stores = record { counted = λ none. absurd (not_both none); adds = λ _. inr fresh };
       }
 
   -- a save-as that was refused, after which the target is there again
