@@ -1,0 +1,12 @@
+//! Chains and trees of raw blocks: walked, measured and compared, and planned to be copied or freed. No call changes the document.
+#![tactic(auto)]
+
+mod comparing;
+mod measuring;
+mod planning;
+mod walking;
+
+pub use comparing::equal;
+pub use measuring::size;
+pub use planning::{Member, copy_plan, free_plan};
+pub use walking::walk;
