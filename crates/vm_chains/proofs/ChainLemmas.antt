@@ -1,13 +1,13 @@
 -- What the blocks of a chain are.
 use Rattle.std.proofs.Common.{◌≡◌, ℕ, zero, suc, ◌≤◌, List, [], ◌∷◌, ◌++◌, true, Option, Some, None, length, get_or, unwrap_or, refl, sym, ap, subst, ◌∙◌, inl, inr, arith}
-use Rattle.std.proofs.lemmas.Bool.{cases_Bool, cond-true, cond-false, and_parts}
+use Rattle.std.proofs.lemmas.Bool.{cases_Bool, cond-true, cond-false}
 use Rattle.std.proofs.lemmas.List.{length-map, get_or-map}
 use Rattle.std.proofs.lemmas.List.Elements.{All-nil, All-cons}
 use Rattle.std.specs.List.{All}
 use Rattle.std.specs.FinMap.{get}
 use Rattle.std.specs.Option.{option_map, option_map_or, option_and_then}
-use Rattle.geos_model.specs.Chain.{blocks_from, chain, chain_blocks, if_distinct, is_linked, is_member, links, relinked, relinked_block}
-use Rattle.geos_model.specs.Document.{Block, Document, IsValid, most_blocks, is_raw, raw_bytes_of, bytes_of_body, user_id_of, block_at}
+use Rattle.geos_model.specs.Chain.{blocks_from, chain, chain_blocks, if_distinct, is_member, links, relinked, relinked_block}
+use Rattle.geos_model.specs.Document.{Block, Document, IsValid, most_blocks, raw_bytes_of, bytes_of_body, user_id_of, block_at}
 use Rattle.geos_model.specs.declared.command.Body.TheVariants.{Raw}
 use Rattle.geos_model.specs.ElementArray.{all_distinct}
 use Rattle.geos_model.specs.declared.handle.VmHandle.{VmHandle}
@@ -67,10 +67,6 @@ are_members d root hs valid is =
       distinct = all.1;
       few = omega (arith, length-map hs (λ (h : VmHandle). h.0), all.0.few);
     }
-
--- a block of a chain is raw
-pub member_raw : (d : Document) (h : ℕ) → is_member d h ≡ true → is_raw d h ≡ true
-member_raw d h member = (and_parts (is_raw d h) (is_linked (raw_bytes_of d h)) member).0
 
 -- a block of a copy
 pub renamed_block : (d : Document) (h user_id : ℕ) (bytes : List ℕ) (rename given : ℕ → ℕ) → user_id ≡ user_id_of d h → bytes ≡ relinked rename (raw_bytes_of d h) → ((k : ℕ) → rename k ≡ given k) → ◌≡◌ {A = Block} (record { user_id = user_id; body = Raw bytes }) (relinked_block given (block_at d h))

@@ -1,10 +1,9 @@
 -- Blocks of a copy, planned one by one.
-use Rattle.std.proofs.Common.{◌≡◌, ℕ, zero, suc, take, ◌+◌, ◌-◌, ◌<◌, ◌≤◌, List, [], ◌∷◌, ◌++◌, true, false, not, cond, length, drop, map, get_or, Some, nat_lt, lt-ltb, le-ltb, refl, sym, ap, ◌∙◌, arith}
+use Rattle.std.proofs.Common.{◌≡◌, ℕ, zero, suc, take, ◌+◌, ◌-◌, ◌<◌, ◌≤◌, List, [], ◌∷◌, ◌++◌, true, false, not, cond, length, drop, map, get_or, refl, sym, ap, ◌∙◌, arith}
 use Rattle.std.proofs.lemmas.Bool.{cond-true, cond-false}
-use Rattle.std.proofs.lemmas.List.{append_assoc, append-nil, length_push, drop_more, map-append, length-map, length-take}
+use Rattle.std.proofs.lemmas.List.{append_assoc, append-nil, length_push, drop_more, map-append}
 use Rattle.std.specs.List.{zip, filter, range_with_len}
-use Rattle.geos_model.specs.Chain.{chain, chain_blocks, copies_of, free_handles, name_of, new_handles, relinked_block, renamed_blocks}
-use Rattle.vm_chains.proofs.ChainLemmas.{blocks_are}
+use Rattle.geos_model.specs.Chain.{free_handles, name_of, relinked_block}
 use Rattle.geos_model.specs.Document.{Block, Document, block_at, is_live, most_blocks, vm_handles}
 use Rattle.geos_model.specs.declared.handle.VmHandle.{VmHandle}
 use Rattle.vm_blocks.specs.Saved.{saved_block}
@@ -68,32 +67,7 @@ take_none : (n : ℕ) → take n [] ≡ (let none : List ℕ = [] in none)
 take_none zero = refl
 take_none (suc n) = refl
 
--- all that are wanted
-pub new_all : (found : List VmHandle) (wanted : ℕ) (rest all : List ℕ) → length found ≡ wanted → numbers found ++ take (wanted - length found) rest ≡ all → numbers found ≡ all
-new_all found wanted rest all enough so_far =
-    let none : wanted - length found ≡ 0 = omega arith in
-    sym (append-nil (numbers found)) ∙ sym (ap (λ (k : ℕ). numbers found ++ take k rest) none) ∙ so_far
-
 -- all that there are
 pub new_end : (found : List VmHandle) (n : ℕ) (rest all : List ℕ) → rest ≡ [] → numbers found ++ take n rest ≡ all → numbers found ≡ all
 new_end found n rest all none so_far =
     sym (append-nil (numbers found)) ∙ sym (ap (λ (xs : List ℕ). numbers found ++ xs) (ap (λ (xs : List ℕ). take n xs) none ∙ take_none n)) ∙ so_far
-
--- Whether there are enough, by what was found.
-module _ (d : Document) (root : ℕ) (met new : List VmHandle) (n : ℕ) (is : chain d root ≡ Some (numbers met)) (n_is : n ≡ length met) (new_is : numbers new ≡ new_handles d n) where
-  wanted : length (chain_blocks d root) ≡ n
-  wanted = ap (λ (xs : List ℕ). length xs) (blocks_are d root (numbers met) is) ∙ length-map met (λ (h : VmHandle). h.0) ∙ sym n_is
-
-  got : length new ≡ length (take n (free_handles d))
-  got = sym (length-map new (λ (h : VmHandle). h.0)) ∙ ap (λ (xs : List ℕ). length xs) new_is
-
-  pub too_few : length new < length met → nat_lt (length (free_handles d)) (length (chain_blocks d root)) ≡ true
-  too_few less = lt-ltb (length (free_handles d)) (length (chain_blocks d root)) (omega (arith, wanted, got, n_is, length-take n (free_handles d)))
-
-  pub enough : length met ≤ length new → (nat_lt (length (free_handles d)) (length (chain_blocks d root)) ≡ false) × (length met ≡ length new)
-  enough more = (le-ltb (length (free_handles d)) (length (chain_blocks d root)) (omega (arith, wanted, got, n_is, length-take n (free_handles d))), omega (arith, got, n_is, length-take n (free_handles d)))
-
-  pub copies_are : renamed_blocks d (numbers met) (numbers new) ≡ copies_of d (chain_blocks d root)
-  copies_are =
-      let same = blocks_are d root (numbers met) is in
-      λ j. renamed_blocks d (sym same j) ((new_is ∙ ap (λ (k : ℕ). new_handles d k) (sym wanted)) j)

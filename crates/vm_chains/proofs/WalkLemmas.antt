@@ -71,13 +71,6 @@ before : (met : List ℕ) (o : Option (List ℕ)) (h : ℕ) → option_map (λ h
 before met None h = refl
 before met (Some hs) h = ap (λ (x : List ℕ). Some x) (sym (append_assoc met (h ∷ []) hs))
 
-nothing_before : (o : Option (List ℕ)) → o ≡ option_map (λ hs. [] ++ hs) o
-nothing_before None = refl
-nothing_before (Some hs) = refl
-
-pub walk_begins : (d : Document) (root : ℕ) → IsWalk d root most_blocks [] (root ∷ [])
-walk_begins d root = record { rest = nothing_before (blocks_from most_blocks d (root ∷ [])); distinct = refl }
-
 -- so it is of what is the same
 pub same_walk : (d : Document) (root n m : ℕ) (met ps qs : List ℕ) → IsWalk d root n met ps → n ≡ m → ps ≡ qs → IsWalk d root m met qs
 same_walk d root n m met ps qs w e p = subst (λ (k : ℕ). IsWalk d root k met qs) e (subst (λ (x : List ℕ). IsWalk d root n met x) p w)
