@@ -9,6 +9,7 @@ pub mod ElementEdits
 pub mod NameEdits
 pub mod Heap
 pub mod Document
+pub mod Chain
 pub mod Meaning
 pub mod Image
 pub mod File

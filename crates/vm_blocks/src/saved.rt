@@ -102,6 +102,15 @@ impl SavedRaw {
         Ok(SavedRaw { bytes })
     }
 
+    /// A body of these bytes.
+    pub fn from_vec(bytes: Vec<u8>) -> SavedRaw
+        requires { length bytes.items ≤ capacity }
+        ensures { result ≡ bytes.items }
+    {
+        let bytes = Bytes::from_vec(bytes);
+        SavedRaw { bytes }
+    }
+
     /// The body as it is now.
     pub fn of(alloc: Global, body: &RawBody) -> Result<SavedRaw, AllocError>
         ensures { IfOk result (λ saved. saved ≡ body.now) }
@@ -173,6 +182,15 @@ impl SavedBlock {
     {
         let body = SavedBody::Raw(SavedRaw::zeros(alloc, size)?);
         Ok(SavedBlock { user_id, body })
+    }
+
+    /// A raw block of these bytes.
+    pub fn raw(user_id: u16, bytes: Vec<u8>) -> SavedBlock
+        requires { length bytes.items ≤ capacity }
+        ensures { saved_block result ≡ record { user_id = user_id; body = bodies.Raw bytes.items } }
+    {
+        let body = SavedBody::Raw(SavedRaw::from_vec(bytes));
+        SavedBlock { user_id, body }
     }
 
     /// A block with an empty heap.

@@ -1,0 +1,13 @@
+//! Tests of chains: the bodies that can be in one, walks, sizes, comparisons, and plans of copies and of what is freed.
+#![tactic(auto)]
+
+#[cfg(test)]
+mod bodies;
+#[cfg(test)]
+mod comparing;
+#[cfg(test)]
+mod documents;
+#[cfg(test)]
+mod planning;
+#[cfg(test)]
+mod walking;

@@ -1,0 +1,167 @@
+// Walks along chains, and what they measure.
+use crate::documents::{document, meets, put, put_heap, tree, walked};
+use geos_model::{Fault, VmHandle};
+use std::alloc::Global;
+use std::test::Fail;
+use vm_blocks::Blocks;
+use vm_chains::{size, walk};
+
+#[test]
+fn a_tree_is_met_block_before_branches(rt: HostRuntime) -> Result<(), Fail> {
+    let mut blocks = tree(rt.alloc())?;
+    assert!(rt; meets(rt.alloc(), &mut blocks, 3, &[3, 1, 2, 4])?);
+    assert!(rt; meets(rt.alloc(), &mut blocks, 1, &[1, 2])?);
+    assert_eq!(rt; size(rt.alloc(), &mut blocks, VmHandle(3))?, 21);
+    assert_eq!(rt; size(rt.alloc(), &mut blocks, VmHandle(1))?, 4);
+    Ok(())
+}
+
+#[test]
+fn the_root_is_a_live_raw_block(rt: HostRuntime) -> Result<(), Fail> {
+    let mut blocks = document(rt.alloc(), &[b"\x02\0"])?;
+    assert!(rt;
+        matches!(
+            walk(rt.alloc(), &mut blocks, VmHandle(2)),
+            Err(Fault::NoBlock)
+        )
+    );
+    assert!(rt;
+        matches!(
+            walk(rt.alloc(), &mut blocks, VmHandle(0)),
+            Err(Fault::NoBlock)
+        )
+    );
+    assert!(rt;
+        matches!(
+            walk(rt.alloc(), &mut blocks, VmHandle(2_049)),
+            Err(Fault::NoBlock)
+        )
+    );
+    put_heap(rt.alloc(), &mut blocks, 2)?;
+    assert!(rt;
+        matches!(
+            walk(rt.alloc(), &mut blocks, VmHandle(2)),
+            Err(Fault::WrongKind)
+        )
+    );
+    assert!(rt;
+        matches!(
+            size(rt.alloc(), &mut blocks, VmHandle(2)),
+            Err(Fault::WrongKind)
+        )
+    );
+    Ok(())
+}
+
+#[test]
+fn each_link_is_to_a_live_raw_block(rt: HostRuntime) -> Result<(), Fail> {
+    let mut blocks = document(rt.alloc(), &[b"\x02\0"])?;
+    assert!(rt;
+        matches!(
+            walk(rt.alloc(), &mut blocks, VmHandle(1)),
+            Err(Fault::BadChain)
+        )
+    );
+    assert!(rt;
+        matches!(
+            size(rt.alloc(), &mut blocks, VmHandle(1)),
+            Err(Fault::BadChain)
+        )
+    );
+    put_heap(rt.alloc(), &mut blocks, 2)?;
+    assert!(rt;
+        matches!(
+            walk(rt.alloc(), &mut blocks, VmHandle(1)),
+            Err(Fault::BadChain)
+        )
+    );
+    put(rt.alloc(), &mut blocks, 2, b"\0\0")?;
+    assert!(rt; meets(rt.alloc(), &mut blocks, 1, &[1, 2])?);
+    put(rt.alloc(), &mut blocks, 2, b"\0")?;
+    assert!(rt;
+        matches!(
+            walk(rt.alloc(), &mut blocks, VmHandle(1)),
+            Err(Fault::BadChain)
+        )
+    );
+    Ok(())
+}
+
+#[test]
+fn no_block_is_met_twice(rt: HostRuntime) -> Result<(), Fail> {
+    // A block that links to itself; two in a ring; a branch to its own root; two branches to one block.
+    let mut blocks = document(
+        rt.alloc(),
+        &[
+            b"\x01\0",
+            b"\x03\0",
+            b"\x02\0",
+            b"\xff\xff\x06\0\x01\0\0\0\x04\0",
+            b"\xff\xff\x06\0\x02\0\0\0\x06\0\0\0\x06\0",
+            b"\0\0",
+        ],
+    )?;
+    for root in [1, 2, 3, 4, 5] {
+        assert!(rt;
+            matches!(
+                walk(rt.alloc(), &mut blocks, VmHandle(root)),
+                Err(Fault::BadChain)
+            )
+        );
+    }
+    assert!(rt; meets(rt.alloc(), &mut blocks, 6, &[6])?);
+    Ok(())
+}
+
+#[test]
+fn null_branches_are_passed_over(rt: HostRuntime) -> Result<(), Fail> {
+    let mut blocks = document(
+        rt.alloc(),
+        &[
+            b"\xff\xff\x08\0\x04\0no\0\0\0\0\0\0\x03\0\0\0\0\0\0\0\x02\0end",
+            b"\0\0",
+            b"\0\0",
+        ],
+    )?;
+    assert!(rt; meets(rt.alloc(), &mut blocks, 1, &[1, 3, 2])?);
+    Ok(())
+}
+
+// Block h links to block h + 1, and the last one to `end`.
+fn longest(alloc: Global, end: u16) -> Result<Blocks, Fault> {
+    let mut blocks = Blocks::new(alloc)?;
+    for handle in 1..2_048u16 {
+        let next = handle + 1;
+        put(alloc, &mut blocks, handle, &next.to_le_bytes())?;
+    }
+    put(alloc, &mut blocks, 2_048, &end.to_le_bytes())?;
+    Ok(blocks)
+}
+
+#[test]
+fn a_chain_has_up_to_2048_blocks(rt: HostRuntime) -> Result<(), Fail> {
+    let mut blocks = longest(rt.alloc(), 0)?;
+    assert_eq!(rt; size(rt.alloc(), &mut blocks, VmHandle(1))?, 4_096);
+    let handles = walked(rt.alloc(), &mut blocks, 1)?;
+    assert_eq!(rt; handles.len(), 2_048);
+    assert!(rt; handles[2_047] == 2_048);
+    Ok(())
+}
+
+#[test]
+fn a_ring_has_no_end(rt: HostRuntime) -> Result<(), Fail> {
+    let mut blocks = longest(rt.alloc(), 1)?;
+    assert!(rt;
+        matches!(
+            walk(rt.alloc(), &mut blocks, VmHandle(1)),
+            Err(Fault::BadChain)
+        )
+    );
+    assert!(rt;
+        matches!(
+            walk(rt.alloc(), &mut blocks, VmHandle(9)),
+            Err(Fault::BadChain)
+        )
+    );
+    Ok(())
+}

@@ -1,0 +1,121 @@
+-- Steps of a walk along a chain.
+use Rattle.std.proofs.Common.{◌≡◌, ℕ, zero, suc, List, [], ◌∷◌, ◌++◌, Bool, true, false, not, ◌==◌, ◌&&◌, ◌||◌, Option, Some, None, refl, sym, ap, subst, ◌∙◌, inl, inr, append_assoc}
+use Rattle.std.proofs.lemmas.Bool.{cases_Bool, cond-true, cond-false, true≢false, and_parts, or_parts, or_from, or_left, or_right, not-true}
+use Rattle.std.proofs.lemmas.List.{append-nil}
+use Rattle.std.proofs.lemmas.List.Folds.{list_any-append}
+use Rattle.std.specs.List.{list_any}
+use Rattle.std.specs.FinMap.{get}
+use Rattle.std.specs.Option.{option_map, option_map_or, option_and_then}
+use Rattle.geos_model.specs.Chain.{blocks_from, chain, if_distinct, is_linked, is_member, links}
+use Rattle.geos_model.specs.Document.{Block, Document, IsValid, is_heap_body, is_raw, is_vm_handle, most_blocks, raw_bytes_of}
+use Rattle.geos_model.specs.ElementArray.{all_distinct}
+use Rattle.vm_chains.specs.Walking.{IsWalk}
+
+-- What the definition says of the next block that is pending.
+
+pub blocks_from-nil : (n : ℕ) (d : Document) → blocks_from n d [] ≡ Some []
+unfolding blocks_from
+blocks_from-nil zero d = refl
+blocks_from-nil (suc n) d = refl
+
+pub blocks_from-member : (n : ℕ) (d : Document) (h : ℕ) (hs : List ℕ) → is_member d h ≡ true → blocks_from (suc n) d (h ∷ hs) ≡ option_map (λ rest. h ∷ rest) (blocks_from n d (links (raw_bytes_of d h) ++ hs))
+unfolding blocks_from
+blocks_from-member n d h hs member = cond-true (is_member d h) _ _ member
+
+pub blocks_from-other : (n : ℕ) (d : Document) (h : ℕ) (hs : List ℕ) → is_member d h ≡ false → blocks_from n d (h ∷ hs) ≡ None
+unfolding blocks_from
+blocks_from-other zero d h hs other = refl
+blocks_from-other (suc n) d h hs other = cond-false (is_member d h) _ _ other
+
+pub blocks_from-full : (d : Document) (h : ℕ) (hs : List ℕ) → blocks_from zero d (h ∷ hs) ≡ None
+unfolding blocks_from
+blocks_from-full d h hs = refl
+
+chain_is : (d : Document) (root : ℕ) (o : Option (List ℕ)) → blocks_from most_blocks d (root ∷ []) ≡ o → chain d root ≡ option_and_then if_distinct o
+unfolding chain
+chain_is d root o e = ap (λ (x : Option (List ℕ)). option_and_then if_distinct x) e
+
+-- Whether handles are distinct.
+
+and_false : (b : Bool) → (b && false) ≡ false
+and_false true = refl
+and_false false = refl
+
+-- a block that was met
+pub not_distinct : (xs : List ℕ) (h : ℕ) (ys : List ℕ) → list_any (λ x. x == h) xs ≡ true → all_distinct (xs ++ h ∷ ys) ≡ false
+not_distinct [] h ys met = absurd (true≢false (sym met))
+not_distinct (x ∷ xs) h ys met = elim (cases_Bool (x == h)) [
+  | inl here ↦
+      (let last : ((x == h) || list_any (λ y. x == y) ys) ≡ true = or_left (x == h) _ here in
+      let again : list_any (λ y. x == y) (xs ++ h ∷ ys) ≡ true = list_any-append (λ y. x == y) xs (h ∷ ys) ∙ or_right _ _ last in
+      ap (λ (b : Bool). not b && all_distinct (xs ++ h ∷ ys)) again)
+  | inr past ↦
+      (let later : list_any (λ y. y == h) xs ≡ true = subst (λ (b : Bool). (b || list_any (λ y. y == h) xs) ≡ true) past met in
+      ap (λ (b : Bool). not (list_any (λ y. x == y) (xs ++ h ∷ ys)) && b) (not_distinct xs h ys later) ∙ and_false _)
+]
+
+-- a block that wasn't
+pub distinct_push : (xs : List ℕ) (h : ℕ) → all_distinct xs ≡ true → list_any (λ x. x == h) xs ≡ false → all_distinct (xs ++ h ∷ []) ≡ true
+distinct_push [] h distinct new = refl
+distinct_push (x ∷ xs) h distinct new =
+    let apart = and_parts (not (list_any (λ y. x == y) xs)) (all_distinct xs) distinct in
+    let other = or_parts (x == h) (list_any (λ y. y == h) xs) new in
+    let last : ((x == h) || false) ≡ false = or_from (x == h) false other.0 refl in
+    let once : list_any (λ y. x == y) xs ≡ false = not-true (list_any (λ y. x == y) xs) apart.0 in
+    let none : list_any (λ y. x == y) (xs ++ h ∷ []) ≡ false = list_any-append (λ y. x == y) xs (h ∷ []) ∙ or_from _ _ once last in
+    ap (λ (b : Bool). not b && all_distinct (xs ++ h ∷ [])) none ∙ distinct_push xs h apart.1 other.1
+
+-- The walk.
+
+before : (met : List ℕ) (o : Option (List ℕ)) (h : ℕ) → option_map (λ hs. met ++ hs) (option_map (λ hs. h ∷ hs) o) ≡ option_map (λ hs. (met ++ h ∷ []) ++ hs) o
+before met None h = refl
+before met (Some hs) h = ap (λ (x : List ℕ). Some x) (sym (append_assoc met (h ∷ []) hs))
+
+-- so it is of what is the same
+pub same_walk : (d : Document) (root n m : ℕ) (met ps qs : List ℕ) → IsWalk d root n met ps → n ≡ m → ps ≡ qs → IsWalk d root m met qs
+same_walk d root n m met ps qs w e p = subst (λ (k : ℕ). IsWalk d root k met qs) e (subst (λ (x : List ℕ). IsWalk d root n met x) p w)
+
+module _ (d : Document) (root n : ℕ) (met : List ℕ) where
+  -- nothing is pending
+  pub walk_ends : IsWalk d root n met [] → chain d root ≡ Some met
+  walk_ends w =
+      chain_is d root (Some (met ++ [])) (w.rest ∙ ap (λ (o : Option (List ℕ)). option_map (λ hs. met ++ hs) o) (blocks_from-nil n d))
+      ∙ ap if_distinct (append-nil met) ∙ cond-true (all_distinct met) _ _ w.distinct
+
+  module _ (h : ℕ) (hs : List ℕ) where
+    -- the next block is one of a chain, and wasn't met
+    pub walk_goes_on : IsWalk d root (suc n) met (h ∷ hs) → is_member d h ≡ true → list_any (λ x. x == h) met ≡ false → IsWalk d root n (met ++ h ∷ []) (links (raw_bytes_of d h) ++ hs)
+    walk_goes_on w member new = record {
+      rest = w.rest ∙ ap (λ (o : Option (List ℕ)). option_map (λ hs. met ++ hs) o) (blocks_from-member n d h hs member) ∙ before met (blocks_from n d (links (raw_bytes_of d h) ++ hs)) h;
+      distinct = distinct_push met h w.distinct new;
+    }
+
+    none_there : IsWalk d root n met (h ∷ hs) → blocks_from n d (h ∷ hs) ≡ None → chain d root ≡ None
+    none_there w none = chain_is d root None (w.rest ∙ ap (λ (o : Option (List ℕ)). option_map (λ hs. met ++ hs) o) none)
+
+    -- it is none of a chain
+    pub walk_breaks : IsWalk d root n met (h ∷ hs) → is_member d h ≡ false → chain d root ≡ None
+    walk_breaks w other = none_there w (blocks_from-other n d h hs other)
+
+-- it was met
+again : (met : List ℕ) (h : ℕ) (o : Option (List ℕ)) → list_any (λ x. x == h) met ≡ true → option_and_then if_distinct (option_map (λ hs. met ++ hs) (option_map (λ hs. h ∷ hs) o)) ≡ None
+again met h None twice = refl
+again met h (Some hs) twice = cond-false (all_distinct (met ++ h ∷ hs)) _ _ (not_distinct met h hs twice)
+
+pub walk_turns : (d : Document) (root n : ℕ) (met : List ℕ) (h : ℕ) (hs : List ℕ) → IsWalk d root (suc n) met (h ∷ hs) → list_any (λ x. x == h) met ≡ true → chain d root ≡ None
+walk_turns d root n met h hs w twice = elim (cases_Bool (is_member d h)) [
+  | inl member ↦ chain_is d root _ (w.rest ∙ ap (λ (o : Option (List ℕ)). option_map (λ hs. met ++ hs) o) (blocks_from-member n d h hs member)) ∙ again met h _ twice
+  | inr other ↦ walk_breaks d root (suc n) met h hs w other
+]
+
+-- every block was met, and still one is pending
+pub walk_is_full : (d : Document) (root : ℕ) (met : List ℕ) (h : ℕ) (hs : List ℕ) → IsWalk d root zero met (h ∷ hs) → chain d root ≡ None
+walk_is_full d root met h hs w = chain_is d root None (w.rest ∙ ap (λ (o : Option (List ℕ)). option_map (λ hs. met ++ hs) o) (blocks_from-full d h hs))
+
+-- A block of a chain has a handle that a block can have.
+pub member_handle : (d : Document) (h : ℕ) → IsValid d → is_member d h ≡ true → is_vm_handle h ≡ true
+member_handle d h valid member = by_block (get d.blocks h) refl (and_parts (is_raw d h) (is_linked (raw_bytes_of d h)) member).0
+  where
+    by_block : (o : Option Block) → get d.blocks h ≡ o → option_map_or (λ b. not (is_heap_body b.body)) o false ≡ true → is_vm_handle h ≡ true
+    by_block None live e = absurd (cc e)
+    by_block (Some b) live e = (valid.blocks h b live).handle

@@ -1,0 +1,12 @@
+use Rattle.std.proofs.Common.{◌≡◌, drop}
+use Rattle.geos_model.specs.Chain.{same_shape}
+use Rattle.vm_chains.specs.Planned.{numbers}
+use Rattle.vm_chains.proofs.ShapeLemmas.{same_from}
+use Rattle.vm_chains.proofs.comparing.same_shape.Given as goal
+
+-- the bodies are the same if those that are left are
+abbrev pub invariant-loop-i : goal.invariant-loop-i
+invariant-loop-i l = record {
+  rest : same_shape l.fn.blocks (numbers l.first) (numbers l.second) ≡ same_from l.fn.blocks l.first l.second (drop l.i l.first) (drop l.i l.second);
+  same : l.blocks ≡ l.fn.blocks;
+}

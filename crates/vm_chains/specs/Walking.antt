@@ -1,0 +1,41 @@
+-- A walk along a chain.
+use Rattle.std.specs.Prelude.{◌≡◌, ◌≤◌, ◌⊎◌, ℕ, ◌+◌, List, [], ◌∷◌, ◌++◌, Bool, true, false, ◌==◌, length, get_or}
+use Rattle.std.specs.List.{All, list_any}
+use Rattle.std.specs.Option.{option_map}
+use Rattle.geos_model.specs.Chain.{blocks_from, is_member, links}
+use Rattle.geos_model.specs.Document.{Document, is_live, is_raw, is_vm_handle, most_blocks, raw_bytes_of}
+use Rattle.geos_model.specs.ElementArray.{all_distinct}
+use Rattle.geos_model.specs.declared.fault.Fault.{Fault}
+use Rattle.geos_model.specs.declared.fault.Fault.TheVariants.{Memory, NoBlock, WrongKind, BadChain}
+use Rattle.geos_model.specs.declared.handle.VmHandle.{VmHandle}
+use Rattle.vm_chains.specs.Planned.{numbers}
+
+-- the block under a handle can't be the root of a chain
+abbrev pub RefusesRoot : Document → ℕ → Fault → Type 0
+RefusesRoot d h fault = ((fault ≡ NoBlock) × (is_live d h ≡ false)) ⊎ ((fault ≡ WrongKind) × (is_live d h ≡ true) × (is_raw d h ≡ false))
+
+-- want of memory, or BadChain with its cause
+abbrev pub Stops : Type 0 → Fault → Type 0
+Stops cause fault = (fault ≡ Memory) ⊎ ((fault ≡ BadChain) × cause)
+
+-- the block is one of a chain, and what it links to is pending before all else
+pub record GoesOn (d : Document) (h : ℕ) (old new : List ℕ) : Type 0 where
+  pub member : is_member d h ≡ true
+  pub pending : new ≡ links (raw_bytes_of d h) ++ old
+
+-- a mark stands at each of these handles, and at no other
+pub record AreMarked (hs : List ℕ) (marks : List Bool) : Type 0 where
+  pub size : length marks ≡ most_blocks + 1
+  pub marked : (h : ℕ) → get_or marks h false ≡ list_any (λ x. x == h) hs
+
+-- Blocks are met, each once, and the chain has them and then at most so many of those that are pending.
+pub record IsWalk (d : Document) (root n : ℕ) (met pending : List ℕ) : Type 0 where
+  pub rest : blocks_from most_blocks d (root ∷ []) ≡ option_map (λ hs. met ++ hs) (blocks_from n d pending)
+  pub distinct : all_distinct met ≡ true
+
+-- blocks of a chain, each once
+pub record AreMembers (d : Document) (hs : List VmHandle) : Type 0 where
+  pub members : All (λ h. is_member d h.0 ≡ true) hs
+  pub handles : All (λ h. is_vm_handle h.0 ≡ true) hs
+  pub distinct : all_distinct (numbers hs) ≡ true
+  pub few : length hs ≤ most_blocks

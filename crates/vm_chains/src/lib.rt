@@ -1,0 +1,20 @@
+//! Chains and trees of raw blocks: walked, measured and compared, and planned to be copied or freed. No call changes the document.
+#![tactic(auto)]
+
+mod comparing;
+mod links;
+mod measuring;
+mod met;
+mod names;
+mod pending;
+mod planning;
+mod reading;
+mod walking;
+
+pub use comparing::equal;
+pub use measuring::size;
+pub use planning::{Member, copy_plan, free_plan};
+pub use walking::walk;
+
+/// How many blocks a document can have: their handles are 1 to this.
+pub(crate) const MOST_BLOCKS: usize = 2_048;

@@ -1,0 +1,113 @@
+ghost use Rattle.std.specs.Prelude.{◌≡◌, ◌==◌, IfOk, MatchResult, length};
+ghost use Rattle.std.specs.List.{list_any};
+ghost use Rattle.geos_model.specs.Chain.{blocks_of, chain_blocks, copies_of, copy_conditions, free_conditions, new_handles, renamed_blocks};
+ghost use Rattle.geos_model.specs.declared.fault.Fault.TheVariants.{Memory};
+ghost use Rattle.vm_chains.specs.Answers.{Answers};
+ghost use Rattle.vm_chains.specs.Planned.{numbers, planned};
+ghost use Rattle.vm_chains.specs.Walking.{AreMembers};
+
+use crate::names::Names;
+use crate::reading::{relinked_at, saved_at};
+use crate::{MOST_BLOCKS, walk};
+use geos_model::{Fault, VmHandle};
+use std::alloc::{AllocError, Global};
+use vm_blocks::{Blocks, SavedBlock};
+
+/// A block of a chain that is to come in under a handle, or to be taken out from there.
+#[derive(Drop)]
+pub struct Member {
+    pub handle: VmHandle,
+    pub block: SavedBlock,
+}
+
+/// The blocks of a copy of a chain, under handles that are free. They link to one another as those of the chain do.
+pub fn copy_plan(alloc: Global, blocks: &mut Blocks, root: VmHandle) -> Result<Vec<Member>, Fault>
+    ensures value { Answers (copy_conditions blocks.old root.0) (λ plan. planned plan.items ≡ copies_of blocks.old (chain_blocks blocks.old root.0)) result }
+    ensures stays { blocks.new ≡ blocks.old }
+{
+    let handles = walk(alloc, blocks, root)?;
+    let new = free_handles(alloc, blocks, handles.len())?;
+    if new.len() < handles.len() {
+        return Err(Fault::NoHandles);
+    }
+    copies(alloc, blocks, &handles, &new)
+}
+
+/// The blocks of a chain as they are, none of them the map block.
+pub fn free_plan(alloc: Global, blocks: &mut Blocks, root: VmHandle) -> Result<Vec<Member>, Fault>
+    ensures value { Answers (free_conditions blocks.old root.0) (λ plan. planned plan.items ≡ blocks_of blocks.old (chain_blocks blocks.old root.0)) result }
+    ensures stays { blocks.new ≡ blocks.old }
+{
+    let handles = walk(alloc, blocks, root)?;
+    if contains(&handles, blocks.map_block()) {
+        return Err(Fault::IsMap);
+    }
+    saved(alloc, blocks, &handles)
+}
+
+/// Whether a handle is one of these.
+fn contains(handles: &[VmHandle], wanted: VmHandle) -> bool
+    ensures { result ≡ list_any (λ h. h.0 == wanted.0) handles.now }
+{
+    handles.iter().any(|handle| handle.0 == wanted.0)
+}
+
+/// Each of these blocks as it is.
+fn saved(alloc: Global, blocks: &mut Blocks, handles: &[VmHandle]) -> Result<Vec<Member>, Fault>
+    requires { AreMembers blocks.old handles.now }
+    ensures value { MatchResult result (λ plan. planned plan.items ≡ blocks_of blocks.old (numbers handles.now)) (λ fault. fault ≡ Memory) }
+    ensures stays { blocks.new ≡ blocks.old }
+{
+    let mut plan = Vec::new(alloc);
+    for handle in handles {
+        let block = saved_at(alloc, blocks, *handle)?;
+        plan.push(Member {
+            handle: *handle,
+            block,
+        })?;
+    }
+    Ok(plan)
+}
+
+/// The least free handles, rising, as many as these if there are so many.
+fn free_handles(alloc: Global, blocks: &Blocks, wanted: usize) -> Result<Vec<VmHandle>, AllocError>
+    ensures { IfOk result (λ handles. numbers handles.items ≡ new_handles blocks.now wanted) }
+{
+    let mut handles = Vec::new(alloc);
+    for i in 0..MOST_BLOCKS {
+        if handles.len() == wanted {
+            return Ok(handles);
+        }
+        let handle = VmHandle(i as u16 + 1);
+        if !blocks.is_live(handle) {
+            handles.push(handle)?;
+        }
+    }
+    Ok(handles)
+}
+
+/// Each block under the handle at its place, with the handles for links that stand at the places of theirs.
+fn copies(
+    alloc: Global,
+    blocks: &mut Blocks,
+    handles: &[VmHandle],
+    new: &[VmHandle],
+) -> Result<Vec<Member>, Fault>
+    requires members { AreMembers blocks.old handles.now }
+    requires new { length handles.now ≡ length new.now }
+    ensures value { MatchResult result
+        (λ plan. planned plan.items ≡ renamed_blocks blocks.old (numbers handles.now) (numbers new.now)) (λ fault. fault ≡ Memory) }
+    ensures stays { blocks.new ≡ blocks.old }
+{
+    let names = Names::new(alloc, handles, new)?;
+    let mut plan = Vec::new(alloc);
+    for i in 0..handles.len() {
+        let bytes = relinked_at(alloc, blocks, handles[i], &names)?;
+        let block = SavedBlock::raw(blocks.user_id(handles[i]), bytes);
+        plan.push(Member {
+            handle: new[i],
+            block,
+        })?;
+    }
+    Ok(plan)
+}

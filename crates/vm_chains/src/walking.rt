@@ -1,0 +1,89 @@
+ghost use Rattle.std.specs.Prelude.{◌≡◌, None, Some, true, false, IfOk, MatchResult};
+ghost use Rattle.geos_model.specs.Chain.{chain, is_member, on_chain};
+ghost use Rattle.geos_model.specs.Document.{is_raw};
+ghost use Rattle.vm_chains.specs.Answers.{Answers};
+ghost use Rattle.vm_chains.specs.Planned.{numbers};
+ghost use Rattle.vm_chains.specs.Walking.{AreMembers, GoesOn, RefusesRoot, Stops};
+
+use crate::MOST_BLOCKS;
+use crate::links::{links_of, push_links};
+use crate::met::Met;
+use crate::pending::Pending;
+use geos_model::{Fault, VmHandle};
+use std::alloc::Global;
+use vm_blocks::{BlockBody, Blocks};
+
+/// The blocks of a chain: each before those that it links to, branches in order.
+pub fn walk(alloc: Global, blocks: &mut Blocks, root: VmHandle) -> Result<Vec<VmHandle>, Fault>
+    ensures value { Answers (on_chain blocks.old root.0) (λ handles. chain blocks.old root.0 ≡ Some (numbers handles.items)) result }
+    ensures members { IfOk result (λ handles. AreMembers blocks.old handles.items) }
+    ensures stays { blocks.new ≡ blocks.old }
+{
+    test_root(blocks, root)?;
+    walk_from(alloc, blocks, root)
+}
+
+/// NoBlock where no block is there, WrongKind where a heap is.
+pub(crate) fn test_root(blocks: &mut Blocks, root: VmHandle) -> Result<(), Fault>
+    ensures value { MatchResult result (λ _. is_raw blocks.old root.0 ≡ true) (RefusesRoot blocks.old root.0) }
+    ensures stays { blocks.new ≡ blocks.old }
+{
+    blocks.load(root)?;
+    match blocks.body(root) {
+        BlockBody::Raw(_) => Ok(()),
+        BlockBody::Heap(_) => Err(Fault::WrongKind),
+    }
+}
+
+/// The blocks of the chain of a raw block.
+pub(crate) fn walk_from(
+    alloc: Global,
+    blocks: &mut Blocks,
+    root: VmHandle,
+) -> Result<Vec<VmHandle>, Fault>
+    ensures value { MatchResult result
+        (λ handles. chain blocks.old root.0 ≡ Some (numbers handles.items))
+        (Stops (chain blocks.old root.0 ≡ None)) }
+    ensures members { IfOk result (λ handles. AreMembers blocks.old handles.items) }
+    ensures stays { blocks.new ≡ blocks.old }
+{
+    blocks.validity();
+    let mut met = Met::new(alloc)?;
+    let mut pending = Pending::new(alloc, root)?;
+    for _ in 0..MOST_BLOCKS {
+        let handle = match pending.pop() {
+            Some(handle) => handle,
+            None => return Ok(met.into_handles()),
+        };
+        if met.contains(handle) {
+            return Err(Fault::BadChain);
+        }
+        follow(blocks, handle, &mut pending)?;
+        met.add(handle)?;
+    }
+    match pending.pop() {
+        // There are no more blocks than these, so that one of them is met again.
+        Some(_) => Err(Fault::BadChain),
+        None => Ok(met.into_handles()),
+    }
+}
+
+/// Puts what a block links to before all that is pending. BadChain where the block is none of a chain.
+fn follow(blocks: &mut Blocks, handle: VmHandle, pending: &mut Pending) -> Result<(), Fault>
+    ensures value { MatchResult result
+        (λ _. GoesOn blocks.old handle.0 pending.old pending.new)
+        (Stops (is_member blocks.old handle.0 ≡ false)) }
+    ensures stays { blocks.new ≡ blocks.old }
+{
+    if !blocks.is_live(handle) {
+        return Err(Fault::BadChain);
+    }
+    blocks.load(handle)?;
+    match blocks.body(handle) {
+        BlockBody::Heap(_) => Err(Fault::BadChain),
+        BlockBody::Raw(body) => match links_of(body) {
+            Some(found) => Ok(push_links(body, &found, pending)?),
+            None => Err(Fault::BadChain),
+        },
+    }
+}
