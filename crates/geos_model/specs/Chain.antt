@@ -117,10 +117,13 @@ new_handles d n = take n (free_handles d)
 abbrev pub relinked_block : (ℕ → ℕ) → Block → Block
 relinked_block rename b = record b { body = Raw (relinked rename (bytes_of_body b.body)) }
 
--- the blocks that a copy of a chain has, each link renamed as the blocks are
+-- these blocks under new handles, each link renamed as the blocks are
+abbrev pub renamed_blocks : Document → List ℕ → List ℕ → List (ℕ × Block)
+renamed_blocks d hs new = map (λ p. (p.1, relinked_block (name_of (zip hs new)) (block_at d p.0))) (zip hs new)
+
+-- the blocks of a copy of a chain
 abbrev pub copies_of : Document → List ℕ → List (ℕ × Block)
-copies_of d hs =
-    let renamed = zip hs (new_handles d (length hs)) in map (λ p. (p.1, relinked_block (name_of renamed) (block_at d p.0))) renamed
+copies_of d hs = renamed_blocks d hs (new_handles d (length hs))
 
 -- Refusals. Where an earlier one applies, a later one may be anything.
 
