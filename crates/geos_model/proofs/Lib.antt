@@ -25,3 +25,4 @@ mod Saving
 mod Failing
 pub mod Validity
 pub mod ChunkEdits
+pub mod Chains
