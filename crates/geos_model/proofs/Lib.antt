@@ -26,3 +26,5 @@ mod Failing
 pub mod Validity
 pub mod ChunkEdits
 pub mod Chains
+pub mod Relinking
+pub mod ChainCopies

@@ -1,9 +1,10 @@
 -- Laws of chains.
-use Rattle.std.specs.Prelude.{◌≡◌, ◌↔◌, ℕ, List, [], ◌∷◌, ◌++◌, true, Some}
-use Rattle.std.specs.List.{Contains}
+use Rattle.std.specs.Prelude.{◌≡◌, ◌↔◌, ◌⊎◌, ◌+◌, ◌<◌, ◌≤◌, ℕ, List, [], ◌∷◌, ◌++◌, Bool, true, false, ◌&&◌, nat_lt, length, map, get_or, Some}
+use Rattle.std.specs.List.{Contains, list_all, range_with_len}
+use Rattle.geos_model.specs.Words.{word_at}
 use Rattle.geos_model.specs.ElementArray.{all_distinct}
-use Rattle.geos_model.specs.Document.{Document, IsValid, is_live, is_raw, raw_bytes_of}
-use Rattle.geos_model.specs.Chain.{links, is_member, chain}
+use Rattle.geos_model.specs.Document.{Document, IsValid, is_vm_handle, is_live, is_raw, raw_bytes_of}
+use Rattle.geos_model.specs.Chain.{tree_mark, is_linked, link_count, first_link, link_place, links, relinked, is_member, chain, free_handles, new_handles}
 
 -- The blocks of the chains that begin at these handles, in order. Where there is no handle there is no block. The chain at the
 -- first handle is its block and what that links to, and the other chains come behind it.
@@ -27,6 +28,34 @@ pub record AreMembers (d : Document) (h : ℕ) (hs : List ℕ) : Type 0 where
   pub once : all_distinct hs ≡ true
   pub linked : (x y : ℕ) → Contains hs x → Contains (links (raw_bytes_of d x)) y → Contains hs y
 
+-- each is less than those behind it
+abbrev pub is_rising : List ℕ → Bool
+is_rising [] = true
+is_rising (x ∷ xs) = list_all (nat_lt x) xs && is_rising xs
+
+-- so many VM handles that aren't live, each once, rising
+pub record AreNew (d : Document) (n : ℕ) (new : List ℕ) : Type 0 where
+  pub as_many : length new ≡ n
+  pub handle : (x : ℕ) → Contains new x → is_vm_handle x ≡ true
+  pub not_live : (x : ℕ) → Contains new x → is_live d x ≡ false
+  pub once : all_distinct new ≡ true
+  pub rising : is_rising new ≡ true
+
+-- the words where a body's links stand, 0 too
+abbrev pub link_words : List ℕ → List ℕ
+link_words bytes = map (λ i. word_at bytes (link_place bytes i)) (range_with_len 0 (link_count bytes))
+
+-- A body of as many bytes with its links at the same places, each renamed, and the other bytes as they were.
+pub record IsRelinked (rename : ℕ → ℕ) (old new : List ℕ) : Type 0 where
+  pub long : length new ≡ length old
+  pub linked : is_linked new ≡ true
+  pub count : link_count new ≡ link_count old
+  pub first : first_link new ≡ first_link old
+  pub words : link_words new ≡ map rename (link_words old)
+  pub others : (k : ℕ) → ((i : ℕ) → i < link_count old → (k < link_place old i) ⊎ (link_place old i + 2 ≤ k)) → get_or new k 0 ≡ get_or old k 0
+
 pub record ChainLaw : Type 0 where
   pub walk : (d : Document) (h : ℕ) (hs : List ℕ) → IsValid d → chain d h ≡ Some hs ↔ IsWalk d h hs
   pub members : (d : Document) (h : ℕ) (hs : List ℕ) → chain d h ≡ Some hs → AreMembers d h hs
+  pub handles : (d : Document) (n : ℕ) → n ≤ length (free_handles d) → AreNew d n (new_handles d n)
+  pub relinked : (rename : ℕ → ℕ) (bytes : List ℕ) → is_linked bytes ≡ true → ((x : ℕ) → rename x < tree_mark) → IsRelinked rename bytes (relinked rename bytes)

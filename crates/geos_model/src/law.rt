@@ -94,7 +94,8 @@ pub fn validity_law()
     ensures { ValidityLaw }
 {}
 
-/// The blocks of a chain are those that following its links comes to, each once.
+/// The blocks of a chain are those that following its links comes to, each once; new handles are free and rise, and a body's
+/// links can be renamed.
 pub fn chain_law()
     ensures { ChainLaw }
 {}
