@@ -151,7 +151,7 @@ chain-walk d h hs is =
     let found = distinct_some (blocks_from most_blocks d (h ∷ [])) hs is in
     record { forest = found-forest most_blocks d (h ∷ []) hs found.0; once = found.1 }
 
-raw_block : (o : Option Block) → option_map_or (λ b. not (is_heap_body b.body)) o false ≡ true → (b : Block) × (o ≡ Some b)
+pub raw_block : (o : Option Block) → option_map_or (λ b. not (is_heap_body b.body)) o false ≡ true → (b : Block) × (o ≡ Some b)
 raw_block None h = absurd (cc h)
 raw_block (Some b) h = (b, refl)
 

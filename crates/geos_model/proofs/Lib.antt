@@ -28,3 +28,4 @@ pub mod ChunkEdits
 pub mod Chains
 pub mod Relinking
 pub mod ChainCopies
+pub mod CopiedChains

@@ -1,7 +1,7 @@
 -- Words written at places four bytes apart, as the links of a body are.
-use Rattle.std.proofs.Common.{◌≡◌, ℕ, zero, suc, ◌+◌, ◌*◌, ◌-◌, ◌<◌, ◌≤◌, Bool, true, false, ◌&&◌, ◌==◌, nat_le, cond, List, [], ◌∷◌, ◌++◌, length, get_or, take, drop, map, refl, sym, ap, ap₂, ◌∙◌, ◌⊎◌, inl, inr, arith, add-zero, leb-true, leb-false, le-leb, length-append, length-drop, length-take-le}
+use Rattle.std.proofs.Common.{◌≡◌, ℕ, zero, suc, ◌+◌, ◌*◌, ◌-◌, ◌<◌, ◌≤◌, Bool, true, false, ◌&&◌, ◌==◌, nat_le, cond, List, [], ◌∷◌, ◌++◌, length, get_or, take, drop, map, refl, sym, ap, ap₂, subst, ◌∙◌, ◌⊎◌, inl, inr, arith, add-zero, leb-true, leb-false, le-leb, length-append, length-drop, length-take-le}
 use Rattle.std.proofs.lemmas.Bool.{cases_Bool, cases_eq, and_parts, and_from, cond-true, cond-false, eqb-true}
-use Rattle.std.proofs.lemmas.List.{append-nil, drop_more, get_or_append_left, get_or-append_right, get_or-take, get_or-drop}
+use Rattle.std.proofs.lemmas.List.{append-nil, drop_more, ext_get_or, get_or_append_left, get_or-append_right, get_or-take, get_or-drop}
 use Rattle.std.specs.List.{fold, range_with_len, list_all}
 use Rattle.byteorder.specs.Endian.{little_number}
 use Rattle.byteorder.specs.Numbers.{little_number-reads_back}
@@ -214,17 +214,17 @@ module _ (rename : ℕ → ℕ) (bytes : List ℕ) (sound : is_linked bytes ≡ 
   long : length new ≡ length bytes
   long = length-put (first_link bytes) value (link_count bytes) 0 bytes within
 
-  word_here : (i : ℕ) → i < link_count bytes → word_at new (link_place bytes i) ≡ value i
+  pub word_here : (i : ℕ) → i < link_count bytes → word_at new (link_place bytes i) ≡ value i
   word_here i low = word-put (first_link bytes) value (link_count bytes) bytes i within low (let little = few (word_at bytes (link_place bytes i)) in omega arith)
 
   word_apart : (p : ℕ) → p + 2 ≤ length bytes → ((i : ℕ) → i < link_count bytes → (p + 2 ≤ first_link bytes + 4 * i) ⊎ (first_link bytes + 4 * i + 2 ≤ p)) → word_at new p ≡ word_at bytes p
   word_apart p room apart = word-apart (first_link bytes) value (link_count bytes) bytes p within room apart
 
   -- the links stand where they stood, in a body that a block of a chain can have
-  record IsFramed : Type 0 where
-    linked : is_linked new ≡ true
-    count : link_count new ≡ link_count bytes
-    first : first_link new ≡ first_link bytes
+  pub record IsFramed : Type 0 where
+    pub linked : is_linked new ≡ true
+    pub count : link_count new ≡ link_count bytes
+    pub first : first_link new ≡ first_link bytes
 
   framed-tree : is_tree bytes ≡ true → IsFramed
   framed-tree tree =
@@ -266,7 +266,7 @@ module _ (rename : ℕ → ℕ) (bytes : List ℕ) (sound : is_linked bytes ≡ 
         first = cond-false (is_tree new) (branches_at new + 2) 0 still ∙ sym f;
       }
 
-  framed : IsFramed
+  pub framed : IsFramed
   framed = elim (cases_Bool (is_tree bytes)) [
     | inl tree ↦ framed-tree tree
     | inr none ↦ framed-plain none
@@ -284,3 +284,59 @@ module _ (rename : ℕ → ℕ) (bytes : List ℕ) (sound : is_linked bytes ≡ 
         ∙ map-twice rename (λ i. word_at bytes (link_place bytes i)) (range_with_len 0 (link_count bytes));
     others = λ k apart. put-other (first_link bytes) value (link_count bytes) 0 bytes k within (λ i _ low. apart i (omega arith));
   }
+
+-- Bodies relinked twice.
+
+-- a place is in one of so many links or in none
+placed : (first n k : ℕ) → ((i : ℕ) × (j : ℕ) × (i < n) × (j < 2) × (k ≡ first + 4 * i + j)) ⊎ ((i : ℕ) → i < n → (k < first + 4 * i) ⊎ (first + 4 * i + 2 ≤ k))
+placed first zero k = inr (λ i low. absurd (omega arith))
+placed first (suc n) k = elim (placed first n k) [
+  | inl here ↦ inl (here.0, here.1, (let low = here.2 in omega arith), here.3, here.4)
+  | inr apart ↦ elim (nat_le_cases (first + 4 * n) k) [
+    | inr before ↦ inr (λ i low. elim (cases_eq i n) [
+      | inl is ↦ inl (subst (λ (q : ℕ). k < first + 4 * q) (sym is) before)
+      | inr other ↦ apart i (omega arith)
+    ])
+    | inl from ↦ elim (nat_le_cases (first + 4 * n + 2) k) [
+      | inl behind ↦ inr (λ i low. elim (cases_eq i n) [
+        | inl is ↦ inr (subst (λ (q : ℕ). first + 4 * q + 2 ≤ k) (sym is) behind)
+        | inr other ↦ apart i (omega arith)
+      ])
+      | inr within ↦ inl (n, k - (first + 4 * n), omega arith, omega arith, omega arith)
+    ]
+  ]
+]
+
+-- words put twice at the same places are those that were put last
+put_twice : (first n : ℕ) (early late both : ℕ → ℕ) (bytes : List ℕ) → fits first early 0 n bytes → ((i : ℕ) → i < n → late i ≡ both i)
+    → put first late 0 n (put first early 0 n bytes) ≡ put first both 0 n bytes
+put_twice first n early late both bytes within same =
+    let once : List ℕ = put first early 0 n bytes in
+    let long = length-put first early n 0 bytes within in
+    let within_once : fits first late 0 n once = λ i low. (let room = within i low in omega arith) in
+    let long_left = length-put first late n 0 once within_once in
+    let long_right = length-put first both n 0 bytes within in
+    ext_get_or 0 (put first late 0 n once) (put first both 0 n bytes) (long_left ∙ long ∙ sym long_right) (λ k low. elim (placed first n k) [
+      | inl here ↦ (let at : ℕ = first + 4 * here.0 + here.1 in
+          ap (λ (q : ℕ). get_or (put first late 0 n once) q 0) here.4
+          ∙ put-here first late n 0 once here.0 here.1 within_once (omega arith) (let little = here.2 in omega arith) here.3
+          ∙ ap (λ (v : ℕ). get_or (word v) here.1 0) (same here.0 here.2)
+          ∙ sym (put-here first both n 0 bytes here.0 here.1 within (omega arith) (let little = here.2 in omega arith) here.3)
+          ∙ ap (λ (q : ℕ). get_or (put first both 0 n bytes) q 0) (sym here.4))
+      | inr apart ↦
+          put-other first late n 0 once k within_once (λ i _ little. apart i (omega arith))
+          ∙ put-other first early n 0 bytes k within (λ i _ little. apart i (omega arith))
+          ∙ sym (put-other first both n 0 bytes k within (λ i _ little. apart i (omega arith)))
+    ])
+
+pub relinked_twice : (rename again both : ℕ → ℕ) (bytes : List ℕ) → is_linked bytes ≡ true → ((x : ℕ) → rename x < tree_mark)
+    → ((i : ℕ) → i < link_count bytes → again (rename (word_at bytes (link_place bytes i))) ≡ both (word_at bytes (link_place bytes i)))
+    → relinked again (relinked rename bytes) ≡ relinked both bytes
+relinked_twice rename again both bytes sound few same =
+    let new : List ℕ = relinked rename bytes in
+    let frame = framed rename bytes sound few in
+    let there : relinked again new ≡ put (first_link bytes) (λ i. again (word_at new (link_place bytes i))) 0 (link_count bytes) new =
+    ap₂ (λ (f n : ℕ). put f (λ i. again (word_at new (f + 4 * i))) 0 n new) frame.first frame.count in
+    there ∙ put_twice (first_link bytes) (link_count bytes) (λ i. rename (word_at bytes (link_place bytes i))) (λ i. again (word_at new (link_place bytes i)))
+    (λ i. both (word_at bytes (link_place bytes i))) bytes (λ i low. links-fit bytes sound i (omega arith))
+    (λ i low. ap again (word_here rename bytes sound few i low) ∙ same i low)
