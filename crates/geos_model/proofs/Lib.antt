@@ -25,3 +25,7 @@ mod Saving
 mod Failing
 pub mod Validity
 pub mod ChunkEdits
+pub mod Chains
+pub mod Relinking
+pub mod ChainCopies
+pub mod CopiedChains

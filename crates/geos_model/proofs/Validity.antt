@@ -140,7 +140,7 @@ chunks-heap d h valid heap = by_block (get d.blocks h) (λ b is. (valid.blocks h
     by_block (Some b) valid heap = body-heap b.body (valid b refl) heap
 
 -- the bytes of a raw block are not too many
-raw_bytes-few : (d : Document) (h : ℕ) → IsValid d → length (raw_bytes_of d h) ≤ capacity
+pub raw_bytes-few : (d : Document) (h : ℕ) → IsValid d → length (raw_bytes_of d h) ≤ capacity
 raw_bytes-few d h valid = by_block (get d.blocks h) (λ b is. (valid.blocks h b is).body)
   where
     by_body : (body : Body) → is_valid_body body ≡ true → length (bytes_of_body body) ≤ capacity

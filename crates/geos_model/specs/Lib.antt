@@ -19,6 +19,7 @@ pub mod Reply
 pub mod Machine
 pub mod Laws
 pub mod EditLaws
+pub mod ChainLaws
 pub mod Undoing
 pub mod Saving
 pub mod Failing

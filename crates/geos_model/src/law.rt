@@ -1,5 +1,6 @@
 ghost use Rattle.geos_model.specs.Laws.{WordLaw, NumberLaw, ChunkLaw, ImageLaw, ArrayLaw, ElementArrayLaw, NameArrayLaw};
 ghost use Rattle.geos_model.specs.EditLaws.{ChunkEditsLaw, ArrayEditsLaw, ElementEditsLaw, NameEditsLaw};
+ghost use Rattle.geos_model.specs.ChainLaws.{ChainLaw};
 ghost use Rattle.geos_model.specs.FileLaws.{FileLaw};
 ghost use Rattle.geos_model.specs.Undoing.{UndoLaw, RedoLaw};
 ghost use Rattle.geos_model.specs.Saving.{SaveLaw};
@@ -91,4 +92,10 @@ pub fn failing_law()
 /// What the machine does to a valid document leaves a valid one.
 pub fn validity_law()
     ensures { ValidityLaw }
+{}
+
+/// The blocks of a chain are those that following its links comes to, each once; new handles are free and rise, and a body's
+/// links can be renamed.
+pub fn chain_law()
+    ensures { ChainLaw }
 {}

@@ -1,0 +1,78 @@
+-- Laws of chains.
+use Rattle.std.specs.Prelude.{◌≡◌, ◌↔◌, ◌⊎◌, ◌+◌, ◌<◌, ◌≤◌, ℕ, List, [], ◌∷◌, ◌++◌, Bool, true, false, ◌&&◌, nat_lt, length, map, get_or, Some}
+use Rattle.std.specs.List.{Contains, list_all, range_with_len}
+use Rattle.std.specs.FinMap.{get}
+use Rattle.geos_model.specs.Words.{word_at}
+use Rattle.geos_model.specs.ElementArray.{all_distinct}
+use Rattle.geos_model.specs.Document.{Block, Document, IsValid, is_vm_handle, is_live, is_raw, raw_bytes_of, with_block}
+use Rattle.geos_model.specs.Chain.{tree_mark, is_linked, link_count, first_link, link_place, links, relinked, is_member, chain, same_shape, free_handles, new_handles, copies_of}
+
+-- The blocks of the chains that begin at these handles, in order. Where there is no handle there is no block. The chain at the
+-- first handle is its block and what that links to, and the other chains come behind it.
+pub data IsForest (d : Document) : List ℕ → List ℕ → Type 0 where
+  nothing : IsForest d [] []
+  block : (h : ℕ) (more below rest : List ℕ) → is_member d h ≡ true → IsForest d (links (raw_bytes_of d h)) below → IsForest d more rest
+      → IsForest d (h ∷ more) (h ∷ (below ++ rest))
+
+-- those of one chain, none of them twice
+pub record IsWalk (d : Document) (h : ℕ) (hs : List ℕ) : Type 0 where
+  pub forest : IsForest d (h ∷ []) hs
+  pub once : all_distinct hs ≡ true
+
+-- The first is where the chain begins, each is a live raw block that a chain can have, none is there twice, and what one of them
+-- links to is one of them.
+pub record AreMembers (d : Document) (h : ℕ) (hs : List ℕ) : Type 0 where
+  pub first : (rest : List ℕ) × (hs ≡ h ∷ rest)
+  pub live : (x : ℕ) → Contains hs x → is_live d x ≡ true
+  pub raw : (x : ℕ) → Contains hs x → is_raw d x ≡ true
+  pub member : (x : ℕ) → Contains hs x → is_member d x ≡ true
+  pub once : all_distinct hs ≡ true
+  pub linked : (x y : ℕ) → Contains hs x → Contains (links (raw_bytes_of d x)) y → Contains hs y
+
+-- each is less than those behind it
+abbrev pub is_rising : List ℕ → Bool
+is_rising [] = true
+is_rising (x ∷ xs) = list_all (nat_lt x) xs && is_rising xs
+
+-- so many VM handles that aren't live, each once, rising
+pub record AreNew (d : Document) (n : ℕ) (new : List ℕ) : Type 0 where
+  pub as_many : length new ≡ n
+  pub handle : (x : ℕ) → Contains new x → is_vm_handle x ≡ true
+  pub not_live : (x : ℕ) → Contains new x → is_live d x ≡ false
+  pub once : all_distinct new ≡ true
+  pub rising : is_rising new ≡ true
+
+-- the words where a body's links stand, 0 too
+abbrev pub link_words : List ℕ → List ℕ
+link_words bytes = map (λ i. word_at bytes (link_place bytes i)) (range_with_len 0 (link_count bytes))
+
+-- A body of as many bytes with its links at the same places, each renamed, and the other bytes as they were.
+pub record IsRelinked (rename : ℕ → ℕ) (old new : List ℕ) : Type 0 where
+  pub long : length new ≡ length old
+  pub linked : is_linked new ≡ true
+  pub count : link_count new ≡ link_count old
+  pub first : first_link new ≡ first_link old
+  pub words : link_words new ≡ map rename (link_words old)
+  pub others : (k : ℕ) → ((i : ℕ) → i < link_count old → (k < link_place old i) ⊎ (link_place old i + 2 ≤ k)) → get_or new k 0 ≡ get_or old k 0
+
+-- the document with these blocks put in, one after another
+abbrev pub with_blocks : Document → List (ℕ × Block) → Document
+with_blocks d [] = d
+with_blocks d (p ∷ ps) = with_blocks (with_block d p.0 p.1) ps
+
+-- A document with a copy of these blocks under new handles: it is valid, all else is as it was, the copy of the first block
+-- begins a chain of the new handles in the same order, and the two chains have the same shape.
+pub record IsCopied (old : Document) (hs new : List ℕ) (copied : Document) : Type 0 where
+  pub valid : IsValid copied
+  pub map_block : copied.map_block ≡ old.map_block
+  pub others : (x : ℕ) → (Contains new x → ⊥) → get copied.blocks x ≡ get old.blocks x
+  pub chained : chain copied (get_or new 0 0) ≡ Some new
+  pub same : same_shape copied hs new ≡ true
+
+pub record ChainLaw : Type 0 where
+  pub walk : (d : Document) (h : ℕ) (hs : List ℕ) → IsValid d → chain d h ≡ Some hs ↔ IsWalk d h hs
+  pub members : (d : Document) (h : ℕ) (hs : List ℕ) → chain d h ≡ Some hs → AreMembers d h hs
+  pub handles : (d : Document) (n : ℕ) → n ≤ length (free_handles d) → AreNew d n (new_handles d n)
+  pub relinked : (rename : ℕ → ℕ) (bytes : List ℕ) → is_linked bytes ≡ true → ((x : ℕ) → rename x < tree_mark) → IsRelinked rename bytes (relinked rename bytes)
+  pub copy : (d : Document) (h : ℕ) (hs : List ℕ) → IsValid d → chain d h ≡ Some hs → length hs ≤ length (free_handles d)
+      → IsCopied d hs (new_handles d (length hs)) (with_blocks d (copies_of d hs))
