@@ -51,7 +51,7 @@ pub fn document(alloc: Global, bodies: &[&[u8]]) -> Result<Blocks, Fault> {
     Ok(blocks)
 }
 
-// A block named 3 with three branches, the second null, and a chain of two blocks under its first.
+// A tree block under the handle 3 with two branches: a chain of two blocks, and one block.
 pub fn tree(alloc: Global) -> Result<Blocks, Fault> {
     document(
         alloc,
@@ -62,6 +62,17 @@ pub fn tree(alloc: Global) -> Result<Blocks, Fault> {
             b"\0\0\0",
         ],
     )
+}
+
+// So many blocks under the handles from 1 on, each of which links to the next, and the last one to `end`.
+pub fn row(alloc: Global, count: u16, end: u16) -> Result<Blocks, Fault> {
+    let mut blocks = Blocks::new(alloc)?;
+    for handle in 1..count {
+        let next = handle + 1;
+        put(alloc, &mut blocks, handle, &next.to_le_bytes())?;
+    }
+    put(alloc, &mut blocks, count, &end.to_le_bytes())?;
+    Ok(blocks)
 }
 
 // The handles of a walk, or the refusal.

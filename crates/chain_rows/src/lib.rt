@@ -8,6 +8,8 @@ mod comparing;
 #[cfg(test)]
 mod documents;
 #[cfg(test)]
+mod longest;
+#[cfg(test)]
 mod planning;
 #[cfg(test)]
 mod walking;

@@ -1,5 +1,5 @@
 // Walks along chains, and what they measure.
-use crate::documents::{document, meets, put, put_heap, tree, walked};
+use crate::documents::{document, meets, put, put_heap, tree};
 use geos_model::{Fault, VmHandle};
 use std::alloc::Global;
 use std::test::Fail;
@@ -124,44 +124,5 @@ fn null_branches_are_passed_over(rt: HostRuntime) -> Result<(), Fail> {
         ],
     )?;
     assert!(rt; meets(rt.alloc(), &mut blocks, 1, &[1, 3, 2])?);
-    Ok(())
-}
-
-// Block h links to block h + 1, and the last one to `end`.
-fn longest(alloc: Global, end: u16) -> Result<Blocks, Fault> {
-    let mut blocks = Blocks::new(alloc)?;
-    for handle in 1..2_048u16 {
-        let next = handle + 1;
-        put(alloc, &mut blocks, handle, &next.to_le_bytes())?;
-    }
-    put(alloc, &mut blocks, 2_048, &end.to_le_bytes())?;
-    Ok(blocks)
-}
-
-#[test]
-fn a_chain_has_up_to_2048_blocks(rt: HostRuntime) -> Result<(), Fail> {
-    let mut blocks = longest(rt.alloc(), 0)?;
-    assert_eq!(rt; size(rt.alloc(), &mut blocks, VmHandle(1))?, 4_096);
-    let handles = walked(rt.alloc(), &mut blocks, 1)?;
-    assert_eq!(rt; handles.len(), 2_048);
-    assert!(rt; handles[2_047] == 2_048);
-    Ok(())
-}
-
-#[test]
-fn a_ring_has_no_end(rt: HostRuntime) -> Result<(), Fail> {
-    let mut blocks = longest(rt.alloc(), 1)?;
-    assert!(rt;
-        matches!(
-            walk(rt.alloc(), &mut blocks, VmHandle(1)),
-            Err(Fault::BadChain)
-        )
-    );
-    assert!(rt;
-        matches!(
-            walk(rt.alloc(), &mut blocks, VmHandle(9)),
-            Err(Fault::BadChain)
-        )
-    );
     Ok(())
 }

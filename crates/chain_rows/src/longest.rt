@@ -1,0 +1,80 @@
+// The longest chains.
+use crate::documents::{carry_in, row, walked};
+use geos_model::{Fault, VmHandle};
+use std::alloc::Global;
+use std::test::Fail;
+use vm_blocks::Blocks;
+use vm_chains::{copy_plan, equal, free_plan, size, walk};
+
+// All blocks that a document can have.
+const MOST_BLOCKS: u16 = 2_048;
+
+#[test]
+fn a_chain_has_up_to_2048_blocks(rt: HostRuntime) -> Result<(), Fail> {
+    let mut blocks = row(rt.alloc(), MOST_BLOCKS, 0)?;
+    assert_eq!(rt; size(rt.alloc(), &mut blocks, VmHandle(1))?, 4_096);
+    let handles = walked(rt.alloc(), &mut blocks, 1)?;
+    assert_eq!(rt; handles.len(), 2_048);
+    assert!(rt; handles[2_047] == 2_048);
+    Ok(())
+}
+
+#[test]
+fn a_ring_has_no_end(rt: HostRuntime) -> Result<(), Fail> {
+    let mut blocks = row(rt.alloc(), MOST_BLOCKS, 1)?;
+    assert!(rt;
+        matches!(
+            walk(rt.alloc(), &mut blocks, VmHandle(1)),
+            Err(Fault::BadChain)
+        )
+    );
+    assert!(rt;
+        matches!(
+            walk(rt.alloc(), &mut blocks, VmHandle(9)),
+            Err(Fault::BadChain)
+        )
+    );
+    Ok(())
+}
+
+#[test]
+fn the_longest_chain_is_equal_to_itself(rt: HostRuntime) -> Result<(), Fail> {
+    let mut blocks = row(rt.alloc(), MOST_BLOCKS, 0)?;
+    assert!(rt; equal(rt.alloc(), &mut blocks, VmHandle(1), VmHandle(1))?);
+    assert!(rt; !equal(rt.alloc(), &mut blocks, VmHandle(1), VmHandle(2))?);
+    Ok(())
+}
+
+#[test]
+fn all_blocks_are_freed_and_none_can_be_copied(rt: HostRuntime) -> Result<(), Fail> {
+    let mut blocks = row(rt.alloc(), MOST_BLOCKS, 0)?;
+    assert_eq!(rt;
+        free_plan(rt.alloc(), &mut blocks, VmHandle(1))?.len(),
+        2_048
+    );
+    assert!(rt;
+        matches!(
+            copy_plan(rt.alloc(), &mut blocks, VmHandle(1)),
+            Err(Fault::NoHandles)
+        )
+    );
+    Ok(())
+}
+
+// A chain of half of all blocks, and its copy under the other handles.
+fn copied(alloc: Global) -> Result<Blocks, Fault> {
+    let mut blocks = row(alloc, MOST_BLOCKS / 2, 0)?;
+    let plan = copy_plan(alloc, &mut blocks, VmHandle(1))?;
+    carry_in(alloc, &mut blocks, &plan)?;
+    Ok(blocks)
+}
+
+#[test]
+fn a_copy_has_up_to_1024_blocks(rt: HostRuntime) -> Result<(), Fail> {
+    let mut blocks = copied(rt.alloc())?;
+    assert!(rt; equal(rt.alloc(), &mut blocks, VmHandle(1), VmHandle(1_025))?);
+    let handles = walked(rt.alloc(), &mut blocks, 1_025)?;
+    assert_eq!(rt; handles.len(), 1_024);
+    assert!(rt; handles[1_023] == 2_048);
+    Ok(())
+}
