@@ -75,6 +75,7 @@ fn same_shape(
     Ok(true)
 }
 
+/// Whether these are the same bytes.
 fn are_same(first: &[u8], second: &[u8]) -> bool
     ensures { result ≡ same_bytes first.now second.now }
 {
