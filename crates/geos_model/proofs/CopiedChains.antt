@@ -35,7 +35,7 @@ distinct-rest x xs once = (and_parts (not (list_any (λ y. x == y) xs)) (all_dis
 
 -- Names.
 
-name-unknown : (hs new : List ℕ) (x : ℕ) → (Contains hs x → ⊥) → name_of (zip hs new) x ≡ 0
+pub name-unknown : (hs new : List ℕ) (x : ℕ) → (Contains hs x → ⊥) → name_of (zip hs new) x ≡ 0
 name-unknown [] new x absent = refl
 name-unknown (h ∷ hs) [] x absent = refl
 name-unknown (h ∷ hs) (n ∷ new) x absent =
@@ -44,7 +44,7 @@ name-unknown (h ∷ hs) (n ∷ new) x absent =
       | inr e ↦ cond-false (h == x) n (name_of (zip hs new) x) e ∙ name-unknown hs new x (λ there. absent (contains_later h hs x there))
     ]
 
-name-known : (hs new : List ℕ) (i : ℕ) → length hs ≡ length new → all_distinct hs ≡ true → i < length hs → name_of (zip hs new) (get_or hs i 0) ≡ get_or new i 0
+pub name-known : (hs new : List ℕ) (i : ℕ) → length hs ≡ length new → all_distinct hs ≡ true → i < length hs → name_of (zip hs new) (get_or hs i 0) ≡ get_or new i 0
 name-known [] new i long once low = absurd (omega arith)
 name-known (h ∷ hs) [] i long once low = absurd (let none : suc (length hs) ≡ 0 = long in omega arith)
 name-known (h ∷ hs) (n ∷ new) zero long once low = cond-true (h == h) n (name_of (zip hs new) h) (eq-eqb h h refl)
@@ -55,7 +55,7 @@ name-known (h ∷ hs) (n ∷ new) (suc i) long once low =
       | inr e ↦ cond-false (h == get_or hs i 0) n (name_of (zip hs new) (get_or hs i 0)) e ∙ name-known hs new i (omega arith) (distinct-rest h hs once) (omega arith)
     ]
 
-name-low : (top : ℕ) (hs new : List ℕ) (x : ℕ) → 0 < top → All (λ n. n < top) new → name_of (zip hs new) x < top
+pub name-low : (top : ℕ) (hs new : List ℕ) (x : ℕ) → 0 < top → All (λ n. n < top) new → name_of (zip hs new) x < top
 name-low top [] new x some low = some
 name-low top (h ∷ hs) [] x some low = some
 name-low top (h ∷ hs) (n ∷ new) x some low = elim (cases_Bool (h == x)) [
@@ -141,7 +141,7 @@ kept-there p (y ∷ ys) x there good = elim (cases_Bool (p y)) [
 ]
 
 -- a link that isn't 0 is one of a body's links
-link-there : (bytes : List ℕ) (i : ℕ) → i < link_count bytes → word_at bytes (link_place bytes i) ≢ 0 → Contains (links bytes) (word_at bytes (link_place bytes i))
+pub link-there : (bytes : List ℕ) (i : ℕ) → i < link_count bytes → word_at bytes (link_place bytes i) ≢ 0 → Contains (links bytes) (word_at bytes (link_place bytes i))
 link-there bytes i low some =
     let link : ℕ → ℕ = λ k. word_at bytes (link_place bytes k) in
     let many = length-map-range_with_len link 0 (link_count bytes) in

@@ -69,10 +69,28 @@ pub record IsCopied (old : Document) (hs new : List ℕ) (copied : Document) : T
   pub chained : chain copied (get_or new 0 0) ≡ Some new
   pub same : same_shape copied hs new ≡ true
 
+-- A link of a chain's block and one of another chain's: neither links to a block, or both to those at one place of their chains.
+abbrev pub AreAlike : List ℕ → List ℕ → ℕ → ℕ → Type 0
+AreAlike xs ys v w = ((v ≡ 0) × (w ≡ 0)) ⊎ ((i : ℕ) × (i < length xs) × (get_or xs i 0 ≡ v) × (get_or ys i 0 ≡ w))
+
+-- the body of a block of one chain and that of another: as long, with links at the same places and alike, and the same other bytes
+pub record AreSameBodies (xs ys left right : List ℕ) : Type 0 where
+  pub long : length right ≡ length left
+  pub count : link_count right ≡ link_count left
+  pub first : first_link right ≡ first_link left
+  pub alike : (i : ℕ) → i < link_count left → AreAlike xs ys (word_at left (link_place left i)) (word_at right (link_place right i))
+  pub others : (k : ℕ) → ((i : ℕ) → i < link_count left → (k < link_place left i) ⊎ (link_place left i + 2 ≤ k)) → get_or right k 0 ≡ get_or left k 0
+
+-- as many blocks, in the same order with the same bodies
+pub record HaveSameShape (d : Document) (xs ys : List ℕ) : Type 0 where
+  pub as_many : length ys ≡ length xs
+  pub bodies : (i : ℕ) → i < length xs → AreSameBodies xs ys (raw_bytes_of d (get_or xs i 0)) (raw_bytes_of d (get_or ys i 0))
+
 pub record ChainLaw : Type 0 where
   pub walk : (d : Document) (h : ℕ) (hs : List ℕ) → IsValid d → chain d h ≡ Some hs ↔ IsWalk d h hs
   pub members : (d : Document) (h : ℕ) (hs : List ℕ) → chain d h ≡ Some hs → AreMembers d h hs
   pub handles : (d : Document) (n : ℕ) → n ≤ length (free_handles d) → AreNew d n (new_handles d n)
   pub relinked : (rename : ℕ → ℕ) (bytes : List ℕ) → is_linked bytes ≡ true → ((x : ℕ) → rename x < tree_mark) → IsRelinked rename bytes (relinked rename bytes)
+  pub shapes : (d : Document) (x y : ℕ) (xs ys : List ℕ) → IsValid d → chain d x ≡ Some xs → chain d y ≡ Some ys → same_shape d xs ys ≡ true ↔ HaveSameShape d xs ys
   pub copy : (d : Document) (h : ℕ) (hs : List ℕ) → IsValid d → chain d h ≡ Some hs → length hs ≤ length (free_handles d)
       → IsCopied d hs (new_handles d (length hs)) (with_blocks d (copies_of d hs))
