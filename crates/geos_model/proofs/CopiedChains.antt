@@ -1,5 +1,5 @@
 -- A copy of a chain is one of the same shape.
-use Rattle.std.proofs.Common.{◌≡◌, ◌≢◌, ℕ, zero, suc, ◌<◌, ◌≤◌, Bool, true, false, not, ◌==◌, nat_le, List, [], ◌∷◌, ◌++◌, length, get_or, map, filter, Option, Some, None, unwrap_or, refl, sym, ap, subst, ◌∙◌, inl, inr, arith, le-leb, leb-true, zero-add}
+use Rattle.std.proofs.Common.{◌≡◌, ◌≢◌, ℕ, zero, suc, ◌<◌, ◌≤◌, Bool, true, false, ◌&&◌, not, ◌==◌, nat_le, List, [], ◌∷◌, ◌++◌, length, get_or, map, filter, Option, Some, None, unwrap_or, refl, sym, ap, subst, ◌∙◌, inl, inr, arith, le-leb, leb-true, zero-add}
 use Rattle.std.proofs.lemmas.Bool.{cases_Bool, cases_eq, and_parts, and_from, cond-true, cond-false, not-true, eqb-true, eq-eqb, ne_eqb, true≢false}
 use Rattle.std.proofs.lemmas.List.{map-append, length-map, get_or-map, get_or_default, ext_get_or}
 use Rattle.std.proofs.lemmas.List.Folds.{list_any_at}
@@ -12,7 +12,7 @@ use lib.Pointwise.{bytes_decides, pointwise_decides}
 use Rattle.geos_model.specs.Words.{word_at}
 use Rattle.geos_model.specs.ElementArray.{all_distinct}
 use Rattle.geos_model.specs.Heap.{capacity}
-use Rattle.geos_model.specs.Document.{Block, Document, IsValid, IsValidBlock, most_blocks, is_vm_handle, is_live, is_raw, is_heap_body, bytes_of_body, raw_bytes_of, block_at, with_block}
+use Rattle.geos_model.specs.Document.{Block, Document, IsValid, IsValidBlock, most_blocks, is_vm_handle, is_live, is_raw, is_heap_body, bytes_of_body, raw_bytes_of, user_id_of, block_at, with_block}
 use Rattle.geos_model.specs.Chain.{tree_mark, is_linked, link_count, link_place, links, relinked, is_member, chain, name_of, shape, relinked_block, renamed_blocks, free_handles, new_handles, copies_of}
 use Rattle.geos_model.specs.ChainLaws.{IsForest, nothing, block, link_words, with_blocks, IsCopied}
 use Rattle.geos_model.specs.declared.command.Body.TheVariants.{Raw}
@@ -103,6 +103,13 @@ block-bytes : (d : Document) (h : ℕ) → bytes_of_body (block_at d h).body ≡
 block-bytes d h = by_block (get d.blocks h)
   where
     by_block : (o : Option Block) → bytes_of_body (unwrap_or o (record { user_id = 0; body = Raw [] })).body ≡ option_map_or (λ b. bytes_of_body b.body) o []
+    by_block None = refl
+    by_block (Some b) = refl
+
+block-user_id : (d : Document) (h : ℕ) → (block_at d h).user_id ≡ user_id_of d h
+block-user_id d h = by_block (get d.blocks h)
+  where
+    by_block : (o : Option Block) → (unwrap_or o (record { user_id = 0; body = Raw [] })).user_id ≡ option_map_or (λ b. b.user_id) o 0
     by_block None = refl
     by_block (Some b) = refl
 
@@ -239,6 +246,36 @@ module _ (d : Document) (hs new : List ℕ) (valid : IsValid d) (members : (x : 
       subst (λ (r : ℕ). chain copied r ≡ Some new) root
       (walk-chain copied (rename h) new valid_copied (record { forest = subst (IsForest copied (rename h ∷ [])) all_renamed there; once = new_once }))
 
+  -- an old block is as it was
+  old_block : (x : ℕ) → Contains hs x → get copied.blocks x ≡ get d.blocks x
+  old_block x there = put-others named d hs new x (λ fresh. true≢false (sym (member-live d x (members x there)) ∙ new_free x fresh))
+
+  old_bytes : (x : ℕ) → Contains hs x → raw_bytes_of copied x ≡ raw_bytes_of d x
+  old_bytes x there = ap (λ (o : Option Block). option_map_or (λ b. bytes_of_body b.body) o []) (old_block x there)
+
+  old_member : (x : ℕ) → Contains hs x → is_member copied x ≡ true
+  old_member x there =
+      ap (λ (o : Option Block). option_map_or (λ b. not (is_heap_body b.body)) o false && is_linked (option_map_or (λ b. bytes_of_body b.body) o [])) (old_block x there)
+      ∙ members x there
+
+  forest_kept : (roots xs : List ℕ) → IsForest d roots xs → ((x : ℕ) → Contains xs x → Contains hs x) → IsForest copied roots xs
+  forest_kept _ _ nothing within = nothing
+  forest_kept _ _ (block h more below rest member inner outer) within =
+      let there = within h (contains_first h (below ++ rest)) in
+      let under = forest_kept (links (raw_bytes_of d h)) below inner (λ x at. within x (contains_later h (below ++ rest) x (Contains-append_left below rest x at))) in
+      let later = forest_kept more rest outer (λ x at. within x (contains_later h (below ++ rest) x (Contains-append_right below rest x at))) in
+      block h more below rest (old_member h there) (subst (λ bytes. IsForest copied (links bytes) below) (sym (old_bytes h there)) under) later
+
+  -- and so the old chain is one
+  chain_kept : (h : ℕ) (rest : List ℕ) → hs ≡ h ∷ rest → IsForest d (h ∷ []) hs → chain copied (get_or hs 0 0) ≡ Some hs
+  chain_kept h rest first forest =
+      ap (λ (xs : List ℕ). chain copied (get_or xs 0 0)) first
+      ∙ walk-chain copied h hs valid_copied (record { forest = forest_kept (h ∷ []) hs forest (λ x at. at); once = once })
+
+  user_id_copied : (i : ℕ) → i < length hs → user_id_of copied (get_or new i 0) ≡ user_id_of d (get_or hs i 0)
+  user_id_copied i low =
+      ap (λ (o : Option Block). option_map_or (λ b. b.user_id) o 0) (put-there named d hs new i long new_once low) ∙ block-user_id d (get_or hs i 0)
+
   -- places of the old blocks and of the new
   abbrev place_of : ℕ → ℕ
   place_of = name_of (zip hs (range_with_len 1 (length hs)))
@@ -269,12 +306,6 @@ module _ (d : Document) (hs new : List ℕ) (valid : IsValid d) (members : (x : 
     | inr some ↦ same_place w (known some)
   ]
 
-  -- an old block is as it was
-  old_bytes : (x : ℕ) → Contains hs x → raw_bytes_of copied x ≡ raw_bytes_of d x
-  old_bytes x there =
-      ap (λ (o : Option Block). option_map_or (λ b. bytes_of_body b.body) o [])
-      (put-others named d hs new x (λ fresh. true≢false (sym (member-live d x (members x there)) ∙ new_free x fresh)))
-
   same_body : (x : ℕ) → Contains hs x → relinked new_place_of (raw_bytes_of copied (rename x)) ≡ relinked place_of (raw_bytes_of copied x)
   same_body x there =
       ap (relinked new_place_of) (bytes_of_copy x there)
@@ -300,6 +331,8 @@ module _ (d : Document) (hs new : List ℕ) (valid : IsValid d) (members : (x : 
     valid = valid_copied;
     map_block = put-map_block named d hs new;
     others = put-others named d hs new;
+    user_ids = user_id_copied;
+    kept = chain_kept h rest first forest;
     chained = chained_copied h rest first forest;
     same = (pointwise_decides bytes_decides (shape copied hs) (shape copied new)).1 same_shapes;
   }

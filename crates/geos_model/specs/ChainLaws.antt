@@ -4,7 +4,7 @@ use Rattle.std.specs.List.{Contains, list_all, range_with_len}
 use Rattle.std.specs.FinMap.{get}
 use Rattle.geos_model.specs.Words.{word_at}
 use Rattle.geos_model.specs.ElementArray.{all_distinct}
-use Rattle.geos_model.specs.Document.{Block, Document, IsValid, is_vm_handle, is_live, is_raw, raw_bytes_of, with_block}
+use Rattle.geos_model.specs.Document.{Block, Document, IsValid, is_vm_handle, is_live, is_raw, raw_bytes_of, user_id_of, with_block}
 use Rattle.geos_model.specs.Chain.{tree_mark, is_linked, link_count, first_link, link_place, links, relinked, is_member, chain, same_shape, free_handles, new_handles, copies_of}
 
 -- The blocks of the chains that begin at these handles, in order. Where there is no handle there is no block. The chain at the
@@ -60,12 +60,14 @@ abbrev pub with_blocks : Document → List (ℕ × Block) → Document
 with_blocks d [] = d
 with_blocks d (p ∷ ps) = with_blocks (with_block d p.0 p.1) ps
 
--- A document with a copy of these blocks under new handles: it is valid, all else is as it was, the copy of the first block
--- begins a chain of the new handles in the same order, and the two chains have the same shape.
+-- A document with a copy of these blocks under new handles: it is valid, all else is as it was, each copy has the user ID of its
+-- block, the copy of the first block begins a chain of the new handles in the same order, and the two chains have the same shape.
 pub record IsCopied (old : Document) (hs new : List ℕ) (copied : Document) : Type 0 where
   pub valid : IsValid copied
   pub map_block : copied.map_block ≡ old.map_block
   pub others : (x : ℕ) → (Contains new x → ⊥) → get copied.blocks x ≡ get old.blocks x
+  pub user_ids : (i : ℕ) → i < length hs → user_id_of copied (get_or new i 0) ≡ user_id_of old (get_or hs i 0)
+  pub kept : chain copied (get_or hs 0 0) ≡ Some hs
   pub chained : chain copied (get_or new 0 0) ≡ Some new
   pub same : same_shape copied hs new ≡ true
 
