@@ -18,9 +18,9 @@ use Rattle.geos_model.specs.ChainLaws.{IsForest, nothing, block, link_words, wit
 use Rattle.geos_model.specs.declared.command.Body.TheVariants.{Raw}
 use Rattle.geos_model.proofs.HeapEdits.{get-put_same, get-put_other}
 use Rattle.geos_model.proofs.Validity.{with_block-valid, raw_bytes-few}
-use Rattle.geos_model.proofs.Chains.{contains_first, contains_later, contains_cases, raw_block, member-raw, member-live, member-handle, chain-walk, walk-chain, chain-members}
+use Rattle.geos_model.proofs.Chains.{contains_first, contains_later, raw_block, member-raw, member-live, member-handle, chain-walk, walk-chain, chain-members}
 use Rattle.geos_model.proofs.Relinking.{relinked-relinked, relinked_twice}
-use Rattle.geos_model.proofs.ChainCopies.{new-new}
+use Rattle.geos_model.proofs.ChainCopies.{kept-there, new-new}
 
 -- Lists without what is there twice.
 
@@ -132,20 +132,6 @@ filter-renamed rename (w ∷ ws) none some =
           ∙ ap (λ (zs : List ℕ). rename w ∷ zs) (filter-renamed rename ws none (λ x there. some x (subst (λ zs. Contains zs x) (sym kept) (contains_later w (filter keep ws) x there))))
           ∙ ap (map rename) (sym kept))
     ]
-
--- what passes is kept
-kept-there : (p : ℕ → Bool) (xs : List ℕ) (x : ℕ) → Contains xs x → p x ≡ true → Contains (filter p xs) x
-kept-there p [] x there good = there
-kept-there p (y ∷ ys) x there good = elim (cases_Bool (p y)) [
-  | inl e ↦ subst (λ zs. Contains zs x) (sym (cond-true (p y) (y ∷ filter p ys) (filter p ys) e)) (elim (contains_cases y ys x there) [
-    | inl is ↦ subst (Contains (y ∷ filter p ys)) is (contains_first y (filter p ys))
-    | inr later ↦ contains_later y (filter p ys) x (kept-there p ys x later good)
-  ])
-  | inr e ↦ subst (λ zs. Contains zs x) (sym (cond-false (p y) (y ∷ filter p ys) (filter p ys) e)) (elim (contains_cases y ys x there) [
-    | inl is ↦ absurd (true≢false (sym good ∙ ap p (sym is) ∙ e))
-    | inr later ↦ kept-there p ys x later good
-  ])
-]
 
 -- a link that isn't 0 is one of a body's links
 pub link-there : (bytes : List ℕ) (i : ℕ) → i < link_count bytes → word_at bytes (link_place bytes i) ≢ 0 → Contains (links bytes) (word_at bytes (link_place bytes i))

@@ -8,7 +8,7 @@ use Rattle.byteorder.specs.Numbers.{little_number-reads_back}
 use Rattle.geos_model.specs.Words.{word, word_at}
 use Rattle.geos_model.specs.Bytes.{written}
 use Rattle.geos_model.specs.Chain.{tree_mark, is_tree, branches_at, branch_count, has_branches, is_linked, link_count, first_link, link_place, relinked}
-use Rattle.geos_model.specs.ChainLaws.{IsRelinked}
+use Rattle.geos_model.specs.ChainLaws.{IsOfNoLink, IsRelinked}
 
 -- bytes that are written over
 
@@ -350,7 +350,7 @@ pub record AreSameRelinked (left_name right_name : ℕ → ℕ) (left right : Li
   pub count : link_count right ≡ link_count left
   pub first : first_link right ≡ first_link left
   pub alike : (i : ℕ) → i < link_count left → left_name (word_at left (link_place left i)) ≡ right_name (word_at right (link_place right i))
-  pub others : (k : ℕ) → ((i : ℕ) → i < link_count left → (k < link_place left i) ⊎ (link_place left i + 2 ≤ k)) → get_or right k 0 ≡ get_or left k 0
+  pub others : (k : ℕ) → IsOfNoLink left k → get_or right k 0 ≡ get_or left k 0
 
 module _ (left_name right_name : ℕ → ℕ) (left right : List ℕ) (left_sound : is_linked left ≡ true) (right_sound : is_linked right ≡ true) where
   pub same-relinked : AreSameRelinked left_name right_name left right → relinked left_name left ≡ relinked right_name right

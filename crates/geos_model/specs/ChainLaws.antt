@@ -34,17 +34,22 @@ abbrev pub is_rising : List ℕ → Bool
 is_rising [] = true
 is_rising (x ∷ xs) = list_all (nat_lt x) xs && is_rising xs
 
--- so many VM handles that aren't live, each once, rising
+-- The least VM handles that aren't live, so many, each once, rising.
 pub record AreNew (d : Document) (n : ℕ) (new : List ℕ) : Type 0 where
   pub as_many : length new ≡ n
   pub handle : (x : ℕ) → Contains new x → is_vm_handle x ≡ true
   pub not_live : (x : ℕ) → Contains new x → is_live d x ≡ false
   pub once : all_distinct new ≡ true
   pub rising : is_rising new ≡ true
+  pub least : (x y : ℕ) → is_vm_handle x ≡ true → is_live d x ≡ false → (Contains new x → ⊥) → Contains new y → y < x
 
 -- the words where a body's links stand, 0 too
 abbrev pub link_words : List ℕ → List ℕ
 link_words bytes = map (λ i. word_at bytes (link_place bytes i)) (range_with_len 0 (link_count bytes))
+
+-- a byte of a body that is of none of its links
+abbrev pub IsOfNoLink : List ℕ → ℕ → Type 0
+IsOfNoLink bytes k = (i : ℕ) → i < link_count bytes → (k < link_place bytes i) ⊎ (link_place bytes i + 2 ≤ k)
 
 -- A body of as many bytes with its links at the same places, each renamed, and the other bytes as they were.
 pub record IsRelinked (rename : ℕ → ℕ) (old new : List ℕ) : Type 0 where
@@ -53,7 +58,7 @@ pub record IsRelinked (rename : ℕ → ℕ) (old new : List ℕ) : Type 0 where
   pub count : link_count new ≡ link_count old
   pub first : first_link new ≡ first_link old
   pub words : link_words new ≡ map rename (link_words old)
-  pub others : (k : ℕ) → ((i : ℕ) → i < link_count old → (k < link_place old i) ⊎ (link_place old i + 2 ≤ k)) → get_or new k 0 ≡ get_or old k 0
+  pub others : (k : ℕ) → IsOfNoLink old k → get_or new k 0 ≡ get_or old k 0
 
 -- the document with these blocks put in, one after another
 abbrev pub with_blocks : Document → List (ℕ × Block) → Document
@@ -81,7 +86,7 @@ pub record AreSameBodies (xs ys left right : List ℕ) : Type 0 where
   pub count : link_count right ≡ link_count left
   pub first : first_link right ≡ first_link left
   pub alike : (i : ℕ) → i < link_count left → AreAlike xs ys (word_at left (link_place left i)) (word_at right (link_place right i))
-  pub others : (k : ℕ) → ((i : ℕ) → i < link_count left → (k < link_place left i) ⊎ (link_place left i + 2 ≤ k)) → get_or right k 0 ≡ get_or left k 0
+  pub others : (k : ℕ) → IsOfNoLink left k → get_or right k 0 ≡ get_or left k 0
 
 -- as many blocks, in the same order with the same bodies
 pub record HaveSameShape (d : Document) (xs ys : List ℕ) : Type 0 where
