@@ -1,12 +1,14 @@
 -- The handles that copies of blocks get.
-use Rattle.std.proofs.Common.{◌≡◌, ℕ, zero, suc, ◌+◌, ◌<◌, ◌≤◌, Bool, true, false, not, ◌==◌, nat_le, nat_lt, List, [], ◌∷◌, length, take, filter, refl, ap, ◌∙◌, inl, inr, arith, lt-ltb, le-leb, length-take-le}
-use Rattle.std.proofs.lemmas.Bool.{cases_Bool, and_parts, and_from, or_from, cond-true, cond-false, not-true, not_from_false, eqb-true, ltb-true}
+use Rattle.std.proofs.Common.{◌≡◌, ℕ, zero, suc, ◌+◌, ◌-◌, ◌<◌, ◌≤◌, Bool, true, false, not, ◌==◌, nat_le, nat_lt, List, [], ◌∷◌, length, take, filter, refl, sym, ap, subst, ◌∙◌, inl, inr, arith, lt-ltb, leb-true, le-leb, length-take-le}
+use Rattle.std.proofs.lemmas.Bool.{cases_Bool, and_parts, and_from, or_from, cond-true, cond-false, not-true, not_from_false, eqb-true, ltb-true, true≢false}
+use Rattle.std.proofs.lemmas.List.FromFn.{length-range_with_len, get_or-range_with_len}
 use Rattle.std.proofs.lemmas.List.Elements.{All-nil, All-cons, All-contains, All-take, All-filter, filter_passes}
-use Rattle.std.specs.List.{All, list_all, list_any, range_with_len}
+use Rattle.std.specs.List.{All, Contains, list_all, list_any, range_with_len}
 use Rattle.geos_model.specs.ElementArray.{all_distinct}
 use Rattle.geos_model.specs.Document.{Document, most_blocks, vm_handles, is_vm_handle, is_live}
 use Rattle.geos_model.specs.Chain.{free_handles, new_handles}
 use Rattle.geos_model.specs.ChainLaws.{is_rising, AreNew}
+use Rattle.geos_model.proofs.Chains.{contains_cases, contains_first, contains_later}
 
 -- Rising lists.
 
@@ -72,6 +74,43 @@ rising-distinct (x ∷ xs) up =
     let parts = and_parts (list_all (nat_lt x) xs) (is_rising xs) up in
     and_from (not (list_any (λ y. x == y) xs)) (all_distinct xs) (not_from_false (list_any (λ y. x == y) xs) (met_none x xs parts.0)) (rising-distinct xs parts.1)
 
+-- what passes is kept
+pub kept-there : (p : ℕ → Bool) (xs : List ℕ) (x : ℕ) → Contains xs x → p x ≡ true → Contains (filter p xs) x
+kept-there p [] x there good = there
+kept-there p (y ∷ ys) x there good = elim (cases_Bool (p y)) [
+  | inl e ↦ subst (λ zs. Contains zs x) (sym (cond-true (p y) (y ∷ filter p ys) (filter p ys) e)) (elim (contains_cases y ys x there) [
+    | inl is ↦ subst (Contains (y ∷ filter p ys)) is (contains_first y (filter p ys))
+    | inr later ↦ contains_later y (filter p ys) x (kept-there p ys x later good)
+  ])
+  | inr e ↦ subst (λ zs. Contains zs x) (sym (cond-false (p y) (y ∷ filter p ys) (filter p ys) e)) (elim (contains_cases y ys x there) [
+    | inl is ↦ absurd (true≢false (sym good ∙ ap p (sym is) ∙ e))
+    | inr later ↦ kept-there p ys x later good
+  ])
+]
+
+-- what a rising list has behind its first so many is greater than these
+behind_taken : (n : ℕ) (xs : List ℕ) (x y : ℕ) → is_rising xs ≡ true → Contains xs x → (Contains (take n xs) x → ⊥) → Contains (take n xs) y → y < x
+behind_taken zero xs x y up there absent taken = absurd (let low = taken.1 in omega arith)
+behind_taken (suc n) [] x y up there absent taken = absurd (absent there)
+behind_taken (suc n) (z ∷ zs) x y up there absent taken =
+    let parts = and_parts (list_all (nat_lt z) zs) (is_rising zs) up in
+    elim (contains_cases z zs x there) [
+      | inl is ↦ absurd (absent (subst (Contains (z ∷ take n zs)) is (contains_first z (take n zs))))
+      | inr later ↦ elim (contains_cases z (take n zs) y taken) [
+        | inl is ↦ (let less : z < x = all_above z zs x parts.0 later in omega arith)
+        | inr within ↦ behind_taken n zs x y parts.1 later (λ at. absent (contains_later z (take n zs) x at)) within
+      ]
+    ]
+  where
+    all_above : (a : ℕ) (bs : List ℕ) (b : ℕ) → list_all (nat_lt a) bs ≡ true → Contains bs b → a < b
+    all_above a [] b above at = absurd (let low = at.1 in omega arith)
+    all_above a (c ∷ cs) b above at =
+        let halves = and_parts (nat_lt a c) (list_all (nat_lt a) cs) above in
+        elim (contains_cases c cs b at) [
+          | inl is ↦ (let less = ltb-true a c halves.0 in omega arith)
+          | inr later ↦ all_above a cs b halves.1 later
+        ]
+
 -- The handles of a document.
 
 handles-range : (a n : ℕ) → 1 ≤ a → a + n ≤ suc most_blocks → All (λ h. is_vm_handle h ≡ true) (range_with_len a n)
@@ -89,10 +128,25 @@ vm_handles-rising : is_rising vm_handles ≡ true
 unfolding vm_handles
 vm_handles-rising = rising-range 1 most_blocks
 
+vm_handles-there : (x : ℕ) → is_vm_handle x ≡ true → Contains vm_handles x
+unfolding vm_handles
+vm_handles-there x handle =
+    let parts = and_parts (nat_le 1 x) (nat_le x most_blocks) handle in
+    let some = leb-true 1 x parts.0 in
+    let low = leb-true x most_blocks parts.1 in
+    range-there 1 most_blocks x some (omega arith)
+  where
+    range-there : (a n y : ℕ) → a ≤ y → y < a + n → Contains (range_with_len a n) y
+    range-there a n y from below =
+        let many = length-range_with_len a n in
+        let at : a + (y - a) ≡ y = omega arith in
+        (y - a, omega arith, get_or-range_with_len a n (y - a) y (omega arith) ∙ at)
+
 pub new-new : (d : Document) (n : ℕ) → n ≤ length (free_handles d) → AreNew d n (new_handles d n)
 new-new d n enough =
     let free : ℕ → Bool = λ h. not (is_live d h) in
-    let up = rising-take n (free_handles d) (rising-filter free vm_handles vm_handles-rising) in
+    let all_up = rising-filter free vm_handles vm_handles-rising in
+    let up = rising-take n (free_handles d) all_up in
     let handles = All-take (λ h. is_vm_handle h ≡ true) n (free_handles d) (All-filter free (λ h. is_vm_handle h ≡ true) vm_handles vm_handles-all) in
     let frees = All-take (λ h. free h ≡ true) n (free_handles d) (filter_passes free vm_handles) in record {
       as_many = length-take-le n (free_handles d) enough;
@@ -100,4 +154,6 @@ new-new d n enough =
       not_live = λ x there. not-true (is_live d x) (All-contains (λ h. free h ≡ true) (new_handles d n) x frees there);
       once = rising-distinct (new_handles d n) up;
       rising = up;
+      least = λ x y handle not_live absent there.
+          behind_taken n (free_handles d) x y all_up (kept-there free vm_handles x (vm_handles-there x handle) (ap not not_live)) absent there;
     }

@@ -211,10 +211,13 @@ member-handle d valid h member =
     let parts = and_parts (nat_le 1 h) (nat_le h most_blocks) (valid.blocks h there.0 there.1).handle in
     (leb-true 1 h parts.0, leb-true h most_blocks parts.1)
 
+-- no more than the document can have
+pub walk-few : (d : Document) (h : ℕ) (hs : List ℕ) → IsValid d → IsWalk d h hs → length hs ≤ most_blocks
+walk-few d h hs valid walk =
+    few_distinct most_blocks hs walk.once (All-weaker (λ x. is_member d x ≡ true) (λ x. (1 ≤ x) × (x ≤ most_blocks)) (member-handle d valid) hs (forest-members d (h ∷ []) hs walk.forest))
+
 pub walk-chain : (d : Document) (h : ℕ) (hs : List ℕ) → IsValid d → IsWalk d h hs → chain d h ≡ Some hs
 unfolding chain
 walk-chain d h hs valid walk =
-    let members = forest-members d (h ∷ []) hs walk.forest in
-    let handles = All-weaker (λ x. is_member d x ≡ true) (λ x. (1 ≤ x) × (x ≤ most_blocks)) (member-handle d valid) hs members in
-    let found = found_within most_blocks d (h ∷ []) hs walk.forest (few_distinct most_blocks hs walk.once handles) in
+    let found = found_within most_blocks d (h ∷ []) hs walk.forest (walk-few d h hs valid walk) in
     ap (option_and_then if_distinct) found ∙ cond-true (all_distinct hs) _ _ walk.once

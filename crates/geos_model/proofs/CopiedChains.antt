@@ -1,5 +1,5 @@
 -- A copy of a chain is one of the same shape.
-use Rattle.std.proofs.Common.{◌≡◌, ◌≢◌, ℕ, zero, suc, ◌<◌, ◌≤◌, Bool, true, false, not, ◌==◌, nat_le, List, [], ◌∷◌, ◌++◌, length, get_or, map, filter, Option, Some, None, unwrap_or, refl, sym, ap, subst, ◌∙◌, inl, inr, arith, le-leb, leb-true, zero-add}
+use Rattle.std.proofs.Common.{◌≡◌, ◌≢◌, ℕ, zero, suc, ◌<◌, ◌≤◌, Bool, true, false, ◌&&◌, not, ◌==◌, nat_le, List, [], ◌∷◌, ◌++◌, length, get_or, map, filter, Option, Some, None, unwrap_or, refl, sym, ap, subst, ◌∙◌, inl, inr, arith, le-leb, leb-true, zero-add}
 use Rattle.std.proofs.lemmas.Bool.{cases_Bool, cases_eq, and_parts, and_from, cond-true, cond-false, not-true, eqb-true, eq-eqb, ne_eqb, true≢false}
 use Rattle.std.proofs.lemmas.List.{map-append, length-map, get_or-map, get_or_default, ext_get_or}
 use Rattle.std.proofs.lemmas.List.Folds.{list_any_at}
@@ -12,15 +12,15 @@ use lib.Pointwise.{bytes_decides, pointwise_decides}
 use Rattle.geos_model.specs.Words.{word_at}
 use Rattle.geos_model.specs.ElementArray.{all_distinct}
 use Rattle.geos_model.specs.Heap.{capacity}
-use Rattle.geos_model.specs.Document.{Block, Document, IsValid, IsValidBlock, most_blocks, is_vm_handle, is_live, is_raw, is_heap_body, bytes_of_body, raw_bytes_of, block_at, with_block}
+use Rattle.geos_model.specs.Document.{Block, Document, IsValid, IsValidBlock, most_blocks, is_vm_handle, is_live, is_raw, is_heap_body, bytes_of_body, raw_bytes_of, user_id_of, block_at, with_block}
 use Rattle.geos_model.specs.Chain.{tree_mark, is_linked, link_count, link_place, links, relinked, is_member, chain, name_of, shape, relinked_block, renamed_blocks, free_handles, new_handles, copies_of}
 use Rattle.geos_model.specs.ChainLaws.{IsForest, nothing, block, link_words, with_blocks, IsCopied}
 use Rattle.geos_model.specs.declared.command.Body.TheVariants.{Raw}
 use Rattle.geos_model.proofs.HeapEdits.{get-put_same, get-put_other}
 use Rattle.geos_model.proofs.Validity.{with_block-valid, raw_bytes-few}
-use Rattle.geos_model.proofs.Chains.{contains_first, contains_later, contains_cases, raw_block, member-raw, member-live, member-handle, chain-walk, walk-chain, chain-members}
+use Rattle.geos_model.proofs.Chains.{contains_first, contains_later, raw_block, member-raw, member-live, member-handle, chain-walk, walk-chain, chain-members}
 use Rattle.geos_model.proofs.Relinking.{relinked-relinked, relinked_twice}
-use Rattle.geos_model.proofs.ChainCopies.{new-new}
+use Rattle.geos_model.proofs.ChainCopies.{kept-there, new-new}
 
 -- Lists without what is there twice.
 
@@ -35,7 +35,7 @@ distinct-rest x xs once = (and_parts (not (list_any (λ y. x == y) xs)) (all_dis
 
 -- Names.
 
-name-unknown : (hs new : List ℕ) (x : ℕ) → (Contains hs x → ⊥) → name_of (zip hs new) x ≡ 0
+pub name-unknown : (hs new : List ℕ) (x : ℕ) → (Contains hs x → ⊥) → name_of (zip hs new) x ≡ 0
 name-unknown [] new x absent = refl
 name-unknown (h ∷ hs) [] x absent = refl
 name-unknown (h ∷ hs) (n ∷ new) x absent =
@@ -44,7 +44,7 @@ name-unknown (h ∷ hs) (n ∷ new) x absent =
       | inr e ↦ cond-false (h == x) n (name_of (zip hs new) x) e ∙ name-unknown hs new x (λ there. absent (contains_later h hs x there))
     ]
 
-name-known : (hs new : List ℕ) (i : ℕ) → length hs ≡ length new → all_distinct hs ≡ true → i < length hs → name_of (zip hs new) (get_or hs i 0) ≡ get_or new i 0
+pub name-known : (hs new : List ℕ) (i : ℕ) → length hs ≡ length new → all_distinct hs ≡ true → i < length hs → name_of (zip hs new) (get_or hs i 0) ≡ get_or new i 0
 name-known [] new i long once low = absurd (omega arith)
 name-known (h ∷ hs) [] i long once low = absurd (let none : suc (length hs) ≡ 0 = long in omega arith)
 name-known (h ∷ hs) (n ∷ new) zero long once low = cond-true (h == h) n (name_of (zip hs new) h) (eq-eqb h h refl)
@@ -55,7 +55,7 @@ name-known (h ∷ hs) (n ∷ new) (suc i) long once low =
       | inr e ↦ cond-false (h == get_or hs i 0) n (name_of (zip hs new) (get_or hs i 0)) e ∙ name-known hs new i (omega arith) (distinct-rest h hs once) (omega arith)
     ]
 
-name-low : (top : ℕ) (hs new : List ℕ) (x : ℕ) → 0 < top → All (λ n. n < top) new → name_of (zip hs new) x < top
+pub name-low : (top : ℕ) (hs new : List ℕ) (x : ℕ) → 0 < top → All (λ n. n < top) new → name_of (zip hs new) x < top
 name-low top [] new x some low = some
 name-low top (h ∷ hs) [] x some low = some
 name-low top (h ∷ hs) (n ∷ new) x some low = elim (cases_Bool (h == x)) [
@@ -106,6 +106,13 @@ block-bytes d h = by_block (get d.blocks h)
     by_block None = refl
     by_block (Some b) = refl
 
+block-user_id : (d : Document) (h : ℕ) → (block_at d h).user_id ≡ user_id_of d h
+block-user_id d h = by_block (get d.blocks h)
+  where
+    by_block : (o : Option Block) → (unwrap_or o (record { user_id = 0; body = Raw [] })).user_id ≡ option_map_or (λ b. b.user_id) o 0
+    by_block None = refl
+    by_block (Some b) = refl
+
 -- renaming keeps what is no link apart
 pub filter-renamed : (rename : ℕ → ℕ) (ws : List ℕ) → rename 0 ≡ 0 → ((w : ℕ) → Contains (filter (λ h. not (h == 0)) ws) w → rename w ≢ 0)
     → filter (λ h. not (h == 0)) (map rename ws) ≡ map rename (filter (λ h. not (h == 0)) ws)
@@ -126,22 +133,8 @@ filter-renamed rename (w ∷ ws) none some =
           ∙ ap (map rename) (sym kept))
     ]
 
--- what passes is kept
-kept-there : (p : ℕ → Bool) (xs : List ℕ) (x : ℕ) → Contains xs x → p x ≡ true → Contains (filter p xs) x
-kept-there p [] x there good = there
-kept-there p (y ∷ ys) x there good = elim (cases_Bool (p y)) [
-  | inl e ↦ subst (λ zs. Contains zs x) (sym (cond-true (p y) (y ∷ filter p ys) (filter p ys) e)) (elim (contains_cases y ys x there) [
-    | inl is ↦ subst (Contains (y ∷ filter p ys)) is (contains_first y (filter p ys))
-    | inr later ↦ contains_later y (filter p ys) x (kept-there p ys x later good)
-  ])
-  | inr e ↦ subst (λ zs. Contains zs x) (sym (cond-false (p y) (y ∷ filter p ys) (filter p ys) e)) (elim (contains_cases y ys x there) [
-    | inl is ↦ absurd (true≢false (sym good ∙ ap p (sym is) ∙ e))
-    | inr later ↦ kept-there p ys x later good
-  ])
-]
-
 -- a link that isn't 0 is one of a body's links
-link-there : (bytes : List ℕ) (i : ℕ) → i < link_count bytes → word_at bytes (link_place bytes i) ≢ 0 → Contains (links bytes) (word_at bytes (link_place bytes i))
+pub link-there : (bytes : List ℕ) (i : ℕ) → i < link_count bytes → word_at bytes (link_place bytes i) ≢ 0 → Contains (links bytes) (word_at bytes (link_place bytes i))
 link-there bytes i low some =
     let link : ℕ → ℕ = λ k. word_at bytes (link_place bytes k) in
     let many = length-map-range_with_len link 0 (link_count bytes) in
@@ -239,6 +232,36 @@ module _ (d : Document) (hs new : List ℕ) (valid : IsValid d) (members : (x : 
       subst (λ (r : ℕ). chain copied r ≡ Some new) root
       (walk-chain copied (rename h) new valid_copied (record { forest = subst (IsForest copied (rename h ∷ [])) all_renamed there; once = new_once }))
 
+  -- an old block is as it was
+  old_block : (x : ℕ) → Contains hs x → get copied.blocks x ≡ get d.blocks x
+  old_block x there = put-others named d hs new x (λ fresh. true≢false (sym (member-live d x (members x there)) ∙ new_free x fresh))
+
+  old_bytes : (x : ℕ) → Contains hs x → raw_bytes_of copied x ≡ raw_bytes_of d x
+  old_bytes x there = ap (λ (o : Option Block). option_map_or (λ b. bytes_of_body b.body) o []) (old_block x there)
+
+  old_member : (x : ℕ) → Contains hs x → is_member copied x ≡ true
+  old_member x there =
+      ap (λ (o : Option Block). option_map_or (λ b. not (is_heap_body b.body)) o false && is_linked (option_map_or (λ b. bytes_of_body b.body) o [])) (old_block x there)
+      ∙ members x there
+
+  forest_kept : (roots xs : List ℕ) → IsForest d roots xs → ((x : ℕ) → Contains xs x → Contains hs x) → IsForest copied roots xs
+  forest_kept _ _ nothing within = nothing
+  forest_kept _ _ (block h more below rest member inner outer) within =
+      let there = within h (contains_first h (below ++ rest)) in
+      let under = forest_kept (links (raw_bytes_of d h)) below inner (λ x at. within x (contains_later h (below ++ rest) x (Contains-append_left below rest x at))) in
+      let later = forest_kept more rest outer (λ x at. within x (contains_later h (below ++ rest) x (Contains-append_right below rest x at))) in
+      block h more below rest (old_member h there) (subst (λ bytes. IsForest copied (links bytes) below) (sym (old_bytes h there)) under) later
+
+  -- and so the old chain is one
+  chain_kept : (h : ℕ) (rest : List ℕ) → hs ≡ h ∷ rest → IsForest d (h ∷ []) hs → chain copied (get_or hs 0 0) ≡ Some hs
+  chain_kept h rest first forest =
+      ap (λ (xs : List ℕ). chain copied (get_or xs 0 0)) first
+      ∙ walk-chain copied h hs valid_copied (record { forest = forest_kept (h ∷ []) hs forest (λ x at. at); once = once })
+
+  user_id_copied : (i : ℕ) → i < length hs → user_id_of copied (get_or new i 0) ≡ user_id_of d (get_or hs i 0)
+  user_id_copied i low =
+      ap (λ (o : Option Block). option_map_or (λ b. b.user_id) o 0) (put-there named d hs new i long new_once low) ∙ block-user_id d (get_or hs i 0)
+
   -- places of the old blocks and of the new
   abbrev place_of : ℕ → ℕ
   place_of = name_of (zip hs (range_with_len 1 (length hs)))
@@ -269,12 +292,6 @@ module _ (d : Document) (hs new : List ℕ) (valid : IsValid d) (members : (x : 
     | inr some ↦ same_place w (known some)
   ]
 
-  -- an old block is as it was
-  old_bytes : (x : ℕ) → Contains hs x → raw_bytes_of copied x ≡ raw_bytes_of d x
-  old_bytes x there =
-      ap (λ (o : Option Block). option_map_or (λ b. bytes_of_body b.body) o [])
-      (put-others named d hs new x (λ fresh. true≢false (sym (member-live d x (members x there)) ∙ new_free x fresh)))
-
   same_body : (x : ℕ) → Contains hs x → relinked new_place_of (raw_bytes_of copied (rename x)) ≡ relinked place_of (raw_bytes_of copied x)
   same_body x there =
       ap (relinked new_place_of) (bytes_of_copy x there)
@@ -300,6 +317,8 @@ module _ (d : Document) (hs new : List ℕ) (valid : IsValid d) (members : (x : 
     valid = valid_copied;
     map_block = put-map_block named d hs new;
     others = put-others named d hs new;
+    user_ids = user_id_copied;
+    kept = chain_kept h rest first forest;
     chained = chained_copied h rest first forest;
     same = (pointwise_decides bytes_decides (shape copied hs) (shape copied new)).1 same_shapes;
   }

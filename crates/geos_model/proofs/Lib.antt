@@ -29,3 +29,4 @@ pub mod Chains
 pub mod Relinking
 pub mod ChainCopies
 pub mod CopiedChains
+mod ChainShapes

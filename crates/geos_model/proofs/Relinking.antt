@@ -8,7 +8,7 @@ use Rattle.byteorder.specs.Numbers.{little_number-reads_back}
 use Rattle.geos_model.specs.Words.{word, word_at}
 use Rattle.geos_model.specs.Bytes.{written}
 use Rattle.geos_model.specs.Chain.{tree_mark, is_tree, branches_at, branch_count, has_branches, is_linked, link_count, first_link, link_place, relinked}
-use Rattle.geos_model.specs.ChainLaws.{IsRelinked}
+use Rattle.geos_model.specs.ChainLaws.{IsOfNoLink, IsRelinked}
 
 -- bytes that are written over
 
@@ -307,26 +307,26 @@ placed first (suc n) k = elim (placed first n k) [
   ]
 ]
 
--- words put twice at the same places are those that were put last
-put_twice : (first n : ℕ) (early late both : ℕ → ℕ) (bytes : List ℕ) → fits first early 0 n bytes → ((i : ℕ) → i < n → late i ≡ both i)
-    → put first late 0 n (put first early 0 n bytes) ≡ put first both 0 n bytes
-put_twice first n early late both bytes within same =
-    let once : List ℕ = put first early 0 n bytes in
-    let long = length-put first early n 0 bytes within in
-    let within_once : fits first late 0 n once = λ i low. (let room = within i low in omega arith) in
-    let long_left = length-put first late n 0 once within_once in
-    let long_right = length-put first both n 0 bytes within in
-    ext_get_or 0 (put first late 0 n once) (put first both 0 n bytes) (long_left ∙ long ∙ sym long_right) (λ k low. elim (placed first n k) [
-      | inl here ↦ (let at : ℕ = first + 4 * here.0 + here.1 in
-          ap (λ (q : ℕ). get_or (put first late 0 n once) q 0) here.4
-          ∙ put-here first late n 0 once here.0 here.1 within_once (omega arith) (let little = here.2 in omega arith) here.3
+-- The same words put at the same places of bytes that are the same elsewhere make the same bytes.
+put_same : (first n : ℕ) (early late : ℕ → ℕ) (xs ys : List ℕ) → fits first early 0 n xs → length ys ≡ length xs → ((i : ℕ) → i < n → early i ≡ late i)
+    → ((k : ℕ) → ((i : ℕ) → i < n → (k < first + 4 * i) ⊎ (first + 4 * i + 2 ≤ k)) → get_or ys k 0 ≡ get_or xs k 0)
+    → put first early 0 n xs ≡ put first late 0 n ys
+put_same first n early late xs ys within long same others =
+    let within_late : fits first late 0 n ys = λ i low. (let room = within i low in omega arith) in
+    let left = length-put first early n 0 xs within in
+    let right = length-put first late n 0 ys within_late in
+    ext_get_or 0 (put first early 0 n xs) (put first late 0 n ys) (left ∙ sym long ∙ sym right) (λ k low. elim (placed first n k) [
+      | inl here ↦
+          (let below = here.2 in
+          ap (λ (q : ℕ). get_or (put first early 0 n xs) q 0) here.4
+          ∙ put-here first early n 0 xs here.0 here.1 within (omega arith) (omega arith) here.3
           ∙ ap (λ (v : ℕ). get_or (word v) here.1 0) (same here.0 here.2)
-          ∙ sym (put-here first both n 0 bytes here.0 here.1 within (omega arith) (let little = here.2 in omega arith) here.3)
-          ∙ ap (λ (q : ℕ). get_or (put first both 0 n bytes) q 0) (sym here.4))
+          ∙ sym (put-here first late n 0 ys here.0 here.1 within_late (omega arith) (omega arith) here.3)
+          ∙ ap (λ (q : ℕ). get_or (put first late 0 n ys) q 0) (sym here.4))
       | inr apart ↦
-          put-other first late n 0 once k within_once (λ i _ little. apart i (omega arith))
-          ∙ put-other first early n 0 bytes k within (λ i _ little. apart i (omega arith))
-          ∙ sym (put-other first both n 0 bytes k within (λ i _ little. apart i (omega arith)))
+          put-other first early n 0 xs k within (λ i _ little. apart i (omega arith))
+          ∙ sym (others k apart)
+          ∙ sym (put-other first late n 0 ys k within_late (λ i _ little. apart i (omega arith)))
     ])
 
 pub relinked_twice : (rename again both : ℕ → ℕ) (bytes : List ℕ) → is_linked bytes ≡ true → ((x : ℕ) → rename x < tree_mark)
@@ -337,6 +337,45 @@ relinked_twice rename again both bytes sound few same =
     let frame = framed rename bytes sound few in
     let there : relinked again new ≡ put (first_link bytes) (λ i. again (word_at new (link_place bytes i))) 0 (link_count bytes) new =
     ap₂ (λ (f n : ℕ). put f (λ i. again (word_at new (f + 4 * i))) 0 n new) frame.first frame.count in
-    there ∙ put_twice (first_link bytes) (link_count bytes) (λ i. rename (word_at bytes (link_place bytes i))) (λ i. again (word_at new (link_place bytes i)))
-    (λ i. both (word_at bytes (link_place bytes i))) bytes (λ i low. links-fit bytes sound i (omega arith))
-    (λ i low. ap again (word_here rename bytes sound few i low) ∙ same i low)
+    let early : ℕ → ℕ = λ i. rename (word_at bytes (link_place bytes i)) in
+    let fit : fits (first_link bytes) early 0 (link_count bytes) bytes = λ i low. links-fit bytes sound i (omega arith) in
+    let long : length new ≡ length bytes = (relinked-relinked rename bytes sound few).long in
+    there ∙ put_same (first_link bytes) (link_count bytes) (λ i. again (word_at new (link_place bytes i))) (λ i. both (word_at bytes (link_place bytes i))) new bytes
+    (λ i low. let room = fit i low in omega arith) (sym long) (λ i low. ap again (word_here rename bytes sound few i low) ∙ same i low)
+    (λ k apart. sym ((relinked-relinked rename bytes sound few).others k apart))
+
+-- Two bodies that are the same with their links renamed, each by its own names.
+pub record AreSameRelinked (left_name right_name : ℕ → ℕ) (left right : List ℕ) : Type 0 where
+  pub long : length right ≡ length left
+  pub count : link_count right ≡ link_count left
+  pub first : first_link right ≡ first_link left
+  pub alike : (i : ℕ) → i < link_count left → left_name (word_at left (link_place left i)) ≡ right_name (word_at right (link_place right i))
+  pub others : (k : ℕ) → IsOfNoLink left k → get_or right k 0 ≡ get_or left k 0
+
+module _ (left_name right_name : ℕ → ℕ) (left right : List ℕ) (left_sound : is_linked left ≡ true) (right_sound : is_linked right ≡ true) where
+  pub same-relinked : AreSameRelinked left_name right_name left right → relinked left_name left ≡ relinked right_name right
+  same-relinked same =
+      put_same (first_link left) (link_count left) (λ i. left_name (word_at left (link_place left i))) (λ i. right_name (word_at right (first_link left + 4 * i))) left right
+      (λ i low. links-fit left left_sound i (omega arith)) same.long
+      (λ i low. same.alike i low ∙ ap (λ (f : ℕ). right_name (word_at right (f + 4 * i))) same.first) same.others
+      ∙ sym (ap₂ (λ (f n : ℕ). put f (λ i. right_name (word_at right (f + 4 * i))) 0 n right) same.first same.count)
+
+  pub relinked-same : ((x : ℕ) → left_name x < tree_mark) → ((x : ℕ) → right_name x < tree_mark) → relinked left_name left ≡ relinked right_name right
+      → AreSameRelinked left_name right_name left right
+  relinked-same left_few right_few same =
+      let l = relinked-relinked left_name left left_sound left_few in
+      let r = relinked-relinked right_name right right_sound right_few in
+      let count : link_count right ≡ link_count left = sym r.count ∙ ap link_count (sym same) ∙ l.count in
+      let first : first_link right ≡ first_link left = sym r.first ∙ ap first_link (sym same) ∙ l.first in record {
+        long = sym r.long ∙ ap length (sym same) ∙ l.long;
+        count = count;
+        first = first;
+        alike = λ i low.
+            sym (word_here left_name left left_sound left_few i low)
+            ∙ ap₂ (λ (bytes : List ℕ) (f : ℕ). word_at bytes (f + 4 * i)) same (sym first)
+            ∙ word_here right_name right right_sound right_few i (omega arith);
+        others = λ k apart.
+            sym (r.others k (λ i low. subst (λ (f : ℕ). (k < f + 4 * i) ⊎ (f + 4 * i + 2 ≤ k)) (sym first) (apart i (omega arith))))
+            ∙ ap (λ (bytes : List ℕ). get_or bytes k 0) (sym same)
+            ∙ l.others k apart;
+      }

@@ -2,6 +2,7 @@ use Rattle.geos_model.proofs.Chains.{chain-walk, walk-chain, chain-members}
 use Rattle.geos_model.proofs.Relinking.{relinked-relinked}
 use Rattle.geos_model.proofs.ChainCopies.{new-new}
 use Rattle.geos_model.proofs.CopiedChains.{chain-copied}
+use Rattle.geos_model.proofs.ChainShapes.{chain-shapes}
 use Rattle.geos_model.proofs.law.chain_law.Goals as goal
 
 pub returns : goal.returns
@@ -10,5 +11,6 @@ returns c = record {
   members = chain-members;
   handles = new-new;
   relinked = relinked-relinked;
+  shapes = chain-shapes;
   copy = chain-copied;
 }
