@@ -49,7 +49,7 @@ fn the_longest_chain_is_equal_to_itself(rt: HostRuntime) -> Result<(), Fail> {
 fn all_blocks_are_freed_and_none_can_be_copied(rt: HostRuntime) -> Result<(), Fail> {
     let mut blocks = row(rt.alloc(), MOST_BLOCKS, 0)?;
     assert_eq!(rt;
-        free_plan(rt.alloc(), &mut blocks, VmHandle(1))?.len(),
+        free_plan(rt.alloc(), &mut blocks, VmHandle(1))?.list.len(),
         2_048
     );
     assert!(rt;

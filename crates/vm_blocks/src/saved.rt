@@ -1,4 +1,4 @@
-ghost use Rattle.std.specs.Prelude.{◌≡◌, ◌≤◌, ◌<◌, true, IfOk, length, replicate};
+ghost use Rattle.std.specs.Prelude.{◌≡◌, ◌≤◌, ◌<◌, ◌+◌, true, IfOk, length, replicate};
 ghost use Rattle.std.specs.FinMap.{empty};
 ghost use Rattle.geos_model.specs.Document.{is_valid_body};
 ghost use Rattle.geos_model.specs.Heap.{capacity, is_heap_map};
@@ -217,7 +217,8 @@ impl SavedBlock {
 
     /// How many bytes the image of its body has.
     pub fn image_len(&self) -> usize
-        ensures { result ≡ length (image (saved_block self.now).body) }
+        ensures value { result ≡ length (image (saved_block self.now).body) }
+        ensures small { result ≤ capacity + 1 }
     {
         match &self.body {
             SavedBody::Raw(raw) => raw.image_len(),

@@ -18,7 +18,7 @@ pub(crate) struct Met {
 
 impl Model for Met {
     ghost use Rattle.std.specs.Prelude.{List, ℕ};
-    ghost use Rattle.vm_chains.specs.Planned.{numbers};
+    ghost use Rattle.vm_chains.specs.Numbers.{numbers};
     ghost use Rattle.vm_chains.specs.Walking.{AreMarked};
 
     ghost Value = { List ℕ };

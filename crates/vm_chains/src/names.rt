@@ -6,7 +6,7 @@ ghost use Rattle.geos_model.specs.Document.{is_vm_handle};
 ghost use Rattle.geos_model.specs.Heap.{capacity};
 ghost use Rattle.geos_model.specs.Words.{word};
 ghost use Rattle.vm_chains.specs.Linking.{AreLinks};
-ghost use Rattle.vm_chains.specs.Planned.{numbers};
+ghost use Rattle.vm_chains.specs.Numbers.{numbers};
 ghost use Rattle.vm_chains.specs.Naming.{name_in};
 
 use crate::MOST_BLOCKS;
