@@ -49,7 +49,7 @@ impl SavedHeap {
 
     /// The heap as it is now.
     pub fn of(heap: &Heap) -> Result<SavedHeap, AllocError>
-        ensures { IfOk result (λ saved. saved ≡ heap.now) }
+        ensures { IfOk result (λ saved. saved ≡ heap.now.chunks) }
     {
         let image = Bytes::from_vec(heap.image()?);
         Ok(SavedHeap { image })
@@ -64,8 +64,8 @@ impl SavedHeap {
 
     /// The heap as it was.
     pub fn restore(&self, alloc: Global) -> Result<Heap, AllocError>
-        ensures value { IfOk result (λ heap. heap ≡ self.now) }
-        ensures valid { IfOk result (λ heap. is_heap_map heap ≡ true) }
+        ensures value { IfOk result (λ heap. heap.chunks ≡ self.now) }
+        ensures valid { IfOk result (λ heap. is_heap_map heap.chunks ≡ true) }
     {
         match Heap::from_image(alloc, self.image.as_slice()) {
             Ok(heap) => Ok(heap),
