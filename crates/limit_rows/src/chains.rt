@@ -16,10 +16,10 @@ fn say_chain(alloc: Global, dialogue: &mut Dialogue, count: u32) -> Result<(), D
     Ok(())
 }
 
-// As many handles from the first on.
-fn handles(alloc: Global, first: u32, count: u32) -> Result<String, Departure> {
+// The reply that names all handles from the first on, before the end.
+fn blocks(alloc: Global, first: u32, end: u32) -> Result<String, Departure> {
     let mut line = String::from_str(alloc, "blocks")?;
-    for i in first..first + count {
+    for i in first..end {
         let handle = format!(in alloc; " {i:04x}")?;
         line.push_str(&handle)?;
     }
@@ -27,12 +27,10 @@ fn handles(alloc: Global, first: u32, count: u32) -> Result<String, Departure> {
 }
 
 #[test]
-fn a_chain_of_all_blocks_is_freed_as_one_and_has_no_copy(
-    rt: HostRuntime,
-) -> Result<(), Departure> {
+fn a_chain_of_all_blocks_is_freed_as_one_and_has_no_copy(rt: HostRuntime) -> Result<(), Departure> {
     let mut dialogue = Dialogue::new(rt.alloc());
     say_chain(rt.alloc(), &mut dialogue, 2_048)?;
-    dialogue.say("walk 0001", &handles(rt.alloc(), 1, 2_048)?)?;
+    dialogue.say("walk 0001", &blocks(rt.alloc(), 1, 2_049)?)?;
     dialogue.tell(
         "
         chsize 0001       = number 4096
@@ -70,7 +68,7 @@ fn a_chain_of_half_of_all_blocks_is_copied_and_the_copy_undone(
         chequal 0401 0001 = same
         ",
     )?;
-    dialogue.say("walk 0401", &handles(rt.alloc(), 1_025, 1_024)?)?;
+    dialogue.say("walk 0401", &blocks(rt.alloc(), 1_025, 2_049)?)?;
     dialogue.say("chcopy 0401", "no 10 NoHandles")?;
     dialogue.hold()
 }
