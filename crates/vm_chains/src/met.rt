@@ -1,4 +1,4 @@
-ghost use Rattle.std.specs.Prelude.{◌≡◌, [], ◌∷◌, ◌++◌, ◌==◌, true, false, IfOk, map};
+ghost use Rattle.std.specs.Prelude.{◌≡◌, [], ◌∷◌, ◌++◌, ◌==◌, true, IfOk, map};
 ghost use Rattle.std.specs.List.{list_any};
 ghost use Rattle.geos_model.specs.Document.{is_vm_handle};
 

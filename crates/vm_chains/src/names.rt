@@ -1,4 +1,4 @@
-ghost use Rattle.std.specs.Prelude.{◌≡◌, ◌≤◌, ◌+◌, ℕ, true, IfOk, get_or, length};
+ghost use Rattle.std.specs.Prelude.{◌≡◌, ◌≤◌, ◌+◌, ℕ, true, IfOk, length};
 ghost use Rattle.std.specs.List.{All, zip};
 ghost use Rattle.geos_model.specs.Chain.{is_linked, name_of, relinked};
 ghost use Rattle.geos_model.specs.Bytes.{written};
