@@ -59,3 +59,16 @@ fn a_chunk_is_written_where_it_stands(rt: HostRuntime) -> Result<(), Fail> {
     assert!(rt; heap.chunk(second) == Some([7, 7].as_slice()));
     Ok(())
 }
+
+#[test]
+fn bytes_stand_at_an_offset(rt: HostRuntime) -> Result<(), Fail> {
+    let mut heap = Heap::new(rt.alloc())?;
+    assert!(rt; heap.fits_alloc(0));
+    let empty = heap.alloc(0);
+    assert!(rt; heap.fits_alloc(65_494));
+    let chunk = heap.alloc(65_494);
+    assert!(rt; heap.offset(empty).is_none());
+    assert!(rt; heap.offset(chunk).is_some_and(|at| at <= 26));
+    assert!(rt; heap.offset(THIRD).is_none());
+    Ok(())
+}

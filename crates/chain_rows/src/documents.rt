@@ -3,8 +3,8 @@ use geos_model::{Fault, VmHandle};
 use lmem_heap::Heap;
 use raw_region::SIZE;
 use std::alloc::Global;
-use vm_blocks::{Block, BlockBody, Blocks, SavedBlock};
-use vm_chains::{Member, walk};
+use vm_blocks::{Block, BlockBody, Blocks, Members, SavedBlock};
+use vm_chains::walk;
 
 const GREATEST_HANDLE: u16 = 2_048;
 
@@ -106,17 +106,17 @@ pub fn refusal_of(alloc: Global, bytes: &[u8]) -> Result<Option<Fault>, Fault> {
 }
 
 // The handles of a plan.
-pub fn handles_of(alloc: Global, plan: &[Member]) -> Result<Vec<u16>, Fault> {
+pub fn handles_of(alloc: Global, plan: &Members) -> Result<Vec<u16>, Fault> {
     let mut numbers = Vec::new(alloc);
-    for member in plan {
+    for member in &plan.list {
         numbers.push(member.handle.0)?;
     }
     Ok(numbers)
 }
 
 // Puts the blocks of a plan in.
-pub fn carry_in(alloc: Global, blocks: &mut Blocks, plan: &[Member]) -> Result<(), Fault> {
-    for member in plan {
+pub fn carry_in(alloc: Global, blocks: &mut Blocks, plan: &Members) -> Result<(), Fault> {
+    for member in &plan.list {
         let block = member.block.restore(alloc)?;
         if member.handle.0 == 0 || member.handle.0 > GREATEST_HANDLE {
             return Err(Fault::NoBlock);

@@ -14,10 +14,10 @@ use std::alloc::Global;
 
 /// Puts the new part in the place of the old one.
 pub fn apply(heap: &mut Heap, h: ChunkHandle, splice: &Splice)
-    requires live { IsTrue (contains_key heap.old h.0) }
-    requires within { splice.now.at + length splice.now.old ≤ length (chunk_bytes heap.old h.0) }
-    requires fits { IsTrue (fits_with heap.old h.0 (forwards splice.now (chunk_bytes heap.old h.0))) }
-    ensures { heap.new ≡ insert heap.old h.0 (forwards splice.now (chunk_bytes heap.old h.0)) }
+    requires live { IsTrue (contains_key heap.old.chunks h.0) }
+    requires within { splice.now.at + length splice.now.old ≤ length (chunk_bytes heap.old.chunks h.0) }
+    requires fits { IsTrue (fits_with heap.old.chunks h.0 (forwards splice.now (chunk_bytes heap.old.chunks h.0))) }
+    ensures { heap.new.chunks ≡ insert heap.old.chunks h.0 (forwards splice.now (chunk_bytes heap.old.chunks h.0)) }
 {
     let old = splice.old.as_slice().len();
     put(heap, h, splice.at as usize, old, splice.new.as_slice());
@@ -25,10 +25,10 @@ pub fn apply(heap: &mut Heap, h: ChunkHandle, splice: &Splice)
 
 /// Puts the old part in the place of the new one, which takes `apply` back.
 pub fn apply_back(heap: &mut Heap, h: ChunkHandle, splice: &Splice)
-    requires live { IsTrue (contains_key heap.old h.0) }
-    requires within { splice.now.at + length splice.now.new ≤ length (chunk_bytes heap.old h.0) }
-    requires fits { IsTrue (fits_with heap.old h.0 (backwards splice.now (chunk_bytes heap.old h.0))) }
-    ensures { heap.new ≡ insert heap.old h.0 (backwards splice.now (chunk_bytes heap.old h.0)) }
+    requires live { IsTrue (contains_key heap.old.chunks h.0) }
+    requires within { splice.now.at + length splice.now.new ≤ length (chunk_bytes heap.old.chunks h.0) }
+    requires fits { IsTrue (fits_with heap.old.chunks h.0 (backwards splice.now (chunk_bytes heap.old.chunks h.0))) }
+    ensures { heap.new.chunks ≡ insert heap.old.chunks h.0 (backwards splice.now (chunk_bytes heap.old.chunks h.0)) }
 {
     let new = splice.new.as_slice().len();
     put(heap, h, splice.at as usize, new, splice.old.as_slice());
@@ -36,10 +36,10 @@ pub fn apply_back(heap: &mut Heap, h: ChunkHandle, splice: &Splice)
 
 /// Puts bytes in the place of the `k` bytes at `at` of a chunk. As many are written over without a move of others.
 fn put(heap: &mut Heap, h: ChunkHandle, at: usize, k: usize, bytes: &[u8])
-    requires live { IsTrue (contains_key heap.old h.0) }
-    requires within { at + k ≤ length (chunk_bytes heap.old h.0) }
-    requires fits { IsTrue (fits_with heap.old h.0 (splice (chunk_bytes heap.old h.0) at (at + k) bytes.now)) }
-    ensures { heap.new ≡ insert heap.old h.0 (splice (chunk_bytes heap.old h.0) at (at + k) bytes.now) }
+    requires live { IsTrue (contains_key heap.old.chunks h.0) }
+    requires within { at + k ≤ length (chunk_bytes heap.old.chunks h.0) }
+    requires fits { IsTrue (fits_with heap.old.chunks h.0 (splice (chunk_bytes heap.old.chunks h.0) at (at + k) bytes.now)) }
+    ensures { heap.new.chunks ≡ insert heap.old.chunks h.0 (splice (chunk_bytes heap.old.chunks h.0) at (at + k) bytes.now) }
 {
     if bytes.len() == k {
         heap.write(h, at, bytes);
@@ -56,11 +56,11 @@ pub fn write(
     at: u32,
     bytes: &[u8],
 ) -> Result<Splice, Fault>
-    requires { IsTrue (contains_key heap.now h.0) }
+    requires { IsTrue (contains_key heap.now.chunks h.0) }
     ensures built { MatchResult result
-        (λ s. Builds (past_end (chunk_bytes heap.now h.0) (at + length bytes.now)) s (chunk_bytes heap.now h.0) (written (chunk_bytes heap.now h.0) at bytes.now) (2 * length bytes.now))
-        (RefusesToBuild (past_end (chunk_bytes heap.now h.0) (at + length bytes.now))) }
-    ensures fits { IfOk result (λ s. IsTrue (fits_with heap.now h.0 (written (chunk_bytes heap.now h.0) at bytes.now))) }
+        (λ s. Builds (past_end (chunk_bytes heap.now.chunks h.0) (at + length bytes.now)) s (chunk_bytes heap.now.chunks h.0) (written (chunk_bytes heap.now.chunks h.0) at bytes.now) (2 * length bytes.now))
+        (RefusesToBuild (past_end (chunk_bytes heap.now.chunks h.0) (at + length bytes.now))) }
+    ensures fits { IfOk result (λ s. IsTrue (fits_with heap.now.chunks h.0 (written (chunk_bytes heap.now.chunks h.0) at bytes.now))) }
 {
     let old = part(heap, h, at as usize, bytes.len())?;
     Ok(Splice {
@@ -73,11 +73,11 @@ pub fn write(
 /// The splice that puts `n` zeros in before the byte at `at` of a chunk. Range where `at` is past the chunk's end, Full
 /// where the heap has no room for them.
 pub fn insert(alloc: Global, heap: &Heap, h: ChunkHandle, at: u32, n: u32) -> Result<Splice, Fault>
-    requires { IsTrue (contains_key heap.now h.0) }
+    requires { IsTrue (contains_key heap.now.chunks h.0) }
     ensures built { MatchResult result
-        (λ s. Builds (past_end (chunk_bytes heap.now h.0) at ++ no_room heap.now h.0 (inserted (chunk_bytes heap.now h.0) at n)) s (chunk_bytes heap.now h.0) (inserted (chunk_bytes heap.now h.0) at n) n)
-        (RefusesToBuild (past_end (chunk_bytes heap.now h.0) at ++ no_room heap.now h.0 (inserted (chunk_bytes heap.now h.0) at n))) }
-    ensures fits { IfOk result (λ s. IsTrue (fits_with heap.now h.0 (inserted (chunk_bytes heap.now h.0) at n))) }
+        (λ s. Builds (past_end (chunk_bytes heap.now.chunks h.0) at ++ no_room heap.now.chunks h.0 (inserted (chunk_bytes heap.now.chunks h.0) at n)) s (chunk_bytes heap.now.chunks h.0) (inserted (chunk_bytes heap.now.chunks h.0) at n) n)
+        (RefusesToBuild (past_end (chunk_bytes heap.now.chunks h.0) at ++ no_room heap.now.chunks h.0 (inserted (chunk_bytes heap.now.chunks h.0) at n))) }
+    ensures fits { IfOk result (λ s. IsTrue (fits_with heap.now.chunks h.0 (inserted (chunk_bytes heap.now.chunks h.0) at n))) }
 {
     if at as usize > chunk_of(heap, h).len() {
         return Err(Fault::Range);
@@ -94,11 +94,11 @@ pub fn insert(alloc: Global, heap: &Heap, h: ChunkHandle, at: u32, n: u32) -> Re
 
 /// The splice that takes `n` bytes out of a chunk from `at` on. Range where they reach past the chunk's end.
 pub fn delete(alloc: Global, heap: &Heap, h: ChunkHandle, at: u32, n: u32) -> Result<Splice, Fault>
-    requires { IsTrue (contains_key heap.now h.0) }
+    requires { IsTrue (contains_key heap.now.chunks h.0) }
     ensures built { MatchResult result
-        (λ s. Builds (past_end (chunk_bytes heap.now h.0) (at + n)) s (chunk_bytes heap.now h.0) (deleted (chunk_bytes heap.now h.0) at n) n)
-        (RefusesToBuild (past_end (chunk_bytes heap.now h.0) (at + n))) }
-    ensures fits { IfOk result (λ s. IsTrue (fits_with heap.now h.0 (deleted (chunk_bytes heap.now h.0) at n))) }
+        (λ s. Builds (past_end (chunk_bytes heap.now.chunks h.0) (at + n)) s (chunk_bytes heap.now.chunks h.0) (deleted (chunk_bytes heap.now.chunks h.0) at n) n)
+        (RefusesToBuild (past_end (chunk_bytes heap.now.chunks h.0) (at + n))) }
+    ensures fits { IfOk result (λ s. IsTrue (fits_with heap.now.chunks h.0 (deleted (chunk_bytes heap.now.chunks h.0) at n))) }
 {
     let old = part(heap, h, at as usize, n as usize)?;
     Ok(Splice {
@@ -111,11 +111,11 @@ pub fn delete(alloc: Global, heap: &Heap, h: ChunkHandle, at: u32, n: u32) -> Re
 /// The splice that cuts a chunk at its end, or adds zeros there, so that it has `n` bytes. Full where the heap has no room
 /// for them.
 pub fn resize(alloc: Global, heap: &Heap, h: ChunkHandle, n: u32) -> Result<Splice, Fault>
-    requires { IsTrue (contains_key heap.now h.0) }
+    requires { IsTrue (contains_key heap.now.chunks h.0) }
     ensures built { MatchResult result
-        (λ s. Builds (no_room heap.now h.0 (resized (chunk_bytes heap.now h.0) n)) s (chunk_bytes heap.now h.0) (resized (chunk_bytes heap.now h.0) n) (difference n (length (chunk_bytes heap.now h.0))))
-        (RefusesToBuild (no_room heap.now h.0 (resized (chunk_bytes heap.now h.0) n))) }
-    ensures fits { IfOk result (λ s. IsTrue (fits_with heap.now h.0 (resized (chunk_bytes heap.now h.0) n))) }
+        (λ s. Builds (no_room heap.now.chunks h.0 (resized (chunk_bytes heap.now.chunks h.0) n)) s (chunk_bytes heap.now.chunks h.0) (resized (chunk_bytes heap.now.chunks h.0) n) (difference n (length (chunk_bytes heap.now.chunks h.0))))
+        (RefusesToBuild (no_room heap.now.chunks h.0 (resized (chunk_bytes heap.now.chunks h.0) n))) }
+    ensures fits { IfOk result (λ s. IsTrue (fits_with heap.now.chunks h.0 (resized (chunk_bytes heap.now.chunks h.0) n))) }
 {
     if !heap.fits_resize(h, n) {
         return Err(Fault::Full);
@@ -131,9 +131,9 @@ pub fn resize(alloc: Global, heap: &Heap, h: ChunkHandle, n: u32) -> Result<Spli
 
 /// The bytes of a live chunk.
 fn chunk_of(heap: &Heap, h: ChunkHandle) -> &[u8]
-    requires { IsTrue (contains_key heap.now h.0) }
-    ensures value { result.now ≡ chunk_bytes heap.now h.0 }
-    ensures valid { is_heap_map heap.now ≡ true }
+    requires { IsTrue (contains_key heap.now.chunks h.0) }
+    ensures value { result.now ≡ chunk_bytes heap.now.chunks h.0 }
+    ensures valid { is_heap_map heap.now.chunks ≡ true }
 {
     match heap.chunk(h) {
         Some(bytes) => bytes,
@@ -143,8 +143,8 @@ fn chunk_of(heap: &Heap, h: ChunkHandle) -> &[u8]
 
 /// Whether the heap has room for a live chunk with `n` more bytes.
 fn fits_longer(heap: &Heap, h: ChunkHandle, n: u32) -> bool
-    requires { IsTrue (contains_key heap.now h.0) }
-    ensures { (bytes : List ℕ) → length bytes ≡ length (chunk_bytes heap.now h.0) + n → result ≡ fits_with heap.now h.0 bytes }
+    requires { IsTrue (contains_key heap.now.chunks h.0) }
+    ensures { (bytes : List ℕ) → length bytes ≡ length (chunk_bytes heap.now.chunks h.0) + n → result ≡ fits_with heap.now.chunks h.0 bytes }
 {
     let size = chunk_of(heap, h).len();
     // No heap has room for as many bytes as the greatest `u32`, at which the sum is cut.
@@ -153,11 +153,11 @@ fn fits_longer(heap: &Heap, h: ChunkHandle, n: u32) -> bool
 
 /// The `n` bytes of a live chunk from `at` on; Range where it has not so many.
 fn part(heap: &Heap, h: ChunkHandle, at: usize, n: usize) -> Result<&[u8], Fault>
-    requires { IsTrue (contains_key heap.now h.0) }
+    requires { IsTrue (contains_key heap.now.chunks h.0) }
     ensures value { MatchResult result
-        (λ bytes. (at + n ≤ length (chunk_bytes heap.now h.0)) × (bytes.now ≡ take n (drop at (chunk_bytes heap.now h.0))))
-        (λ fault. (length (chunk_bytes heap.now h.0) < at + n) × (fault ≡ Fault.Range)) }
-    ensures valid { is_heap_map heap.now ≡ true }
+        (λ bytes. (at + n ≤ length (chunk_bytes heap.now.chunks h.0)) × (bytes.now ≡ take n (drop at (chunk_bytes heap.now.chunks h.0))))
+        (λ fault. (length (chunk_bytes heap.now.chunks h.0) < at + n) × (fault ≡ Fault.Range)) }
+    ensures valid { is_heap_map heap.now.chunks ≡ true }
 {
     let bytes = chunk_of(heap, h);
     if bytes.len() < at || bytes.len() - at < n {

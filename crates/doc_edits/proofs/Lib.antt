@@ -8,3 +8,5 @@ pub mod NameEdits
 pub mod First
 pub mod ChunkPlans
 pub mod LookUps
+pub mod BlockPlans
+pub mod ChainPlans

@@ -1,5 +1,5 @@
 -- What is looked up of a document, and what refuses it.
-use Rattle.std.proofs.Common.{◌≡◌, ℕ, List, [], ◌++◌, ◌∷◌, not, false, Option, Some, None, is_none, unwrap_or, MatchOption, Result, Ok, Err, MatchResult, refl, sym, ap, subst, ◌∙◌, inr}
+use Rattle.std.proofs.Common.{◌≡◌, ℕ, List, [], ◌++◌, ◌∷◌, not, false, Option, Some, None, is_none, unwrap_or, MatchOption, Result, Ok, Err, MatchResult, refl, sym, ap, subst, ◌∙◌, inl, inr}
 use Rattle.std.specs.Option.{option_map, option_map_or}
 use Rattle.std.specs.Result.{IsErrAnd}
 use Rattle.std.specs.FinMap.{contains_key}
@@ -17,6 +17,7 @@ use Rattle.geos_model.specs.declared.handle.ChunkHandle.{ChunkHandle}
 use Rattle.geos_model.specs.declared.handle.Token.{Token}
 use Rattle.geos_model.specs.declared.handle.VmHandle.{VmHandle}
 use Rattle.element_arrays.specs.Answering.{IsAnswered, IsRefused}
+use Rattle.vm_chains.specs.Answers.{Answers}
 use Rattle.doc_edits.specs.Found.{AreLate, IsChunkAt}
 use Rattle.doc_edits.specs.LookUps.{chunk_asked, LooksUp, RefusesChunk}
 use Rattle.doc_edits.proofs.Refusals.{past_chunk}
@@ -54,6 +55,9 @@ look_up_cases (commands.Find uid start) d = tt
 look_up_cases commands.MapBlock d = tt
 look_up_cases (commands.ReadRaw b) d = tt
 look_up_cases (commands.Chunks b) d = tt
+look_up_cases (commands.Walk b) d = tt
+look_up_cases (commands.ChainSize b) d = tt
+look_up_cases (commands.ChainEqual b other) d = tt
 look_up_cases commands.Undos d = tt
 look_up_cases commands.Redos d = tt
 look_up_cases (commands.Read b c) d = (_, refl, refl)
@@ -89,6 +93,13 @@ chunk_or_refusal d b c now (Err fault) refuses = refuses_chunk d b c fault refus
 -- a look-up that nothing refuses
 look_up_answered : (command : Command) (d : Document) (reply : Reply) → first_refusal (look_up_conditions command d) ≡ None → look_up command d ≡ Some reply → LooksUp command d reply
 look_up_answered command d reply first does = inr (ap (λ (o : Option Fault). option_map_or (λ x. Some (Refused x)) o (look_up command d)) first ∙ does)
+
+-- what vm_chains answers of a chain
+pub chain_answered : {T : Type 0} (command : Command) (d : Document) (f : T → Reply) (P : T → Type 0) (r : Result T Fault) → ((x : T) → P x → look_up command d ≡ Some (f x))
+    → Answers (look_up_conditions command d) P r → LooksUp command d (reply_by f r)
+chain_answered command d f P (Ok x) does answers = look_up_answered command d (f x) answers.0 (does x answers.1)
+chain_answered command d f P (Err fault) does (inl memory) = inl (ap Refused memory)
+chain_answered command d f P (Err fault) does (inr first) = look_up_refused command d fault first
 
 -- where a chunk is there, its bytes alone refuse
 past : (d : Document) (b : VmHandle) (c : ChunkHandle) (bytes : List ℕ) (own : List ℕ → Conditions) → IsChunkAt d b.0 c.0 bytes

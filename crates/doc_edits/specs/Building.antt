@@ -67,6 +67,12 @@ creates_array (edits.CreateElementArray b size) = true
 creates_array (edits.CreateNameArray b part) = true
 creates_array edit = false
 
+-- whether it is an edit of a chain
+abbrev pub is_of_chain : Edit → Bool
+is_of_chain (edits.CopyChain b) = true
+is_of_chain (edits.FreeChain b) = true
+is_of_chain edit = false
+
 -- the block in which a step of this kind is made
 abbrev pub block_of_kind : Kind → Option VmHandle
 block_of_kind (In b) = Some b
@@ -74,7 +80,8 @@ block_of_kind Plain = None
 block_of_kind Made = None
 block_of_kind Freed = None
 
--- the block into whose body an edit looks: one that is freed or copied, or that in which the edit is made
+-- The block into whose body an edit looks: one that is freed or copied, or that in which the edit is made. An edit of a chain looks
+-- into many.
 abbrev pub block_read : Edit → Option VmHandle
 block_read (edits.FreeBlock b) = Some b
 block_read (edits.CopyBlock b) = Some b

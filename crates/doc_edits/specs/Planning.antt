@@ -3,16 +3,15 @@ use Rattle.std.specs.Prelude.{◌≡◌, ◌⊎◌, ◌+◌, ℕ, None, Some, le
 use Rattle.geos_model.specs.Refusal.{first_refusal}
 use Rattle.geos_model.specs.Document.{Document}
 use Rattle.geos_model.specs.Meaning.{conditions, effect}
-use Rattle.geos_model.specs.Cost.{cost}
+use Rattle.geos_model.specs.Cost.{cost, images_length}
 use Rattle.geos_model.specs.Machine.{kind_of}
-use Rattle.geos_model.specs.Image.{image}
 use Rattle.geos_model.specs.declared.fault.Fault.{Fault}
 use Rattle.geos_model.specs.declared.fault.Fault.TheVariants.{Memory}
 use Rattle.geos_model.specs.declared.command.Done.{Done}
 use Rattle.geos_model.specs.declared.command.Edit.{Edit}
 use Rattle.geos_model.specs.declared.command.Kind.{Kind}
 use Rattle.geos_model.specs.declared.command.Kind.TheVariants.{Plain, In, Made, Freed}
-use Rattle.vm_blocks.specs.Saved.{saved_block}
+use Rattle.vm_blocks.specs.Members.{saved_blocks}
 use Rattle.vm_blocks.specs.Changes.{made, bytes_of, Applies}
 use Rattle.vm_blocks.specs.declared.change.Change.{Change}
 use Rattle.vm_blocks.specs.declared.change.Change.TheVariants as changes
@@ -21,8 +20,8 @@ use Rattle.vm_blocks.specs.declared.change.PartChange.TheVariants as parts
 
 -- what kind of step a change is
 abbrev pub kind_of_change : Change → Kind
-kind_of_change (changes.BlockIn b block) = Made
-kind_of_change (changes.BlockOut b block) = Freed
+kind_of_change (changes.BlocksIn ms) = Made
+kind_of_change (changes.BlocksOut ms) = Freed
 kind_of_change (changes.Part b part) = In b
 kind_of_change (changes.UserId b old new) = Plain
 kind_of_change (changes.Map old new) = Plain
@@ -36,8 +35,8 @@ part_cost (parts.ChunkIn c content) = length (bytes_of content)
 part_cost (parts.ChunkOut c content) = length (bytes_of content)
 
 abbrev pub change_cost : Change → ℕ
-change_cost (changes.BlockIn b block) = length (image (saved_block block).body)
-change_cost (changes.BlockOut b block) = length (image (saved_block block).body)
+change_cost (changes.BlocksIn ms) = images_length (saved_blocks ms.list.items)
+change_cost (changes.BlocksOut ms) = images_length (saved_blocks ms.list.items)
 change_cost (changes.Part b part) = part_cost part
 change_cost (changes.UserId b old new) = 0
 change_cost (changes.Map old new) = 0

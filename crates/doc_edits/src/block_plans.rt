@@ -5,9 +5,10 @@ ghost use Rattle.doc_edits.specs.Planning.{Plans, Refuses};
 use geos_model::{Done, Fault, VmHandle};
 use raw_region::SIZE;
 use std::alloc::Global;
-use vm_blocks::{Blocks, Change, SavedBlock};
+use vm_blocks::{Blocks, Change, Members, SavedBlock};
 
 /// Of the edit that makes a raw block of zeros.
+#[tactic(auto, using(crate::proofs::BlockPlans::block_made))]
 pub fn plan_new_raw(
     alloc: Global,
     blocks: &Blocks,
@@ -24,10 +25,12 @@ pub fn plan_new_raw(
         None => return Err(Fault::NoHandles),
     };
     let block = SavedBlock::zeros(alloc, user_id, size as usize)?;
-    Ok((Change::BlockIn(handle, block), Done::Block(handle)))
+    let made = Members::one(alloc, handle, block)?;
+    Ok((Change::BlocksIn(made), Done::Block(handle)))
 }
 
 /// Of the edit that makes a block with an empty heap.
+#[tactic(auto, using(crate::proofs::BlockPlans::block_made))]
 pub fn plan_new_heap(alloc: Global, blocks: &Blocks, user_id: u16) -> Result<(Change, Done), Fault>
     ensures { MatchResult result (λ p. Plans (edits.NewHeap user_id) blocks.now p.0 p.1) (Refuses (edits.NewHeap user_id) blocks.now) }
 {
@@ -36,10 +39,12 @@ pub fn plan_new_heap(alloc: Global, blocks: &Blocks, user_id: u16) -> Result<(Ch
         None => return Err(Fault::NoHandles),
     };
     let block = SavedBlock::empty_heap(alloc, user_id)?;
-    Ok((Change::BlockIn(handle, block), Done::Block(handle)))
+    let made = Members::one(alloc, handle, block)?;
+    Ok((Change::BlocksIn(made), Done::Block(handle)))
 }
 
 /// Of the edit that frees a block.
+#[tactic(auto, using(crate::proofs::BlockPlans::block_freed))]
 pub fn plan_free_block(
     alloc: Global,
     blocks: &Blocks,
@@ -55,10 +60,12 @@ pub fn plan_free_block(
         return Err(Fault::IsMap);
     }
     let saved = SavedBlock::of(alloc, block)?;
-    Ok((Change::BlockOut(handle, saved), Done::Nothing))
+    let freed = Members::one(alloc, handle, saved)?;
+    Ok((Change::BlocksOut(freed), Done::Nothing))
 }
 
 /// Of the edit that makes a block with the body and the user ID of another.
+#[tactic(auto, using(crate::proofs::BlockPlans::block_made))]
 pub fn plan_copy_block(
     alloc: Global,
     blocks: &Blocks,
@@ -75,7 +82,8 @@ pub fn plan_copy_block(
         None => return Err(Fault::NoHandles),
     };
     let copy = SavedBlock::of(alloc, block)?;
-    Ok((Change::BlockIn(handle, copy), Done::Block(handle)))
+    let made = Members::one(alloc, handle, copy)?;
+    Ok((Change::BlocksIn(made), Done::Block(handle)))
 }
 
 /// Of the edit that sets the user ID of a block.

@@ -21,9 +21,9 @@ pub fn build(
     bytes: &[u8],
     edit: &Edit,
 ) -> Result<(Splice, Done), Fault>
-    requires live { IsTrue (contains_key heap.now chunk.0) }
+    requires live { IsTrue (contains_key heap.now.chunks chunk.0) }
     requires place { IsSome (place_of edit.now) }
-    ensures { (d : Document) → IsIn edit.now d heap.now chunk.0 → IsAt edit.now d bytes.now → MatchResult result (λ built. SplicesAt edit.now d built.1 built.0) (Refuses edit.now d) }
+    ensures { (d : Document) → IsIn edit.now d heap.now.chunks chunk.0 → IsAt edit.now d bytes.now → MatchResult result (λ built. SplicesAt edit.now d built.1 built.0) (Refuses edit.now d) }
 {
     match edit {
         Edit::Resize(_, _, _)
@@ -39,9 +39,9 @@ pub fn build(
 
 /// Of an edit that doesn't look at the chunk as an array.
 fn build_plain(alloc: Global, heap: &Heap, chunk: ChunkHandle, edit: &Edit) -> Result<Splice, Fault>
-    requires live { IsTrue (contains_key heap.now chunk.0) }
+    requires live { IsTrue (contains_key heap.now.chunks chunk.0) }
     requires plain { is_plain edit.now ≡ true }
-    ensures { (d : Document) → IsIn edit.now d heap.now chunk.0 → MatchResult result (SplicesAt edit.now d done.Nothing) (Refuses edit.now d) }
+    ensures { (d : Document) → IsIn edit.now d heap.now.chunks chunk.0 → MatchResult result (SplicesAt edit.now d done.Nothing) (Refuses edit.now d) }
 {
     match edit {
         Edit::Resize(_, _, n) => chunk_edits::resize(alloc, heap, chunk, *n),

@@ -40,9 +40,9 @@ pub fn plan_in_chunk(
 
 /// Whether the heap has room for what a splice makes of the bytes of a chunk.
 fn has_room(heap: &Heap, chunk: ChunkHandle, splice: &Splice) -> bool
-    requires live { IsTrue (contains_key heap.now chunk.0) }
-    requires built { IsBuilt splice.now (chunk_bytes heap.now chunk.0) }
-    ensures { result ≡ fits_with heap.now chunk.0 (forwards splice.now (chunk_bytes heap.now chunk.0)) }
+    requires live { IsTrue (contains_key heap.now.chunks chunk.0) }
+    requires built { IsBuilt splice.now (chunk_bytes heap.now.chunks chunk.0) }
+    ensures { result ≡ fits_with heap.now.chunks chunk.0 (forwards splice.now (chunk_bytes heap.now.chunks chunk.0)) }
 {
     let size = match heap.chunk(chunk) {
         Some(bytes) => bytes.len(),
@@ -76,8 +76,8 @@ pub fn plan_new_chunk(
 
 /// The least free handle of a heap, if it has room for a new chunk there.
 fn free_place(heap: &Heap, content: &Content) -> Option<ChunkHandle>
-    ensures { MatchOption result (fits_new heap.now (bytes_of content.now) ≡ false)
-        (λ chunk. (next_chunk heap.now ≡ Some chunk.0) × AllowsNewChunk heap.now chunk.0 (bytes_of content.now)) }
+    ensures { MatchOption result (fits_new heap.now.chunks (bytes_of content.now) ≡ false)
+        (λ chunk. (next_chunk heap.now.chunks ≡ Some chunk.0) × AllowsNewChunk heap.now.chunks chunk.0 (bytes_of content.now)) }
 {
     let chunk = heap.next_handle()?;
     let size = size_of(content)?;

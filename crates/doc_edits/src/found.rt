@@ -27,7 +27,7 @@ pub fn raw_at(blocks: &Blocks, handle: VmHandle) -> Result<&RawBody, Fault>
 pub fn heap_at(blocks: &Blocks, handle: VmHandle) -> Result<&Heap, Fault>
     requires { is_resident blocks.now handle.0 ≡ true }
     ensures { MatchResult result
-        (λ heap. IsHeapAt blocks.now handle.0 heap.now)
+        (λ heap. IsHeapAt blocks.now handle.0 heap.now.chunks)
         (λ fault. (rest : Conditions) → AreLate rest → first_refusal (on_heap blocks.now handle.0 ++ rest) ≡ Some fault) }
 {
     match blocks.body(handle) {
@@ -38,7 +38,7 @@ pub fn heap_at(blocks: &Blocks, handle: VmHandle) -> Result<&Heap, Fault>
 
 /// The bytes of a chunk of a heap, which is that of a block: NoChunk where it isn't live.
 pub fn bytes_in(heap: &Heap, chunk: ChunkHandle) -> Result<&[u8], Fault>
-    ensures { (d : Document) (b : ℕ) → IsHeapAt d b heap.now → MatchResult result
+    ensures { (d : Document) (b : ℕ) → IsHeapAt d b heap.now.chunks → MatchResult result
         (λ bytes. IsChunkAt d b chunk.0 bytes.now)
         (λ fault. (rest : Conditions) → AreLate rest → first_refusal (on_chunk d b chunk.0 ++ rest) ≡ Some fault) }
 {

@@ -3,6 +3,7 @@
 
 mod block_plans;
 mod building;
+mod chain_plans;
 mod chunk_plans;
 mod found;
 pub mod look_ups;

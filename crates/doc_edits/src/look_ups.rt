@@ -2,7 +2,7 @@
 //! document stays as it is.
 ghost use Rattle.std.specs.Prelude.{◌≡◌, MatchResult};
 ghost use Rattle.std.specs.Borrow.{sem};
-ghost use Rattle.geos_model.specs.Reply.{BytesAre, NumberIs, TokenIs, reply_by, info_is, chunks_are};
+ghost use Rattle.geos_model.specs.Reply.{AreEqual, BytesAre, NumberIs, TokenIs, reply_by, info_is, blocks_are, chunks_are};
 ghost use Rattle.geos_model.specs.declared.command.Command.TheVariants as commands;
 ghost use Rattle.vm_blocks.specs.contracts.blocks.Blocks.{the_row};
 ghost use Rattle.doc_edits.specs.Found.{IsChunkAt};
@@ -10,6 +10,7 @@ ghost use Rattle.doc_edits.specs.LookUps.{LooksUp, RefusesChunk, Stays};
 
 use crate::found::{bytes_in, heap_at, raw_at};
 use geos_model::{Bytes, ChunkHandle, Fault, Info, Token, VmHandle};
+use std::alloc::Global;
 use vm_blocks::{BlockBody, Blocks};
 
 /// A block's user ID and size.
@@ -215,4 +216,33 @@ pub fn name_part(
 {
     let bytes = chunk_at(blocks, block, chunk)?;
     name_arrays::data_of(bytes, token)
+}
+
+/// The blocks of a chain, each before those that it links to, branches in order.
+pub fn walk(alloc: Global, blocks: &mut Blocks, root: VmHandle) -> Result<Vec<VmHandle>, Fault>
+    ensures value { LooksUp (commands.Walk root) blocks.old (reply_by (λ handles. blocks_are handles.items) result) }
+    ensures stays { blocks.new ≡ blocks.old }
+{
+    vm_chains::walk(alloc, blocks, root)
+}
+
+/// How many bytes the blocks of a chain have.
+pub fn chain_size(alloc: Global, blocks: &mut Blocks, root: VmHandle) -> Result<u32, Fault>
+    ensures value { LooksUp (commands.ChainSize root) blocks.old (reply_by NumberIs result) }
+    ensures stays { blocks.new ≡ blocks.old }
+{
+    vm_chains::size(alloc, blocks, root)
+}
+
+/// Whether two chains are equal, but for handles and user IDs.
+pub fn chain_equal(
+    alloc: Global,
+    blocks: &mut Blocks,
+    first: VmHandle,
+    second: VmHandle,
+) -> Result<bool, Fault>
+    ensures value { LooksUp (commands.ChainEqual first second) blocks.old (reply_by AreEqual result) }
+    ensures stays { blocks.new ≡ blocks.old }
+{
+    vm_chains::equal(alloc, blocks, first, second)
 }

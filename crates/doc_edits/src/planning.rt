@@ -1,11 +1,12 @@
-ghost use Rattle.std.specs.Prelude.{◌≡◌, true, MatchResult, MatchOption};
+ghost use Rattle.std.specs.Prelude.{◌≡◌, true, false, MatchResult, MatchOption};
 ghost use Rattle.vm_blocks.specs.Blocks.{is_resident};
-ghost use Rattle.doc_edits.specs.Building.{block_read};
+ghost use Rattle.doc_edits.specs.Building.{block_read, is_of_chain};
 ghost use Rattle.doc_edits.specs.Planning.{Plans, Refuses};
 
 use crate::block_plans::{
     plan_copy_block, plan_free_block, plan_new_heap, plan_new_raw, plan_set_map, plan_set_user_id,
 };
+use crate::chain_plans::{plan_copy_chain, plan_free_chain};
 use crate::chunk_plans::{plan_free_chunk, plan_in_chunk, plan_new_chunk};
 use crate::raw_plans::{plan_attach, plan_write_raw};
 use geos_model::{Done, Edit, Fault, VmHandle};
@@ -18,18 +19,36 @@ pub fn plan(alloc: Global, blocks: &mut Blocks, edit: &Edit) -> Result<(Change, 
     ensures planned { MatchResult result (λ p. Plans edit.now blocks.old p.0 p.1) (Refuses edit.now blocks.old) }
     ensures stays { blocks.new ≡ blocks.old }
 {
+    match edit {
+        Edit::CopyChain(root) => plan_copy_chain(alloc, blocks, *root),
+        Edit::FreeChain(root) => plan_free_chain(alloc, blocks, *root),
+        other => plan_of_block(alloc, blocks, other),
+    }
+}
+
+/// The same of an edit that looks into no block, or into one.
+fn plan_of_block(alloc: Global, blocks: &mut Blocks, edit: &Edit) -> Result<(Change, Done), Fault>
+    requires { is_of_chain edit.now ≡ false }
+    ensures planned { MatchResult result (λ p. Plans edit.now blocks.old p.0 p.1) (Refuses edit.now blocks.old) }
+    ensures stays { blocks.new ≡ blocks.old }
+{
     if let Some(handle) = block_read(edit) {
         blocks.load(handle)?;
     }
     plan_loaded(alloc, blocks, edit)
 }
 
-/// The block into whose body an edit looks.
+/// The block into whose body an edit looks; none of an edit of a chain, which looks into many.
 fn block_read(edit: &Edit) -> Option<VmHandle>
     ensures { result ≡ block_read edit.now }
 {
     match edit {
-        Edit::NewRaw(_, _) | Edit::NewHeap(_) | Edit::SetUserId(_, _) | Edit::SetMap(_) => None,
+        Edit::NewRaw(_, _)
+        | Edit::NewHeap(_)
+        | Edit::SetUserId(_, _)
+        | Edit::SetMap(_)
+        | Edit::CopyChain(_)
+        | Edit::FreeChain(_) => None,
         Edit::FreeBlock(handle)
         | Edit::CopyBlock(handle)
         | Edit::WriteRaw(handle, _, _)
@@ -61,7 +80,8 @@ fn block_read(edit: &Edit) -> Option<VmHandle>
 
 /// The same where the block into whose body the edit looks is in memory.
 fn plan_loaded(alloc: Global, blocks: &Blocks, edit: &Edit) -> Result<(Change, Done), Fault>
-    requires { MatchOption (block_read edit.now) (Unit {0}) (λ b. is_resident blocks.now b.0 ≡ true) }
+    requires of_block { is_of_chain edit.now ≡ false }
+    requires loaded { MatchOption (block_read edit.now) (Unit {0}) (λ b. is_resident blocks.now b.0 ≡ true) }
     ensures { MatchResult result (λ p. Plans edit.now blocks.now p.0 p.1) (Refuses edit.now blocks.now) }
 {
     match edit {
@@ -97,5 +117,6 @@ fn plan_loaded(alloc: Global, blocks: &Blocks, edit: &Edit) -> Result<(Change, D
         | Edit::RemoveName(handle, chunk, _) => {
             plan_in_chunk(alloc, blocks, *handle, *chunk, edit)
         }
+        Edit::CopyChain(_) | Edit::FreeChain(_) => unreachable!(),
     }
 }

@@ -1,37 +1,25 @@
 -- A copy of a chain is one of the same shape.
 use Rattle.std.proofs.Common.{◌≡◌, ◌≢◌, ℕ, zero, suc, ◌<◌, ◌≤◌, Bool, true, false, ◌&&◌, not, ◌==◌, nat_le, List, [], ◌∷◌, ◌++◌, length, get_or, map, filter, Option, Some, None, unwrap_or, refl, sym, ap, subst, ◌∙◌, inl, inr, arith, le-leb, leb-true, zero-add}
-use Rattle.std.proofs.lemmas.Bool.{cases_Bool, cases_eq, and_parts, and_from, cond-true, cond-false, not-true, eqb-true, eq-eqb, ne_eqb, true≢false}
+use Rattle.std.proofs.lemmas.Bool.{cases_Bool, cases_eq, and_parts, and_from, cond-true, cond-false, eqb-true, eq-eqb, ne_eqb, true≢false}
 use Rattle.std.proofs.lemmas.List.{map-append, length-map, get_or-map, get_or_default, ext_get_or}
-use Rattle.std.proofs.lemmas.List.Folds.{list_any_at}
 use Rattle.std.proofs.lemmas.List.FromFn.{length-range_with_len, length-map-range_with_len, get_or-map-range_with_len}
-use Rattle.std.proofs.lemmas.List.Elements.{All-head, All-tail, All-contains_itself, All-weaker, Contains-get_or, Contains-append_left, Contains-append_right}
-use Rattle.std.specs.List.{All, Contains, list_any, range_with_len, zip}
+use Rattle.std.proofs.lemmas.List.Elements.{All-nil, All-cons, All-head, All-tail, All-contains_itself, All-weaker, Contains-get_or, Contains-append_left, Contains-append_right}
+use Rattle.std.specs.List.{All, Contains, range_with_len, zip}
 use Rattle.std.specs.Option.{option_map_or}
 use Rattle.std.specs.FinMap.{get}
 use lib.Pointwise.{bytes_decides, pointwise_decides}
 use Rattle.geos_model.specs.Words.{word_at}
 use Rattle.geos_model.specs.ElementArray.{all_distinct}
 use Rattle.geos_model.specs.Heap.{capacity}
-use Rattle.geos_model.specs.Document.{Block, Document, IsValid, IsValidBlock, most_blocks, is_vm_handle, is_live, is_raw, is_heap_body, bytes_of_body, raw_bytes_of, user_id_of, block_at, with_block}
+use Rattle.geos_model.specs.Document.{Block, Document, IsValid, IsValidBlock, most_blocks, is_vm_handle, is_live, is_raw, is_heap_body, bytes_of_body, raw_bytes_of, user_id_of, block_at, handles_of, with_blocks}
 use Rattle.geos_model.specs.Chain.{tree_mark, is_linked, link_count, link_place, links, relinked, is_member, chain, name_of, shape, relinked_block, renamed_blocks, free_handles, new_handles, copies_of}
-use Rattle.geos_model.specs.ChainLaws.{IsForest, nothing, block, link_words, with_blocks, IsCopied}
+use Rattle.geos_model.specs.ChainLaws.{IsForest, nothing, block, link_words, IsCopied}
 use Rattle.geos_model.specs.declared.command.Body.TheVariants.{Raw}
-use Rattle.geos_model.proofs.HeapEdits.{get-put_same, get-put_other}
-use Rattle.geos_model.proofs.Validity.{with_block-valid, raw_bytes-few}
+use Rattle.geos_model.proofs.BlockLists.{distinct-first, distinct-rest, put_elsewhere, put_stands, put_map_block, put_valid}
+use Rattle.geos_model.proofs.Validity.{raw_bytes-few}
 use Rattle.geos_model.proofs.Chains.{contains_first, contains_later, raw_block, member-raw, member-live, member-handle, chain-walk, walk-chain, chain-members}
 use Rattle.geos_model.proofs.Relinking.{relinked-relinked, relinked_twice}
 use Rattle.geos_model.proofs.ChainCopies.{kept-there, new-new}
-
--- Lists without what is there twice.
-
-apart-absent : (x : ℕ) (xs : List ℕ) → list_any (λ y. x == y) xs ≡ false → Contains xs x → ⊥
-apart-absent x xs none there = true≢false (sym (list_any_at (λ y. x == y) xs there.0 x there.1 (eq-eqb x (get_or xs there.0 x) (sym there.2))) ∙ none)
-
-distinct-first : (x : ℕ) (xs : List ℕ) → all_distinct (x ∷ xs) ≡ true → Contains xs x → ⊥
-distinct-first x xs once = apart-absent x xs (not-true (list_any (λ y. x == y) xs) (and_parts (not (list_any (λ y. x == y) xs)) (all_distinct xs) once).0)
-
-distinct-rest : (x : ℕ) (xs : List ℕ) → all_distinct (x ∷ xs) ≡ true → all_distinct xs ≡ true
-distinct-rest x xs once = (and_parts (not (list_any (λ y. x == y) xs)) (all_distinct xs) once).1
 
 -- Names.
 
@@ -63,40 +51,34 @@ name-low top (h ∷ hs) (n ∷ new) x some low = elim (cases_Bool (h == x)) [
   | inr e ↦ subst (λ (m : ℕ). m < top) (sym (cond-false (h == x) n (name_of (zip hs new) x) e)) (name-low top hs new x some (All-tail (λ n. n < top) n new low))
 ]
 
--- Documents with blocks put in.
+-- Blocks under new handles.
 
 module _ (named : ℕ → Block) where
   abbrev blocks_named : List ℕ → List ℕ → List (ℕ × Block)
   blocks_named hs new = map (λ p. (p.1, named p.0)) (zip hs new)
 
-  put-others : (d : Document) (hs new : List ℕ) (x : ℕ) → (Contains new x → ⊥) → get (with_blocks d (blocks_named hs new)).blocks x ≡ get d.blocks x
-  put-others d [] new x absent = refl
-  put-others d (h ∷ hs) [] x absent = refl
-  put-others d (h ∷ hs) (n ∷ new) x absent =
-      put-others (with_block d n (named h)) hs new x (λ there. absent (contains_later n new x there))
-      ∙ get-put_other d.blocks n (named h) x (λ is. absent (subst (Contains (n ∷ new)) (sym is) (contains_first n new)))
+  pub named-handles : (hs new : List ℕ) → length hs ≡ length new → handles_of (blocks_named hs new) ≡ new
+  named-handles [] [] long = refl
+  named-handles [] (n ∷ new) long = absurd (let none : 0 ≡ suc (length new) = long in omega arith)
+  named-handles (h ∷ hs) [] long = absurd (let none : suc (length hs) ≡ 0 = long in omega arith)
+  named-handles (h ∷ hs) (n ∷ new) long =
+      let same : suc (length hs) ≡ suc (length new) = long in ap (λ (xs : List ℕ). n ∷ xs) (named-handles hs new (omega arith))
 
-  put-there : (d : Document) (hs new : List ℕ) (i : ℕ) → length hs ≡ length new → all_distinct new ≡ true → i < length hs
-      → get (with_blocks d (blocks_named hs new)).blocks (get_or new i 0) ≡ Some (named (get_or hs i 0))
-  put-there d [] new i long once low = absurd (omega arith)
-  put-there d (h ∷ hs) [] i long once low = absurd (let none : suc (length hs) ≡ 0 = long in omega arith)
-  put-there d (h ∷ hs) (n ∷ new) zero long once low =
-      put-others (with_block d n (named h)) hs new n (distinct-first n new once) ∙ get-put_same d.blocks n (named h) n refl
-  put-there d (h ∷ hs) (n ∷ new) (suc i) long once low =
-      let same : suc (length hs) ≡ suc (length new) = long in
-      put-there (with_block d n (named h)) hs new i (omega arith) (distinct-rest n new once) (omega arith)
+  module _ (P : ℕ × Block → Type 0) where
+    -- what holds of each holds of those at one place
+    named-at : (hs new : List ℕ) (i : ℕ) → length hs ≡ length new → All P (blocks_named hs new) → i < length hs → P (get_or new i 0, named (get_or hs i 0))
+    named-at [] new i long all low = absurd (omega arith)
+    named-at (h ∷ hs) [] i long all low = absurd (let none : suc (length hs) ≡ 0 = long in omega arith)
+    named-at (h ∷ hs) (n ∷ new) zero long all low = All-head P (n, named h) (blocks_named hs new) all
+    named-at (h ∷ hs) (n ∷ new) (suc i) long all low =
+        let same : suc (length hs) ≡ suc (length new) = long in named-at hs new i (omega arith) (All-tail P (n, named h) (blocks_named hs new) all) (omega arith)
 
-  put-map_block : (d : Document) (hs new : List ℕ) → (with_blocks d (blocks_named hs new)).map_block ≡ d.map_block
-  put-map_block d [] new = refl
-  put-map_block d (h ∷ hs) [] = refl
-  put-map_block d (h ∷ hs) (n ∷ new) = put-map_block (with_block d n (named h)) hs new
-
-  put-valid : (d : Document) (hs new : List ℕ) → IsValid d → ((h n : ℕ) → Contains hs h → Contains new n → IsValidBlock n (named h)) → IsValid (with_blocks d (blocks_named hs new))
-  put-valid d [] new valid good = valid
-  put-valid d (h ∷ hs) [] valid good = valid
-  put-valid d (h ∷ hs) (n ∷ new) valid good =
-      put-valid (with_block d n (named h)) hs new (with_block-valid d n (named h) valid (good h n (contains_first h hs) (contains_first n new)))
-      (λ x y left right. good x y (contains_later h hs x left) (contains_later n new y right))
+    all-named : (hs new : List ℕ) → ((h n : ℕ) → Contains hs h → Contains new n → P (n, named h)) → All P (blocks_named hs new)
+    all-named [] new good = All-nil P
+    all-named (h ∷ hs) [] good = All-nil P
+    all-named (h ∷ hs) (n ∷ new) good =
+        All-cons P (n, named h) (blocks_named hs new) (good h n (contains_first h hs) (contains_first n new))
+        (all-named hs new (λ x y left right. good x y (contains_later h hs x left) (contains_later n new y right)))
 
 -- what a block of a document has
 block-bytes : (d : Document) (h : ℕ) → bytes_of_body (block_at d h).body ≡ raw_bytes_of d h
@@ -177,11 +159,22 @@ module _ (d : Document) (hs new : List ℕ) (valid : IsValid d) (members : (x : 
   all_renamed = ext_get_or 0 (map rename hs) new (length-map hs rename ∙ long) (λ k low. let same = length-map hs rename in
       let within : k < length hs = omega arith in get_or-map rename hs k 0 0 within ∙ renamed_at k within)
 
+  -- what is under the new handles, and under others
+  handles_copied : handles_of (renamed_blocks d hs new) ≡ new
+  handles_copied = named-handles named hs new long
+
+  put_there : (i : ℕ) → i < length hs → get copied.blocks (get_or new i 0) ≡ Some (named (get_or hs i 0))
+  put_there i low =
+      named-at named (λ p. get copied.blocks p.0 ≡ Some p.1) hs new i long (put_stands d (renamed_blocks d hs new) (ap all_distinct handles_copied ∙ new_once)) low
+
+  put_others : (x : ℕ) → (Contains new x → ⊥) → get copied.blocks x ≡ get d.blocks x
+  put_others x absent = put_elsewhere d (renamed_blocks d hs new) x (λ there. absent (subst (λ xs. Contains xs x) handles_copied there))
+
   -- its block
   block_of_copy : (x : ℕ) → Contains hs x → get copied.blocks (rename x) ≡ Some (named x)
   block_of_copy x there =
       let at : get_or hs there.0 0 ≡ x = get_or_default hs there.0 0 x there.1 ∙ there.2 in
-      ap (get copied.blocks) (sym (sym (renamed_at there.0 there.1) ∙ ap rename at)) ∙ put-there named d hs new there.0 long new_once there.1 ∙ ap (λ (h : ℕ). Some (named h)) at
+      ap (get copied.blocks) (sym (sym (renamed_at there.0 there.1) ∙ ap rename at)) ∙ put_there there.0 there.1 ∙ ap (λ (h : ℕ). Some (named h)) at
 
   bytes_of_copy : (x : ℕ) → Contains hs x → raw_bytes_of copied (rename x) ≡ relinked rename (raw_bytes_of d x)
   bytes_of_copy x there = ap (λ (o : Option Block). option_map_or (λ b. bytes_of_body b.body) o []) (block_of_copy x there) ∙ ap (relinked rename) (block-bytes d x)
@@ -213,7 +206,7 @@ module _ (d : Document) (hs new : List ℕ) (valid : IsValid d) (members : (x : 
       (subst (λ (roots : List ℕ). IsForest copied roots (map rename below)) (sym (links_copied h there)) under) later)
 
   valid_copied : IsValid copied
-  valid_copied = put-valid named d hs new valid (λ h n there fresh. record {
+  valid_copied = put_valid d (renamed_blocks d hs new) valid (all-named named (λ p. IsValidBlock p.0 p.1) hs new (λ h n there fresh. record {
     handle = new_handle n fresh;
     user_id = (let found = raw_block (get d.blocks h) (member-raw d h (members h there)) in
         subst (λ (o : Option Block). (unwrap_or o (record { user_id = 0; body = Raw [] })).user_id < 65536) (sym found.1) (valid.blocks h found.0 found.1).user_id);
@@ -221,7 +214,7 @@ module _ (d : Document) (hs new : List ℕ) (valid : IsValid d) (members : (x : 
         let few_bytes = raw_bytes-few d h valid in
         ap (λ (bytes : List ℕ). nat_le (length (relinked rename bytes)) capacity) (block-bytes d h)
         ∙ le-leb (length (relinked rename (raw_bytes_of d h))) capacity (omega arith));
-  })
+  }))
 
   -- the copy begins a chain
   chained_copied : (h : ℕ) (rest : List ℕ) → hs ≡ h ∷ rest → IsForest d (h ∷ []) hs → chain copied (get_or new 0 0) ≡ Some new
@@ -234,7 +227,7 @@ module _ (d : Document) (hs new : List ℕ) (valid : IsValid d) (members : (x : 
 
   -- an old block is as it was
   old_block : (x : ℕ) → Contains hs x → get copied.blocks x ≡ get d.blocks x
-  old_block x there = put-others named d hs new x (λ fresh. true≢false (sym (member-live d x (members x there)) ∙ new_free x fresh))
+  old_block x there = put_others x (λ fresh. true≢false (sym (member-live d x (members x there)) ∙ new_free x fresh))
 
   old_bytes : (x : ℕ) → Contains hs x → raw_bytes_of copied x ≡ raw_bytes_of d x
   old_bytes x there = ap (λ (o : Option Block). option_map_or (λ b. bytes_of_body b.body) o []) (old_block x there)
@@ -260,7 +253,7 @@ module _ (d : Document) (hs new : List ℕ) (valid : IsValid d) (members : (x : 
 
   user_id_copied : (i : ℕ) → i < length hs → user_id_of copied (get_or new i 0) ≡ user_id_of d (get_or hs i 0)
   user_id_copied i low =
-      ap (λ (o : Option Block). option_map_or (λ b. b.user_id) o 0) (put-there named d hs new i long new_once low) ∙ block-user_id d (get_or hs i 0)
+      ap (λ (o : Option Block). option_map_or (λ b. b.user_id) o 0) (put_there i low) ∙ block-user_id d (get_or hs i 0)
 
   -- places of the old blocks and of the new
   abbrev place_of : ℕ → ℕ
@@ -315,8 +308,8 @@ module _ (d : Document) (hs new : List ℕ) (valid : IsValid d) (members : (x : 
   copied-copied : (h : ℕ) (rest : List ℕ) → hs ≡ h ∷ rest → IsForest d (h ∷ []) hs → IsCopied d hs new copied
   copied-copied h rest first forest = record {
     valid = valid_copied;
-    map_block = put-map_block named d hs new;
-    others = put-others named d hs new;
+    map_block = put_map_block d (renamed_blocks d hs new);
+    others = put_others;
     user_ids = user_id_copied;
     kept = chain_kept h rest first forest;
     chained = chained_copied h rest first forest;

@@ -10,6 +10,7 @@ pub mod Files
 pub mod FileDocuments
 pub mod FileStands
 mod FileExamples
+mod ScriptExamples
 pub mod Arrays
 pub mod FreeLists
 pub mod ElementArrays
@@ -28,5 +29,8 @@ pub mod ChunkEdits
 pub mod Chains
 pub mod Relinking
 pub mod ChainCopies
+pub mod BlockLists
 pub mod CopiedChains
 mod ChainShapes
+pub mod ChainEdits
+pub mod ValidSteps

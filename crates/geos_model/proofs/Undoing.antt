@@ -83,6 +83,9 @@ done_by-answers (commands.NameFind b c text) m = name-answers m (token_of_text (
 done_by-answers (commands.NameReferences b c t) m = refl
 done_by-answers (commands.NameText b c t) m = refl
 done_by-answers (commands.NamePart b c t) m = refl
+done_by-answers (commands.Walk b) m = refl
+done_by-answers (commands.ChainSize b) m = refl
+done_by-answers (commands.ChainEqual b other) m = refl
 done_by-answers commands.Undos m = refl
 done_by-answers commands.Redos m = refl
 
@@ -129,6 +132,9 @@ done_by-stays (commands.NameFind b c text) m h = looked_up-stays m (look_up (com
 done_by-stays (commands.NameReferences b c t) m h = refl
 done_by-stays (commands.NameText b c t) m h = refl
 done_by-stays (commands.NamePart b c t) m h = refl
+done_by-stays (commands.Walk b) m h = refl
+done_by-stays (commands.ChainSize b) m h = refl
+done_by-stays (commands.ChainEqual b other) m h = refl
 done_by-stays commands.Undos m h = refl
 done_by-stays commands.Redos m h = refl
 

@@ -1,11 +1,17 @@
 -- Laws of chains.
-use Rattle.std.specs.Prelude.{◌≡◌, ◌↔◌, ◌⊎◌, ◌+◌, ◌<◌, ◌≤◌, ℕ, List, [], ◌∷◌, ◌++◌, Bool, true, false, ◌&&◌, nat_lt, length, map, get_or, Some}
+use Rattle.std.specs.Prelude.{◌≡◌, ◌↔◌, ◌⊎◌, ◌+◌, ◌<◌, ◌≤◌, ℕ, List, [], ◌∷◌, ◌++◌, Bool, true, false, ◌&&◌, nat_lt, length, map, get_or, Some, None}
 use Rattle.std.specs.List.{Contains, list_all, range_with_len}
 use Rattle.std.specs.FinMap.{get}
 use Rattle.geos_model.specs.Words.{word_at}
+use Rattle.geos_model.specs.Refusal.{first_refusal}
 use Rattle.geos_model.specs.ElementArray.{all_distinct}
-use Rattle.geos_model.specs.Document.{Block, Document, IsValid, is_vm_handle, is_live, is_raw, raw_bytes_of, user_id_of, with_block}
+use Rattle.geos_model.specs.Document.{Document, IsValid, is_vm_handle, is_live, is_raw, raw_bytes_of, user_id_of, with_blocks}
 use Rattle.geos_model.specs.Chain.{tree_mark, is_linked, link_count, first_link, link_place, links, relinked, is_member, chain, same_shape, free_handles, new_handles, copies_of}
+use Rattle.geos_model.specs.Meaning.{conditions, effect}
+use Rattle.geos_model.specs.declared.handle.VmHandle.{VmHandle}
+use Rattle.geos_model.specs.declared.command.Done.{Done}
+use Rattle.geos_model.specs.declared.command.Done.TheVariants as done
+use Rattle.geos_model.specs.declared.command.Edit.TheVariants as edits
 
 -- The blocks of the chains that begin at these handles, in order. Where there is no handle there is no block. The chain at the
 -- first handle is its block and what that links to, and the other chains come behind it.
@@ -60,11 +66,6 @@ pub record IsRelinked (rename : ℕ → ℕ) (old new : List ℕ) : Type 0 where
   pub words : link_words new ≡ map rename (link_words old)
   pub others : (k : ℕ) → IsOfNoLink old k → get_or new k 0 ≡ get_or old k 0
 
--- the document with these blocks put in, one after another
-abbrev pub with_blocks : Document → List (ℕ × Block) → Document
-with_blocks d [] = d
-with_blocks d (p ∷ ps) = with_blocks (with_block d p.0 p.1) ps
-
 -- A document with a copy of these blocks under new handles: it is valid, all else is as it was, each copy has the user ID of its
 -- block, the copy of the first block begins a chain of the new handles in the same order, and the two chains have the same shape.
 pub record IsCopied (old : Document) (hs new : List ℕ) (copied : Document) : Type 0 where
@@ -75,6 +76,13 @@ pub record IsCopied (old : Document) (hs new : List ℕ) (copied : Document) : T
   pub kept : chain copied (get_or hs 0 0) ≡ Some hs
   pub chained : chain copied (get_or new 0 0) ≡ Some new
   pub same : same_shape copied hs new ≡ true
+
+-- A document without these blocks: it is valid, and all else is as it was.
+pub record IsFreed (old : Document) (hs : List ℕ) (freed : Document) : Type 0 where
+  pub valid : IsValid freed
+  pub map_block : freed.map_block ≡ old.map_block
+  pub gone : (x : ℕ) → Contains hs x → is_live freed x ≡ false
+  pub others : (x : ℕ) → (Contains hs x → ⊥) → get freed.blocks x ≡ get old.blocks x
 
 -- A link of a chain's block and one of another chain's: neither links to a block, or both to those at one place of their chains.
 abbrev pub AreAlike : List ℕ → List ℕ → ℕ → ℕ → Type 0
@@ -101,3 +109,24 @@ pub record ChainLaw : Type 0 where
   pub shapes : (d : Document) (x y : ℕ) (xs ys : List ℕ) → IsValid d → chain d x ≡ Some xs → chain d y ≡ Some ys → same_shape d xs ys ≡ true ↔ HaveSameShape d xs ys
   pub copy : (d : Document) (h : ℕ) (hs : List ℕ) → IsValid d → chain d h ≡ Some hs → length hs ≤ length (free_handles d)
       → IsCopied d hs (new_handles d (length hs)) (with_blocks d (copies_of d hs))
+
+-- An edit copies the chain that begins at a handle, under the least free handles, and answers that of its first block's copy.
+pub record CopiesChain (d : Document) (h : ℕ) (after : Document × Done) : Type 0 where
+  pub hs : List ℕ
+  pub new : List ℕ
+  pub is : chain d h ≡ Some hs
+  pub fresh : AreNew d (length hs) new
+  pub copied : IsCopied d hs new after.0
+  pub answer : after.1 ≡ done.Block (record { 0 = get_or new 0 0 })
+
+-- An edit frees the chain that begins at a handle.
+pub record FreesChain (d : Document) (h : ℕ) (after : Document × Done) : Type 0 where
+  pub hs : List ℕ
+  pub is : chain d h ≡ Some hs
+  pub freed : IsFreed d hs after.0
+  pub answer : after.1 ≡ done.Nothing
+
+-- What edits of chains come to, where nothing refuses them.
+pub record ChainEditsLaw : Type 0 where
+  pub copy : (d : Document) (b : VmHandle) → IsValid d → first_refusal (conditions (edits.CopyChain b) d) ≡ None → CopiesChain d b.0 (effect (edits.CopyChain b) d)
+  pub free : (d : Document) (b : VmHandle) → IsValid d → first_refusal (conditions (edits.FreeChain b) d) ≡ None → FreesChain d b.0 (effect (edits.FreeChain b) d)

@@ -1,5 +1,5 @@
 -- How many bytes an undo record of an edit may hold.
-use Rattle.std.specs.Prelude.{ℕ, ◌+◌, ◌*◌, ◌-◌, length, replicate}
+use Rattle.std.specs.Prelude.{ℕ, ◌+◌, ◌*◌, ◌-◌, List, length, replicate, sum_by}
 use Rattle.std.specs.Option.{option_map_or}
 use Rattle.std.specs.FinMap.{empty, get}
 use Rattle.geos_model.specs.Array.{array_bytes}
@@ -10,7 +10,8 @@ use Rattle.geos_model.specs.NameArray.{name_bytes}
 use Rattle.geos_model.specs.NameEdits.{no_names}
 use Rattle.geos_model.specs.Image.{image}
 use Rattle.geos_model.specs.Meaning.{chunk_at}
-use Rattle.geos_model.specs.Document.{Document, raw_bytes_of}
+use Rattle.geos_model.specs.Document.{Block, Document, raw_bytes_of}
+use Rattle.geos_model.specs.Chain.{chain_blocks, blocks_of, copies_of}
 use Rattle.geos_model.specs.declared.command.Body.TheVariants.{Raw, Heap}
 use Rattle.geos_model.specs.declared.command.Edit.{Edit}
 use Rattle.geos_model.specs.declared.command.Edit.TheVariants as edits
@@ -22,6 +23,10 @@ difference m n = (m - n) + (n - m)
 -- how long the image of a block is, 0 where it isn't live
 abbrev pub image_length : Document → ℕ → ℕ
 image_length d h = option_map_or (λ b. length (image b.body)) (get d.blocks h) 0
+
+-- how long the images of these blocks are together
+abbrev pub images_length : List (ℕ × Block) → ℕ
+images_length blocks = sum_by (λ p. length (image p.1.body)) blocks
 
 -- how many bytes a chunk has before an edit and after it
 abbrev pub both_lengths : Document → Document → ℕ → ℕ → ℕ
@@ -61,3 +66,5 @@ cost (edits.CreateNameArray b part) before after = length (name_bytes (no_names 
 cost (edits.AddName b c text part replace) before after = both_lengths before after b.0 c.0
 cost (edits.ChangeName b c t text) before after = both_lengths before after b.0 c.0
 cost (edits.RemoveName b c t) before after = both_lengths before after b.0 c.0
+cost (edits.CopyChain b) before after = images_length (copies_of before (chain_blocks before b.0))
+cost (edits.FreeChain b) before after = images_length (blocks_of before (chain_blocks before b.0))

@@ -1,5 +1,5 @@
 -- A document: blocks under handles, each with a user ID and a body, and a map block.
-use Rattle.std.specs.Prelude.{◌≡◌, ◌<◌, ℕ, List, [], Bool, true, false, not, ◌&&◌, nat_le, length, Option, Some, find, unwrap_or}
+use Rattle.std.specs.Prelude.{◌≡◌, ◌<◌, ℕ, List, [], ◌∷◌, Bool, true, false, not, ◌&&◌, nat_le, length, map, Option, Some, find, unwrap_or}
 use Rattle.std.specs.List.{range_with_len}
 use Rattle.std.specs.Ordering.{nat_cmp}
 use Rattle.std.specs.Option.{option_map_or}
@@ -93,6 +93,19 @@ with_block d h b = record d { blocks = insert d.blocks h b }
 
 abbrev pub without_block : Document → ℕ → Document
 without_block d h = record d { blocks = remove d.blocks h }
+
+-- the handles of these blocks
+abbrev pub handles_of : List (ℕ × Block) → List ℕ
+handles_of blocks = map (λ p. p.0) blocks
+
+-- the document with these blocks put in, one after another, and with those under these handles taken out
+abbrev pub with_blocks : Document → List (ℕ × Block) → Document
+with_blocks d [] = d
+with_blocks d (p ∷ ps) = with_blocks (with_block d p.0 p.1) ps
+
+abbrev pub without_blocks : Document → List ℕ → Document
+without_blocks d [] = d
+without_blocks d (h ∷ hs) = without_blocks (without_block d h) hs
 
 -- the document with this body of a block
 abbrev pub with_body : Document → ℕ → Body → Document

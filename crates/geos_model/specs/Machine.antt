@@ -97,6 +97,8 @@ kind_of (edits.CreateNameArray b part) = In b
 kind_of (edits.AddName b c text part replace) = In b
 kind_of (edits.ChangeName b c t text) = In b
 kind_of (edits.RemoveName b c t) = In b
+kind_of (edits.CopyChain b) = Made
+kind_of (edits.FreeChain b) = Freed
 
 -- the last sequence number, 2^64 - 1
 abbrev pub last_sequence : ℕ
@@ -215,6 +217,9 @@ takes_memory (commands.NameFind b c text) m = true
 takes_memory (commands.NameReferences b c t) m = true
 takes_memory (commands.NameText b c t) m = true
 takes_memory (commands.NamePart b c t) m = true
+takes_memory (commands.Walk b) m = true
+takes_memory (commands.ChainSize b) m = true
+takes_memory (commands.ChainEqual b other) m = true
 takes_memory commands.Undos m = false
 takes_memory commands.Redos m = false
 

@@ -1,5 +1,5 @@
 -- What an edit means: its refusals with their conditions, and where none holds the document after it and what it answers.
-use Rattle.std.specs.Prelude.{ℕ, List, [], ◌∷◌, ◌++◌, ◌+◌, not, ◌==◌, ◌&&◌, nat_lt, length, replicate, is_none, unwrap_or}
+use Rattle.std.specs.Prelude.{ℕ, List, [], ◌∷◌, ◌++◌, ◌+◌, not, ◌==◌, ◌&&◌, nat_lt, length, get_or, replicate, is_none, unwrap_or}
 use Rattle.std.specs.FinMap.{insert, remove, contains_key, empty}
 use Rattle.geos_model.specs.Refusal.{Conditions}
 use Rattle.geos_model.specs.Bytes.{written, resized, inserted, deleted}
@@ -10,7 +10,8 @@ use Rattle.geos_model.specs.ElementEdits.{no_slots, element_added, token_added, 
 use Rattle.geos_model.specs.NameArray.{name_bytes}
 use Rattle.geos_model.specs.NameEdits.{no_names, name_added, name_token_added, name_changed, name_reference_removed, on_name_token, create_names_conditions, add_name_conditions, change_name_conditions}
 use Rattle.geos_model.specs.Heap.{ChunkMap, capacity, next_chunk, chunk_bytes, fits_with, fits_new}
-use Rattle.geos_model.specs.Document.{Block, Document, block_at, with_block, without_block, with_body, with_user_id, is_live, is_heap, is_raw, chunks_of, raw_bytes_of, next_handle}
+use Rattle.geos_model.specs.Document.{Block, Document, block_at, with_block, without_block, with_blocks, without_blocks, with_body, with_user_id, is_live, is_heap, is_raw, chunks_of, raw_bytes_of, next_handle}
+use Rattle.geos_model.specs.Chain.{chain_blocks, new_handles, copies_of, copy_conditions, free_conditions}
 use Rattle.geos_model.specs.declared.fault.Fault.TheVariants.{NoBlock, NoChunk, WrongKind, Full, TooBig, NoHandles, Range, IsMap}
 use Rattle.geos_model.specs.declared.command.Body.TheVariants.{Raw, Heap}
 use Rattle.geos_model.specs.declared.command.Done.{Done}
@@ -113,6 +114,8 @@ conditions (edits.ChangeName b c t text) d =
     let old = chunk_at d b.0 c.0 in on_new_bytes d b.0 c.0 (change_name_conditions old t.0 text) (name_changed old t.0 text)
 conditions (edits.RemoveName b c t) d =
     let old = chunk_at d b.0 c.0 in on_new_bytes d b.0 c.0 (on_name_token old t.0) (name_reference_removed old t.0)
+conditions (edits.CopyChain b) d = copy_conditions d b.0
+conditions (edits.FreeChain b) d = free_conditions d b.0
 
 -- an edit that makes a block, or a chunk, and answers its handle
 abbrev pub makes_block : Document → Block → Document × Done
@@ -120,6 +123,10 @@ makes_block d block = let h = unwrap_or (next_handle d) 0 in (with_block d h blo
 
 abbrev pub makes_chunk : Document → ℕ → List ℕ → Document × Done
 makes_chunk d b bytes = (with_chunk d b (new_chunk d b) bytes, done.Chunk (record { 0 = new_chunk d b }))
+
+-- an edit that copies these blocks, and answers the handle of the first one's copy
+abbrev pub copies_blocks : Document → List ℕ → Document × Done
+copies_blocks d hs = (with_blocks d (copies_of d hs), done.Block (record { 0 = get_or (new_handles d (length hs)) 0 0 }))
 
 -- what an edit does that nothing refuses
 abbrev pub effect : Edit → Document → Document × Done
@@ -155,3 +162,5 @@ effect (edits.AddName b c text part replace) d =
     let old = chunk_at d b.0 c.0 in (with_chunk d b.0 c.0 (name_added old text part replace), done.Token (record { 0 = name_token_added old text part replace }))
 effect (edits.ChangeName b c t text) d = (with_chunk d b.0 c.0 (name_changed (chunk_at d b.0 c.0) t.0 text), done.Nothing)
 effect (edits.RemoveName b c t) d = (with_chunk d b.0 c.0 (name_reference_removed (chunk_at d b.0 c.0) t.0), done.Nothing)
+effect (edits.CopyChain b) d = copies_blocks d (chain_blocks d b.0)
+effect (edits.FreeChain b) d = (without_blocks d (chain_blocks d b.0), done.Nothing)

@@ -1,11 +1,12 @@
 -- What a command answers, and how look-ups answer of a document.
-use Rattle.std.specs.Prelude.{ℕ, List, [], ◌++◌, ◌==◌, ◌&&◌, nat_lt, length, map, find, get_or, Option, Some, None, unwrap_or, Result, Ok, Err}
+use Rattle.std.specs.Prelude.{ℕ, List, [], Bool, ◌++◌, ◌==◌, ◌&&◌, nat_lt, length, map, find, get_or, Option, Some, None, unwrap_or, Result, Ok, Err}
 use Rattle.std.specs.FinMap.{get, keys, entries}
 use Rattle.std.specs.Option.{option_map}
 use Rattle.geos_model.specs.Refusal.{Conditions}
 use Rattle.geos_model.specs.ArrayEdits.{array_in, on_array, on_element}
 use Rattle.geos_model.specs.ElementEdits.{elements_in, count_at, bytes_at, used_in, used_from, used_below, on_elements, on_token, on_used}
 use Rattle.geos_model.specs.NameEdits.{names_in, token_of_text, text_at, part_at, on_name_token, find_conditions}
+use Rattle.geos_model.specs.Chain.{chain_blocks, bytes_in, same_shape, on_chain, on_chains}
 use Rattle.geos_model.specs.Heap.{need}
 use Rattle.geos_model.specs.Document.{Document, chunks_of, raw_bytes_of}
 use Rattle.geos_model.specs.Meaning.{on_block, on_raw, on_heap, on_chunk, chunk_at}
@@ -33,6 +34,7 @@ pub data Reply : Type 0 where
   ChunksAre : (handles : List ℕ) → Reply
   RawIs : (user_id size : ℕ) → Reply
   HeapIs : (user_id size : ℕ) → Reply
+  AreEqual : (equal : Bool) → Reply
 
 abbrev pub reply_of_done : Done → Reply
 reply_of_done done.Nothing = Accepted
@@ -57,6 +59,9 @@ look_up_conditions (commands.NameFind b c text) d = on_chunk d b.0 c.0 ++ find_c
 look_up_conditions (commands.NameReferences b c t) d = on_chunk d b.0 c.0 ++ on_name_token (chunk_at d b.0 c.0) t.0
 look_up_conditions (commands.NameText b c t) d = on_chunk d b.0 c.0 ++ on_name_token (chunk_at d b.0 c.0) t.0
 look_up_conditions (commands.NamePart b c t) d = on_chunk d b.0 c.0 ++ on_name_token (chunk_at d b.0 c.0) t.0
+look_up_conditions (commands.Walk b) d = on_chain d b.0
+look_up_conditions (commands.ChainSize b) d = on_chain d b.0
+look_up_conditions (commands.ChainEqual b other) d = on_chains d b.0 other.0
 look_up_conditions commands.List d = []
 look_up_conditions (commands.Find uid start) d = []
 look_up_conditions commands.MapBlock d = []
@@ -100,6 +105,9 @@ look_up (commands.NameFind b c text) d = option_map TokenIs (token_of_text (name
 look_up (commands.NameReferences b c t) d = Some (NumberIs (count_at (names_in (chunk_at d b.0 c.0)).names t.0))
 look_up (commands.NameText b c t) d = Some (BytesAre (text_at (names_in (chunk_at d b.0 c.0)) t.0))
 look_up (commands.NamePart b c t) d = Some (BytesAre (part_at (names_in (chunk_at d b.0 c.0)) t.0))
+look_up (commands.Walk b) d = Some (BlocksAre (chain_blocks d b.0))
+look_up (commands.ChainSize b) d = Some (NumberIs (bytes_in d (chain_blocks d b.0)))
+look_up (commands.ChainEqual b other) d = Some (AreEqual (same_shape d (chain_blocks d b.0) (chain_blocks d other.0)))
 look_up commands.Undos d = None
 look_up commands.Redos d = None
 look_up commands.Blank d = None

@@ -10,7 +10,7 @@ use Rattle.geos_model.specs.declared.handle.ChunkHandle.{ChunkHandle}
 use Rattle.geos_model.specs.declared.handle.Token.{Token}
 pub use Rattle.geos_model.specs.Bytes.{same_bytes}
 use Rattle.geos_model.specs.Refusal.{number_of_fault, name_of_fault}
-use Rattle.geos_model.specs.Reply.{Reply, Accepted, Refused, BlockIs, ChunkIs, TokenIs, NumberIs, BytesAre, BlocksAre, ChunksAre, RawIs, HeapIs}
+use Rattle.geos_model.specs.Reply.{Reply, Accepted, Refused, BlockIs, ChunkIs, TokenIs, NumberIs, BytesAre, BlocksAre, ChunksAre, RawIs, HeapIs, AreEqual}
 use Rattle.geos_model.specs.Machine.{Machine, Request, Call, failed_calls, Run}
 use Rattle.geos_model.specs.declared.command.Edit.TheVariants as edits
 use Rattle.geos_model.specs.declared.command.Command.{Command}
@@ -149,6 +149,8 @@ commands_by_name =
     ∷ (codes "nadd", with_5 block chunk bytes bytes is_set (λ b c name part replace. commands.Edit (edits.AddName b c name part replace)))
     ∷ (codes "nname", with_4 block chunk token bytes (λ b c t name. commands.Edit (edits.ChangeName b c t name)))
     ∷ (codes "nunref", with_3 block chunk token (λ b c t. commands.Edit (edits.RemoveName b c t)))
+    ∷ (codes "chcopy", with_1 block (λ b. commands.Edit (edits.CopyChain b)))
+    ∷ (codes "chfree", with_1 block (λ b. commands.Edit (edits.FreeChain b)))
     ∷ (codes "undo", with_none commands.Undo)
     ∷ (codes "redo", with_none commands.Redo)
     ∷ (codes "update", with_none commands.Update)
@@ -173,6 +175,9 @@ commands_by_name =
     ∷ (codes "ncount", with_3 block chunk token (λ b c t. commands.NameReferences b c t))
     ∷ (codes "ntext", with_3 block chunk token (λ b c t. commands.NameText b c t))
     ∷ (codes "ndata", with_3 block chunk token (λ b c t. commands.NamePart b c t))
+    ∷ (codes "walk", with_1 block (λ b. commands.Walk b))
+    ∷ (codes "chsize", with_1 block (λ b. commands.ChainSize b))
+    ∷ (codes "chequal", with_2 block block (λ b other. commands.ChainEqual b other))
     ∷ (codes "undos", with_none commands.Undos)
     ∷ (codes "redos", with_none commands.Redos)
     ∷ []
@@ -226,6 +231,8 @@ reply_text (BlocksAre hs) = codes "blocks" ++ listed hs
 reply_text (ChunksAre hs) = codes "chunks" ++ listed hs
 reply_text (RawIs uid size) = codes "raw " ++ decimal uid ++ 32 ∷ decimal size
 reply_text (HeapIs uid size) = codes "heap " ++ decimal uid ++ 32 ∷ decimal size
+reply_text (AreEqual true) = codes "same"
+reply_text (AreEqual false) = codes "differ"
 
 abbrev pub reply_line : Reply → List ℕ
 reply_line reply = reply_text reply ++ line_feed ∷ []

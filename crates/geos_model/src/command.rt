@@ -70,6 +70,10 @@ pub enum Edit {
     ChangeName(VmHandle, ChunkHandle, Token, Bytes),
     /// The name loses a reference, and is freed with the last one.
     RemoveName(VmHandle, ChunkHandle, Token),
+    /// New blocks with the bodies and user IDs of a chain's, which link to one another as those do.
+    CopyChain(VmHandle),
+    /// All blocks of the chain are freed.
+    FreeChain(VmHandle),
 }
 
 /// What an accepted edit answers.
@@ -141,6 +145,12 @@ pub enum Command {
     NameText(VmHandle, ChunkHandle, Token),
     /// What stands before the name of a token.
     NamePart(VmHandle, ChunkHandle, Token),
+    /// The blocks of a chain, each before those that it links to.
+    Walk(VmHandle),
+    /// How many bytes the blocks of a chain have.
+    ChainSize(VmHandle),
+    /// Whether two chains are equal, but for handles and user IDs.
+    ChainEqual(VmHandle, VmHandle),
     /// How many edits can be undone.
     Undos,
     /// How many edits can be redone.

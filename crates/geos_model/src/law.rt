@@ -1,6 +1,6 @@
 ghost use Rattle.geos_model.specs.Laws.{WordLaw, NumberLaw, ChunkLaw, ImageLaw, ArrayLaw, ElementArrayLaw, NameArrayLaw};
 ghost use Rattle.geos_model.specs.EditLaws.{ChunkEditsLaw, ArrayEditsLaw, ElementEditsLaw, NameEditsLaw};
-ghost use Rattle.geos_model.specs.ChainLaws.{ChainLaw};
+ghost use Rattle.geos_model.specs.ChainLaws.{ChainLaw, ChainEditsLaw};
 ghost use Rattle.geos_model.specs.FileLaws.{FileLaw};
 ghost use Rattle.geos_model.specs.Undoing.{UndoLaw, RedoLaw};
 ghost use Rattle.geos_model.specs.Saving.{SaveLaw};
@@ -98,4 +98,10 @@ pub fn validity_law()
 /// links can be renamed.
 pub fn chain_law()
     ensures { ChainLaw }
+{}
+
+/// An accepted copy of a chain is one of the same shape under new handles, and an accepted freeing takes its blocks out and
+/// nothing else.
+pub fn chain_edits_law()
+    ensures { ChainEditsLaw }
 {}

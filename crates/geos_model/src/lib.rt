@@ -15,7 +15,7 @@ pub use fault::Fault;
 pub use file::{Entry, Extent, PAGE, Slot};
 pub use handle::{ChunkHandle, Token, VmHandle};
 pub use law::{
-    array_edits_law, array_law, chain_law, chunk_edits_law, chunk_law, element_array_law,
-    element_edits_law, failing_law, file_law, image_law, name_array_law, name_edits_law,
-    number_law, redo_law, save_law, undo_law, validity_law, word_law,
+    array_edits_law, array_law, chain_edits_law, chain_law, chunk_edits_law, chunk_law,
+    element_array_law, element_edits_law, failing_law, file_law, image_law, name_array_law,
+    name_edits_law, number_law, redo_law, save_law, undo_law, validity_law, word_law,
 };

@@ -36,6 +36,14 @@ pub first_missing : {A B : Type 0} (p : List ℕ → Option A) (q : List ℕ →
 first_missing p q f (x ∷ ws) none least missing = rw missing refl
 first_missing p q f [] none least missing = refl
 
+-- two words, of which the second doesn't
+pub second_missing : {A B : Type 0} (p : List ℕ → Option A) (q : List ℕ → Option B) (f : A → B → Command)
+    (ws : List (Bor (List ℕ))) (none : Bor (List ℕ)) (a : A) → 2 ≤ length ws → p (get_or ws 0 none).now ≡ Some a → q (get_or ws 1 none).now ≡ None
+    → with_2 p q f (map (λ (w : Bor (List ℕ)). w.now) ws) ≡ None
+second_missing p q f (x ∷ y ∷ ws) none a least first missing = rw (first, missing) refl
+second_missing p q f [] none a least first missing = absurd (omega arith)
+second_missing p q f (x ∷ []) none a least first missing = absurd (omega arith)
+
 -- fewer than two words, where a block and a chunk are wanted
 pub too_few : (verb : OnChunk) (ws : List (Bor (List ℕ))) → length ws < 2 → takes (verbs.Chunk verb) (map (λ (w : Bor (List ℕ)). w.now) ws) ≡ None
 too_few verb [] few = refl

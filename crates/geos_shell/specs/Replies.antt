@@ -36,6 +36,13 @@ asks_array (commands.ArrayCount b c) = true
 asks_array (commands.ArrayElement b c i) = true
 asks_array command = asks_slots command
 
+-- a command that asks of a chain
+abbrev pub asks_chain : Command → Bool
+asks_chain (commands.Walk b) = true
+asks_chain (commands.ChainSize b) = true
+asks_chain (commands.ChainEqual b other) = true
+asks_chain command = asks_array command
+
 -- a command that only asks
 abbrev pub is_look_up : Command → Bool
 is_look_up (commands.Info b) = true
@@ -47,7 +54,7 @@ is_look_up (commands.Chunks b) = true
 is_look_up (commands.Read b c) = true
 is_look_up commands.Undos = true
 is_look_up commands.Redos = true
-is_look_up command = asks_array command
+is_look_up command = asks_chain command
 
 -- The machine may answer a command so and stay as it is, and the reply's text was put behind what was there.
 pub record Told (machine : Machine) (command : Command) (before after : List ℕ) : Type 0 where

@@ -54,6 +54,10 @@ on_block on_blocks.SetMap b = commands.Edit (edits.SetMap b)
 on_block on_blocks.Info b = commands.Info b
 on_block on_blocks.Read b = commands.ReadRaw b
 on_block on_blocks.Chunks b = commands.Chunks b
+on_block on_blocks.CopyChain b = commands.Edit (edits.CopyChain b)
+on_block on_blocks.FreeChain b = commands.Edit (edits.FreeChain b)
+on_block on_blocks.Walk b = commands.Walk b
+on_block on_blocks.ChainSize b = commands.ChainSize b
 
 abbrev pub make : Make → VmHandle → ℕ → Command
 make makes.Chunk b n = commands.Edit (edits.Alloc b n)
@@ -123,6 +127,7 @@ takes verbs.Attach = with_2 block bytes (λ b bs. commands.Edit (edits.Attach b 
 takes verbs.SetUserId = with_2 block user_id (λ b u. commands.Edit (edits.SetUserId b u))
 takes verbs.CreateArray = with_3 block number number (λ b e x. commands.Edit (edits.CreateArray b e x))
 takes verbs.Find = with_2 user_id block (λ u b. commands.Find u b)
+takes verbs.ChainEqual = with_2 block block (λ b other. commands.ChainEqual b other)
 takes (verbs.Alone verb) = with_none (alone verb)
 takes (verbs.Block verb) = with_1 block (on_block verb)
 takes (verbs.Make verb) = with_2 block number (make verb)

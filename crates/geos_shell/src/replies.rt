@@ -4,7 +4,7 @@ ghost use Rattle.geos_model.specs.Script.{command};
 ghost use Rattle.geos_model.specs.declared.command.Command.TheVariants as commands;
 ghost use Rattle.undo_log.specs.Records.{machine_of};
 ghost use Rattle.geos_shell.specs.Runs.{AreHonest};
-ghost use Rattle.geos_shell.specs.Replies.{Extends, Told, Serves, Responds, asks_array, asks_names, asks_slots, is_look_up};
+ghost use Rattle.geos_shell.specs.Replies.{Extends, Told, Serves, Responds, asks_array, asks_chain, asks_names, asks_slots, is_look_up};
 
 use crate::parser::parse;
 use crate::text;
@@ -30,7 +30,7 @@ fn push_name_look_up<S: Store>(
             text::push_token(alloc, out, session.name_find(*block, *chunk, name))
         }
         Command::NameReferences(block, chunk, token) => {
-            text::push_references(alloc, out, session.name_refs(*block, *chunk, *token))
+            text::push_u32(alloc, out, session.name_refs(*block, *chunk, *token))
         }
         Command::NameText(block, chunk, token) => {
             text::push_bytes(alloc, out, session.name_text(*block, *chunk, *token))
@@ -56,7 +56,7 @@ fn push_slot_look_up<S: Store>(
 {
     match look_up {
         Command::ElementReferences(block, chunk, token) => {
-            text::push_references(alloc, out, session.element_refs(*block, *chunk, *token))
+            text::push_u32(alloc, out, session.element_refs(*block, *chunk, *token))
         }
         Command::ElementBytes(block, chunk, token) => {
             text::push_bytes(alloc, out, session.element_bytes(*block, *chunk, *token))
@@ -97,6 +97,28 @@ fn push_array_look_up<S: Store>(
     }
 }
 
+// Puts the reply to a look-up of a chain or of an array of any kind behind `out`, without its line feed.
+fn push_chain_look_up<S: Store>(
+    alloc: Global,
+    session: &mut Session<S>,
+    look_up: &Command,
+    out: &mut Vec<u8>,
+) -> Result<(), AllocError>
+    requires { IsTrue (asks_chain look_up.now) }
+    ensures ok { OnOk result ((target : Bool) → Told (machine_of target session.old) look_up.now out.old.items out.new.items) }
+    ensures stays { session.new ≡ session.old }
+    ensures err { OnErr result (Extends out.old.items out.new.items) }
+{
+    match look_up {
+        Command::Walk(root) => text::push_blocks(alloc, out, session.walk(*root)),
+        Command::ChainSize(root) => { text::push_u32(alloc, out, session.chain_size(*root)) }
+        Command::ChainEqual(first, second) => {
+            text::push_equal(alloc, out, session.chain_equal(*first, *second))
+        }
+        array_look_up => push_array_look_up(alloc, session, array_look_up, out),
+    }
+}
+
 // Puts the reply to a look-up behind `out`, without its line feed.
 fn push_look_up<S: Store>(
     alloc: Global,
@@ -121,7 +143,7 @@ fn push_look_up<S: Store>(
         }
         Command::Undos => text::push_count(alloc, out, session.undo_count()),
         Command::Redos => text::push_count(alloc, out, session.redo_count()),
-        array_look_up => push_array_look_up(alloc, session, array_look_up, out),
+        chain_look_up => push_chain_look_up(alloc, session, chain_look_up, out),
     }
 }
 

@@ -61,6 +61,10 @@ pub(crate) enum OnBlock {
     Info,
     Read,
     Chunks,
+    CopyChain,
+    FreeChain,
+    Walk,
+    ChainSize,
 }
 
 impl OnBlock {
@@ -74,6 +78,10 @@ impl OnBlock {
             Self::Info => Command::Info(block),
             Self::Read => Command::ReadRaw(block),
             Self::Chunks => Command::Chunks(block),
+            Self::CopyChain => Command::Edit(Edit::CopyChain(block)),
+            Self::FreeChain => Command::Edit(Edit::FreeChain(block)),
+            Self::Walk => Command::Walk(block),
+            Self::ChainSize => Command::ChainSize(block),
         }
     }
 
@@ -481,4 +489,13 @@ pub(crate) fn find(operands: &[&[u8]]) -> Result<Command, Fault>
         return Err(Fault::BadCommand);
     };
     Ok(Command::Find(user_id(first)?, block(second)?))
+}
+
+pub(crate) fn chain_equal(operands: &[&[u8]]) -> Result<Command, Fault>
+    ensures { Reads command_has_bytes (takes verbs.ChainEqual (map (λ w. w.now) operands.now)) result }
+{
+    let [first, second] = operands else {
+        return Err(Fault::BadCommand);
+    };
+    Ok(Command::ChainEqual(block(first)?, block(second)?))
 }

@@ -4,7 +4,7 @@
 ghost use Rattle.std.specs.Prelude.{◌≡◌, ◌++◌, ◌∷◌, OnOk, OnErr, map, option_map, unwrap_or};
 ghost use Rattle.std.specs.Fmt.{decimal};
 ghost use Rattle.hex.specs.Hex.{encode_lower};
-ghost use Rattle.geos_model.specs.Reply.{Accepted, BlockIs, BytesAre, NumberIs, Refused, TokenIs, blocks_are, chunks_are, info_is, reply_by, reply_of_done};
+ghost use Rattle.geos_model.specs.Reply.{Accepted, AreEqual, BlockIs, BytesAre, NumberIs, Refused, TokenIs, blocks_are, chunks_are, info_is, reply_by, reply_of_done};
 ghost use Rattle.geos_model.specs.Script.{four_digits, listed, reply_text};
 ghost use Rattle.geos_shell.specs.Replies.{Extends};
 
@@ -127,19 +127,34 @@ pub(crate) fn push_array_count(
     }
 }
 
-pub(crate) fn push_references(
+pub(crate) fn push_u32(
     alloc: Global,
     out: &mut Vec<u8>,
-    references: Result<u32, Fault>,
+    number: Result<u32, Fault>,
 ) -> Result<(), AllocError>
-    ensures ok { OnOk result (out.new.items ≡ out.old.items ++ reply_text (reply_by NumberIs references)) }
+    ensures ok { OnOk result (out.new.items ≡ out.old.items ++ reply_text (reply_by NumberIs number)) }
     ensures err { OnErr result (Extends out.old.items out.new.items) }
 {
-    match references {
-        Ok(references) => {
+    match number {
+        Ok(number) => {
             out.extend_from_slice(b"number ")?;
-            push_number(alloc, out, references)
+            push_number(alloc, out, number)
         }
+        Err(fault) => push_refusal(alloc, out, fault),
+    }
+}
+
+pub(crate) fn push_equal(
+    alloc: Global,
+    out: &mut Vec<u8>,
+    equal: Result<bool, Fault>,
+) -> Result<(), AllocError>
+    ensures ok { OnOk result (out.new.items ≡ out.old.items ++ reply_text (reply_by AreEqual equal)) }
+    ensures err { OnErr result (Extends out.old.items out.new.items) }
+{
+    match equal {
+        Ok(true) => out.extend_from_slice(b"same"),
+        Ok(false) => out.extend_from_slice(b"differ"),
         Err(fault) => push_refusal(alloc, out, fault),
     }
 }
@@ -283,8 +298,11 @@ mod tests {
         push_found(&mut out, Some(VmHandle(0x30)))?;
         push_found(&mut out, None)?;
         push_count(alloc, &mut out, 12)?;
+        push_equal(alloc, &mut out, Ok(true))?;
+        push_equal(alloc, &mut out, Ok(false))?;
+        push_equal(alloc, &mut out, Err(Fault::BadChain))?;
         let texts =
-            b"okblock 0001chunk ffeeno 22 NothingToUndoraw 65535 0heap 7 65520blocks 0001 0800chunksbytes -bytes 0af0block 0030block 0000number 12";
+            b"okblock 0001chunk ffeeno 22 NothingToUndoraw 65535 0heap 7 65520blocks 0001 0800chunksbytes -bytes 0af0block 0030block 0000number 12samedifferno 17 BadChain";
         assert_eq!(rt; out.as_slice(), texts.as_slice());
         Ok(())
     }

@@ -19,6 +19,7 @@ pub(crate) enum Verb {
     SetUserId,
     CreateArray,
     Find,
+    ChainEqual,
     Alone(Alone),
     Block(OnBlock),
     Make(Make),
@@ -26,7 +27,7 @@ pub(crate) enum Verb {
 }
 
 /// Each verb by its name.
-const VERBS: [(&[u8], Verb); 56] = [
+const VERBS: [(&[u8], Verb); 61] = [
     (b"newraw", Verb::NewRaw),
     (b"newheap", Verb::NewHeap),
     (b"vfree", Verb::Block(OnBlock::Free)),
@@ -63,6 +64,8 @@ const VERBS: [(&[u8], Verb); 56] = [
     (b"nadd", Verb::Chunk(OnChunk::AddName)),
     (b"nname", Verb::Chunk(OnChunk::Change(Change::Name))),
     (b"nunref", Verb::Chunk(OnChunk::Token(OnToken::RemoveName))),
+    (b"chcopy", Verb::Block(OnBlock::CopyChain)),
+    (b"chfree", Verb::Block(OnBlock::FreeChain)),
     (b"undo", Verb::Alone(Alone::Undo)),
     (b"redo", Verb::Alone(Alone::Redo)),
     (b"update", Verb::Alone(Alone::Update)),
@@ -93,6 +96,9 @@ const VERBS: [(&[u8], Verb); 56] = [
     ),
     (b"ntext", Verb::Chunk(OnChunk::Token(OnToken::NameText))),
     (b"ndata", Verb::Chunk(OnChunk::Token(OnToken::NamePart))),
+    (b"walk", Verb::Block(OnBlock::Walk)),
+    (b"chsize", Verb::Block(OnBlock::ChainSize)),
+    (b"chequal", Verb::ChainEqual),
     (b"undos", Verb::Alone(Alone::Undos)),
     (b"redos", Verb::Alone(Alone::Redos)),
 ];
@@ -133,6 +139,7 @@ pub(crate) fn command_of(alloc: Global, verb: Verb, operands: &[&[u8]]) -> Resul
         Verb::SetUserId => shapes::set_user_id(operands),
         Verb::CreateArray => shapes::create_array(operands),
         Verb::Find => shapes::find(operands),
+        Verb::ChainEqual => shapes::chain_equal(operands),
         Verb::Alone(verb) => verb.read(operands),
         Verb::Block(verb) => verb.read(operands),
         Verb::Make(verb) => verb.read(operands),

@@ -1,6 +1,9 @@
-//! Tests by scripts, at their limits: the longest lines, replies and elements, full heaps, all handles, long runs of edits.
+//! Tests by scripts, at their limits: the longest lines, replies and elements, full heaps, all handles, the longest chains, long runs
+//! of edits.
 #![tactic(auto)]
 
+#[cfg(test)]
+mod chains;
 #[cfg(test)]
 mod full_blocks;
 #[cfg(test)]

@@ -16,8 +16,16 @@ use Rattle.geos_model.proofs.HeapTables.{need-table, image-table, slot_size_word
 use Rattle.geos_model.specs.Words.{word, word_at}
 use Rattle.geos_model.proofs.Images.{word-reads_back}
 use Rattle.lmem_heap.specs.Packed.{Slots, heads, chunks, packed, slots_in}
+use Rattle.lmem_heap.specs.Placed.{Placed, placed_in, offsets}
 use Rattle.lmem_heap.specs.Slots.{space_in, need_in}
 use Rattle.lmem_heap.proofs.Packing.{length-packed, slots_in-packed, slot_some, slot_length, length-chunks-set}
+
+-- the finite maps that a table shows
+pub shown_chunks : (t : Slots) (p : Placed) → placed_in t ≡ p → table_map 2 16 t ≡ p.chunks
+shown_chunks t p is = ap (λ (x : Placed). x.chunks) is
+
+pub shown_places : (t : Slots) (p : Placed) → placed_in t ≡ p → table_map 2 16 (offsets t) ≡ p.places
+shown_places t p is = ap (λ (x : Placed). x.places) is
 
 pub need_is : (t : Slots) → IsTrimmed t → need (table_map 2 16 t) ≡ need_in t
 need_is t trimmed = need-table t trimmed

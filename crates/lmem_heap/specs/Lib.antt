@@ -1,4 +1,5 @@
 pub mod LendsChunk
 pub mod LendsHeapChunk
 pub mod Packed
+pub mod Placed
 pub mod Slots

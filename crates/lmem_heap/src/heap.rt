@@ -1,7 +1,7 @@
-ghost use Rattle.std.specs.Prelude.{◌≡◌, ◌⊎◌, ◌+◌, ◌^◌, ◌≤◌, ◌<◌, ℕ, List, ◌∷◌, ◌++◌, true, Some, None, IsTrue, IfOk, IfErr, MatchOption, length, map, take, drop, replicate, get_or};
+ghost use Rattle.std.specs.Prelude.{◌≡◌, ◌⊎◌, ◌+◌, ◌^◌, ◌≤◌, ◌<◌, ℕ, List, ◌∷◌, ◌++◌, true, Some, None, IsTrue, IfOk, IfErr, MatchOption, length, map, take, drop, replicate, get_or, is_some, nat_lt};
 ghost use Rattle.std.specs.Borrow.{sem};
 ghost use Rattle.std.specs.List.{splice};
-ghost use Rattle.std.specs.Option.{option_map, option_copied};
+ghost use Rattle.std.specs.Option.{option_map, option_copied, IfSome};
 ghost use Rattle.std.specs.FinMap.{empty, get, insert, remove, keys, contains_key};
 ghost use Rattle.geos_model.specs.Heap.{ChunkMap, need, capacity, most_chunks, chunk_bytes, next_chunk, fits_new, fits_with, is_chunk_handle, is_heap_map, space_of, handle_of};
 ghost use Rattle.geos_model.specs.Bytes.{resized};
@@ -44,19 +44,17 @@ pub struct Heap {
 }
 
 impl Model for Heap {
-    ghost use Rattle.std.specs.Prelude.{◌≡◌, true, List, ℕ};
-    ghost use Rattle.std.specs.Ordering.{nat_cmp};
-    ghost use Rattle.std.specs.Coded.{coded_ℕ, coded_list};
-    ghost use Rattle.std.specs.FinMap.{FinMap, code};
+    ghost use Rattle.std.specs.Prelude.{◌≡◌, true};
     ghost use Rattle.geos_model.specs.Heap.{is_heap_map};
     ghost use Rattle.geos_model.proofs.Table.{table_map, first_gap, IsTrimmed};
+    ghost use Rattle.lmem_heap.specs.Placed.{Placed, placed_code, placed_in};
     ghost use Rattle.lmem_heap.specs.Slots.{space_in};
 
-    ghost Value = { FinMap nat_cmp (List ℕ) };
+    ghost Value = { Placed };
 
-    ghost coded = { code coded_ℕ (coded_list coded_ℕ) };
+    ghost coded = { placed_code };
 
-    ghost view = { λ h. table_map 2 16 h.table };
+    ghost view = { λ h. placed_in h.table };
 
     ghost invariant = { λ h. IsTrimmed h.table
         × (h.space ≡ space_in h.table)
@@ -69,7 +67,7 @@ impl Heap {
 
     /// An empty heap.
     pub fn new(alloc: Global) -> Result<Heap, AllocError>
-        ensures { IfOk result (λ h. h ≡ empty) }
+        ensures { IfOk result (λ h. h.chunks ≡ empty) }
     {
         let table = Table::new(alloc)?;
         Ok(Heap {
@@ -84,14 +82,14 @@ impl Heap {
     /// in whole double words, and each chunk with a word before it, in whole double words; an empty chunk takes nothing
     /// beside its entry.
     pub fn need(&self) -> u32
-        ensures { result ≡ need self.now }
+        ensures { result ≡ need self.now.chunks }
     {
         need_of(self.table.len(), self.space) as u32
     }
 
     /// Whether a chunk of `n` bytes finds a handle and room.
     pub fn fits_alloc(&self, n: u32) -> bool
-        ensures { result ≡ fits_new self.now (replicate n 0) }
+        ensures { result ≡ fits_new self.now.chunks (replicate n 0) }
     {
         match self.next_handle() {
             Some(h) => self.fits_at(h, n),
@@ -102,8 +100,8 @@ impl Heap {
     /// Whether a chunk of `n` bytes under a free handle finds room.
     pub fn fits_at(&self, h: ChunkHandle, n: u32) -> bool
         requires handle { IsTrue (is_chunk_handle h.0) }
-        requires free { get self.now h.0 ≡ None }
-        ensures { result ≡ fits_with self.now h.0 (replicate n 0) }
+        requires free { get self.now.chunks h.0 ≡ None }
+        ensures { result ≡ fits_with self.now.chunks h.0 (replicate n 0) }
     {
         let slots = self.table.len().max(slot(h) + 1);
         need_of(slots, self.space + space_of(n as usize)) <= CAPACITY
@@ -111,8 +109,8 @@ impl Heap {
 
     /// Whether a chunk finds room with a size of `n` bytes.
     pub fn fits_resize(&self, h: ChunkHandle, n: u32) -> bool
-        requires { IsTrue (contains_key self.now h.0) }
-        ensures { result ≡ fits_with self.now h.0 (resized (chunk_bytes self.now h.0) n) }
+        requires { IsTrue (contains_key self.now.chunks h.0) }
+        ensures { result ≡ fits_with self.now.chunks h.0 (resized (chunk_bytes self.now.chunks h.0) n) }
     {
         let size = self.size(h);
         let others = self.space - space_of(size);
@@ -121,15 +119,15 @@ impl Heap {
 
     /// The size of a chunk.
     fn size(&self, h: ChunkHandle) -> usize
-        requires { IsTrue (contains_key self.now h.0) }
-        ensures { result ≡ length (chunk_bytes self.now h.0) }
+        requires { IsTrue (contains_key self.now.chunks h.0) }
+        ensures { result ≡ length (chunk_bytes self.now.chunks h.0) }
     {
         self.table.size(slot(h)).unwrap()
     }
 
     /// The least free handle.
     pub fn next_handle(&self) -> Option<ChunkHandle>
-        ensures { option_map (λ h. h.0) result ≡ next_chunk self.now }
+        ensures { option_map (λ h. h.0) result ≡ next_chunk self.now.chunks }
     {
         if self.gap < MOST_CHUNKS {
             Some(handle_of(self.gap))
@@ -140,9 +138,9 @@ impl Heap {
 
     /// A new chunk of `n` zeros, under the least free handle.
     pub fn alloc(&mut self, n: u32) -> ChunkHandle
-        requires { IsTrue (fits_new self.old (replicate n 0)) }
-        ensures handle { next_chunk self.old ≡ Some result.0 }
-        ensures chunk { self.new ≡ insert self.old result.0 (replicate n 0) }
+        requires { IsTrue (fits_new self.old.chunks (replicate n 0)) }
+        ensures handle { next_chunk self.old.chunks ≡ Some result.0 }
+        ensures chunk { self.new.chunks ≡ insert self.old.chunks result.0 (replicate n 0) }
     {
         let h = handle_of(self.gap);
         self.alloc_at(h, n);
@@ -152,9 +150,9 @@ impl Heap {
     /// A new chunk of `n` zeros, under a free handle.
     pub fn alloc_at(&mut self, h: ChunkHandle, n: u32)
         requires handle { IsTrue (is_chunk_handle h.0) }
-        requires free { get self.old h.0 ≡ None }
-        requires fits { IsTrue (fits_with self.old h.0 (replicate n 0)) }
-        ensures { self.new ≡ insert self.old h.0 (replicate n 0) }
+        requires free { get self.old.chunks h.0 ≡ None }
+        requires fits { IsTrue (fits_with self.old.chunks h.0 (replicate n 0)) }
+        ensures { self.new.chunks ≡ insert self.old.chunks h.0 (replicate n 0) }
     {
         let i = slot(h);
         self.table.open_slots(i + 1);
@@ -167,8 +165,8 @@ impl Heap {
 
     /// Frees a chunk. The table becomes as short as the greatest live handle lets it be.
     pub fn free(&mut self, h: ChunkHandle)
-        requires { IsTrue (contains_key self.old h.0) }
-        ensures { self.new ≡ remove self.old h.0 }
+        requires { IsTrue (contains_key self.old.chunks h.0) }
+        ensures { self.new.chunks ≡ remove self.old.chunks h.0 }
     {
         let size = self.size(h);
         let i = slot(h);
@@ -183,9 +181,9 @@ impl Heap {
 
     /// Cuts a chunk at its end, or adds zeros there, so that it has `n` bytes.
     pub fn resize(&mut self, h: ChunkHandle, n: u32)
-        requires live { IsTrue (contains_key self.old h.0) }
-        requires fits { IsTrue (fits_with self.old h.0 (resized (chunk_bytes self.old h.0) n)) }
-        ensures { self.new ≡ insert self.old h.0 (resized (chunk_bytes self.old h.0) n) }
+        requires live { IsTrue (contains_key self.old.chunks h.0) }
+        requires fits { IsTrue (fits_with self.old.chunks h.0 (resized (chunk_bytes self.old.chunks h.0) n)) }
+        ensures { self.new.chunks ≡ insert self.old.chunks h.0 (resized (chunk_bytes self.old.chunks h.0) n) }
     {
         let n = n as usize;
         let size = self.size(h);
@@ -200,10 +198,10 @@ impl Heap {
 
     /// Puts `new` in the place of the `k` bytes from `at` on of a chunk; what stands behind them slides.
     pub fn replace(&mut self, h: ChunkHandle, at: usize, k: usize, new: &[u8])
-        requires live { IsTrue (contains_key self.old h.0) }
-        requires range { at + k ≤ length (chunk_bytes self.old h.0) }
-        requires fits { IsTrue (fits_with self.old h.0 (splice (chunk_bytes self.old h.0) at (at + k) new.now)) }
-        ensures { self.new ≡ insert self.old h.0 (splice (chunk_bytes self.old h.0) at (at + k) new.now) }
+        requires live { IsTrue (contains_key self.old.chunks h.0) }
+        requires range { at + k ≤ length (chunk_bytes self.old.chunks h.0) }
+        requires fits { IsTrue (fits_with self.old.chunks h.0 (splice (chunk_bytes self.old.chunks h.0) at (at + k) new.now)) }
+        ensures { self.new.chunks ≡ insert self.old.chunks h.0 (splice (chunk_bytes self.old.chunks h.0) at (at + k) new.now) }
     {
         let size = self.size(h);
         self.table.replace(slot(h), at, k, new);
@@ -212,15 +210,26 @@ impl Heap {
 
     /// Joins all free room into one piece. The chunks stay as they are.
     pub fn contract(&mut self)
-        ensures { self.new ≡ self.old }
+        ensures { self.new.chunks ≡ self.old.chunks }
     {
         // Chunks always stand one behind the other, so the free room is in one piece already.
     }
 
+    /// Where the bytes of a chunk stand in the heap's region; None where there is no such chunk, or it has no bytes. A call
+    /// that makes, frees or resizes a chunk may move others; what is written through `chunk_mut` moves none.
+    pub fn offset(&self, h: ChunkHandle) -> Option<usize>
+        ensures place { result ≡ get self.now.places h.0 }
+        ensures there { is_some result ≡ nat_lt 0 (length (chunk_bytes self.now.chunks h.0)) }
+        ensures within { IfSome result (λ at. at + length (chunk_bytes self.now.chunks h.0) ≤ capacity) }
+    {
+        let i = slot_of(h, self.table.len())?;
+        self.table.offset(i)
+    }
+
     /// The bytes of a chunk.
     pub fn chunk(&self, h: ChunkHandle) -> Option<&[u8]>
-        ensures value { option_copied result ≡ get self.now h.0 }
-        ensures valid { is_heap_map self.now ≡ true }
+        ensures value { option_copied result ≡ get self.now.chunks h.0 }
+        ensures valid { is_heap_map self.now.chunks ≡ true }
     {
         let i = slot_of(h, self.table.len())?;
         self.table.chunk(i)
@@ -228,25 +237,25 @@ impl Heap {
 
     /// The bytes of a chunk, to be written.
     pub fn chunk_mut(&mut self, h: ChunkHandle) -> &mut [u8]
-        requires { IsTrue (contains_key self.old h.0) }
+        requires { IsTrue (contains_key self.old.chunks h.0) }
         ensures* writes_back { sem 𝓛 (lends_chunk self.entry h.0 result) }
-        ensures value { result.now ≡ chunk_bytes self.old h.0 }
+        ensures value { result.now ≡ chunk_bytes self.old.chunks h.0 }
     {
         self.table.chunk_mut(slot(h))
     }
 
     /// Writes over the bytes of a chunk from `at` on.
     pub fn write(&mut self, h: ChunkHandle, at: usize, bytes: &[u8])
-        requires live { IsTrue (contains_key self.old h.0) }
-        requires range { at + length bytes.now ≤ length (chunk_bytes self.old h.0) }
-        ensures { self.new ≡ insert self.old h.0 (splice (chunk_bytes self.old h.0) at (at + length bytes.now) bytes.now) }
+        requires live { IsTrue (contains_key self.old.chunks h.0) }
+        requires range { at + length bytes.now ≤ length (chunk_bytes self.old.chunks h.0) }
+        ensures { self.new.chunks ≡ insert self.old.chunks h.0 (splice (chunk_bytes self.old.chunks h.0) at (at + length bytes.now) bytes.now) }
     {
         self.table.write(slot(h), at, bytes);
     }
 
     /// The live handles, rising.
     pub fn handles(&self) -> Result<Vec<ChunkHandle>, AllocError>
-        ensures { IfOk result (λ handles. map (λ h. h.0) handles.items ≡ keys self.now) }
+        ensures { IfOk result (λ handles. map (λ h. h.0) handles.items ≡ keys self.now.chunks) }
     {
         let mut handles = Vec::new(self.alloc);
         for i in 0..self.table.len() {
@@ -259,8 +268,8 @@ impl Heap {
 
     /// The heap as bytes, from which `from_image` makes it again.
     pub fn image(&self) -> Result<Vec<u8>, AllocError>
-        ensures bytes { IfOk result (λ bytes. bytes.items ≡ image (bodies.Heap self.now)) }
-        ensures valid { is_heap_map self.now ≡ true }
+        ensures bytes { IfOk result (λ bytes. bytes.items ≡ image (bodies.Heap self.now.chunks)) }
+        ensures valid { is_heap_map self.now.chunks ≡ true }
     {
         let bytes = self.table.bytes();
         let slots = self.table.len() as u16;
@@ -273,7 +282,7 @@ impl Heap {
 
     /// The heap of which the bytes are the image. Damaged where they are the image of no heap that fits.
     pub fn from_image(alloc: Global, bytes: &[u8]) -> Result<Heap, Fault>
-        ensures ok { IfOk result (λ h. (image (bodies.Heap h) ≡ bytes.now) × (is_heap_map h ≡ true)) }
+        ensures ok { IfOk result (λ h. (image (bodies.Heap h.chunks) ≡ bytes.now) × (is_heap_map h.chunks ≡ true)) }
         ensures err { IfErr result (λ fault. (fault ≡ Fault.Memory)
             ⊎ ((fault ≡ Fault.Damaged) × ((m : ChunkMap) → is_heap_map m ≡ true → image (bodies.Heap m) ≡ bytes.now → ⊥))) }
     {
@@ -295,7 +304,7 @@ impl Heap {
     fn from_table(alloc: Global, table: Table) -> Option<Heap>
         ensures { MatchOption result
             (IsTrimmed table → need_in table ≤ capacity → ⊥)
-            (λ h. (h ≡ table_map 2 16 table) × IsTrimmed table × (need_in table ≤ capacity)) }
+            (λ h. (h.chunks ≡ table_map 2 16 table) × IsTrimmed table × (need_in table ≤ capacity)) }
     {
         let slots = table.len();
         if slots > 0 && table.size(slots - 1).is_none() {

@@ -4,6 +4,7 @@ ghost use Rattle.std.specs.List.{splice};
 ghost use Rattle.std.specs.Option.{option_copied, option_map};
 ghost use Rattle.raw_region.specs.declared.TheConstants.{SIZE};
 ghost use Rattle.lmem_heap.specs.Packed.{Slots, packed, words, total, chunks};
+ghost use Rattle.lmem_heap.specs.Placed.{offsets};
 
 use raw_region::RawBody;
 use std::alloc::{AllocError, Global};
@@ -106,6 +107,18 @@ impl Table {
         ensures { result ≡ 2 * length self.now + length (chunks (take i self.now)) }
     {
         2 * self.slots + bytes_before(&self.body, i)
+    }
+
+    /// Where the bytes of a slot's chunk stand; None where it has none.
+    pub(crate) fn offset(&self, i: usize) -> Option<usize>
+        requires { i < length self.now }
+        ensures { result ≡ get_or (offsets self.now) i None }
+    {
+        let size = self.size(i)?;
+        if size == 0 {
+            return None;
+        }
+        Some(self.place(i))
     }
 
     /// The bytes of the chunk in a slot.

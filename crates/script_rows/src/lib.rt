@@ -1,6 +1,8 @@
-//! Tests by scripts: documents, raw blocks, and heaps of chunks.
+//! Tests by scripts: documents, raw blocks and chains of them, and heaps of chunks.
 #![tactic(auto)]
 
+#[cfg(test)]
+mod chains;
 #[cfg(test)]
 mod chunks;
 #[cfg(test)]

@@ -84,6 +84,56 @@ fn a_store_call_that_fails_is_told_and_changes_nothing(rt: HostRuntime) -> Resul
     Ok(())
 }
 
+// A freed chain of four blocks, in a session with one frame over a store whose call after so many fails.
+fn freed_chain(alloc: Global, passes: u64) -> Result<Fused, Fail> {
+    let store = fused(alloc, passes, false);
+    let session = Session::create(alloc, store, 1).map_err(|refused| refused.fault)?;
+    let session = hold(
+        alloc,
+        session,
+        None,
+        "newraw 1 2 = block 0001
+        newraw 2 2 = block 0002
+        newraw 3 2 = block 0003
+        newraw 4 3 = block 0004
+        vwrite 0001 0 0200 = ok
+        vwrite 0002 0 0300 = ok
+        vwrite 0003 0 0400 = ok
+        chfree 0001 = ok
+        list = blocks",
+    )?;
+    Ok(session)
+}
+
+// The store calls up to the freed chain, and up to its coming back.
+fn calls_of_a_chain(alloc: Global) -> Result<(u64, u64), Fail> {
+    let freed = freed_chain(alloc, u64::MAX)?.close().calls();
+    let (session, _) = give(alloc, freed_chain(alloc, u64::MAX)?, "undo\n", "ok\n")?;
+    Ok((freed, session.close().calls()))
+}
+
+#[test]
+fn a_freed_chain_comes_back_whichever_call_fails(rt: HostRuntime) -> Result<(), Fail> {
+    let alloc = rt.alloc();
+    let (freed, back) = calls_of_a_chain(alloc)?;
+    // Where the last passes, none fails.
+    for passes in freed..=back {
+        let session = freed_chain(alloc, passes)?;
+        let (session, is_refused) = give(alloc, session, "undo\n", "ok\n")?;
+        assert_eq!(rt; is_refused, passes < back);
+        hold(
+            alloc,
+            session,
+            None,
+            "walk 0001 = blocks 0001 0002 0003 0004
+            chsize 0001 = number 9
+            info 0004 = raw 4 3
+            redos = number 1",
+        )?;
+    }
+    Ok(())
+}
+
 // A file with 00, and 61 is saved by the last call of the store.
 fn up_to_a_save(alloc: Global, session: Fused, last: &str) -> Result<Fused, Departure> {
     let session = hold(

@@ -1,8 +1,8 @@
 -- A change that was carried out can be carried out the other way round, and documents stay valid along the records.
-use Rattle.std.proofs.Common.{◌≡◌, Bool, true, false, List, [], ◌∷◌, None, refl, sym, ap, subst, ◌∙◌}
+use Rattle.std.proofs.Common.{◌≡◌, Bool, true, false, List, [], ◌∷◌, refl, sym, ap, subst, ◌∙◌}
 use Rattle.geos_model.specs.Document.{Document, IsValid}
-use Rattle.geos_model.proofs.Validity.{AreValid, valid-push, valid-none}
-use Rattle.vm_blocks.specs.Changes.{made, flipped, turned, block_in, Applies}
+use Rattle.geos_model.proofs.ValidSteps.{AreValid, valid-push, valid-none}
+use Rattle.vm_blocks.specs.Changes.{made, flipped, turned, blocks_in, Applies}
 use Rattle.vm_blocks.specs.declared.change.Change.{Change}
 use Rattle.vm_blocks.specs.declared.change.Change.TheVariants as changes
 use Rattle.vm_blocks.specs.declared.change.Direction.{Direction}
@@ -28,15 +28,15 @@ goes_back Backwards c d valid applies =
       gives = ap (λ (x : Change). made x (made (flipped c) d)) (sym (flip_twice c)) ∙ law.2;
     }
 
--- only a block that comes in takes memory
-pub takes_block : (direction : Direction) (c : Change) → (block_in (turned direction c) ≡ None → ⊥) → takes direction (kind_of_change c) ≡ true
-takes_block Forwards (changes.BlockIn b block) some = refl
-takes_block Forwards (changes.BlockOut b block) some = absurd (some refl)
+-- only blocks that come in take memory
+pub takes_block : (direction : Direction) (c : Change) → (blocks_in (turned direction c) ≡ [] → ⊥) → takes direction (kind_of_change c) ≡ true
+takes_block Forwards (changes.BlocksIn ms) some = refl
+takes_block Forwards (changes.BlocksOut ms) some = absurd (some refl)
 takes_block Forwards (changes.Part b part) some = absurd (some refl)
 takes_block Forwards (changes.UserId b old new) some = absurd (some refl)
 takes_block Forwards (changes.Map old new) some = absurd (some refl)
-takes_block Backwards (changes.BlockIn b block) some = absurd (some refl)
-takes_block Backwards (changes.BlockOut b block) some = refl
+takes_block Backwards (changes.BlocksIn ms) some = absurd (some refl)
+takes_block Backwards (changes.BlocksOut ms) some = refl
 takes_block Backwards (changes.Part b part) some = absurd (some refl)
 takes_block Backwards (changes.UserId b old new) some = absurd (some refl)
 takes_block Backwards (changes.Map old new) some = absurd (some refl)

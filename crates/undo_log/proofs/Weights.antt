@@ -28,8 +28,8 @@ part_weight-le (parts.ChunkIn c content) = content_weight-le content
 part_weight-le (parts.ChunkOut c content) = content_weight-le content
 
 weight-le : (c : Change) → weight c ≤ change_cost c
-weight-le (changes.BlockIn b block) = omega arith
-weight-le (changes.BlockOut b block) = omega arith
+weight-le (changes.BlocksIn ms) = omega arith
+weight-le (changes.BlocksOut ms) = omega arith
 weight-le (changes.Part b part) = part_weight-le part
 weight-le (changes.UserId b old new) = omega arith
 weight-le (changes.Map old new) = omega arith

@@ -5,7 +5,7 @@ ghost use Rattle.std.specs.Borrow.{sem};
 ghost use Rattle.std.specs.Option.{option_map};
 ghost use Rattle.geos_model.specs.Document.{empty_document, most_blocks, IsValid};
 ghost use Rattle.geos_model.specs.File.{stands};
-ghost use Rattle.geos_model.specs.Reply.{Accepted, Refused as RefusedWith, BytesAre, NumberIs, TokenIs, reply_by, reply_of_done, info_is, blocks_are, chunks_are, found};
+ghost use Rattle.geos_model.specs.Reply.{Accepted, Refused as RefusedWith, AreEqual, BytesAre, NumberIs, TokenIs, reply_by, reply_of_done, info_is, blocks_are, chunks_are, found};
 ghost use Rattle.geos_model.specs.Machine.{IsValidMachine, Step};
 ghost use Rattle.geos_model.specs.declared.command.Command.TheVariants as commands;
 ghost use Rattle.vm_store.specs.Facts.{Raised, Rests};
@@ -611,5 +611,29 @@ impl<S: Store> Session<S> {
         ensures* stays { sem 𝓛 (Stays (the_row S.row S.Store) self.entry) }
     {
         look_ups::name_part(&mut self.blocks, block, chunk, token)
+    }
+
+    /// The blocks of a chain, each before those that it links to, branches in order.
+    pub fn walk(&mut self, root: VmHandle) -> Result<Vec<VmHandle>, Fault>
+        ensures step { (target : Bool) → Step false (machine_of target self.old) (Some (commands.Walk root)) (reply_by (λ handles. blocks_are handles.items) result) (machine_of target self.old) }
+        ensures stays { self.new ≡ self.old }
+    {
+        look_ups::walk(self.alloc, &mut self.blocks, root)
+    }
+
+    /// How many bytes the blocks of a chain have.
+    pub fn chain_size(&mut self, root: VmHandle) -> Result<u32, Fault>
+        ensures step { (target : Bool) → Step false (machine_of target self.old) (Some (commands.ChainSize root)) (reply_by NumberIs result) (machine_of target self.old) }
+        ensures stays { self.new ≡ self.old }
+    {
+        look_ups::chain_size(self.alloc, &mut self.blocks, root)
+    }
+
+    /// Whether two chains are equal, but for handles and user IDs.
+    pub fn chain_equal(&mut self, first: VmHandle, second: VmHandle) -> Result<bool, Fault>
+        ensures step { (target : Bool) → Step false (machine_of target self.old) (Some (commands.ChainEqual first second)) (reply_by AreEqual result) (machine_of target self.old) }
+        ensures stays { self.new ≡ self.old }
+    {
+        look_ups::chain_equal(self.alloc, &mut self.blocks, first, second)
     }
 }

@@ -1,50 +1,34 @@
 -- A change of a valid document leaves a valid one, and the same change the other way round takes it back.
-use Rattle.std.proofs.Common.{◌≡◌, ◌≢◌, ◌≤◌, ◌<◌, ◌+◌, ℕ, List, true, false, not, length, Option, Some, None, is_some, nat_cmp, refl, sym, ap, subst, ◌∙◌, inl, inr, arith}
-use Rattle.std.proofs.lemmas.Bool.{cases_eq, and_parts, leb-true, le-leb, true≢false, not-true}
+use Rattle.std.proofs.Common.{◌≡◌, ◌≢◌, ◌≤◌, ◌<◌, ◌+◌, ℕ, List, true, false, not, length, get_or, Option, Some, None, is_some, nat_cmp, refl, sym, ap, subst, ◌∙◌, arith}
+use Rattle.std.proofs.lemmas.Bool.{and_parts, leb-true, le-leb, true≢false, not-true}
+use Rattle.std.proofs.lemmas.List.Elements.{All-map}
 use Rattle.std.specs.Option.{option_map_or}
-use Rattle.std.specs.Cmp.{nat_cmp_total}
-use Rattle.std.specs.List.{list_all}
-use Rattle.std.specs.FinMap.{FinMap, get, insert, remove, keys, contains_key, same_map, nat_cmp-IsAntisymmetric}
+use Rattle.std.specs.List.{All, list_all}
+use Rattle.std.specs.FinMap.{FinMap, get, insert, remove, keys, contains_key}
 use Rattle.geos_model.specs.Heap.{ChunkMap, capacity, fits, fits_with, is_chunk_handle, is_heap_map}
-use Rattle.geos_model.specs.Document.{Block, Document, IsValid, is_heap, is_heap_body, is_live, is_raw, is_valid_body, is_vm_handle, with_block, without_block, with_user_id}
+use Rattle.geos_model.specs.Document.{Block, Document, IsValid, IsValidBlock, is_heap, is_heap_body, is_live, is_raw, is_valid_body, is_vm_handle, with_block, with_user_id, with_blocks, handles_of, without_blocks}
 use Rattle.geos_model.specs.Meaning.{chunk_at, with_chunk, without_chunk}
 use Rattle.geos_model.specs.declared.command.Body.{Body}
 use Rattle.geos_model.specs.declared.command.Body.TheVariants.{Raw, Heap}
 use Rattle.geos_model.specs.declared.handle.ChunkHandle.{ChunkHandle}
-use Rattle.geos_model.proofs.HeapEdits.{get-put_same, get-put_other, get-taken_same, get-taken_other, heap-insert, heap-remove}
+use Rattle.geos_model.proofs.HeapEdits.{get-put_same, get-taken_same, heap-insert, heap-remove}
 use Rattle.geos_model.proofs.HeapTables.{live_handle}
-use Rattle.geos_model.proofs.Validity.{with_block-valid, without_block-valid}
+use Rattle.geos_model.proofs.BlockLists.{put_stands, put_valid, put_map_block}
+use Rattle.geos_model.proofs.Validity.{with_block-valid}
 use Rattle.chunk_edits.specs.Splicing.{Stands, forwards, backwards}
 use Rattle.chunk_edits.specs.declared.splice.Splice.{Splice}
 use Rattle.chunk_edits.proofs.Splices.{leads_back}
 use Rattle.vm_blocks.specs.Saved.{saved_block}
-use Rattle.vm_blocks.specs.declared.saved.SavedBlock.{SavedBlock}
+use Rattle.vm_blocks.specs.Members.{saved_blocks}
+use Rattle.vm_blocks.specs.declared.member.Member.{Member}
 use Rattle.vm_blocks.specs.declared.change.Change.{Change}
 use Rattle.vm_blocks.specs.declared.change.Change.TheVariants as changes
 use Rattle.vm_blocks.specs.declared.change.Content.{Content}
 use Rattle.vm_blocks.specs.declared.change.PartChange.{PartChange}
 use Rattle.vm_blocks.specs.declared.change.PartChange.TheVariants as parts
-use Rattle.vm_blocks.specs.Changes.{bytes_of, part_made, made, flipped_splice, flipped_part, flipped, IsFree, CanGo, FitsRaw, FitsChunk, FitsNewChunk, HasChunk, HasUserId, HasMap, PartApplies, Applies, ChangeLaw, FlipLaw}
-
--- What is put in and taken out of a finite map, the other way round.
-module _ {X : Type 0} (m : FinMap nat_cmp X) (h : ℕ) where
-  pub put_back : (x y : X) → get m h ≡ Some x → insert (insert m h y) h x ≡ m
-  put_back x y is = same_map nat_cmp_total nat_cmp-IsAntisymmetric _ _ (λ q. elim (cases_eq q h) [
-    | inl e ↦ get-put_same (insert m h y) h x q e ∙ (sym is ∙ ap (get m) (sym e))
-    | inr other ↦ get-put_other (insert m h y) h x q other ∙ get-put_other m h y q other
-  ])
-
-  pub put_taken : (x : X) → get m h ≡ Some x → insert (remove m h) h x ≡ m
-  put_taken x is = same_map nat_cmp_total nat_cmp-IsAntisymmetric _ _ (λ q. elim (cases_eq q h) [
-    | inl e ↦ get-put_same (remove m h) h x q e ∙ (sym is ∙ ap (get m) (sym e))
-    | inr other ↦ get-put_other (remove m h) h x q other ∙ get-taken_other m h q other
-  ])
-
-  pub taken_put : (x : X) → get m h ≡ None → remove (insert m h x) h ≡ m
-  taken_put x is = same_map nat_cmp_total nat_cmp-IsAntisymmetric _ _ (λ q. elim (cases_eq q h) [
-    | inl e ↦ get-taken_same (insert m h x) h q e ∙ (sym is ∙ ap (get m) (sym e))
-    | inr other ↦ get-taken_other (insert m h x) h q other ∙ get-put_other m h x q other
-  ])
+use Rattle.vm_blocks.proofs.MapLemmas.{put_back, put_taken, taken_put}
+use Rattle.vm_blocks.proofs.ManyBlocks.{All-from_map, taken_gone, taken_valid, in_and_out, out_and_in, out_handles}
+use Rattle.vm_blocks.specs.Changes.{bytes_of, part_made, made, flipped_splice, flipped_part, flipped, IsFree, AreFree, CanAllGo, FitsRaw, FitsChunk, FitsNewChunk, HasChunk, HasUserId, HasMap, PartApplies, Applies, ChangeLaw, FlipLaw}
 
 -- A change of a document leads back.
 abbrev Undone : Change → Document → Type 0
@@ -58,27 +42,39 @@ part_undone : (b : ℕ) (p : PartChange) (d after : Document) → part_made b p 
 part_undone b p d after is valid applies back =
     subst (λ (x : Document). IsValid x × PartApplies b (flipped_part p) x × (part_made b (flipped_part p) x ≡ d)) (sym is) (valid, applies, back)
 
--- A block comes in or goes.
-module _ (d : Document) (b : ℕ) (valid : IsValid d) where
-  free_not_map : IsFree d b → d.map_block ≢ b
-  free_not_map free same =
+-- Blocks come in or go.
+module _ (d : Document) (valid : IsValid d) where
+  free_not_map : (h : ℕ) → IsFree d h → d.map_block ≢ h
+  free_not_map h free same =
       let some : d.map_block ≢ 0 = λ none. (let no : is_vm_handle 0 ≡ true = ap is_vm_handle (sym none ∙ same) ∙ free.handle in cc) in
       let dead : is_live d d.map_block ≡ false = ap (λ (h : ℕ). is_some (get d.blocks h)) same ∙ ap is_some free.free in
       true≢false (sym (valid.map_block some) ∙ dead)
 
-  block_in_undone : (block : SavedBlock) → IsFree d b → IsValid (with_block d b (saved_block block)) × CanGo (with_block d b (saved_block block)) b (saved_block block) × (without_block (with_block d b (saved_block block)) b ≡ d)
-  block_in_undone block free = (
-    with_block-valid d b (saved_block block) valid (record { handle = free.handle; user_id = block.word; body = block.valid }),
-    record { stands = get-put_same d.blocks b (saved_block block) b refl; other = free_not_map free },
-    ap (λ (m : FinMap nat_cmp Block). record d { blocks = m }) (taken_put d.blocks b (saved_block block) free.free),
-  )
+  blocks_in_undone : (ms : List Member) → AreFree d (handles_of (saved_blocks ms))
+      → IsValid (with_blocks d (saved_blocks ms)) × CanAllGo (with_blocks d (saved_blocks ms)) (saved_blocks ms) × (without_blocks (with_blocks d (saved_blocks ms)) (handles_of (saved_blocks ms)) ≡ d)
+  blocks_in_undone ms are =
+      let ps : List (ℕ × Block) = saved_blocks ms in
+      let free : All (λ p. IsFree d p.0) ps = All-from_map (IsFree d) (λ p. p.0) ps are.free in
+      let each : All (λ m. IsFree d m.handle.0) ms = All-from_map (λ p. IsFree d p.0) (λ m. (m.handle.0, saved_block m.block)) ms free in
+      let stands = put_stands d ps are.distinct in (
+        put_valid d ps valid (All-map (λ p. IsValidBlock p.0 p.1) (λ m. (m.handle.0, saved_block m.block)) ms
+            (λ i m within. record { handle = (each i m within).handle; user_id = (get_or ms i m).block.word; body = (get_or ms i m).block.valid })),
+        record {
+          go = λ i p within. record { stands = stands i p within; other = λ same. free_not_map (get_or ps i p).0 (free i p within) (sym (put_map_block d ps) ∙ same) };
+          distinct = are.distinct;
+        },
+        in_and_out d ps (λ i p within. (free i p within).free) are.distinct,
+      )
 
-  block_out_undone : (block : Block) → CanGo d b block → IsValid (without_block d b) × IsFree (without_block d b) b × (with_block (without_block d b) b block ≡ d)
-  block_out_undone block goes = (
-    without_block-valid d b valid goes.other,
-    record { handle = (valid.blocks b block goes.stands).handle; free = get-taken_same d.blocks b b refl },
-    ap (λ (m : FinMap nat_cmp Block). record d { blocks = m }) (put_taken d.blocks b block goes.stands),
-  )
+  blocks_out_undone : (ps : List (ℕ × Block)) → CanAllGo d ps
+      → IsValid (without_blocks d (handles_of ps)) × AreFree (without_blocks d (handles_of ps)) (handles_of ps) × (with_blocks (without_blocks d (handles_of ps)) ps ≡ d)
+  blocks_out_undone ps can =
+      let gone = taken_gone d (handles_of ps) can.distinct in
+      let handles : All (λ h. is_vm_handle h ≡ true) (handles_of ps) = All-map (λ h. is_vm_handle h ≡ true) (λ p. p.0) ps (out_handles d valid ps can) in (
+        taken_valid d (handles_of ps) valid (All-map (λ h. d.map_block ≢ h) (λ p. p.0) ps (λ i p within. (can.go i p within).other)),
+        record { free = λ i h within. record { handle = handles i h within; free = gone i h within }; distinct = can.distinct },
+        out_and_in d ps (λ i p within. (can.go i p within).stands) can.distinct,
+      )
 
 -- A block changes in place.
 module _ (d : Document) (b : ℕ) (old new : Block) (there : get d.blocks b ≡ Some old) where
@@ -289,8 +285,8 @@ map_undone d old new valid has = (
 )
 
 pub change_back : ChangeLaw
-change_back (changes.BlockIn b block) d valid applies = block_in_undone d b.0 valid block applies
-change_back (changes.BlockOut b block) d valid applies = block_out_undone d b.0 valid (saved_block block) applies
+change_back (changes.BlocksIn ms) d valid applies = blocks_in_undone d valid ms.list.items applies
+change_back (changes.BlocksOut ms) d valid applies = blocks_out_undone d valid (saved_blocks ms.list.items) applies
 change_back (changes.Part b part) d valid applies = part_back b.0 part d valid applies
 change_back (changes.UserId b old new) d valid applies = user_id_undone d b.0 old new valid applies
 change_back (changes.Map old new) d valid applies = map_undone d old.0 new.0 valid applies
@@ -302,8 +298,8 @@ part_twice (parts.ChunkIn c content) = refl
 part_twice (parts.ChunkOut c content) = refl
 
 pub flip_twice : FlipLaw
-flip_twice (changes.BlockIn b block) = refl
-flip_twice (changes.BlockOut b block) = refl
+flip_twice (changes.BlocksIn ms) = refl
+flip_twice (changes.BlocksOut ms) = refl
 flip_twice (changes.Part b part) = ap (changes.Part b) (part_twice part)
 flip_twice (changes.UserId b old new) = refl
 flip_twice (changes.Map old new) = refl

@@ -1,4 +1,6 @@
 pub mod SlotLemmas
+pub mod MapLemmas
+pub mod ManyBlocks
 pub mod ChangeLaws
 pub mod PartLemmas
 pub mod RoomLemmas

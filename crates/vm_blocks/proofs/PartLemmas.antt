@@ -1,24 +1,18 @@
--- What applies to a document: a change of a part is one of a live block, whose body takes it, and a block comes or goes under a VM handle.
+-- What applies to a document: a change of a part is one of a live block, whose body takes it.
 use Rattle.std.proofs.Common.{◌≡◌, ℕ, List, true, false, not, Option, Some, None, is_some, refl}
 use Rattle.std.proofs.lemmas.Bool.{le-leb}
 use Rattle.std.specs.Option.{option_map_or}
 use Rattle.std.specs.FinMap.{get}
 use Rattle.geos_model.specs.Heap.{chunk_bytes}
-use Rattle.geos_model.specs.Document.{Block, Document, IsValid, is_heap_body, is_live, is_valid_body, is_vm_handle, with_block}
+use Rattle.geos_model.specs.Document.{Block, Document, is_heap_body, is_live, is_valid_body, with_block}
 use Rattle.geos_model.specs.declared.command.Body.{Body}
 use Rattle.geos_model.specs.declared.command.Body.TheVariants.{Raw, Heap}
-use Rattle.geos_model.specs.declared.handle.VmHandle.{VmHandle}
 use Rattle.geos_model.proofs.HeapTables.{live_handle}
 use Rattle.geos_model.proofs.HeapEdits.{heap-insert, heap-remove}
 use Rattle.chunk_edits.specs.Splicing.{forwards}
-use Rattle.vm_blocks.specs.declared.saved.SavedBlock.{SavedBlock}
-use Rattle.vm_blocks.specs.declared.change.Direction.{Direction}
-use Rattle.vm_blocks.specs.declared.change.Direction.TheVariants.{Forwards, Backwards}
-use Rattle.vm_blocks.specs.declared.change.Change.TheVariants as changes
 use Rattle.vm_blocks.specs.declared.change.PartChange.{PartChange}
 use Rattle.vm_blocks.specs.declared.change.PartChange.TheVariants as parts
-use Rattle.vm_blocks.specs.Changes.{bytes_of, part_made, turned, PartApplies, Applies}
-use Rattle.vm_blocks.specs.Saved.{saved_block}
+use Rattle.vm_blocks.specs.Changes.{bytes_of, part_made, PartApplies}
 use Rattle.vm_blocks.specs.Parts.{Takes, body_made}
 
 -- a block of either kind is live
@@ -71,12 +65,3 @@ part_valid (parts.ChunkIn c content) (Raw bytes) valid takes = absurd takes
 part_valid (parts.ChunkIn c content) (Heap m) valid takes = heap-insert m c.0 (bytes_of content) valid takes.handle takes.fits
 part_valid (parts.ChunkOut c content) (Raw bytes) valid takes = absurd takes
 part_valid (parts.ChunkOut c content) (Heap m) valid takes = heap-remove m c.0 valid
-
--- a block comes in or goes under a handle that a block can have
-pub handle_in : (direction : Direction) (b : VmHandle) (block : SavedBlock) (d : Document) → IsValid d → Applies (turned direction (changes.BlockIn b block)) d → is_vm_handle b.0 ≡ true
-handle_in Forwards b block d valid free = free.handle
-handle_in Backwards b block d valid goes = (valid.blocks b.0 (saved_block block) goes.stands).handle
-
-pub handle_out : (direction : Direction) (b : VmHandle) (block : SavedBlock) (d : Document) → IsValid d → Applies (turned direction (changes.BlockOut b block)) d → is_vm_handle b.0 ≡ true
-handle_out Forwards b block d valid goes = (valid.blocks b.0 (saved_block block) goes.stands).handle
-handle_out Backwards b block d valid free = free.handle

@@ -9,7 +9,7 @@ use Rattle.vm_blocks.specs.declared.saved.SavedBody.TheVariants as saved_bodies
 -- a body, as the document has it
 abbrev pub body_of : BlockBody → Body
 body_of (block_bodies.Raw bytes) = Raw bytes
-body_of (block_bodies.Heap m) = Heap m
+body_of (block_bodies.Heap heap) = Heap heap.chunks
 
 -- a saved body, as the document had it
 abbrev pub saved_body : SavedBody → Body

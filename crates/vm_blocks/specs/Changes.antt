@@ -1,16 +1,16 @@
 -- What a change makes of a document, the same change the other way round, and in which documents it can be made.
-use Rattle.std.specs.Prelude.{◌≡◌, ◌≢◌, ◌≤◌, ◌<◌, ◌+◌, ℕ, List, true, Option, Some, None, length, replicate}
-use Rattle.std.specs.Option.{option_map}
+use Rattle.std.specs.Prelude.{◌≡◌, ◌≢◌, ◌≤◌, ◌<◌, ◌+◌, ℕ, List, [], true, Some, None, length, replicate}
+use Rattle.std.specs.List.{All}
 use Rattle.std.specs.FinMap.{get, contains_key}
 use Rattle.geos_model.specs.Heap.{capacity, fits_with, is_chunk_handle}
-use Rattle.geos_model.specs.Document.{Block, Document, IsValid, is_vm_handle, is_live, is_heap, is_raw, chunks_of, raw_bytes_of, user_id_of, with_block, without_block, with_body, with_user_id}
-use Rattle.geos_model.specs.Image.{image}
+use Rattle.geos_model.specs.Document.{Block, Document, IsValid, is_vm_handle, is_live, is_heap, is_raw, chunks_of, raw_bytes_of, user_id_of, with_body, with_user_id, with_blocks, handles_of, without_blocks}
+use Rattle.geos_model.specs.ElementArray.{all_distinct}
 use Rattle.geos_model.specs.Meaning.{chunk_at, with_chunk, without_chunk}
 use Rattle.geos_model.specs.declared.command.Body.TheVariants.{Raw}
 use Rattle.chunk_edits.specs.Splicing.{Stands, forwards}
 use Rattle.chunk_edits.specs.declared.splice.Splice.{Splice}
-use Rattle.vm_blocks.specs.Blocks.{block_of}
-use Rattle.vm_blocks.specs.Saved.{saved_block}
+use Rattle.geos_model.specs.Cost.{images_length}
+use Rattle.vm_blocks.specs.Members.{saved_blocks, ready_blocks}
 use Rattle.vm_blocks.specs.declared.prepared.Prepared.{Prepared}
 use Rattle.vm_blocks.specs.declared.change.Change.{Change}
 use Rattle.vm_blocks.specs.declared.change.Change.TheVariants as changes
@@ -35,8 +35,8 @@ part_made b (parts.ChunkIn c content) d = with_chunk d b c.0 (bytes_of content)
 part_made b (parts.ChunkOut c content) d = without_chunk d b c.0
 
 abbrev pub made : Change → Document → Document
-made (changes.BlockIn b block) d = with_block d b.0 (saved_block block)
-made (changes.BlockOut b block) d = without_block d b.0
+made (changes.BlocksIn ms) d = with_blocks d (saved_blocks ms.list.items)
+made (changes.BlocksOut ms) d = without_blocks d (handles_of (saved_blocks ms.list.items))
 made (changes.Part b part) d = part_made b.0 part d
 made (changes.UserId b old new) d = with_user_id d b.0 new
 made (changes.Map old new) d = record d { map_block = new.0 }
@@ -53,8 +53,8 @@ flipped_part (parts.ChunkIn c content) = parts.ChunkOut c content
 flipped_part (parts.ChunkOut c content) = parts.ChunkIn c content
 
 abbrev pub flipped : Change → Change
-flipped (changes.BlockIn b block) = changes.BlockOut b block
-flipped (changes.BlockOut b block) = changes.BlockIn b block
+flipped (changes.BlocksIn ms) = changes.BlocksOut ms
+flipped (changes.BlocksOut ms) = changes.BlocksIn ms
 flipped (changes.Part b part) = changes.Part b (flipped_part part)
 flipped (changes.UserId b old new) = changes.UserId b new old
 flipped (changes.Map old new) = changes.Map new old
@@ -79,6 +79,16 @@ pub record IsFree (d : Document) (b : ℕ) : Type 0 where
 pub record CanGo (d : Document) (b : ℕ) (block : Block) : Type 0 where
   pub stands : get d.blocks b ≡ Some block
   pub other : d.map_block ≢ b
+
+-- so of each of these handles, no two of them the same
+pub record AreFree (d : Document) (hs : List ℕ) : Type 0 where
+  pub free : All (IsFree d) hs
+  pub distinct : all_distinct hs ≡ true
+
+-- so of each of these blocks, no two of them under the same handle
+pub record CanAllGo (d : Document) (ps : List (ℕ × Block)) : Type 0 where
+  pub go : All (λ p. CanGo d p.0 p.1) ps
+  pub distinct : all_distinct (handles_of ps) ≡ true
 
 -- the part stands in a raw body, and the result fits
 pub record FitsRaw (d : Document) (b : ℕ) (s : Splice) : Type 0 where
@@ -123,8 +133,8 @@ PartApplies b (parts.ChunkIn c content) d = FitsNewChunk d b c.0 (bytes_of conte
 PartApplies b (parts.ChunkOut c content) d = HasChunk d b c.0 (bytes_of content)
 
 abbrev pub Applies : Change → Document → Type 0
-Applies (changes.BlockIn b block) d = IsFree d b.0
-Applies (changes.BlockOut b block) d = CanGo d b.0 (saved_block block)
+Applies (changes.BlocksIn ms) d = AreFree d (handles_of (saved_blocks ms.list.items))
+Applies (changes.BlocksOut ms) d = CanAllGo d (saved_blocks ms.list.items)
 Applies (changes.Part b part) d = PartApplies b.0 part d
 Applies (changes.UserId b old new) d = HasUserId d b.0 old new
 Applies (changes.Map old new) d = HasMap d old.0 new.0
@@ -137,17 +147,17 @@ ChangeLaw = (c : Change) (d : Document) → IsValid d → Applies c d → IsVali
 abbrev pub FlipLaw : Type 0
 FlipLaw = (c : Change) → flipped (flipped c) ≡ c
 
--- the block that a change brings in, if it brings one in
-abbrev pub block_in : Change → Option Block
-block_in (changes.BlockIn b block) = Some (saved_block block)
-block_in (changes.BlockOut b block) = None
-block_in (changes.Part b part) = None
-block_in (changes.UserId b old new) = None
-block_in (changes.Map old new) = None
+-- the blocks that a change brings in, in order
+abbrev pub blocks_in : Change → List (ℕ × Block)
+blocks_in (changes.BlocksIn ms) = saved_blocks ms.list.items
+blocks_in (changes.BlocksOut ms) = []
+blocks_in (changes.Part b part) = []
+blocks_in (changes.UserId b old new) = []
+blocks_in (changes.Map old new) = []
 
 -- it was prepared for this change
 abbrev pub IsFor : Prepared → Change → Type 0
-IsFor prepared change = option_map block_of prepared.block ≡ block_in change
+IsFor prepared change = ready_blocks prepared.incoming.items ≡ blocks_in change
 
 -- How many content bytes a change holds.
 
@@ -162,8 +172,8 @@ part_weight (parts.ChunkIn c content) = content_weight content
 part_weight (parts.ChunkOut c content) = content_weight content
 
 abbrev pub weight : Change → ℕ
-weight (changes.BlockIn b block) = length (image (saved_block block).body)
-weight (changes.BlockOut b block) = length (image (saved_block block).body)
+weight (changes.BlocksIn ms) = images_length (saved_blocks ms.list.items)
+weight (changes.BlocksOut ms) = images_length (saved_blocks ms.list.items)
 weight (changes.Part b part) = part_weight part
 weight (changes.UserId b old new) = 0
 weight (changes.Map old new) = 0

@@ -1,5 +1,6 @@
 pub mod Bodies
 pub mod Blocks
+pub mod Members
 pub mod Allowing
 pub mod Changes
 pub mod Parts

@@ -39,8 +39,8 @@ impl Block {
 
 /// A new chunk of these bytes, under a free handle.
 pub(crate) fn fill_chunk(heap: &mut Heap, chunk: ChunkHandle, bytes: &[u8])
-    requires { AllowsNewChunk heap.old chunk.0 bytes.now }
-    ensures { heap.new ≡ insert heap.old chunk.0 bytes.now }
+    requires { AllowsNewChunk heap.old.chunks chunk.0 bytes.now }
+    ensures { heap.new.chunks ≡ insert heap.old.chunks chunk.0 bytes.now }
 {
     heap.alloc_at(chunk, bytes.len() as u32);
     heap.write(chunk, 0, bytes);

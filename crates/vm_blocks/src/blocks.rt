@@ -1,16 +1,18 @@
-ghost use Rattle.std.specs.Prelude.{◌≡◌, ◌≢◌, ◌+◌, ◌≤◌, ℕ, Some, None, true, false, IsTrue, IsOk, IfOk, IfErr, IfSome, IsSome, length, map, replicate, unwrap_or};
+ghost use Rattle.std.specs.Prelude.{◌≡◌, ◌≢◌, ◌+◌, ◌≤◌, ℕ, [], Some, None, true, false, IsTrue, IsOk, IfOk, IfErr, IfSome, IsSome, length, map, replicate, unwrap_or};
 ghost use Rattle.std.specs.Option.{option_map, option_copied};
 ghost use Rattle.std.specs.FinMap.{get, keys};
-ghost use Rattle.geos_model.specs.Document.{IsValid, empty_document, next_handle, is_live, is_vm_handle, most_blocks, user_id_of, with_user_id};
+ghost use Rattle.geos_model.specs.Document.{IsValid, empty_document, next_handle, is_live, is_vm_handle, most_blocks, user_id_of, with_user_id, with_blocks, handles_of, without_blocks};
 ghost use Rattle.geos_model.specs.Reply.{found};
 ghost use Rattle.geos_model.proofs.Table.{table_entries, first_gap};
 ghost use Rattle.vm_blocks.specs.Blocks.{block_of, table_of, document_of, start_after, is_resident};
 ghost use Rattle.vm_blocks.specs.Bodies.{body_of};
-ghost use Rattle.vm_blocks.specs.Changes.{made, part_made, turned, turned_part, Applies, PartApplies, block_in, IsFor};
+ghost use Rattle.vm_blocks.specs.Changes.{made, part_made, turned, turned_part, Applies, PartApplies, AreFree, CanAllGo, blocks_in, IsFor};
+ghost use Rattle.vm_blocks.specs.Members.{saved_blocks, ready_blocks};
 ghost use Rattle.vm_blocks.specs.Saved.{with_slot};
 
 use crate::part::carry_out;
-use crate::{Block, BlockBody, Change, Direction, PartChange, Prepared};
+use crate::prepared::Incoming;
+use crate::{Block, BlockBody, Change, Direction, Members, PartChange, Prepared};
 use geos_model::{Fault, VmHandle};
 use std::alloc::{AllocError, Global};
 use std::marker::Model;
@@ -261,23 +263,23 @@ impl Blocks {
         }
     }
 
-    /// Takes what memory carrying a change out will need: that of a block that comes in. Memory where there is none.
+    /// Takes what memory carrying a change out will need: that of the blocks that come in. Memory where there is too little.
     pub fn prepare(&self, change: &Change, direction: Direction) -> Result<Prepared, Fault>
         ensures ok { IfOk result (λ prepared. IsFor prepared (turned direction change.now)) }
         ensures err { IfErr result (λ fault. fault ≡ Fault.Memory) }
-        ensures sure { block_in (turned direction change.now) ≡ None → IsOk result }
+        ensures sure { blocks_in (turned direction change.now) ≡ [] → IsOk result }
     {
         match change {
-            Change::BlockIn(_, block) => match direction {
-                Direction::Forwards => Prepared::block(self.alloc, block),
-                Direction::Backwards => Ok(Prepared::nothing()),
+            Change::BlocksIn(members) => match direction {
+                Direction::Forwards => Prepared::blocks(self.alloc, members),
+                Direction::Backwards => Ok(Prepared::nothing(self.alloc)),
             },
-            Change::BlockOut(_, block) => match direction {
-                Direction::Forwards => Ok(Prepared::nothing()),
-                Direction::Backwards => Prepared::block(self.alloc, block),
+            Change::BlocksOut(members) => match direction {
+                Direction::Forwards => Ok(Prepared::nothing(self.alloc)),
+                Direction::Backwards => Prepared::blocks(self.alloc, members),
             },
             Change::Part(_, _) | Change::UserId { .. } | Change::Map { .. } => {
-                Ok(Prepared::nothing())
+                Ok(Prepared::nothing(self.alloc))
             }
         }
     }
@@ -288,11 +290,15 @@ impl Blocks {
         requires prepared { IsFor prepared (turned direction change.now) }
         ensures { self.new ≡ made (turned direction change.now) self.old }
     {
-        self.validity();
         match change {
-            Change::BlockIn(handle, _) | Change::BlockOut(handle, _) => {
-                self.put(*handle, prepared.into_block())
-            }
+            Change::BlocksIn(members) => match direction {
+                Direction::Forwards => self.put_in(prepared.into_blocks()),
+                Direction::Backwards => self.take_out(members),
+            },
+            Change::BlocksOut(members) => match direction {
+                Direction::Forwards => self.take_out(members),
+                Direction::Backwards => self.put_in(prepared.into_blocks()),
+            },
             Change::Part(handle, part) => self.carry_out_part(*handle, part, direction),
             Change::UserId { handle, old, new } => match direction {
                 Direction::Forwards => self.set_user_id(*handle, *new),
@@ -302,6 +308,27 @@ impl Blocks {
                 Direction::Forwards => self.set_map(*new),
                 Direction::Backwards => self.set_map(*old),
             },
+        }
+    }
+
+    /// Puts each of these blocks under its handle.
+    fn put_in(&mut self, incoming: Vec<Incoming>)
+        requires { AreFree self.old (handles_of (ready_blocks incoming.items)) }
+        ensures { self.new ≡ with_blocks self.old (ready_blocks incoming.items) }
+    {
+        for arrival in incoming {
+            self.put(arrival.handle, Some(arrival.block));
+        }
+    }
+
+    /// Takes each of these blocks out.
+    fn take_out(&mut self, members: &Members)
+        requires { CanAllGo self.old (saved_blocks members.now.list.items) }
+        ensures { self.new ≡ without_blocks self.old (handles_of (saved_blocks members.now.list.items)) }
+    {
+        self.validity();
+        for member in &members.list {
+            self.put(member.handle, None);
         }
     }
 

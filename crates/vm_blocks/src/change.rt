@@ -1,7 +1,7 @@
 ghost use Rattle.std.specs.Prelude.{◌≡◌};
 ghost use Rattle.vm_blocks.specs.Changes.{weight, part_weight, content_weight};
 
-use crate::SavedBlock;
+use crate::Members;
 use chunk_edits::Splice;
 use geos_model::{Bytes, ChunkHandle, VmHandle};
 
@@ -15,10 +15,10 @@ pub enum Direction {
 /// One edit of a document, with all that carrying it out takes in either direction.
 #[derive(Drop)]
 pub enum Change {
-    /// A block comes in under a free handle.
-    BlockIn(VmHandle, SavedBlock),
-    /// A block goes that isn't the map block.
-    BlockOut(VmHandle, SavedBlock),
+    /// Blocks come in under handles that are free.
+    BlocksIn(Members),
+    /// Blocks go, none of them the map block.
+    BlocksOut(Members),
     /// The body of a block changes.
     Part(VmHandle, PartChange),
     /// A block gets another user ID.
@@ -62,7 +62,7 @@ impl Change {
         ensures { result ≡ weight self.now }
     {
         match self {
-            Change::BlockIn(_, block) | Change::BlockOut(_, block) => block.image_len() as u64,
+            Change::BlocksIn(members) | Change::BlocksOut(members) => members.weight(),
             Change::Part(_, part) => part.weight(),
             Change::UserId { .. } | Change::Map { .. } => 0,
         }

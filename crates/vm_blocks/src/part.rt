@@ -42,8 +42,8 @@ fn carry_out_raw(body: &mut RawBody, change: &PartChange, direction: Direction)
 
 /// Of a heap.
 fn carry_out_heap(heap: &mut Heap, change: &PartChange, direction: Direction)
-    requires { HeapTakes (turned_part direction change.now) heap.old }
-    ensures { bodies.Heap heap.new ≡ body_made (turned_part direction change.now) (bodies.Heap heap.old) }
+    requires { HeapTakes (turned_part direction change.now) heap.old.chunks }
+    ensures { bodies.Heap heap.new.chunks ≡ body_made (turned_part direction change.now) (bodies.Heap heap.old.chunks) }
 {
     match change {
         PartChange::Chunk(chunk, splice) => match direction {
@@ -64,8 +64,8 @@ fn carry_out_heap(heap: &mut Heap, change: &PartChange, direction: Direction)
 
 /// A new chunk of this content, under a free handle.
 fn bring_in(heap: &mut Heap, chunk: ChunkHandle, content: &Content)
-    requires { AllowsNewChunk heap.old chunk.0 (bytes_of content.now) }
-    ensures { heap.new ≡ insert heap.old chunk.0 (bytes_of content.now) }
+    requires { AllowsNewChunk heap.old.chunks chunk.0 (bytes_of content.now) }
+    ensures { heap.new.chunks ≡ insert heap.old.chunks chunk.0 (bytes_of content.now) }
 {
     match content {
         Content::Bytes(bytes) => fill_chunk(heap, chunk, bytes.as_slice()),

@@ -1,4 +1,4 @@
-ghost use Rattle.std.specs.Prelude.{◌≡◌, ◌≤◌, ◌<◌, true, IfOk, length, replicate};
+ghost use Rattle.std.specs.Prelude.{◌≡◌, ◌≤◌, ◌<◌, ◌+◌, true, IfOk, length, replicate};
 ghost use Rattle.std.specs.FinMap.{empty};
 ghost use Rattle.geos_model.specs.Document.{is_valid_body};
 ghost use Rattle.geos_model.specs.Heap.{capacity, is_heap_map};
@@ -49,7 +49,7 @@ impl SavedHeap {
 
     /// The heap as it is now.
     pub fn of(heap: &Heap) -> Result<SavedHeap, AllocError>
-        ensures { IfOk result (λ saved. saved ≡ heap.now) }
+        ensures { IfOk result (λ saved. saved ≡ heap.now.chunks) }
     {
         let image = Bytes::from_vec(heap.image()?);
         Ok(SavedHeap { image })
@@ -64,8 +64,8 @@ impl SavedHeap {
 
     /// The heap as it was.
     pub fn restore(&self, alloc: Global) -> Result<Heap, AllocError>
-        ensures value { IfOk result (λ heap. heap ≡ self.now) }
-        ensures valid { IfOk result (λ heap. is_heap_map heap ≡ true) }
+        ensures value { IfOk result (λ heap. heap.chunks ≡ self.now) }
+        ensures valid { IfOk result (λ heap. is_heap_map heap.chunks ≡ true) }
     {
         match Heap::from_image(alloc, self.image.as_slice()) {
             Ok(heap) => Ok(heap),
@@ -217,7 +217,8 @@ impl SavedBlock {
 
     /// How many bytes the image of its body has.
     pub fn image_len(&self) -> usize
-        ensures { result ≡ length (image (saved_block self.now).body) }
+        ensures value { result ≡ length (image (saved_block self.now).body) }
+        ensures small { result ≤ capacity + 1 }
     {
         match &self.body {
             SavedBody::Raw(raw) => raw.image_len(),

@@ -11,7 +11,7 @@ use Rattle.geos_model.specs.Document.{Block, Document, IsValid, most_blocks, raw
 use Rattle.geos_model.specs.declared.command.Body.TheVariants.{Raw}
 use Rattle.geos_model.specs.ElementArray.{all_distinct}
 use Rattle.geos_model.specs.declared.handle.VmHandle.{VmHandle}
-use Rattle.vm_chains.specs.Planned.{numbers}
+use Rattle.vm_chains.specs.Numbers.{numbers}
 use Rattle.vm_chains.specs.Walking.{AreMembers}
 use Rattle.vm_chains.proofs.WalkLemmas.{blocks_from-nil, blocks_from-member, blocks_from-other, blocks_from-full, member_handle}
 

@@ -5,3 +5,4 @@ pub mod ChainLemmas
 pub mod CopyLemmas
 pub mod ShapeLemmas
 pub mod Refusals
+pub mod Carrying

@@ -7,7 +7,7 @@ use Rattle.geos_model.specs.Chain.{relinked}
 use Rattle.geos_model.specs.Document.{Document, raw_bytes_of}
 use Rattle.geos_model.specs.declared.handle.VmHandle.{VmHandle}
 use Rattle.vm_chains.specs.Naming.{place_in}
-use Rattle.vm_chains.specs.Planned.{numbers}
+use Rattle.vm_chains.specs.Numbers.{numbers}
 
 -- the bodies of some blocks of a chain, with places for links
 abbrev pub bodies : Document → List VmHandle → List VmHandle → List (List ℕ)

@@ -1,7 +1,7 @@
 -- Steps of a walk along a chain.
-use Rattle.std.proofs.Common.{◌≡◌, ℕ, zero, suc, List, [], ◌∷◌, ◌++◌, Bool, true, false, not, ◌==◌, ◌&&◌, ◌||◌, Option, Some, None, refl, sym, ap, subst, ◌∙◌, inl, inr, append_assoc}
+use Rattle.std.proofs.Common.{◌≡◌, ◌<◌, ◌≤◌, ◌-◌, ℕ, zero, suc, List, [], ◌∷◌, ◌++◌, Bool, true, false, not, ◌==◌, ◌&&◌, ◌||◌, Option, Some, None, refl, sym, ap, subst, ◌∙◌, inl, inr, append_assoc, length, arith}
 use Rattle.std.proofs.lemmas.Bool.{cases_Bool, cond-true, cond-false, true≢false, and_parts, or_parts, or_from, or_left, or_right, not-true}
-use Rattle.std.proofs.lemmas.List.{append-nil}
+use Rattle.std.proofs.lemmas.List.{append-nil, length-append}
 use Rattle.std.proofs.lemmas.List.Folds.{list_any-append}
 use Rattle.std.specs.List.{list_any}
 use Rattle.std.specs.FinMap.{get}
@@ -9,7 +9,7 @@ use Rattle.std.specs.Option.{option_map, option_map_or, option_and_then}
 use Rattle.geos_model.specs.Chain.{blocks_from, chain, if_distinct, is_linked, is_member, links}
 use Rattle.geos_model.specs.Document.{Block, Document, IsValid, is_heap_body, is_raw, is_vm_handle, most_blocks, raw_bytes_of}
 use Rattle.geos_model.specs.ElementArray.{all_distinct}
-use Rattle.vm_chains.specs.Walking.{IsWalk}
+use Rattle.vm_chains.specs.Walking.{GoesOn, IsWalk}
 
 -- What the definition says of the next block that is pending.
 
@@ -30,6 +30,18 @@ blocks_from-other (suc n) d h hs other = cond-false (is_member d h) _ _ other
 pub blocks_from-full : (d : Document) (h : ℕ) (hs : List ℕ) → blocks_from zero d (h ∷ hs) ≡ None
 unfolding blocks_from
 blocks_from-full d h hs = refl
+
+-- Each that is pending would be a block, so that there is none where more are pending than may be met.
+blocks_from-more : (n : ℕ) (d : Document) (hs : List ℕ) → n < length hs → blocks_from n d hs ≡ None
+blocks_from-more n d [] more = absurd (omega (arith, more))
+blocks_from-more zero d (h ∷ hs) more = blocks_from-full d h hs
+blocks_from-more (suc n) d (h ∷ hs) more = elim (cases_Bool (is_member d h)) [
+  | inl member ↦
+      (let linked : List ℕ = links (raw_bytes_of d h) in
+      let still : n < length (linked ++ hs) = omega (arith, more, length-append linked hs) in
+      blocks_from-member n d h hs member ∙ ap (λ (o : Option (List ℕ)). option_map (λ rest. h ∷ rest) o) (blocks_from-more n d (linked ++ hs) still))
+  | inr other ↦ blocks_from-other (suc n) d h hs other
+]
 
 chain_is : (d : Document) (root : ℕ) (o : Option (List ℕ)) → blocks_from most_blocks d (root ∷ []) ≡ o → chain d root ≡ option_and_then if_distinct o
 unfolding chain
@@ -97,6 +109,13 @@ module _ (d : Document) (root n : ℕ) (met : List ℕ) where
     pub walk_breaks : IsWalk d root n met (h ∷ hs) → is_member d h ≡ false → chain d root ≡ None
     walk_breaks w other = none_there w (blocks_from-other n d h hs other)
 
+-- The next block is followed, and then those are pending to which it links.
+pub walk_follows : (d now : Document) (root n h : ℕ) (met pending hs new : List ℕ) → IsWalk d root n met pending → 1 ≤ n → pending ≡ h ∷ hs → now ≡ d → GoesOn now h hs new → list_any (λ x. x == h) met ≡ false → IsWalk d root (n - 1) (met ++ h ∷ []) new
+walk_follows d now root n h met pending hs new w left next same followed other =
+    let on : GoesOn d h hs new = subst (λ (x : Document). GoesOn x h hs new) same followed in
+    let from = same_walk d root n (suc (n - 1)) met pending (h ∷ hs) w (omega (arith, left)) next in
+    same_walk d root (n - 1) (n - 1) (met ++ h ∷ []) _ new (walk_goes_on d root (n - 1) met h hs from on.member other) refl (sym on.pending)
+
 -- it was met
 again : (met : List ℕ) (h : ℕ) (o : Option (List ℕ)) → list_any (λ x. x == h) met ≡ true → option_and_then if_distinct (option_map (λ hs. met ++ hs) (option_map (λ hs. h ∷ hs) o)) ≡ None
 again met h None twice = refl
@@ -108,9 +127,9 @@ walk_turns d root n met h hs w twice = elim (cases_Bool (is_member d h)) [
   | inr other ↦ walk_breaks d root (suc n) met h hs w other
 ]
 
--- every block was met, and still one is pending
-pub walk_is_full : (d : Document) (root : ℕ) (met : List ℕ) (h : ℕ) (hs : List ℕ) → IsWalk d root zero met (h ∷ hs) → chain d root ≡ None
-walk_is_full d root met h hs w = chain_is d root None (w.rest ∙ ap (λ (o : Option (List ℕ)). option_map (λ hs. met ++ hs) o) (blocks_from-full d h hs))
+-- more are pending than may be met
+pub walk_is_full : (d : Document) (root n : ℕ) (met hs : List ℕ) → IsWalk d root n met hs → n < length hs → chain d root ≡ None
+walk_is_full d root n met hs w more = chain_is d root None (w.rest ∙ ap (λ (o : Option (List ℕ)). option_map (λ xs. met ++ xs) o) (blocks_from-more n d hs more))
 
 -- A block of a chain has a handle that a block can have.
 pub member_handle : (d : Document) (h : ℕ) → IsValid d → is_member d h ≡ true → is_vm_handle h ≡ true

@@ -1,5 +1,5 @@
 pub mod Answers
-pub mod Planned
+pub mod Numbers
 pub mod Linking
 pub mod Naming
 pub mod Walking

@@ -7,7 +7,7 @@ ghost use Rattle.geos_model.specs.Refusal.{first_refusal};
 ghost use Rattle.geos_model.specs.declared.fault.Fault.TheVariants.{Memory};
 ghost use Rattle.vm_chains.specs.Answers.{Answers};
 ghost use Rattle.vm_chains.specs.Naming.{name_in, place_in};
-ghost use Rattle.vm_chains.specs.Planned.{numbers};
+ghost use Rattle.vm_chains.specs.Numbers.{numbers};
 ghost use Rattle.vm_chains.specs.Walking.{AreMembers};
 
 use crate::names::Names;

@@ -13,7 +13,7 @@ mod walking;
 
 pub use comparing::equal;
 pub use measuring::size;
-pub use planning::{Member, copy_plan, free_plan};
+pub use planning::{copy_plan, free_plan};
 pub use walking::walk;
 
 /// How many blocks a document can have: their handles are 1 to this.

@@ -2,7 +2,7 @@ ghost use Rattle.std.specs.Prelude.{◌≡◌, MatchResult};
 ghost use Rattle.geos_model.specs.Chain.{bytes_in, chain_blocks, on_chain};
 ghost use Rattle.geos_model.specs.declared.fault.Fault.TheVariants.{Memory};
 ghost use Rattle.vm_chains.specs.Answers.{Answers};
-ghost use Rattle.vm_chains.specs.Planned.{numbers};
+ghost use Rattle.vm_chains.specs.Numbers.{numbers};
 ghost use Rattle.vm_chains.specs.Walking.{AreMembers};
 
 use crate::reading::len_at;

@@ -1,7 +1,6 @@
-ghost use Rattle.std.specs.Prelude.{◌≡◌, [], ◌∷◌, ◌++◌, ◌==◌, true, false, IfOk, map};
+ghost use Rattle.std.specs.Prelude.{◌≡◌, [], ◌∷◌, ◌++◌, ◌==◌, true, IfOk, map};
 ghost use Rattle.std.specs.List.{list_any};
 ghost use Rattle.geos_model.specs.Document.{is_vm_handle};
-ghost use Rattle.geos_model.specs.ElementArray.{all_distinct};
 
 use crate::MOST_BLOCKS;
 use geos_model::VmHandle;
@@ -18,7 +17,7 @@ pub(crate) struct Met {
 
 impl Model for Met {
     ghost use Rattle.std.specs.Prelude.{List, ℕ};
-    ghost use Rattle.vm_chains.specs.Planned.{numbers};
+    ghost use Rattle.vm_chains.specs.Numbers.{numbers};
     ghost use Rattle.vm_chains.specs.Walking.{AreMarked};
 
     ghost Value = { List ℕ };
@@ -46,7 +45,7 @@ impl Met {
         matches!(self.marks.get(usize::from(handle.0)), Some(true))
     }
 
-    /// Adds a block that wasn't met.
+    /// Adds a block.
     pub(crate) fn add(&mut self, handle: VmHandle) -> Result<(), AllocError>
         requires { is_vm_handle handle.0 ≡ true }
         ensures { IfOk result (λ _. self.new ≡ self.old ++ handle.0 ∷ []) }

@@ -1,4 +1,4 @@
-ghost use Rattle.std.specs.Prelude.{◌≡◌, ◌≤◌, ◌+◌, ℕ, true, IfOk, get_or, length};
+ghost use Rattle.std.specs.Prelude.{◌≡◌, ◌≤◌, ◌+◌, ℕ, true, IfOk, length};
 ghost use Rattle.std.specs.List.{All, zip};
 ghost use Rattle.geos_model.specs.Chain.{is_linked, name_of, relinked};
 ghost use Rattle.geos_model.specs.Bytes.{written};
@@ -6,7 +6,7 @@ ghost use Rattle.geos_model.specs.Document.{is_vm_handle};
 ghost use Rattle.geos_model.specs.Heap.{capacity};
 ghost use Rattle.geos_model.specs.Words.{word};
 ghost use Rattle.vm_chains.specs.Linking.{AreLinks};
-ghost use Rattle.vm_chains.specs.Planned.{numbers};
+ghost use Rattle.vm_chains.specs.Numbers.{numbers};
 ghost use Rattle.vm_chains.specs.Naming.{name_in};
 
 use crate::MOST_BLOCKS;
@@ -24,7 +24,7 @@ pub(crate) struct Names {
 }
 
 impl Names {
-    /// To each handle the name that stands at its place. The handles are distinct, and there are no fewer names.
+    /// To each handle the name that stands at its place.
     pub(crate) fn new(
         alloc: Global,
         handles: &[VmHandle],
@@ -35,7 +35,7 @@ impl Names {
         ensures { IfOk result (λ found. (h : ℕ) → name_in found h ≡ name_of (zip (numbers handles.now) (numbers names.now)) h) }
     {
         let mut by_handle = vec![in alloc; 0; MOST_BLOCKS + 1]?;
-        // From the last on, so that of two names for a handle the first would stand, as the definition has it.
+        // From the last on, so that of two names for a handle the first stands.
         for i in (0..handles.len()).rev() {
             by_handle[usize::from(handles[i].0)] = names[i].0;
         }
@@ -59,20 +59,11 @@ pub(crate) fn relinked(alloc: Global, body: &RawBody, names: &Names) -> Result<V
     ensures value { IfOk result (λ bytes. bytes.items ≡ relinked (name_in names.now) body.now) }
     ensures small { IfOk result (λ bytes. length bytes.items ≤ capacity) }
 {
-    let mut bytes = copied(alloc, body.bytes())?;
+    let mut bytes = body.bytes().to_vec(alloc)?;
     if let Some(links) = links_of(body) {
         rename_links(body, links, names, &mut bytes);
     }
     Ok(bytes)
-}
-
-/// The same bytes.
-fn copied(alloc: Global, bytes: &[u8]) -> Result<Vec<u8>, AllocError>
-    ensures { IfOk result (λ copy. copy.items ≡ bytes.now) }
-{
-    let mut copy = Vec::with_capacity(alloc, bytes.len())?;
-    copy.extend_from_slice(bytes)?;
-    Ok(copy)
 }
 
 /// Renames each link of a body in a copy of its bytes.

@@ -1,4 +1,4 @@
-ghost use Rattle.std.specs.Prelude.{◌≡◌, [], ◌∷◌, IfOk, MatchOption};
+ghost use Rattle.std.specs.Prelude.{◌≡◌, [], ◌∷◌, IfOk, MatchOption, length};
 
 use geos_model::VmHandle;
 use std::alloc::{AllocError, Global};
@@ -34,6 +34,13 @@ impl Pending {
     {
         self.handles.push(handle)?;
         Ok(())
+    }
+
+    /// How many there are.
+    pub(crate) fn len(&self) -> usize
+        ensures { result ≡ length self.now }
+    {
+        self.handles.len()
     }
 
     /// Takes the next one.

@@ -3,7 +3,10 @@ ghost use Rattle.std.specs.List.{list_any};
 ghost use Rattle.geos_model.specs.Chain.{blocks_of, chain_blocks, copies_of, copy_conditions, free_conditions, new_handles, renamed_blocks};
 ghost use Rattle.geos_model.specs.declared.fault.Fault.TheVariants.{Memory};
 ghost use Rattle.vm_chains.specs.Answers.{Answers};
-ghost use Rattle.vm_chains.specs.Planned.{numbers, planned};
+ghost use Rattle.vm_blocks.specs.Changes.{Applies};
+ghost use Rattle.vm_blocks.specs.Members.{saved_blocks};
+ghost use Rattle.vm_blocks.specs.declared.change.Change.TheVariants as changes;
+ghost use Rattle.vm_chains.specs.Numbers.{numbers};
 ghost use Rattle.vm_chains.specs.Walking.{AreMembers};
 
 use crate::names::Names;
@@ -11,18 +14,12 @@ use crate::reading::{relinked_at, saved_at};
 use crate::{MOST_BLOCKS, walk};
 use geos_model::{Fault, VmHandle};
 use std::alloc::{AllocError, Global};
-use vm_blocks::{Blocks, SavedBlock};
-
-/// A block of a chain that is to come in under a handle, or to be taken out from there.
-#[derive(Drop)]
-pub struct Member {
-    pub handle: VmHandle,
-    pub block: SavedBlock,
-}
+use vm_blocks::{Blocks, Member, Members, SavedBlock};
 
 /// The blocks of a copy of a chain, under handles that are free. They link to one another as those of the chain do.
-pub fn copy_plan(alloc: Global, blocks: &mut Blocks, root: VmHandle) -> Result<Vec<Member>, Fault>
-    ensures value { Answers (copy_conditions blocks.old root.0) (λ plan. planned plan.items ≡ copies_of blocks.old (chain_blocks blocks.old root.0)) result }
+pub fn copy_plan(alloc: Global, blocks: &mut Blocks, root: VmHandle) -> Result<Members, Fault>
+    ensures value { Answers (copy_conditions blocks.old root.0) (λ plan. saved_blocks plan.list.items ≡ copies_of blocks.old (chain_blocks blocks.old root.0)) result }
+    ensures applies { IfOk result (λ plan. Applies (changes.BlocksIn plan) blocks.old) }
     ensures stays { blocks.new ≡ blocks.old }
 {
     let handles = walk(alloc, blocks, root)?;
@@ -34,8 +31,9 @@ pub fn copy_plan(alloc: Global, blocks: &mut Blocks, root: VmHandle) -> Result<V
 }
 
 /// The blocks of a chain as they are, none of them the map block.
-pub fn free_plan(alloc: Global, blocks: &mut Blocks, root: VmHandle) -> Result<Vec<Member>, Fault>
-    ensures value { Answers (free_conditions blocks.old root.0) (λ plan. planned plan.items ≡ blocks_of blocks.old (chain_blocks blocks.old root.0)) result }
+pub fn free_plan(alloc: Global, blocks: &mut Blocks, root: VmHandle) -> Result<Members, Fault>
+    ensures value { Answers (free_conditions blocks.old root.0) (λ plan. saved_blocks plan.list.items ≡ blocks_of blocks.old (chain_blocks blocks.old root.0)) result }
+    ensures applies { IfOk result (λ plan. Applies (changes.BlocksOut plan) blocks.old) }
     ensures stays { blocks.new ≡ blocks.old }
 {
     let handles = walk(alloc, blocks, root)?;
@@ -53,9 +51,9 @@ fn contains(handles: &[VmHandle], wanted: VmHandle) -> bool
 }
 
 /// Each of these blocks as it is.
-fn saved(alloc: Global, blocks: &mut Blocks, handles: &[VmHandle]) -> Result<Vec<Member>, Fault>
+fn saved(alloc: Global, blocks: &mut Blocks, handles: &[VmHandle]) -> Result<Members, Fault>
     requires { AreMembers blocks.old handles.now }
-    ensures value { MatchResult result (λ plan. planned plan.items ≡ blocks_of blocks.old (numbers handles.now)) (λ fault. fault ≡ Memory) }
+    ensures value { MatchResult result (λ plan. saved_blocks plan.list.items ≡ blocks_of blocks.old (numbers handles.now)) (λ fault. fault ≡ Memory) }
     ensures stays { blocks.new ≡ blocks.old }
 {
     let mut plan = Vec::new(alloc);
@@ -66,7 +64,7 @@ fn saved(alloc: Global, blocks: &mut Blocks, handles: &[VmHandle]) -> Result<Vec
             block,
         })?;
     }
-    Ok(plan)
+    Ok(Members::new(plan))
 }
 
 /// The least free handles, rising, as many as these if there are so many.
@@ -92,11 +90,11 @@ fn copies(
     blocks: &mut Blocks,
     handles: &[VmHandle],
     new: &[VmHandle],
-) -> Result<Vec<Member>, Fault>
+) -> Result<Members, Fault>
     requires members { AreMembers blocks.old handles.now }
     requires new { length handles.now ≡ length new.now }
     ensures value { MatchResult result
-        (λ plan. planned plan.items ≡ renamed_blocks blocks.old (numbers handles.now) (numbers new.now)) (λ fault. fault ≡ Memory) }
+        (λ plan. saved_blocks plan.list.items ≡ renamed_blocks blocks.old (numbers handles.now) (numbers new.now)) (λ fault. fault ≡ Memory) }
     ensures stays { blocks.new ≡ blocks.old }
 {
     let names = Names::new(alloc, handles, new)?;
@@ -109,5 +107,5 @@ fn copies(
             block,
         })?;
     }
-    Ok(plan)
+    Ok(Members::new(plan))
 }

@@ -2,7 +2,7 @@ ghost use Rattle.std.specs.Prelude.{◌≡◌, None, Some, true, false, IfOk, Ma
 ghost use Rattle.geos_model.specs.Chain.{chain, is_member, on_chain};
 ghost use Rattle.geos_model.specs.Document.{is_raw};
 ghost use Rattle.vm_chains.specs.Answers.{Answers};
-ghost use Rattle.vm_chains.specs.Planned.{numbers};
+ghost use Rattle.vm_chains.specs.Numbers.{numbers};
 ghost use Rattle.vm_chains.specs.Walking.{AreMembers, GoesOn, RefusesRoot, Stops};
 
 use crate::MOST_BLOCKS;
@@ -50,7 +50,7 @@ pub(crate) fn walk_from(
     blocks.validity();
     let mut met = Met::new(alloc)?;
     let mut pending = Pending::new(alloc, root)?;
-    for _ in 0..MOST_BLOCKS {
+    for left in (0..MOST_BLOCKS).rev() {
         let handle = match pending.pop() {
             Some(handle) => handle,
             None => return Ok(met.into_handles()),
@@ -60,12 +60,12 @@ pub(crate) fn walk_from(
         }
         follow(blocks, handle, &mut pending)?;
         met.add(handle)?;
+        // Each that is pending would be one more block, and no more than these are left.
+        if pending.len() > left {
+            return Err(Fault::BadChain);
+        }
     }
-    match pending.pop() {
-        // There are no more blocks than these, so that one of them is met again.
-        Some(_) => Err(Fault::BadChain),
-        None => Ok(met.into_handles()),
-    }
+    Ok(met.into_handles())
 }
 
 /// Puts what a block links to before all that is pending. BadChain where the block is none of a chain.

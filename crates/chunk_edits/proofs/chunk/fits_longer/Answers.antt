@@ -21,11 +21,11 @@ fits_with-cut m h n bytes heap live cut =
 
 pub overflow_cast-size : goal.overflow_cast-size
 overflow_cast-size c =
-    let m = c.args.heap.now in let h = c.args.h.0 in
+    let m = c.args.heap.now.chunks in let h = c.args.h.0 in
     omega (arith, chunk_bytes_le m h c.chunk_of-size.ensures.valid c.requires, ap length c.chunk_of-size.ensures.value)
 
 pub returns : goal.returns
 returns c = λ bytes long.
-    let m = c.args.heap.now in let h = c.args.h.0 in
+    let m = c.args.heap.now.chunks in let h = c.args.h.0 in
     c.fits_resize.ensures
     ∙ fits_with-cut m h c.saturating_add.result bytes c.chunk_of-size.ensures.valid c.requires (omega (arith, c.saturating_add.ensures, ap length c.chunk_of-size.ensures.value))

@@ -7,6 +7,6 @@ use Rattle.chunk_edits.proofs.chunk.write.Goals as goal
 
 pub returns-clause-fits : goal.returns-clause-fits
 returns-clause-fits c =
-    let m = c.args.heap.now in let h = c.args.h.0 in let at = c.args.at in let bytes = c.args.bytes.now in
+    let m = c.args.heap.now.chunks in let h = c.args.h.0 in let at = c.args.at in let bytes = c.args.bytes.now in
     let within = c.in_ok-old.ensures.value.0 in
     fits_with-fewer m h (written (chunk_bytes m h) at bytes) c.part.ensures.valid c.requires (omega (arith, within, length-splice (chunk_bytes m h) bytes at (at + length bytes) (omega (arith, within))))

@@ -8,7 +8,7 @@ use Rattle.doc_edits.proofs.chunk_plans.has_room.Goals as goal
 
 pub returns : goal.returns
 returns c =
-    let m = c.args.heap.now in let h = c.args.chunk.0 in let s = c.args.splice.now in
+    let m = c.args.heap.now.chunks in let h = c.args.chunk.0 in let s = c.args.splice.now in
     let old : List ℕ = chunk_bytes m h in
     let n : ℕ = length c.in-Some.bytes.now - length c.as_slice.result.now + length c.as_slice-2.result.now in
     let read : c.in-Some.bytes.now ≡ old = ap (λ (o : Option (List ℕ)). unwrap_or o []) c.in-Some.ensures.value in

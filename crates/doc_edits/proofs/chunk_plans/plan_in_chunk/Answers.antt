@@ -14,28 +14,28 @@ returns-in_err-bytes c =
 
 pub returns-in_err-splice : goal.returns-in_err-splice
 returns-in_err-splice c =
-    let edit = c.args.edit.now in let d = c.args.blocks.now in let b = c.args.handle in let k = c.args.chunk in let m = c.in_ok-heap.heap.now in let live = c.in_ok-heap.ensures in
+    let edit = c.args.edit.now in let d = c.args.blocks.now in let b = c.args.handle in let k = c.args.chunk in let m = c.in_ok-heap.heap.now.chunks in let live = c.in_ok-heap.ensures in
     let bytes = c.in_ok-bytes.bytes.now in let there = c.in_ok-bytes.ensures d b.0 live in
     carried c.from_residual-in_err-splice.result _ _ c.in_err-splice.field-0.0 c.from_residual-in_err-splice.ensures.1
     (c.in_err-splice.ensures d (is_in edit d b k c.requires.place m live bytes there) (is_at edit d b k c.requires.place m live bytes there))
 
 pub has_room-requires-clause-built : goal.has_room-requires-clause-built
 has_room-requires-clause-built c =
-    let edit = c.args.edit.now in let d = c.args.blocks.now in let b = c.args.handle in let k = c.args.chunk in let m = c.in_ok-heap.heap.now in let live = c.in_ok-heap.ensures in
+    let edit = c.args.edit.now in let d = c.args.blocks.now in let b = c.args.handle in let k = c.args.chunk in let m = c.in_ok-heap.heap.now.chunks in let live = c.in_ok-heap.ensures in
     let bytes = c.in_ok-bytes.bytes.now in let there = c.in_ok-bytes.ensures d b.0 live in
     let built = c.in_ok-splice.ensures d (is_in edit d b k c.requires.place m live bytes there) (is_at edit d b k c.requires.place m live bytes there) in
     is_built edit d b k c.requires.place m live bytes there c.in_ok-splice.splice c.in_ok-splice.done built
 
 pub returns-then-not-has_room : goal.returns-then-not-has_room
 returns-then-not-has_room c =
-    let edit = c.args.edit.now in let d = c.args.blocks.now in let b = c.args.handle in let k = c.args.chunk in let m = c.in_ok-heap.heap.now in let live = c.in_ok-heap.ensures in
+    let edit = c.args.edit.now in let d = c.args.blocks.now in let b = c.args.handle in let k = c.args.chunk in let m = c.in_ok-heap.heap.now.chunks in let live = c.in_ok-heap.ensures in
     let bytes = c.in_ok-bytes.bytes.now in let there = c.in_ok-bytes.ensures d b.0 live in
     let built = c.in_ok-splice.ensures d (is_in edit d b k c.requires.place m live bytes there) (is_at edit d b k c.requires.place m live bytes there) in
     inr (full edit d b k c.requires.place m live bytes there c.in_ok-splice.splice c.in_ok-splice.done built c.if-not-has_room.ensures)
 
 pub returns : goal.returns
 returns c =
-    let edit = c.args.edit.now in let d = c.args.blocks.now in let b = c.args.handle in let k = c.args.chunk in let m = c.in_ok-heap.heap.now in let live = c.in_ok-heap.ensures in
+    let edit = c.args.edit.now in let d = c.args.blocks.now in let b = c.args.handle in let k = c.args.chunk in let m = c.in_ok-heap.heap.now.chunks in let live = c.in_ok-heap.ensures in
     let bytes = c.in_ok-bytes.bytes.now in let there = c.in_ok-bytes.ensures d b.0 live in
     let built = c.in_ok-splice.ensures d (is_in edit d b k c.requires.place m live bytes there) (is_at edit d b k c.requires.place m live bytes there) in
     planned edit d b k c.requires.place m live bytes there c.in_ok-splice.splice c.in_ok-splice.done built c.if-not-has_room.ensures

@@ -25,4 +25,4 @@ found_chunk d h c m now (Some x) at valid got =
 
 pub returns : goal.returns
 returns c = λ d b at. subst (λ r. MatchResult r (λ bytes. IsChunkAt d b c.args.chunk.0 bytes.now) (λ fault. (rest : Conditions) → AreLate rest → first_refusal (on_chunk d b c.args.chunk.0 ++ rest) ≡ Some fault)) (sym c.ok_or.ensures.value)
-    (found_chunk d b c.args.chunk.0 c.args.heap.now (λ bytes. bytes.now) c.chunk.result at c.chunk.ensures.valid c.chunk.ensures.value)
+    (found_chunk d b c.args.chunk.0 c.args.heap.now.chunks (λ bytes. bytes.now) c.chunk.result at c.chunk.ensures.valid c.chunk.ensures.value)

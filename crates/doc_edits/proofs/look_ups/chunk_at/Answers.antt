@@ -22,5 +22,5 @@ returns-in_err-heap c = (
 pub returns : goal.returns
 returns c = (
   (refl, (λ _. tt), c.load.ensures.same),
-  record { value = chunk_or_refusal c.args.blocks.now c.args.block c.args.chunk (λ bytes. bytes.now) c.bytes_in.result (c.bytes_in.ensures c.args.blocks.now c.args.block.0 (subst (λ (d : Document). IsHeapAt d c.args.block.0 c.in_ok-heap.heap.now) c.load.ensures.same c.in_ok-heap.ensures)); stays = tt },
+  record { value = chunk_or_refusal c.args.blocks.now c.args.block c.args.chunk (λ bytes. bytes.now) c.bytes_in.result (c.bytes_in.ensures c.args.blocks.now c.args.block.0 (subst (λ (d : Document). IsHeapAt d c.args.block.0 c.in_ok-heap.heap.now.chunks) c.load.ensures.same c.in_ok-heap.ensures)); stays = tt },
 )

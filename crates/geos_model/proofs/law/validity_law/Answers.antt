@@ -1,4 +1,4 @@
-use Rattle.geos_model.proofs.Validity.{validity_law}
+use Rattle.geos_model.proofs.ValidSteps.{validity_law}
 use Rattle.geos_model.proofs.law.validity_law.Goals as goal
 
 pub returns : goal.returns

@@ -5,7 +5,7 @@ pub returns-in-NameFind-clause-ok : goal.returns-in-NameFind-clause-ok
 returns-in-NameFind-clause-ok g c = rw c.in-NameFind.is (told c.push_token.result c.args.session.now _ _ _ _ c.name_find.ensures.step c.push_token.ensures.ok)
 
 pub returns-in-NameReferences-clause-ok : goal.returns-in-NameReferences-clause-ok
-returns-in-NameReferences-clause-ok g c = rw c.in-NameReferences.is (told c.push_references.result c.args.session.now _ _ _ _ c.name_refs.ensures.step c.push_references.ensures.ok)
+returns-in-NameReferences-clause-ok g c = rw c.in-NameReferences.is (told c.push_u32.result c.args.session.now _ _ _ _ c.name_refs.ensures.step c.push_u32.ensures.ok)
 
 pub returns-in-NameText-clause-ok : goal.returns-in-NameText-clause-ok
 returns-in-NameText-clause-ok g c = rw c.in-NameText.is (told c.push_bytes.result c.args.session.now _ _ _ _ c.name_text.ensures.step c.push_bytes.ensures.ok)

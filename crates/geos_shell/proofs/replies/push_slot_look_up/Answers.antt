@@ -2,7 +2,7 @@ use Rattle.geos_shell.proofs.Replying.{told}
 use Rattle.geos_shell.proofs.replies.push_slot_look_up.Goals as goal
 
 pub returns-in-ElementReferences-clause-ok : goal.returns-in-ElementReferences-clause-ok
-returns-in-ElementReferences-clause-ok g c = rw c.in-ElementReferences.is (told c.push_references.result c.args.session.now _ _ _ _ c.element_refs.ensures.step c.push_references.ensures.ok)
+returns-in-ElementReferences-clause-ok g c = rw c.in-ElementReferences.is (told c.push_u32.result c.args.session.now _ _ _ _ c.element_refs.ensures.step c.push_u32.ensures.ok)
 
 pub returns-in-ElementBytes-clause-ok : goal.returns-in-ElementBytes-clause-ok
 returns-in-ElementBytes-clause-ok g c = rw c.in-ElementBytes.is (told c.push_bytes.result c.args.session.now _ _ _ _ c.element_bytes.ensures.step c.push_bytes.ensures.ok)

@@ -5,7 +5,7 @@ use Rattle.geos_model.specs.Document.{Document, raw_bytes_of}
 use Rattle.geos_model.specs.declared.handle.VmHandle.{VmHandle}
 use Rattle.vm_chains.specs.Naming.{name_in, place_in}
 use Rattle.vm_chains.specs.declared.names.Names.{Names}
-use Rattle.vm_chains.specs.Planned.{numbers}
+use Rattle.vm_chains.specs.Numbers.{numbers}
 use Rattle.vm_chains.proofs.ShapeLemmas.{same_from, same_next}
 use Rattle.vm_chains.proofs.comparing.same_shape.Goals as goal
 

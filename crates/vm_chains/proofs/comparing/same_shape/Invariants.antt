@@ -1,6 +1,6 @@
 use Rattle.std.proofs.Common.{◌≡◌, drop}
 use Rattle.geos_model.specs.Chain.{same_shape}
-use Rattle.vm_chains.specs.Planned.{numbers}
+use Rattle.vm_chains.specs.Numbers.{numbers}
 use Rattle.vm_chains.proofs.ShapeLemmas.{same_from}
 use Rattle.vm_chains.proofs.comparing.same_shape.Given as goal
 

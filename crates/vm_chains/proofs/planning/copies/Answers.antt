@@ -1,11 +1,13 @@
-use Rattle.std.proofs.Common.{◌≡◌, ◌+◌, ◌++◌, ◌∷◌, [], List, get_or, drop, refl, ap, ◌∙◌, arith}
+use Rattle.std.proofs.Common.{◌≡◌, ◌+◌, ◌++◌, ◌∷◌, [], List, get_or, length, drop, refl, ap, ◌∙◌, arith}
+use Rattle.std.proofs.lemmas.List.{length_push}
 use Rattle.std.specs.List.{zip}
 use Rattle.geos_model.specs.Chain.{name_of, relinked}
 use Rattle.geos_model.specs.Document.{Document, raw_bytes_of, user_id_of}
 use Rattle.geos_model.specs.declared.handle.VmHandle.{VmHandle}
 use Rattle.vm_chains.specs.Naming.{name_in}
-use Rattle.vm_chains.specs.Planned.{numbers, planned}
-use Rattle.vm_chains.specs.declared.planning.Member.{Member}
+use Rattle.vm_blocks.specs.Members.{saved_blocks}
+use Rattle.vm_chains.specs.Numbers.{numbers}
+use Rattle.vm_blocks.specs.declared.member.Member.{Member}
 use Rattle.vm_chains.proofs.CopyLemmas.{copies_from, copies_more}
 use Rattle.vm_chains.proofs.ChainLemmas.{renamed_block}
 use Rattle.vm_chains.proofs.planning.copies.Goals as goal
@@ -22,7 +24,8 @@ loop-i-preserved c =
     let block = c.raw-block.ensures ∙ renamed_block d h c.user_id.result c.in_ok-bytes.bytes.items (name_in c.in_ok-names.names) (name_of (zip (numbers hs) (numbers new))) uid read (c.in_ok-names.ensures {u = tt}) in
     let pushed : c.push.new.self.items ≡ c.loop-i.plan.items ++ m ∷ [] = c.in_ok-push.ensures.items in
     record {
-      plan = ap (λ (ms : List Member). planned ms ++ copies_from d hs new (drop (i + 1) hs) (drop (i + 1) new)) pushed
+      plan = ap (λ (ms : List Member). saved_blocks ms ++ copies_from d hs new (drop (i + 1) hs) (drop (i + 1) new)) pushed
           ∙ copies_more d hs new c.loop-i.plan.items m i none none _ (omega arith) (omega arith) refl block c.loop-i.invariant.plan;
+      many = omega (arith, ap (λ (ms : List Member). length ms) pushed, length_push c.loop-i.plan.items m, c.loop-i.invariant.many);
       same = same;
     }

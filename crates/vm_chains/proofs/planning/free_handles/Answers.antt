@@ -2,7 +2,7 @@ use Rattle.std.proofs.Common.{◌≡◌, ◌+◌, ◌-◌, ◌<◌, ◌++◌, �
 use Rattle.std.proofs.lemmas.List.{length_push}
 use Rattle.geos_model.specs.Chain.{free_handles}
 use Rattle.geos_model.specs.declared.handle.VmHandle.{VmHandle}
-use Rattle.vm_chains.specs.Planned.{numbers}
+use Rattle.vm_chains.specs.Numbers.{numbers}
 use Rattle.vm_chains.proofs.CopyLemmas.{free_from, all_free, none_free, free_next, live_next, new_more, new_end}
 use Rattle.vm_chains.proofs.planning.free_handles.Goals as goal
 use Rattle.vm_chains.proofs.planning.free_handles.Goals.{then-not-is_live+in_ok-push, else-not-is_live}

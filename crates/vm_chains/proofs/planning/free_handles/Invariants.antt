@@ -1,6 +1,6 @@
 use Rattle.std.proofs.Common.{◌≡◌, ◌≤◌, ◌-◌, ◌++◌, take, length}
 use Rattle.geos_model.specs.Chain.{new_handles}
-use Rattle.vm_chains.specs.Planned.{numbers}
+use Rattle.vm_chains.specs.Numbers.{numbers}
 use Rattle.vm_chains.proofs.CopyLemmas.{free_from}
 use Rattle.vm_chains.proofs.planning.free_handles.Given as goal
 

@@ -3,8 +3,10 @@ use Rattle.std.specs.List.{list_any}
 use Rattle.geos_model.specs.Chain.{blocks_of, chain, chain_blocks, free_conditions}
 use Rattle.geos_model.specs.Document.{Document}
 use Rattle.geos_model.specs.declared.handle.VmHandle.{VmHandle}
-use Rattle.vm_chains.specs.Planned.{numbers, planned}
+use Rattle.vm_blocks.specs.Members.{saved_blocks}
+use Rattle.vm_chains.specs.Numbers.{numbers}
 use Rattle.vm_chains.proofs.ChainLemmas.{blocks_are}
+use Rattle.vm_chains.proofs.Carrying.{free_applies}
 use Rattle.vm_chains.proofs.Refusals.{answers, by_map}
 use Rattle.vm_chains.proofs.planning.free_plan.Goals as goal
 
@@ -32,5 +34,8 @@ returns-clause-value c =
     let map_is = c.map_block.ensures ∙ ap (λ (x : Document). x.map_block) c.walk.ensures.stays in
     let none = by_map d root false (found d root c.map_block.result.0 c.in_ok-handles.handles.items c.deref.result.now c.contains.result walked.1 c.deref.ensures.value map_is c.contains.ensures ∙ c.if-contains.false) walked.0 in
     let all = ap numbers c.deref-2.ensures.value ∙ sym (blocks_are d root (numbers c.in_ok-handles.handles.items) walked.1) in
-    answers (free_conditions d root) (λ plan. planned plan.items ≡ blocks_of c.walk.new.blocks (numbers c.deref-2.result.now)) (λ plan. planned plan.items ≡ blocks_of d (chain_blocks d root)) c.saved.result none c.saved.ensures.value
+    answers (free_conditions d root) (λ plan. saved_blocks plan.list.items ≡ blocks_of c.walk.new.blocks (numbers c.deref-2.result.now)) (λ plan. saved_blocks plan.list.items ≡ blocks_of d (chain_blocks d root)) c.saved.result none c.saved.ensures.value
     (λ plan e. e ∙ (λ j. blocks_of (c.walk.ensures.stays j) (all j)))
+
+pub returns-clause-applies : goal.returns-clause-applies
+returns-clause-applies c = free_applies c.args.blocks.now c.args.root.0 c.saved.result (returns-clause-value c)

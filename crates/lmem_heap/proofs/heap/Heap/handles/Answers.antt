@@ -3,7 +3,7 @@ use Rattle.std.proofs.lemmas.List.{map-append}
 use Rattle.std.specs.FinMap.{keys}
 use Rattle.geos_model.specs.Heap.{ChunkMap}
 use Rattle.geos_model.specs.declared.handle.ChunkHandle.{ChunkHandle}
-use Rattle.lmem_heap.proofs.Heaps.{handles_some, handles_none, handles_all, some_by_size, none_by_size, counts}
+use Rattle.lmem_heap.proofs.Heaps.{shown_chunks, handles_some, handles_none, handles_all, some_by_size, none_by_size, counts}
 use Rattle.lmem_heap.proofs.heap.Heap.handles.Goals as goal
 use Rattle.lmem_heap.proofs.heap.Heap.handles.Goals.{then-is_some+in_ok-push, else-is_some}
 
@@ -28,7 +28,7 @@ loop-i-preserved c =
 pub returns : goal.returns
 returns c =
     let t = c.self.inside.table in
-    c.loop-i.invariant ∙ (handles_all t c.loop-i.i (omega (arith, c.len-i-end.ensures.value)) ∙ ap (λ (m : ChunkMap). keys m) c.self.view_is)
+    c.loop-i.invariant ∙ (handles_all t c.loop-i.i (omega (arith, c.len-i-end.ensures.value)) ∙ ap (λ (m : ChunkMap). keys m) (shown_chunks c.self.inside.table c.args.self.now c.self.view_is))
 
 pub handle_of-requires : goal.handle_of-requires
 handle_of-requires c = let i = counts _ _ _ c.self.invariant in omega (arith, c.len-i-end.ensures.value, c.loop-i-test.true, i.3)

@@ -5,7 +5,7 @@ use Rattle.geos_model.specs.Heap.{chunk_bytes, space_of}
 use Rattle.geos_model.specs.Bytes.{resized}
 use Rattle.geos_model.proofs.Tables.{put_at}
 use Rattle.lmem_heap.specs.Packed.{Slots}
-use Rattle.lmem_heap.proofs.Heaps.{counts, Live, live_is, live_slot, shows_put, room_put, room_changed, put_changed, put_spliced, counted_changed, length-resized, length-chunks_le, space_of_at_most}
+use Rattle.lmem_heap.proofs.Heaps.{shown_chunks, counts, Live, live_is, live_slot, shows_put, room_put, room_changed, put_changed, put_spliced, counted_changed, length-resized, length-chunks_le, space_of_at_most}
 use Rattle.lmem_heap.proofs.heap.Heap.resize.Goals as goal
 
 module _ (t m : Slots) (i n size : ℕ) (b : List ℕ) (live : Live t i b) (count : size ≡ length b) where
@@ -24,23 +24,23 @@ module _ (t m : Slots) (i n size : ℕ) (b : List ℕ) (live : Live t i b) (coun
       put_changed t m i (resized b n) b (λ (l : List ℕ). l ++ replicate (n - size) 0) live is to
 
 pub slot-i-requires : goal.slot-i-requires
-slot-i-requires c = let i = counts _ _ _ c.self.invariant in live_is c.self.inside.table c.args.h.0 c.args.self.now c.self.view_is i.0 (omega (arith, i.1, i.3)) c.requires.live
+slot-i-requires c = let i = counts _ _ _ c.self.invariant in live_is c.self.inside.table c.args.h.0 c.args.self.now.chunks (shown_chunks c.self.inside.table c.args.self.now c.self.view_is) i.0 (omega (arith, i.1, i.3)) c.requires.live
 
 pub space_of-requires : goal.space_of-requires
 space_of-requires c =
     let i = counts _ _ _ c.self.invariant in
-    let live = live_slot c.self.inside.table c.slot-i.result c.args.h.0 c.args.self.now c.self.view_is c.slot-i.ensures.at c.requires.live in
+    let live = live_slot c.self.inside.table c.slot-i.result c.args.h.0 c.args.self.now.chunks (shown_chunks c.self.inside.table c.args.self.now c.self.view_is) c.slot-i.ensures.at c.requires.live in
     omega (arith, live.bytes, c.size-size.ensures, i.1, i.3)
 
 pub overflow_sub-self : goal.overflow_sub-self
 overflow_sub-self c =
-    let live = live_slot c.self.inside.table c.slot-i.result c.args.h.0 c.args.self.now c.self.view_is c.slot-i.ensures.at c.requires.live in
+    let live = live_slot c.self.inside.table c.slot-i.result c.args.h.0 c.args.self.now.chunks (shown_chunks c.self.inside.table c.args.self.now c.self.view_is) c.slot-i.ensures.at c.requires.live in
     omega (arith, live.space, c.space_of.ensures, ap space_of c.size-size.ensures, c.self.invariant.1)
 
 pub replace-requires : goal.replace-requires
 replace-requires c =
     let i = counts _ _ _ c.self.invariant in
-    let live = live_slot c.self.inside.table c.slot-i.result c.args.h.0 c.args.self.now c.self.view_is c.slot-i.ensures.at c.requires.live in
+    let live = live_slot c.self.inside.table c.slot-i.result c.args.h.0 c.args.self.now.chunks (shown_chunks c.self.inside.table c.args.self.now c.self.view_is) c.slot-i.ensures.at c.requires.live in
     record {
       slot = live.within;
       live = ap is_some live.holds;
@@ -50,9 +50,9 @@ replace-requires c =
 
 pub lengthen-requires : goal.lengthen-requires
 lengthen-requires c =
-    let t = c.self.inside.table in let k = c.slot-i.result in let old : List ℕ = chunk_bytes c.args.self.now c.args.h.0 in let b : List ℕ = resized old c.args.n in
-    let live = live_slot c.self.inside.table c.slot-i.result c.args.h.0 c.args.self.now c.self.view_is c.slot-i.ensures.at c.requires.live in
-    let room = room_put t k c.args.h.0 c.args.self.now c.self.view_is c.slot-i.ensures.at b c.self.invariant.0 c.requires.fits in
+    let t = c.self.inside.table in let k = c.slot-i.result in let old : List ℕ = chunk_bytes c.args.self.now.chunks c.args.h.0 in let b : List ℕ = resized old c.args.n in
+    let live = live_slot c.self.inside.table c.slot-i.result c.args.h.0 c.args.self.now.chunks (shown_chunks c.self.inside.table c.args.self.now c.self.view_is) c.slot-i.ensures.at c.requires.live in
+    let room = room_put t k c.args.h.0 c.args.self.now.chunks (shown_chunks c.self.inside.table c.args.self.now c.self.view_is) c.slot-i.ensures.at b c.self.invariant.0 c.requires.fits in
     record {
       slot = live.within;
       live = ap is_some live.holds;
@@ -62,32 +62,32 @@ lengthen-requires c =
 pub invariant_of-self : goal.invariant_of-self
 invariant_of-self c =
     let s = c.self.inside in let t = s.table in let i = counts _ _ _ c.self.invariant in let k = c.slot-i.result in
-    let old : List ℕ = chunk_bytes c.args.self.now c.args.h.0 in let b : List ℕ = resized old c.args.n in
-    let live = live_slot c.self.inside.table c.slot-i.result c.args.h.0 c.args.self.now c.self.view_is c.slot-i.ensures.at c.requires.live in
-    let room = room_put t k c.args.h.0 c.args.self.now c.self.view_is c.slot-i.ensures.at b i.0 c.requires.fits in
+    let old : List ℕ = chunk_bytes c.args.self.now.chunks c.args.h.0 in let b : List ℕ = resized old c.args.n in
+    let live = live_slot c.self.inside.table c.slot-i.result c.args.h.0 c.args.self.now.chunks (shown_chunks c.self.inside.table c.args.self.now c.self.view_is) c.slot-i.ensures.at c.requires.live in
+    let room = room_put t k c.args.h.0 c.args.self.now.chunks (shown_chunks c.self.inside.table c.args.self.now c.self.view_is) c.slot-i.ensures.at b i.0 c.requires.fits in
     counted_changed t c.replace.new.self k s.space (s.space - c.space_of.result + c.space_of-2.result) s.gap b old live i room (cut_is t c.replace.new.self k c.args.n c.size-size.result old live c.size-size.ensures c.if-n-size.true c.replace.ensures)
     (omega (arith, c.space_of.ensures, ap space_of c.size-size.ensures, c.space_of-2.ensures, ap space_of (length-resized old c.args.n)))
 
 pub invariant_of-self-else-n-size : goal.invariant_of-self-else-n-size
 invariant_of-self-else-n-size c =
     let s = c.self.inside in let t = s.table in let i = counts _ _ _ c.self.invariant in let k = c.slot-i.result in
-    let old : List ℕ = chunk_bytes c.args.self.now c.args.h.0 in let b : List ℕ = resized old c.args.n in
-    let live = live_slot c.self.inside.table c.slot-i.result c.args.h.0 c.args.self.now c.self.view_is c.slot-i.ensures.at c.requires.live in
-    let room = room_put t k c.args.h.0 c.args.self.now c.self.view_is c.slot-i.ensures.at b i.0 c.requires.fits in
+    let old : List ℕ = chunk_bytes c.args.self.now.chunks c.args.h.0 in let b : List ℕ = resized old c.args.n in
+    let live = live_slot c.self.inside.table c.slot-i.result c.args.h.0 c.args.self.now.chunks (shown_chunks c.self.inside.table c.args.self.now c.self.view_is) c.slot-i.ensures.at c.requires.live in
+    let room = room_put t k c.args.h.0 c.args.self.now.chunks (shown_chunks c.self.inside.table c.args.self.now c.self.view_is) c.slot-i.ensures.at b i.0 c.requires.fits in
     counted_changed t c.lengthen.new.self k s.space (s.space - c.space_of.result + c.space_of-2.result) s.gap b old live i room (longer_is t c.lengthen.new.self k c.args.n c.size-size.result old live c.size-size.ensures c.if-n-size.false c.lengthen.ensures)
     (omega (arith, c.space_of.ensures, ap space_of c.size-size.ensures, c.space_of-2.ensures, ap space_of (length-resized old c.args.n)))
 
 pub returns-then-n-size : goal.returns-then-n-size
 returns-then-n-size c =
-    let t = c.self.inside.table in let k = c.slot-i.result in let old : List ℕ = chunk_bytes c.args.self.now c.args.h.0 in let b : List ℕ = resized old c.args.n in
-    let live = live_slot c.self.inside.table c.slot-i.result c.args.h.0 c.args.self.now c.self.view_is c.slot-i.ensures.at c.requires.live in
-    shows_put t k c.args.h.0 c.args.self.now c.self.view_is c.slot-i.ensures.at c.replace.new.self b (cut_is t c.replace.new.self k c.args.n c.size-size.result old live c.size-size.ensures c.if-n-size.true c.replace.ensures)
+    let t = c.self.inside.table in let k = c.slot-i.result in let old : List ℕ = chunk_bytes c.args.self.now.chunks c.args.h.0 in let b : List ℕ = resized old c.args.n in
+    let live = live_slot c.self.inside.table c.slot-i.result c.args.h.0 c.args.self.now.chunks (shown_chunks c.self.inside.table c.args.self.now c.self.view_is) c.slot-i.ensures.at c.requires.live in
+    shows_put t k c.args.h.0 c.args.self.now.chunks (shown_chunks c.self.inside.table c.args.self.now c.self.view_is) c.slot-i.ensures.at c.replace.new.self b (cut_is t c.replace.new.self k c.args.n c.size-size.result old live c.size-size.ensures c.if-n-size.true c.replace.ensures)
 
 pub returns-else-n-size : goal.returns-else-n-size
 returns-else-n-size c =
-    let t = c.self.inside.table in let k = c.slot-i.result in let old : List ℕ = chunk_bytes c.args.self.now c.args.h.0 in let b : List ℕ = resized old c.args.n in
-    let live = live_slot c.self.inside.table c.slot-i.result c.args.h.0 c.args.self.now c.self.view_is c.slot-i.ensures.at c.requires.live in
-    shows_put t k c.args.h.0 c.args.self.now c.self.view_is c.slot-i.ensures.at c.lengthen.new.self b (longer_is t c.lengthen.new.self k c.args.n c.size-size.result old live c.size-size.ensures c.if-n-size.false c.lengthen.ensures)
+    let t = c.self.inside.table in let k = c.slot-i.result in let old : List ℕ = chunk_bytes c.args.self.now.chunks c.args.h.0 in let b : List ℕ = resized old c.args.n in
+    let live = live_slot c.self.inside.table c.slot-i.result c.args.h.0 c.args.self.now.chunks (shown_chunks c.self.inside.table c.args.self.now c.self.view_is) c.slot-i.ensures.at c.requires.live in
+    shows_put t k c.args.h.0 c.args.self.now.chunks (shown_chunks c.self.inside.table c.args.self.now c.self.view_is) c.slot-i.ensures.at c.lengthen.new.self b (longer_is t c.lengthen.new.self k c.args.n c.size-size.result old live c.size-size.ensures c.if-n-size.false c.lengthen.ensures)
 
 pub overflow_add-self : goal.overflow_add-self
 overflow_add-self c = let i = counts _ _ _ c.self.invariant in record { fits = omega (arith, c.space_of-2.ensures, space_of_at_most c.args.n, c.ranges.n.fits, i.3) }

@@ -5,7 +5,7 @@ use Rattle.std.specs.List.{zip}
 use Rattle.geos_model.specs.Chain.{name_of}
 use Rattle.geos_model.specs.Document.{most_blocks}
 use Rattle.geos_model.specs.declared.handle.VmHandle.{VmHandle}
-use Rattle.vm_chains.specs.Planned.{numbers}
+use Rattle.vm_chains.specs.Numbers.{numbers}
 use Rattle.vm_chains.proofs.names.Names.new.Goals as goal
 
 abbrev no_handle : VmHandle

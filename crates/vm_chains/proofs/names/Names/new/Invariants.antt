@@ -1,7 +1,7 @@
 use Rattle.std.proofs.Common.{◌≡◌, ℕ, drop, get_or, length}
 use Rattle.std.specs.List.{zip}
 use Rattle.geos_model.specs.Chain.{name_of}
-use Rattle.vm_chains.specs.Planned.{numbers}
+use Rattle.vm_chains.specs.Numbers.{numbers}
 use Rattle.vm_chains.proofs.names.Names.new.Given as goal
 
 -- the handles from this one on have their names

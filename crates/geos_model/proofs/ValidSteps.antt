@@ -1,0 +1,207 @@
+-- Every step of the machine keeps validity: edits, then the machine.
+use Rattle.std.proofs.Common.{◌≡◌, ℕ, zero, suc, ◌+◌, ◌<◌, ◌≤◌, Bool, true, List, [], ◌∷◌, length, replicate, Option, Some, None, unwrap_or, refl, sym, ap, subst, inl, inr, arith, le-leb, ltb-false}
+use Rattle.std.proofs.lemmas.Bool.{eqb-false}
+use Rattle.std.proofs.lemmas.List.{length-replicate}
+use Rattle.std.specs.List.{All}
+use Rattle.std.specs.Option.{option_map, option_map_or}
+use Rattle.std.specs.FinMap.{get, empty}
+use Rattle.geos_model.specs.Refusal.{Conditions, first_refusal}
+use Rattle.geos_model.specs.Bytes.{written, resized, inserted, deleted}
+use Rattle.geos_model.specs.Array.{array_bytes}
+use Rattle.geos_model.specs.ArrayEdits.{new_array, element_inserted, element_set, element_resized, elements_deleted, array_zeroed, on_array, create_conditions, insert_conditions, set_conditions, resize_conditions, delete_conditions}
+use Rattle.geos_model.specs.ElementArray.{element_bytes}
+use Rattle.geos_model.specs.ElementEdits.{no_slots, element_added, reference_added, reference_removed, element_deleted, element_changed, on_token, create_elements_conditions, add_conditions, add_reference_conditions, change_conditions}
+use Rattle.geos_model.specs.NameArray.{name_bytes}
+use Rattle.geos_model.specs.NameEdits.{no_names, name_added, name_changed, name_reference_removed, on_name_token, create_names_conditions, add_name_conditions, change_name_conditions}
+use Rattle.geos_model.specs.Cost.{cost}
+use Rattle.geos_model.specs.Document.{Block, Document, empty_document, is_valid_body, is_live, raw_bytes_of, block_at, IsValid}
+use Rattle.geos_model.specs.Meaning.{chunk_at, past_end, conditions, effect}
+use Rattle.geos_model.specs.Reply.{Reply, Accepted, Refused}
+use Rattle.geos_model.specs.Machine.{UndoStep, Machine, Request, Call, IsValidMachine, Step, Run, opened_machine, command_conditions, done_by, edited, undone, redone, kind_of}
+use Rattle.geos_model.specs.Validity.{user_id_given, user_id_asked, ValidityLaw}
+use Rattle.geos_model.specs.declared.fault.Fault.{Fault}
+use Rattle.geos_model.specs.declared.fault.Fault.TheVariants.{NoBlock, TooBig, NoHandles, Range, IsMap}
+use Rattle.geos_model.specs.declared.command.Body.TheVariants.{Raw, Heap}
+use Rattle.geos_model.specs.declared.command.Edit.{Edit}
+use Rattle.geos_model.specs.declared.command.Edit.TheVariants as edits
+use Rattle.geos_model.specs.declared.command.Command.{Command}
+use Rattle.geos_model.specs.declared.command.Command.TheVariants as commands
+use Rattle.geos_model.proofs.Refusals.{none_applies, or_none}
+use Rattle.geos_model.proofs.ChainEdits.{chain-copy, chain-free}
+use Rattle.geos_model.proofs.Undoing.{OnDone, IsAt, on_done, done_by-stays, same_machine}
+use Rattle.geos_model.proofs.Validity.{not_false, without_block-valid, with_body-valid, with_user_id-valid, with_map-valid, block_there, makes_block-valid, raw_bytes-few, length-written, length-deleted, new_chunk-valid, new_bytes-valid, fewer_bytes-valid, without_chunk-valid, empty-heap, empty_document-valid}
+
+-- An edit that nothing refuses keeps validity.
+pub effect-valid : (e : Edit) (d : Document) → user_id_given e < 65536 → IsValid d → first_refusal (conditions e d) ≡ None → IsValid (effect e d).0
+effect-valid (edits.NewRaw uid size) d low valid none =
+    let cs : Conditions = conditions (edits.NewRaw uid size) d in
+    let few : size ≤ 65520 = ltb-false 65520 size (or_none (none_applies cs none TooBig refl)).0 in
+    let long = length-replicate {A = ℕ} size 0 in
+    makes_block-valid d (record { user_id = uid; body = Raw (replicate size 0) }) valid (or_none (none_applies cs none NoHandles refl)).0 low
+    (le-leb (length (replicate size 0)) 65520 (omega (arith, few, long)))
+effect-valid (edits.NewHeap uid) d low valid none =
+    let cs : Conditions = conditions (edits.NewHeap uid) d in
+    makes_block-valid d (record { user_id = uid; body = Heap empty }) valid (or_none (none_applies cs none NoHandles refl)).0 low empty-heap
+effect-valid (edits.FreeBlock b) d low valid none =
+    let cs : Conditions = conditions (edits.FreeBlock b) d in
+    without_block-valid d b.0 valid (eqb-false d.map_block b.0 (or_none (none_applies cs none IsMap refl)).0)
+effect-valid (edits.CopyBlock b) d low valid none =
+    let cs : Conditions = conditions (edits.CopyBlock b) d in
+    let there = block_there (get d.blocks b.0) (not_false (is_live d b.0) (or_none (none_applies cs none NoBlock refl)).0) in
+    let old = valid.blocks b.0 there.0 there.1 in
+    let same : block_at d b.0 ≡ there.0 = ap (λ (o : Option Block). unwrap_or o (record { user_id = 0; body = Raw [] })) there.1 in
+    makes_block-valid d (block_at d b.0) valid (or_none (none_applies cs none NoHandles refl)).0
+    (subst (λ (x : Block). x.user_id < 65536) (sym same) old.user_id) (subst (λ (x : Block). is_valid_body x.body ≡ true) (sym same) old.body)
+effect-valid (edits.WriteRaw b at bytes) d low valid none =
+    let cs : Conditions = conditions (edits.WriteRaw b at bytes) d in
+    let live = not_false (is_live d b.0) (or_none (none_applies cs none NoBlock refl)).0 in
+    let within = ltb-false (length (raw_bytes_of d b.0)) (at + length bytes) (or_none (none_applies cs none Range refl)).0 in
+    let same = length-written (raw_bytes_of d b.0) at bytes within in
+    let few = raw_bytes-few d b.0 valid in
+    with_body-valid d b.0 (Raw (written (raw_bytes_of d b.0) at bytes)) valid live
+    (le-leb (length (written (raw_bytes_of d b.0) at bytes)) 65520 (omega (arith, same, few)))
+effect-valid (edits.Attach b bytes) d low valid none =
+    let cs : Conditions = conditions (edits.Attach b bytes) d in
+    let live = not_false (is_live d b.0) (or_none (none_applies cs none NoBlock refl)).0 in
+    with_body-valid d b.0 (Raw bytes) valid live (le-leb (length bytes) 65520 (ltb-false 65520 (length bytes) (or_none (none_applies cs none TooBig refl)).0))
+effect-valid (edits.SetUserId b uid) d low valid none = with_user_id-valid d b.0 uid valid low
+effect-valid (edits.SetMap b) d low valid none =
+    let cs : Conditions = conditions (edits.SetMap b) d in
+    with_map-valid d b.0 valid (or_none (none_applies cs none NoBlock refl)).0
+effect-valid (edits.Alloc b n) d low valid none = new_chunk-valid d valid b.0 [] (replicate n 0) none
+effect-valid (edits.Free b c) d low valid none = without_chunk-valid d valid b.0 c.0 none
+effect-valid (edits.Resize b c n) d low valid none = new_bytes-valid d valid b.0 c.0 [] (resized (chunk_at d b.0 c.0) n) none
+effect-valid (edits.Insert b c at n) d low valid none =
+    new_bytes-valid d valid b.0 c.0 (past_end (chunk_at d b.0 c.0) at) (inserted (chunk_at d b.0 c.0) at n) none
+effect-valid (edits.Delete b c at n) d low valid none =
+    let old : List ℕ = chunk_at d b.0 c.0 in
+    fewer_bytes-valid d valid b.0 c.0 (at + n) (deleted old at n) (length-deleted old at n) none
+effect-valid (edits.Write b c at bytes) d low valid none =
+    let old : List ℕ = chunk_at d b.0 c.0 in
+    fewer_bytes-valid d valid b.0 c.0 (at + length bytes) (written old at bytes) (λ within. let same = length-written old at bytes within in omega (arith, same)) none
+effect-valid (edits.CreateArray b size extra) d low valid none = new_chunk-valid d valid b.0 (create_conditions size extra) (array_bytes (new_array size extra)) none
+effect-valid (edits.InsertElement b c i element) d low valid none =
+    let old : List ℕ = chunk_at d b.0 c.0 in new_bytes-valid d valid b.0 c.0 (insert_conditions old i element) (element_inserted old i element) none
+effect-valid (edits.SetElement b c i element) d low valid none =
+    let old : List ℕ = chunk_at d b.0 c.0 in new_bytes-valid d valid b.0 c.0 (set_conditions old i element) (element_set old i element) none
+effect-valid (edits.ResizeElement b c i n) d low valid none =
+    let old : List ℕ = chunk_at d b.0 c.0 in new_bytes-valid d valid b.0 c.0 (resize_conditions old i) (element_resized old i n) none
+effect-valid (edits.DeleteElements b c i k) d low valid none =
+    let old : List ℕ = chunk_at d b.0 c.0 in new_bytes-valid d valid b.0 c.0 (delete_conditions old i k) (elements_deleted old i k) none
+effect-valid (edits.ZeroArray b c) d low valid none =
+    let old : List ℕ = chunk_at d b.0 c.0 in new_bytes-valid d valid b.0 c.0 (on_array old) (array_zeroed old) none
+effect-valid (edits.CreateElementArray b size) d low valid none = new_chunk-valid d valid b.0 (create_elements_conditions size) (element_bytes (no_slots size)) none
+effect-valid (edits.AddElement b c element) d low valid none =
+    let old : List ℕ = chunk_at d b.0 c.0 in new_bytes-valid d valid b.0 c.0 (add_conditions old element) (element_added old element) none
+effect-valid (edits.AddReference b c t) d low valid none =
+    let old : List ℕ = chunk_at d b.0 c.0 in new_bytes-valid d valid b.0 c.0 (add_reference_conditions old t.0) (reference_added old t.0) none
+effect-valid (edits.RemoveReference b c t) d low valid none =
+    let old : List ℕ = chunk_at d b.0 c.0 in new_bytes-valid d valid b.0 c.0 (on_token old t.0) (reference_removed old t.0) none
+effect-valid (edits.DeleteElement b c t) d low valid none =
+    let old : List ℕ = chunk_at d b.0 c.0 in new_bytes-valid d valid b.0 c.0 (on_token old t.0) (element_deleted old t.0) none
+effect-valid (edits.ChangeElement b c t element) d low valid none =
+    let old : List ℕ = chunk_at d b.0 c.0 in new_bytes-valid d valid b.0 c.0 (change_conditions old t.0 element) (element_changed old t.0 element) none
+effect-valid (edits.CreateNameArray b part) d low valid none = new_chunk-valid d valid b.0 (create_names_conditions part) (name_bytes (no_names part)) none
+effect-valid (edits.AddName b c text part replace) d low valid none =
+    let old : List ℕ = chunk_at d b.0 c.0 in new_bytes-valid d valid b.0 c.0 (add_name_conditions old text part) (name_added old text part replace) none
+effect-valid (edits.ChangeName b c t text) d low valid none =
+    let old : List ℕ = chunk_at d b.0 c.0 in new_bytes-valid d valid b.0 c.0 (change_name_conditions old t.0 text) (name_changed old t.0 text) none
+effect-valid (edits.RemoveName b c t) d low valid none =
+    let old : List ℕ = chunk_at d b.0 c.0 in new_bytes-valid d valid b.0 c.0 (on_name_token old t.0) (name_reference_removed old t.0) none
+effect-valid (edits.CopyChain b) d low valid none = (chain-copy d b.0 valid none).copied.valid
+effect-valid (edits.FreeChain b) d low valid none = (chain-free d b.0 valid none).freed.valid
+
+-- The machine.
+
+-- valid documents of steps, and of one more or one fewer
+abbrev pub AreValid : List UndoStep → Type 0
+AreValid steps = All (λ s. IsValid s.document) steps
+
+pub valid-push : (s : UndoStep) (steps : List UndoStep) → IsValid s.document → AreValid steps → AreValid (s ∷ steps)
+valid-push s steps valid all zero d l = valid
+valid-push s steps valid all (suc k) d l = all k d (omega arith)
+
+pub valid-first : (s : UndoStep) (steps : List UndoStep) → AreValid (s ∷ steps) → IsValid s.document
+valid-first s steps all = all 0 s (omega arith)
+
+pub valid-rest : (s : UndoStep) (steps : List UndoStep) → AreValid (s ∷ steps) → AreValid steps
+valid-rest s steps all k d l = all (suc k) d (omega arith)
+
+pub valid-none : AreValid []
+valid-none k d l = absurd (omega arith)
+
+-- the machine after an answer is valid
+abbrev IsLeftValid : Reply → Machine → Type 0
+IsLeftValid reply new = IsValidMachine new
+
+undone-valid : (m : Machine) (past : List UndoStep) → IsValidMachine m → AreValid past → OnDone IsLeftValid (option_map (λ new. (Accepted, new)) (undone m past))
+undone-valid m [] valid past = tt
+undone-valid m (s ∷ past) valid all = record {
+  document = valid-first s past all;
+  past = valid-rest s past all;
+  future = valid-push (record s { document = m.document }) m.future valid.document valid.future;
+  updated = valid.updated;
+  saved = valid.saved;
+}
+
+redone-valid : (m : Machine) (future : List UndoStep) → IsValidMachine m → AreValid future → OnDone IsLeftValid (option_map (λ new. (Accepted, new)) (redone m future))
+redone-valid m [] valid future = tt
+redone-valid m (s ∷ future) valid all = record {
+  document = valid-first s future all;
+  past = valid-push (record s { document = m.document }) m.past valid.document valid.past;
+  future = valid-rest s future all;
+  updated = valid.updated;
+  saved = valid.saved;
+}
+
+edited-valid : (e : Edit) (m : Machine) → user_id_given e < 65536 → IsValidMachine m → first_refusal (conditions e m.document) ≡ None → IsValidMachine (edited e m).1
+edited-valid e m low valid none = record {
+  document = effect-valid e m.document low valid.document none;
+  past = valid-push (record { kind = kind_of e; cost = cost e m.document (effect e m.document).0; document = m.document }) m.past valid.document valid.past;
+  future = valid-none;
+  updated = valid.updated;
+  saved = valid.saved;
+}
+
+-- what leaves the machine leaves it valid
+stays-valid : (m : Machine) (o : Option (Reply × Machine)) → IsValidMachine m → OnDone (IsAt m) o → OnDone IsLeftValid o
+stays-valid m None valid stays = tt
+stays-valid m (Some (reply, new)) valid stays = subst IsValidMachine (sym stays) valid
+
+done_by-valid : (c : Command) (m : Machine) → user_id_asked (Some c) < 65536 → IsValidMachine m → first_refusal (command_conditions c m) ≡ None → OnDone IsLeftValid (done_by c m)
+done_by-valid (commands.Edit e) m low valid none = edited-valid e m low valid none
+done_by-valid commands.Undo m low valid none = undone-valid m m.past valid valid.past
+done_by-valid commands.Redo m low valid none = redone-valid m m.future valid valid.future
+done_by-valid commands.Update m low valid none = record { document = valid.document; past = valid.past; future = valid.future; updated = valid.document; saved = valid.saved }
+done_by-valid commands.Save m low valid none = record { document = valid.document; past = valid.past; future = valid.future; updated = valid.document; saved = valid.document }
+done_by-valid commands.Revert m low valid none = record { document = valid.saved; past = valid-none; future = valid-none; updated = valid.saved; saved = valid.saved }
+done_by-valid commands.SaveAs m low valid none = record { document = valid.document; past = valid.past; future = valid.future; updated = valid.document; saved = valid.document }
+done_by-valid c m low valid none = stays-valid m (done_by c m) valid (done_by-stays c m refl)
+
+answered-valid : (refusal : Option Fault) (m new : Machine) (o : Option (Reply × Machine)) (reply : Reply) → IsValidMachine m → (refusal ≡ None → OnDone IsLeftValid o)
+    → option_map_or (λ fault. Some (Refused fault, m)) refusal o ≡ Some (reply, new) → IsValidMachine new
+answered-valid (Some fault) m new o reply valid left is = subst IsValidMachine (same_machine is) valid
+answered-valid None m new o reply valid left is = on_done IsLeftValid o reply new (left refl) is
+
+step-valid : (old new : Machine) (request : Request) (reply : Reply) (failed : Bool) → user_id_asked request < 65536 → IsValidMachine old → Step failed old request reply new → IsValidMachine new
+step-valid old new None reply failed low valid (inl is) = subst IsValidMachine (same_machine is) valid
+step-valid old new (Some c) reply failed low valid (inl is) =
+    answered-valid (first_refusal (command_conditions c old)) old new (done_by c old) reply valid (done_by-valid c old low valid) is
+step-valid old new request reply failed low valid (inr out) = subst IsValidMachine (sym out.stays) valid
+
+run-valid : (old new : Machine) (calls : List Call) → All (λ c. user_id_asked c.request < 65536) calls → IsValidMachine old → Run old calls new → IsValidMachine new
+run-valid old new [] low valid run = subst IsValidMachine (sym run) valid
+run-valid old new (c ∷ cs) low valid run =
+    run-valid run.0 new cs (λ k d l. low (suc k) d (omega arith)) (step-valid old run.0 c.request c.reply c.failed (low 0 c (omega arith)) valid run.1) run.2
+
+opened-valid : (updated saved : Document) (sequence frames : ℕ) (target : Bool) → IsValid updated → IsValid saved → IsValidMachine (opened_machine updated saved sequence frames target)
+opened-valid updated saved sequence frames target good was = record { document = good; past = valid-none; future = valid-none; updated = good; saved = was }
+
+pub validity_law : ValidityLaw
+validity_law = record {
+  start = λ frames target. opened-valid empty_document empty_document 1 frames target empty_document-valid empty_document-valid;
+  opened = opened-valid;
+  edit = effect-valid;
+  step = step-valid;
+  run = run-valid;
+}

@@ -1,0 +1,109 @@
+-- Blocks that are put in or taken out one after another.
+use Rattle.std.proofs.Common.{◌≡◌, ◌≢◌, ℕ, List, [], ◌∷◌, true, map, get_or, Some, None, nat_cmp, refl, sym, ap, subst, ◌∙◌, arith}
+use Rattle.std.proofs.lemmas.List.{length-map, get_or-map}
+use Rattle.std.proofs.lemmas.List.Elements.{All-nil, All-cons, All-head, All-tail}
+use Rattle.std.specs.List.{All, Contains}
+use Rattle.std.specs.FinMap.{FinMap, get}
+use Rattle.geos_model.specs.ElementArray.{all_distinct}
+use Rattle.geos_model.specs.Document.{Block, Document, IsValid, is_vm_handle, with_block, without_block, with_blocks, handles_of, without_blocks}
+use Rattle.geos_model.proofs.BlockLists.{distinct-first, distinct-rest, taken_elsewhere}
+use Rattle.geos_model.proofs.Chains.{contains_first, contains_later}
+use Rattle.geos_model.proofs.HeapEdits.{get-taken_same}
+use Rattle.geos_model.proofs.Validity.{without_block-valid}
+use Rattle.vm_blocks.proofs.MapLemmas.{put_taken, taken_put, put_past_taken}
+use Rattle.vm_blocks.specs.Blocks.{block_of}
+use Rattle.vm_blocks.specs.Saved.{saved_block}
+use Rattle.vm_blocks.specs.Members.{ready_blocks, saved_blocks}
+use Rattle.vm_blocks.specs.Changes.{AreFree, CanAllGo, IsFree}
+use Rattle.vm_blocks.specs.declared.prepared.Incoming.{Incoming}
+use Rattle.vm_blocks.specs.declared.member.Member.{Member}
+
+-- What holds of each of a list that is made of another.
+pub All-from_map : {X Y : Type 0} (P : X → Type 0) (f : Y → X) (ys : List Y) → All P (map f ys) → All (λ y. P (f y)) ys
+All-from_map P f ys all = λ i y within. subst P (get_or-map f ys i y (f y) within) (all i (f y) (omega (arith, within, length-map ys f)))
+
+-- Handles of which none is there twice.
+
+abbrev pub IsAbsent : ℕ → List ℕ → Type 0
+IsAbsent h hs = Contains hs h → ⊥
+
+is_other : (h k : ℕ) (hs : List ℕ) → IsAbsent h (k ∷ hs) → h ≢ k
+is_other h k hs absent = λ is. absent (subst (Contains (k ∷ hs)) (sym is) (contains_first k hs))
+
+is_later : (h k : ℕ) (hs : List ℕ) → IsAbsent h (k ∷ hs) → IsAbsent h hs
+is_later h k hs absent = λ there. absent (contains_later k hs h there)
+
+-- One block.
+
+swapped : (d : Document) (h k : ℕ) (b : Block) → h ≢ k → with_block (without_block d k) h b ≡ without_block (with_block d h b) k
+swapped d h k b other = ap (λ (m : FinMap nat_cmp Block). record d { blocks = m }) (put_past_taken d.blocks h k b other)
+
+taken_after : (d : Document) (h : ℕ) (b : Block) → get d.blocks h ≡ None → without_block (with_block d h b) h ≡ d
+taken_after d h b free = ap (λ (m : FinMap nat_cmp Block). record d { blocks = m }) (taken_put d.blocks h b free)
+
+put_after : (d : Document) (h : ℕ) (b : Block) → get d.blocks h ≡ Some b → with_block (without_block d h) h b ≡ d
+put_after d h b there = ap (λ (m : FinMap nat_cmp Block). record d { blocks = m }) (put_taken d.blocks h b there)
+
+-- Under a handle that none of them has.
+
+put_later : (d : Document) (hs : List ℕ) (h : ℕ) (b : Block) → IsAbsent h hs → with_block (without_blocks d hs) h b ≡ without_blocks (with_block d h b) hs
+put_later d [] h b absent = refl
+put_later d (k ∷ hs) h b absent =
+    put_later (without_block d k) hs h b (is_later h k hs absent) ∙ ap (λ (x : Document). without_blocks x hs) (swapped d h k b (is_other h k hs absent))
+
+taken_later : (d : Document) (ps : List (ℕ × Block)) (h : ℕ) → IsAbsent h (handles_of ps) → without_block (with_blocks d ps) h ≡ with_blocks (without_block d h) ps
+taken_later d [] h absent = refl
+taken_later d (p ∷ ps) h absent =
+    taken_later (with_block d p.0 p.1) ps h (is_later h p.0 (handles_of ps) absent)
+    ∙ ap (λ (x : Document). with_blocks x ps) (sym (swapped d p.0 h p.1 (λ is. is_other h p.0 (handles_of ps) absent (sym is))))
+
+-- The document stays valid.
+
+pub taken_valid : (d : Document) (hs : List ℕ) → IsValid d → All (λ h. d.map_block ≢ h) hs → IsValid (without_blocks d hs)
+taken_valid d [] valid others = valid
+taken_valid d (h ∷ hs) valid others =
+    taken_valid (without_block d h) hs (without_block-valid d h valid (All-head (λ h. d.map_block ≢ h) h hs others)) (All-tail (λ h. d.map_block ≢ h) h hs others)
+
+-- Where something was taken out there is nothing.
+
+pub taken_gone : (d : Document) (hs : List ℕ) → all_distinct hs ≡ true → All (λ h. get (without_blocks d hs).blocks h ≡ None) hs
+taken_gone d [] once = All-nil (λ h. get d.blocks h ≡ None)
+taken_gone d (h ∷ hs) once =
+    let less : Document = without_block d h in
+    All-cons (λ k. get (without_blocks less hs).blocks k ≡ None) h hs
+    (taken_elsewhere less hs h (distinct-first h hs once) ∙ get-taken_same d.blocks h h refl)
+    (taken_gone less hs (distinct-rest h hs once))
+
+-- The other way round.
+
+pub in_and_out : (d : Document) (ps : List (ℕ × Block)) → All (λ p. get d.blocks p.0 ≡ None) ps → all_distinct (handles_of ps) ≡ true → without_blocks (with_blocks d ps) (handles_of ps) ≡ d
+in_and_out d [] free once = refl
+in_and_out d (p ∷ ps) free once =
+    ap (λ (x : Document). without_blocks x (handles_of ps)) (
+    taken_later (with_block d p.0 p.1) ps p.0 (distinct-first p.0 (handles_of ps) once)
+    ∙ ap (λ (x : Document). with_blocks x ps) (taken_after d p.0 p.1 (All-head (λ p. get d.blocks p.0 ≡ None) p ps free)))
+    ∙ in_and_out d ps (All-tail (λ p. get d.blocks p.0 ≡ None) p ps free) (distinct-rest p.0 (handles_of ps) once)
+
+pub out_and_in : (d : Document) (ps : List (ℕ × Block)) → All (λ p. get d.blocks p.0 ≡ Some p.1) ps → all_distinct (handles_of ps) ≡ true → with_blocks (without_blocks d (handles_of ps)) ps ≡ d
+out_and_in d [] there once = refl
+out_and_in d (p ∷ ps) there once =
+    ap (λ (x : Document). with_blocks x ps) (
+    put_later (without_block d p.0) (handles_of ps) p.0 p.1 (distinct-first p.0 (handles_of ps) once)
+    ∙ ap (λ (x : Document). without_blocks x (handles_of ps)) (put_after d p.0 p.1 (All-head (λ p. get d.blocks p.0 ≡ Some p.1) p ps there)))
+    ∙ out_and_in d ps (All-tail (λ p. get d.blocks p.0 ≡ Some p.1) p ps there) (distinct-rest p.0 (handles_of ps) once)
+
+-- What can come in or go does so under a VM handle, and what goes isn't the map block.
+
+pub ready_handles : (d : Document) (ready : List Incoming) → AreFree d (handles_of (ready_blocks ready)) → All (λ p. is_vm_handle p.handle.0 ≡ true) ready
+ready_handles d ready are =
+    let ps : List (ℕ × Block) = ready_blocks ready in
+    All-from_map (λ p. is_vm_handle p.0 ≡ true) (λ p. (p.handle.0, block_of p.block)) ready (λ i p within. (All-from_map (IsFree d) (λ p. p.0) ps are.free i p within).handle)
+
+pub out_handles : (d : Document) → IsValid d → (ps : List (ℕ × Block)) → CanAllGo d ps → All (λ p. is_vm_handle p.0 ≡ true) ps
+out_handles d valid ps can = λ i p within. (valid.blocks (get_or ps i p).0 (get_or ps i p).1 (can.go i p within).stands).handle
+
+pub going_handles : (d : Document) → IsValid d → (ms : List Member) → CanAllGo d (saved_blocks ms) → All (λ m. is_vm_handle m.handle.0 ≡ true) ms
+going_handles d valid ms can = All-from_map (λ p. is_vm_handle p.0 ≡ true) (λ m. (m.handle.0, saved_block m.block)) ms (out_handles d valid (saved_blocks ms) can)
+
+pub going_others : (d : Document) (ms : List Member) → CanAllGo d (saved_blocks ms) → All (λ m. d.map_block ≢ m.handle.0) ms
+going_others d ms can = All-from_map (λ p. d.map_block ≢ p.0) (λ m. (m.handle.0, saved_block m.block)) ms (λ i p within. (can.go i p within).other)

@@ -1,0 +1,20 @@
+use Rattle.std.proofs.Common.{◌≡◌, ◌≤◌, ℕ, length, sym, subst, arith}
+use Rattle.geos_model.specs.Image.{image}
+use Rattle.geos_model.proofs.Images.{length_image_body_le}
+use Rattle.vm_blocks.specs.Bodies.{saved_body}
+use Rattle.vm_blocks.specs.declared.saved.SavedBlock.{SavedBlock}
+use Rattle.vm_blocks.specs.declared.saved.SavedBody.{SavedBody}
+use Rattle.vm_blocks.proofs.saved.SavedBlock.image_len.Goals as goal
+
+-- no body that can be has a longer image
+small : (saved : SavedBlock) (body : SavedBody) (n : ℕ) → saved.body ≡ body → n ≡ length (image (saved_body body)) → n ≤ 65521
+small saved body n is n_is =
+    let most = length_image_body_le (saved_body saved.body) saved.valid in
+    let same : n ≡ length (image (saved_body saved.body)) = subst (λ (b : SavedBody). n ≡ length (image (saved_body b))) (sym is) n_is in
+    omega (arith, most, same)
+
+pub returns-in-Raw-clause-small : goal.returns-in-Raw-clause-small
+returns-in-Raw-clause-small c = small c.args.self.now _ c.image_len.result c.in-Raw.is c.image_len.ensures
+
+pub returns-in-Heap-clause-small : goal.returns-in-Heap-clause-small
+returns-in-Heap-clause-small c = small c.args.self.now _ c.image_len-in-Heap.result c.in-Heap.is c.image_len-in-Heap.ensures

@@ -1,0 +1,54 @@
+ghost use Rattle.std.specs.Prelude.{◌≡◌, ◌≤◌, ◌∷◌, [], IfOk, length};
+ghost use Rattle.geos_model.specs.Document.{most_blocks};
+ghost use Rattle.geos_model.specs.Cost.{images_length};
+ghost use Rattle.vm_blocks.specs.Members.{saved_blocks};
+ghost use Rattle.vm_blocks.specs.Saved.{saved_block};
+
+use crate::SavedBlock;
+use geos_model::VmHandle;
+use std::alloc::{AllocError, Global};
+
+/// A block that comes in under a handle, or goes from there.
+#[derive(Drop)]
+pub struct Member {
+    pub handle: VmHandle,
+    pub block: SavedBlock,
+}
+
+/// Blocks that come in or go together, no more than a document can have.
+#[derive(Drop)]
+pub struct Members {
+    pub list: Vec<Member>,
+    // So that the sum of their lengths is a number.
+    ghost few: { length list.items ≤ most_blocks },
+}
+
+impl Members {
+    /// One block alone.
+    pub fn one(alloc: Global, handle: VmHandle, block: SavedBlock) -> Result<Members, AllocError>
+        ensures { IfOk result (λ members. saved_blocks members.list.items ≡ (handle.0, saved_block block) ∷ []) }
+    {
+        let mut list = Vec::new(alloc);
+        list.push(Member { handle, block })?;
+        Ok(Members { list })
+    }
+
+    /// These blocks.
+    pub fn new(list: Vec<Member>) -> Members
+        requires { length list.items ≤ most_blocks }
+        ensures { result.list ≡ list }
+    {
+        Members { list }
+    }
+
+    /// How many bytes the images of their bodies have.
+    pub(crate) fn weight(&self) -> u64
+        ensures { result ≡ images_length (saved_blocks self.now.list.items) }
+    {
+        let mut total = 0;
+        for member in &self.list {
+            total += member.block.image_len() as u64;
+        }
+        total
+    }
+}

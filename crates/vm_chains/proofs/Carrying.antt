@@ -1,0 +1,76 @@
+-- Blocks of a plan can come in or go.
+use Rattle.std.proofs.Common.{◌≡◌, ◌≢◌, ℕ, ◌≤◌, true, false, ◌==◌, List, [], length, get_or, Option, None, Some, is_none, is_some, unwrap_or, Result, Ok, Err, IfOk, MatchResult, length-take, refl, sym, ap, subst, ◌∙◌, arith}
+use Rattle.std.proofs.lemmas.Bool.{eq-eqb, true≢false}
+use Rattle.std.proofs.lemmas.List.{length-map}
+use Rattle.std.proofs.lemmas.List.Elements.{All-map, Contains-get_or}
+use Rattle.std.proofs.lemmas.List.Folds.{list_any_at}
+use Rattle.std.specs.List.{Contains, zip}
+use Rattle.std.specs.FinMap.{get}
+use Rattle.geos_model.specs.Chain.{blocks_of, chain, chain_blocks, free_conditions, free_handles, name_of, new_handles, relinked_block, renamed_blocks}
+use Rattle.geos_model.specs.ElementArray.{all_distinct}
+use Rattle.geos_model.specs.Document.{Block, Document, block_at, handles_of}
+use Rattle.geos_model.specs.Refusal.{Conditions, first_refusal}
+use Rattle.geos_model.specs.declared.fault.Fault.{Fault}
+use Rattle.geos_model.specs.declared.fault.Fault.TheVariants.{BadChain, IsMap, Memory}
+use Rattle.geos_model.proofs.Refusals.{none_applies, or_none}
+use Rattle.geos_model.proofs.Chains.{chain-members}
+use Rattle.geos_model.proofs.ChainCopies.{new-new}
+use Rattle.geos_model.proofs.ChainEdits.{blocks_of-handles}
+use Rattle.geos_model.proofs.CopiedChains.{named-handles}
+use Rattle.vm_blocks.specs.Members.{saved_blocks}
+use Rattle.vm_blocks.specs.Changes.{AreFree, CanAllGo, CanGo}
+use Rattle.vm_blocks.specs.declared.member.Members.{Members}
+use Rattle.geos_model.specs.declared.handle.VmHandle.{VmHandle}
+use Rattle.vm_chains.specs.Numbers.{numbers}
+use Rattle.vm_chains.specs.Answers.{Answers}
+
+none_there : (o : Option Block) → is_some o ≡ false → o ≡ None
+none_there None no_ = refl
+none_there (Some b) no_ = absurd (cc no_)
+
+some_there : (o : Option Block) (b : Block) → is_some o ≡ true → o ≡ Some (unwrap_or o b)
+some_there None b so = absurd (cc so)
+some_there (Some x) b so = refl
+
+chain_there : (o : Option (List ℕ)) → is_none o ≡ false → o ≡ Some (unwrap_or o [])
+chain_there None no_ = absurd (cc no_)
+chain_there (Some hs) no_ = refl
+
+-- The least free handles, as many as were wanted, are free.
+new_free : (d : Document) (n : ℕ) → n ≤ length (new_handles d n) → AreFree d (new_handles d n)
+new_free d n enough =
+    let new : List ℕ = new_handles d n in
+    let are = new-new d n (let taken = length-take n (free_handles d) in omega (arith, taken, enough)) in
+    record {
+      free = λ i x within. let there = Contains-get_or new i x within in record { handle = are.handle (get_or new i x) there; free = none_there (get d.blocks (get_or new i x)) (are.not_live (get_or new i x) there) };
+      distinct = are.once;
+    }
+
+-- The blocks of a chain can go, where none of them is the map block.
+blocks_go : (d : Document) (h : ℕ) → first_refusal (free_conditions d h) ≡ None → CanAllGo d (blocks_of d (chain_blocks d h))
+blocks_go d h none =
+    let cs : Conditions = free_conditions d h in
+    let hs : List ℕ = chain_blocks d h in
+    let are = chain-members d h hs (chain_there (chain d h) (or_none (none_applies cs none BadChain refl)).0) in
+    let no_map = (or_none (none_applies cs none IsMap refl)).0 in
+    let other : (x : ℕ) → Contains hs x → d.map_block ≢ x = λ x there same. true≢false (sym (list_any_at (λ y. y == d.map_block) hs there.0 x there.1 (ap (λ (y : ℕ). y == d.map_block) there.2 ∙ eq-eqb x d.map_block (sym same))) ∙ no_map) in
+    record {
+      go = All-map (λ p. CanGo d p.0 p.1) (λ x. (x, block_at d x)) hs (λ i x within. let there = Contains-get_or hs i x within in record { stands = some_there (get d.blocks (get_or hs i x)) _ (are.live (get_or hs i x) there); other = other (get_or hs i x) there });
+      distinct = subst (λ (xs : List ℕ). all_distinct xs ≡ true) (sym (blocks_of-handles d hs)) are.once;
+    }
+
+-- So plans apply.
+
+pub copy_applies : (d now : Document) (hs new : List VmHandle) (result : Result Members Fault) → now ≡ d → numbers new ≡ new_handles d (length hs) → length hs ≤ length new
+    → MatchResult result (λ plan. saved_blocks plan.list.items ≡ renamed_blocks now (numbers hs) (numbers new)) (λ fault. fault ≡ Memory) → IfOk result (λ plan. AreFree d (handles_of (saved_blocks plan.list.items)))
+copy_applies d now hs new (Err fault) same is enough value = tt
+copy_applies d now hs new (Ok plan) same is enough value =
+    let many : length (new_handles d (length hs)) ≡ length new = ap length (sym is) ∙ length-map new (λ h. h.0) in
+    let few = length-take (length hs) (free_handles d) in
+    let long : length (numbers hs) ≡ length (numbers new) = omega (arith, length-map hs (λ h. h.0), length-map new (λ h. h.0), many, few, enough) in
+    let handles : handles_of (saved_blocks plan.list.items) ≡ new_handles d (length hs) = ap handles_of value ∙ named-handles (λ h. relinked_block (name_of (zip (numbers hs) (numbers new))) (block_at now h)) (numbers hs) (numbers new) long ∙ is in
+    subst (AreFree d) (sym handles) (new_free d (length hs) (omega (arith, many, enough)))
+
+pub free_applies : (d : Document) (h : ℕ) (result : Result Members Fault) → Answers (free_conditions d h) (λ plan. saved_blocks plan.list.items ≡ blocks_of d (chain_blocks d h)) result → IfOk result (λ plan. CanAllGo d (saved_blocks plan.list.items))
+free_applies d h (Ok plan) is = subst (CanAllGo d) (sym is.1) (blocks_go d h is.0)
+free_applies d h (Err fault) is = tt
