@@ -1,20 +1,22 @@
-use Rattle.std.proofs.Common.{None, get_or, ap, sym, ◌∙◌}
-use Rattle.lmem_heap.proofs.Packing.{place_of}
-use Rattle.lmem_heap.specs.Placed.{offset_of}
-use Rattle.lmem_heap.proofs.Places.{offset_is, offset_none, offset_empty, offset_some}
+use Rattle.std.proofs.Common.{◌<◌, sym, arith, ◌∙◌, ap, Option, List, ℕ, None, get_or}
+use Rattle.lmem_heap.proofs.Chunks.{length-chunks_in}
+use Rattle.lmem_heap.proofs.Shown.{shown, offset_in, place_small}
 use Rattle.lmem_heap.proofs.table.Table.offset.Goals as goal
 
-pub returns-in_err-size : goal.returns-in_err-size
-returns-in_err-size c =
-    let t = c.args.self.now in let i = c.args.i in
-    c.from_residual.ensures ∙ sym (offset_is t i c.requires ∙ offset_none (place_of t i) (get_or t i None) c.in_err-size.ensures)
+pub offset-requires-clause-slot : goal.offset-requires-clause-slot
+offset-requires-clause-slot c = let s = c.self.inside.space in omega (arith, (shown s c.args.self.now c.self.view_is).count_offsets, length-chunks_in s.region s.slots)
 
-pub returns-then-size-eq0 : goal.returns-then-size-eq0
-returns-then-size-eq0 c =
-    let t = c.args.self.now in let i = c.args.i in
-    sym (offset_is t i c.requires ∙ offset_empty (place_of t i) c.in_ok-size.size (get_or t i None) c.in_ok-size.ensures c.if-size-eq0.true)
+pub overflow_cast-result : goal.overflow_cast-result
+overflow_cast-result c =
+    let s = c.self.inside.space in let l : c.args.i < s.slots = omega (arith, (shown s c.args.self.now c.self.view_is).count_offsets) in
+    omega (arith, place_small s c.args.i c.in-Some.offset c.self.invariant.kept l c.in-Some.ensures)
 
-pub returns : goal.returns
-returns c =
-    let t = c.args.self.now in let i = c.args.i in let slot = get_or t i None in
-    sym (offset_is t i c.requires ∙ (ap (λ n. offset_of n slot) (sym c.place.ensures) ∙ offset_some c.place.result c.in_ok-size.size slot c.in_ok-size.ensures c.if-size-eq0.false))
+pub returns-in-Some : goal.returns-in-Some
+returns-in-Some c =
+    let s = c.self.inside.space in let v = shown s c.args.self.now c.self.view_is in
+    c.in-Some.ensures ∙ (sym (offset_in s.region s.slots c.args.i (omega (arith, v.count_offsets))) ∙ ap (λ (os : List (Option ℕ)). get_or os c.args.i None) v.offsets)
+
+pub returns-in-None : goal.returns-in-None
+returns-in-None c =
+    let s = c.self.inside.space in let v = shown s c.args.self.now c.self.view_is in
+    c.in-None.ensures ∙ (sym (offset_in s.region s.slots c.args.i (omega (arith, v.count_offsets))) ∙ ap (λ (os : List (Option ℕ)). get_or os c.args.i None) v.offsets)
