@@ -1,6 +1,6 @@
 -- A table's value, and the space that shows it.
-use Rattle.std.proofs.Common.{◌≡◌, ◌≢◌, ℕ, ◌+◌, ◌-◌, ◌<◌, ◌≤◌, List, [], ◌∷◌, ◌++◌, length, get_or, get_or-set_other, set, take, replicate, Option, Some, None, IfSome, is_some, unwrap_or, ◌==◌, if◌then◌else◌, true, refl, sym, ap, subst, ◌∙◌, inl, inr, arith}
-use Rattle.std.proofs.lemmas.Bool.{cases_lt, cases_eq, cond-false, ne_eqb}
+use Rattle.std.proofs.Common.{◌≡◌, ◌≢◌, ℕ, ◌+◌, ◌-◌, ◌<◌, ◌≤◌, List, [], ◌∷◌, ◌++◌, length, get_or, get_or-set_other, set, take, replicate, Option, Some, None, IfSome, is_some, unwrap_or, ◌==◌, nat_lt, if◌then◌else◌, true, refl, sym, ap, subst, ◌∙◌, inl, inr, arith}
+use Rattle.std.proofs.lemmas.Bool.{cases_lt, cases_eq, cond-false, ne_eqb, lt-ltb, le-ltb}
 use Rattle.std.proofs.lemmas.List.{length-set, length-replicate, get_or-take, get_or_past}
 use Rattle.std.specs.Prelude.{Bool, false}
 use Rattle.std.proofs.lemmas.List.FromFn.{fill_by_all, length-map-range_with_len, get_or-map-range_with_len}
@@ -102,6 +102,10 @@ stored_new s kept none empty = record { kept = kept; count = empty ∙ ap space_
 
 -- ---- sizes
 
+no_bytes : (b : Bool) → length {A = ℕ} (unwrap_or (if b then None else Some []) []) ≡ 0
+no_bytes true = refl
+no_bytes false = refl
+
 -- a chunk with bytes has a piece
 pub live_of : (s : Space) (i : ℕ) → IsKept s → i < s.slots → 0 < length (unwrap_or (chunk_under s.region (entry s.region i)) []) → 1 < entry s.region i
 live_of s i kept l some = elim (cases_lt 1 (entry s.region i)) [
@@ -133,17 +137,6 @@ size_small s i size kept l is = elim (cases_lt 1 (entry s.region i)) [
   none : (b : Bool) → IfSome (if b then None else Some 0) (λ m. m < 65536)
   none true = tt
   none false = omega arith
-
--- places are in the region
-pub place_small : (s : Space) (i offset : ℕ) → IsKept s → i < s.slots → Some offset ≡ offset_under (entry s.region i) → offset ≤ 65520
-unfolding offset_under
-place_small s i offset kept l is = elim (cases_lt 1 (entry s.region i)) [
-  | inl live ↦
-      let f = live_piece s kept i (entry s.region i) (word_in s.region (entry s.region i)) l live refl refl in
-      let there : Some offset ≡ Some (entry s.region i + 2) = is ∙ sym (offset_some (entry s.region i) live) in
-      let same : offset ≡ entry s.region i + 2 = cc in omega (arith, f.ends)
-  | inr dead ↦ let none : Some offset ≡ None = is ∙ sym (offset_none (entry s.region i) dead) in absurd (cc)
-]
 
 -- ---- what the chunks take
 
@@ -257,3 +250,31 @@ stored_written s u i w stored kept l total chunks live same =
     let here = chunk_in s.region s.slots i l in
     stored_set s u i (Some w) stored kept l chunks
     (omega (arith, slot_space-live (chunk_under s.region (entry s.region i)) w (ap is_some (sym here) ∙ live) (same ∙ ap (λ (o : Option (List ℕ)). length (unwrap_or o [])) here)))
+
+-- ---- places
+
+module _ (s : Space) (m : Stored) (i : ℕ) (stored : IsStored s) (is : store_of s.region s.slots ≡ m) (l : i < length m.chunks) (place : Option ℕ) (at : place ≡ offset_under (entry s.region i)) where
+  live_size : 1 < entry s.region i → length (unwrap_or (get_or m.chunks i None) []) ≡ word_in s.region (entry s.region i)
+  live_size live = sym (bytes_are s m i stored is l) ∙ size_is s i stored.kept (in_table s m i stored is l) live
+
+  dead_size : entry s.region i ≤ 1 → length (unwrap_or (get_or m.chunks i None) []) ≡ 0
+  dead_size dead = sym (bytes_are s m i stored is l) ∙ (ap (λ (o : Option (List ℕ)). length (unwrap_or o [])) (under_dead s.region (entry s.region i) dead) ∙ no_bytes (entry s.region i == 0))
+
+  pub place_is : place ≡ get_or m.offsets i None
+  place_is = at ∙ (sym (offset_in s.region s.slots i (in_table s m i stored is l)) ∙ ap (λ (os : List (Option ℕ)). get_or os i None) (shown s m is).offsets)
+
+  pub place_there : is_some place ≡ nat_lt 0 (length (unwrap_or (get_or m.chunks i None) []))
+  place_there = ap is_some at ∙ elim (cases_lt 1 (entry s.region i)) [
+    | inl live ↦
+        let f = live_piece s stored.kept i (entry s.region i) (word_in s.region (entry s.region i)) (in_table s m i stored is l) live refl refl in
+        ap is_some (sym (offset_some (entry s.region i) live)) ∙ sym (lt-ltb 0 (length (unwrap_or (get_or m.chunks i None) [])) (omega (arith, live_size live, f.some)))
+    | inr dead ↦ ap is_some (sym (offset_none (entry s.region i) dead)) ∙ sym (le-ltb 0 (length (unwrap_or (get_or m.chunks i None) [])) (omega (arith, dead_size dead)))
+  ]
+
+  pub place_within : IfSome place (λ n. n + length (unwrap_or (get_or m.chunks i None) []) ≤ 65520)
+  place_within = subst (λ (o : Option ℕ). IfSome o (λ n. n + length (unwrap_or (get_or m.chunks i None) []) ≤ 65520)) (sym at) (elim (cases_lt 1 (entry s.region i)) [
+    | inl live ↦
+        let f = live_piece s stored.kept i (entry s.region i) (word_in s.region (entry s.region i)) (in_table s m i stored is l) live refl refl in
+        subst (λ (o : Option ℕ). IfSome o (λ n. n + length (unwrap_or (get_or m.chunks i None) []) ≤ 65520)) (offset_some (entry s.region i) live) (omega (arith, live_size live, f.ends))
+    | inr dead ↦ subst (λ (o : Option ℕ). IfSome o (λ n. n + length (unwrap_or (get_or m.chunks i None) []) ≤ 65520)) (offset_none (entry s.region i) dead) tt
+  ])

@@ -1,9 +1,9 @@
-ghost use Rattle.std.specs.Prelude.{◌≡◌, ◌⊎◌, ◌+◌, ◌*◌, ◌≤◌, ◌<◌, ℕ, true, Some, None, IsTrue, IfOk, IfErr, MatchOption, length, map, drop, replicate};
+ghost use Rattle.std.specs.Prelude.{◌≡◌, ◌⊎◌, ◌+◌, ◌*◌, ◌≤◌, ◌<◌, ℕ, true, Some, None, IsTrue, IfOk, IfErr, MatchOption, is_some, nat_lt, length, map, drop, replicate};
 ghost use Rattle.std.specs.Borrow.{sem};
 ghost use Rattle.std.specs.List.{splice};
-ghost use Rattle.std.specs.Option.{option_map, option_copied};
+ghost use Rattle.std.specs.Option.{option_map, option_copied, IfSome};
 ghost use Rattle.std.specs.FinMap.{empty, get, insert, remove, keys, contains_key};
-ghost use Rattle.geos_model.specs.Heap.{ChunkMap, need, most_chunks, chunk_bytes, next_chunk, fits_new, fits_with, is_chunk_handle, is_heap_map, space_of, handle_of};
+ghost use Rattle.geos_model.specs.Heap.{ChunkMap, need, capacity, most_chunks, chunk_bytes, next_chunk, fits_new, fits_with, is_chunk_handle, is_heap_map, space_of, handle_of};
 ghost use Rattle.geos_model.specs.Bytes.{resized};
 ghost use Rattle.geos_model.specs.Image.{image};
 ghost use Rattle.geos_model.specs.declared.command.Body.TheVariants as bodies;
@@ -51,7 +51,7 @@ impl Heap {
 
     /// An empty heap.
     pub fn new(alloc: Global) -> Result<Heap, AllocError>
-        ensures { IfOk result (λ h. (h.chunks ≡ empty) × (h.places ≡ empty)) }
+        ensures { IfOk result (λ h. h.chunks ≡ empty) }
     {
         let table = Table::new(alloc)?;
         Ok(Heap {
@@ -187,9 +187,13 @@ impl Heap {
         self.table.pack();
     }
 
-    /// Where the bytes of a chunk lie in the region; None where there is no such chunk, or it has no bytes.
-    pub fn offset(&self, h: ChunkHandle) -> Option<u32>
-        ensures { result ≡ get self.now.places h.0 }
+    /// Where the bytes of a chunk stand in the heap's region; None where there is no such chunk, or it has no bytes. A call
+    /// that makes or resizes a chunk may move others, and so may `contract`. `free` moves none, nor does what is written
+    /// through `chunk_mut`.
+    pub fn offset(&self, h: ChunkHandle) -> Option<usize>
+        ensures place { result ≡ get self.now.places h.0 }
+        ensures there { is_some result ≡ nat_lt 0 (length (chunk_bytes self.now.chunks h.0)) }
+        ensures within { IfSome result (λ at. at + length (chunk_bytes self.now.chunks h.0) ≤ capacity) }
     {
         let i = slot_of(h, self.table.len())?;
         self.table.offset(i)

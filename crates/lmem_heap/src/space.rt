@@ -1,4 +1,4 @@
-ghost use Rattle.std.specs.Prelude.{◌≡◌, ◌+◌, ◌-◌, ◌*◌, ◌/◌, ◌≤◌, ◌<◌, ℕ, [], Some, None, IfOk, IfSome, MatchOption, replicate, take, set, length, get_or, unwrap_or, ◌++◌, ◌==◌, if◌then◌else◌};
+ghost use Rattle.std.specs.Prelude.{◌≡◌, ◌+◌, ◌-◌, ◌*◌, ◌/◌, ◌≤◌, ◌<◌, ℕ, [], Some, None, IfOk, IfSome, MatchOption, replicate, take, slice_range, set, length, get_or, unwrap_or, ◌++◌, ◌==◌, if◌then◌else◌};
 ghost use Rattle.lmem_heap.specs.Pieces.{word_in, entry, piece_space};
 ghost use Rattle.std.specs.Option.{option_map, option_copied};
 ghost use Rattle.geos_model.specs.Heap.{space_of};
@@ -392,7 +392,8 @@ impl Space {
     pub(crate) fn offset(&self, i: usize) -> Option<usize>
         requires kept { IsKept self.now }
         requires slot { i < length (chunks_in self.now.region self.now.slots) }
-        ensures { result ≡ offset_under (entry self.now.region i) }
+        ensures place { result ≡ offset_under (entry self.now.region i) }
+        ensures stands { IfSome result (λ p. get_or (chunks_in self.now.region self.now.slots) i None ≡ Some (slice_range self.now.region p (p + word_in self.now.region (entry self.now.region i)))) }
     {
         let p = word_in(&self.region, HEADER + 2 * i);
         if p > EMPTY { Some(p + 2) } else { None }

@@ -1,4 +1,4 @@
-ghost use Rattle.std.specs.Prelude.{◌≡◌, ◌+◌, ◌-◌, ◌≤◌, ◌<◌, ℕ, [], ◌++◌, Some, None, IfOk, IfSome, IsSome, length, replicate, take, set, get_or, unwrap_or, slice_range, is_some, true, ◌==◌, if◌then◌else◌};
+ghost use Rattle.std.specs.Prelude.{◌≡◌, ◌+◌, ◌-◌, ◌≤◌, ◌<◌, ℕ, [], ◌++◌, Some, None, IfOk, IfSome, IsSome, length, replicate, take, set, get_or, unwrap_or, slice_range, is_some, nat_lt, true, ◌==◌, if◌then◌else◌};
 ghost use Rattle.std.specs.Borrow.{sem};
 ghost use Rattle.std.specs.List.{splice};
 ghost use Rattle.std.specs.Option.{option_copied, option_map};
@@ -63,14 +63,13 @@ impl Table {
     }
 
     /// Where the bytes of a slot's chunk lie; None where it has none.
-    pub(crate) fn offset(&self, i: usize) -> Option<u32>
-        requires { i < length self.now.offsets }
-        ensures { result ≡ get_or self.now.offsets i None }
+    pub(crate) fn offset(&self, i: usize) -> Option<usize>
+        requires { i < length self.now.chunks }
+        ensures place { result ≡ get_or self.now.offsets i None }
+        ensures there { is_some result ≡ nat_lt 0 (length (unwrap_or (get_or self.now.chunks i None) [])) }
+        ensures within { IfSome result (λ at. at + length (unwrap_or (get_or self.now.chunks i None) []) ≤ 65520) }
     {
-        match self.space.offset(i) {
-            Some(offset) => Some(offset as u32),
-            None => None,
-        }
+        self.space.offset(i)
     }
 
     /// The bytes of a slot's chunk.

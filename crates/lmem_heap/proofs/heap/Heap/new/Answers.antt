@@ -4,4 +4,4 @@ use Rattle.geos_model.proofs.Tables.{table_map-nil}
 use Rattle.lmem_heap.proofs.heap.Heap.new.Goals as goal
 
 pub returns : goal.returns
-returns c = let e = c.in_ok-table.ensures in (ap (table_map 2 16) e.0 ∙ table_map-nil 2 16, ap (table_map 2 16) e.1 ∙ table_map-nil 2 16)
+returns c = ap (table_map 2 16) c.in_ok-table.ensures.0 ∙ table_map-nil 2 16

@@ -1,22 +1,15 @@
-use Rattle.std.proofs.Common.{◌<◌, sym, arith, ◌∙◌, ap, Option, List, ℕ, None, get_or}
-use Rattle.lmem_heap.proofs.Chunks.{length-chunks_in}
-use Rattle.lmem_heap.proofs.Shown.{shown, offset_in, place_small}
+use Rattle.std.proofs.Common.{◌<◌, arith}
+use Rattle.lmem_heap.proofs.Shown.{in_chunks, place_is, place_there, place_within}
 use Rattle.lmem_heap.proofs.table.Table.offset.Goals as goal
 
 pub offset-requires-clause-slot : goal.offset-requires-clause-slot
-offset-requires-clause-slot c = let s = c.self.inside.space in omega (arith, (shown s c.args.self.now c.self.view_is).count_offsets, length-chunks_in s.region s.slots)
+offset-requires-clause-slot c = in_chunks c.self.inside.space c.args.self.now c.args.i c.self.invariant c.self.view_is c.requires
 
-pub overflow_cast-result : goal.overflow_cast-result
-overflow_cast-result c =
-    let s = c.self.inside.space in let l : c.args.i < s.slots = omega (arith, (shown s c.args.self.now c.self.view_is).count_offsets) in
-    omega (arith, place_small s c.args.i c.in-Some.offset c.self.invariant.kept l c.in-Some.ensures)
+pub returns-clause-place : goal.returns-clause-place
+returns-clause-place c = place_is c.self.inside.space c.args.self.now c.args.i c.self.invariant c.self.view_is c.requires c.offset.result c.offset.ensures.place
 
-pub returns-in-Some : goal.returns-in-Some
-returns-in-Some c =
-    let s = c.self.inside.space in let v = shown s c.args.self.now c.self.view_is in
-    c.in-Some.ensures ∙ (sym (offset_in s.region s.slots c.args.i (omega (arith, v.count_offsets))) ∙ ap (λ (os : List (Option ℕ)). get_or os c.args.i None) v.offsets)
+pub returns-clause-there : goal.returns-clause-there
+returns-clause-there c = place_there c.self.inside.space c.args.self.now c.args.i c.self.invariant c.self.view_is c.requires c.offset.result c.offset.ensures.place
 
-pub returns-in-None : goal.returns-in-None
-returns-in-None c =
-    let s = c.self.inside.space in let v = shown s c.args.self.now c.self.view_is in
-    c.in-None.ensures ∙ (sym (offset_in s.region s.slots c.args.i (omega (arith, v.count_offsets))) ∙ ap (λ (os : List (Option ℕ)). get_or os c.args.i None) v.offsets)
+pub returns-clause-within : goal.returns-clause-within
+returns-clause-within c = place_within c.self.inside.space c.args.self.now c.args.i c.self.invariant c.self.view_is c.requires c.offset.result c.offset.ensures.place
