@@ -167,3 +167,20 @@ fn the_last_handle_freed_gives_its_table_back(rt: HostRuntime) -> Result<(), Fai
     assert!(rt; is_all(&heap, ChunkHandle(18), 65_498, 7));
     Ok(())
 }
+
+#[test]
+fn a_freed_chunk_leaves_the_others_where_they_lie(rt: HostRuntime) -> Result<(), Fail> {
+    let mut heap = Heap::new(rt.alloc())?;
+    assert!(rt; heap.fits_alloc(4));
+    let first = heap.alloc(4);
+    assert!(rt; heap.fits_alloc(4));
+    let second = heap.alloc(4);
+    assert!(rt; heap.fits_alloc(4));
+    let third = heap.alloc(4);
+    let places = [heap.offset(second), heap.offset(third)];
+    assert!(rt; places[0].is_some() && places[1].is_some());
+    assert!(rt; heap.chunk(first).is_some());
+    heap.free(first);
+    assert_eq!(rt; [heap.offset(second), heap.offset(third)], places);
+    Ok(())
+}
