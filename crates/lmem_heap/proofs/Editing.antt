@@ -1,7 +1,7 @@
 -- Some pieces in a row are replaced by others of the same space.
 use Rattle.std.proofs.Common.{◌≡◌, ◌≢◌, ℕ, ◌+◌, ◌*◌, ◌<◌, ◌≤◌, ◌⊎◌, List, [], ◌∷◌, ◌++◌, length, set, get_or-set_other, Option, Some, None, ◌==◌, if◌then◌else◌, refl, sym, ap, subst, ◌∙◌, inl, inr, arith}
 use Rattle.std.proofs.lemmas.Bool.{cases_eq, cond-false, ne_eqb}
-use Rattle.lmem_heap.specs.Pieces.{word_in, entry, piece_space, Piece, Used, Free, size_head, Lies, Points, AllShaped, IsFresh, AreDistinct, used, spaces, place_of}
+use Rattle.lmem_heap.specs.Pieces.{word_in, entry, piece_space, Piece, Used, Free, size_head, Lies, Points, AllShaped, IsFresh, AreDistinct, frees, used, spaces, place_of}
 use Rattle.lmem_heap.specs.Edits.{Same}
 use Rattle.lmem_heap.specs.Tiled.{IsTiled, chunk_under, chunks_in, chunk_at}
 use Rattle.lmem_heap.specs.Kept.{IsSpareAt, AreSpare, IsChain, IsOther}
@@ -210,6 +210,15 @@ pub used_append : (cs ds : List Piece) → spaces (used (cs ++ ds)) ≡ spaces (
 used_append [] ds = omega arith
 used_append (Used i b ∷ cs) ds = omega (arith, used_append cs ds)
 used_append (Free s ∷ cs) ds = used_append cs ds
+
+frees_append : (cs ds : List Piece) → frees (cs ++ ds) ≡ frees cs + frees ds
+frees_append [] ds = omega arith
+frees_append (Used i b ∷ cs) ds = frees_append cs ds
+frees_append (Free s ∷ cs) ds = omega (arith, frees_append cs ds)
+
+-- how many pieces are free
+pub frees_edited : (a old new d : List Piece) → frees (a ++ (new ++ d)) + frees old ≡ frees (a ++ (old ++ d)) + frees new
+frees_edited a old new d = omega (arith, frees_append a (new ++ d), frees_append new d, frees_append a (old ++ d), frees_append old d)
 
 pub count_edited : (a old new d : List Piece) → spaces (used (a ++ (new ++ d))) + spaces (used old) ≡ spaces (used (a ++ (old ++ d))) + spaces (used new)
 count_edited a old new d = omega (arith, used_append a (new ++ d), used_append new d, used_append a (old ++ d), used_append old d)

@@ -7,7 +7,7 @@ use Rattle.lmem_heap.specs.declared.space.Space.{Space}
 use Rattle.lmem_heap.specs.Pieces.{word_in, entry, piece_space, Piece, Used, Free, size_head, Lies, IsFresh, spaces}
 use Rattle.lmem_heap.specs.Edits.{Same, IsSet, IsCopied}
 use Rattle.lmem_heap.specs.Tiled.{IsTiled, chunk_under, chunks_in}
-use Rattle.lmem_heap.specs.Kept.{IsSpareAt, IsOther, IsHeld, IsKept, IsLoose, HasNext, IsStill, IsReady, IsResized}
+use Rattle.lmem_heap.specs.Kept.{IsSpareAt, IsOther, IsHeld, IsSpaced, IsLoose, HasNext, IsStill, IsReady, IsResized}
 use Rattle.lmem_heap.proofs.Writes.{word_kept, entry_kept, entry_set, entry_other, set_before, set_behind}
 use Rattle.lmem_heap.proofs.Tiles.{lies_split, shaped_split, fresh_append, fresh_split}
 use Rattle.lmem_heap.proofs.Chunks.{piece_chunk, piece_others, chunk_in}
@@ -19,13 +19,13 @@ use Rattle.lmem_heap.proofs.Shown.{live_of, size_is}
 use Rattle.lmem_heap.proofs.Sizing.{count_resized, resized_front, resized_zeros, held_edited}
 
 -- a free piece that the list lacks, by its place
-pub loose_at : (u : Space) (p room : ℕ) (cs : List Piece) (fs : List ℕ) → IsHeld u cs fs → IsSpareAt u.low cs p → IsOther p fs → word_in u.region p ≡ room + 1 → IsLoose u p room
+pub loose_at : (u : Space) (p room : ℕ) (cs : List Piece) (fs : List ℕ) → IsHeld u cs fs 1 → IsSpareAt u.low cs p → IsOther p fs → word_in u.region p ≡ room + 1 → IsLoose u p room
 loose_at u p room cs fs held spare other word =
     let r = spare_split u.low cs p spare in
-    let h : IsHeld u (r.before ++ (Free r.room ∷ r.after)) fs = subst (λ (ds : List Piece). IsHeld u ds fs) (sym r.is) held in
+    let h : IsHeld u (r.before ++ (Free r.room ∷ r.after)) fs 1 = subst (λ (ds : List Piece). IsHeld u ds fs 1) (sym r.is) held in
     let F = free_facts u.region u.slots u.low p r.room r.before r.after h.tiled r.place in
     let same : r.room ≡ room = omega (arith, F.0) in
-    record { before = r.before; after = r.after; free = fs; held = subst (λ (n : ℕ). IsHeld u (r.before ++ (Free n ∷ r.after)) fs) same h; place = r.place; other = other }
+    record { before = r.before; after = r.after; free = fs; held = subst (λ (n : ℕ). IsHeld u (r.before ++ (Free n ∷ r.after)) fs 1) same h; place = r.place; other = other }
 
 -- a free piece ends where the pieces do, or before
 spare_ends : (xs : List ℕ) (p : ℕ) (cs : List Piece) (r f : ℕ) → Lies size_head xs p cs r → IsSpareAt p cs f → f + word_in xs f ≤ p + spaces cs + 1
@@ -71,7 +71,7 @@ module _ (s : Space) (q room : ℕ) (f : IsLoose s q room) (ys : List ℕ) (long
     before = f.before;
     after = f.after;
     free = f.free;
-    held = held_edited s ys s.slots q f.before (Free room ∷ []) (Free room ∷ []) f.after f.free f.held f.place over_edit front_fresh back_fresh over_links s.total refl;
+    held = held_edited s ys s.slots q f.before (Free room ∷ []) (Free room ∷ []) f.after f.free f.held f.place over_edit front_fresh back_fresh over_links s.total refl 1 refl;
     place = f.place;
     other = f.other;
   }
@@ -85,7 +85,7 @@ module _ (s : Space) (q room : ℕ) (f : IsLoose s q room) (ys : List ℕ) (long
   }
 
 -- the bytes of a chunk
-module _ (s : Space) (k : IsKept s) (ys : List ℕ) (i p q size n : ℕ) (g : IsLivePiece s k i p size) (within : i < s.slots) (copied : IsCopied s.region ys p q size n) where
+module _ {loose : ℕ} (s : Space) (k : IsSpaced s loose) (ys : List ℕ) (i p q size n : ℕ) (g : IsLivePiece s k i p size) (within : i < s.slots) (copied : IsCopied s.region ys p q size n) where
   bytes_at : (j : ℕ) → j < size → get_or s.region (p + 2 + j) 0 ≡ get_or g.bytes j 0
   bytes_at j l =
       let parts = (lies_split size_head s.region s.low g.before (Used i g.bytes ∷ g.after) 65520 g.held.tiled.lies).1 in
@@ -102,7 +102,7 @@ module _ (s : Space) (k : IsKept s) (ys : List ℕ) (i p q size n : ℕ) (g : Is
 
 -- ---- the pieces are exchanged
 
-module _ (s : Space) (i p q size n room h : ℕ) (f : IsLoose s q room) (g : IsLivePiece s (record { pieces = f.before ++ (Free room ∷ f.after); free = f.free; held = f.held }) i p size) (within : i < s.slots) (some : 0 < n) (takes : room ≡ piece_space n)
+module _ (s : Space) (i p q size n room h : ℕ) (f : IsLoose s q room) (g : IsLivePiece {loose = 1} s (record { pieces = f.before ++ (Free room ∷ f.after); free = f.free; held = f.held }) i p size) (within : i < s.slots) (some : 0 < n) (takes : room ≡ piece_space n)
     (ready : (k : ℕ) → k < n → get_or s.region (q + 2 + k) 0 ≡ get_or (resized g.bytes n) k 0) (v1 y1 v2 y2 : List ℕ) (head1 : IsSet s.region v1 p (piece_space size + 1)) (none : IsSet v1 y1 h 0) (head2 : IsSet y1 v2 q n) (own : IsSet v2 y2 h q) (here : h ≡ 16 + 2 * i) where
   abbrev s1 : Space
   s1 = record { region = y1; slots = s.slots; low = s.low; head = s.head; total = s.total - piece_space size }
@@ -130,13 +130,13 @@ module _ (s : Space) (i p q size n room h : ℕ) (f : IsLoose s q room) (g : IsL
 
   -- p becomes free
   edit1 : IsEdit s.region y1 s.slots i s.low p (Used i g.bytes ∷ []) (Free (piece_space size) ∷ [])
-  edit1 = free_edit s (record { pieces = f.before ++ (Free room ∷ f.after); free = f.free; held = f.held }) v1 y1 p i size 0 h g within (omega arith) head1 none here
+  edit1 = free_edit {loose = 1} s (record { pieces = f.before ++ (Free room ∷ f.after); free = f.free; held = f.held }) v1 y1 p i size 0 h g within (omega arith) head1 none here
 
   links1 : Each (IsLinkKept s.region y1 p (Used i g.bytes ∷ []) (Free (piece_space size) ∷ [])) f.free
   links1 = each_all (IsLinkKept s.region y1 p (Used i g.bytes ∷ []) (Free (piece_space size) ∷ [])) (λ m l. absurd l) f.free
 
-  held1 : IsHeld s1 (g.before ++ (Free (piece_space size) ∷ g.after)) f.free
-  held1 = held_edited s y1 i p g.before (Used i g.bytes ∷ []) (Free (piece_space size) ∷ []) g.after f.free g.held g.place edit1 others.0 others.1 links1 (s.total - piece_space size) (omega (arith, g.less, g.size))
+  held1 : IsHeld s1 (g.before ++ (Free (piece_space size) ∷ g.after)) f.free 2
+  held1 = held_edited s y1 i p g.before (Used i g.bytes ∷ []) (Free (piece_space size) ∷ []) g.after f.free g.held g.place edit1 others.0 others.1 links1 (s.total - piece_space size) (omega (arith, g.less, g.size)) 2 refl
 
   G : (word_in y1 p ≡ piece_space size + 1) × (p + piece_space size ≤ 65520) × (4 ≤ piece_space size) × (16 + 2 * s.slots ≤ p) × (piece_space size ≡ 4 * (piece_space size / 4))
   G = free_facts y1 s.slots s.low p (piece_space size) g.before g.after held1.tiled g.place
@@ -163,8 +163,8 @@ module _ (s : Space) (i p q size n room h : ℕ) (f : IsLoose s q room) (g : IsL
   there : split1.before ++ (Free room ∷ split1.after) ≡ g.before ++ (Free (piece_space size) ∷ g.after)
   there = ap (λ (m : ℕ). split1.before ++ (Free m ∷ split1.after)) (sym room1) ∙ split1.is
 
-  held_q : IsHeld s1 (split1.before ++ (Free room ∷ split1.after)) f.free
-  held_q = subst (λ (cs : List Piece). IsHeld s1 cs f.free) (sym there) held1
+  held_q : IsHeld s1 (split1.before ++ (Free room ∷ split1.after)) f.free 2
+  held_q = subst (λ (cs : List Piece). IsHeld s1 cs f.free 2) (sym there) held1
 
   fresh_q : IsFresh i split1.before × IsFresh i split1.after
   fresh_q = fresh_split i split1.before (Free room ∷ split1.after) (subst (IsFresh i) (sym there) (fresh_append i g.before (Free (piece_space size) ∷ g.after) others.0 others.1))
@@ -202,8 +202,8 @@ module _ (s : Space) (i p q size n room h : ℕ) (f : IsLoose s q room) (g : IsL
   links2 : Each (IsLinkKept y1 y2 q (Free room ∷ []) (Used i (resized g.bytes n) ∷ [])) f.free
   links2 = each_other (IsLinkKept y1 y2 q (Free room ∷ []) (Used i (resized g.bytes n) ∷ [])) q (λ m ne l. elim l [ inl same ↦ absurd (ne (sym same)) | inr not ↦ absurd not ]) f.free f.other
 
-  held2 : IsHeld s2 (split1.before ++ (Used i (resized g.bytes n) ∷ split1.after)) f.free
-  held2 = held_edited s1 y2 i q split1.before (Free room ∷ []) (Used i (resized g.bytes n) ∷ []) split1.after f.free held_q split1.place edit2 fresh_q.0 fresh_q.1 links2 (s.total - piece_space size + piece_space n) (omega (arith, ap piece_space count))
+  held2 : IsHeld s2 (split1.before ++ (Used i (resized g.bytes n) ∷ split1.after)) f.free 1
+  held2 = held_edited s1 y2 i q split1.before (Free room ∷ []) (Used i (resized g.bytes n) ∷ []) split1.after f.free held_q split1.place edit2 fresh_q.0 fresh_q.1 links2 (s.total - piece_space size + piece_space n) (omega (arith, ap piece_space count)) 1 refl
 
   -- p is still free
   spare_p : IsSpareAt s.low (split1.before ++ (Used i (resized g.bytes n) ∷ split1.after)) p
@@ -242,7 +242,7 @@ module _ (s : Space) (i p q size n room h : ℕ) (f : IsLoose s q room) (g : IsL
 -- ---- one after the other
 
 -- a chunk with bytes keeps its size where the chunks are the same
-pub same_size : (s u : Space) (i : ℕ) → IsKept s → IsKept u → u.slots ≡ s.slots → chunks_in u.region u.slots ≡ chunks_in s.region s.slots → i < s.slots → 1 < entry s.region i
+pub same_size : {a b : ℕ} (s u : Space) (i : ℕ) → IsSpaced s a → IsSpaced u b → u.slots ≡ s.slots → chunks_in u.region u.slots ≡ chunks_in s.region s.slots → i < s.slots → 1 < entry s.region i
     → (1 < entry u.region i) × (word_in u.region (entry u.region i) ≡ word_in s.region (entry s.region i))
 same_size s u i kept_s kept_u slots chunks l live =
     let b = chunk_under s.region (entry s.region i) in
@@ -261,8 +261,8 @@ resized_from s u v w i n slots total chunks size r slots_w total_w chunks_w = re
   total = omega (arith, r.total, ap piece_space size);
 }
 
-pub loose_kept : (s : Space) (p room : ℕ) → IsLoose s p room → IsKept s
+pub loose_kept : (s : Space) (p room : ℕ) → IsLoose s p room → IsSpaced s 1
 loose_kept s p room f = record { pieces = f.before ++ (Free room ∷ f.after); free = f.free; held = f.held }
 
-pub next_kept : (s : Space) (i room : ℕ) → HasNext s i room → IsKept s
+pub next_kept : (s : Space) (i room : ℕ) → HasNext s i room → IsSpaced s 1
 next_kept s i room h = record { pieces = h.before ++ (Used i h.bytes ∷ (Free room ∷ h.after)); free = h.free; held = h.held }

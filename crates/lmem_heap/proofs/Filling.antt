@@ -8,12 +8,12 @@ use Rattle.lmem_heap.specs.declared.space.Space.{Space}
 use Rattle.lmem_heap.specs.Pieces.{word_in, entry, piece_space, Piece, Used, Free, size_head, AllShaped, IsFresh, spaces}
 use Rattle.lmem_heap.specs.Edits.{Same, IsSet, IsZeroed}
 use Rattle.lmem_heap.specs.Tiled.{IsTiled, chunk_under, chunks_in}
-use Rattle.lmem_heap.specs.Kept.{AreSpare, IsOther, IsHeld, IsKept, IsLoose, IsChanged}
+use Rattle.lmem_heap.specs.Kept.{AreSpare, IsOther, IsHeld, IsSpaced, IsKept, IsLoose, IsChanged}
 use Rattle.lmem_heap.proofs.Writes.{word_kept, entry_kept, entry_set, entry_other, set_before, set_behind, same_same}
 use Rattle.lmem_heap.proofs.Tiles.{lies_end, shaped_split, fresh_split}
 use Rattle.lmem_heap.proofs.Trades.{HasSlot, slot_in}
 use Rattle.lmem_heap.proofs.Chunks.{piece_place, piece_size, piece_ends, piece_chunk, piece_others, under_dead, chunk_in}
-use Rattle.lmem_heap.proofs.Editing.{IsEdit, edited, edited_set, spare_bounds, spare_parts, spares_edited, chain_edited, Each, each_all, each_other, IsLinkKept, count_edited}
+use Rattle.lmem_heap.proofs.Editing.{IsEdit, edited, edited_set, spare_bounds, spare_parts, spares_edited, chain_edited, Each, each_all, each_other, IsLinkKept, count_edited, frees_edited}
 use Rattle.lmem_heap.proofs.Raising.{used_le}
 use Rattle.lmem_heap.proofs.Rooms.{free_facts}
 
@@ -25,7 +25,7 @@ dead_fresh xs t low cs i tiled dead = elim (slot_in i cs) [
 ]
 
 -- what the chunks take
-pub total_small : (s : Space) (cs : List Piece) (fs : List ℕ) → IsHeld s cs fs → s.low + s.total ≤ 65520
+pub total_small : {loose : ℕ} (s : Space) (cs : List Piece) (fs : List ℕ) → IsHeld s cs fs loose → s.low + s.total ≤ 65520
 total_small s cs fs h = omega (arith, h.count, used_le cs, lies_end size_head s.region s.low cs 65520 h.tiled.lies)
 
 -- one with bytes has
@@ -93,6 +93,7 @@ module _ (s : Space) (us vs ys : List ℕ) (p i n h : ℕ) (f : IsLoose s p (pie
           chain = chain_edited s.region ys s.slots i s.low p f.before old new f.after f.held.tiled f.place fill_edit fresh_parts.0 fresh_parts.1 s.head f.free fill_links f.held.spare f.held.chain;
           spare = spares_edited s.region ys s.slots i s.low p f.before old new f.after f.held.tiled f.place fill_edit fresh_parts.0 fresh_parts.1 f.free fill_links f.held.spare;
           apart = f.held.apart;
+          all = omega (arith, f.held.all, frees_edited f.before old new f.after);
           count = omega (arith, f.held.count, count_edited f.before old new f.after, count);
         };
       }
@@ -120,12 +121,12 @@ used_other limit low p i b a d shaped at (f ∷ fs) h =
     )
 
 -- what is known of the piece of a slot with bytes
-pub record IsLivePiece (s : Space) (k : IsKept s) (i p n : ℕ) : Type 0 where
+pub record IsLivePiece {loose : ℕ} (s : Space) (k : IsSpaced s loose) (i p n : ℕ) : Type 0 where
   pub before : List Piece
   pub bytes : List ℕ
   pub after : List Piece
   pub split : before ++ (Used i bytes ∷ after) ≡ k.pieces
-  pub held : IsHeld s (before ++ (Used i bytes ∷ after)) k.free
+  pub held : IsHeld s (before ++ (Used i bytes ∷ after)) k.free loose
   pub place : p ≡ s.low + spaces before
   pub is : p ≡ entry s.region i
   pub size : n ≡ length bytes
@@ -134,12 +135,12 @@ pub record IsLivePiece (s : Space) (k : IsKept s) (i p n : ℕ) : Type 0 where
   pub table : 16 + 2 * s.slots ≤ p
   pub less : piece_space n ≤ s.total
 
-pub live_piece : (s : Space) (k : IsKept s) (i p n : ℕ) → i < s.slots → 1 < entry s.region i → p ≡ entry s.region i → n ≡ word_in s.region p → IsLivePiece s k i p n
-live_piece s k i p n l live is value =
+pub live_piece : {loose : ℕ} (s : Space) (k : IsSpaced s loose) (i p n : ℕ) → i < s.slots → 1 < entry s.region i → p ≡ entry s.region i → n ≡ word_in s.region p → IsLivePiece s k i p n
+live_piece {loose = loose} s k i p n l live is value =
     let h = live_slot s.region s.slots s.low k.pieces i k.held.tiled l live in let a = h.before in let b = h.bytes in let d = h.after in
     let at = is ∙ piece_place s.region s.slots s.low k.pieces k.held.tiled i a b d h.is in
     let size : n ≡ length b = value ∙ (ap (λ (m : ℕ). word_in s.region m) is ∙ piece_size s.region s.slots s.low k.pieces k.held.tiled i a b d h.is) in
-    let held : IsHeld s (a ++ (Used i b ∷ d)) k.free = subst (λ (cs : List Piece). IsHeld s cs k.free) (sym h.is) k.held in
+    let held : IsHeld s (a ++ (Used i b ∷ d)) k.free loose = subst (λ (cs : List Piece). IsHeld s cs k.free loose) (sym h.is) k.held in
     let shape = (shaped_split (16 + 2 * s.slots) a (Used i b ∷ d) held.tiled.shaped).1.0 in
     let ends = piece_ends s.region s.slots s.low k.pieces k.held.tiled i a b d h.is in let table = held.tiled.table in
     let sum = count_edited a (Used i b ∷ []) [] d in
@@ -158,7 +159,7 @@ live_piece s k i p n l live is value =
       less = omega (arith, held.count);
     }
 
-module _ (s : Space) (k : IsKept s) (vs ys : List ℕ) (p i n e h : ℕ) (f : IsLivePiece s k i p n) (within : i < s.slots) (dead : e ≤ 1)
+module _ {loose : ℕ} (s : Space) (k : IsSpaced s loose) (vs ys : List ℕ) (p i n e h : ℕ) (f : IsLivePiece s k i p n) (within : i < s.slots) (dead : e ≤ 1)
     (head : IsSet s.region vs p (piece_space n + 1)) (written : IsSet vs ys h e) (here : h ≡ 16 + 2 * i) where
   room : ℕ
   room = piece_space n
@@ -187,22 +188,16 @@ module _ (s : Space) (k : IsKept s) (vs ys : List ℕ) (p i n e h : ℕ) (f : Is
   free_links : Each (IsLinkKept s.region ys p (Used i f.bytes ∷ []) (Free (piece_space n) ∷ [])) k.free
   free_links = each_all (IsLinkKept s.region ys p (Used i f.bytes ∷ []) (Free (piece_space n) ∷ [])) (λ g l. absurd l) k.free
 
-  pub released : IsLoose (record { region = ys; slots = s.slots; low = s.low; head = s.head; total = s.total - piece_space n }) p (piece_space n)
-  released =
+  pub released_held : IsHeld (record { region = ys; slots = s.slots; low = s.low; head = s.head; total = s.total - piece_space n }) (f.before ++ (Free (piece_space n) ∷ f.after)) k.free (loose + 1)
+  released_held =
       let old = Used i f.bytes ∷ [] in let new = Free (piece_space n) ∷ [] in
       record {
-        before = f.before;
-        after = f.after;
-        free = k.free;
-        held = record {
-          tiled = edited s.region ys s.slots i s.low p f.before old new f.after f.held.tiled f.place free_edit others.0 others.1;
-          chain = chain_edited s.region ys s.slots i s.low p f.before old new f.after f.held.tiled f.place free_edit others.0 others.1 s.head k.free free_links f.held.spare f.held.chain;
-          spare = spares_edited s.region ys s.slots i s.low p f.before old new f.after f.held.tiled f.place free_edit others.0 others.1 k.free free_links f.held.spare;
-          apart = f.held.apart;
-          count = omega (arith, f.held.count, f.size, count_edited f.before old new f.after);
-        };
-        place = f.place;
-        other = used_other (16 + 2 * s.slots) s.low p i f.bytes f.before f.after f.held.tiled.shaped f.place k.free f.held.spare;
+        tiled = edited s.region ys s.slots i s.low p f.before old new f.after f.held.tiled f.place free_edit others.0 others.1;
+        chain = chain_edited s.region ys s.slots i s.low p f.before old new f.after f.held.tiled f.place free_edit others.0 others.1 s.head k.free free_links f.held.spare f.held.chain;
+        spare = spares_edited s.region ys s.slots i s.low p f.before old new f.after f.held.tiled f.place free_edit others.0 others.1 k.free free_links f.held.spare;
+        apart = f.held.apart;
+        all = omega (arith, f.held.all, frees_edited f.before old new f.after);
+        count = omega (arith, f.held.count, f.size, count_edited f.before old new f.after);
       }
 
   pub release_changed : IsChanged s (record { region = ys; slots = s.slots; low = s.low; head = s.head; total = s.total - piece_space n }) i (if e == 0 then None else Some [])
@@ -214,6 +209,17 @@ module _ (s : Space) (k : IsKept s) (vs ys : List ℕ) (p i n e h : ℕ) (f : Is
         chunks = edited_set s.region ys s.slots i s.low p f.before (Used i f.bytes ∷ []) (Free (piece_space n) ∷ []) f.after f.held.tiled f.place free_edit others.0 others.1 within
             ∙ ap (λ (c : Option (List ℕ)). set (chunks_in s.region s.slots) i c) (ap (chunk_under ys) is ∙ under_dead ys e dead);
       }
+
+pub released : (s : Space) (k : IsKept s) (vs ys : List ℕ) (p i n e h : ℕ) (f : IsLivePiece s k i p n) → i < s.slots → e ≤ 1 → IsSet s.region vs p (piece_space n + 1) → IsSet vs ys h e → h ≡ 16 + 2 * i
+    → IsLoose (record { region = ys; slots = s.slots; low = s.low; head = s.head; total = s.total - piece_space n }) p (piece_space n)
+released s k vs ys p i n e h f within dead head written here = record {
+  before = f.before;
+  after = f.after;
+  free = k.free;
+  held = released_held s k vs ys p i n e h f within dead head written here;
+  place = f.place;
+  other = used_other (16 + 2 * s.slots) s.low p i f.bytes f.before f.after f.held.tiled.shaped f.place k.free f.held.spare;
+}
 
 -- ---- the entry of a slot with no bytes
 
@@ -253,6 +259,7 @@ module _ (s : Space) (k : IsKept s) (ys : List ℕ) (i e h : ℕ) (within : i < 
       chain = chain_edited s.region ys s.slots i s.low s.low [] [] [] k.pieces k.held.tiled start dead_edit tt dead_other s.head k.free dead_links k.held.spare k.held.chain;
       spare = k.held.spare;
       apart = k.held.apart;
+      all = k.held.all;
       count = k.held.count;
     };
   }
@@ -268,7 +275,7 @@ module _ (s : Space) (k : IsKept s) (ys : List ℕ) (i e h : ℕ) (within : i < 
 -- ---- sizes
 
 -- a slot's chunk by its entry: none, an empty one, or that of a piece
-pub size_live : (s : Space) (k : IsKept s) (i : ℕ) → i < s.slots → 1 < entry s.region i → option_map (length {A = ℕ}) (chunk_under s.region (entry s.region i)) ≡ Some (word_in s.region (entry s.region i))
+pub size_live : {loose : ℕ} (s : Space) (k : IsSpaced s loose) (i : ℕ) → i < s.slots → 1 < entry s.region i → option_map (length {A = ℕ}) (chunk_under s.region (entry s.region i)) ≡ Some (word_in s.region (entry s.region i))
 size_live s k i l live =
     let h = live_slot s.region s.slots s.low k.pieces i k.held.tiled l live in let a = h.before in let b = h.bytes in let d = h.after in
     ap (option_map (length {A = ℕ})) (piece_chunk s.region s.slots s.low k.pieces k.held.tiled i a b d h.is) ∙ ap Some (sym (piece_size s.region s.slots s.low k.pieces k.held.tiled i a b d h.is))
@@ -277,10 +284,10 @@ pub size_dead : (xs : List ℕ) (e : ℕ) → e ≤ 1 → option_map (length {A 
 size_dead xs e dead = ap (option_map (length {A = ℕ})) (under_dead xs e dead) ∙ elim (e == 0) as (λ v. option_map (length {A = ℕ}) (if v then None else Some []) ≡ (if v then None else Some 0)) [ true ↦ refl | false ↦ refl ]
 
 -- what a slot's chunk takes
-pub space_live : (s : Space) (k : IsKept s) (i : ℕ) → i < s.slots → 1 < entry s.region i → slot_space (chunk_under s.region (entry s.region i)) ≡ piece_space (word_in s.region (entry s.region i))
-space_live s k i l live =
+pub space_live : {loose : ℕ} (s : Space) (k : IsSpaced s loose) (i : ℕ) → i < s.slots → 1 < entry s.region i → slot_space (chunk_under s.region (entry s.region i)) ≡ piece_space (word_in s.region (entry s.region i))
+space_live {loose = loose} s k i l live =
     let h = live_slot s.region s.slots s.low k.pieces i k.held.tiled l live in let a = h.before in let b = h.bytes in let d = h.after in
-    let held : IsHeld s (a ++ (Used i b ∷ d)) k.free = subst (λ (cs : List Piece). IsHeld s cs k.free) (sym h.is) k.held in
+    let held : IsHeld s (a ++ (Used i b ∷ d)) k.free loose = subst (λ (cs : List Piece). IsHeld s cs k.free loose) (sym h.is) k.held in
     let shape = (shaped_split (16 + 2 * s.slots) a (Used i b ∷ d) held.tiled.shaped).1.0 in
     ap slot_space (piece_chunk s.region s.slots s.low k.pieces k.held.tiled i a b d h.is)
     ∙ (cond-false (length b == 0) 0 (piece_space (length b)) (ne_eqb (length b) 0 (omega (arith, shape.0))) ∙ ap piece_space (sym (piece_size s.region s.slots s.low k.pieces k.held.tiled i a b d h.is)))

@@ -7,9 +7,9 @@ use Rattle.lmem_heap.proofs.Writes.{word_kept, entry_kept}
 use Rattle.lmem_heap.proofs.Tiles.{fits_in, spaces_append, lies_end, lies_append, lies_split, points_append, points_split, shaped_append, shaped_split, fresh_append, fresh_split, lies_kept}
 use Rattle.lmem_heap.proofs.Trades.{slot_in}
 use Rattle.lmem_heap.proofs.Chunks.{at_slot, piece_others, same_chunks}
-use Rattle.lmem_heap.proofs.Editing.{distinct_edit, at_after, count_edited}
+use Rattle.lmem_heap.proofs.Editing.{distinct_edit, at_after, spare_bounds, count_edited, frees_edited}
 use Rattle.lmem_heap.specs.declared.space.Space.{Space}
-use Rattle.lmem_heap.specs.Kept.{IsKept, HasNext}
+use Rattle.lmem_heap.specs.Kept.{AreSpare, IsChain, IsHeld, IsKept, HasNext}
 use Rattle.lmem_heap.proofs.Filling.{IsLivePiece, live_piece}
 
 -- a block that goes down
@@ -132,6 +132,14 @@ module _ (xs us vs ys : List ℕ) (t low room i end : ℕ) (a : List Piece) (b :
   pub gap_place : i < t → entry xs i < end → 1 < entry xs i → entry ys i + room ≡ entry xs i
   gap_place l below live = (lowered.each i l).low (omega (arith, same_entries i l)) (omega (arith, same_entries i l)) ∙ same_entries i l
 
+-- no list begins at 0
+no_list : {loose : ℕ} (s : Space) (cs : List Piece) (fs : List ℕ) → IsHeld s cs fs loose → s.head ≡ 0 → length fs ≡ 0
+no_list s cs fs h none = first fs h.chain h.spare where
+  first : (gs : List ℕ) → IsChain s.region s.head gs → AreSpare s.low cs gs → length gs ≡ 0
+  first [] c sp = refl
+  first (g ∷ gs) c sp =
+      let b = spare_bounds (16 + 2 * s.slots) s.low cs g h.tiled.shaped sp.0 in let table = h.tiled.table in absurd (omega (arith, b.0, c.0))
+
 -- a space with no list
 module _ (s : Space) (k : IsKept s) (us vs ys : List ℕ) (i p n room : ℕ) (none : s.head ≡ 0) (f : IsLivePiece s k i p n) (within : i < s.slots)
     (some : 0 < room) (whole : room ≡ 4 * (room / 4)) (fits : table_end s.slots + room ≤ s.low)
@@ -152,6 +160,7 @@ module _ (s : Space) (k : IsKept s) (us vs ys : List ℕ) (i p n room : ℕ) (no
           chain = none;
           spare = tt;
           apart = tt;
+          all = omega (arith, f.held.all, no_list s k.pieces k.free k.held none, frees_edited f.before one (Used i f.bytes ∷ (Free room ∷ [])) f.after);
           count = omega (arith, f.held.count, count_edited f.before one (Used i f.bytes ∷ (Free room ∷ [])) f.after);
         };
         other = tt;

@@ -15,7 +15,7 @@ use Rattle.geos_model.proofs.HeapTables.{space-same}
 use Rattle.lmem_heap.specs.declared.space.Space.{Space}
 use Rattle.lmem_heap.specs.Pieces.{word_in, entry}
 use Rattle.lmem_heap.specs.Tiled.{chunk_under, chunks_in, offset_under, table_end}
-use Rattle.lmem_heap.specs.Kept.{IsKept}
+use Rattle.lmem_heap.specs.Kept.{IsSpaced, IsKept}
 use Rattle.lmem_heap.specs.Slots.{space_in, need_in}
 use Rattle.lmem_heap.specs.Stored.{Stored, store_of, offsets_in, IsStored}
 use Rattle.lmem_heap.proofs.Chunks.{under_dead, chunk_in, length-chunks_in}
@@ -107,7 +107,7 @@ no_bytes true = refl
 no_bytes false = refl
 
 -- a chunk with bytes has a piece
-pub live_of : (s : Space) (i : ℕ) → IsKept s → i < s.slots → 0 < length (unwrap_or (chunk_under s.region (entry s.region i)) []) → 1 < entry s.region i
+pub live_of : {loose : ℕ} (s : Space) (i : ℕ) → IsSpaced s loose → i < s.slots → 0 < length (unwrap_or (chunk_under s.region (entry s.region i)) []) → 1 < entry s.region i
 live_of s i kept l some = elim (cases_lt 1 (entry s.region i)) [
   | inl live ↦ live
   | inr dead ↦ absurd (omega (arith, some, ap (λ (o : Option (List ℕ)). length (unwrap_or o [])) (under_dead s.region (entry s.region i) dead), none (entry s.region i == 0)))
@@ -121,7 +121,7 @@ some_is None n e = cc
 some_is (Some b) n e = let is : Some (length b) ≡ Some n = e in cc
 
 -- and its size stands there
-pub size_is : (s : Space) (i : ℕ) → IsKept s → i < s.slots → 1 < entry s.region i → length (unwrap_or (chunk_under s.region (entry s.region i)) []) ≡ word_in s.region (entry s.region i)
+pub size_is : {loose : ℕ} (s : Space) (i : ℕ) → IsSpaced s loose → i < s.slots → 1 < entry s.region i → length (unwrap_or (chunk_under s.region (entry s.region i)) []) ≡ word_in s.region (entry s.region i)
 size_is s i kept l live = some_is (chunk_under s.region (entry s.region i)) (word_in s.region (entry s.region i)) (size_live s kept i l live)
 
 pub size_small : (s : Space) (i : ℕ) (size : Option ℕ) → IsKept s → i < s.slots → size ≡ option_map (length {A = ℕ}) (get_or (chunks_in s.region s.slots) i None) → IfSome size (λ n. n < 65536)

@@ -4,14 +4,14 @@ use Rattle.std.proofs.lemmas.Bool.{cases_lt}
 use Rattle.std.proofs.lemmas.List.{length-replicate, get_or-replicate, get_or_append_left, get_or-append_right, get_or-take}
 use Rattle.geos_model.specs.Bytes.{resized}
 use Rattle.lmem_heap.specs.declared.space.Space.{Space}
-use Rattle.lmem_heap.specs.Pieces.{word_in, entry, piece_space, Piece, Used, Free, size_head, Lies, Points, AllShaped, IsFresh, AreDistinct, used, spaces, place_of}
+use Rattle.lmem_heap.specs.Pieces.{word_in, entry, piece_space, Piece, Used, Free, size_head, Lies, Points, AllShaped, IsFresh, AreDistinct, frees, used, spaces, place_of}
 use Rattle.lmem_heap.specs.Edits.{Same, IsSet, IsSized}
 use Rattle.lmem_heap.specs.Tiled.{chunks_in}
 use Rattle.lmem_heap.specs.Kept.{AreSpare, IsOther, IsHeld, IsKept, IsLoose, HasNext, IsResized}
 use Rattle.lmem_heap.proofs.Writes.{word_kept, entry_kept, set_before}
 use Rattle.lmem_heap.proofs.Tiles.{spaces_append, lies_end, lies_split, shaped_split}
 use Rattle.lmem_heap.proofs.Chunks.{piece_place, piece_size, piece_chunk, piece_others, chunk_in}
-use Rattle.lmem_heap.proofs.Editing.{IsEdit, edited, edited_set, spare_bounds, spare_parts, spares_edited, chain_edited, Each, each_all, each_other, IsLinkKept, count_edited, used_append}
+use Rattle.lmem_heap.proofs.Editing.{IsEdit, edited, edited_set, spare_bounds, spare_parts, spares_edited, chain_edited, Each, each_all, each_other, IsLinkKept, count_edited, used_append, frees_edited}
 use Rattle.lmem_heap.proofs.Raising.{used_le}
 use Rattle.lmem_heap.proofs.Filling.{IsLivePiece}
 
@@ -32,20 +32,21 @@ resized_zeros b n k past in_n =
 -- ---- any edit
 
 -- what is kept of pieces in a row that become others
-module _ (s : Space) (ys : List ℕ) (i p : ℕ) (a old new d : List Piece) (fs : List ℕ) (held : IsHeld s (a ++ (old ++ d)) fs) (at : p ≡ s.low + spaces a)
-    (e : IsEdit s.region ys s.slots i s.low p old new) (front : IsFresh i a) (back : IsFresh i d) (links : Each (IsLinkKept s.region ys p old new) fs) (total : ℕ) (takes : total + spaces (used old) ≡ s.total + spaces (used new)) where
-  pub held_edited : IsHeld (record { region = ys; slots = s.slots; low = s.low; head = s.head; total = total }) (a ++ (new ++ d)) fs
+module _ {loose : ℕ} (s : Space) (ys : List ℕ) (i p : ℕ) (a old new d : List Piece) (fs : List ℕ) (held : IsHeld s (a ++ (old ++ d)) fs loose) (at : p ≡ s.low + spaces a)
+    (e : IsEdit s.region ys s.slots i s.low p old new) (front : IsFresh i a) (back : IsFresh i d) (links : Each (IsLinkKept s.region ys p old new) fs) (total : ℕ) (takes : total + spaces (used old) ≡ s.total + spaces (used new)) (more : ℕ) (leaves : more + frees old ≡ loose + frees new) where
+  pub held_edited : IsHeld (record { region = ys; slots = s.slots; low = s.low; head = s.head; total = total }) (a ++ (new ++ d)) fs more
   held_edited = record {
     tiled = edited s.region ys s.slots i s.low p a old new d held.tiled at e front back;
     chain = chain_edited s.region ys s.slots i s.low p a old new d held.tiled at e front back s.head fs links held.spare held.chain;
     spare = spares_edited s.region ys s.slots i s.low p a old new d held.tiled at e front back fs links held.spare;
     apart = held.apart;
+    all = omega (arith, held.all, frees_edited a old new d);
     count = omega (arith, held.count, count_edited a old new d);
   }
 
 -- ---- a chunk and what lies behind it
 
-module _ (s : Space) (ys : List ℕ) (i p n : ℕ) (a : List Piece) (b : List ℕ) (x y d : List Piece) (fs : List ℕ) (held : IsHeld s (a ++ (Used i b ∷ (x ++ d))) fs) (at : p ≡ s.low + spaces a)
+module _ {loose : ℕ} (s : Space) (ys : List ℕ) (i p n : ℕ) (a : List Piece) (b : List ℕ) (x y d : List Piece) (fs : List ℕ) (held : IsHeld s (a ++ (Used i b ∷ (x ++ d))) fs loose) (at : p ≡ s.low + spaces a)
     (within : i < s.slots) (some : 0 < n) (long : length ys ≡ 65520) (head : word_in ys p ≡ n)
     (front : (k : ℕ) → k < length b → k < n → get_or ys (p + 2 + k) 0 ≡ get_or s.region (p + 2 + k) 0) (zeros : (k : ℕ) → length b ≤ k → k < n → get_or ys (p + 2 + k) 0 ≡ 0)
     (before : Same s.region ys 0 p) (behind : Same s.region ys (p + (piece_space (length b) + spaces x)) 65520)
@@ -87,9 +88,9 @@ module _ (s : Space) (ys : List ℕ) (i p n : ℕ) (a : List Piece) (b : List �
         covered = λ l fresh. absurd (fresh.0 refl);
       }
 
-  module _ (others : IsFresh i a × IsFresh i d) (links : Each (IsLinkKept s.region ys p (Used i b ∷ x) (Used i (resized b n) ∷ y)) fs) (total : ℕ) (takes : total + (piece_space (length b) + spaces (used x)) ≡ s.total + (piece_space n + spaces (used y))) where
-    pub sized_held : IsHeld (record { region = ys; slots = s.slots; low = s.low; head = s.head; total = total }) (a ++ (Used i (resized b n) ∷ (y ++ d))) fs
-    sized_held = held_edited s ys i p a (Used i b ∷ x) (Used i (resized b n) ∷ y) d fs held at sized_edit others.0 others.1 links total (omega (arith, ap piece_space (count_resized b n)))
+  module _ (others : IsFresh i a × IsFresh i d) (links : Each (IsLinkKept s.region ys p (Used i b ∷ x) (Used i (resized b n) ∷ y)) fs) (total : ℕ) (takes : total + (piece_space (length b) + spaces (used x)) ≡ s.total + (piece_space n + spaces (used y))) (more : ℕ) (leaves : more + frees x ≡ loose + frees y) where
+    pub sized_held : IsHeld (record { region = ys; slots = s.slots; low = s.low; head = s.head; total = total }) (a ++ (Used i (resized b n) ∷ (y ++ d))) fs more
+    sized_held = held_edited s ys i p a (Used i b ∷ x) (Used i (resized b n) ∷ y) d fs held at sized_edit others.0 others.1 links total (omega (arith, ap piece_space (count_resized b n))) more leaves
 
     pub sized_chunks : chunks_in ys s.slots ≡ set (chunks_in s.region s.slots) i (Some (resized (unwrap_or (get_or (chunks_in s.region s.slots) i None) []) n))
     sized_chunks =
@@ -128,14 +129,14 @@ module _ (s : Space) (k : IsKept s) (ys : List ℕ) (i p size n : ℕ) (f : IsLi
     pieces = f.before ++ (Used i (resized f.bytes n) ∷ f.after);
     free = k.free;
     held = sized_held s ys i p n f.before f.bytes [] [] f.after k.free f.held f.place within some (sized.long ∙ f.held.tiled.long) sized.head refit_front refit_zeros refit_before refit_behind refit_rest tt tt tt (λ j. tt) (λ j. tt)
-        refit_others refit_links s.total (omega (arith, f.size));
+        refit_others refit_links s.total (omega (arith, f.size)) 0 refl;
   }
 
   pub refit_resized : p ≡ entry s.region i → size ≡ word_in s.region p → IsResized s (record { region = ys; slots = s.slots; low = s.low; head = s.head; total = s.total }) i n
   refit_resized is value = record {
     slots = refl;
     chunks = sized_chunks s ys i p n f.before f.bytes [] [] f.after k.free f.held f.place within some (sized.long ∙ f.held.tiled.long) sized.head refit_front refit_zeros refit_before refit_behind refit_rest tt tt tt (λ j. tt) (λ j. tt)
-        refit_others refit_links s.total (omega (arith, f.size));
+        refit_others refit_links s.total (omega (arith, f.size)) 0 refl;
     total = let there : size ≡ word_in s.region (entry s.region i) = value ∙ ap (λ (q : ℕ). word_in s.region q) is in omega (arith, there);
   }
 
@@ -185,9 +186,9 @@ module _ (s : Space) (k : IsKept s) (vs ys : List ℕ) (i p size n : ℕ) (f : I
   short_takes : s.total - (piece_space size - piece_space n) + (piece_space (length f.bytes) + 0) ≡ s.total + (piece_space n + 0)
   short_takes = omega (arith, f.less, f.size)
 
-  pub short_held : IsHeld (record { region = ys; slots = s.slots; low = s.low; head = s.head; total = s.total - (piece_space size - piece_space n) }) (f.before ++ (Used i (resized f.bytes n) ∷ (Free (piece_space size - piece_space n) ∷ f.after))) k.free
+  pub short_held : IsHeld (record { region = ys; slots = s.slots; low = s.low; head = s.head; total = s.total - (piece_space size - piece_space n) }) (f.before ++ (Used i (resized f.bytes n) ∷ (Free (piece_space size - piece_space n) ∷ f.after))) k.free 1
   short_held = sized_held s ys i p n f.before f.bytes [] (Free (piece_space size - piece_space n) ∷ []) f.after k.free f.held f.place within some (written.long ∙ (sized.long ∙ f.held.tiled.long)) short_head short_front short_zeros short_before short_behind short_rest tt short_shape tt (λ j. tt) (λ j. tt)
-      short_others short_links (s.total - (piece_space size - piece_space n)) short_takes
+      short_others short_links (s.total - (piece_space size - piece_space n)) short_takes 1 refl
 
   pub shortened : IsLoose (record { region = ys; slots = s.slots; low = s.low; head = s.head; total = s.total - (piece_space size - piece_space n) }) (p + piece_space n) (piece_space size - piece_space n)
   shortened =
@@ -196,7 +197,7 @@ module _ (s : Space) (k : IsKept s) (vs ys : List ℕ) (i p size n : ℕ) (f : I
         before = f.before ++ one;
         after = f.after;
         free = k.free;
-        held = subst (λ (cs : List Piece). IsHeld u cs k.free) (sym (append_assoc f.before one (Free room ∷ f.after))) short_held;
+        held = subst (λ (cs : List Piece). IsHeld u cs k.free 1) (sym (append_assoc f.before one (Free room ∷ f.after))) short_held;
         place = omega (arith, f.place, spaces_append f.before one, ap piece_space (count_resized f.bytes n));
         other = inside_used (16 + 2 * s.slots) s.low p (p + piece_space n) i f.bytes f.before f.after f.held.tiled.shaped f.place (omega arith) (omega (arith, f.size)) k.free f.held.spare;
       }
@@ -205,7 +206,7 @@ module _ (s : Space) (k : IsKept s) (vs ys : List ℕ) (i p size n : ℕ) (f : I
   short_resized is value = record {
     slots = refl;
     chunks = sized_chunks s ys i p n f.before f.bytes [] (Free (piece_space size - piece_space n) ∷ []) f.after k.free f.held f.place within some (written.long ∙ (sized.long ∙ f.held.tiled.long)) short_head short_front short_zeros short_before short_behind short_rest tt short_shape tt (λ j. tt) (λ j. tt)
-        short_others short_links (s.total - (piece_space size - piece_space n)) short_takes;
+        short_others short_links (s.total - (piece_space size - piece_space n)) short_takes 1 refl;
     total = let there : size ≡ word_in s.region (entry s.region i) = value ∙ ap (λ (q : ℕ). word_in s.region q) is in omega (arith, there, f.less);
   }
 
@@ -262,13 +263,13 @@ module _ (s : Space) (ys : List ℕ) (i p size n : ℕ) (h : HasNext s i (piece_
     pieces = h.before ++ (Used i (resized h.bytes n) ∷ h.after);
     free = h.free;
     held = sized_held s ys i p n h.before h.bytes (Free (piece_space n - piece_space size) ∷ []) [] h.after h.free h.held f.place within next_some (sized.long ∙ h.held.tiled.long) sized.head next_front next_zeros next_before next_behind next_rest tt tt tt (λ j. tt) (λ j. tt)
-        next_others next_links (s.total + (piece_space n - piece_space size)) next_takes;
+        next_others next_links (s.total + (piece_space n - piece_space size)) next_takes 0 refl;
   }
 
   pub absorb_resized : p ≡ entry s.region i → size ≡ word_in s.region p → IsResized s (record { region = ys; slots = s.slots; low = s.low; head = s.head; total = s.total + (piece_space n - piece_space size) }) i n
   absorb_resized is value = record {
     slots = refl;
     chunks = sized_chunks s ys i p n h.before h.bytes (Free (piece_space n - piece_space size) ∷ []) [] h.after h.free h.held f.place within next_some (sized.long ∙ h.held.tiled.long) sized.head next_front next_zeros next_before next_behind next_rest tt tt tt (λ j. tt) (λ j. tt)
-        next_others next_links (s.total + (piece_space n - piece_space size)) next_takes;
+        next_others next_links (s.total + (piece_space n - piece_space size)) next_takes 0 refl;
     total = let there : size ≡ word_in s.region (entry s.region i) = value ∙ ap (λ (q : ℕ). word_in s.region q) is in omega (arith, there);
   }

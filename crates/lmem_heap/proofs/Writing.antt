@@ -11,7 +11,7 @@ use Rattle.lmem_heap.specs.Kept.{IsKept}
 use Rattle.lmem_heap.proofs.Writes.{word_kept, entry_kept}
 use Rattle.lmem_heap.proofs.Tiles.{lies_end, lies_split, shaped_split}
 use Rattle.lmem_heap.proofs.Chunks.{piece_size, piece_bytes, piece_chunk, piece_others, under_dead, chunk_in, length-chunks_in}
-use Rattle.lmem_heap.proofs.Editing.{IsEdit, edited, edited_set, spares_edited, chain_edited, Each, each_all, IsLinkKept, count_edited}
+use Rattle.lmem_heap.proofs.Editing.{IsEdit, edited, edited_set, spares_edited, chain_edited, Each, each_all, IsLinkKept, count_edited, frees_edited}
 use Rattle.lmem_heap.proofs.Filling.{live_slot, IsLivePiece}
 
 -- ---- reading
@@ -124,6 +124,7 @@ module _ (s : Space) (k : IsKept s) (ys : List ℕ) (p i n at : ℕ) (ws : List 
           chain = chain_edited s.region ys s.slots i s.low p f.before old new f.after f.held.tiled f.place write_edit others.0 others.1 s.head k.free write_links f.held.spare f.held.chain;
           spare = spares_edited s.region ys s.slots i s.low p f.before old new f.after f.held.tiled f.place write_edit others.0 others.1 k.free write_links f.held.spare;
           apart = f.held.apart;
+          all = omega (arith, f.held.all, frees_edited f.before old new f.after);
           count = omega (arith, f.held.count, count, count_edited f.before old new f.after);
         };
       }

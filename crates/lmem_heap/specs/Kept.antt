@@ -1,7 +1,7 @@
 -- A heap's space: its region, and the list of its free pieces, which lies in the region.
 use Rattle.std.specs.Prelude.{◌≡◌, ◌≢◌, ℕ, ◌+◌, ◌<◌, ◌≤◌, ◌⊎◌, List, [], ◌∷◌, ◌++◌, length, Option, Some, None, set, get_or, unwrap_or}
 use Rattle.geos_model.specs.Bytes.{resized}
-use Rattle.lmem_heap.specs.Pieces.{word_in, entry, piece_space, Piece, Used, Free, used, spaces}
+use Rattle.lmem_heap.specs.Pieces.{word_in, entry, piece_space, Piece, Used, Free, frees, used, spaces}
 use Rattle.lmem_heap.specs.Tiled.{IsTiled, chunks_in}
 use Rattle.lmem_heap.specs.declared.space.Space.{Space}
 
@@ -28,25 +28,31 @@ abbrev pub AreApart : List ℕ → Type 0
 AreApart [] = Unit {0}
 AreApart (f ∷ fs) = IsOther f fs × AreApart fs
 
--- the pieces of a space, and its free list, which may leave out free pieces
-pub record IsHeld (s : Space) (cs : List Piece) (fs : List ℕ) : Type 0 where
+-- the pieces of a space, and its free list, which has each free piece once but for so many
+pub record IsHeld (s : Space) (cs : List Piece) (fs : List ℕ) (loose : ℕ) : Type 0 where
   pub tiled : IsTiled s.region s.slots s.low cs
   pub chain : IsChain s.region s.head fs
   pub spare : AreSpare s.low cs fs
   pub apart : AreApart fs
+  pub all : frees cs ≡ length fs + loose
   pub count : s.total ≡ spaces (used cs)
 
-pub record IsKept (s : Space) : Type 0 where
+-- a space, with so many free pieces that the list lacks
+pub record IsSpaced (s : Space) (loose : ℕ) : Type 0 where
   pub pieces : List Piece
   pub free : List ℕ
-  pub held : IsHeld s pieces free
+  pub held : IsHeld s pieces free loose
 
--- a free piece of this room lies at p, and is not in the list
+-- with none
+abbrev pub IsKept : Space → Type 0
+IsKept s = IsSpaced s 0
+
+-- a free piece of this room lies at p, and it alone is not in the list
 pub record IsLoose (s : Space) (p room : ℕ) : Type 0 where
   pub before : List Piece
   pub after : List Piece
   pub free : List ℕ
-  pub held : IsHeld s (before ++ (Free room ∷ after)) free
+  pub held : IsHeld s (before ++ (Free room ∷ after)) free 1
   pub place : p ≡ s.low + spaces before
   pub other : IsOther p free
 
@@ -62,21 +68,28 @@ pub record HasFree (s : Space) (p room : ℕ) : Type 0 where
   pub before : List Piece
   pub after : List Piece
   pub free : List ℕ
-  pub held : IsHeld s (before ++ (Free room ∷ after)) free
+  pub held : IsHeld s (before ++ (Free room ∷ after)) free 0
   pub place : p ≡ s.low + spaces before
+
+-- no free piece has this room
+pub record HasNone (s : Space) (room : ℕ) : Type 0 where
+  pub pieces : List Piece
+  pub free : List ℕ
+  pub held : IsHeld s pieces free 0
+  pub none : (f : ℕ) → IsSpareAt s.low pieces f → word_in s.region f ≤ room
 
 -- `place` is the first piece of the list, or the next one behind `prev`
 pub record IsFirst (s : Space) (prev place : ℕ) : Type 0 where
   pub pieces : List Piece
   pub back : List ℕ
   pub none : prev ≡ 0
-  pub held : IsHeld s pieces (place ∷ back)
+  pub held : IsHeld s pieces (place ∷ back) 0
 
 pub record IsNext (s : Space) (prev place : ℕ) : Type 0 where
   pub pieces : List Piece
   pub front : List ℕ
   pub back : List ℕ
-  pub held : IsHeld s pieces (front ++ (prev ∷ (place ∷ back)))
+  pub held : IsHeld s pieces (front ++ (prev ∷ (place ∷ back))) 0
 
 abbrev pub IsLinked : Space → ℕ → ℕ → Type 0
 IsLinked s prev place = IsFirst s prev place ⊎ IsNext s prev place
@@ -93,13 +106,13 @@ pub record IsRun (xs : List ℕ) (i from size : ℕ) : Type 0 where
   pub none : entry xs i ≤ 1 → size ≡ 0
   pub some : 1 < entry xs i → (from ≡ entry xs i + 2) × (size ≡ word_in xs (entry xs i))
 
--- behind the piece of slot i lies a free one of this room, which is not in the list
+-- behind the piece of slot i lies a free one of this room, and it alone is not in the list
 pub record HasNext (s : Space) (i room : ℕ) : Type 0 where
   pub before : List Piece
   pub bytes : List ℕ
   pub after : List Piece
   pub free : List ℕ
-  pub held : IsHeld s (before ++ (Used i bytes ∷ (Free room ∷ after))) free
+  pub held : IsHeld s (before ++ (Used i bytes ∷ (Free room ∷ after))) free 1
   pub other : IsOther (s.low + spaces before + piece_space (length bytes)) free
 
 -- the chunk of slot i, which has a piece, is cut, or has zeros behind it; every other slot has its own

@@ -78,6 +78,12 @@ used [] = []
 used (Used i bytes ∷ cs) = Used i bytes ∷ used cs
 used (Free s ∷ cs) = used cs
 
+-- how many are free
+abbrev pub frees : List Piece → ℕ
+frees [] = 0
+frees (Used i bytes ∷ cs) = frees cs
+frees (Free s ∷ cs) = frees cs + 1
+
 -- what pieces take
 abbrev pub spaces : List Piece → ℕ
 spaces [] = 0

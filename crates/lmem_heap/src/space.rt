@@ -4,7 +4,7 @@ ghost use Rattle.std.specs.Option.{option_map, option_copied};
 ghost use Rattle.geos_model.specs.Heap.{space_of};
 ghost use Rattle.geos_model.proofs.Table.{slot_space};
 ghost use Rattle.lmem_heap.specs.Tiled.{chunk_under, chunks_in, offset_under, table_end};
-ghost use Rattle.lmem_heap.specs.Kept.{IsRun, IsKept, IsLoose, HasNext, HasFree, IsLinked, IsStill, IsChanged};
+ghost use Rattle.lmem_heap.specs.Kept.{IsRun, IsKept, IsLoose, HasNext, HasNone, HasFree, IsLinked, IsStill, IsChanged};
 
 use crate::compaction::compact;
 use crate::lowering::lower_entries;
@@ -71,14 +71,14 @@ impl Space {
         self.low
     }
 
-    /// The first free piece of the list that has this room.
+    /// The first free piece of the list that has this room. None where no free piece has it.
     fn find_fit(&self, room: usize) -> Option<Fit>
         requires { IsKept self.now }
-        ensures { IfSome result (λ fit. IsLinked self.now fit.prev fit.place × (room < word_in self.now.region fit.place)) }
+        ensures { MatchOption result (HasNone self.now room) (λ fit. IsLinked self.now fit.prev fit.place × (room < word_in self.now.region fit.place)) }
     {
         let mut prev = 0;
         let mut place = self.head;
-        for _ in 0..SIZE {
+        for _seen in 0..SIZE {
             if place == 0 {
                 return None;
             }
@@ -127,7 +127,7 @@ impl Space {
         requires kept { IsKept self.old }
         requires some { 0 < room }
         requires whole { room ≡ 4 * (room / 4) }
-        ensures taken { MatchOption result (self.new ≡ self.old) (λ p. IsLoose self.new p room × IsStill self.old self.new × (self.new.low ≡ self.old.low)) }
+        ensures taken { MatchOption result ((self.new ≡ self.old) × HasNone self.old room) (λ p. IsLoose self.new p room × IsStill self.old self.new × (self.new.low ≡ self.old.low)) }
     {
         match self.find_fit(room) {
             Some(Fit { prev, place }) => {

@@ -1,7 +1,7 @@
 use Rattle.std.proofs.Common.{◌≡◌, ◌<◌, ◌+◌, ◌-◌, ◌*◌, ◌++◌, ◌∷◌, ◌∙◌, ℕ, List, [], Option, None, Some, get_or, unwrap_or, ap, refl, subst, arith}
 use Rattle.geos_model.specs.Bytes.{resized}
 use Rattle.lmem_heap.specs.Pieces.{size_head, entry, word_in, piece_space, Free, Used}
-use Rattle.lmem_heap.specs.Kept.{IsKept, IsLoose}
+use Rattle.lmem_heap.specs.Kept.{IsSpaced, IsLoose}
 use Rattle.lmem_heap.specs.Tiled.{chunks_in}
 use Rattle.lmem_heap.proofs.Writes.{entry_word}
 use Rattle.lmem_heap.proofs.Tiles.{lies_end}
@@ -17,13 +17,13 @@ word_in-p-requires c = let s = c.args.self.now in let f = c.requires.loose in om
 pub word_in-size-requires : goal.word_in-size-requires
 word_in-size-requires c =
     let s = c.args.self.now in let is = c.word_in-p.ensures.value ∙ entry_word s.region c.args.i (16 + 2 * c.args.i) refl in
-    let f = c.requires.loose in let k : IsKept s = record { pieces = f.before ++ (Free (piece_space c.args.n) ∷ f.after); free = f.free; held = f.held } in
+    let f = c.requires.loose in let k : IsSpaced s 1 = record { pieces = f.before ++ (Free (piece_space c.args.n) ∷ f.after); free = f.free; held = f.held } in
     let g = live_piece s k c.args.i c.word_in-p.result _ c.requires.slot c.requires.live is refl in omega (arith, g.ends)
 
 pub overflow_add-room : goal.overflow_add-room
 overflow_add-room c =
     let s = c.args.self.now in let is = c.word_in-p.ensures.value ∙ entry_word s.region c.args.i (16 + 2 * c.args.i) refl in
-    let f = c.requires.loose in let k : IsKept s = record { pieces = f.before ++ (Free (piece_space c.args.n) ∷ f.after); free = f.free; held = f.held } in
+    let f = c.requires.loose in let k : IsSpaced s 1 = record { pieces = f.before ++ (Free (piece_space c.args.n) ∷ f.after); free = f.free; held = f.held } in
     let F = free_facts s.region s.slots s.low c.args.q (piece_space c.args.n) f.before f.after f.held.tiled f.place in
     let g = live_piece s k c.args.i c.word_in-p.result c.word_in-size.result c.requires.slot c.requires.live is c.word_in-size.ensures.value in
     record { fits = omega (arith, g.ends) }
@@ -31,7 +31,7 @@ overflow_add-room c =
 pub overflow_mul-room : goal.overflow_mul-room
 overflow_mul-room c =
     let s = c.args.self.now in let is = c.word_in-p.ensures.value ∙ entry_word s.region c.args.i (16 + 2 * c.args.i) refl in
-    let f = c.requires.loose in let k : IsKept s = record { pieces = f.before ++ (Free (piece_space c.args.n) ∷ f.after); free = f.free; held = f.held } in
+    let f = c.requires.loose in let k : IsSpaced s 1 = record { pieces = f.before ++ (Free (piece_space c.args.n) ∷ f.after); free = f.free; held = f.held } in
     let F = free_facts s.region s.slots s.low c.args.q (piece_space c.args.n) f.before f.after f.held.tiled f.place in
     let g = live_piece s k c.args.i c.word_in-p.result c.word_in-size.result c.requires.slot c.requires.live is c.word_in-size.ensures.value in
     record { fits = omega (arith, g.ends) }
@@ -39,7 +39,7 @@ overflow_mul-room c =
 pub set_word-requires-clause-within : goal.set_word-requires-clause-within
 set_word-requires-clause-within c =
     let s = c.args.self.now in let is = c.word_in-p.ensures.value ∙ entry_word s.region c.args.i (16 + 2 * c.args.i) refl in
-    let f = c.requires.loose in let k : IsKept s = record { pieces = f.before ++ (Free (piece_space c.args.n) ∷ f.after); free = f.free; held = f.held } in
+    let f = c.requires.loose in let k : IsSpaced s 1 = record { pieces = f.before ++ (Free (piece_space c.args.n) ∷ f.after); free = f.free; held = f.held } in
     let F = free_facts s.region s.slots s.low c.args.q (piece_space c.args.n) f.before f.after f.held.tiled f.place in
     let g = live_piece s k c.args.i c.word_in-p.result c.word_in-size.result c.requires.slot c.requires.live is c.word_in-size.ensures.value in
     omega (arith, g.ends)
@@ -47,7 +47,7 @@ set_word-requires-clause-within c =
 pub set_word-requires-clause-small : goal.set_word-requires-clause-small
 set_word-requires-clause-small c =
     let s = c.args.self.now in let is = c.word_in-p.ensures.value ∙ entry_word s.region c.args.i (16 + 2 * c.args.i) refl in
-    let f = c.requires.loose in let k : IsKept s = record { pieces = f.before ++ (Free (piece_space c.args.n) ∷ f.after); free = f.free; held = f.held } in
+    let f = c.requires.loose in let k : IsSpaced s 1 = record { pieces = f.before ++ (Free (piece_space c.args.n) ∷ f.after); free = f.free; held = f.held } in
     let F = free_facts s.region s.slots s.low c.args.q (piece_space c.args.n) f.before f.after f.held.tiled f.place in
     let g = live_piece s k c.args.i c.word_in-p.result c.word_in-size.result c.requires.slot c.requires.live is c.word_in-size.ensures.value in
     omega (arith, g.ends)
@@ -55,7 +55,7 @@ set_word-requires-clause-small c =
 pub set_word-requires-clause-long : goal.set_word-requires-clause-long
 set_word-requires-clause-long c =
     let s = c.args.self.now in let is = c.word_in-p.ensures.value ∙ entry_word s.region c.args.i (16 + 2 * c.args.i) refl in
-    let f = c.requires.loose in let k : IsKept s = record { pieces = f.before ++ (Free (piece_space c.args.n) ∷ f.after); free = f.free; held = f.held } in
+    let f = c.requires.loose in let k : IsSpaced s 1 = record { pieces = f.before ++ (Free (piece_space c.args.n) ∷ f.after); free = f.free; held = f.held } in
     let F = free_facts s.region s.slots s.low c.args.q (piece_space c.args.n) f.before f.after f.held.tiled f.place in
     let g = live_piece s k c.args.i c.word_in-p.result c.word_in-size.result c.requires.slot c.requires.live is c.word_in-size.ensures.value in
     f.held.tiled.long
@@ -63,7 +63,7 @@ set_word-requires-clause-long c =
 pub set_word-requires-2-clause-within : goal.set_word-requires-2-clause-within
 set_word-requires-2-clause-within c =
     let s = c.args.self.now in let is = c.word_in-p.ensures.value ∙ entry_word s.region c.args.i (16 + 2 * c.args.i) refl in
-    let f = c.requires.loose in let k : IsKept s = record { pieces = f.before ++ (Free (piece_space c.args.n) ∷ f.after); free = f.free; held = f.held } in
+    let f = c.requires.loose in let k : IsSpaced s 1 = record { pieces = f.before ++ (Free (piece_space c.args.n) ∷ f.after); free = f.free; held = f.held } in
     let F = free_facts s.region s.slots s.low c.args.q (piece_space c.args.n) f.before f.after f.held.tiled f.place in
     let g = live_piece s k c.args.i c.word_in-p.result c.word_in-size.result c.requires.slot c.requires.live is c.word_in-size.ensures.value in
     let table = f.held.tiled.table in omega (arith, c.requires.slot, F.1, F.3)
@@ -71,7 +71,7 @@ set_word-requires-2-clause-within c =
 pub set_word-requires-2-clause-long : goal.set_word-requires-2-clause-long
 set_word-requires-2-clause-long c =
     let s = c.args.self.now in let is = c.word_in-p.ensures.value ∙ entry_word s.region c.args.i (16 + 2 * c.args.i) refl in
-    let f = c.requires.loose in let k : IsKept s = record { pieces = f.before ++ (Free (piece_space c.args.n) ∷ f.after); free = f.free; held = f.held } in
+    let f = c.requires.loose in let k : IsSpaced s 1 = record { pieces = f.before ++ (Free (piece_space c.args.n) ∷ f.after); free = f.free; held = f.held } in
     let F = free_facts s.region s.slots s.low c.args.q (piece_space c.args.n) f.before f.after f.held.tiled f.place in
     let g = live_piece s k c.args.i c.word_in-p.result c.word_in-size.result c.requires.slot c.requires.live is c.word_in-size.ensures.value in
     c.set_word.ensures.long ∙ f.held.tiled.long
@@ -79,7 +79,7 @@ set_word-requires-2-clause-long c =
 pub set_word-requires-3-clause-within : goal.set_word-requires-3-clause-within
 set_word-requires-3-clause-within c =
     let s = c.args.self.now in let is = c.word_in-p.ensures.value ∙ entry_word s.region c.args.i (16 + 2 * c.args.i) refl in
-    let f = c.requires.loose in let k : IsKept s = record { pieces = f.before ++ (Free (piece_space c.args.n) ∷ f.after); free = f.free; held = f.held } in
+    let f = c.requires.loose in let k : IsSpaced s 1 = record { pieces = f.before ++ (Free (piece_space c.args.n) ∷ f.after); free = f.free; held = f.held } in
     let F = free_facts s.region s.slots s.low c.args.q (piece_space c.args.n) f.before f.after f.held.tiled f.place in
     let g = live_piece s k c.args.i c.word_in-p.result c.word_in-size.result c.requires.slot c.requires.live is c.word_in-size.ensures.value in
     omega (arith, F.1, F.2)
@@ -87,7 +87,7 @@ set_word-requires-3-clause-within c =
 pub set_word-requires-3-clause-small : goal.set_word-requires-3-clause-small
 set_word-requires-3-clause-small c =
     let s = c.args.self.now in let is = c.word_in-p.ensures.value ∙ entry_word s.region c.args.i (16 + 2 * c.args.i) refl in
-    let f = c.requires.loose in let k : IsKept s = record { pieces = f.before ++ (Free (piece_space c.args.n) ∷ f.after); free = f.free; held = f.held } in
+    let f = c.requires.loose in let k : IsSpaced s 1 = record { pieces = f.before ++ (Free (piece_space c.args.n) ∷ f.after); free = f.free; held = f.held } in
     let F = free_facts s.region s.slots s.low c.args.q (piece_space c.args.n) f.before f.after f.held.tiled f.place in
     let g = live_piece s k c.args.i c.word_in-p.result c.word_in-size.result c.requires.slot c.requires.live is c.word_in-size.ensures.value in
     omega (arith, F.1)
@@ -95,7 +95,7 @@ set_word-requires-3-clause-small c =
 pub set_word-requires-3-clause-long : goal.set_word-requires-3-clause-long
 set_word-requires-3-clause-long c =
     let s = c.args.self.now in let is = c.word_in-p.ensures.value ∙ entry_word s.region c.args.i (16 + 2 * c.args.i) refl in
-    let f = c.requires.loose in let k : IsKept s = record { pieces = f.before ++ (Free (piece_space c.args.n) ∷ f.after); free = f.free; held = f.held } in
+    let f = c.requires.loose in let k : IsSpaced s 1 = record { pieces = f.before ++ (Free (piece_space c.args.n) ∷ f.after); free = f.free; held = f.held } in
     let F = free_facts s.region s.slots s.low c.args.q (piece_space c.args.n) f.before f.after f.held.tiled f.place in
     let g = live_piece s k c.args.i c.word_in-p.result c.word_in-size.result c.requires.slot c.requires.live is c.word_in-size.ensures.value in
     c.set_word-2.ensures.long ∙ (c.set_word.ensures.long ∙ f.held.tiled.long)
@@ -103,7 +103,7 @@ set_word-requires-3-clause-long c =
 pub set_word-requires-4-clause-within : goal.set_word-requires-4-clause-within
 set_word-requires-4-clause-within c =
     let s = c.args.self.now in let is = c.word_in-p.ensures.value ∙ entry_word s.region c.args.i (16 + 2 * c.args.i) refl in
-    let f = c.requires.loose in let k : IsKept s = record { pieces = f.before ++ (Free (piece_space c.args.n) ∷ f.after); free = f.free; held = f.held } in
+    let f = c.requires.loose in let k : IsSpaced s 1 = record { pieces = f.before ++ (Free (piece_space c.args.n) ∷ f.after); free = f.free; held = f.held } in
     let F = free_facts s.region s.slots s.low c.args.q (piece_space c.args.n) f.before f.after f.held.tiled f.place in
     let g = live_piece s k c.args.i c.word_in-p.result c.word_in-size.result c.requires.slot c.requires.live is c.word_in-size.ensures.value in
     omega (arith, c.requires.slot, F.1, F.3)
@@ -111,7 +111,7 @@ set_word-requires-4-clause-within c =
 pub set_word-requires-4-clause-small : goal.set_word-requires-4-clause-small
 set_word-requires-4-clause-small c =
     let s = c.args.self.now in let is = c.word_in-p.ensures.value ∙ entry_word s.region c.args.i (16 + 2 * c.args.i) refl in
-    let f = c.requires.loose in let k : IsKept s = record { pieces = f.before ++ (Free (piece_space c.args.n) ∷ f.after); free = f.free; held = f.held } in
+    let f = c.requires.loose in let k : IsSpaced s 1 = record { pieces = f.before ++ (Free (piece_space c.args.n) ∷ f.after); free = f.free; held = f.held } in
     let F = free_facts s.region s.slots s.low c.args.q (piece_space c.args.n) f.before f.after f.held.tiled f.place in
     let g = live_piece s k c.args.i c.word_in-p.result c.word_in-size.result c.requires.slot c.requires.live is c.word_in-size.ensures.value in
     omega (arith, F.1)
@@ -119,7 +119,7 @@ set_word-requires-4-clause-small c =
 pub set_word-requires-4-clause-long : goal.set_word-requires-4-clause-long
 set_word-requires-4-clause-long c =
     let s = c.args.self.now in let is = c.word_in-p.ensures.value ∙ entry_word s.region c.args.i (16 + 2 * c.args.i) refl in
-    let f = c.requires.loose in let k : IsKept s = record { pieces = f.before ++ (Free (piece_space c.args.n) ∷ f.after); free = f.free; held = f.held } in
+    let f = c.requires.loose in let k : IsSpaced s 1 = record { pieces = f.before ++ (Free (piece_space c.args.n) ∷ f.after); free = f.free; held = f.held } in
     let F = free_facts s.region s.slots s.low c.args.q (piece_space c.args.n) f.before f.after f.held.tiled f.place in
     let g = live_piece s k c.args.i c.word_in-p.result c.word_in-size.result c.requires.slot c.requires.live is c.word_in-size.ensures.value in
     c.set_word-3.ensures.long ∙ (c.set_word-2.ensures.long ∙ (c.set_word.ensures.long ∙ f.held.tiled.long))
@@ -127,7 +127,7 @@ set_word-requires-4-clause-long c =
 pub overflow_sub-self : goal.overflow_sub-self
 overflow_sub-self c =
     let s = c.args.self.now in let is = c.word_in-p.ensures.value ∙ entry_word s.region c.args.i (16 + 2 * c.args.i) refl in
-    let f = c.requires.loose in let k : IsKept s = record { pieces = f.before ++ (Free (piece_space c.args.n) ∷ f.after); free = f.free; held = f.held } in
+    let f = c.requires.loose in let k : IsSpaced s 1 = record { pieces = f.before ++ (Free (piece_space c.args.n) ∷ f.after); free = f.free; held = f.held } in
     let F = free_facts s.region s.slots s.low c.args.q (piece_space c.args.n) f.before f.after f.held.tiled f.place in
     let g = live_piece s k c.args.i c.word_in-p.result c.word_in-size.result c.requires.slot c.requires.live is c.word_in-size.ensures.value in
     g.less
@@ -135,7 +135,7 @@ overflow_sub-self c =
 pub overflow_add-self : goal.overflow_add-self
 overflow_add-self c =
     let s = c.args.self.now in let is = c.word_in-p.ensures.value ∙ entry_word s.region c.args.i (16 + 2 * c.args.i) refl in
-    let f = c.requires.loose in let k : IsKept s = record { pieces = f.before ++ (Free (piece_space c.args.n) ∷ f.after); free = f.free; held = f.held } in
+    let f = c.requires.loose in let k : IsSpaced s 1 = record { pieces = f.before ++ (Free (piece_space c.args.n) ∷ f.after); free = f.free; held = f.held } in
     let F = free_facts s.region s.slots s.low c.args.q (piece_space c.args.n) f.before f.after f.held.tiled f.place in
     let g = live_piece s k c.args.i c.word_in-p.result c.word_in-size.result c.requires.slot c.requires.live is c.word_in-size.ensures.value in
     record { fits = omega (arith, F.1) }
@@ -143,7 +143,7 @@ overflow_add-self c =
 pub overflow_mul-self : goal.overflow_mul-self
 overflow_mul-self c =
     let s = c.args.self.now in let is = c.word_in-p.ensures.value ∙ entry_word s.region c.args.i (16 + 2 * c.args.i) refl in
-    let f = c.requires.loose in let k : IsKept s = record { pieces = f.before ++ (Free (piece_space c.args.n) ∷ f.after); free = f.free; held = f.held } in
+    let f = c.requires.loose in let k : IsSpaced s 1 = record { pieces = f.before ++ (Free (piece_space c.args.n) ∷ f.after); free = f.free; held = f.held } in
     let F = free_facts s.region s.slots s.low c.args.q (piece_space c.args.n) f.before f.after f.held.tiled f.place in
     let g = live_piece s k c.args.i c.word_in-p.result c.word_in-size.result c.requires.slot c.requires.live is c.word_in-size.ensures.value in
     record { fits = omega (arith, F.1) }
@@ -151,7 +151,7 @@ overflow_mul-self c =
 pub overflow_add-self-2 : goal.overflow_add-self-2
 overflow_add-self-2 c =
     let s = c.args.self.now in let is = c.word_in-p.ensures.value ∙ entry_word s.region c.args.i (16 + 2 * c.args.i) refl in
-    let f = c.requires.loose in let k : IsKept s = record { pieces = f.before ++ (Free (piece_space c.args.n) ∷ f.after); free = f.free; held = f.held } in
+    let f = c.requires.loose in let k : IsSpaced s 1 = record { pieces = f.before ++ (Free (piece_space c.args.n) ∷ f.after); free = f.free; held = f.held } in
     let F = free_facts s.region s.slots s.low c.args.q (piece_space c.args.n) f.before f.after f.held.tiled f.place in
     let g = live_piece s k c.args.i c.word_in-p.result c.word_in-size.result c.requires.slot c.requires.live is c.word_in-size.ensures.value in
     record { fits = omega (arith, F.1, total_small s k.pieces k.free k.held) }
@@ -159,7 +159,7 @@ overflow_add-self-2 c =
 pub returns-clause-loose : goal.returns-clause-loose
 returns-clause-loose c =
     let s = c.args.self.now in let is = c.word_in-p.ensures.value ∙ entry_word s.region c.args.i (16 + 2 * c.args.i) refl in
-    let f = c.requires.loose in let k : IsKept s = record { pieces = f.before ++ (Free (piece_space c.args.n) ∷ f.after); free = f.free; held = f.held } in
+    let f = c.requires.loose in let k : IsSpaced s 1 = record { pieces = f.before ++ (Free (piece_space c.args.n) ∷ f.after); free = f.free; held = f.held } in
     let F = free_facts s.region s.slots s.low c.args.q (piece_space c.args.n) f.before f.after f.held.tiled f.place in
     let g = live_piece s k c.args.i c.word_in-p.result c.word_in-size.result c.requires.slot c.requires.live is c.word_in-size.ensures.value in
     let old : get_or (chunks_in s.region s.slots) c.args.i None ≡ Some g.bytes
@@ -173,7 +173,7 @@ returns-clause-loose c =
 pub returns-clause-resized : goal.returns-clause-resized
 returns-clause-resized c =
     let s = c.args.self.now in let is = c.word_in-p.ensures.value ∙ entry_word s.region c.args.i (16 + 2 * c.args.i) refl in
-    let f = c.requires.loose in let k : IsKept s = record { pieces = f.before ++ (Free (piece_space c.args.n) ∷ f.after); free = f.free; held = f.held } in
+    let f = c.requires.loose in let k : IsSpaced s 1 = record { pieces = f.before ++ (Free (piece_space c.args.n) ∷ f.after); free = f.free; held = f.held } in
     let F = free_facts s.region s.slots s.low c.args.q (piece_space c.args.n) f.before f.after f.held.tiled f.place in
     let g = live_piece s k c.args.i c.word_in-p.result c.word_in-size.result c.requires.slot c.requires.live is c.word_in-size.ensures.value in
     let old : get_or (chunks_in s.region s.slots) c.args.i None ≡ Some g.bytes

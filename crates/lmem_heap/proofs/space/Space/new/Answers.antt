@@ -11,6 +11,7 @@ returns-clause-kept c = record {
     chain = refl;
     spare = tt;
     apart = tt;
+    all = refl;
     count = refl;
   };
 }
