@@ -129,9 +129,6 @@ module _ (xs us vs ys : List ℕ) (t low room i end : ℕ) (a : List Piece) (b :
   gap_chunks = same_chunks xs ys t low (low - room) (a ++ (Used i b ∷ d)) (a ++ (Used i b ∷ (Free room ∷ d))) tiled gapped
       (λ j l. at_after j (entry ys j) a (Used i b ∷ (Free room ∷ d)) (Used i b ∷ d) refl ∙ gap_chunk j l)
 
-  pub gap_place : i < t → entry xs i < end → 1 < entry xs i → entry ys i + room ≡ entry xs i
-  gap_place l below live = (lowered.each i l).low (omega (arith, same_entries i l)) (omega (arith, same_entries i l)) ∙ same_entries i l
-
 -- no list begins at 0
 no_list : {loose : ℕ} (s : Space) (cs : List Piece) (fs : List ℕ) → IsHeld s cs fs loose → s.head ≡ 0 → length fs ≡ 0
 no_list s cs fs h none = first fs h.chain h.spare where

@@ -1,5 +1,5 @@
 -- A list that has as many places as there are free pieces, each one's and no two alike, has all of them.
-use Rattle.std.proofs.Common.{◌≡◌, ◌≢◌, ℕ, ◌+◌, ◌*◌, ◌<◌, ◌≤◌, ◌⊎◌, List, [], ◌∷◌, length, refl, sym, ap, subst, ◌∙◌, inl, inr, arith}
+use Rattle.std.proofs.Common.{◌≡◌, ◌≢◌, ℕ, ◌+◌, ◌*◌, ◌≤◌, ◌⊎◌, List, [], ◌∷◌, length, refl, sym, ◌∙◌, inl, inr, arith}
 use Rattle.std.proofs.lemmas.Bool.{cases_eq}
 use Rattle.lmem_heap.specs.Pieces.{piece_space, Piece, Used, Free, AllShaped, frees, spaces}
 use Rattle.lmem_heap.specs.Kept.{IsSpareAt, AreSpare, IsOther, AreApart}

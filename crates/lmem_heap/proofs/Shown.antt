@@ -1,11 +1,10 @@
 -- A table's value, and the space that shows it.
-use Rattle.std.proofs.Common.{◌≡◌, ◌≢◌, ℕ, ◌+◌, ◌-◌, ◌<◌, ◌≤◌, List, [], ◌∷◌, ◌++◌, length, get_or, get_or-set_other, set, take, replicate, Option, Some, None, IfSome, is_some, unwrap_or, ◌==◌, nat_lt, if◌then◌else◌, true, refl, sym, ap, subst, ◌∙◌, inl, inr, arith}
+use Rattle.std.proofs.Common.{◌≡◌, ◌≢◌, ℕ, ◌+◌, ◌-◌, ◌<◌, ◌≤◌, List, [], ◌∷◌, length, get_or, get_or-set_other, set, take, replicate, Option, Some, None, IfSome, is_some, unwrap_or, ◌==◌, nat_lt, if◌then◌else◌, true, refl, sym, ap, subst, ◌∙◌, inl, inr, arith}
 use Rattle.std.proofs.lemmas.Bool.{cases_lt, cases_eq, cond-false, ne_eqb, lt-ltb, le-ltb}
 use Rattle.std.proofs.lemmas.List.{length-set, length-replicate, get_or-take, get_or_past}
 use Rattle.std.specs.Prelude.{Bool, false}
 use Rattle.std.proofs.lemmas.List.FromFn.{fill_by_all, length-map-range_with_len, get_or-map-range_with_len}
-use Rattle.std.proofs.lemmas.List.Sums.{sum_by-set, sum_by-append}
-use Rattle.std.proofs.lemmas.List.Folds.{sum_by-replicate}
+use Rattle.std.proofs.lemmas.List.Sums.{sum_by-set}
 use Rattle.std.proofs.lemmas.Grind.{get_or-set_at}
 use Rattle.std.specs.Option.{option_map}
 use Rattle.geos_model.specs.Heap.{space_of}
@@ -154,14 +153,6 @@ pub stored_vacated : (s u : Space) (i e : ℕ) → IsStored s → IsKept u → i
     → u.total + slot_space (chunk_under s.region (entry s.region i)) ≡ s.total → IsStored u
 stored_vacated s u i e stored kept l chunks total = stored_set s u i (if e == 0 then None else Some []) stored kept l chunks (omega (arith, dead_space (e == 0)))
 
-pub stored_same : (s u : Space) → IsStored s → IsKept u → u.total ≡ s.total → chunks_in u.region u.slots ≡ chunks_in s.region s.slots → IsStored u
-stored_same s u stored kept total chunks = record { kept = kept; count = total ∙ (stored.count ∙ ap space_in (sym chunks)) }
-
-pub stored_grown : (s u : Space) (n : ℕ) → IsStored s → IsKept u → u.total ≡ s.total → chunks_in u.region u.slots ≡ chunks_in s.region s.slots ++ replicate n None → IsStored u
-stored_grown s u n stored kept total chunks =
-    let cs = chunks_in s.region s.slots in let more : List (Option (List ℕ)) = replicate n None in
-    record { kept = kept; count = omega (arith, ap space_in chunks, sum_by-append slot_space cs more, sum_by-replicate slot_space n None, stored.count) }
-
 -- a chunk with no bytes takes nothing
 pub empty_dead : (s : Space) (i : ℕ) → IsKept s → i < s.slots → length (unwrap_or (chunk_under s.region (entry s.region i)) []) ≡ 0 → entry s.region i ≤ 1
 empty_dead s i kept l none = elim (cases_lt 1 (entry s.region i)) [
@@ -226,9 +217,6 @@ module _ (s : Space) (m : Stored) (i : ℕ) (stored : IsStored s) (is : store_of
 
   pub live_entry : 0 < length (unwrap_or (get_or m.chunks i None) []) → 1 < entry s.region i
   live_entry some = live_of s i stored.kept the_slot (omega (arith, bytes_are))
-
-  pub size_entry : 0 < length (unwrap_or (get_or m.chunks i None) []) → word_in s.region (entry s.region i) ≡ length (unwrap_or (get_or m.chunks i None) [])
-  size_entry some = sym (size_is s i stored.kept the_slot (live_entry some)) ∙ bytes_are
 
   -- what the table needs with another chunk in the slot
   pub need_shown : (b : List ℕ) → need_in (set m.chunks i (Some b)) + slot_space (chunk_under s.region (entry s.region i)) ≡ table_end s.slots + s.total + space_of (length b)

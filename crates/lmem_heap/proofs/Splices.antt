@@ -50,9 +50,6 @@ replaced_same b ws at k same range = put_is b ws at range ∙ ap (λ (j : ℕ). 
 
 -- ---- another size
 
-pub resized_nothing : (b : List ℕ) (n : ℕ) → n ≡ 0 → resized b n ≡ []
-resized_nothing b n none = let zeros : 0 - length b ≡ 0 = omega arith in ap (resized b) none ∙ ap (λ (k : ℕ). take 0 b ++ replicate k 0) zeros
-
 pub resized_empty : (b : List ℕ) (n : ℕ) → length b ≡ 0 → resized b n ≡ replicate n 0
 resized_empty b n none =
     let all : n - length b ≡ n = omega arith in

@@ -364,14 +364,6 @@ impl Space {
         self.low = low;
     }
 
-    /// How many slots there are.
-    #[tactic(auto, using(crate::proofs::Growing::slot_count))]
-    pub(crate) fn len(&self) -> usize
-        ensures { result ≡ length (chunks_in self.now.region self.now.slots) }
-    {
-        self.slots
-    }
-
     /// The size of a slot's chunk.
     pub(crate) fn size(&self, i: usize) -> Option<usize>
         requires kept { IsKept self.now }

@@ -1,4 +1,3 @@
-use Rattle.std.proofs.Common.{◌<◌, arith}
 use Rattle.lmem_heap.proofs.Shown.{in_chunks, place_is, place_there, place_within}
 use Rattle.lmem_heap.proofs.table.Table.offset.Goals as goal
 
