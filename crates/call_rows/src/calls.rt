@@ -63,7 +63,7 @@ fn blocks_are_put_changed_and_saved(rt: HostRuntime) -> Result<(), Fail> {
     let block = blocks.block(BLOCK).ok_or("no block")?;
     let saved = SavedBlock::of(rt.alloc(), block)?;
     assert_eq!(rt; saved.restore(rt.alloc())?.user_id, 7);
-    assert_eq!(rt; saved.image_len(), 3);
+    assert_eq!(rt; saved.byte_count(), 3);
     blocks.set_map(BLOCK);
     assert_eq!(rt; blocks.map_block(), BLOCK);
     assert!(rt; blocks.is_live(BLOCK) && !blocks.is_live(VmHandle(2)));

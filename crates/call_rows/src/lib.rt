@@ -10,6 +10,14 @@ mod heaps;
 #[cfg(test)]
 mod memory;
 #[cfg(test)]
+mod paired_calls;
+#[cfg(test)]
+mod plain_chunks;
+#[cfg(test)]
+mod random;
+#[cfg(test)]
+mod random_heaps;
+#[cfg(test)]
 mod regions;
 #[cfg(test)]
 mod splices;

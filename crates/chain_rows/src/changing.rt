@@ -67,10 +67,10 @@ fn a_freed_chain_comes_back_as_it_was(rt: HostRuntime) -> Result<(), Fail> {
 }
 
 #[test]
-fn a_change_weighs_the_images_of_its_blocks(rt: HostRuntime) -> Result<(), Fail> {
+fn a_change_weighs_what_it_holds_of_its_blocks(rt: HostRuntime) -> Result<(), Fail> {
     let mut blocks = tree(rt.alloc())?;
     let change = Change::BlocksOut(free_plan(rt.alloc(), &mut blocks, VmHandle(3))?);
-    // The bodies of the four blocks, and for each of them a byte that says what kind of body it is.
-    assert_eq!(rt; change.weight(), 25);
+    // The bytes of the four raw bodies, and nothing beside them.
+    assert_eq!(rt; change.weight(), 21);
     Ok(())
 }

@@ -1,31 +1,37 @@
 -- A heap over its table: what each call does to the table is what it does to the finite map.
-use Rattle.std.proofs.Common.{◌≡◌, ℕ, ◌+◌, ◌-◌, ◌*◌, ◌/◌, ◌<◌, ◌≤◌, ◌≢◌, true, false, nat_le, max, min, List, [], ◌∷◌, ◌++◌, map, length, get_or, set, take, drop, replicate, Option, Some, None, is_some, unwrap_or, flat_map, ◌==◌, refl, sym, ap, subst, ◌∙◌, inl, inr, arith, length-append}
+use Rattle.std.proofs.Common.{◌≡◌, ℕ, zero, suc, ◌+◌, ◌-◌, ◌*◌, ◌/◌, ◌<◌, ◌≤◌, ◌≢◌, true, false, nat_le, max, min, List, [], ◌∷◌, ◌++◌, map, length, get_or, set, take, drop, replicate, Option, Some, None, is_some, unwrap_or, flat_map, ◌==◌, refl, sym, ap, subst, ◌∙◌, inl, inr, arith, length-append}
 use Rattle.std.proofs.lemmas.Bool.{cases_lt, cases_eq, cond-true, cond-false, lt-ltb, le-ltb, leb-true, ne_eqb}
 use Rattle.std.proofs.lemmas.List.{length-replicate, length-set, append-nil, take_more, take_all, length-take, length-take-le, length-drop}
-use Rattle.std.proofs.lemmas.List.Sums.{sum_by-cons, sum_by-set, sum_by_more}
+use Rattle.std.proofs.lemmas.List.Sums.{sum_by-set, sum_by_more}
 use Rattle.std.specs.List as list
 use Rattle.std.specs.Option.{option_map, option_map_or}
-use Rattle.std.specs.FinMap.{get, insert, remove, keys, contains_key}
+use Rattle.std.specs.Ordering.{nat_cmp}
+use Rattle.std.specs.FinMap.{FinMap, get, insert, remove, keys, contains_key}
 use Rattle.geos_model.proofs.Table.{slot_space, table_entries, table_map, first_gap, IsTrimmed}
 use Rattle.geos_model.specs.Heap.{ChunkMap, need, next_chunk, fits, fits_with, fits_new, space_of, is_chunk_handle, is_heap_map, chunk_bytes}
 use Rattle.geos_model.specs.Bytes.{resized}
+use Rattle.geos_model.proofs.Tables.{slot_at_within, slots_to, length-slots_to, slot_at-slots_to, put_at, put_at-within, length-put_at, table_map-same, table_map-cut, table_map-put, table_map-clear, next_chunk-table, get-table_map_at, get-table_map_off, first_gap_none, first_gap-take, first_gap-clear, first_gap-put_other, first_gap-put_first, first_gap_below, keys-table_map}
+use Rattle.geos_model.proofs.HeapTables.{need-table, trimmed-put, is_heap_map-trimmed, live_handle, space-same, slot_space_le, is_chunk_handle-parts, space_of_ge}
+use Rattle.raw_region.specs.Bytes.{put}
+use Rattle.raw_region.proofs.Puts.{put_is}
+use Rattle.lmem_heap.specs.Stored.{Stored}
+use Rattle.lmem_heap.specs.Placed.{Placed, placed_in}
 use Rattle.geos_model.specs.Image.{image}
+use Rattle.geos_model.specs.Words.{word}
 use Rattle.geos_model.specs.declared.command.Body.TheVariants as bodies
-use Rattle.geos_model.proofs.Tables.{slot_at_within, slots_to, length-slots_to, slot_at-slots_to, put_at, put_at-within, length-put_at, table_map-same, table_map-cut, table_map-put, table_map-clear, next_chunk-table, get-table_map_at, get-table_map_off, first_gap_none, first_gap-take, first_gap-clear, first_gap-put_other, keys-table_map}
-use Rattle.geos_model.proofs.HeapTables.{need-table, image-table, slot_size_word, slot_bytes, trimmed-put, is_heap_map-trimmed, live_handle, space-same, slot_space_le, is_chunk_handle-parts, need_le, heap_map-table, space_of_ge}
-use Rattle.geos_model.specs.Words.{word, word_at}
-use Rattle.geos_model.proofs.Images.{word-reads_back}
-use Rattle.lmem_heap.specs.Packed.{Slots, heads, chunks, packed, slots_in}
-use Rattle.lmem_heap.specs.Placed.{Placed, placed_in, offsets}
-use Rattle.lmem_heap.specs.Slots.{space_in, need_in}
-use Rattle.lmem_heap.proofs.Packing.{length-packed, slots_in-packed, slot_some, slot_length, length-chunks-set}
+use Rattle.geos_model.proofs.HeapTables.{image-table, slot_size_word, slot_bytes}
+use Rattle.lmem_heap.specs.Packed.{Slots}
+use Rattle.lmem_heap.specs.Slots.{space_in, need_of, need_in, IsCounted}
 
 -- the finite maps that a table shows
-pub shown_chunks : (t : Slots) (p : Placed) → placed_in t ≡ p → table_map 2 16 t ≡ p.chunks
-shown_chunks t p is = ap (λ (x : Placed). x.chunks) is
+pub shown_chunks : (m : Stored) (p : Placed) → placed_in m ≡ p → table_map 2 16 m.chunks ≡ p.chunks
+shown_chunks m p is = ap (λ (x : Placed). x.chunks) is
 
-pub shown_places : (t : Slots) (p : Placed) → placed_in t ≡ p → table_map 2 16 (offsets t) ≡ p.places
-shown_places t p is = ap (λ (x : Placed). x.places) is
+pub shown_places : (m : Stored) (p : Placed) → placed_in m ≡ p → table_map 2 16 m.offsets ≡ p.places
+shown_places m p is = ap (λ (x : Placed). x.places) is
+
+pub same_placed : (m n : Placed) → m.chunks ≡ n.chunks → m.places ≡ n.places → m ≡ n
+same_placed m n chunks places = ap (λ (x : ChunkMap). record { chunks = x; places = m.places }) chunks ∙ ap (λ (x : FinMap nat_cmp ℕ). record { chunks = n.chunks; places = x }) places
 
 pub need_is : (t : Slots) → IsTrimmed t → need (table_map 2 16 t) ≡ need_in t
 need_is t trimmed = need-table t trimmed
@@ -33,11 +39,9 @@ need_is t trimmed = need-table t trimmed
 pub is_heap : (t : Slots) → IsTrimmed t → need_in t ≤ 65520 → is_heap_map (table_map 2 16 t) ≡ true
 is_heap t trimmed room = is_heap_map-trimmed t trimmed (omega (arith, need_is t trimmed))
 
--- a chunk takes no less than its bytes
-pub length-chunks_le : (t : Slots) → length (chunks t) ≤ space_in t
-length-chunks_le [] = omega arith
-length-chunks_le (None ∷ t) = omega (arith, length-chunks_le t, sum_by-cons slot_space None t)
-length-chunks_le (Some b ∷ t) = omega (arith, length-chunks_le t, sum_by-cons slot_space (Some b) t, length-append b (chunks t), space_of_ge (length b))
+pub slot_some : (o : Option (List ℕ)) (size : ℕ) → Some size ≡ option_map length o → (b : List ℕ) × (o ≡ Some b) × (size ≡ length b)
+slot_some None size is = cc
+slot_some (Some b) size is = (b, refl, cc)
 
 -- ---- the least free handle
 
@@ -46,6 +50,28 @@ next_some t l = next_chunk-table t ∙ cond-true _ _ _ (lt-ltb (first_gap t) 327
 
 pub next_none : (t : Slots) → 32752 ≤ first_gap t → next_chunk (table_map 2 16 t) ≡ None
 next_none t l = next_chunk-table t ∙ cond-false _ _ _ (le-ltb (first_gap t) 32752 l)
+
+-- the search for it begins where all slots below have chunks
+pub gap_found : (t : Slots) (start : ℕ) → start ≤ first_gap t → start + first_gap (drop start t) ≡ first_gap t
+gap_found t zero le = omega arith
+gap_found [] (suc n) le = absurd (omega arith)
+gap_found (None ∷ t) (suc n) le = absurd (omega arith)
+gap_found (Some b ∷ t) (suc n) le = omega (arith, gap_found t n (omega arith))
+
+pub first_gap_le : (t : Slots) → first_gap t ≤ length t
+first_gap_le [] = omega arith
+first_gap_le (None ∷ t) = omega arith
+first_gap_le (Some b ∷ t) = omega (arith, first_gap_le t)
+
+pub gap_here : (t : Slots) (k : ℕ) → get_or t k None ≡ None → first_gap t ≤ k
+gap_here t k none = elim (cases_lt k (first_gap t)) [ inl l ↦ let both : false ≡ true = sym (ap is_some none) ∙ first_gap_below t k l in cc | inr le ↦ le ]
+
+-- and it stays so where a chunk is put in a free slot
+pub gap_put_here : (t : Slots) (k : ℕ) (b : List ℕ) → k ≤ first_gap t → get_or t k None ≡ None → k + 1 ≤ first_gap (put_at t k b)
+gap_put_here t k b le none = omega (arith, first_gap-put_first t k b (let up = gap_here t k none in omega arith))
+
+pub gap_put_there : (t : Slots) (gap k : ℕ) (b : List ℕ) → gap ≤ first_gap t → gap ≤ first_gap (put_at t k b)
+gap_put_there t gap k b le = elim (cases_eq (first_gap t) k) [ inl same ↦ omega (arith, first_gap-put_first t k b same) | inr other ↦ omega (arith, first_gap-put_other t k b other) ]
 
 -- whether a new chunk fits
 pub fits_new-some : (m : ChunkMap) (h : ℕ) (b : List ℕ) → next_chunk m ≡ Some h → fits_new m b ≡ fits_with m h b
@@ -67,28 +93,18 @@ pub next_at : (t : Slots) (gap h : ℕ) (b : List ℕ) (m : ChunkMap) → table_
 next_at t gap h b m shows first at fit =
     ap next_chunk (sym shows) ∙ (next_some t (gap_below t b m shows fit) ∙ ap (λ (g : ℕ). Some (16 + 2 * g)) (sym first) ∙ ap Some (sym at))
 
+-- what the heap holds is one that can be
+pub valid_is : (t : Slots) (gap : ℕ) (m : ChunkMap) → table_map 2 16 t ≡ m → IsCounted t gap → is_heap_map m ≡ true
+valid_is t gap m shows held = ap is_heap_map (sym shows) ∙ is_heap t held.0 held.2
+
 -- ---- the image
 
-heads-sizes : (t : Slots) → flat_map slot_size_word t ≡ heads t
-heads-sizes [] = refl
-heads-sizes (None ∷ t) = ap (λ (l : List ℕ). word 65535 ++ l) (heads-sizes t)
-heads-sizes (Some b ∷ t) = ap (λ (l : List ℕ). word (length b) ++ l) (heads-sizes t)
-
-chunks-bytes : (t : Slots) → flat_map slot_bytes t ≡ chunks t
-chunks-bytes [] = refl
-chunks-bytes (None ∷ t) = chunks-bytes t
-chunks-bytes (Some b ∷ t) = ap (λ (l : List ℕ). b ++ l) (chunks-bytes t)
-
-pub image_is : (t : Slots) → IsTrimmed t → image (bodies.Heap (table_map 2 16 t)) ≡ 1 ∷ word (length t) ++ packed t
-unfolding packed
-image_is t trimmed =
-    let front = 1 ∷ word (length t) in
-    image-table t trimmed ∙ (ap (λ (l : List ℕ). front ++ (l ++ flat_map slot_bytes t)) (heads-sizes t) ∙ ap (λ (l : List ℕ). front ++ (heads t ++ l)) (chunks-bytes t))
-
--- tables with the same bytes are one
-pub packed_same : (s t : Slots) → length (chunks s) < 65535 → length (chunks t) < 65535 → length s ≡ length t → packed s ≡ packed t → s ≡ t
-packed_same s t small_s small_t count is =
-    sym (slots_in-packed s small_s) ∙ (ap (λ (n : ℕ). slots_in n (packed s)) count ∙ (ap (slots_in (length t)) is ∙ slots_in-packed t small_t))
+pub image_made : (t : Slots) (n : ℕ) (a b c d e low : List ℕ) (m : ChunkMap) → table_map 2 16 t ≡ m → a ≡ [] → b ≡ a ++ 1 ∷ [] → c ≡ b ++ low → low ≡ word n → d ≡ c ++ flat_map slot_size_word t → e ≡ d ++ flat_map slot_bytes t → n ≡ length t → IsTrimmed t
+    → e ≡ image (bodies.Heap m)
+image_made t n a b c d e low m shows a_is b_is c_is low_is d_is e_is count trimmed =
+    let front : c ≡ 1 ∷ word (length t) = c_is ∙ (ap (λ (l : List ℕ). l ++ low) (b_is ∙ ap (λ (l : List ℕ). l ++ 1 ∷ []) a_is) ∙ (ap (λ (l : List ℕ). 1 ∷ l) low_is ∙ ap (λ (k : ℕ). 1 ∷ word k) count)) in
+    e_is ∙ (ap (λ (l : List ℕ). l ++ flat_map slot_bytes t) (d_is ∙ ap (λ (l : List ℕ). l ++ flat_map slot_size_word t) front)
+    ∙ (sym (image-table t trimmed) ∙ ap (λ (x : ChunkMap). image (bodies.Heap x)) shows))
 
 -- ---- slots one by one
 
@@ -179,15 +195,6 @@ need_new t i b gap = omega (arith, length-put_at t i b, space-put t i b, ap slot
 pub need_changed : (t : Slots) (i : ℕ) (b c : List ℕ) → Live t i c → need_in (put_at t i b) ≡ 16 + 4 * ((length t + 1) / 2) + (space_in t - space_of (length c) + space_of (length b))
 need_changed t i b c live = let l = live.within in let fewer = live.space in omega (arith, length-put_at t i b, space-put t i b, ap slot_space live.holds)
 
--- the bytes that are left for it there
-pub room_changed : (t : Slots) (i : ℕ) (b c : List ℕ) → Live t i c → need_in (put_at t i b) ≤ 65520 → 2 * length t + length (chunks t) + length b ≤ 65504 + length c
-room_changed t i b c live room =
-    let l = live.within in let n = put_at t i b in
-    let same : length (chunks n) ≡ length (chunks (set t i (Some b))) = ap (λ (s : Slots). length (chunks s)) (put_at-within t i b l) in
-    let moved : length (chunks (set t i (Some b))) + length c ≡ length (chunks t) + length b
-    = ap (λ (o : Option (List ℕ)). length (chunks (set t i (Some b))) + length (unwrap_or o [])) (sym live.holds) ∙ length-chunks-set t i (Some b) l in
-    omega (arith, length-put_at t i b, length-chunks_le n)
-
 -- what becomes of the table where a slot's chunk is changed
 pub put_changed : (t n : Slots) (i : ℕ) (b c : List ℕ) (change : List ℕ → List ℕ) → Live t i c → n ≡ set t i (Some (change (unwrap_or (get_or t i None) []))) → change c ≡ b → n ≡ put_at t i b
 put_changed t n i b c change live is to =
@@ -196,31 +203,27 @@ put_changed t n i b c change live is to =
 pub put_spliced : (t n : Slots) (i at end : ℕ) (new b : List ℕ) → Live t i b → n ≡ set t i (Some (list.splice (unwrap_or (get_or t i None) []) at end new)) → n ≡ put_at t i (list.splice b at end new)
 put_spliced t n i at end new b live is = put_changed t n i (list.splice b at end new) b (λ (l : List ℕ). list.splice l at end new) live is refl
 
--- a heap's invariant
-abbrev pub IsKept : Slots → ℕ → ℕ → Type 0
-IsKept t space gap = IsTrimmed t × (space ≡ space_in t) × (gap ≡ first_gap t) × (is_heap_map (table_map 2 16 t) ≡ true)
+pub put_written : (t n : Slots) (i at : ℕ) (ws b : List ℕ) → Live t i b → at + length ws ≤ length b → n ≡ set t i (Some (put (unwrap_or (get_or t i None) []) at ws)) → n ≡ put_at t i (list.splice b at (at + length ws) ws)
+put_written t n i at ws b live le is = put_changed t n i (list.splice b at (at + length ws) ws) b (λ (l : List ℕ). put l at ws) live is (put_is b ws at le)
 
--- its last fact, as one of numbers
-abbrev pub IsCounted : Slots → ℕ → ℕ → Type 0
-IsCounted t space gap = IsTrimmed t × (space ≡ space_in t) × (gap ≡ first_gap t) × (16 + 4 * ((length t + 1) / 2) + space ≤ 65520)
+pub put_resized : (t n : Slots) (i size : ℕ) (b : List ℕ) → Live t i b → n ≡ set t i (Some (resized (unwrap_or (get_or t i None) []) size)) → n ≡ put_at t i (resized b size)
+put_resized t n i size b live is = put_changed t n i (resized b size) b (λ (l : List ℕ). resized l size) live is refl
 
-pub counts : (t : Slots) (space gap : ℕ) → IsKept t space gap → IsCounted t space gap
-counts t space gap kept = (kept.0, kept.1, kept.2, omega (arith, need_is t kept.0, need_le (table_map 2 16 t) kept.3, kept.1))
+-- a set slot has room where the chunk under its handle has
+pub set_room : (t : Slots) (i : ℕ) (b c : List ℕ) → i < length t → b ≡ c → need_in (put_at t i c) ≤ 65520 → need_in (set t i (Some b)) ≤ 65520
+set_room t i b c l same room = subst (λ (x : Slots). need_in x ≤ 65520) (put_at-within t i c l ∙ ap (λ (x : List ℕ). set t i (Some x)) (sym same)) room
 
-pub keeps : (t : Slots) (space gap : ℕ) → IsCounted t space gap → IsKept t space gap
-keeps t space gap counted = (counted.0, counted.1, counted.2, is_heap t counted.0 (omega (arith, counted.1, counted.3)))
+-- what a heap keeps of its table
+counted_put : (t n : Slots) (i gap : ℕ) (b : List ℕ) → IsTrimmed t → need_in (put_at t i b) ≤ 65520 → n ≡ put_at t i b → gap ≤ first_gap (put_at t i b) → IsCounted n gap
+counted_put t n i gap b trimmed room is first = subst (λ (x : Slots). IsCounted x gap) (sym is) (trimmed-put t i b trimmed, first, room)
 
-counted_put : (t n : Slots) (i space gap : ℕ) (b : List ℕ) → IsTrimmed t → need_in (put_at t i b) ≤ 65520 → n ≡ put_at t i b → space ≡ space_in (put_at t i b) → gap ≡ first_gap (put_at t i b) → IsKept n space gap
-counted_put t n i space gap b trimmed room is takes first = keeps n space gap (subst (λ (x : Slots). IsCounted x space gap) (sym is) (trimmed-put t i b trimmed, takes, first, omega arith))
+pub counted_new : (t n : Slots) (i gap : ℕ) (b : List ℕ) → IsTrimmed t → need_in (put_at t i b) ≤ 65520 → n ≡ put_at t i b → gap ≤ first_gap (put_at t i b) → IsCounted n gap
+counted_new t n i gap b trimmed room is first = counted_put t n i gap b trimmed room is first
 
-pub counted_new : (t n : Slots) (i space gap : ℕ) (b : List ℕ) → IsTrimmed t → get_or t i None ≡ None → need_in (put_at t i b) ≤ 65520 → n ≡ put_at t i b → space ≡ space_in t + space_of (length b) → gap ≡ first_gap (put_at t i b) → IsKept n space gap
-counted_new t n i space gap b trimmed none room is takes first = counted_put t n i space gap b trimmed room is (omega (arith, space-put t i b, ap slot_space none)) first
-
-pub counted_changed : (t n : Slots) (i space more gap : ℕ) (b c : List ℕ) → Live t i c → IsCounted t space gap → need_in (put_at t i b) ≤ 65520 → n ≡ put_at t i b → more ≡ space - space_of (length c) + space_of (length b) → IsKept n more gap
-counted_changed t n i space more gap b c live counted room is takes =
+pub counted_changed : (t n : Slots) (i gap : ℕ) (b c : List ℕ) → Live t i c → IsCounted t gap → need_in (put_at t i b) ≤ 65520 → n ≡ put_at t i b → IsCounted n gap
+counted_changed t n i gap b c live counted room is =
     let other : first_gap t ≢ i = λ e. let none : None ≡ Some c = sym (ap (λ (k : ℕ). get_or t k None) (sym e) ∙ first_gap_none t) ∙ live.holds in cc in
-    let fewer = live.space in
-    counted_put t n i more gap b counted.0 room is (omega (arith, space-put t i b, ap slot_space live.holds, counted.1)) (counted.2 ∙ sym (first_gap-put_other t i b other))
+    counted_put t n i gap b counted.0 room is (omega (arith, counted.1, first_gap-put_other t i b other))
 
 -- ---- a chunk's new bytes
 
@@ -229,6 +232,30 @@ length-splice b new at k le = let j = at + k in omega (arith, length-append (tak
 
 pub length-resized : (b : List ℕ) (n : ℕ) → length (resized b n) ≡ n
 length-resized b n = let k = n - length b in omega (arith, length-append (take n b) (replicate k 0), length-take n b, length-replicate {A = ℕ} k 0)
+
+-- ---- a chunk is allocated: slots are opened up to its own, and it is put there
+
+module _ (t g : Slots) (i k : ℕ) (count : k ≡ max (length t) (i + 1)) (grown : g ≡ t ++ replicate (k - length t) None) (none : get_or t i None ≡ None) where
+  opened_is : g ≡ slots_to t i
+  opened_is = let same : k - length t ≡ i + 1 - length t = omega arith in grown ∙ ap (λ (m : ℕ). t ++ replicate m None) same
+
+  none_still : get_or g i None ≡ None
+  none_still = ap (λ (x : Slots). get_or x i None) opened_is ∙ (slot_at-slots_to t i i ∙ none)
+
+  pub zeros_put : (size : ℕ) → set g i (Some (replicate size 0)) ≡ put_at t i (replicate size 0)
+  zeros_put size = ap (λ (x : Slots). set x i (Some (replicate size 0))) opened_is
+
+  pub none_bytes : length (unwrap_or (get_or g i None) []) ≡ 0
+  none_bytes = ap (λ (o : Option (List ℕ)). length (unwrap_or o [])) none_still
+
+  pub in_slots : i < length g
+  in_slots = omega (arith, ap length opened_is, length-slots_to t i)
+
+  pub grow_room : (z : List ℕ) → need_in (put_at t i z) ≤ 65520 → need_of k (space_in t) ≤ 65520
+  grow_room z room = omega (arith, need_new t i z none, count)
+
+  pub new_room : (size : ℕ) → need_in (put_at t i (replicate size 0)) ≤ 65520 → need_in (set g i (Some (replicate size 0))) ≤ 65520
+  new_room size room = subst (λ (x : Slots). need_in x ≤ 65520) (sym (zeros_put size)) room
 
 -- ---- a chunk is freed: its slot is cleared, and the slots behind the last chunk are left off
 
@@ -241,18 +268,18 @@ module _ (t s n : Slots) (i k : ℕ) (c : List ℕ) (live : Live t i c) (cleared
       shows_cut ∙ (ap (table_map 2 16) cleared ∙ (table_map-clear (omega arith) 16 t i live.within
       ∙ (ap (λ (q : ℕ). remove (table_map 2 16 t) q) (sym at) ∙ ap (λ (x : ChunkMap). remove x h) shows)))
 
-  pub counted_freed : (space less gap first : ℕ) → IsCounted t space gap → IsTrimmed (take k s) → less ≡ space - space_of (length c) → first ≡ min (min gap i) k → IsKept n less first
-  counted_freed space less gap first counted trimmed takes gap_is =
+  pub counted_freed : (gap first : ℕ) → IsCounted t gap → IsTrimmed n → first ≡ min (min gap i) k → IsCounted n first
+  counted_freed gap first counted trimmed gap_is =
       let count : space_in n + space_of (length c) ≡ space_in t
       = omega (arith, space-same n s shows_cut, ap space_in cleared, sum_by-set slot_space t i None None live.within, ap slot_space live.holds) in
       let short : length n ≤ length t = omega (arith, ap length is, length-take k s, ap length cleared, length-set t i None) in
       let next : first_gap n ≡ min (min (first_gap t) i) k = ap first_gap is ∙ (first_gap-take s k ∙ ap (λ (g : ℕ). min g k) (ap first_gap cleared ∙ first_gap-clear t i live.within)) in
-      keeps n less first (
-        subst (λ (x : Slots). IsTrimmed x) (sym is) trimmed,
-        omega (arith, counted.1),
-        gap_is ∙ (ap (λ (g : ℕ). min (min g i) k) counted.2 ∙ sym next),
-        omega (arith, counted.1, counted.3),
-      )
+      (trimmed, omega (arith, gap_is, counted.1, next), omega (arith, counted.2))
+
+-- where the other chunks lie
+pub places_freed : (os vs ns : List (Option ℕ)) (i h : ℕ) (m : FinMap nat_cmp ℕ) → table_map 2 16 os ≡ m → h ≡ 16 + 2 * i → i < length os → vs ≡ set os i None → ((j : ℕ) → get_or ns j None ≡ get_or vs j None) → table_map 2 16 ns ≡ remove m h
+places_freed os vs ns i h m shows at l cleared same =
+    table_map-same 2 16 ns vs same ∙ (ap (table_map 2 16) cleared ∙ (table_map-clear (omega arith) 16 os i l ∙ (ap (λ (q : ℕ). remove (table_map 2 16 os) q) (sym at) ∙ ap (λ (x : FinMap nat_cmp ℕ). remove x h) shows)))
 
 -- ---- the space, slot by slot
 
@@ -263,19 +290,6 @@ space_some t i size l is =
 
 pub space_none : (t : Slots) (i : ℕ) → i < length t → get_or t i None ≡ None → space_in (take (i + 1) t) ≡ space_in (take i t)
 space_none t i l gap = omega (arith, sum_by_more slot_space t i None l, ap slot_space gap)
-
-pub size_le : (t : Slots) (i size : ℕ) → i < length t → Some size ≡ option_map length (get_or t i None) → size ≤ length (chunks t)
-size_le t i size l is =
-    let slot = slot_some (get_or t i None) size is in
-    omega (arith, slot_length t i l, ap (λ (o : Option (List ℕ)). length (unwrap_or o [])) slot.1, slot.2)
-
--- ---- an image, part by part
-
-pub image_made : (t : Slots) (n : ℕ) (a b c d low bytes : List ℕ) → a ≡ [] → b ≡ a ++ 1 ∷ [] → c ≡ b ++ low → low ≡ word n → d ≡ c ++ bytes → bytes ≡ packed t → n ≡ length t
-    → IsTrimmed t → d ≡ image (bodies.Heap (table_map 2 16 t))
-image_made t n a b c d low bytes a_is b_is c_is low_is d_is bytes_is count trimmed =
-    d_is ∙ (ap (λ (l : List ℕ). l ++ bytes) (c_is ∙ (ap (λ (l : List ℕ). l ++ low) (b_is ∙ ap (λ (l : List ℕ). l ++ 1 ∷ []) a_is) ∙ ap (λ (l : List ℕ). 1 ∷ l) (low_is ∙ ap word count)))
-    ∙ (ap (λ (l : List ℕ). (1 ∷ word (length t)) ++ l) bytes_is ∙ sym (image_is t trimmed)))
 
 pub space_of_at_most : (n : ℕ) → space_of n ≤ n + 8
 space_of_at_most n = elim (cases_eq n 0) [
@@ -306,55 +320,3 @@ handles_none t i l gap = handles_more t i None l gap ∙ append-nil (handles_in 
 
 pub handles_all : (t : Slots) (n : ℕ) → n ≡ length t → handles_in (take n t) ≡ keys (table_map 2 16 t)
 handles_all t n count = ap handles_in (take_all n t (omega arith)) ∙ sym (keys-table_map (omega arith) 16 t)
-
--- ---- bytes that are no image
-
-abbrev pub NoImage : List ℕ → Type 0
-NoImage bytes = (m : ChunkMap) → is_heap_map m ≡ true → image (bodies.Heap m) ≡ bytes → ⊥
-
--- a heap's image, by its table
-image_parts : (m : ChunkMap) → is_heap_map m ≡ true → (t : Slots) × IsTrimmed t × (need_in t ≤ 65520) × (image (bodies.Heap m) ≡ 1 ∷ word (length t) ++ packed t)
-image_parts m heap =
-    let shown = heap_map-table m heap in let t = shown.0 in
-    let room : need_in t ≤ 65520 = omega (arith, need_is t shown.1, ap need shown.2, need_le m heap) in
-    (t, shown.1, room, ap (λ (x : ChunkMap). image (bodies.Heap x)) shown.2 ∙ image_is t shown.1)
-
-pub no_image_begin : (bytes : List ℕ) → ((n : ℕ) (rest : List ℕ) → bytes ≡ 1 ∷ word n ++ rest → ⊥) → NoImage bytes
-no_image_begin bytes other m heap is = let parts = image_parts m heap in other (length parts.0) (packed parts.0) (sym is ∙ parts.3)
-
-packed_short : (t : Slots) → need_in t ≤ 65520 → length (packed t) ≤ 65504
-packed_short t room = omega (arith, length-packed t, length-chunks_le t)
-
-pub no_image_long : (bytes : List ℕ) → 65523 < length bytes → NoImage bytes
-no_image_long bytes long m heap is =
-    let parts = image_parts m heap in
-    absurd (omega (arith, packed_short parts.0 parts.2, ap length (sym is ∙ parts.3)))
-
--- an image of a table of n slots
-same_parts : (n : ℕ) (bytes : List ℕ) (t : Slots) → n < 65536 → length t < 65536 → bytes ≡ 1 ∷ word n ++ drop 3 bytes → bytes ≡ 1 ∷ word (length t) ++ packed t → (length t ≡ n) × (packed t ≡ drop 3 bytes)
-same_parts n bytes t n_word t_word begins is =
-    let e : 1 ∷ word (length t) ++ packed t ≡ 1 ∷ word n ++ drop 3 bytes = sym is ∙ begins in
-    let same : length t ≡ n = sym (word-reads_back (length t) (packed t) t_word) ∙ (ap (λ (l : List ℕ). word_at l 1) e ∙ word-reads_back n (drop 3 bytes) n_word) in
-    (same, sym (ap (drop 3) is))
-
-pub no_image_table : (n : ℕ) (bytes rest : List ℕ) → n < 65536 → bytes ≡ 1 ∷ word n ++ drop 3 bytes → rest ≡ drop 3 bytes → ((t : Slots) → length t ≡ n → packed t ≡ rest → ⊥) → NoImage bytes
-no_image_table n bytes rest n_word begins behind none m heap is =
-    let parts = image_parts m heap in let room = parts.2 in
-    let same = same_parts n bytes parts.0 n_word (omega arith) begins (sym is ∙ parts.3) in
-    none parts.0 same.0 (same.1 ∙ sym behind)
-
-pub no_image_heap : (n : ℕ) (bytes rest : List ℕ) (t : Slots) → n < 65536 → bytes ≡ 1 ∷ word n ++ drop 3 bytes → rest ≡ drop 3 bytes → length rest ≤ 65520 → length t ≡ n → packed t ≡ rest → (IsTrimmed t → need_in t ≤ 65520 → ⊥) → NoImage bytes
-no_image_heap n bytes rest t n_word begins behind short count is_rest none m heap is =
-    let parts = image_parts m heap in let s = parts.0 in let room = parts.2 in
-    let same = same_parts n bytes s n_word (omega arith) begins (sym is ∙ parts.3) in
-    let both : packed s ≡ packed t = same.1 ∙ (sym behind ∙ sym is_rest) in
-    let there : s ≡ t = packed_same s t (omega (arith, length-chunks_le s, parts.2)) (omega (arith, length-packed t, ap length is_rest)) (same.0 ∙ sym count) both in
-    none (subst (λ (x : Slots). IsTrimmed x) there parts.1) (subst (λ (x : Slots). need_in x ≤ 65520) there parts.2)
-
--- the heap of a table whose bytes stand behind the table's length
-pub image_again : (n : ℕ) (bytes rest : List ℕ) (t : Slots) (m : ChunkMap) → bytes ≡ 1 ∷ word n ++ drop 3 bytes → rest ≡ drop 3 bytes → length t ≡ n → packed t ≡ rest → m ≡ table_map 2 16 t → IsTrimmed t → need_in t ≤ 65520
-    → (image (bodies.Heap m) ≡ bytes) × (is_heap_map m ≡ true)
-image_again n bytes rest t m begins behind count is_rest shows trimmed room = (
-  ap (λ (x : ChunkMap). image (bodies.Heap x)) shows ∙ (image_is t trimmed ∙ (ap (λ (k : ℕ). 1 ∷ word k ++ packed t) count ∙ (ap (λ (l : List ℕ). 1 ∷ word n ++ l) (is_rest ∙ behind) ∙ sym begins))),
-  ap is_heap_map shows ∙ is_heap t trimmed room,
-)

@@ -2,12 +2,12 @@
 use Rattle.std.specs.Prelude.{ℕ, List, [], Some, None, set, get_or, unwrap_or}
 use Rattle.std.specs.Borrow.{Lends, MutBor, Fml, Array, u8}
 use Rattle.raw_region.specs.Bytes.{put}
-use Rattle.lmem_heap.specs.Packed.{Slots}
+use Rattle.lmem_heap.specs.Stored.{Stored}
 use Rattle.lmem_heap.specs.contracts.table.Table.{the_row}
 
--- the slots with bytes written over a chunk's
-abbrev pub slots_written : Slots → ℕ → List ℕ → Slots
-slots_written t i bytes = set t i (Some (put (unwrap_or (get_or t i None) []) 0 bytes))
+-- the table with bytes written over a chunk's
+abbrev pub with_chunk : Stored → ℕ → List ℕ → Stored
+with_chunk m i bytes = record { chunks = set m.chunks i (Some (put (unwrap_or (get_or m.chunks i None) []) 0 bytes)); offsets = m.offsets }
 
-abbrev pub lends_chunk : MutBor Slots → ℕ → MutBor (List ℕ) → Fml
-lends_chunk t i chunk = Lends the_row (Array u8 0) t chunk (slots_written t.now i)
+abbrev pub lends_chunk : MutBor Stored → ℕ → MutBor (List ℕ) → Fml
+lends_chunk t i chunk = Lends the_row (Array u8 0) t chunk (with_chunk t.now i)

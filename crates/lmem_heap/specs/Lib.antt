@@ -1,5 +1,10 @@
+pub mod Pieces
+pub mod Edits
+pub mod Tiled
+pub mod Kept
+pub mod Packed
+pub mod Slots
+pub mod Stored
+pub mod Placed
 pub mod LendsChunk
 pub mod LendsHeapChunk
-pub mod Packed
-pub mod Placed
-pub mod Slots

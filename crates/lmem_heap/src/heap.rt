@@ -1,54 +1,41 @@
-ghost use Rattle.std.specs.Prelude.{◌≡◌, ◌⊎◌, ◌+◌, ◌^◌, ◌≤◌, ◌<◌, ℕ, List, ◌∷◌, ◌++◌, true, Some, None, IsTrue, IfOk, IfErr, MatchOption, length, map, take, drop, replicate, get_or, is_some, nat_lt};
+ghost use Rattle.std.specs.Prelude.{◌≡◌, ◌⊎◌, ◌+◌, ◌*◌, ◌≤◌, ◌<◌, ℕ, true, Some, None, IsTrue, IfOk, IfErr, MatchOption, is_some, nat_lt, length, map, drop, replicate};
 ghost use Rattle.std.specs.Borrow.{sem};
 ghost use Rattle.std.specs.List.{splice};
 ghost use Rattle.std.specs.Option.{option_map, option_copied, IfSome};
 ghost use Rattle.std.specs.FinMap.{empty, get, insert, remove, keys, contains_key};
 ghost use Rattle.geos_model.specs.Heap.{ChunkMap, need, capacity, most_chunks, chunk_bytes, next_chunk, fits_new, fits_with, is_chunk_handle, is_heap_map, space_of, handle_of};
 ghost use Rattle.geos_model.specs.Bytes.{resized};
-ghost use Rattle.geos_model.proofs.Table.{table_map, first_gap, IsTrimmed};
-ghost use Rattle.lmem_heap.specs.Slots.{space_in, need_of, need_in};
-ghost use Rattle.geos_model.specs.Words.{word};
 ghost use Rattle.geos_model.specs.Image.{image};
 ghost use Rattle.geos_model.specs.declared.command.Body.TheVariants as bodies;
+ghost use Rattle.geos_model.proofs.Table.{table_map, first_gap, IsTrimmed};
+ghost use Rattle.lmem_heap.specs.Slots.{need_in};
 
+use crate::image::{
+    HEAP_KIND, PREFIX, image_slots, is_heap, is_table, push_chunks, push_sizes, unpack,
+};
+use crate::sizes::{need_of, space_of};
+use crate::space::NO_CHUNK;
 use crate::table::Table;
+use crate::words::{HEADER, SIZE};
 use geos_model::{ChunkHandle, Fault};
-use raw_region::SIZE;
 use std::alloc::{AllocError, Global};
 use std::marker::Model;
 
-/// The bytes of a heap's header.
-const HEADER: usize = 16;
-
-/// How many bytes a heap has room for.
-const CAPACITY: usize = SIZE;
-
 /// How many chunks a heap can have: so many table entries fill it.
 const MOST_CHUNKS: usize = 32_752;
-
-/// The first byte of a heap's image. The table's length stands behind it.
-const HEAP_KIND: u8 = 1;
-
-/// How many bytes of an image stand before the table.
-const PREFIX: usize = 3;
 
 /// Chunks in 65,520 bytes.
 #[derive(Drop)]
 pub struct Heap {
     table: Table,
-    /// What the chunks take, each with the word before it.
-    space: usize,
-    /// The first slot with no chunk, or the table's length.
+    /// The slots below this one all have chunks.
     gap: usize,
     alloc: Global,
 }
 
 impl Model for Heap {
-    ghost use Rattle.std.specs.Prelude.{◌≡◌, true};
-    ghost use Rattle.geos_model.specs.Heap.{is_heap_map};
-    ghost use Rattle.geos_model.proofs.Table.{table_map, first_gap, IsTrimmed};
     ghost use Rattle.lmem_heap.specs.Placed.{Placed, placed_code, placed_in};
-    ghost use Rattle.lmem_heap.specs.Slots.{space_in};
+    ghost use Rattle.lmem_heap.specs.Slots.{IsCounted};
 
     ghost Value = { Placed };
 
@@ -56,10 +43,7 @@ impl Model for Heap {
 
     ghost view = { λ h. placed_in h.table };
 
-    ghost invariant = { λ h. IsTrimmed h.table
-        × (h.space ≡ space_in h.table)
-        × (h.gap ≡ first_gap h.table)
-        × (is_heap_map (table_map 2 16 h.table) ≡ true) };
+    ghost invariant = { λ h. IsCounted h.table.chunks h.gap };
 }
 
 impl Heap {
@@ -72,7 +56,6 @@ impl Heap {
         let table = Table::new(alloc)?;
         Ok(Heap {
             table,
-            space: 0,
             gap: 0,
             alloc,
         })
@@ -84,7 +67,7 @@ impl Heap {
     pub fn need(&self) -> u32
         ensures { result ≡ need self.now.chunks }
     {
-        need_of(self.table.len(), self.space) as u32
+        need_of(self.table.len(), self.table.space()) as u32
     }
 
     /// Whether a chunk of `n` bytes finds a handle and room.
@@ -104,7 +87,7 @@ impl Heap {
         ensures { result ≡ fits_with self.now.chunks h.0 (replicate n 0) }
     {
         let slots = self.table.len().max(slot(h) + 1);
-        need_of(slots, self.space + space_of(n as usize)) <= CAPACITY
+        need_of(slots, self.table.space() + space_of(n as usize)) <= SIZE
     }
 
     /// Whether a chunk finds room with a size of `n` bytes.
@@ -113,8 +96,8 @@ impl Heap {
         ensures { result ≡ fits_with self.now.chunks h.0 (resized (chunk_bytes self.now.chunks h.0) n) }
     {
         let size = self.size(h);
-        let others = self.space - space_of(size);
-        need_of(self.table.len(), others + space_of(n as usize)) <= CAPACITY
+        let others = self.table.space() - space_of(size);
+        need_of(self.table.len(), others + space_of(n as usize)) <= SIZE
     }
 
     /// The size of a chunk.
@@ -129,8 +112,9 @@ impl Heap {
     pub fn next_handle(&self) -> Option<ChunkHandle>
         ensures { option_map (λ h. h.0) result ≡ next_chunk self.now.chunks }
     {
-        if self.gap < MOST_CHUNKS {
-            Some(handle_of(self.gap))
+        let i = gap_from(&self.table, self.gap);
+        if i < MOST_CHUNKS {
+            Some(handle_of(i))
         } else {
             None
         }
@@ -142,7 +126,9 @@ impl Heap {
         ensures handle { next_chunk self.old.chunks ≡ Some result.0 }
         ensures chunk { self.new.chunks ≡ insert self.old.chunks result.0 (replicate n 0) }
     {
-        let h = handle_of(self.gap);
+        let i = gap_from(&self.table, self.gap);
+        let h = handle_of(i);
+        self.gap = i;
         self.alloc_at(h, n);
         h
     }
@@ -155,28 +141,24 @@ impl Heap {
         ensures { self.new.chunks ≡ insert self.old.chunks h.0 (replicate n 0) }
     {
         let i = slot(h);
-        self.table.open_slots(i + 1);
-        self.table.fill(i, n as usize);
-        self.space += space_of(n as usize);
+        self.table.grow(self.table.len().max(i + 1));
+        self.table.place(i, n as usize);
         if i == self.gap {
-            self.gap = gap_from(&self.table, i + 1);
+            self.gap = i + 1;
         }
     }
 
     /// Frees a chunk. The table becomes as short as the greatest live handle lets it be.
     pub fn free(&mut self, h: ChunkHandle)
         requires { IsTrue (contains_key self.old.chunks h.0) }
-        ensures { self.new.chunks ≡ remove self.old.chunks h.0 }
+        ensures chunks { self.new.chunks ≡ remove self.old.chunks h.0 }
+        ensures places { self.new.places ≡ remove self.old.places h.0 }
     {
-        let size = self.size(h);
+        let gap = self.gap;
         let i = slot(h);
-        self.space -= space_of(size);
-        self.table.clear(i);
-        let slots = trimmed_len(&self.table);
-        self.gap = self.gap.min(i).min(slots);
-        if slots < self.table.len() {
-            self.table.truncate(slots);
-        }
+        self.table.vacate(i, NO_CHUNK);
+        self.table.trim();
+        self.gap = gap.min(i).min(self.table.len());
     }
 
     /// Cuts a chunk at its end, or adds zeros there, so that it has `n` bytes.
@@ -185,15 +167,7 @@ impl Heap {
         requires fits { IsTrue (fits_with self.old.chunks h.0 (resized (chunk_bytes self.old.chunks h.0) n)) }
         ensures { self.new.chunks ≡ insert self.old.chunks h.0 (resized (chunk_bytes self.old.chunks h.0) n) }
     {
-        let n = n as usize;
-        let size = self.size(h);
-        let i = slot(h);
-        self.space = self.space - space_of(size) + space_of(n);
-        if n <= size {
-            self.table.replace(i, n, size - n, &[]);
-        } else {
-            self.table.lengthen(i, n - size);
-        }
+        self.table.resize(slot(h), n as usize);
     }
 
     /// Puts `new` in the place of the `k` bytes from `at` on of a chunk; what stands behind them slides.
@@ -203,20 +177,19 @@ impl Heap {
         requires fits { IsTrue (fits_with self.old.chunks h.0 (splice (chunk_bytes self.old.chunks h.0) at (at + k) new.now)) }
         ensures { self.new.chunks ≡ insert self.old.chunks h.0 (splice (chunk_bytes self.old.chunks h.0) at (at + k) new.now) }
     {
-        let size = self.size(h);
         self.table.replace(slot(h), at, k, new);
-        self.space = self.space - space_of(size) + space_of(size - k + new.len());
     }
 
     /// Joins all free room into one piece. The chunks stay as they are.
     pub fn contract(&mut self)
         ensures { self.new.chunks ≡ self.old.chunks }
     {
-        // Chunks always stand one behind the other, so the free room is in one piece already.
+        self.table.pack();
     }
 
     /// Where the bytes of a chunk stand in the heap's region; None where there is no such chunk, or it has no bytes. A call
-    /// that makes, frees or resizes a chunk may move others; what is written through `chunk_mut` moves none.
+    /// that makes or resizes a chunk may move others, and so may `contract`. `free` moves none, nor does what is written
+    /// through `chunk_mut`.
     pub fn offset(&self, h: ChunkHandle) -> Option<usize>
         ensures place { result ≡ get self.now.places h.0 }
         ensures there { is_some result ≡ nat_lt 0 (length (chunk_bytes self.now.chunks h.0)) }
@@ -271,12 +244,12 @@ impl Heap {
         ensures bytes { IfOk result (λ bytes. bytes.items ≡ image (bodies.Heap self.now.chunks)) }
         ensures valid { is_heap_map self.now.chunks ≡ true }
     {
-        let bytes = self.table.bytes();
-        let slots = self.table.len() as u16;
-        let mut image = Vec::with_capacity(self.alloc, PREFIX + bytes.len())?;
+        let slots = self.table.len();
+        let mut image = Vec::with_capacity(self.alloc, PREFIX + 2 * slots + self.table.space())?;
         image.push(HEAP_KIND)?;
-        image.extend_from_slice(slots.to_le_bytes().as_slice())?;
-        image.extend_from_slice(bytes)?;
+        image.extend_from_slice((slots as u16).to_le_bytes().as_slice())?;
+        push_sizes(&self.table, &mut image)?;
+        push_chunks(&self.table, &mut image)?;
         Ok(image)
     }
 
@@ -290,67 +263,28 @@ impl Heap {
             Some(slots) => slots,
             None => return Err(Fault::Damaged),
         };
-        if bytes.len() > PREFIX + CAPACITY {
+        if bytes.len() > PREFIX + SIZE {
             return Err(Fault::Damaged);
         }
-        match Table::from_bytes(alloc, slots, &bytes[PREFIX..]) {
+        let rest = &bytes[PREFIX..];
+        if !is_table(rest, slots) || !is_heap(rest, slots) {
+            return Err(Fault::Damaged);
+        }
+        match unpack(alloc, rest, slots) {
+            Ok(table) => Ok(Heap::of_table(table, alloc)),
             Err(_) => Err(Fault::Memory),
-            Ok(None) => Err(Fault::Damaged),
-            Ok(Some(table)) => Heap::from_table(alloc, table).ok_or(Fault::Damaged),
         }
     }
 
-    /// The heap of a table; None where the table is longer than it has to be or needs too many bytes.
-    fn from_table(alloc: Global, table: Table) -> Option<Heap>
-        ensures { MatchOption result
-            (IsTrimmed table → need_in table ≤ capacity → ⊥)
-            (λ h. (h.chunks ≡ table_map 2 16 table) × IsTrimmed table × (need_in table ≤ capacity)) }
+    /// The heap of a table that ends with a chunk and fits.
+    fn of_table(table: Table, alloc: Global) -> Heap
+        requires trimmed { IsTrimmed table.chunks }
+        requires fits { need_in table.chunks ≤ 65520 }
+        ensures { result.chunks ≡ table_map 2 16 table.chunks }
     {
-        let slots = table.len();
-        if slots > 0 && table.size(slots - 1).is_none() {
-            return None;
-        }
-        let space = space_in(&table);
-        if need_of(slots, space) > CAPACITY {
-            return None;
-        }
         let gap = gap_from(&table, 0);
-        Some(Heap {
-            table,
-            space,
-            gap,
-            alloc,
-        })
+        Heap { table, gap, alloc }
     }
-}
-
-/// The table length that an image begins with; None where the bytes are no heap's image.
-fn image_slots(bytes: &[u8]) -> Option<usize>
-    ensures { MatchOption result
-        ((n : ℕ) (rest : List ℕ) → bytes.now ≡ 1 ∷ word n ++ rest → ⊥)
-        (λ n. (n < 2 ^ 16) × (bytes.now ≡ 1 ∷ word n ++ drop 3 bytes.now)) }
-{
-    match bytes {
-        [HEAP_KIND, low, high, ..] => Some(*low as usize + 256 * *high as usize),
-        _ => None,
-    }
-}
-
-/// What a chunk of `n` bytes takes: its bytes and a word before them, in whole double words; an empty one takes nothing.
-fn space_of(n: usize) -> usize
-    requires { n < 2 ^ 32 }
-    ensures { result ≡ space_of n }
-{
-    if n == 0 { 0 } else { 4 * ((n + 5) / 4) }
-}
-
-/// What a heap with so long a table needs, if its chunks take `space`.
-fn need_of(slots: usize, space: usize) -> usize
-    requires small { slots < 2 ^ 16 }
-    requires room { space < 2 ^ 33 }
-    ensures { result ≡ need_of slots space }
-{
-    HEADER + 4 * ((slots + 1) / 2) + space
 }
 
 /// The handle of a slot.
@@ -384,38 +318,10 @@ fn slot(h: ChunkHandle) -> usize
     (h.0 as usize - HEADER) / 2
 }
 
-/// How many slots there are up to the last one with a chunk.
-fn trimmed_len(table: &Table) -> usize
-    ensures within { result ≤ length table.now }
-    ensures full { IsTrimmed (take result table.now) }
-    ensures gaps { (i : ℕ) → result ≤ i → get_or table.now i None ≡ None }
-{
-    for i in (0..table.len()).rev() {
-        if table.size(i).is_some() {
-            return i + 1;
-        }
-    }
-    0
-}
-
-/// What the chunks of a table take.
-fn space_in(table: &Table) -> usize
-    ensures value { result ≡ space_in table.now }
-    ensures bound { result < 2 ^ 33 }
-{
-    let mut space = 0;
-    for i in 0..table.len() {
-        if let Some(size) = table.size(i) {
-            space += space_of(size);
-        }
-    }
-    space
-}
-
 /// The first slot from `start` on that has no chunk, or the table's length.
 fn gap_from(table: &Table, start: usize) -> usize
-    requires { start ≤ length table.now }
-    ensures { result ≡ start + first_gap (drop start table.now) }
+    requires { start ≤ length table.now.chunks }
+    ensures { result ≡ start + first_gap (drop start table.now.chunks) }
 {
     for i in start..table.len() {
         if table.size(i).is_none() {

@@ -1,265 +1,239 @@
-ghost use Rattle.std.specs.Prelude.{◌≡◌, ◌+◌, ◌-◌, ◌*◌, ◌^◌, ◌≤◌, ◌<◌, ℕ, [], ◌++◌, Some, None, IfOk, MatchOption, IsSome, length, max, replicate, take, set, get_or, unwrap_or};
+ghost use Rattle.std.specs.Prelude.{◌≡◌, ◌+◌, ◌-◌, ◌≤◌, ◌<◌, ℕ, [], ◌++◌, Some, None, IfOk, IfSome, IsSome, length, replicate, take, set, get_or, unwrap_or, slice_range, is_some, nat_lt, true, ◌==◌, if◌then◌else◌};
 ghost use Rattle.std.specs.Borrow.{sem};
 ghost use Rattle.std.specs.List.{splice};
 ghost use Rattle.std.specs.Option.{option_copied, option_map};
-ghost use Rattle.raw_region.specs.declared.TheConstants.{SIZE};
-ghost use Rattle.lmem_heap.specs.Packed.{Slots, packed, words, total, chunks};
-ghost use Rattle.lmem_heap.specs.Placed.{offsets};
+ghost use Rattle.geos_model.specs.Bytes.{resized};
+ghost use Rattle.geos_model.proofs.Table.{IsTrimmed};
+ghost use Rattle.raw_region.specs.Bytes.{put};
+ghost use Rattle.lmem_heap.specs.Slots.{space_in, need_in, need_of};
 
-use raw_region::RawBody;
+use crate::space::{EMPTY, Space};
 use std::alloc::{AllocError, Global};
 use std::marker::Model;
 
-/// The size word of a slot with no chunk.
-const NO_CHUNK: u16 = 0xFFFF;
-
-/// A row of slots, each with a chunk or none: a word for the size of each, and behind them the chunks, packed in order.
+/// Chunks in a region, each under a slot.
 #[derive(Drop)]
 pub(crate) struct Table {
-    body: RawBody,
-    slots: usize,
+    space: Space,
 }
 
 impl Model for Table {
-    ghost use Rattle.std.specs.Prelude.{◌≡◌, ◌≤◌, ℕ, List, Option, length};
-    ghost use Rattle.raw_region.specs.declared.TheConstants.{SIZE};
-    ghost use Rattle.lmem_heap.specs.Packed.{packed, slots_in};
+    ghost use Rattle.lmem_heap.specs.Stored.{Stored, store_of, IsStored};
 
-    ghost Value = { List (Option (List ℕ)) };
+    ghost Value = { Stored };
 
-    ghost view = { λ t. slots_in t.slots t.body };
+    ghost view = { λ t. store_of t.space.region t.space.slots };
 
-    ghost invariant = { λ t. (t.body ≡ packed (slots_in t.slots t.body)) × (length t.body ≤ SIZE) };
+    ghost invariant = { λ t. IsStored t.space };
 }
 
 impl Table {
     ghost use Rattle.lmem_heap.specs.LendsChunk.{lends_chunk};
 
     pub(crate) fn new(alloc: Global) -> Result<Table, AllocError>
-        ensures { IfOk result (λ t. t ≡ []) }
+        ensures { IfOk result (λ t. (t.chunks ≡ []) × (t.offsets ≡ [])) }
     {
-        let body = RawBody::new(alloc)?;
-        Ok(Table { body, slots: 0 })
-    }
-
-    /// The table of so many slots whose bytes these are; None where they are no such table's.
-    pub(crate) fn from_bytes(
-        alloc: Global,
-        slots: usize,
-        bytes: &[u8],
-    ) -> Result<Option<Table>, AllocError>
-        requires { length bytes.now ≤ SIZE }
-        ensures { IfOk result (λ found. MatchOption found
-            ((t : Slots) → length t ≡ slots → packed t ≡ bytes.now → ⊥)
-            (λ t. (length t ≡ slots) × (packed t ≡ bytes.now))) }
-    {
-        if slots > bytes.len() / 2 {
-            return Ok(None);
-        }
-        let mut body = RawBody::new(alloc)?;
-        body.replace(0, 0, bytes);
-        if bytes_before(&body, slots) != bytes.len() - 2 * slots {
-            return Ok(None);
-        }
-        Ok(Some(Table { body, slots }))
+        let space = Space::new(alloc)?;
+        Ok(Table { space })
     }
 
     /// How many slots there are.
     pub(crate) fn len(&self) -> usize
-        ensures value { result ≡ length self.now }
-        ensures room { 2 * length self.now + length (chunks self.now) ≤ SIZE }
+        ensures chunks { result ≡ length self.now.chunks }
+        ensures offsets { result ≡ length self.now.offsets }
+        ensures room { need_in self.now.chunks ≤ 65520 }
     {
-        self.slots
+        self.space.slots
     }
 
-    /// The words and the chunks, as they stand.
-    pub(crate) fn bytes(&self) -> &[u8]
-        ensures { result.now ≡ packed self.now }
+    /// What the chunks take, each with the word before it.
+    pub(crate) fn space(&self) -> usize
+        ensures { result ≡ space_in self.now.chunks }
     {
-        self.body.bytes()
+        self.space.total
     }
 
-    /// The size of the chunk in a slot.
+    /// The size of a slot's chunk.
     pub(crate) fn size(&self, i: usize) -> Option<usize>
-        requires { i < length self.now }
-        ensures { result ≡ option_map length (get_or self.now i None) }
+        requires { i < length self.now.chunks }
+        ensures value { result ≡ option_map length (get_or self.now.chunks i None) }
+        ensures small { IfSome result (λ n. n < 65536) }
     {
-        let size = self.body.word(2 * i);
-        if size == NO_CHUNK {
-            None
-        } else {
-            Some(size as usize)
-        }
+        self.space.size(i)
     }
 
-    /// The size of the chunk in a slot that has one.
-    fn chunk_size(&self, i: usize) -> usize
-        requires slot { i < length self.now }
-        requires live { IsSome (get_or self.now i None) }
-        ensures { result ≡ length (unwrap_or (get_or self.now i None) []) }
-    {
-        self.size(i).unwrap()
-    }
-
-    /// Where the bytes of a slot's chunk stand, or would stand.
-    fn place(&self, i: usize) -> usize
-        requires { i ≤ length self.now }
-        ensures { result ≡ 2 * length self.now + length (chunks (take i self.now)) }
-    {
-        2 * self.slots + bytes_before(&self.body, i)
-    }
-
-    /// Where the bytes of a slot's chunk stand; None where it has none.
+    /// Where the bytes of a slot's chunk lie; None where it has none.
     pub(crate) fn offset(&self, i: usize) -> Option<usize>
-        requires { i < length self.now }
-        ensures { result ≡ get_or (offsets self.now) i None }
+        requires { i < length self.now.chunks }
+        ensures place { result ≡ get_or self.now.offsets i None }
+        ensures there { is_some result ≡ nat_lt 0 (length (unwrap_or (get_or self.now.chunks i None) [])) }
+        ensures within { IfSome result (λ at. at + length (unwrap_or (get_or self.now.chunks i None) []) ≤ 65520) }
     {
-        let size = self.size(i)?;
-        if size == 0 {
-            return None;
-        }
-        Some(self.place(i))
+        self.space.offset(i)
     }
 
-    /// The bytes of the chunk in a slot.
+    /// The bytes of a slot's chunk.
     pub(crate) fn chunk(&self, i: usize) -> Option<&[u8]>
-        requires { i < length self.now }
-        ensures { option_copied result ≡ get_or self.now i None }
+        requires { i < length self.now.chunks }
+        ensures { option_copied result ≡ get_or self.now.chunks i None }
     {
-        let size = self.size(i)?;
-        let at = self.place(i);
-        Some(&self.body.bytes()[at..at + size])
+        self.space.chunk(i)
     }
 
-    /// The bytes of the chunk in a slot that has one, to be written.
-    pub(crate) fn chunk_mut(&mut self, i: usize) -> &mut [u8]
-        requires slot { i < length self.old }
-        requires live { IsSome (get_or self.old i None) }
-        ensures* writes_back { sem 𝓛 (lends_chunk self.entry i result) }
-        ensures value { result.now ≡ unwrap_or (get_or self.old i None) [] }
+    /// Sees that there are `n` slots. New ones have no chunk.
+    pub(crate) fn grow(&mut self, n: usize)
+        requires more { length self.old.chunks ≤ n }
+        requires room { need_of n (space_in self.old.chunks) ≤ 65520 }
+        ensures { self.new.chunks ≡ self.old.chunks ++ replicate (n - length self.old.chunks) None }
     {
-        let size = self.chunk_size(i);
-        let at = self.place(i);
-        self.body.slice_mut(at, size)
+        self.space.open_below(n, 0);
+        self.space.lengthen(n);
     }
 
-    /// Writes over the bytes of a slot's chunk from `at` on.
+    /// A chunk of `n` zeros for a slot with none, or with one that has no bytes.
+    pub(crate) fn place(&mut self, i: usize, n: usize)
+        requires slot { i < length self.old.chunks }
+        requires none { length (unwrap_or (get_or self.old.chunks i None) []) ≡ 0 }
+        requires room { need_in (set self.old.chunks i (Some (replicate n 0))) ≤ 65520 }
+        ensures { self.new.chunks ≡ set self.old.chunks i (Some (replicate n 0)) }
+    {
+        self.space.place(i, n);
+    }
+
+    /// A chunk with these bytes for a slot with none.
+    pub(crate) fn put(&mut self, i: usize, bytes: &[u8])
+        requires slot { i < length self.old.chunks }
+        requires none { get_or self.old.chunks i None ≡ None }
+        requires room { need_in (set self.old.chunks i (Some bytes.now)) ≤ 65520 }
+        ensures { self.new.chunks ≡ set self.old.chunks i (Some bytes.now) }
+    {
+        self.place(i, bytes.len());
+        self.write(i, 0, bytes);
+    }
+
+    /// A slot's chunk becomes an empty one, or none. Every other chunk stays where it lies.
+    pub(crate) fn vacate(&mut self, i: usize, e: usize)
+        requires slot { i < length self.old.chunks }
+        requires entry { e ≤ 1 }
+        ensures chunks { self.new.chunks ≡ set self.old.chunks i (if e == 0 then None else Some []) }
+        ensures offsets { self.new.offsets ≡ set self.old.offsets i None }
+        ensures count { length self.old.offsets ≡ length self.old.chunks }
+    {
+        self.space.vacate(i, e);
+    }
+
+    /// Leaves off the last slots with no chunk.
+    pub(crate) fn trim(&mut self)
+        ensures less { length self.new.chunks ≤ length self.old.chunks }
+        ensures chunks { self.new.chunks ≡ take (length self.new.chunks) self.old.chunks }
+        ensures gaps { (j : ℕ) → length self.new.chunks ≤ j → get_or self.old.chunks j None ≡ None }
+        ensures trimmed { IsTrimmed self.new.chunks }
+        ensures offsets { (j : ℕ) → get_or self.new.offsets j None ≡ get_or self.old.offsets j None }
+    {
+        self.space.trim();
+    }
+
+    /// Packs the chunks at the end of the region, so that all free room is in one piece.
+    pub(crate) fn pack(&mut self)
+        ensures { self.new.chunks ≡ self.old.chunks }
+    {
+        self.space.compact();
+    }
+
+    /// Writes over the bytes of a slot's chunk from `at` on, where they lie.
     pub(crate) fn write(&mut self, i: usize, at: usize, bytes: &[u8])
-        requires slot { i < length self.old }
-        requires live { IsSome (get_or self.old i None) }
-        requires range { at + length bytes.now ≤ length (unwrap_or (get_or self.old i None) []) }
-        ensures { self.new ≡ set self.old i (Some (splice (unwrap_or (get_or self.old i None) []) at (at + length bytes.now) bytes.now)) }
+        requires slot { i < length self.old.chunks }
+        requires live { IsSome (get_or self.old.chunks i None) }
+        requires range { at + length bytes.now ≤ length (unwrap_or (get_or self.old.chunks i None) []) }
+        ensures chunks { self.new.chunks ≡ set self.old.chunks i (Some (put (unwrap_or (get_or self.old.chunks i None) []) at bytes.now)) }
+        ensures offsets { self.new.offsets ≡ self.old.offsets }
     {
-        let place = self.place(i);
-        self.body.copy_in(place + at, bytes);
+        let run = self.space.find_run(i);
+        self.space.region.copy_in(run.from + at, bytes);
     }
 
-    /// Puts `new` in the place of the `k` bytes from `at` on of a slot's chunk.
+    /// How many bytes a slot's chunk has.
+    fn size_of(&self, i: usize) -> usize
+        requires { i < length self.now.chunks }
+        ensures value { result ≡ length (unwrap_or (get_or self.now.chunks i None) []) }
+        ensures small { result ≤ 65520 }
+    {
+        self.space.find_run(i).size
+    }
+
+    /// A slot's chunk becomes one of `n` bytes: those that it had, cut or with zeros behind them.
+    pub(crate) fn resize(&mut self, i: usize, n: usize)
+        requires slot { i < length self.old.chunks }
+        requires room { need_in (set self.old.chunks i (Some (resized (unwrap_or (get_or self.old.chunks i None) []) n))) ≤ 65520 }
+        ensures { self.new.chunks ≡ set self.old.chunks i (Some (resized (unwrap_or (get_or self.old.chunks i None) []) n)) }
+    {
+        let size = self.space.find_run(i).size;
+        if n == 0 {
+            self.space.vacate(i, EMPTY);
+        } else if size == 0 {
+            self.space.place(i, n);
+        } else {
+            self.space.resize(i, n);
+        }
+    }
+
+    /// Puts `new` in the place of the `k` bytes from `at` on of a slot's chunk; what stands behind them slides.
     pub(crate) fn replace(&mut self, i: usize, at: usize, k: usize, new: &[u8])
-        requires slot { i < length self.old }
-        requires live { IsSome (get_or self.old i None) }
-        requires range { at + k ≤ length (unwrap_or (get_or self.old i None) []) }
-        requires room { 2 * length self.old + length (chunks self.old) + length new.now ≤ SIZE + k }
-        ensures { self.new ≡ set self.old i (Some (splice (unwrap_or (get_or self.old i None) []) at (at + k) new.now)) }
+        requires slot { i < length self.old.chunks }
+        requires live { IsSome (get_or self.old.chunks i None) }
+        requires range { at + k ≤ length (unwrap_or (get_or self.old.chunks i None) []) }
+        requires room { need_in (set self.old.chunks i (Some (splice (unwrap_or (get_or self.old.chunks i None) []) at (at + k) new.now))) ≤ 65520 }
+        ensures { self.new.chunks ≡ set self.old.chunks i (Some (splice (unwrap_or (get_or self.old.chunks i None) []) at (at + k) new.now)) }
     {
-        let size = self.chunk_size(i);
-        let place = self.place(i);
-        self.body.replace(place + at, k, new);
-        self.body.set_word(2 * i, (size - k + new.len()) as u16);
-    }
-
-    /// Makes a slot's chunk longer by `n` zeros at its end.
-    pub(crate) fn lengthen(&mut self, i: usize, n: usize)
-        requires slot { i < length self.old }
-        requires live { IsSome (get_or self.old i None) }
-        requires room { 2 * length self.old + length (chunks self.old) + n ≤ SIZE }
-        ensures { self.new ≡ set self.old i (Some (unwrap_or (get_or self.old i None) [] ++ replicate n 0)) }
-    {
-        let size = self.chunk_size(i);
-        let place = self.place(i);
-        self.body.insert_zeros(place + size, n);
-        self.body.set_word(2 * i, (size + n) as u16);
-    }
-
-    /// Takes a slot's chunk away.
-    pub(crate) fn clear(&mut self, i: usize)
-        requires slot { i < length self.old }
-        requires live { IsSome (get_or self.old i None) }
-        ensures { self.new ≡ set self.old i None }
-    {
-        let size = self.chunk_size(i);
-        let place = self.place(i);
-        self.body.replace(place, size, &[]);
-        self.body.set_word(2 * i, NO_CHUNK);
-    }
-
-    /// Leaves off the slots behind the first `n`, which have no chunks.
-    pub(crate) fn truncate(&mut self, n: usize)
-        requires within { n ≤ length self.old }
-        requires gaps { (i : ℕ) → n ≤ i → get_or self.old i None ≡ None }
-        ensures { self.new ≡ take n self.old }
-    {
-        self.body.replace(2 * n, 2 * (self.slots - n), &[]);
-        self.slots = n;
-    }
-
-    /// Sees that there are at least `n` slots. New ones have no chunk.
-    pub(crate) fn open_slots(&mut self, n: usize)
-        requires { 2 * max (length self.old) n + length (chunks self.old) ≤ SIZE }
-        ensures { self.new ≡ self.old ++ replicate (n - length self.old) None }
-    {
-        let first = self.slots;
-        if first < n {
-            self.push_empty(n - first);
-            for i in first..n {
-                self.set_gap(i);
-            }
+        let size = self.size_of(i);
+        let end = size - k + new.len();
+        if end == size {
+            self.write(i, at, new);
+        } else if end > size {
+            self.resize(i, end);
+            self.overlay(i, at, at + k, size, new);
+        } else {
+            self.overlay(i, at, at + k, size, new);
+            self.resize(i, end);
         }
     }
 
-    /// More slots, each with an empty chunk.
-    fn push_empty(&mut self, more: usize)
-        requires { 2 * (length self.old + more) + length (chunks self.old) ≤ SIZE }
-        ensures { self.new ≡ self.old ++ replicate more (Some []) }
+    /// Moves the bytes of a slot's chunk between two places behind what comes at `at`, and writes that.
+    fn overlay(&mut self, i: usize, at: usize, from: usize, to: usize, new: &[u8])
+        requires slot { i < length self.old.chunks }
+        requires live { IsSome (get_or self.old.chunks i None) }
+        requires order { at ≤ from }
+        requires forward { from ≤ to }
+        requires within { to ≤ length (unwrap_or (get_or self.old.chunks i None) []) }
+        requires room { at + length new.now + (to - from) ≤ length (unwrap_or (get_or self.old.chunks i None) []) }
+        ensures { let b = unwrap_or (get_or self.old.chunks i None) [] in self.new.chunks ≡ set self.old.chunks i (Some (put (put b (at + length new.now) (slice_range b from to)) at new.now)) }
     {
-        self.body.insert_zeros(2 * self.slots, 2 * more);
-        self.slots += more;
+        let _size = self.size_of(i);
+        self.slide(i, from, at + new.len(), to - from);
+        self.write(i, at, new);
     }
 
-    /// A slot with an empty chunk has none instead.
-    fn set_gap(&mut self, gap: usize)
-        requires slot { gap < length self.old }
-        requires empty { get_or self.old gap None ≡ Some [] }
-        ensures { self.new ≡ set self.old gap None }
+    /// Moves `n` bytes of a slot's chunk from one place in it to another, as if they were copied aside first.
+    fn slide(&mut self, i: usize, from: usize, to: usize, n: usize)
+        requires slot { i < length self.old.chunks }
+        requires live { IsSome (get_or self.old.chunks i None) }
+        requires source { from + n ≤ length (unwrap_or (get_or self.old.chunks i None) []) }
+        requires target { to + n ≤ length (unwrap_or (get_or self.old.chunks i None) []) }
+        ensures chunks { let b = unwrap_or (get_or self.old.chunks i None) [] in self.new.chunks ≡ set self.old.chunks i (Some (put b to (slice_range b from (from + n)))) }
+        ensures offsets { self.new.offsets ≡ self.old.offsets }
     {
-        self.body.set_word(2 * gap, NO_CHUNK);
+        let run = self.space.find_run(i);
+        self.space.region.slide(run.from + from, run.from + to, n);
     }
 
-    /// A chunk of `n` zeros in a slot that has none. The chunks behind it slide.
-    pub(crate) fn fill(&mut self, i: usize, n: usize)
-        requires slot { i < length self.old }
-        requires gap { get_or self.old i None ≡ None }
-        requires room { 2 * length self.old + length (chunks self.old) + n ≤ SIZE }
-        ensures { self.new ≡ set self.old i (Some (replicate n 0)) }
+    /// The bytes of the chunk of a slot that has one, to be written.
+    pub(crate) fn chunk_mut(&mut self, i: usize) -> &mut [u8]
+        requires slot { i < length self.old.chunks }
+        requires live { IsSome (get_or self.old.chunks i None) }
+        ensures* writes_back { sem 𝓛 (lends_chunk self.entry i result) }
+        ensures value { result.now ≡ unwrap_or (get_or self.old.chunks i None) [] }
     {
-        let place = self.place(i);
-        self.body.insert_zeros(place, n);
-        self.body.set_word(2 * i, n as u16);
+        let run = self.space.find_run(i);
+        self.space.region.slice_mut(run.from, run.size)
     }
-}
-
-/// How many bytes the chunks of the first `i` slots have.
-fn bytes_before(body: &RawBody, i: usize) -> usize
-    requires within { 2 * i ≤ length body.now }
-    requires small { i < 2 ^ 16 }
-    ensures { result ≡ total (words i body.now) }
-{
-    let mut sum: usize = 0;
-    for k in 0..i {
-        let size = body.word(2 * k);
-        if size != NO_CHUNK {
-            sum += size as usize;
-        }
-    }
-    sum
 }

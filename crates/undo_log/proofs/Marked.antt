@@ -1,7 +1,7 @@
 -- Where a change doesn't touch a block, the block stays, and so what the marks tell is still so.
 use Rattle.std.proofs.Common.{◌≡◌, ◌≢◌, ℕ, Bool, List, [], ◌∷◌, ◌++◌, length, take, get_or, ◌+◌, ◌<◌, Option, None, Some, is_some, inl, inr, refl, sym, ap, subst, ◌∙◌}
 use Rattle.std.proofs.lemmas.List.{map-append, take_more}
-use Rattle.std.proofs.lemmas.List.Elements.{Contains-push_cases}
+use Rattle.std.proofs.lemmas.List.Elements.{Contains-append_left, Contains-append_right, Contains-push_cases}
 use Rattle.std.specs.List.{Contains}
 use Rattle.std.specs.Option.{option_map_or}
 use Rattle.std.specs.FinMap.{get}
@@ -66,6 +66,9 @@ marks_more hs h old between new before last = record {
           | inr is ↦ now.1 (subst (Contains (h ∷ [])) is (contains_first h []))
         ],
       );
+  others = λ k handle other.
+      last.others k handle (λ there. other (Contains-append_right hs (h ∷ []) k there))
+      ∙ before.others k handle (λ there. other (Contains-append_left hs (h ∷ []) k there));
 }
 
 -- so the next of some members

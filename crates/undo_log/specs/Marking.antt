@@ -15,10 +15,11 @@ touched (changes.Part b part) = b.0 ∷ []
 touched (changes.UserId b old new) = b.0 ∷ []
 touched (changes.Map old new) = []
 
--- These blocks are marked: one that isn't wasn't before, and is none of them.
+-- These blocks are marked: one that isn't wasn't before, and is none of them. All others keep their marks.
 pub record Marks (hs : List ℕ) (old new : List Bool) : Type 0 where
   pub size : length new ≡ length old
   pub rest : (h : ℕ) → is_vm_handle h ≡ true → is_changed new h ≡ false → (is_changed old h ≡ false) × (Contains hs h → ⊥)
+  pub others : (h : ℕ) → is_vm_handle h ≡ true → (Contains hs h → ⊥) → is_changed new h ≡ is_changed old h
 
 -- What a file has of the blocks in memory is still told by the marks.
 abbrev pub Tells : Document → Document → List Bool → List Bool → Type 0

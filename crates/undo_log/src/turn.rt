@@ -10,7 +10,7 @@ use crate::marking::mark;
 use geos_model::Fault;
 use vm_blocks::{Blocks, Change, Direction};
 
-/// Carries a change out in a direction, and marks what it touches. Memory where the block that comes in finds none, and nothing
+/// Carries a change out in a direction, and marks what it touches. Memory where the blocks that come in find none, and nothing
 /// changes.
 pub fn take(
     blocks: &mut Blocks,

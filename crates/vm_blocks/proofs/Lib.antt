@@ -9,3 +9,4 @@ pub mod ValidLemmas
 pub mod FileImages
 pub mod Loaded
 pub mod Flushed
+pub mod Held

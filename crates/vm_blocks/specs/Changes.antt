@@ -1,15 +1,16 @@
 -- What a change makes of a document, the same change the other way round, and in which documents it can be made.
 use Rattle.std.specs.Prelude.{◌≡◌, ◌≢◌, ◌≤◌, ◌<◌, ◌+◌, ℕ, List, [], true, Some, None, length, replicate}
-use Rattle.std.specs.List.{All}
+use Rattle.std.specs.List.{All, sum_by}
 use Rattle.std.specs.FinMap.{get, contains_key}
 use Rattle.geos_model.specs.Heap.{capacity, fits_with, is_chunk_handle}
 use Rattle.geos_model.specs.Document.{Block, Document, IsValid, is_vm_handle, is_live, is_heap, is_raw, chunks_of, raw_bytes_of, user_id_of, with_body, with_user_id, with_blocks, handles_of, without_blocks}
 use Rattle.geos_model.specs.ElementArray.{all_distinct}
 use Rattle.geos_model.specs.Meaning.{chunk_at, with_chunk, without_chunk}
-use Rattle.geos_model.specs.declared.command.Body.TheVariants.{Raw}
+use Rattle.geos_model.specs.declared.command.Body.{Body}
+use Rattle.geos_model.specs.declared.command.Body.TheVariants.{Raw, Heap}
 use Rattle.chunk_edits.specs.Splicing.{Stands, forwards}
 use Rattle.chunk_edits.specs.declared.splice.Splice.{Splice}
-use Rattle.geos_model.specs.Cost.{images_length}
+use Rattle.geos_model.specs.Image.{image}
 use Rattle.vm_blocks.specs.Members.{saved_blocks, ready_blocks}
 use Rattle.vm_blocks.specs.declared.prepared.Prepared.{Prepared}
 use Rattle.vm_blocks.specs.declared.change.Change.{Change}
@@ -161,6 +162,15 @@ IsFor prepared change = ready_blocks prepared.incoming.items ≡ blocks_in chang
 
 -- How many content bytes a change holds.
 
+-- a body that was saved: a raw one is held as its bytes, a heap as its image
+abbrev pub body_weight : Body → ℕ
+body_weight (Raw bytes) = length bytes
+body_weight (Heap m) = length (image (Heap m))
+
+-- the bodies of these blocks together
+abbrev pub blocks_weight : List (ℕ × Block) → ℕ
+blocks_weight blocks = sum_by (λ p. body_weight p.1.body) blocks
+
 abbrev pub content_weight : Content → ℕ
 content_weight (contents.Bytes bytes) = length bytes
 content_weight (contents.Zeros n) = 0
@@ -172,8 +182,8 @@ part_weight (parts.ChunkIn c content) = content_weight content
 part_weight (parts.ChunkOut c content) = content_weight content
 
 abbrev pub weight : Change → ℕ
-weight (changes.BlocksIn ms) = images_length (saved_blocks ms.list.items)
-weight (changes.BlocksOut ms) = images_length (saved_blocks ms.list.items)
+weight (changes.BlocksIn ms) = blocks_weight (saved_blocks ms.list.items)
+weight (changes.BlocksOut ms) = blocks_weight (saved_blocks ms.list.items)
 weight (changes.Part b part) = part_weight part
 weight (changes.UserId b old new) = 0
 weight (changes.Map old new) = 0

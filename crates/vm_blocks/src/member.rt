@@ -1,6 +1,5 @@
 ghost use Rattle.std.specs.Prelude.{◌≡◌, ◌≤◌, ◌∷◌, [], IfOk, length};
 ghost use Rattle.geos_model.specs.Document.{most_blocks};
-ghost use Rattle.geos_model.specs.Cost.{images_length};
 ghost use Rattle.vm_blocks.specs.Members.{saved_blocks};
 ghost use Rattle.vm_blocks.specs.Saved.{saved_block};
 
@@ -24,6 +23,8 @@ pub struct Members {
 }
 
 impl Members {
+    ghost use Rattle.vm_blocks.specs.Changes.{blocks_weight};
+
     /// One block alone.
     pub fn one(alloc: Global, handle: VmHandle, block: SavedBlock) -> Result<Members, AllocError>
         ensures { IfOk result (λ members. saved_blocks members.list.items ≡ (handle.0, saved_block block) ∷ []) }
@@ -41,13 +42,13 @@ impl Members {
         Members { list }
     }
 
-    /// How many bytes the images of their bodies have.
+    /// How many bytes their bodies hold.
     pub(crate) fn weight(&self) -> u64
-        ensures { result ≡ images_length (saved_blocks self.now.list.items) }
+        ensures { result ≡ blocks_weight (saved_blocks self.now.list.items) }
     {
         let mut total = 0;
         for member in &self.list {
-            total += member.block.image_len() as u64;
+            total += member.block.byte_count() as u64;
         }
         total
     }

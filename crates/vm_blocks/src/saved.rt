@@ -55,8 +55,8 @@ impl SavedHeap {
         Ok(SavedHeap { image })
     }
 
-    /// How many bytes the image has.
-    pub fn image_len(&self) -> usize
+    /// How many bytes it holds: those of the image.
+    pub fn byte_count(&self) -> usize
         ensures { result ≡ length (image (bodies.Heap self.now)) }
     {
         self.image.as_slice().len()
@@ -122,11 +122,11 @@ impl SavedRaw {
         Ok(SavedRaw { bytes })
     }
 
-    /// How many bytes the body's image has: the bytes, and one that says what kind of body they are.
-    pub fn image_len(&self) -> usize
-        ensures { result ≡ length (image (bodies.Raw self.now)) }
+    /// How many bytes it holds.
+    pub fn byte_count(&self) -> usize
+        ensures { result ≡ length self.now }
     {
-        self.bytes.as_slice().len() + 1
+        self.bytes.as_slice().len()
     }
 
     /// The body as it was.
@@ -174,6 +174,7 @@ pub struct SavedBlock {
 
 impl SavedBlock {
     ghost use Rattle.vm_blocks.specs.Saved.{saved_block};
+    ghost use Rattle.vm_blocks.specs.Changes.{body_weight};
 
     /// A raw block of so many zeros.
     pub fn zeros(alloc: Global, user_id: u16, size: usize) -> Result<SavedBlock, AllocError>
@@ -215,14 +216,14 @@ impl SavedBlock {
         })
     }
 
-    /// How many bytes the image of its body has.
-    pub fn image_len(&self) -> usize
-        ensures value { result ≡ length (image (saved_block self.now).body) }
+    /// How many bytes its body holds: a raw one its bytes, a heap those of its image.
+    pub fn byte_count(&self) -> usize
+        ensures value { result ≡ body_weight (saved_block self.now).body }
         ensures small { result ≤ capacity + 1 }
     {
         match &self.body {
-            SavedBody::Raw(raw) => raw.image_len(),
-            SavedBody::Heap(heap) => heap.image_len(),
+            SavedBody::Raw(raw) => raw.byte_count(),
+            SavedBody::Heap(heap) => heap.byte_count(),
         }
     }
 

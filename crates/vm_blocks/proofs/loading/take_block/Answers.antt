@@ -2,9 +2,14 @@ use Rattle.std.proofs.Common.{◌≡◌, true, IsTrue, is_some, Err, sym, ap, �
 use Rattle.std.proofs.lemmas.Result.{err_from_is_err_and}
 use Rattle.geos_model.specs.Document.{is_live, with_block, block_at}
 use Rattle.geos_model.specs.declared.fault.Fault.TheVariants.{Damaged}
+use Rattle.geos_model.proofs.Files.{body_of-some}
 use Rattle.vm_blocks.specs.InFile.{document_at}
 use Rattle.vm_blocks.proofs.Loaded.{listed_at, taken, no_image}
 use Rattle.vm_blocks.proofs.loading.take_block.Goals as goal
+
+-- what reads as a body is a valid one
+pub new-requires : goal.new-requires
+new-requires g c = (body_of-some _ _ c.in_ok-body-in-Some.ensures.read).0
 
 pub returns-in_err-body-in-Some-clause-damaged : goal.returns-in_err-body-in-Some-clause-damaged
 returns-in_err-body-in-Some-clause-damaged g c =

@@ -3,20 +3,14 @@ use Rattle.std.proofs.lemmas.List.{length-replicate}
 use Rattle.geos_model.specs.Heap.{space_of}
 use Rattle.geos_model.proofs.Tables.{put_at}
 use Rattle.lmem_heap.specs.Slots.{need_in}
-use Rattle.lmem_heap.proofs.Heaps.{shown_chunks, free_slot, need_new, fits_put, counts, space_of_at_most}
+use Rattle.lmem_heap.proofs.Heaps.{shown_chunks, free_slot, need_new, fits_put}
 use Rattle.lmem_heap.proofs.heap.Heap.fits_at.Goals as goal
 
 pub returns : goal.returns
 returns c =
-    let t = c.self.inside.table in let i = c.self.invariant in let k = c.slot.result in
+    let t = c.self.inside.table.chunks in let i = c.self.invariant in let k = c.slot.result in
     let z : List ℕ = replicate c.args.n 0 in
     let none : get_or t k None ≡ None = free_slot t k c.args.h.0 c.args.self.now.chunks (shown_chunks c.self.inside.table c.args.self.now c.self.view_is) c.slot.ensures.at c.requires.free in
     let need : c.need_of.result ≡ need_in (put_at t k z)
-    = omega (arith, need_new t k z none, i.1, c.len.ensures.value, c.max-slots.ensures, c.space_of.ensures, ap space_of (length-replicate {A = ℕ} c.args.n 0), c.need_of.ensures) in
+    = omega (arith, need_new t k z none, c.space.ensures, c.len.ensures.chunks, c.max-slots.ensures, c.space_of.ensures, ap space_of (length-replicate {A = ℕ} c.args.n 0), c.need_of.ensures) in
     ap (λ (n : ℕ). nat_le n 65520) need ∙ sym (fits_put t k c.args.h.0 c.args.self.now.chunks (shown_chunks c.self.inside.table c.args.self.now c.self.view_is) c.slot.ensures.at z i.0)
-
-pub overflow_add-self-inside : goal.overflow_add-self-inside
-overflow_add-self-inside c = let i = counts _ _ _ c.self.invariant in record { fits = omega (arith, c.space_of.ensures, space_of_at_most c.args.n, c.ranges.n.fits, i.3) }
-
-pub need_of-requires-clause-room : goal.need_of-requires-clause-room
-need_of-requires-clause-room c = let i = counts _ _ _ c.self.invariant in omega (arith, c.space_of.ensures, space_of_at_most c.args.n, c.ranges.n.fits, i.3)

@@ -3,34 +3,34 @@ use Rattle.std.specs.List as list
 use Rattle.geos_model.specs.Heap.{chunk_bytes, space_of}
 use Rattle.geos_model.proofs.Tables.{put_at}
 use Rattle.lmem_heap.specs.Slots.{need_in}
-use Rattle.lmem_heap.proofs.Heaps.{shown_chunks, counts, live_is, live_slot, shows_put, need_changed, put_spliced, counted_changed, length-splice}
+use Rattle.lmem_heap.proofs.Heaps.{shown_chunks, live_is, live_slot, shows_put, need_changed, put_written, counted_changed, length-splice}
 use Rattle.lmem_heap.proofs.heap.Heap.write.Goals as goal
 
 pub slot-requires : goal.slot-requires
-slot-requires c = let i = counts _ _ _ c.self.invariant in live_is c.self.inside.table c.args.h.0 c.args.self.now.chunks (shown_chunks c.self.inside.table c.args.self.now c.self.view_is) i.0 (omega (arith, i.1, i.3)) c.requires.live
+slot-requires c = let i = c.self.invariant in live_is c.self.inside.table.chunks c.args.h.0 c.args.self.now.chunks (shown_chunks c.self.inside.table c.args.self.now c.self.view_is) i.0 i.2 c.requires.live
 
-pub write-requires : goal.write-requires
-write-requires c =
-    let live = live_slot c.self.inside.table c.slot.result c.args.h.0 c.args.self.now.chunks (shown_chunks c.self.inside.table c.args.self.now c.self.view_is) c.slot.ensures.at c.requires.live in
-    record {
-      slot = live.within;
-      live = ap is_some live.holds;
-      range = omega (arith, c.requires.range, ap (λ (o : Option (List ℕ)). length (unwrap_or o [])) live.holds);
-    }
+pub write-requires-clause-slot : goal.write-requires-clause-slot
+write-requires-clause-slot c = (live_slot c.self.inside.table.chunks c.slot.result c.args.h.0 c.args.self.now.chunks (shown_chunks c.self.inside.table c.args.self.now c.self.view_is) c.slot.ensures.at c.requires.live).within
+
+pub write-requires-clause-live : goal.write-requires-clause-live
+write-requires-clause-live c = ap is_some (live_slot c.self.inside.table.chunks c.slot.result c.args.h.0 c.args.self.now.chunks (shown_chunks c.self.inside.table c.args.self.now c.self.view_is) c.slot.ensures.at c.requires.live).holds
+
+pub write-requires-clause-range : goal.write-requires-clause-range
+write-requires-clause-range c = omega (arith, c.requires.range, ap (λ (o : Option (List ℕ)). length (unwrap_or o [])) (live_slot c.self.inside.table.chunks c.slot.result c.args.h.0 c.args.self.now.chunks (shown_chunks c.self.inside.table c.args.self.now c.self.view_is) c.slot.ensures.at c.requires.live).holds)
 
 pub invariant_of-self : goal.invariant_of-self
 invariant_of-self c =
-    let s = c.self.inside in let t = s.table in let i = counts _ _ _ c.self.invariant in let k = c.slot.result in let ws = c.args.bytes.now in let end = c.args.at + length ws in
-    let live = live_slot c.self.inside.table c.slot.result c.args.h.0 c.args.self.now.chunks (shown_chunks c.self.inside.table c.args.self.now c.self.view_is) c.slot.ensures.at c.requires.live in
+    let s = c.self.inside in let t = s.table.chunks in let i = c.self.invariant in let k = c.slot.result in let ws = c.args.bytes.now in let end = c.args.at + length ws in
+    let live = live_slot c.self.inside.table.chunks c.slot.result c.args.h.0 c.args.self.now.chunks (shown_chunks c.self.inside.table c.args.self.now c.self.view_is) c.slot.ensures.at c.requires.live in
     let old : List ℕ = chunk_bytes c.args.self.now.chunks c.args.h.0 in let b : List ℕ = list.splice old c.args.at end ws in
     let same : length b ≡ length old = omega (arith, length-splice old ws c.args.at (length ws) c.requires.range, c.requires.range) in
     let space = live.space in
-    let room : need_in (put_at t k b) ≤ 65520 = omega (arith, need_changed t k b old live, ap space_of same, i.1, i.3) in
-    counted_changed t c.write.new.self k s.space s.space s.gap b old live i room (put_spliced t c.write.new.self k c.args.at end ws old live c.write.ensures) (omega (arith, ap space_of same, i.1))
+    let room : need_in (put_at t k b) ≤ 65520 = omega (arith, need_changed t k b old live, ap space_of same, i.2) in
+    counted_changed t c.write.new.self.chunks k s.gap b old live i room (put_written t c.write.new.self.chunks k c.args.at ws old live c.requires.range c.write.ensures.chunks)
 
 pub returns : goal.returns
 returns c =
-    let t = c.self.inside.table in let k = c.slot.result in let ws = c.args.bytes.now in let end = c.args.at + length ws in
-    let live = live_slot c.self.inside.table c.slot.result c.args.h.0 c.args.self.now.chunks (shown_chunks c.self.inside.table c.args.self.now c.self.view_is) c.slot.ensures.at c.requires.live in
+    let t = c.self.inside.table.chunks in let k = c.slot.result in let ws = c.args.bytes.now in let end = c.args.at + length ws in
+    let live = live_slot c.self.inside.table.chunks c.slot.result c.args.h.0 c.args.self.now.chunks (shown_chunks c.self.inside.table c.args.self.now c.self.view_is) c.slot.ensures.at c.requires.live in
     let old : List ℕ = chunk_bytes c.args.self.now.chunks c.args.h.0 in let b : List ℕ = list.splice old c.args.at end ws in
-    shows_put t k c.args.h.0 c.args.self.now.chunks (shown_chunks c.self.inside.table c.args.self.now c.self.view_is) c.slot.ensures.at c.write.new.self b (put_spliced t c.write.new.self k c.args.at end ws old live c.write.ensures)
+    shows_put t k c.args.h.0 c.args.self.now.chunks (shown_chunks c.self.inside.table c.args.self.now c.self.view_is) c.slot.ensures.at c.write.new.self.chunks b (put_written t c.write.new.self.chunks k c.args.at ws old live c.requires.range c.write.ensures.chunks)

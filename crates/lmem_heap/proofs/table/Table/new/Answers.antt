@@ -1,12 +1,8 @@
-use Rattle.std.proofs.Common.{[], length, arith, refl, ap}
-use Rattle.lmem_heap.specs.Packed.{packed}
-use Rattle.lmem_heap.proofs.Packing.{closed, shows, holds}
+use Rattle.lmem_heap.proofs.Shown.{no_chunks, no_offsets, stored_new}
 use Rattle.lmem_heap.proofs.table.Table.new.Goals as goal
 
 pub invariant_of-result : goal.invariant_of-result
-unfolding packed
-invariant_of-result c = holds (closed 0 _ [] refl c.in_ok-body.ensures (omega (arith, ap length c.in_ok-body.ensures)))
+invariant_of-result c = let e = c.in_ok-space.ensures in stored_new c.in_ok-space.space e.kept e.slots.0 e.slots.1
 
 pub returns : goal.returns
-unfolding packed
-returns c = shows (closed 0 _ [] refl c.in_ok-body.ensures (omega (arith, ap length c.in_ok-body.ensures)))
+returns c = let e = c.in_ok-space.ensures in (no_chunks c.in_ok-space.space e.slots.0, no_offsets c.in_ok-space.space e.slots.0)

@@ -1,46 +1,23 @@
-use Rattle.std.proofs.Common.{◌≡◌, ◌+◌, ◌-◌, ◌≤◌, Some, length, set, arith, refl, ap}
-use Rattle.std.specs.List.{splice}
-use Rattle.lmem_heap.proofs.Packing.{Opened, opened, shows, holds, bytes_of, slot_length, chunk_within, both_changed, length-splice}
-use Rattle.lmem_heap.proofs.table.Table.replace.Goals.{After-place-place, After-set_word}
+use Rattle.std.proofs.Common.{◌≡◌, ◌+◌, ℕ, List, [], Some, None, length, get_or, set, unwrap_or, slice_range, ◌-◌, refl, ap, ◌∙◌, arith}
+use Rattle.geos_model.specs.Bytes.{resized}
+use Rattle.raw_region.specs.Bytes.{put}
+use Rattle.lmem_heap.proofs.Splices.{set_twice, replaced_longer, replaced_shorter, replaced_same}
 use Rattle.lmem_heap.proofs.table.Table.replace.Goals as goal
 
--- the bytes that go stand within the table's
-within : (c : After-place-place) → c.place-place.result + c.args.at + c.args.k ≤ length c.self.inside.body
-within c =
-    let s = c.self.inside in let t = c.args.self.now in let o = opened s.slots s.body t c.self.view_is c.self.invariant in
-    chunk_within t c.args.i c.requires.slot s.slots s.body o c.args.at c.args.k (c.place-place.result + c.args.at) (omega (arith, c.place-place.ensures)) c.requires.range
+pub returns-then-end-size : goal.returns-then-end-size
+returns-then-end-size c =
+    let m = c.args.self.now in let b = unwrap_or (get_or m.chunks c.args.i None) [] in let ws = c.args.new.now in
+    let same : c.args.k ≡ length ws = omega (arith, c.if-end-size.true, c.size_of-size.ensures.value, c.requires.range) in
+    c.write.ensures.chunks ∙ ap (λ (x : List ℕ). set m.chunks c.args.i (Some x)) (replaced_same b ws c.args.at c.args.k same (omega (arith, c.requires.range)))
 
-pub overflow_add-place : goal.overflow_add-place
-overflow_add-place c = let o = opened _ _ _ c.self.view_is c.self.invariant in record { fits = omega (arith, o.long, o.room, within (goal.at.overflow_add-place c).After-place-place) }
+pub returns-then-end-size-2 : goal.returns-then-end-size-2
+returns-then-end-size-2 c =
+    let m = c.args.self.now in let i = c.args.i in let at = c.args.at in let k = c.args.k in let ws = c.args.new.now in let b = unwrap_or (get_or m.chunks i None) [] in let size = c.size_of-size.result in
+    set_twice m.chunks c.resize.new.self.chunks c.overlay.new.self.chunks i _ (λ x. put (put x (at + length ws) (slice_range x (at + k) size)) at ws) c.requires.slot c.resize.ensures c.overlay.ensures
+    ∙ ap (λ (x : List ℕ). set m.chunks i (Some x)) (replaced_longer b ws at k size _ c.size_of-size.ensures.value c.requires.range refl c.if-end-size-2.true)
 
-pub replace-requires-clause-within : goal.replace-requires-clause-within
-replace-requires-clause-within c = within (goal.at.replace-requires-clause-within c).After-place-place
-
-pub replace-requires-clause-room : goal.replace-requires-clause-room
-replace-requires-clause-room c = let o = opened _ _ _ c.self.view_is c.self.invariant in omega (arith, o.long, c.requires.room)
-
-pub overflow_add-size : goal.overflow_add-size
-overflow_add-size c = record { fits = omega (arith, c.requires.room, c.requires.range, c.chunk_size-size.ensures, slot_length c.args.self.now c.args.i c.requires.slot) }
-
-pub overflow_cast-size : goal.overflow_cast-size
-overflow_cast-size c = record { fits = omega (arith, c.requires.room, c.requires.range, c.chunk_size-size.ensures, slot_length c.args.self.now c.args.i c.requires.slot) }
-
-pub set_word-requires : goal.set_word-requires
-set_word-requires c =
-    let s = c.self.inside in let t = c.args.self.now in let o = opened s.slots s.body t c.self.view_is c.self.invariant in
-    omega (arith, o.long, c.requires.slot, c.requires.range, slot_length t c.args.i c.requires.slot, ap length c.replace.ensures, length-splice s.body c.args.new.now (c.place-place.result + c.args.at) c.args.k (within (goal.at.set_word-requires c).After-place-place))
-
--- the table that is left
-changed : (c : After-set_word) → Opened c.self.inside.slots c.set_word.new.self (set c.args.self.now c.args.i (Some (splice (bytes_of c.args.self.now c.args.i) c.args.at (c.args.at + c.args.k) c.args.new.now)))
-changed c =
-    let s = c.self.inside in let t = c.args.self.now in let o = opened s.slots s.body t c.self.view_is c.self.invariant in
-    let size : c.chunk_size-size.result - c.args.k + length c.args.new.now ≡ length (splice (bytes_of t c.args.i) c.args.at (c.args.at + c.args.k) c.args.new.now)
-    = omega (arith, c.chunk_size-size.ensures, c.requires.range, length-splice (bytes_of t c.args.i) c.args.new.now c.args.at c.args.k c.requires.range) in
-    both_changed t c.args.i c.requires.slot s.slots s.body o c.args.at c.args.k _ (c.place-place.result + c.args.at) _ _ c.args.new.now _ c.replace.ensures c.set_word.ensures
-    (omega (arith, c.place-place.ensures)) c.requires.range (omega (arith, o.long, c.requires.room)) refl size
-
-pub invariant_of-self : goal.invariant_of-self
-invariant_of-self c = holds (changed (goal.at.invariant_of-self c).After-set_word)
-
-pub returns : goal.returns
-returns c = shows (changed (goal.at.returns c).After-set_word)
+pub returns-else-end-size-2 : goal.returns-else-end-size-2
+returns-else-end-size-2 c =
+    let m = c.args.self.now in let i = c.args.i in let at = c.args.at in let k = c.args.k in let ws = c.args.new.now in let b = unwrap_or (get_or m.chunks i None) [] in let size = c.size_of-size.result in
+    set_twice m.chunks c.overlay-else-end-size-2.new.self.chunks c.resize-else-end-size-2.new.self.chunks i _ (λ x. resized x (size - k + length ws)) c.requires.slot c.overlay-else-end-size-2.ensures c.resize-else-end-size-2.ensures
+    ∙ ap (λ (x : List ℕ). set m.chunks i (Some x)) (replaced_shorter b ws at k size _ c.size_of-size.ensures.value c.requires.range refl c.if-end-size-2.false)

@@ -1,28 +1,37 @@
-use Rattle.std.proofs.Common.{◌+◌, ◌≤◌, Some, length, set, arith}
-use Rattle.lmem_heap.proofs.Packing.{Opened, opened, shows, holds, over, chunk_within, bytes_changed}
-use Rattle.lmem_heap.proofs.table.Table.write.Goals.{After-place-place, After-copy_in}
+use Rattle.std.proofs.Common.{arith}
+use Rattle.lmem_heap.proofs.Shown.{in_table}
+use Rattle.lmem_heap.proofs.Lent.{run_size, over_stored, over_chunks, over_offsets}
 use Rattle.lmem_heap.proofs.table.Table.write.Goals as goal
 
--- the bytes that are written over stand within the table's
-within : (c : After-place-place) → c.place-place.result + c.args.at + length c.args.bytes.now ≤ length c.self.inside.body
-within c =
-    let s = c.self.inside in let t = c.args.self.now in let o = opened s.slots s.body t c.self.view_is c.self.invariant in
-    chunk_within t c.args.i c.requires.slot s.slots s.body o c.args.at (length c.args.bytes.now) (c.place-place.result + c.args.at) (omega (arith, c.place-place.ensures)) c.requires.range
+pub find_run-run-requires-clause-slot : goal.find_run-run-requires-clause-slot
+find_run-run-requires-clause-slot c = in_table c.self.inside.space c.args.self.now c.args.i c.self.invariant c.self.view_is c.requires.slot
 
-pub overflow_add-place : goal.overflow_add-place
-overflow_add-place c = let o = opened _ _ _ c.self.view_is c.self.invariant in record { fits = omega (arith, o.long, o.room, within (goal.at.overflow_add-place c).After-place-place) }
+pub overflow_add-run : goal.overflow_add-run
+overflow_add-run c =
+    let s = c.self.inside.space in let m = c.args.self.now in let r = c.find_run-run in let i = c.args.i in
+    let count = run_size s m i r.result.from r.result.size c.self.invariant c.self.view_is c.requires.slot r.ensures in let ends = r.ensures.ends in
+    record { fits = omega (arith, c.requires.range) }
 
 pub copy_in-requires : goal.copy_in-requires
-copy_in-requires c = within (goal.at.copy_in-requires c).After-place-place
-
--- the table that is left
-changed : (c : After-copy_in) → Opened c.self.inside.slots c.copy_in.new.self (set c.args.self.now c.args.i (Some (over c.args.self.now c.args.i c.args.at c.args.bytes.now)))
-changed c =
-    let s = c.self.inside in let t = c.args.self.now in let o = opened s.slots s.body t c.self.view_is c.self.invariant in
-    bytes_changed t c.args.i c.requires.slot s.slots s.body o c.args.at (c.place-place.result + c.args.at) _ c.args.bytes.now c.copy_in.ensures c.requires.live (omega (arith, c.place-place.ensures)) c.requires.range
+copy_in-requires c =
+    let s = c.self.inside.space in let m = c.args.self.now in let r = c.find_run-run in let i = c.args.i in
+    let count = run_size s m i r.result.from r.result.size c.self.invariant c.self.view_is c.requires.slot r.ensures in let ends = r.ensures.ends in
+    omega (arith, c.requires.range)
 
 pub invariant_of-self : goal.invariant_of-self
-invariant_of-self c = holds (changed (goal.at.invariant_of-self c).After-copy_in)
+invariant_of-self c =
+    let s = c.self.inside.space in let m = c.args.self.now in let r = c.find_run-run in let i = c.args.i in
+    let count = run_size s m i r.result.from r.result.size c.self.invariant c.self.view_is c.requires.slot r.ensures in let ends = r.ensures.ends in
+    over_stored s m i r.result.from r.result.size c.self.invariant c.self.view_is c.requires.slot r.ensures c.requires.live c.copy_in.new.self c.args.at c.args.bytes.now (omega (arith, c.requires.range)) c.copy_in.ensures
 
-pub returns : goal.returns
-returns c = shows (changed (goal.at.returns c).After-copy_in)
+pub returns-clause-chunks : goal.returns-clause-chunks
+returns-clause-chunks c =
+    let s = c.self.inside.space in let m = c.args.self.now in let r = c.find_run-run in let i = c.args.i in
+    let count = run_size s m i r.result.from r.result.size c.self.invariant c.self.view_is c.requires.slot r.ensures in let ends = r.ensures.ends in
+    over_chunks s m i r.result.from r.result.size c.self.invariant c.self.view_is c.requires.slot r.ensures c.requires.live c.copy_in.new.self c.args.at c.args.bytes.now (omega (arith, c.requires.range)) c.copy_in.ensures
+
+pub returns-clause-offsets : goal.returns-clause-offsets
+returns-clause-offsets c =
+    let s = c.self.inside.space in let m = c.args.self.now in let r = c.find_run-run in let i = c.args.i in
+    let count = run_size s m i r.result.from r.result.size c.self.invariant c.self.view_is c.requires.slot r.ensures in let ends = r.ensures.ends in
+    over_offsets s m i r.result.from r.result.size c.self.invariant c.self.view_is c.requires.slot r.ensures c.requires.live c.copy_in.new.self c.args.at c.args.bytes.now (omega (arith, c.requires.range)) c.copy_in.ensures

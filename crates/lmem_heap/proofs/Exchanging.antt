@@ -1,0 +1,268 @@
+-- The chunk of a slot is moved into a free piece, and its own becomes free.
+use Rattle.std.proofs.Common.{◌≡◌, ℕ, ◌+◌, ◌-◌, ◌*◌, ◌/◌, ◌<◌, ◌≤◌, ◌⊎◌, List, [], ◌∷◌, ◌++◌, length, get_or, set, Option, Some, None, unwrap_or, refl, sym, ap, subst, ◌∙◌, inl, inr, arith}
+use Rattle.std.proofs.lemmas.Bool.{cases_lt}
+use Rattle.std.proofs.lemmas.List.{set-set}
+use Rattle.geos_model.specs.Bytes.{resized}
+use Rattle.lmem_heap.specs.declared.space.Space.{Space}
+use Rattle.lmem_heap.specs.Pieces.{word_in, entry, piece_space, Piece, Used, Free, size_head, Lies, IsFresh, spaces}
+use Rattle.lmem_heap.specs.Edits.{Same, IsSet, IsCopied}
+use Rattle.lmem_heap.specs.Tiled.{IsTiled, chunk_under, chunks_in}
+use Rattle.lmem_heap.specs.Kept.{IsSpareAt, IsOther, IsHeld, IsSpaced, IsLoose, HasNext, IsStill, IsReady, IsResized}
+use Rattle.lmem_heap.proofs.Writes.{word_kept, entry_kept, entry_set, entry_other, set_before, set_behind}
+use Rattle.lmem_heap.proofs.Tiles.{lies_split, shaped_split, fresh_append, fresh_split}
+use Rattle.lmem_heap.proofs.Chunks.{piece_chunk, piece_others, chunk_in}
+use Rattle.lmem_heap.proofs.Editing.{shaped_fresh, IsEdit, edited_set, edited_still, spare_bounds, spare_parts, spare_right, spare_edited, Each, each_all, each_other, IsLinkKept}
+use Rattle.lmem_heap.proofs.Rooms.{free_facts}
+use Rattle.lmem_heap.proofs.Links.{IsSpareSplit, spare_split}
+use Rattle.lmem_heap.proofs.Filling.{used_other, IsLivePiece, live_piece, free_edit}
+use Rattle.lmem_heap.proofs.Shown.{live_of, size_is}
+use Rattle.lmem_heap.proofs.Sizing.{count_resized, resized_front, resized_zeros, held_edited}
+
+-- a free piece that the list lacks, by its place
+pub loose_at : (u : Space) (p room : ℕ) (cs : List Piece) (fs : List ℕ) → IsHeld u cs fs 1 → IsSpareAt u.low cs p → IsOther p fs → word_in u.region p ≡ room + 1 → IsLoose u p room
+loose_at u p room cs fs held spare other word =
+    let r = spare_split u.low cs p spare in
+    let h : IsHeld u (r.before ++ (Free r.room ∷ r.after)) fs 1 = subst (λ (ds : List Piece). IsHeld u ds fs 1) (sym r.is) held in
+    let F = free_facts u.region u.slots u.low p r.room r.before r.after h.tiled r.place in
+    let same : r.room ≡ room = omega (arith, F.0) in
+    record { before = r.before; after = r.after; free = fs; held = subst (λ (n : ℕ). IsHeld u (r.before ++ (Free n ∷ r.after)) fs 1) same h; place = r.place; other = other }
+
+-- a free piece ends where the pieces do, or before
+spare_ends : (xs : List ℕ) (p : ℕ) (cs : List Piece) (r f : ℕ) → Lies size_head xs p cs r → IsSpareAt p cs f → f + word_in xs f ≤ p + spaces cs + 1
+spare_ends xs p [] r f l h = absurd h
+spare_ends xs p (Used i b ∷ cs) r f l h = omega (arith, spare_ends xs (p + piece_space (length b)) cs r f l.1 h)
+spare_ends xs p (Free s ∷ cs) r f l (inl here) = let head = l.0.head in let same : word_in xs f ≡ word_in xs p = ap (λ (q : ℕ). word_in xs q) here in omega arith
+spare_ends xs p (Free s ∷ cs) r f l (inr there) = omega (arith, spare_ends xs (p + s) cs r f l.1 there)
+
+-- ---- bytes are written into a free piece
+
+module _ (s : Space) (q room : ℕ) (f : IsLoose s q room) (ys : List ℕ) (long : length ys ≡ 65520) (before : Same s.region ys 0 (q + 2)) (behind : Same s.region ys (q + room) 65520) where
+  free_q : (word_in s.region q ≡ room + 1) × (q + room ≤ 65520) × (4 ≤ room) × (16 + 2 * s.slots ≤ q) × (room ≡ 4 * (room / 4))
+  free_q = free_facts s.region s.slots s.low q room f.before f.after f.held.tiled f.place
+
+  over_edit : IsEdit s.region ys s.slots s.slots s.low q (Free room ∷ []) (Free room ∷ [])
+  over_edit =
+      let F = free_q in
+      record {
+        long = long;
+        others = λ j l ne. entry_kept s.region ys 0 (q + 2) j before (omega arith) (omega (arith, F.3));
+        before = record { at = λ k from to. before.at k (omega arith) (omega arith) };
+        behind = record { at = λ k from to. behind.at k (omega arith) to };
+        lies = (record { head = word_kept s.region ys 0 (q + 2) q before (omega arith) (omega arith) ∙ F.0; bytes = λ k l. absurd (omega arith) }, omega arith);
+        points = tt;
+        shaped = ((omega (arith, F.2), F.4), tt);
+        distinct = tt;
+        only_new = λ j ne. tt;
+        only_old = λ j ne. tt;
+        covered = λ l. absurd (omega arith);
+      }
+
+  front_fresh : IsFresh s.slots f.before
+  front_fresh = shaped_fresh s.slots f.before s.slots (omega arith) (shaped_split (16 + 2 * s.slots) f.before (Free room ∷ f.after) f.held.tiled.shaped).0
+
+  back_fresh : IsFresh s.slots f.after
+  back_fresh = shaped_fresh s.slots f.after s.slots (omega arith) (shaped_split (16 + 2 * s.slots) f.before (Free room ∷ f.after) f.held.tiled.shaped).1.1
+
+  over_links : Each (IsLinkKept s.region ys q (Free room ∷ []) (Free room ∷ [])) f.free
+  over_links = each_other (IsLinkKept s.region ys q (Free room ∷ []) (Free room ∷ [])) q (λ g ne h. elim h [ inl here ↦ absurd (ne (sym here)) | inr none ↦ absurd none ]) f.free f.other
+
+  pub over_loose : IsLoose (record { region = ys; slots = s.slots; low = s.low; head = s.head; total = s.total }) q room
+  over_loose = record {
+    before = f.before;
+    after = f.after;
+    free = f.free;
+    held = held_edited s ys s.slots q f.before (Free room ∷ []) (Free room ∷ []) f.after f.free f.held f.place over_edit front_fresh back_fresh over_links s.total refl 1 refl;
+    place = f.place;
+    other = f.other;
+  }
+
+  pub over_still : IsStill s (record { region = ys; slots = s.slots; low = s.low; head = s.head; total = s.total })
+  over_still = record {
+    slots = refl;
+    total = refl;
+    entries = λ j l. over_edit.others j l (λ e. omega arith);
+    chunks = edited_still s.region ys s.slots s.slots s.low q f.before (Free room ∷ []) (Free room ∷ []) f.after f.held.tiled f.place over_edit front_fresh back_fresh (omega arith);
+  }
+
+-- the bytes of a chunk
+module _ {loose : ℕ} (s : Space) (k : IsSpaced s loose) (ys : List ℕ) (i p q size n : ℕ) (g : IsLivePiece s k i p size) (within : i < s.slots) (copied : IsCopied s.region ys p q size n) where
+  bytes_at : (j : ℕ) → j < size → get_or s.region (p + 2 + j) 0 ≡ get_or g.bytes j 0
+  bytes_at j l =
+      let parts = (lies_split size_head s.region s.low g.before (Used i g.bytes ∷ g.after) 65520 g.held.tiled.lies).1 in
+      ap (λ (m : ℕ). get_or s.region (m + 2 + j) 0) g.place ∙ parts.0.bytes j (omega (arith, g.size))
+
+  pub ready_bytes : chunks_in ys s.slots ≡ chunks_in s.region s.slots → IsReady (record { region = ys; slots = s.slots; low = s.low; head = s.head; total = s.total }) i q n
+  ready_bytes same = λ j l.
+      let old : get_or (chunks_in ys s.slots) i None ≡ Some g.bytes
+      = ap (λ (cs : List (Option (List ℕ))). get_or cs i None) same ∙ (chunk_in s.region s.slots i within ∙ piece_chunk s.region s.slots s.low (g.before ++ (Used i g.bytes ∷ g.after)) g.held.tiled i g.before g.bytes g.after refl) in
+      elim (cases_lt j size) [
+        | inl in_b ↦ copied.moved j in_b ∙ (bytes_at j in_b ∙ sym (resized_front g.bytes n j (omega (arith, g.size)) l))
+        | inr past ↦ copied.zeros j past l ∙ sym (resized_zeros g.bytes n j (omega (arith, g.size)) l)
+      ] ∙ ap (λ (o : Option (List ℕ)). get_or (resized (unwrap_or o []) n) j 0) (sym old)
+
+-- ---- the pieces are exchanged
+
+module _ (s : Space) (i p q size n room h : ℕ) (f : IsLoose s q room) (g : IsLivePiece {loose = 1} s (record { pieces = f.before ++ (Free room ∷ f.after); free = f.free; held = f.held }) i p size) (within : i < s.slots) (some : 0 < n) (takes : room ≡ piece_space n)
+    (ready : (k : ℕ) → k < n → get_or s.region (q + 2 + k) 0 ≡ get_or (resized g.bytes n) k 0) (v1 y1 v2 y2 : List ℕ) (head1 : IsSet s.region v1 p (piece_space size + 1)) (none : IsSet v1 y1 h 0) (head2 : IsSet y1 v2 q n) (own : IsSet v2 y2 h q) (here : h ≡ 16 + 2 * i) where
+  abbrev s1 : Space
+  s1 = record { region = y1; slots = s.slots; low = s.low; head = s.head; total = s.total - piece_space size }
+
+  abbrev s2 : Space
+  s2 = record { region = y2; slots = s.slots; low = s.low; head = s.head; total = s.total - piece_space size + piece_space n }
+
+  F : (word_in s.region q ≡ room + 1) × (q + room ≤ 65520) × (4 ≤ room) × (16 + 2 * s.slots ≤ q) × (room ≡ 4 * (room / 4))
+  F = free_facts s.region s.slots s.low q room f.before f.after f.held.tiled f.place
+
+  others : IsFresh i g.before × IsFresh i g.after
+  others = piece_others s.region s.slots s.low (g.before ++ (Used i g.bytes ∷ g.after)) g.held.tiled i g.before g.bytes g.after refl
+
+  -- q is free, and apart from p
+  spare0 : IsSpareAt s.low (g.before ++ (Used i g.bytes ∷ g.after)) q
+  spare0 = subst (λ (cs : List Piece). IsSpareAt s.low cs q) (sym g.split) (spare_right s.low f.before (Free room ∷ f.after) q q f.place (inl refl))
+
+  apart : (q + room ≤ p) ⊎ (p + piece_space size ≤ q)
+  apart =
+      let L = lies_split size_head s.region s.low g.before (Used i g.bytes ∷ g.after) 65520 g.held.tiled.lies in let S = shaped_split (16 + 2 * s.slots) g.before (Used i g.bytes ∷ g.after) g.held.tiled.shaped in
+      elim (spare_parts s.low g.before (Used i g.bytes ∷ g.after) q spare0) [
+        | inl l ↦ inl (omega (arith, spare_ends s.region s.low g.before (s.low + spaces g.before) q L.0 l, F.0, g.place))
+        | inr r ↦ let b = spare_bounds (16 + 2 * s.slots) (s.low + spaces g.before + piece_space (length g.bytes)) g.after q S.1.1 r in inr (omega (arith, b.0, g.place, g.size))
+      ]
+
+  -- p becomes free
+  edit1 : IsEdit s.region y1 s.slots i s.low p (Used i g.bytes ∷ []) (Free (piece_space size) ∷ [])
+  edit1 = free_edit {loose = 1} s (record { pieces = f.before ++ (Free room ∷ f.after); free = f.free; held = f.held }) v1 y1 p i size 0 h g within (omega arith) head1 none here
+
+  links1 : Each (IsLinkKept s.region y1 p (Used i g.bytes ∷ []) (Free (piece_space size) ∷ [])) f.free
+  links1 = each_all (IsLinkKept s.region y1 p (Used i g.bytes ∷ []) (Free (piece_space size) ∷ [])) (λ m l. absurd l) f.free
+
+  held1 : IsHeld s1 (g.before ++ (Free (piece_space size) ∷ g.after)) f.free 2
+  held1 = held_edited s y1 i p g.before (Used i g.bytes ∷ []) (Free (piece_space size) ∷ []) g.after f.free g.held g.place edit1 others.0 others.1 links1 (s.total - piece_space size) (omega (arith, g.less, g.size)) 2 refl
+
+  G : (word_in y1 p ≡ piece_space size + 1) × (p + piece_space size ≤ 65520) × (4 ≤ piece_space size) × (16 + 2 * s.slots ≤ p) × (piece_space size ≡ 4 * (piece_space size / 4))
+  G = free_facts y1 s.slots s.low p (piece_space size) g.before g.after held1.tiled g.place
+
+  spare1 : IsSpareAt s.low (g.before ++ (Free (piece_space size) ∷ g.after)) q
+  spare1 = (spare_edited s.region y1 s.slots i s.low p g.before (Used i g.bytes ∷ []) (Free (piece_space size) ∷ []) g.after g.held.tiled g.place edit1 others.0 others.1 q (λ l. absurd l) spare0).0
+
+  -- bytes that the first two writes leave
+  kept1 : (k : ℕ) → q ≤ k → k < q + room → get_or y1 k 0 ≡ get_or s.region k 0
+  kept1 k from to =
+      none.behind k (omega (arith, F.3)) ∙ elim apart [ inl low ↦ head1.before k (omega (arith, low)) | inr high ↦ head1.behind k (omega (arith, high, G.2)) ]
+
+  word1 : word_in y1 q ≡ room + 1
+  word1 = word_kept s.region y1 q (q + room) q (record { at = kept1 }) (omega arith) (omega (arith, F.2)) ∙ F.0
+
+  split1 : IsSpareSplit s.low (g.before ++ (Free (piece_space size) ∷ g.after)) q
+  split1 = spare_split s.low (g.before ++ (Free (piece_space size) ∷ g.after)) q spare1
+
+  room1 : split1.room ≡ room
+  room1 =
+      let tiled : IsTiled y1 s.slots s.low (split1.before ++ (Free split1.room ∷ split1.after)) = subst (IsTiled y1 s.slots s.low) (sym split1.is) held1.tiled in
+      let H = free_facts y1 s.slots s.low q split1.room split1.before split1.after tiled split1.place in omega (arith, H.0, word1)
+
+  there : split1.before ++ (Free room ∷ split1.after) ≡ g.before ++ (Free (piece_space size) ∷ g.after)
+  there = ap (λ (m : ℕ). split1.before ++ (Free m ∷ split1.after)) (sym room1) ∙ split1.is
+
+  held_q : IsHeld s1 (split1.before ++ (Free room ∷ split1.after)) f.free 2
+  held_q = subst (λ (cs : List Piece). IsHeld s1 cs f.free 2) (sym there) held1
+
+  fresh_q : IsFresh i split1.before × IsFresh i split1.after
+  fresh_q = fresh_split i split1.before (Free room ∷ split1.after) (subst (IsFresh i) (sym there) (fresh_append i g.before (Free (piece_space size) ∷ g.after) others.0 others.1))
+
+  -- q becomes the chunk's
+  count : length (resized g.bytes n) ≡ n
+  count = count_resized g.bytes n
+
+  kept2 : (k : ℕ) → k < q → 18 + 2 * i ≤ k → get_or y2 k 0 ≡ get_or y1 k 0
+  kept2 k to from = own.behind k (omega arith) ∙ head2.before k to
+
+  edit2 : IsEdit y1 y2 s.slots i s.low q (Free room ∷ []) (Used i (resized g.bytes n) ∷ [])
+  edit2 =
+      let table = held1.tiled.table in let H = F in let m = count in
+      record {
+        long = own.long ∙ (head2.long ∙ held1.tiled.long);
+        others = λ j l ne. entry_other i j own here ne ∙ entry_kept y1 v2 0 q j (set_before 0 q head2 (omega arith)) (omega arith) (omega (arith, H.3));
+        before = record { at = λ k from to. kept2 k to (omega arith) };
+        behind = record { at = λ k from to. own.behind k (omega (arith, H.3)) ∙ head2.behind k (omega (arith, H.2)) };
+        lies = (
+          record {
+            head = word_kept v2 y2 (h + 2) (q + 2) q (set_behind (h + 2) (q + 2) own (omega arith)) (omega (arith, H.3)) (omega arith) ∙ (head2.word ∙ sym m);
+            bytes = λ k l. own.behind (q + 2 + k) (omega (arith, H.3)) ∙ (head2.behind (q + 2 + k) (omega arith) ∙ (kept1 (q + 2 + k) (omega arith) (omega (arith, takes)) ∙ ready k (omega arith)));
+          },
+          omega (arith, takes),
+        );
+        points = (entry_set i own here, tt);
+        shaped = ((omega arith, omega arith), tt);
+        distinct = (tt, tt);
+        only_new = λ j ne. (ne, tt);
+        only_old = λ j ne. tt;
+        covered = λ l fresh. absurd (fresh.0 refl);
+      }
+
+  links2 : Each (IsLinkKept y1 y2 q (Free room ∷ []) (Used i (resized g.bytes n) ∷ [])) f.free
+  links2 = each_other (IsLinkKept y1 y2 q (Free room ∷ []) (Used i (resized g.bytes n) ∷ [])) q (λ m ne l. elim l [ inl same ↦ absurd (ne (sym same)) | inr not ↦ absurd not ]) f.free f.other
+
+  held2 : IsHeld s2 (split1.before ++ (Used i (resized g.bytes n) ∷ split1.after)) f.free 1
+  held2 = held_edited s1 y2 i q split1.before (Free room ∷ []) (Used i (resized g.bytes n) ∷ []) split1.after f.free held_q split1.place edit2 fresh_q.0 fresh_q.1 links2 (s.total - piece_space size + piece_space n) (omega (arith, ap piece_space count)) 1 refl
+
+  -- p is still free
+  spare_p : IsSpareAt s.low (split1.before ++ (Used i (resized g.bytes n) ∷ split1.after)) p
+  spare_p = (spare_edited y1 y2 s.slots i s.low q split1.before (Free room ∷ []) (Used i (resized g.bytes n) ∷ []) split1.after held_q.tiled split1.place edit2 fresh_q.0 fresh_q.1 p
+      (λ l. elim l [ inl same ↦ elim apart [ inl low ↦ absurd (omega (arith, low, F.2)) | inr high ↦ absurd (omega (arith, high, G.2)) ] | inr not ↦ absurd not ])
+      (subst (λ (cs : List Piece). IsSpareAt s.low cs p) (sym there) (spare_right s.low g.before (Free (piece_space size) ∷ g.after) p p g.place (inl refl)))).0
+
+  word2 : word_in y2 p ≡ piece_space size + 1
+  word2 = elim apart [
+    | inl low ↦ word_kept y1 y2 (q + room) 65520 p (record { at = λ k from to. own.behind k (omega (arith, F.3)) ∙ head2.behind k (omega (arith, F.2)) }) (omega (arith, low)) (omega (arith, G.1, G.2)) ∙ G.0
+    | inr high ↦ word_kept y1 y2 p q p (record { at = λ k from to. kept2 k to (omega (arith, G.3)) }) (omega arith) (omega (arith, high, G.2)) ∙ G.0
+  ]
+
+  pub exchanged : IsLoose (record { region = y2; slots = s.slots; low = s.low; head = s.head; total = s.total - piece_space size + piece_space n }) p (piece_space size)
+  exchanged = loose_at s2 p (piece_space size) (split1.before ++ (Used i (resized g.bytes n) ∷ split1.after)) f.free held2 spare_p
+      (used_other (16 + 2 * s.slots) s.low p i g.bytes g.before g.after g.held.tiled.shaped g.place f.free g.held.spare) word2
+
+  pub exchange_chunks : chunks_in y2 s.slots ≡ set (chunks_in s.region s.slots) i (Some (resized g.bytes n))
+  exchange_chunks =
+      let cs = chunks_in s.region s.slots in let gone = chunk_under y1 (entry y1 i) in
+      edited_set y1 y2 s.slots i s.low q split1.before (Free room ∷ []) (Used i (resized g.bytes n) ∷ []) split1.after held_q.tiled split1.place edit2 fresh_q.0 fresh_q.1 within
+      ∙ (ap (λ (c : Option (List ℕ)). set (chunks_in y1 s.slots) i c) (piece_chunk y2 s.slots s.low (split1.before ++ (Used i (resized g.bytes n) ∷ split1.after)) held2.tiled i split1.before (resized g.bytes n) split1.after refl)
+      ∙ (ap (λ (x : List (Option (List ℕ))). set x i (Some (resized g.bytes n))) (edited_set s.region y1 s.slots i s.low p g.before (Used i g.bytes ∷ []) (Free (piece_space size) ∷ []) g.after g.held.tiled g.place edit1 others.0 others.1 within)
+      ∙ set-set cs i gone (Some (resized g.bytes n))))
+
+  pub exchange_resized : p ≡ entry s.region i → size ≡ word_in s.region p → IsResized s (record { region = y2; slots = s.slots; low = s.low; head = s.head; total = s.total - piece_space size + piece_space n }) i n
+  exchange_resized is value =
+      let cs = chunks_in s.region s.slots in
+      let old : get_or cs i None ≡ Some g.bytes = chunk_in s.region s.slots i within ∙ piece_chunk s.region s.slots s.low (g.before ++ (Used i g.bytes ∷ g.after)) g.held.tiled i g.before g.bytes g.after refl in
+      record {
+        slots = refl;
+        chunks = exchange_chunks ∙ ap (λ (o : Option (List ℕ)). set cs i (Some (resized (unwrap_or o []) n))) (sym old);
+        total = let there : size ≡ word_in s.region (entry s.region i) = value ∙ ap (λ (q : ℕ). word_in s.region q) is in omega (arith, there, g.less);
+      }
+
+-- ---- one after the other
+
+-- a chunk with bytes keeps its size where the chunks are the same
+pub same_size : {a b : ℕ} (s u : Space) (i : ℕ) → IsSpaced s a → IsSpaced u b → u.slots ≡ s.slots → chunks_in u.region u.slots ≡ chunks_in s.region s.slots → i < s.slots → 1 < entry s.region i
+    → (1 < entry u.region i) × (word_in u.region (entry u.region i) ≡ word_in s.region (entry s.region i))
+same_size s u i kept_s kept_u slots chunks l live =
+    let b = chunk_under s.region (entry s.region i) in
+    let same : chunk_under u.region (entry u.region i) ≡ b = sym (chunk_in u.region u.slots i (omega arith)) ∙ (ap (λ (cs : List (Option (List ℕ))). get_or cs i None) chunks ∙ chunk_in s.region s.slots i l) in
+    let bytes = ap (λ (o : Option (List ℕ)). length (unwrap_or o [])) same in let size_s = size_is s i kept_s l live in
+    let n = word_in s.region (entry s.region i) in let f = live_piece s kept_s i (entry s.region i) n l live refl refl in
+    let live_u : 1 < entry u.region i = live_of u i kept_u (omega arith) (omega (arith, f.some)) in
+    (live_u, sym (size_is u i kept_u (omega arith) live_u) ∙ (bytes ∙ size_s))
+
+-- what comes before and after leaves the chunks as they are
+pub resized_from : (s u v w : Space) (i n : ℕ) → u.slots ≡ s.slots → u.total ≡ s.total → chunks_in u.region u.slots ≡ chunks_in s.region s.slots → word_in u.region (entry u.region i) ≡ word_in s.region (entry s.region i)
+    → IsResized u v i n → w.slots ≡ v.slots → w.total ≡ v.total → chunks_in w.region w.slots ≡ chunks_in v.region v.slots → IsResized s w i n
+resized_from s u v w i n slots total chunks size r slots_w total_w chunks_w = record {
+  slots = slots_w ∙ (r.slots ∙ slots);
+  chunks = chunks_w ∙ (r.chunks ∙ ap (λ (cs : List (Option (List ℕ))). set cs i (Some (resized (unwrap_or (get_or cs i None) []) n))) chunks);
+  total = omega (arith, r.total, ap piece_space size);
+}
+
+pub loose_kept : (s : Space) (p room : ℕ) → IsLoose s p room → IsSpaced s 1
+loose_kept s p room f = record { pieces = f.before ++ (Free room ∷ f.after); free = f.free; held = f.held }
+
+pub next_kept : (s : Space) (i room : ℕ) → HasNext s i room → IsSpaced s 1
+next_kept s i room h = record { pieces = h.before ++ (Used i h.bytes ∷ (Free room ∷ h.after)); free = h.free; held = h.held }

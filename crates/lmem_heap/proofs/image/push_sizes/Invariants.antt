@@ -1,0 +1,6 @@
+use Rattle.std.proofs.Common.{◌≡◌, ◌++◌, take, flat_map}
+use Rattle.geos_model.proofs.HeapTables.{slot_size_word}
+use Rattle.lmem_heap.proofs.image.push_sizes.Given as goal
+
+abbrev pub invariant-loop-i : goal.invariant-loop-i
+invariant-loop-i l = l.image.items ≡ l.fn.image.items ++ flat_map slot_size_word (take l.i l.table.chunks)

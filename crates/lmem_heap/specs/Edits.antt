@@ -1,0 +1,88 @@
+-- What a write leaves of the other bytes.
+use Rattle.std.specs.Prelude.{◌≡◌, ◌≢◌, ℕ, ◌+◌, ◌*◌, ◌<◌, ◌≤◌, List, length, get_or}
+use Rattle.lmem_heap.specs.Pieces.{word_in, entry, piece_space, Piece, Lies, Points, AllShaped, IsFresh, AreDistinct, size_head, handle_head, size_of, place_to, used, spaces}
+
+-- the bytes from a to b are the same
+pub record Same (xs ys : List ℕ) (a b : ℕ) : Type 0 where
+  pub at : (k : ℕ) → a ≤ k → k < b → get_or ys k 0 ≡ get_or xs k 0
+
+-- a word was written
+pub record IsSet (xs ys : List ℕ) (p v : ℕ) : Type 0 where
+  pub long : length ys ≡ length xs
+  pub word : word_in ys p ≡ v
+  pub before : (k : ℕ) → k < p → get_or ys k 0 ≡ get_or xs k 0
+  pub behind : (k : ℕ) → p + 2 ≤ k → get_or ys k 0 ≡ get_or xs k 0
+
+-- bytes were moved from p to q
+pub record IsSlid (xs ys : List ℕ) (p q n : ℕ) : Type 0 where
+  pub long : length ys ≡ length xs
+  pub moved : (k : ℕ) → k < n → get_or ys (q + k) 0 ≡ get_or xs (p + k) 0
+  pub before : (k : ℕ) → k < q → get_or ys k 0 ≡ get_or xs k 0
+  pub behind : (k : ℕ) → q + n ≤ k → get_or ys k 0 ≡ get_or xs k 0
+
+-- n bytes are zero
+pub record IsZeroed (xs ys : List ℕ) (p n : ℕ) : Type 0 where
+  pub long : length ys ≡ length xs
+  pub zeros : (k : ℕ) → k < n → get_or ys (p + k) 0 ≡ 0
+  pub before : (k : ℕ) → k < p → get_or ys k 0 ≡ get_or xs k 0
+  pub behind : (k : ℕ) → p + n ≤ k → get_or ys k 0 ≡ get_or xs k 0
+
+-- the chunk of slot i, of n bytes, was moved from p to q, and its entry is e
+pub record IsMoved (xs ys : List ℕ) (i p q n e : ℕ) : Type 0 where
+  pub long : length ys ≡ length xs
+  pub entry_is : entry ys i ≡ e
+  pub others : (j : ℕ) → j ≢ i → 18 + 2 * j ≤ q → entry ys j ≡ entry xs j
+  pub head : word_in ys q ≡ n
+  pub bytes : (k : ℕ) → k < n → get_or ys (q + 2 + k) 0 ≡ get_or xs (p + 2 + k) 0
+  pub before : Same xs ys (18 + 2 * i) q
+  pub behind : Same xs ys (q + piece_space n) 65520
+
+-- the chunks of the pieces lie one after another from `low` on, with the entries of a place `delta` further up; other entries are the same
+pub record IsPacked (xs ys : List ℕ) (low delta : ℕ) (cs : List Piece) : Type 0 where
+  pub long : length ys ≡ 65520
+  pub lies : Lies size_head ys low (used cs) (low + spaces (used cs))
+  pub points : Points (place_to delta) ys low (used cs)
+  pub others : (j : ℕ) → IsFresh j (used cs) → 18 + 2 * j ≤ low → entry ys j ≡ entry xs j
+
+-- the pieces lie from `low` to the end with their slots' handles, and the table has the sizes: ready to be packed
+pub record IsSwapped (xs : List ℕ) (low delta : ℕ) (cs : List Piece) : Type 0 where
+  pub long : length xs ≡ 65520
+  pub lies : Lies handle_head xs low cs 65520
+  pub points : Points size_of xs low cs
+  pub shaped : AllShaped low cs
+  pub distinct : AreDistinct (used cs)
+  pub room : low + spaces (used cs) + delta ≤ 65520
+
+-- an entry that is a place below m goes down; others are the same
+pub record IsLow (xs ys : List ℕ) (m by i : ℕ) : Type 0 where
+  pub low : 1 < entry xs i → entry xs i < m → entry ys i + by ≡ entry xs i
+  pub high : m ≤ entry xs i → entry ys i ≡ entry xs i
+  pub dead : entry xs i ≤ 1 → entry ys i ≡ entry xs i
+
+pub record IsEntryLowered (xs ys : List ℕ) (i m by : ℕ) : Type 0 where
+  pub long : length ys ≡ length xs
+  pub own : IsLow xs ys m by i
+  pub others : (j : ℕ) → j ≢ i → entry ys j ≡ entry xs j
+  pub beyond : (k : ℕ) → 18 + 2 * i ≤ k → get_or ys k 0 ≡ get_or xs k 0
+
+pub record AreLowered (xs ys : List ℕ) (t m by : ℕ) : Type 0 where
+  pub long : length ys ≡ length xs
+  pub each : (j : ℕ) → j < t → IsLow xs ys m by j
+  pub beyond : (k : ℕ) → 16 + 2 * t ≤ k → get_or ys k 0 ≡ get_or xs k 0
+
+-- the piece at p, of `size` bytes, has n: those behind the first `size` are zeros
+pub record IsSized (xs ys : List ℕ) (p size n : ℕ) : Type 0 where
+  pub long : length ys ≡ length xs
+  pub head : word_in ys p ≡ n
+  pub front : (k : ℕ) → k < size → get_or ys (p + 2 + k) 0 ≡ get_or xs (p + 2 + k) 0
+  pub zeros : (k : ℕ) → size ≤ k → k < n → get_or ys (p + 2 + k) 0 ≡ 0
+  pub before : (k : ℕ) → k < p → get_or ys k 0 ≡ get_or xs k 0
+  pub behind : (k : ℕ) → p + 2 + n ≤ k → p + 2 + size ≤ k → get_or ys k 0 ≡ get_or xs k 0
+
+-- the `size` bytes of the piece at p stand behind the first word at q too, and zeros up to n bytes
+pub record IsCopied (xs ys : List ℕ) (p q size n : ℕ) : Type 0 where
+  pub long : length ys ≡ length xs
+  pub moved : (k : ℕ) → k < size → get_or ys (q + 2 + k) 0 ≡ get_or xs (p + 2 + k) 0
+  pub zeros : (k : ℕ) → size ≤ k → k < n → get_or ys (q + 2 + k) 0 ≡ 0
+  pub before : (k : ℕ) → k < q + 2 → get_or ys k 0 ≡ get_or xs k 0
+  pub behind : (k : ℕ) → q + 2 + n ≤ k → get_or ys k 0 ≡ get_or xs k 0

@@ -1,0 +1,126 @@
+-- A heap's space: its region, and the list of its free pieces, which lies in the region.
+use Rattle.std.specs.Prelude.{◌≡◌, ◌≢◌, ℕ, ◌+◌, ◌<◌, ◌≤◌, ◌⊎◌, List, [], ◌∷◌, ◌++◌, length, Option, Some, None, set, get_or, unwrap_or}
+use Rattle.geos_model.specs.Bytes.{resized}
+use Rattle.lmem_heap.specs.Pieces.{word_in, entry, piece_space, Piece, Used, Free, frees, used, spaces}
+use Rattle.lmem_heap.specs.Tiled.{IsTiled, chunks_in}
+use Rattle.lmem_heap.specs.declared.space.Space.{Space}
+
+-- a free piece lies at f, where the pieces lie from p on
+abbrev pub IsSpareAt : ℕ → List Piece → ℕ → Type 0
+IsSpareAt p [] f = ⊥
+IsSpareAt p (Used i bytes ∷ cs) f = IsSpareAt (p + piece_space (length bytes)) cs f
+IsSpareAt p (Free s ∷ cs) f = (f ≡ p) ⊎ IsSpareAt (p + s) cs f
+
+abbrev pub AreSpare : ℕ → List Piece → List ℕ → Type 0
+AreSpare p cs [] = Unit {0}
+AreSpare p cs (f ∷ fs) = IsSpareAt p cs f × AreSpare p cs fs
+
+-- the list of free pieces, from the word h on: each has the next one's place behind its first word, and the last one 0
+abbrev pub IsChain : List ℕ → ℕ → List ℕ → Type 0
+IsChain xs h [] = h ≡ 0
+IsChain xs h (f ∷ fs) = (h ≡ f) × IsChain xs (word_in xs (f + 2)) fs
+
+abbrev pub IsOther : ℕ → List ℕ → Type 0
+IsOther f [] = Unit {0}
+IsOther f (g ∷ gs) = (f ≢ g) × IsOther f gs
+
+abbrev pub AreApart : List ℕ → Type 0
+AreApart [] = Unit {0}
+AreApart (f ∷ fs) = IsOther f fs × AreApart fs
+
+-- the pieces of a space, and its free list, which has each free piece once but for so many
+pub record IsHeld (s : Space) (cs : List Piece) (fs : List ℕ) (loose : ℕ) : Type 0 where
+  pub tiled : IsTiled s.region s.slots s.low cs
+  pub chain : IsChain s.region s.head fs
+  pub spare : AreSpare s.low cs fs
+  pub apart : AreApart fs
+  pub all : frees cs ≡ length fs + loose
+  pub count : s.total ≡ spaces (used cs)
+
+-- a space, with so many free pieces that the list lacks
+pub record IsSpaced (s : Space) (loose : ℕ) : Type 0 where
+  pub pieces : List Piece
+  pub free : List ℕ
+  pub held : IsHeld s pieces free loose
+
+-- with none
+abbrev pub IsKept : Space → Type 0
+IsKept s = IsSpaced s 0
+
+-- a free piece of this room lies at p, and it alone is not in the list
+pub record IsLoose (s : Space) (p room : ℕ) : Type 0 where
+  pub before : List Piece
+  pub after : List Piece
+  pub free : List ℕ
+  pub held : IsHeld s (before ++ (Free room ∷ after)) free 1
+  pub place : p ≡ s.low + spaces before
+  pub other : IsOther p free
+
+-- the table is the same, and so are the chunks, which lie where they lay
+pub record IsStill (s u : Space) : Type 0 where
+  pub slots : u.slots ≡ s.slots
+  pub total : u.total ≡ s.total
+  pub entries : (j : ℕ) → j < s.slots → entry u.region j ≡ entry s.region j
+  pub chunks : chunks_in u.region u.slots ≡ chunks_in s.region s.slots
+
+-- a free piece of this room lies at p
+pub record HasFree (s : Space) (p room : ℕ) : Type 0 where
+  pub before : List Piece
+  pub after : List Piece
+  pub free : List ℕ
+  pub held : IsHeld s (before ++ (Free room ∷ after)) free 0
+  pub place : p ≡ s.low + spaces before
+
+-- no free piece has this room
+pub record HasNone (s : Space) (room : ℕ) : Type 0 where
+  pub pieces : List Piece
+  pub free : List ℕ
+  pub held : IsHeld s pieces free 0
+  pub none : (f : ℕ) → IsSpareAt s.low pieces f → word_in s.region f ≤ room
+
+-- `place` is the first piece of the list, or the next one behind `prev`
+pub record IsFirst (s : Space) (prev place : ℕ) : Type 0 where
+  pub pieces : List Piece
+  pub back : List ℕ
+  pub none : prev ≡ 0
+  pub held : IsHeld s pieces (place ∷ back) 0
+
+pub record IsNext (s : Space) (prev place : ℕ) : Type 0 where
+  pub pieces : List Piece
+  pub front : List ℕ
+  pub back : List ℕ
+  pub held : IsHeld s pieces (front ++ (prev ∷ (place ∷ back))) 0
+
+abbrev pub IsLinked : Space → ℕ → ℕ → Type 0
+IsLinked s prev place = IsFirst s prev place ⊎ IsNext s prev place
+
+-- slot i has another chunk, and every other one its own, where it lay
+pub record IsChanged (s u : Space) (i : ℕ) (chunk : Option (List ℕ)) : Type 0 where
+  pub slots : u.slots ≡ s.slots
+  pub entries : (j : ℕ) → j < s.slots → j ≢ i → entry u.region j ≡ entry s.region j
+  pub chunks : chunks_in u.region u.slots ≡ set (chunks_in s.region s.slots) i chunk
+
+-- where the bytes of slot i's chunk lie, and how many there are; none where it has no piece
+pub record IsRun (xs : List ℕ) (i from size : ℕ) : Type 0 where
+  pub ends : from + size ≤ 65520
+  pub none : entry xs i ≤ 1 → size ≡ 0
+  pub some : 1 < entry xs i → (from ≡ entry xs i + 2) × (size ≡ word_in xs (entry xs i))
+
+-- behind the piece of slot i lies a free one of this room, and it alone is not in the list
+pub record HasNext (s : Space) (i room : ℕ) : Type 0 where
+  pub before : List Piece
+  pub bytes : List ℕ
+  pub after : List Piece
+  pub free : List ℕ
+  pub held : IsHeld s (before ++ (Used i bytes ∷ (Free room ∷ after))) free 1
+  pub other : IsOther (s.low + spaces before + piece_space (length bytes)) free
+
+-- the chunk of slot i, which has a piece, is cut, or has zeros behind it; every other slot has its own
+pub record IsResized (s u : Space) (i n : ℕ) : Type 0 where
+  pub slots : u.slots ≡ s.slots
+  pub chunks : chunks_in u.region u.slots ≡ set (chunks_in s.region s.slots) i (Some (resized (unwrap_or (get_or (chunks_in s.region s.slots) i None) []) n))
+  pub total : u.total + piece_space (word_in s.region (entry s.region i)) ≡ s.total + piece_space n
+
+-- behind the first word at q stand the bytes of slot i's chunk, cut to n or with zeros behind them
+abbrev pub IsReady : Space → ℕ → ℕ → ℕ → Type 0
+IsReady s i q n = (k : ℕ) → k < n → get_or s.region (q + 2 + k) 0 ≡ get_or (resized (unwrap_or (get_or (chunks_in s.region s.slots) i None) []) n) k 0

@@ -1,0 +1,172 @@
+ghost use Rattle.std.specs.Prelude.{◌≡◌, ◌+◌, ◌*◌, ◌^◌, ◌≤◌, ◌<◌, ◌++◌, ◌∷◌, ℕ, List, true, false, Some, None, IfOk, OnOk, MatchOption, length, flat_map, take, drop, set, get_or};
+ghost use Rattle.std.specs.Option.{option_map};
+ghost use Rattle.geos_model.specs.Words.{word, word_at};
+ghost use Rattle.geos_model.proofs.Table.{IsTrimmed};
+ghost use Rattle.geos_model.proofs.HeapTables.{slot_size_word, slot_bytes};
+ghost use Rattle.lmem_heap.specs.Packed.{Slots, IsTable, chunks, packed, slots_in, words, total};
+ghost use Rattle.lmem_heap.specs.Slots.{space_in, need_in};
+
+use crate::sizes::{need_of, space_of};
+use crate::table::Table;
+use crate::words::SIZE;
+use std::alloc::{AllocError, Global};
+
+/// The first byte of a heap's image. The table's length stands behind it.
+pub(crate) const HEAP_KIND: u8 = 1;
+
+/// How many bytes of an image stand before the sizes.
+pub(crate) const PREFIX: usize = 3;
+
+/// The size word of a slot with no chunk.
+const NO_SIZE: u16 = 0xFFFF;
+
+/// The size of each slot's chunk, as a word.
+pub(crate) fn push_sizes(table: &Table, image: &mut Vec<u8>) -> Result<(), AllocError>
+    ensures { OnOk result (image.new.items ≡ image.old.items ++ flat_map slot_size_word table.now.chunks) }
+{
+    for i in 0..table.len() {
+        let size = match table.size(i) {
+            Some(size) => size as u16,
+            None => NO_SIZE,
+        };
+        image.extend_from_slice(size.to_le_bytes().as_slice())?;
+    }
+    Ok(())
+}
+
+/// The chunks, one behind the other.
+pub(crate) fn push_chunks(table: &Table, image: &mut Vec<u8>) -> Result<(), AllocError>
+    ensures { OnOk result (image.new.items ≡ image.old.items ++ flat_map slot_bytes table.now.chunks) }
+{
+    for i in 0..table.len() {
+        if let Some(bytes) = table.chunk(i) {
+            image.extend_from_slice(bytes)?;
+        }
+    }
+    Ok(())
+}
+
+/// The table length that an image begins with; None where the bytes are no heap's image.
+pub(crate) fn image_slots(bytes: &[u8]) -> Option<usize>
+    ensures { MatchOption result
+        ((n : ℕ) (rest : List ℕ) → bytes.now ≡ 1 ∷ word n ++ rest → ⊥)
+        (λ n. (n < 2 ^ 16) × (bytes.now ≡ 1 ∷ word n ++ drop 3 bytes.now)) }
+{
+    match bytes {
+        [HEAP_KIND, low, high, ..] => Some(*low as usize + 256 * *high as usize),
+        _ => None,
+    }
+}
+
+/// The size word of a slot.
+fn size_word(rest: &[u8], i: usize) -> usize
+    requires { 2 * i + 2 ≤ length rest.now }
+    ensures value { result ≡ word_at rest.now (2 * i) }
+    ensures small { result < 65536 }
+{
+    rest[2 * i] as usize + 256 * rest[2 * i + 1] as usize
+}
+
+/// How many bytes the chunks of the first `slots` sizes have.
+fn bytes_total(rest: &[u8], slots: usize) -> usize
+    requires within { 2 * slots ≤ length rest.now }
+    requires small { slots < 2 ^ 16 }
+    ensures { result ≡ total (words slots rest.now) }
+{
+    let mut sum: usize = 0;
+    for k in 0..slots {
+        let size = size_word(rest, k);
+        if size != NO_SIZE as usize {
+            sum += size;
+        }
+    }
+    sum
+}
+
+/// Whether what stands behind an image's first bytes is a size word for each of so many slots, and the chunks.
+pub(crate) fn is_table(rest: &[u8], slots: usize) -> bool
+    requires { length rest.now ≤ 65520 }
+    ensures yes { result ≡ true → IsTable slots rest.now }
+    ensures no { result ≡ false → (t : Slots) → length t ≡ slots → packed t ≡ rest.now → ⊥ }
+{
+    if slots > rest.len() / 2 {
+        return false;
+    }
+    bytes_total(rest, slots) == rest.len() - 2 * slots
+}
+
+/// The size of a slot's chunk.
+fn slot_size(rest: &[u8], slots: usize, i: usize) -> Option<usize>
+    requires table { IsTable slots rest.now }
+    requires slot { i < slots }
+    ensures { result ≡ option_map length (get_or (slots_in slots rest.now) i None) }
+{
+    let size = size_word(rest, i);
+    if size == NO_SIZE as usize {
+        None
+    } else {
+        Some(size)
+    }
+}
+
+/// What the chunks take in a heap.
+fn space_total(rest: &[u8], slots: usize) -> usize
+    requires { IsTable slots rest.now }
+    ensures value { result ≡ space_in (slots_in slots rest.now) }
+    ensures bound { result < 2 ^ 33 }
+{
+    let mut space = 0;
+    for i in 0..slots {
+        if let Some(size) = slot_size(rest, slots, i) {
+            space += space_of(size);
+        }
+    }
+    space
+}
+
+/// Whether the last slot has a chunk, and the chunks fit into a heap.
+pub(crate) fn is_heap(rest: &[u8], slots: usize) -> bool
+    requires { IsTable slots rest.now }
+    ensures yes { result ≡ true → IsTrimmed (slots_in slots rest.now) × (need_in (slots_in slots rest.now) ≤ 65520) }
+    ensures no { result ≡ false → IsTrimmed (slots_in slots rest.now) → need_in (slots_in slots rest.now) ≤ 65520 → ⊥ }
+{
+    if slots > 0 && slot_size(rest, slots, slots - 1).is_none() {
+        return false;
+    }
+    need_of(slots, space_total(rest, slots)) <= SIZE
+}
+
+/// The chunks, in a region.
+pub(crate) fn unpack(alloc: Global, rest: &[u8], slots: usize) -> Result<Table, AllocError>
+    requires table { IsTable slots rest.now }
+    requires fits { need_in (slots_in slots rest.now) ≤ 65520 }
+    ensures { IfOk result (λ t. t.chunks ≡ slots_in slots rest.now) }
+{
+    let mut table = Table::new(alloc)?;
+    table.grow(slots);
+    let mut at = 2 * slots;
+    for i in 0..slots {
+        at = unpack_slot(&mut table, rest, slots, i, at);
+    }
+    Ok(table)
+}
+
+/// The chunk of a slot, if it has one, whose bytes begin at `at`. Says where they end.
+fn unpack_slot(table: &mut Table, rest: &[u8], slots: usize, i: usize, at: usize) -> usize
+    requires table { IsTable slots rest.now }
+    requires slot { i < slots }
+    requires count { length table.old.chunks ≡ slots }
+    requires none { get_or table.old.chunks i None ≡ None }
+    requires begins { at ≡ 2 * slots + length (chunks (take i (slots_in slots rest.now))) }
+    requires room { need_in (set table.old.chunks i (get_or (slots_in slots rest.now) i None)) ≤ 65520 }
+    ensures filled { table.new.chunks ≡ set table.old.chunks i (get_or (slots_in slots rest.now) i None) }
+    ensures ends { result ≡ 2 * slots + length (chunks (take (i + 1) (slots_in slots rest.now))) }
+{
+    match slot_size(rest, slots, i) {
+        Some(size) => {
+            table.put(i, &rest[at..at + size]);
+            at + size
+        }
+        None => at,
+    }
+}
