@@ -1,5 +1,5 @@
 -- The chunks of a region, by its pieces.
-use Rattle.std.proofs.Common.{◌≡◌, ℕ, ◌+◌, ◌<◌, ◌≤◌, List, [], ◌∷◌, ◌++◌, length, ◌==◌, if◌then◌else◌, Option, Some, None, get_or, slice_range, refl, sym, ap, subst, ◌∙◌, inl, inr, arith}
+use Rattle.std.proofs.Common.{◌≡◌, ℕ, ◌+◌, ◌<◌, ◌≤◌, List, [], ◌∷◌, ◌++◌, length, ◌==◌, if◌then◌else◌, Option, Some, None, is_some, true, false, not, get_or, slice_range, refl, sym, ap, subst, ◌∙◌, inl, inr, arith}
 use Rattle.std.proofs.lemmas.Bool.{cases_eq, cond-true, cond-false, ne_eqb, eq-eqb}
 use Rattle.std.proofs.lemmas.List.Edits.{length-between, get_or-between}
 use Rattle.std.proofs.lemmas.List.FromFn.{fill_by_all, length-map-range_with_len, get_or-map-range_with_len}
@@ -34,6 +34,14 @@ unfolding chunk_under
 under_dead xs e dead = elim (cases_eq e 0) [
   | inl none ↦ cond-true (e == 0) _ _ (eq-eqb e 0 none) ∙ sym (cond-true (e == 0) _ _ (eq-eqb e 0 none))
   | inr some ↦ ap (λ (o : Option (List ℕ)). if e == 0 then None else o) (cond-true (e == 1) (Some []) (Some (slice_range xs (e + 2) (e + 2 + word_in xs e))) (eq-eqb e 1 (omega arith)))
+]
+
+-- there is a chunk where the entry isn't 0
+pub under_some : (xs : List ℕ) (e : ℕ) → is_some (chunk_under xs e) ≡ not (e == 0)
+unfolding chunk_under
+under_some xs e = elim (e == 0) as (λ v. is_some (if v then None else (if e == 1 then Some [] else Some (slice_range xs (e + 2) (e + 2 + word_in xs e)))) ≡ not v) [
+  | true ↦ refl
+  | false ↦ elim (e == 1) as (λ v. is_some (if v then Some [] else Some (slice_range xs (e + 2) (e + 2 + word_in xs e))) ≡ true) [ true ↦ refl | false ↦ refl ]
 ]
 
 -- ---- by pieces

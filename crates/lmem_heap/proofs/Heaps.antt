@@ -113,6 +113,10 @@ pub none_by_size : (o : Option (List ℕ)) (size : Option ℕ) → size ≡ opti
 none_by_size None size is none = refl
 none_by_size (Some b) size is none = let e : is_some size ≡ true = ap is_some is in cc
 
+pub none_there : (o : Option (List ℕ)) → is_some o ≡ false → o ≡ None
+none_there None e = refl
+none_there (Some b) e = cc
+
 pub some_by_size : (o : Option (List ℕ)) (size : Option ℕ) → size ≡ option_map length o → is_some size ≡ true → is_some o ≡ true
 some_by_size None size is live = let e : is_some size ≡ false = ap is_some is in cc
 some_by_size (Some b) size is live = refl

@@ -21,4 +21,4 @@ pub mod Sizing
 pub mod Exchanging
 pub mod Splices
 pub mod Images
-pub mod Listing
+pub mod Last

@@ -71,12 +71,12 @@ pub record HasFree (s : Space) (p room : ℕ) : Type 0 where
   pub held : IsHeld s (before ++ (Free room ∷ after)) free 0
   pub place : p ≡ s.low + spaces before
 
--- no free piece has this room
+-- none of the first pieces of the free list has this room
 pub record HasNone (s : Space) (room : ℕ) : Type 0 where
   pub pieces : List Piece
   pub free : List ℕ
   pub held : IsHeld s pieces free 0
-  pub none : (f : ℕ) → IsSpareAt s.low pieces f → word_in s.region f ≤ room
+  pub none : (k : ℕ) → k < 128 → k < length free → word_in s.region (get_or free k 0) ≤ room
 
 -- `place` is the first piece of the list, or the next one behind `prev`
 pub record IsFirst (s : Space) (prev place : ℕ) : Type 0 where

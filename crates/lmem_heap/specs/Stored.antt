@@ -1,5 +1,5 @@
 -- What a table of chunks is to its callers.
-use Rattle.std.specs.Prelude.{◌≡◌, ℕ, List, Option, map}
+use Rattle.std.specs.Prelude.{◌≡◌, ◌+◌, ◌≤◌, ℕ, List, Option, None, IfSome, map, get_or}
 use Rattle.std.specs.List.{range_with_len}
 use Rattle.lmem_heap.specs.Pieces.{entry}
 use Rattle.lmem_heap.specs.Tiled.{chunks_in, offset_under}
@@ -24,3 +24,7 @@ store_of xs t = record { chunks = chunks_in xs t; offsets = offsets_in xs t }
 pub record IsStored (s : Space) : Type 0 where
   pub kept : IsKept s
   pub count : s.total ≡ space_in (chunks_in s.region s.slots)
+
+-- chunks that take so much lie at the end of the region: none begins before its last so many bytes
+abbrev pub AreLast : List (Option ℕ) → ℕ → Type 0
+AreLast offsets space = (i : ℕ) → IfSome (get_or offsets i None) (λ at. 65522 ≤ at + space)

@@ -11,7 +11,7 @@ ghost use Rattle.geos_model.proofs.Table.{table_map, first_gap, IsTrimmed};
 ghost use Rattle.lmem_heap.specs.Slots.{need_in};
 
 use crate::image::{
-    HEAP_KIND, PREFIX, image_slots, is_heap, is_table, push_chunks, push_sizes, unpack,
+    HEAP_KIND, PREFIX, image_len, image_slots, is_heap, is_table, push_chunks, push_sizes, unpack,
 };
 use crate::sizes::{need_of, space_of};
 use crate::space::NO_CHUNK;
@@ -48,6 +48,7 @@ impl Model for Heap {
 
 impl Heap {
     ghost use Rattle.lmem_heap.specs.LendsHeapChunk.{lends_chunk};
+    ghost use Rattle.lmem_heap.specs.Placed.{AreAllLast};
 
     /// An empty heap.
     pub fn new(alloc: Global) -> Result<Heap, AllocError>
@@ -141,11 +142,10 @@ impl Heap {
         ensures { self.new.chunks ≡ insert self.old.chunks h.0 (replicate n 0) }
     {
         let i = slot(h);
+        let gap = gap_from(&self.table, self.gap);
         self.table.grow(self.table.len().max(i + 1));
         self.table.place(i, n as usize);
-        if i == self.gap {
-            self.gap = i + 1;
-        }
+        self.gap = if i == gap { i + 1 } else { gap };
     }
 
     /// Frees a chunk. The table becomes as short as the greatest live handle lets it be.
@@ -182,14 +182,15 @@ impl Heap {
 
     /// Joins all free room into one piece. The chunks stay as they are.
     pub fn contract(&mut self)
-        ensures { self.new.chunks ≡ self.old.chunks }
+        ensures chunks { self.new.chunks ≡ self.old.chunks }
+        ensures last { AreAllLast self.new }
     {
         self.table.pack();
     }
 
     /// Where the bytes of a chunk stand in the heap's region; None where there is no such chunk, or it has no bytes. A call
-    /// that makes or resizes a chunk may move others, and so may `contract`. `free` moves none, nor does what is written
-    /// through `chunk_mut`.
+    /// that makes or resizes a chunk may move others, and so may `contract`. `free` and `write` move none, nor does what is
+    /// written through `chunk_mut`.
     pub fn offset(&self, h: ChunkHandle) -> Option<usize>
         ensures place { result ≡ get self.now.places h.0 }
         ensures there { is_some result ≡ nat_lt 0 (length (chunk_bytes self.now.chunks h.0)) }
@@ -221,7 +222,8 @@ impl Heap {
     pub fn write(&mut self, h: ChunkHandle, at: usize, bytes: &[u8])
         requires live { IsTrue (contains_key self.old.chunks h.0) }
         requires range { at + length bytes.now ≤ length (chunk_bytes self.old.chunks h.0) }
-        ensures { self.new.chunks ≡ insert self.old.chunks h.0 (splice (chunk_bytes self.old.chunks h.0) at (at + length bytes.now) bytes.now) }
+        ensures chunks { self.new.chunks ≡ insert self.old.chunks h.0 (splice (chunk_bytes self.old.chunks h.0) at (at + length bytes.now) bytes.now) }
+        ensures places { self.new.places ≡ self.old.places }
     {
         self.table.write(slot(h), at, bytes);
     }
@@ -232,7 +234,7 @@ impl Heap {
     {
         let mut handles = Vec::new(self.alloc);
         for i in 0..self.table.len() {
-            if self.table.size(i).is_some() {
+            if self.table.has_chunk(i) {
                 handles.push(handle_of(i))?;
             }
         }
@@ -245,7 +247,7 @@ impl Heap {
         ensures valid { is_heap_map self.now.chunks ≡ true }
     {
         let slots = self.table.len();
-        let mut image = Vec::with_capacity(self.alloc, PREFIX + 2 * slots + self.table.space())?;
+        let mut image = Vec::with_capacity(self.alloc, image_len(&self.table))?;
         image.push(HEAP_KIND)?;
         image.extend_from_slice((slots as u16).to_le_bytes().as_slice())?;
         push_sizes(&self.table, &mut image)?;
@@ -324,7 +326,7 @@ fn gap_from(table: &Table, start: usize) -> usize
     ensures { result ≡ start + first_gap (drop start table.now.chunks) }
 {
     for i in start..table.len() {
-        if table.size(i).is_none() {
+        if !table.has_chunk(i) {
             return i;
         }
     }

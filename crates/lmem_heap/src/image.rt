@@ -20,6 +20,15 @@ pub(crate) const PREFIX: usize = 3;
 /// The size word of a slot with no chunk.
 const NO_SIZE: u16 = 0xFFFF;
 
+/// How many bytes the image has, so that no more are taken for it.
+pub(crate) fn image_len(table: &Table) -> usize {
+    let mut len = PREFIX + 2 * table.len();
+    for i in 0..table.len() {
+        len = len.saturating_add(table.size(i).unwrap_or(0));
+    }
+    len
+}
+
 /// The size of each slot's chunk, as a word.
 pub(crate) fn push_sizes(table: &Table, image: &mut Vec<u8>) -> Result<(), AllocError>
     ensures { OnOk result (image.new.items ≡ image.old.items ++ flat_map slot_size_word table.now.chunks) }

@@ -3,7 +3,7 @@ ghost use Rattle.lmem_heap.specs.Pieces.{word_in, entry, piece_space};
 ghost use Rattle.lmem_heap.specs.Tiled.{table_end};
 ghost use Rattle.lmem_heap.specs.Kept.{IsKept, IsLoose, HasNext, IsStill, IsReady, IsResized};
 
-use crate::space::{NO_CHUNK, Space, table_end};
+use crate::space::{NO_CHUNK, Space};
 use crate::words::{HEADER, copy_piece, set_size, set_word, word_in};
 
 impl Space {
@@ -107,7 +107,7 @@ impl Space {
         self.push(p);
     }
 
-    /// A slot's chunk gets `n` bytes, for which its piece is too small. It moves where there is room in one piece, else the chunks are packed.
+    /// A slot's chunk gets `n` bytes, for which its piece is too small. It moves where such a piece is found, else the chunks are packed.
     fn enlarge(&mut self, i: usize, n: usize)
         requires kept { IsKept self.old }
         requires slot { i < self.old.slots }
@@ -118,28 +118,9 @@ impl Space {
         ensures resized { IsResized self.old self.new i n }
     {
         let room = 4 * ((n + 5) / 4);
-        match self.take(room) {
+        match self.find_room(room) {
             Some(q) => self.move_to(i, q, n),
-            None => self.enlarge_below(i, n, room),
-        }
-    }
-
-    /// The same below the pieces.
-    fn enlarge_below(&mut self, i: usize, n: usize, room: usize)
-        requires kept { IsKept self.old }
-        requires slot { i < self.old.slots }
-        requires live { 1 < entry self.old.region i }
-        requires more { piece_space (word_in self.old.region (entry self.old.region i)) < piece_space n }
-        requires fits { table_end self.old.slots + self.old.total + piece_space n ≤ 65520 + piece_space (word_in self.old.region (entry self.old.region i)) }
-        requires room { room ≡ piece_space n }
-        ensures kept { IsKept self.new }
-        ensures resized { IsResized self.old self.new i n }
-    {
-        if table_end(self.slots) + room <= self.low {
-            let q = self.extend(room);
-            self.move_to(i, q, n);
-        } else {
-            self.enlarge_packed(i, n, room);
+            None => self.enlarge_packed(i, n, room),
         }
     }
 

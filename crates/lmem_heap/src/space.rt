@@ -1,4 +1,4 @@
-ghost use Rattle.std.specs.Prelude.{◌≡◌, ◌+◌, ◌-◌, ◌*◌, ◌/◌, ◌≤◌, ◌<◌, ℕ, [], Some, None, IfOk, IfSome, MatchOption, replicate, take, slice_range, set, length, get_or, unwrap_or, ◌++◌, ◌==◌, if◌then◌else◌};
+ghost use Rattle.std.specs.Prelude.{◌≡◌, ◌+◌, ◌-◌, ◌*◌, ◌/◌, ◌≤◌, ◌<◌, ℕ, [], Some, None, IfOk, IfSome, MatchOption, is_some, replicate, take, slice_range, set, length, get_or, unwrap_or, ◌++◌, ◌==◌, if◌then◌else◌};
 ghost use Rattle.lmem_heap.specs.Pieces.{word_in, entry, piece_space};
 ghost use Rattle.std.specs.Option.{option_map, option_copied};
 ghost use Rattle.geos_model.specs.Heap.{space_of};
@@ -71,14 +71,14 @@ impl Space {
         self.low
     }
 
-    /// The first free piece of the list that has this room. None where no free piece has it.
+    /// The first free piece of the list that has this room. None where none of the first `LOOKS` pieces has it.
     fn find_fit(&self, room: usize) -> Option<Fit>
         requires { IsKept self.now }
         ensures { MatchOption result (HasNone self.now room) (λ fit. IsLinked self.now fit.prev fit.place × (room < word_in self.now.region fit.place)) }
     {
         let mut prev = 0;
         let mut place = self.head;
-        for _seen in 0..SIZE {
+        for _seen in 0..LOOKS {
             if place == 0 {
                 return None;
             }
@@ -122,7 +122,8 @@ impl Space {
         place + rest
     }
 
-    /// Takes free room out of the list: a piece of it, or the end of a larger one. None where no piece has the room.
+    /// Takes free room out of the list: a piece of it, or the end of a larger one. None where none of the first `LOOKS`
+    /// pieces has the room.
     pub(crate) fn take(&mut self, room: usize) -> Option<usize>
         requires kept { IsKept self.old }
         requires some { 0 < room }
@@ -236,7 +237,22 @@ impl Space {
         self.slots = t;
     }
 
-    /// A free piece of this room, in no list. Where there is none the chunks are packed first.
+    /// A free piece of this room, in no list: one below the others while the table leaves the room there, which takes no
+    /// search, and then one of the list. None where neither is found.
+    pub(crate) fn find_room(&mut self, room: usize) -> Option<usize>
+        requires kept { IsKept self.old }
+        requires some { 0 < room }
+        requires whole { room ≡ 4 * (room / 4) }
+        ensures found { MatchOption result ((self.new ≡ self.old) × HasNone self.old room × (self.old.low < table_end self.old.slots + room)) (λ p. IsLoose self.new p room × IsStill self.old self.new) }
+    {
+        if self.low - table_end(self.slots) >= room {
+            Some(self.extend(room))
+        } else {
+            self.take(room)
+        }
+    }
+
+    /// A free piece of this room, in no list. Where none is found the chunks are packed first.
     fn room_for(&mut self, room: usize) -> usize
         requires kept { IsKept self.old }
         requires some { 0 < room }
@@ -248,40 +264,27 @@ impl Space {
         ensures chunks { chunks_in self.new.region self.new.slots ≡ chunks_in self.old.region self.old.slots }
         ensures dead { (j : ℕ) → j < self.old.slots → entry self.old.region j ≤ 1 → entry self.new.region j ≡ entry self.old.region j }
     {
-        match self.take(room) {
+        match self.find_room(room) {
             Some(p) => p,
-            None => self.room_below(room),
+            None => {
+                self.compact();
+                self.extend(room)
+            }
         }
     }
 
-    /// The same below the pieces.
-    pub(crate) fn room_below(&mut self, room: usize) -> usize
+    /// Makes room for a table of `t` slots below the pieces, by packing the chunks where there is less.
+    pub(crate) fn open_below(&mut self, t: usize)
         requires kept { IsKept self.old }
-        requires some { 0 < room }
-        requires whole { room ≡ 4 * (room / 4) }
-        requires fits { table_end self.old.slots + self.old.total + room ≤ 65520 }
-        ensures loose { IsLoose self.new result room }
-        ensures slots { self.new.slots ≡ self.old.slots }
-        ensures total { self.new.total ≡ self.old.total }
-        ensures chunks { chunks_in self.new.region self.new.slots ≡ chunks_in self.old.region self.old.slots }
-        ensures dead { (j : ℕ) → j < self.old.slots → entry self.old.region j ≤ 1 → entry self.new.region j ≡ entry self.old.region j }
-    {
-        self.open_below(self.slots, room);
-        self.extend(room)
-    }
-
-    /// Makes the room between a table of `t` slots and the pieces as large as this, by packing the chunks where it is less.
-    pub(crate) fn open_below(&mut self, t: usize, room: usize)
-        requires kept { IsKept self.old }
-        requires fits { table_end t + self.old.total + room ≤ 65520 }
+        requires fits { table_end t + self.old.total ≤ 65520 }
         ensures kept { IsKept self.new }
-        ensures room { table_end t + room ≤ self.new.low }
+        ensures room { table_end t ≤ self.new.low }
         ensures slots { self.new.slots ≡ self.old.slots }
         ensures total { self.new.total ≡ self.old.total }
         ensures chunks { chunks_in self.new.region self.new.slots ≡ chunks_in self.old.region self.old.slots }
         ensures dead { (j : ℕ) → j < self.old.slots → entry self.old.region j ≤ 1 → entry self.new.region j ≡ entry self.old.region j }
     {
-        if table_end(t) + room > self.low {
+        if table_end(t) > self.low {
             self.compact();
         }
     }
@@ -364,6 +367,15 @@ impl Space {
         self.low = low;
     }
 
+    /// Whether a slot has a chunk.
+    pub(crate) fn has_chunk(&self, i: usize) -> bool
+        requires kept { IsKept self.now }
+        requires slot { i < self.now.slots }
+        ensures { result ≡ is_some (get_or (chunks_in self.now.region self.now.slots) i None) }
+    {
+        word_in(&self.region, HEADER + 2 * i) != NO_CHUNK
+    }
+
     /// The size of a slot's chunk.
     pub(crate) fn size(&self, i: usize) -> Option<usize>
         requires kept { IsKept self.now }
@@ -431,6 +443,10 @@ pub(crate) const NO_CHUNK: usize = 0;
 
 /// The entry of a slot whose chunk has no bytes.
 pub(crate) const EMPTY: usize = 1;
+
+/// How many pieces of the free list a search looks at. Where none of so many has the room, packing the chunks takes less
+/// time than to look on, and leaves no list: so many chunks were freed since they were last packed.
+const LOOKS: usize = 128;
 
 /// Where a table of `t` slots ends.
 pub(crate) fn table_end(t: usize) -> usize

@@ -29,6 +29,7 @@ impl Model for Table {
 
 impl Table {
     ghost use Rattle.lmem_heap.specs.LendsChunk.{lends_chunk};
+    ghost use Rattle.lmem_heap.specs.Stored.{AreLast};
 
     pub(crate) fn new(alloc: Global) -> Result<Table, AllocError>
         ensures { IfOk result (λ t. (t.chunks ≡ []) × (t.offsets ≡ [])) }
@@ -51,6 +52,14 @@ impl Table {
         ensures { result ≡ space_in self.now.chunks }
     {
         self.space.total
+    }
+
+    /// Whether a slot has a chunk.
+    pub(crate) fn has_chunk(&self, i: usize) -> bool
+        requires { i < length self.now.chunks }
+        ensures { result ≡ is_some (get_or self.now.chunks i None) }
+    {
+        self.space.has_chunk(i)
     }
 
     /// The size of a slot's chunk.
@@ -86,7 +95,7 @@ impl Table {
         requires room { need_of n (space_in self.old.chunks) ≤ 65520 }
         ensures { self.new.chunks ≡ self.old.chunks ++ replicate (n - length self.old.chunks) None }
     {
-        self.space.open_below(n, 0);
+        self.space.open_below(n);
         self.space.lengthen(n);
     }
 
@@ -135,7 +144,8 @@ impl Table {
 
     /// Packs the chunks at the end of the region, so that all free room is in one piece.
     pub(crate) fn pack(&mut self)
-        ensures { self.new.chunks ≡ self.old.chunks }
+        ensures chunks { self.new.chunks ≡ self.old.chunks }
+        ensures last { AreLast self.new.offsets (space_in self.new.chunks) }
     {
         self.space.compact();
     }

@@ -28,4 +28,4 @@ write-requires-clause-range c =
 pub returns : goal.returns
 returns c =
     let h = c.args.chunk.0 in let b = c.args.bytes.now in let n = length b in
-    c.write.ensures ∙ ap (λ (m : ChunkMap). insert m h (splice (chunk_bytes m h) 0 (0 + n) b)) c.alloc_at.ensures ∙ filled c.args.heap.now.chunks h (replicate n 0) b (length-replicate {A = ℕ} n 0)
+    c.write.ensures.chunks ∙ ap (λ (m : ChunkMap). insert m h (splice (chunk_bytes m h) 0 (0 + n) b)) c.alloc_at.ensures ∙ filled c.args.heap.now.chunks h (replicate n 0) b (length-replicate {A = ℕ} n 0)

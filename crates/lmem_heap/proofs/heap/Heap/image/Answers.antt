@@ -5,6 +5,12 @@ use Rattle.lmem_heap.proofs.heap.Heap.image.Goals as goal
 pub returns-in_err-image-clause-valid : goal.returns-in_err-image-clause-valid
 returns-in_err-image-clause-valid c = let s = c.self.inside in valid_is s.table.chunks s.gap c.args.self.now.chunks (shown_chunks c.self.inside.table c.args.self.now c.self.view_is) c.self.invariant
 
+pub returns-in_err-push-clause-valid : goal.returns-in_err-push-clause-valid
+returns-in_err-push-clause-valid c = let s = c.self.inside in valid_is s.table.chunks s.gap c.args.self.now.chunks (shown_chunks c.self.inside.table c.args.self.now c.self.view_is) c.self.invariant
+
+pub returns-in_err-extend_from_slice-clause-valid : goal.returns-in_err-extend_from_slice-clause-valid
+returns-in_err-extend_from_slice-clause-valid c = let s = c.self.inside in valid_is s.table.chunks s.gap c.args.self.now.chunks (shown_chunks c.self.inside.table c.args.self.now c.self.view_is) c.self.invariant
+
 pub returns-in_err-push_sizes-clause-valid : goal.returns-in_err-push_sizes-clause-valid
 returns-in_err-push_sizes-clause-valid c = let s = c.self.inside in valid_is s.table.chunks s.gap c.args.self.now.chunks (shown_chunks c.self.inside.table c.args.self.now c.self.view_is) c.self.invariant
 

@@ -1,9 +1,10 @@
-use Rattle.std.proofs.Common.{◌≡◌, ◌+◌, ◌≤◌, List, ℕ, [], Option, is_some, length, unwrap_or, ap, arith}
+use Rattle.std.proofs.Common.{◌≡◌, ◌+◌, ◌≤◌, List, ℕ, [], Option, is_some, length, unwrap_or, ap, ◌∙◌, arith}
 use Rattle.std.specs.List as list
 use Rattle.geos_model.specs.Heap.{chunk_bytes, space_of}
+use Rattle.geos_model.proofs.Table.{table_map}
 use Rattle.geos_model.proofs.Tables.{put_at}
 use Rattle.lmem_heap.specs.Slots.{need_in}
-use Rattle.lmem_heap.proofs.Heaps.{shown_chunks, live_is, live_slot, shows_put, need_changed, put_written, counted_changed, length-splice}
+use Rattle.lmem_heap.proofs.Heaps.{shown_chunks, shown_places, live_is, live_slot, shows_put, need_changed, put_written, counted_changed, length-splice}
 use Rattle.lmem_heap.proofs.heap.Heap.write.Goals as goal
 
 pub slot-requires : goal.slot-requires
@@ -28,9 +29,12 @@ invariant_of-self c =
     let room : need_in (put_at t k b) ≤ 65520 = omega (arith, need_changed t k b old live, ap space_of same, i.2) in
     counted_changed t c.write.new.self.chunks k s.gap b old live i room (put_written t c.write.new.self.chunks k c.args.at ws old live c.requires.range c.write.ensures.chunks)
 
-pub returns : goal.returns
-returns c =
+pub returns-clause-chunks : goal.returns-clause-chunks
+returns-clause-chunks c =
     let t = c.self.inside.table.chunks in let k = c.slot.result in let ws = c.args.bytes.now in let end = c.args.at + length ws in
     let live = live_slot c.self.inside.table.chunks c.slot.result c.args.h.0 c.args.self.now.chunks (shown_chunks c.self.inside.table c.args.self.now c.self.view_is) c.slot.ensures.at c.requires.live in
     let old : List ℕ = chunk_bytes c.args.self.now.chunks c.args.h.0 in let b : List ℕ = list.splice old c.args.at end ws in
     shows_put t k c.args.h.0 c.args.self.now.chunks (shown_chunks c.self.inside.table c.args.self.now c.self.view_is) c.slot.ensures.at c.write.new.self.chunks b (put_written t c.write.new.self.chunks k c.args.at ws old live c.requires.range c.write.ensures.chunks)
+
+pub returns-clause-places : goal.returns-clause-places
+returns-clause-places c = ap (table_map 2 16) c.write.ensures.offsets ∙ shown_places c.self.inside.table c.args.self.now c.self.view_is

@@ -16,12 +16,12 @@ overflow_mul-room c =
 
 pub move_to-requires-clause-more : goal.move_to-requires-clause-more
 move_to-requires-clause-more c =
-    let s = c.args.self.now in let u = c.take.new.self in let e = c.in-Some.ensures.taken in
+    let s = c.args.self.now in let u = c.find_room.new.self in let e = c.in-Some.ensures.found in
     let size = same_size s u c.args.i c.requires.kept (loose_kept u c.in-Some.q (piece_space c.args.n) e.0) e.1.slots e.1.chunks c.requires.slot c.requires.live in
     omega (arith, size.1, c.requires.more)
 
 pub returns-in-Some-clause-resized : goal.returns-in-Some-clause-resized
 returns-in-Some-clause-resized c =
-    let s = c.args.self.now in let u = c.take.new.self in let e = c.in-Some.ensures.taken in
+    let s = c.args.self.now in let u = c.find_room.new.self in let e = c.in-Some.ensures.found in
     let size = same_size s u c.args.i c.requires.kept (loose_kept u c.in-Some.q (piece_space c.args.n) e.0) e.1.slots e.1.chunks c.requires.slot c.requires.live in
     resized_from s u c.move_to.new.self c.move_to.new.self c.args.i c.args.n e.1.slots e.1.total e.1.chunks size.1 c.move_to.ensures.resized refl refl refl

@@ -1,0 +1,6 @@
+use Rattle.std.proofs.Common.{◌∙◌, ap, List, Option, ℕ, None, is_some, get_or}
+use Rattle.lmem_heap.proofs.Shown.{shown, in_table}
+use Rattle.lmem_heap.proofs.table.Table.has_chunk.Goals as goal
+
+pub has_chunk-requires-clause-slot : goal.has_chunk-requires-clause-slot
+has_chunk-requires-clause-slot c = in_table c.self.inside.space c.args.self.now c.args.i c.self.invariant c.self.view_is c.requires
