@@ -7,7 +7,7 @@ use Rattle.lmem_heap.specs.declared.space.Space.{Space}
 use Rattle.lmem_heap.specs.Pieces.{word_in, entry, piece_space, Piece, Used, Free, size_head, Lies, IsFresh, spaces}
 use Rattle.lmem_heap.specs.Edits.{Same, IsSet, IsCopied}
 use Rattle.lmem_heap.specs.Tiled.{IsTiled, chunk_under, chunks_in}
-use Rattle.lmem_heap.specs.Kept.{IsSpareAt, IsOther, IsHeld, IsSpaced, IsLoose, HasNext, IsStill, IsReady, IsResized}
+use Rattle.lmem_heap.specs.Kept.{IsSpareAt, IsOther, IsHeld, IsSpaced, IsLoose, IsStill, IsReady, IsResized}
 use Rattle.lmem_heap.proofs.Writes.{word_kept, entry_kept, entry_set, entry_other, set_before, set_behind}
 use Rattle.lmem_heap.proofs.Tiles.{lies_split, shaped_split, fresh_append, fresh_split}
 use Rattle.lmem_heap.proofs.Chunks.{piece_chunk, piece_others, chunk_in}
@@ -15,6 +15,7 @@ use Rattle.lmem_heap.proofs.Editing.{shaped_fresh, IsEdit, edited_set, edited_st
 use Rattle.lmem_heap.proofs.Rooms.{free_facts}
 use Rattle.lmem_heap.proofs.Links.{IsSpareSplit, spare_split}
 use Rattle.lmem_heap.proofs.Filling.{used_other, IsLivePiece, live_piece, free_edit}
+use Rattle.lmem_heap.proofs.Known.{loose_kept}
 use Rattle.lmem_heap.proofs.Shown.{live_of, size_is}
 use Rattle.lmem_heap.proofs.Sizing.{count_resized, resized_front, resized_zeros, held_edited}
 
@@ -66,7 +67,7 @@ module _ (s : Space) (q room : ℕ) (f : IsLoose s q room) (ys : List ℕ) (long
   over_links : Each (IsLinkKept s.region ys q (Free room ∷ []) (Free room ∷ [])) f.free
   over_links = each_other (IsLinkKept s.region ys q (Free room ∷ []) (Free room ∷ [])) q (λ g ne h. elim h [ inl here ↦ absurd (ne (sym here)) | inr none ↦ absurd none ]) f.free f.other
 
-  pub over_loose : IsLoose (record { region = ys; slots = s.slots; low = s.low; head = s.head; total = s.total }) q room
+  over_loose : IsLoose (record { region = ys; slots = s.slots; low = s.low; head = s.head; total = s.total }) q room
   over_loose = record {
     before = f.before;
     after = f.after;
@@ -76,13 +77,19 @@ module _ (s : Space) (q room : ℕ) (f : IsLoose s q room) (ys : List ℕ) (long
     other = f.other;
   }
 
-  pub over_still : IsStill s (record { region = ys; slots = s.slots; low = s.low; head = s.head; total = s.total })
+  over_still : IsStill s (record { region = ys; slots = s.slots; low = s.low; head = s.head; total = s.total })
   over_still = record {
     slots = refl;
     total = refl;
     entries = λ j l. over_edit.others j l (λ e. omega arith);
     chunks = edited_still s.region ys s.slots s.slots s.low q f.before (Free room ∷ []) (Free room ∷ []) f.after f.held.tiled f.place over_edit front_fresh back_fresh (omega arith);
   }
+
+pub copied_loose : {ys : List ℕ} {p size : ℕ} (s : Space) (q n : ℕ) → IsLoose s q (piece_space n) → IsCopied s.region ys p q size n → IsLoose (record { region = ys; slots = s.slots; low = s.low; head = s.head; total = s.total }) q (piece_space n)
+copied_loose {ys = ys} s q n f c = over_loose s q (piece_space n) f ys (c.long ∙ f.held.tiled.long) (record { at = λ j from to. c.before j to }) (record { at = λ j from to. c.behind j (omega arith) })
+
+pub copied_still : {ys : List ℕ} {p size : ℕ} (s : Space) (q n : ℕ) → IsLoose s q (piece_space n) → IsCopied s.region ys p q size n → IsStill s (record { region = ys; slots = s.slots; low = s.low; head = s.head; total = s.total })
+copied_still {ys = ys} s q n f c = over_still s q (piece_space n) f ys (c.long ∙ f.held.tiled.long) (record { at = λ j from to. c.before j to }) (record { at = λ j from to. c.behind j (omega arith) })
 
 -- the bytes of a chunk
 module _ {loose : ℕ} (s : Space) (k : IsSpaced s loose) (ys : List ℕ) (i p q size n : ℕ) (g : IsLivePiece s k i p size) (within : i < s.slots) (copied : IsCopied s.region ys p q size n) where
@@ -102,8 +109,8 @@ module _ {loose : ℕ} (s : Space) (k : IsSpaced s loose) (ys : List ℕ) (i p q
 
 -- ---- the pieces are exchanged
 
-module _ (s : Space) (i p q size n room h : ℕ) (f : IsLoose s q room) (g : IsLivePiece {loose = 1} s (record { pieces = f.before ++ (Free room ∷ f.after); free = f.free; held = f.held }) i p size) (within : i < s.slots) (some : 0 < n) (takes : room ≡ piece_space n)
-    (ready : (k : ℕ) → k < n → get_or s.region (q + 2 + k) 0 ≡ get_or (resized g.bytes n) k 0) (v1 y1 v2 y2 : List ℕ) (head1 : IsSet s.region v1 p (piece_space size + 1)) (none : IsSet v1 y1 h 0) (head2 : IsSet y1 v2 q n) (own : IsSet v2 y2 h q) (here : h ≡ 16 + 2 * i) where
+module _ (s : Space) (i p q size n room h : ℕ) (f : IsLoose s q room) (g : IsLivePiece s (loose_kept f) i p size) (within : i < s.slots) (some : 0 < n) (takes : room ≡ piece_space n)
+    (ready : IsReady s i q n) (v1 y1 v2 y2 : List ℕ) (head1 : IsSet s.region v1 p (piece_space size + 1)) (none : IsSet v1 y1 h 0) (head2 : IsSet y1 v2 q n) (own : IsSet v2 y2 h q) (here : h ≡ 16 + 2 * i) where
   abbrev s1 : Space
   s1 = record { region = y1; slots = s.slots; low = s.low; head = s.head; total = s.total - piece_space size }
 
@@ -115,6 +122,12 @@ module _ (s : Space) (i p q size n room h : ℕ) (f : IsLoose s q room) (g : IsL
 
   others : IsFresh i g.before × IsFresh i g.after
   others = piece_others s.region s.slots s.low (g.before ++ (Used i g.bytes ∷ g.after)) g.held.tiled i g.before g.bytes g.after refl
+
+  old : get_or (chunks_in s.region s.slots) i None ≡ Some g.bytes
+  old = chunk_in s.region s.slots i within ∙ piece_chunk s.region s.slots s.low (g.before ++ (Used i g.bytes ∷ g.after)) g.held.tiled i g.before g.bytes g.after refl
+
+  ready_in : (k : ℕ) → k < n → get_or s.region (q + 2 + k) 0 ≡ get_or (resized g.bytes n) k 0
+  ready_in k l = ready k l ∙ ap (λ (o : Option (List ℕ)). get_or (resized (unwrap_or o []) n) k 0) old
 
   -- q is free, and apart from p
   spare0 : IsSpareAt s.low (g.before ++ (Used i g.bytes ∷ g.after)) q
@@ -130,7 +143,7 @@ module _ (s : Space) (i p q size n room h : ℕ) (f : IsLoose s q room) (g : IsL
 
   -- p becomes free
   edit1 : IsEdit s.region y1 s.slots i s.low p (Used i g.bytes ∷ []) (Free (piece_space size) ∷ [])
-  edit1 = free_edit {loose = 1} s (record { pieces = f.before ++ (Free room ∷ f.after); free = f.free; held = f.held }) v1 y1 p i size 0 h g within (omega arith) head1 none here
+  edit1 = free_edit s (loose_kept f) v1 y1 p i size 0 h g within (omega arith) head1 none here
 
   links1 : Each (IsLinkKept s.region y1 p (Used i g.bytes ∷ []) (Free (piece_space size) ∷ [])) f.free
   links1 = each_all (IsLinkKept s.region y1 p (Used i g.bytes ∷ []) (Free (piece_space size) ∷ [])) (λ m l. absurd l) f.free
@@ -187,7 +200,7 @@ module _ (s : Space) (i p q size n room h : ℕ) (f : IsLoose s q room) (g : IsL
         lies = (
           record {
             head = word_kept v2 y2 (h + 2) (q + 2) q (set_behind (h + 2) (q + 2) own (omega arith)) (omega (arith, H.3)) (omega arith) ∙ (head2.word ∙ sym m);
-            bytes = λ k l. own.behind (q + 2 + k) (omega (arith, H.3)) ∙ (head2.behind (q + 2 + k) (omega arith) ∙ (kept1 (q + 2 + k) (omega arith) (omega (arith, takes)) ∙ ready k (omega arith)));
+            bytes = λ k l. own.behind (q + 2 + k) (omega (arith, H.3)) ∙ (head2.behind (q + 2 + k) (omega arith) ∙ (kept1 (q + 2 + k) (omega arith) (omega (arith, takes)) ∙ ready_in k (omega arith)));
           },
           omega (arith, takes),
         );
@@ -217,9 +230,9 @@ module _ (s : Space) (i p q size n room h : ℕ) (f : IsLoose s q room) (g : IsL
     | inr high ↦ word_kept y1 y2 p q p (record { at = λ k from to. kept2 k to (omega (arith, G.3)) }) (omega arith) (omega (arith, high, G.2)) ∙ G.0
   ]
 
-  pub exchanged : IsLoose (record { region = y2; slots = s.slots; low = s.low; head = s.head; total = s.total - piece_space size + piece_space n }) p (piece_space size)
-  exchanged = loose_at s2 p (piece_space size) (split1.before ++ (Used i (resized g.bytes n) ∷ split1.after)) f.free held2 spare_p
-      (used_other (16 + 2 * s.slots) s.low p i g.bytes g.before g.after g.held.tiled.shaped g.place f.free g.held.spare) word2
+  pub exchanged : IsLoose (record { region = y2; slots = s.slots; low = s.low; head = s.head; total = s.total - piece_space size + piece_space n }) p (piece_space (word_in s.region (entry s.region i)))
+  exchanged = subst (λ (m : ℕ). IsLoose s2 p (piece_space m)) g.value (loose_at s2 p (piece_space size) (split1.before ++ (Used i (resized g.bytes n) ∷ split1.after)) f.free held2 spare_p
+      (used_other (16 + 2 * s.slots) s.low p i g.bytes g.before g.after g.held.tiled.shaped g.place f.free g.held.spare) word2)
 
   pub exchange_chunks : chunks_in y2 s.slots ≡ set (chunks_in s.region s.slots) i (Some (resized g.bytes n))
   exchange_chunks =
@@ -229,28 +242,28 @@ module _ (s : Space) (i p q size n room h : ℕ) (f : IsLoose s q room) (g : IsL
       ∙ (ap (λ (x : List (Option (List ℕ))). set x i (Some (resized g.bytes n))) (edited_set s.region y1 s.slots i s.low p g.before (Used i g.bytes ∷ []) (Free (piece_space size) ∷ []) g.after g.held.tiled g.place edit1 others.0 others.1 within)
       ∙ set-set cs i gone (Some (resized g.bytes n))))
 
-  pub exchange_resized : p ≡ entry s.region i → size ≡ word_in s.region p → IsResized s (record { region = y2; slots = s.slots; low = s.low; head = s.head; total = s.total - piece_space size + piece_space n }) i n
-  exchange_resized is value =
-      let cs = chunks_in s.region s.slots in
-      let old : get_or cs i None ≡ Some g.bytes = chunk_in s.region s.slots i within ∙ piece_chunk s.region s.slots s.low (g.before ++ (Used i g.bytes ∷ g.after)) g.held.tiled i g.before g.bytes g.after refl in
-      record {
-        slots = refl;
-        chunks = exchange_chunks ∙ ap (λ (o : Option (List ℕ)). set cs i (Some (resized (unwrap_or o []) n))) (sym old);
-        total = let there : size ≡ word_in s.region (entry s.region i) = value ∙ ap (λ (q : ℕ). word_in s.region q) is in omega (arith, there, g.less);
-      }
+  pub exchange_resized : IsResized s (record { region = y2; slots = s.slots; low = s.low; head = s.head; total = s.total - piece_space size + piece_space n }) i n
+  exchange_resized = record {
+    slots = refl;
+    chunks = exchange_chunks ∙ ap (λ (o : Option (List ℕ)). set (chunks_in s.region s.slots) i (Some (resized (unwrap_or o []) n))) (sym old);
+    total = omega (arith, g.value, g.less);
+  }
 
 -- ---- one after the other
 
 -- a chunk with bytes keeps its size where the chunks are the same
-pub same_size : {a b : ℕ} (s u : Space) (i : ℕ) → IsSpaced s a → IsSpaced u b → u.slots ≡ s.slots → chunks_in u.region u.slots ≡ chunks_in s.region s.slots → i < s.slots → 1 < entry s.region i
-    → (1 < entry u.region i) × (word_in u.region (entry u.region i) ≡ word_in s.region (entry s.region i))
+pub record IsSameSize (s u : Space) (i : ℕ) : Type 0 where
+  pub live : 1 < entry u.region i
+  pub size : word_in u.region (entry u.region i) ≡ word_in s.region (entry s.region i)
+
+pub same_size : {a b : ℕ} (s u : Space) (i : ℕ) → IsSpaced s a → IsSpaced u b → u.slots ≡ s.slots → chunks_in u.region u.slots ≡ chunks_in s.region s.slots → i < s.slots → 1 < entry s.region i → IsSameSize s u i
 same_size s u i kept_s kept_u slots chunks l live =
     let b = chunk_under s.region (entry s.region i) in
     let same : chunk_under u.region (entry u.region i) ≡ b = sym (chunk_in u.region u.slots i (omega arith)) ∙ (ap (λ (cs : List (Option (List ℕ))). get_or cs i None) chunks ∙ chunk_in s.region s.slots i l) in
     let bytes = ap (λ (o : Option (List ℕ)). length (unwrap_or o [])) same in let size_s = size_is s i kept_s l live in
     let n = word_in s.region (entry s.region i) in let f = live_piece s kept_s i (entry s.region i) n l live refl refl in
     let live_u : 1 < entry u.region i = live_of u i kept_u (omega arith) (omega (arith, f.some)) in
-    (live_u, sym (size_is u i kept_u (omega arith) live_u) ∙ (bytes ∙ size_s))
+    record { live = live_u; size = sym (size_is u i kept_u (omega arith) live_u) ∙ (bytes ∙ size_s) }
 
 -- what comes before and after leaves the chunks as they are
 pub resized_from : (s u v w : Space) (i n : ℕ) → u.slots ≡ s.slots → u.total ≡ s.total → chunks_in u.region u.slots ≡ chunks_in s.region s.slots → word_in u.region (entry u.region i) ≡ word_in s.region (entry s.region i)
@@ -260,9 +273,3 @@ resized_from s u v w i n slots total chunks size r slots_w total_w chunks_w = re
   chunks = chunks_w ∙ (r.chunks ∙ ap (λ (cs : List (Option (List ℕ))). set cs i (Some (resized (unwrap_or (get_or cs i None) []) n))) chunks);
   total = omega (arith, r.total, ap piece_space size);
 }
-
-pub loose_kept : (s : Space) (p room : ℕ) → IsLoose s p room → IsSpaced s 1
-loose_kept s p room f = record { pieces = f.before ++ (Free room ∷ f.after); free = f.free; held = f.held }
-
-pub next_kept : (s : Space) (i room : ℕ) → HasNext s i room → IsSpaced s 1
-next_kept s i room h = record { pieces = h.before ++ (Used i h.bytes ∷ (Free room ∷ h.after)); free = h.free; held = h.held }

@@ -129,6 +129,7 @@ pub record IsLivePiece {loose : ℕ} (s : Space) (k : IsSpaced s loose) (i p n :
   pub held : IsHeld s (before ++ (Used i bytes ∷ after)) k.free loose
   pub place : p ≡ s.low + spaces before
   pub is : p ≡ entry s.region i
+  pub value : n ≡ word_in s.region (entry s.region i)
   pub size : n ≡ length bytes
   pub ends : p + piece_space n ≤ 65520
   pub some : 0 < n
@@ -139,7 +140,8 @@ pub live_piece : {loose : ℕ} (s : Space) (k : IsSpaced s loose) (i p n : ℕ) 
 live_piece {loose = loose} s k i p n l live is value =
     let h = live_slot s.region s.slots s.low k.pieces i k.held.tiled l live in let a = h.before in let b = h.bytes in let d = h.after in
     let at = is ∙ piece_place s.region s.slots s.low k.pieces k.held.tiled i a b d h.is in
-    let size : n ≡ length b = value ∙ (ap (λ (m : ℕ). word_in s.region m) is ∙ piece_size s.region s.slots s.low k.pieces k.held.tiled i a b d h.is) in
+    let at_entry : n ≡ word_in s.region (entry s.region i) = value ∙ ap (λ (m : ℕ). word_in s.region m) is in
+    let size : n ≡ length b = at_entry ∙ piece_size s.region s.slots s.low k.pieces k.held.tiled i a b d h.is in
     let held : IsHeld s (a ++ (Used i b ∷ d)) k.free loose = subst (λ (cs : List Piece). IsHeld s cs k.free loose) (sym h.is) k.held in
     let shape = (shaped_split (16 + 2 * s.slots) a (Used i b ∷ d) held.tiled.shaped).1.0 in
     let ends = piece_ends s.region s.slots s.low k.pieces k.held.tiled i a b d h.is in let table = held.tiled.table in
@@ -152,6 +154,7 @@ live_piece {loose = loose} s k i p n l live is value =
       held = held;
       place = at;
       is = is;
+      value = at_entry;
       size = size;
       ends = omega arith;
       some = omega (arith, shape.0);

@@ -218,11 +218,8 @@ pub set_room : (t : Slots) (i : ℕ) (b c : List ℕ) → i < length t → b ≡
 set_room t i b c l same room = subst (λ (x : Slots). need_in x ≤ 65520) (put_at-within t i c l ∙ ap (λ (x : List ℕ). set t i (Some x)) (sym same)) room
 
 -- what a heap keeps of its table
-counted_put : (t n : Slots) (i gap : ℕ) (b : List ℕ) → IsTrimmed t → need_in (put_at t i b) ≤ 65520 → n ≡ put_at t i b → gap ≤ first_gap (put_at t i b) → IsCounted n gap
+pub counted_put : (t n : Slots) (i gap : ℕ) (b : List ℕ) → IsTrimmed t → need_in (put_at t i b) ≤ 65520 → n ≡ put_at t i b → gap ≤ first_gap (put_at t i b) → IsCounted n gap
 counted_put t n i gap b trimmed room is first = subst (λ (x : Slots). IsCounted x gap) (sym is) (trimmed-put t i b trimmed, first, room)
-
-pub counted_new : (t n : Slots) (i gap : ℕ) (b : List ℕ) → IsTrimmed t → need_in (put_at t i b) ≤ 65520 → n ≡ put_at t i b → gap ≤ first_gap (put_at t i b) → IsCounted n gap
-counted_new t n i gap b trimmed room is first = counted_put t n i gap b trimmed room is first
 
 pub counted_changed : (t n : Slots) (i gap : ℕ) (b c : List ℕ) → Live t i c → IsCounted t gap → need_in (put_at t i b) ≤ 65520 → n ≡ put_at t i b → IsCounted n gap
 counted_changed t n i gap b c live counted room is =

@@ -1,14 +1,13 @@
 -- Chunks that have been packed lie at the end of the region.
-use Rattle.std.proofs.Common.{◌≡◌, ℕ, zero, suc, ◌+◌, ◌*◌, ◌-◌, ◌<◌, ◌≤◌, Bool, true, false, List, [], ◌∷◌, ◌==◌, if◌then◌else◌, length, get_or, Option, Some, None, IfSome, refl, sym, ap, subst, ◌∙◌, inl, inr, arith}
+use Rattle.std.proofs.Common.{◌≡◌, ℕ, zero, suc, ◌+◌, ◌<◌, ◌≤◌, Bool, true, false, List, [], ◌∷◌, ◌==◌, if◌then◌else◌, get_or, Option, None, IfSome, sym, subst, inl, inr, arith}
 use Rattle.std.proofs.lemmas.Bool.{cases_lt}
 use Rattle.std.proofs.lemmas.List.{get_or_past}
-use Rattle.std.specs.Ordering.{nat_cmp}
-use Rattle.std.specs.FinMap.{FinMap, get, entries}
+use Rattle.std.specs.FinMap.{get}
 use Rattle.geos_model.proofs.Table.{table_map}
 use Rattle.geos_model.proofs.Tables.{get-table_map_nil, get-table_map_cons}
 use Rattle.geos_model.proofs.HeapTables.{space-table}
 use Rattle.lmem_heap.specs.Pieces.{entry}
-use Rattle.lmem_heap.specs.Tiled.{chunks_in, offset_under, table_end}
+use Rattle.lmem_heap.specs.Tiled.{offset_under}
 use Rattle.lmem_heap.specs.Kept.{IsKept}
 use Rattle.lmem_heap.specs.Slots.{space_in}
 use Rattle.lmem_heap.specs.Stored.{Stored, offsets_in, AreLast}

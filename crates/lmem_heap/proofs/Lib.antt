@@ -9,6 +9,7 @@ pub mod Editing
 pub mod Rooms
 pub mod Links
 pub mod Filling
+pub mod Known
 pub mod Growing
 pub mod PackedSlots
 pub mod Heaps

@@ -132,12 +132,12 @@ module _ (s : Space) (k : IsKept s) (ys : List ℕ) (i p size n : ℕ) (f : IsLi
         refit_others refit_links s.total (omega (arith, f.size)) 0 refl;
   }
 
-  pub refit_resized : p ≡ entry s.region i → size ≡ word_in s.region p → IsResized s (record { region = ys; slots = s.slots; low = s.low; head = s.head; total = s.total }) i n
-  refit_resized is value = record {
+  pub refit_resized : IsResized s (record { region = ys; slots = s.slots; low = s.low; head = s.head; total = s.total }) i n
+  refit_resized = record {
     slots = refl;
     chunks = sized_chunks s ys i p n f.before f.bytes [] [] f.after k.free f.held f.place within some (sized.long ∙ f.held.tiled.long) sized.head refit_front refit_zeros refit_before refit_behind refit_rest tt tt tt (λ j. tt) (λ j. tt)
         refit_others refit_links s.total (omega (arith, f.size)) 0 refl;
-    total = let there : size ≡ word_in s.region (entry s.region i) = value ∙ ap (λ (q : ℕ). word_in s.region q) is in omega (arith, there);
+    total = omega (arith, f.value);
   }
 
 -- ---- in a smaller piece
@@ -190,24 +190,24 @@ module _ (s : Space) (k : IsKept s) (vs ys : List ℕ) (i p size n : ℕ) (f : I
   short_held = sized_held s ys i p n f.before f.bytes [] (Free (piece_space size - piece_space n) ∷ []) f.after k.free f.held f.place within some (written.long ∙ (sized.long ∙ f.held.tiled.long)) short_head short_front short_zeros short_before short_behind short_rest tt short_shape tt (λ j. tt) (λ j. tt)
       short_others short_links (s.total - (piece_space size - piece_space n)) short_takes 1 refl
 
-  pub shortened : IsLoose (record { region = ys; slots = s.slots; low = s.low; head = s.head; total = s.total - (piece_space size - piece_space n) }) (p + piece_space n) (piece_space size - piece_space n)
+  pub shortened : IsLoose (record { region = ys; slots = s.slots; low = s.low; head = s.head; total = s.total - (piece_space size - piece_space n) }) (p + piece_space n) (piece_space (word_in s.region (entry s.region i)) - piece_space n)
   shortened =
       let one = Used i (resized f.bytes n) ∷ [] in let room = piece_space size - piece_space n in let u : Space = record { region = ys; slots = s.slots; low = s.low; head = s.head; total = s.total - room } in
-      record {
+      subst (λ (m : ℕ). IsLoose u (p + piece_space n) (piece_space m - piece_space n)) f.value (record {
         before = f.before ++ one;
         after = f.after;
         free = k.free;
         held = subst (λ (cs : List Piece). IsHeld u cs k.free 1) (sym (append_assoc f.before one (Free room ∷ f.after))) short_held;
         place = omega (arith, f.place, spaces_append f.before one, ap piece_space (count_resized f.bytes n));
         other = inside_used (16 + 2 * s.slots) s.low p (p + piece_space n) i f.bytes f.before f.after f.held.tiled.shaped f.place (omega arith) (omega (arith, f.size)) k.free f.held.spare;
-      }
+      })
 
-  pub short_resized : p ≡ entry s.region i → size ≡ word_in s.region p → IsResized s (record { region = ys; slots = s.slots; low = s.low; head = s.head; total = s.total - (piece_space size - piece_space n) }) i n
-  short_resized is value = record {
+  pub short_resized : IsResized s (record { region = ys; slots = s.slots; low = s.low; head = s.head; total = s.total - (piece_space size - piece_space n) }) i n
+  short_resized = record {
     slots = refl;
     chunks = sized_chunks s ys i p n f.before f.bytes [] (Free (piece_space size - piece_space n) ∷ []) f.after k.free f.held f.place within some (written.long ∙ (sized.long ∙ f.held.tiled.long)) short_head short_front short_zeros short_before short_behind short_rest tt short_shape tt (λ j. tt) (λ j. tt)
         short_others short_links (s.total - (piece_space size - piece_space n)) short_takes 1 refl;
-    total = let there : size ≡ word_in s.region (entry s.region i) = value ∙ ap (λ (q : ℕ). word_in s.region q) is in omega (arith, there, f.less);
+    total = omega (arith, f.value, f.less);
   }
 
 -- ---- with the free piece behind it
@@ -215,6 +215,7 @@ module _ (s : Space) (k : IsKept s) (vs ys : List ℕ) (i p size n : ℕ) (f : I
 -- what is known of the two
 pub record IsNextTo (s : Space) (i room p size : ℕ) (h : HasNext s i room) : Type 0 where
   pub place : p ≡ s.low + spaces h.before
+  pub value : size ≡ word_in s.region (entry s.region i)
   pub size_is : size ≡ length h.bytes
   pub ends : p + piece_space size + room ≤ 65520
   pub table : 18 + 2 * i ≤ p
@@ -224,10 +225,11 @@ pub next_to : (s : Space) (i room p size : ℕ) (h : HasNext s i room) → i < s
 next_to s i room p size h within is value =
     let cs = h.before ++ (Used i h.bytes ∷ (Free room ∷ h.after)) in let rest = Free room ∷ h.after in
     let at = is ∙ piece_place s.region s.slots s.low cs h.held.tiled i h.before h.bytes rest refl in
-    let size_is = value ∙ (ap (λ (q : ℕ). word_in s.region q) is ∙ piece_size s.region s.slots s.low cs h.held.tiled i h.before h.bytes rest refl) in
+    let at_entry : size ≡ word_in s.region (entry s.region i) = value ∙ ap (λ (q : ℕ). word_in s.region q) is in
+    let size_is = at_entry ∙ piece_size s.region s.slots s.low cs h.held.tiled i h.before h.bytes rest refl in
     let all = lies_end size_head s.region s.low cs 65520 h.held.tiled.lies in let sum = spaces_append h.before (Used i h.bytes ∷ rest) in let table = h.held.tiled.table in
     let less = used_le h.before in let less_d = used_le h.after in let takes = used_append h.before (Used i h.bytes ∷ rest) in
-    record { place = at; size_is = size_is; ends = omega arith; table = omega arith; small = omega (arith, h.held.count) }
+    record { place = at; value = at_entry; size_is = size_is; ends = omega arith; table = omega arith; small = omega (arith, h.held.count) }
 
 module _ (s : Space) (ys : List ℕ) (i p size n : ℕ) (h : HasNext s i (piece_space n - piece_space size)) (f : IsNextTo s i (piece_space n - piece_space size) p size h) (within : i < s.slots) (more : piece_space size < piece_space n) (sized : IsSized s.region ys p size n) where
   next_behind : Same s.region ys (p + (piece_space (length h.bytes) + (piece_space n - piece_space size + 0))) 65520
@@ -266,10 +268,25 @@ module _ (s : Space) (ys : List ℕ) (i p size n : ℕ) (h : HasNext s i (piece_
         next_others next_links (s.total + (piece_space n - piece_space size)) next_takes 0 refl;
   }
 
-  pub absorb_resized : p ≡ entry s.region i → size ≡ word_in s.region p → IsResized s (record { region = ys; slots = s.slots; low = s.low; head = s.head; total = s.total + (piece_space n - piece_space size) }) i n
-  absorb_resized is value = record {
+  pub absorb_resized : IsResized s (record { region = ys; slots = s.slots; low = s.low; head = s.head; total = s.total + (piece_space n - piece_space size) }) i n
+  absorb_resized = record {
     slots = refl;
     chunks = sized_chunks s ys i p n h.before h.bytes (Free (piece_space n - piece_space size) ∷ []) [] h.after h.free h.held f.place within next_some (sized.long ∙ h.held.tiled.long) sized.head next_front next_zeros next_before next_behind next_rest tt tt tt (λ j. tt) (λ j. tt)
         next_others next_links (s.total + (piece_space n - piece_space size)) next_takes 0 refl;
-    total = let there : size ≡ word_in s.region (entry s.region i) = value ∙ ap (λ (q : ℕ). word_in s.region q) is in omega (arith, there);
+    total = omega (arith, f.value);
   }
+
+-- the two, for a chunk that is to have n bytes
+pub record IsNextFor (s : Space) (i p size n : ℕ) : Type 0 where
+  pub more : piece_space size < piece_space n
+  pub next : HasNext s i (piece_space n - piece_space size)
+  pub beside : IsNextTo s i (piece_space n - piece_space size) p size next
+
+pub next_for : (s : Space) (i p size n : ℕ) → i < s.slots → p ≡ entry s.region i → size ≡ word_in s.region p → piece_space (word_in s.region (entry s.region i)) < piece_space n → HasNext s i (piece_space n - piece_space (word_in s.region (entry s.region i))) → IsNextFor s i p size n
+next_for s i p size n within is value more next =
+    let same : size ≡ word_in s.region (entry s.region i) = value ∙ ap (λ (q : ℕ). word_in s.region q) is in
+    let h : HasNext s i (piece_space n - piece_space size) = subst (λ (m : ℕ). HasNext s i (piece_space n - piece_space m)) (sym same) next in
+    record { more = omega (arith, same, more); next = h; beside = next_to s i (piece_space n - piece_space size) p size h within is value }
+
+pub next_head : {room : ℕ} (s : Space) (i p : ℕ) → i < s.slots → p ≡ entry s.region i → HasNext s i room → p + 2 ≤ 65520
+next_head {room = room} s i p within is h = omega (arith, (next_to s i room p (word_in s.region p) h within is refl).ends)

@@ -9,10 +9,11 @@ use Rattle.lmem_heap.specs.Pieces.{word_in, entry, Used, size_head, Lies, IsFres
 use Rattle.lmem_heap.specs.Tiled.{IsTiled, chunks_in, offset_under}
 use Rattle.lmem_heap.specs.Kept.{IsKept}
 use Rattle.lmem_heap.proofs.Writes.{word_kept, entry_kept}
-use Rattle.lmem_heap.proofs.Tiles.{lies_end, lies_split, shaped_split}
+use Rattle.lmem_heap.proofs.Tiles.{lies_split, shaped_split}
 use Rattle.lmem_heap.proofs.Chunks.{piece_size, piece_bytes, piece_chunk, piece_others, under_dead, chunk_in, length-chunks_in}
 use Rattle.lmem_heap.proofs.Editing.{IsEdit, edited, edited_set, spares_edited, chain_edited, Each, each_all, IsLinkKept, count_edited, frees_edited}
 use Rattle.lmem_heap.proofs.Filling.{live_slot, IsLivePiece}
+use Rattle.lmem_heap.proofs.Known.{entry_ends}
 
 -- ---- reading
 
@@ -140,5 +141,8 @@ module _ (s : Space) (k : IsKept s) (ys : List ℕ) (p i n at : ℕ) (ws : List 
       ∙ ap (λ (o : Option (List ℕ)). set (chunks_in s.region s.slots) i (Some (put (unwrap_or o []) at ws))) (sym old))
 
 -- a slot's entry lies in the region
+pub slot_within : (s : Space) (i : ℕ) → i < length (chunks_in s.region s.slots) → i < s.slots
+slot_within s i l = omega (arith, length-chunks_in s.region s.slots)
+
 pub slot_low : (s : Space) (i : ℕ) → IsKept s → i < length (chunks_in s.region s.slots) → 18 + 2 * i ≤ 65520
-slot_low s i k l = omega (arith, length-chunks_in s.region s.slots, k.held.tiled.table, lies_end size_head s.region s.low k.pieces 65520 k.held.tiled.lies)
+slot_low s i k l = entry_ends k i (slot_within s i l)

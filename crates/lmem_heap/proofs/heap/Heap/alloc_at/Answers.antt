@@ -1,10 +1,29 @@
-use Rattle.std.proofs.Common.{◌≡◌, ◌≤◌, ◌+◌, ℕ, List, None, max, length, get_or, replicate, refl, ◌∙◌, arith}
+use Rattle.std.proofs.Common.{◌≡◌, ◌≤◌, ◌+◌, ℕ, List, Option, None, max, length, get_or, replicate, ◌∙◌, refl, arith}
 use Rattle.geos_model.proofs.Table.{first_gap}
 use Rattle.geos_model.proofs.Tables.{put_at}
 use Rattle.lmem_heap.specs.Slots.{need_in}
-use Rattle.lmem_heap.proofs.Heaps.{shown_chunks, free_slot, room_put, shows_put, counted_new, zeros_put, none_bytes, in_slots, grow_room, new_room, gap_found, first_gap_le, gap_put_here, gap_put_there}
-use Rattle.lmem_heap.proofs.heap.Heap.alloc_at.Goals.{After-gap_from-gap, then-i-gap, else-i-gap}
+use Rattle.lmem_heap.proofs.Heaps.{shown_chunks, free_slot, room_put, shows_put, counted_put, zeros_put, none_bytes, in_slots, grow_room, new_room, gap_found, first_gap_le, gap_put_here, gap_put_there}
+use Rattle.lmem_heap.proofs.heap.Heap.alloc_at.Goals.{After-gap_from-gap, After-max, After-place, then-i-gap, else-i-gap}
 use Rattle.lmem_heap.proofs.heap.Heap.alloc_at.Goals as goal
+
+-- a table's slot is free, has room for n zeros, and is one of the first so many
+record HasRoom (t : List (Option (List ℕ))) (slot n slots : ℕ) : Type 0 where
+  pub none : get_or t slot None ≡ None
+  pub room : need_in (put_at t slot (replicate n 0)) ≤ 65520
+  pub most : slots ≡ max (length t) (slot + 1)
+
+has_room : (c : After-max) → HasRoom c.self.inside.table.chunks c.slot-i.result c.args.n c.max.result
+has_room c =
+    let t = c.self.inside.table.chunks in let k = c.slot-i.result in let h = c.args.h.0 in let m = c.args.self.now.chunks in let shows = shown_chunks c.self.inside.table c.args.self.now c.self.view_is in
+    record {
+      none = free_slot t k h m shows c.slot-i.ensures.at c.requires.free;
+      room = room_put t k h m shows c.slot-i.ensures.at (replicate c.args.n 0) c.self.invariant.0 c.requires.fits;
+      most = omega (arith, c.max.ensures, c.len.ensures.chunks);
+    }
+
+-- the zeros are put there
+placed : (c : After-place) → HasRoom c.self.inside.table.chunks c.slot-i.result c.args.n c.max.result → c.place.new.self.chunks ≡ put_at c.self.inside.table.chunks c.slot-i.result (replicate c.args.n 0)
+placed c f = c.place.ensures ∙ zeros_put c.self.inside.table.chunks c.grow.new.self.chunks c.slot-i.result c.max.result f.most c.grow.ensures f.none c.args.n
 
 -- the least free slot
 gap : (c : After-gap_from-gap) → c.gap_from-gap.result ≡ first_gap c.self.inside.table.chunks
@@ -14,62 +33,26 @@ pub gap_from-gap-requires : goal.gap_from-gap-requires
 gap_from-gap-requires c = omega (arith, c.self.invariant.1, first_gap_le c.self.inside.table.chunks)
 
 pub grow-requires-clause-room : goal.grow-requires-clause-room
-grow-requires-clause-room c =
-    let s = c.self.inside in let t = s.table.chunks in let i = c.self.invariant in let k = c.slot-i.result in let h = c.args.h.0 in let m = c.args.self.now.chunks in
-    let z : List ℕ = replicate c.args.n 0 in let shows = shown_chunks s.table c.args.self.now c.self.view_is in
-    let none : get_or t k None ≡ None = free_slot t k h m shows c.slot-i.ensures.at c.requires.free in
-    let room : need_in (put_at t k z) ≤ 65520 = room_put t k h m shows c.slot-i.ensures.at z i.0 c.requires.fits in
-    let most : c.max.result ≡ max (length t) (k + 1) = omega (arith, c.max.ensures, c.len.ensures.chunks) in
-    grow_room t _ k c.max.result most refl none z room
+grow-requires-clause-room c = let f = has_room (goal.at.grow-requires-clause-room c).After-max in grow_room c.self.inside.table.chunks _ c.slot-i.result c.max.result f.most refl f.none (replicate c.args.n 0) f.room
 
 pub place-requires-clause-slot : goal.place-requires-clause-slot
-place-requires-clause-slot c =
-    let s = c.self.inside in let t = s.table.chunks in let i = c.self.invariant in let k = c.slot-i.result in let h = c.args.h.0 in let m = c.args.self.now.chunks in
-    let z : List ℕ = replicate c.args.n 0 in let shows = shown_chunks s.table c.args.self.now c.self.view_is in
-    let none : get_or t k None ≡ None = free_slot t k h m shows c.slot-i.ensures.at c.requires.free in
-    let room : need_in (put_at t k z) ≤ 65520 = room_put t k h m shows c.slot-i.ensures.at z i.0 c.requires.fits in
-    let most : c.max.result ≡ max (length t) (k + 1) = omega (arith, c.max.ensures, c.len.ensures.chunks) in
-    in_slots t c.grow.new.self.chunks k c.max.result most c.grow.ensures none
+place-requires-clause-slot c = let f = has_room (goal.at.place-requires-clause-slot c).After-max in in_slots c.self.inside.table.chunks c.grow.new.self.chunks c.slot-i.result c.max.result f.most c.grow.ensures f.none
 
 pub place-requires-clause-none : goal.place-requires-clause-none
-place-requires-clause-none c =
-    let s = c.self.inside in let t = s.table.chunks in let i = c.self.invariant in let k = c.slot-i.result in let h = c.args.h.0 in let m = c.args.self.now.chunks in
-    let z : List ℕ = replicate c.args.n 0 in let shows = shown_chunks s.table c.args.self.now c.self.view_is in
-    let none : get_or t k None ≡ None = free_slot t k h m shows c.slot-i.ensures.at c.requires.free in
-    let room : need_in (put_at t k z) ≤ 65520 = room_put t k h m shows c.slot-i.ensures.at z i.0 c.requires.fits in
-    let most : c.max.result ≡ max (length t) (k + 1) = omega (arith, c.max.ensures, c.len.ensures.chunks) in
-    none_bytes t c.grow.new.self.chunks k c.max.result most c.grow.ensures none
+place-requires-clause-none c = let f = has_room (goal.at.place-requires-clause-none c).After-max in none_bytes c.self.inside.table.chunks c.grow.new.self.chunks c.slot-i.result c.max.result f.most c.grow.ensures f.none
 
 pub place-requires-clause-room : goal.place-requires-clause-room
-place-requires-clause-room c =
-    let s = c.self.inside in let t = s.table.chunks in let i = c.self.invariant in let k = c.slot-i.result in let h = c.args.h.0 in let m = c.args.self.now.chunks in
-    let z : List ℕ = replicate c.args.n 0 in let shows = shown_chunks s.table c.args.self.now c.self.view_is in
-    let none : get_or t k None ≡ None = free_slot t k h m shows c.slot-i.ensures.at c.requires.free in
-    let room : need_in (put_at t k z) ≤ 65520 = room_put t k h m shows c.slot-i.ensures.at z i.0 c.requires.fits in
-    let most : c.max.result ≡ max (length t) (k + 1) = omega (arith, c.max.ensures, c.len.ensures.chunks) in
-    new_room t c.grow.new.self.chunks k c.max.result most c.grow.ensures none c.args.n room
+place-requires-clause-room c = let f = has_room (goal.at.place-requires-clause-room c).After-max in new_room c.self.inside.table.chunks c.grow.new.self.chunks c.slot-i.result c.max.result f.most c.grow.ensures f.none c.args.n f.room
 
 pub invariant_of-self : goal.invariant_of-self
 invariant_of-self c =
-    let s = c.self.inside in let t = s.table.chunks in let i = c.self.invariant in let k = c.slot-i.result in let h = c.args.h.0 in let m = c.args.self.now.chunks in
-    let z : List ℕ = replicate c.args.n 0 in let shows = shown_chunks s.table c.args.self.now c.self.view_is in
-    let none : get_or t k None ≡ None = free_slot t k h m shows c.slot-i.ensures.at c.requires.free in
-    let room : need_in (put_at t k z) ≤ 65520 = room_put t k h m shows c.slot-i.ensures.at z i.0 c.requires.fits in
-    let most : c.max.result ≡ max (length t) (k + 1) = omega (arith, c.max.ensures, c.len.ensures.chunks) in
-    let is : c.place.new.self.chunks ≡ put_at t k z = c.place.ensures ∙ zeros_put t c.grow.new.self.chunks k c.max.result most c.grow.ensures none c.args.n in
-    let g = gap (goal.at.invariant_of-self c).After-gap_from-gap in
+    let t = c.self.inside.table.chunks in let k = c.slot-i.result in let z : List ℕ = replicate c.args.n 0 in
+    let f = has_room (goal.at.invariant_of-self c).After-max in let g = gap (goal.at.invariant_of-self c).After-gap_from-gap in
     let first : c.if-i-gap.self ≤ first_gap (put_at t k z) = elim c.if-i-gap.branch [
-      | then-i-gap w ↦ omega (arith, w.self-is, gap_put_here t k z (omega (arith, g, w.if-i-gap.true)) none)
+      | then-i-gap w ↦ omega (arith, w.self-is, gap_put_here t k z (omega (arith, g, w.if-i-gap.true)) f.none)
       | else-i-gap w ↦ omega (arith, w.self-is, gap_put_there t c.gap_from-gap.result k z (omega (arith, g)))
     ] in
-    counted_new t c.place.new.self.chunks k c.if-i-gap.self z i.0 room is first
+    counted_put t c.place.new.self.chunks k c.if-i-gap.self z c.self.invariant.0 f.room (placed (goal.at.invariant_of-self c).After-place f) first
 
 pub returns : goal.returns
-returns c =
-    let s = c.self.inside in let t = s.table.chunks in let i = c.self.invariant in let k = c.slot-i.result in let h = c.args.h.0 in let m = c.args.self.now.chunks in
-    let z : List ℕ = replicate c.args.n 0 in let shows = shown_chunks s.table c.args.self.now c.self.view_is in
-    let none : get_or t k None ≡ None = free_slot t k h m shows c.slot-i.ensures.at c.requires.free in
-    let room : need_in (put_at t k z) ≤ 65520 = room_put t k h m shows c.slot-i.ensures.at z i.0 c.requires.fits in
-    let most : c.max.result ≡ max (length t) (k + 1) = omega (arith, c.max.ensures, c.len.ensures.chunks) in
-    let is : c.place.new.self.chunks ≡ put_at t k z = c.place.ensures ∙ zeros_put t c.grow.new.self.chunks k c.max.result most c.grow.ensures none c.args.n in
-    shows_put t k h m shows c.slot-i.ensures.at c.place.new.self.chunks z is
+returns c = shows_put c.self.inside.table.chunks c.slot-i.result c.args.h.0 c.args.self.now.chunks (shown_chunks c.self.inside.table c.args.self.now c.self.view_is) c.slot-i.ensures.at c.place.new.self.chunks (replicate c.args.n 0) (placed (goal.at.returns c).After-place (has_room (goal.at.returns c).After-max))

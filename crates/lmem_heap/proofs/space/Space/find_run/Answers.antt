@@ -1,29 +1,27 @@
-use Rattle.std.proofs.Common.{◌+◌, ◌*◌, ◌∙◌, ℕ, ap, refl, arith}
-use Rattle.lmem_heap.specs.Pieces.{size_head, word_in}
-use Rattle.lmem_heap.proofs.Writes.{entry_word}
-use Rattle.lmem_heap.proofs.Tiles.{lies_end}
-use Rattle.lmem_heap.proofs.Filling.{live_piece}
+use Rattle.std.proofs.Common.{◌≡◌, ◌+◌, ℕ, ap, refl, arith}
+use Rattle.lmem_heap.specs.Pieces.{entry}
+use Rattle.lmem_heap.proofs.Known.{entry_ends, head_ends, read_entry, piece_read}
+use Rattle.lmem_heap.proofs.space.Space.find_run.Goals.{After-word_in-p}
 use Rattle.lmem_heap.proofs.space.Space.find_run.Goals as goal
 
+read : (c : After-word_in-p) → c.word_in-p.result ≡ entry c.args.self.now.region c.args.i
+read c = read_entry c.args.self.now c.args.i c.word_in-p.result c.word_in-p.ensures.value
+
 pub word_in-p-requires : goal.word_in-p-requires
-word_in-p-requires c = let s = c.args.self.now in let k = c.requires.kept in omega (arith, c.requires.slot, k.held.tiled.table, lies_end size_head s.region s.low k.pieces 65520 k.held.tiled.lies)
+word_in-p-requires c = omega (arith, entry_ends c.requires.kept c.args.i c.requires.slot)
 
 pub word_in-requires : goal.word_in-requires
-word_in-requires c =
-    let s = c.args.self.now in let is = c.word_in-p.ensures.value ∙ entry_word s.region c.args.i (16 + 2 * c.args.i) refl in
-    let f = live_piece s c.requires.kept c.args.i c.word_in-p.result _ c.requires.slot (omega arith) is refl in omega (arith, f.ends)
+word_in-requires c = let is = read (goal.at.word_in-requires c).After-word_in-p in head_ends c.requires.kept c.args.i c.word_in-p.result c.requires.slot (omega (arith, is, c.if-p-gt-EMPTY.true)) c.word_in-p.ensures.value
 
 pub returns-then-p-gt-EMPTY : goal.returns-then-p-gt-EMPTY
 returns-then-p-gt-EMPTY c =
-    let s = c.args.self.now in let is = c.word_in-p.ensures.value ∙ entry_word s.region c.args.i (16 + 2 * c.args.i) refl in
-    let f = live_piece s c.requires.kept c.args.i c.word_in-p.result c.word_in.result c.requires.slot (omega (arith, is, c.if-p-gt-EMPTY.true)) is c.word_in.ensures.value in
+    let is = read (goal.at.returns-then-p-gt-EMPTY c).After-word_in-p in
+    let f = piece_read c.requires.kept c.args.i c.word_in-p.result c.word_in.result c.requires.slot (omega (arith, is, c.if-p-gt-EMPTY.true)) c.word_in-p.ensures.value c.word_in.ensures.value in
     record {
       ends = omega (arith, f.ends);
       none = λ dead. absurd (omega (arith, is, c.if-p-gt-EMPTY.true));
-      some = λ live. (ap (λ (k : ℕ). k + 2) is, c.word_in.ensures.value ∙ ap (λ (k : ℕ). word_in s.region k) is);
+      some = λ live. (ap (λ (k : ℕ). k + 2) is, f.value);
     }
 
 pub returns-else-p-gt-EMPTY : goal.returns-else-p-gt-EMPTY
-returns-else-p-gt-EMPTY c =
-    let s = c.args.self.now in let is = c.word_in-p.ensures.value ∙ entry_word s.region c.args.i (16 + 2 * c.args.i) refl in
-    record { ends = omega arith; none = λ dead. refl; some = λ live. absurd (omega (arith, is, c.if-p-gt-EMPTY.false)) }
+returns-else-p-gt-EMPTY c = let is = read (goal.at.returns-else-p-gt-EMPTY c).After-word_in-p in record { ends = omega arith; none = λ dead. refl; some = λ live. absurd (omega (arith, is, c.if-p-gt-EMPTY.false)) }

@@ -1,12 +1,11 @@
 use Rattle.std.proofs.Common.{refl, arith}
-use Rattle.lmem_heap.specs.Pieces.{size_head}
-use Rattle.lmem_heap.proofs.Tiles.{lies_end}
 use Rattle.lmem_heap.proofs.Writes.{entry_set}
 use Rattle.lmem_heap.proofs.Filling.{deadened, dead_changed}
+use Rattle.lmem_heap.proofs.Known.{entry_ends}
 use Rattle.lmem_heap.proofs.space.Space.set_dead.Goals as goal
 
 pub set_word-requires-clause-within : goal.set_word-requires-clause-within
-set_word-requires-clause-within c = let k = c.requires.kept in omega (arith, c.requires.slot, k.held.tiled.table, lies_end size_head c.args.self.now.region c.args.self.now.low k.pieces 65520 k.held.tiled.lies)
+set_word-requires-clause-within c = omega (arith, entry_ends c.requires.kept c.args.i c.requires.slot)
 
 pub set_word-requires-clause-long : goal.set_word-requires-clause-long
 set_word-requires-clause-long c = c.requires.kept.held.tiled.long

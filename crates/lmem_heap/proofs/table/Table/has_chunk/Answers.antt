@@ -1,5 +1,4 @@
-use Rattle.std.proofs.Common.{◌∙◌, ap, List, Option, ℕ, None, is_some, get_or}
-use Rattle.lmem_heap.proofs.Shown.{shown, in_table}
+use Rattle.lmem_heap.proofs.Shown.{in_table}
 use Rattle.lmem_heap.proofs.table.Table.has_chunk.Goals as goal
 
 pub has_chunk-requires-clause-slot : goal.has_chunk-requires-clause-slot
