@@ -12,6 +12,8 @@ mod memory;
 #[cfg(test)]
 mod paired_calls;
 #[cfg(test)]
+mod places;
+#[cfg(test)]
 mod plain_chunks;
 #[cfg(test)]
 mod random;

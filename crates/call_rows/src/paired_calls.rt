@@ -1,5 +1,6 @@
 // Each makes one call of a heap and the same of plain chunks, and says whether both agree then: of the slot that was
 // touched, of the bytes that are needed and of the least free handle.
+use crate::places;
 use crate::plain_chunks::{CAPACITY, PlainChunks, handle_of};
 use geos_model::Fault;
 use lmem_heap::Heap;
@@ -44,6 +45,20 @@ pub(crate) fn free(heap: &mut Heap, plain: &mut PlainChunks, slot: usize) -> boo
     heap.free(h);
     plain.remove(slot);
     agree(heap, plain, slot)
+}
+
+/// The chunk of a slot is freed, and every other one stays where it lies.
+pub(crate) fn free_in_place(
+    alloc: Global,
+    heap: &mut Heap,
+    plain: &mut PlainChunks,
+    slot: usize,
+) -> Result<bool, AllocError> {
+    let mut offsets = places::offsets(alloc, heap, plain)?;
+    if let Some(own) = offsets.get_mut(slot) {
+        *own = None;
+    }
+    Ok(free(heap, plain, slot) && places::lie_at(heap, &offsets))
 }
 
 /// The chunk of a slot gets another size, where it fits.
@@ -111,6 +126,19 @@ pub(crate) fn write(
     Ok(agree(heap, plain, slot))
 }
 
+/// Bytes are written over those from `at` on of a slot's chunk, and every chunk stays where it lies.
+pub(crate) fn write_in_place(
+    alloc: Global,
+    heap: &mut Heap,
+    plain: &mut PlainChunks,
+    slot: usize,
+    at: usize,
+    bytes: &[u8],
+) -> Result<bool, AllocError> {
+    let offsets = places::offsets(alloc, heap, plain)?;
+    Ok(write(heap, plain, slot, at, bytes)? && places::lie_at(heap, &offsets))
+}
+
 /// Bytes are copied into a slot's chunk where it stands.
 pub(crate) fn copy_in(
     heap: &mut Heap,
@@ -130,10 +158,14 @@ pub(crate) fn copy_in(
     Ok(agree(heap, plain, slot))
 }
 
-/// The free room is joined.
-pub(crate) fn contract(heap: &mut Heap, plain: &PlainChunks) -> Result<bool, AllocError> {
+/// The free room is joined before the chunks.
+pub(crate) fn contract(
+    alloc: Global,
+    heap: &mut Heap,
+    plain: &PlainChunks,
+) -> Result<bool, AllocError> {
     heap.contract();
-    all_agree(heap, plain)
+    Ok(places::are_last(alloc, heap, plain)? && all_agree(alloc, heap, plain)?)
 }
 
 /// The heap's image is read, and the heap that it gives takes the heap's place.
@@ -144,7 +176,7 @@ pub(crate) fn read_back(
 ) -> Result<bool, Fault> {
     let image = heap.image()?;
     *heap = Heap::from_image(alloc, image.as_slice())?;
-    Ok(image == plain.image()? && all_agree(heap, plain)?)
+    Ok(image == plain.image()? && all_agree(alloc, heap, plain)?)
 }
 
 // Whether both agree of a slot, and of what is asked of the heap as a whole.
@@ -154,12 +186,16 @@ fn agree(heap: &Heap, plain: &PlainChunks, slot: usize) -> bool {
         && heap.next_handle() == plain.next_handle()
 }
 
-/// Whether both agree of all chunks.
-pub(crate) fn all_agree(heap: &Heap, plain: &PlainChunks) -> Result<bool, AllocError> {
+/// Whether both agree of all chunks, and these lie apart.
+pub(crate) fn all_agree(
+    alloc: Global,
+    heap: &Heap,
+    plain: &PlainChunks,
+) -> Result<bool, AllocError> {
     for slot in 0..plain.len() {
         if heap.chunk(handle_of(slot)) != plain.chunk(slot) {
             return Ok(false);
         }
     }
-    Ok(heap.handles()? == plain.handles()?)
+    Ok(heap.handles()? == plain.handles()? && places::are_apart(alloc, heap, plain)?)
 }

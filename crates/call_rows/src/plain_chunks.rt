@@ -168,19 +168,28 @@ impl PlainChunks {
     pub(crate) fn image(&self) -> Result<Vec<u8>, AllocError> {
         let mut image = vec![in self.alloc; 1]?;
         push_word(&mut image, self.slots.len())?;
+        self.push_sizes(&mut image)?;
+        self.push_bytes(&mut image)?;
+        Ok(image)
+    }
+
+    // A word for each slot.
+    fn push_sizes(&self, image: &mut Vec<u8>) -> Result<(), AllocError> {
         for slot in self.slots.iter() {
-            let size = match slot {
-                Some(bytes) => bytes.len(),
-                None => NO_CHUNK,
-            };
-            push_word(&mut image, size)?;
+            let size = slot.as_ref().map_or(NO_CHUNK, |bytes| bytes.len());
+            push_word(image, size)?;
         }
+        Ok(())
+    }
+
+    // The bytes of all chunks.
+    fn push_bytes(&self, image: &mut Vec<u8>) -> Result<(), AllocError> {
         for slot in self.slots.iter() {
             if let Some(bytes) = slot {
                 image.extend_from_slice(bytes.as_slice())?;
             }
         }
-        Ok(image)
+        Ok(())
     }
 }
 
@@ -191,7 +200,8 @@ pub(crate) fn handle_of(slot: usize) -> ChunkHandle
     ChunkHandle((slot.min(MOST_SLOTS - 1) * 2 + 16) as u16)
 }
 
-fn space_of(n: usize) -> usize {
+/// What a chunk of `n` bytes takes.
+pub(crate) fn space_of(n: usize) -> usize {
     if n == 0 {
         0
     } else {

@@ -12,6 +12,9 @@ const STEPS: usize = 500_000;
 /// After so many steps all chunks are compared.
 const ROUND: usize = 200;
 
+/// One of so many calls that move no chunk is made with a look at where all of them lie.
+const LOOK: usize = 50;
+
 const SEED: u64 = 20_261_123;
 
 #[test]
@@ -24,7 +27,7 @@ fn a_heap_kept_nearly_full_is_as_its_plain_chunks(rt: HostRuntime) -> Result<(),
         let same = step(alloc, &mut heap, &mut plain, &mut random)?;
         assert!(rt; same, "at step {i}");
         if i % ROUND == 0 {
-            let same = paired_calls::all_agree(&heap, &plain)?;
+            let same = paired_calls::all_agree(alloc, &heap, &plain)?;
             assert!(rt; same, "after step {i}");
         }
     }
@@ -39,7 +42,7 @@ fn step(
     random: &mut Random,
 ) -> Result<bool, Fault> {
     match random.below(200) {
-        0 => Ok(paired_calls::contract(heap, plain)?),
+        0 => Ok(paired_calls::contract(alloc, heap, plain)?),
         1 => paired_calls::read_back(alloc, heap, plain),
         2..=59 => Ok(at_gap(alloc, heap, plain, random)?),
         _ => Ok(at_slot(alloc, heap, plain, random)?),
@@ -124,7 +127,7 @@ fn change(
     size: usize,
 ) -> Result<bool, AllocError> {
     match random.below(10) {
-        0..=2 => Ok(paired_calls::free(heap, plain, slot)),
+        0..=2 => free_one(alloc, heap, plain, random, slot),
         3..=5 => {
             let n = size_for(plain, random, slot);
             paired_calls::resize(heap, plain, slot, n)
@@ -132,6 +135,20 @@ fn change(
         6..=7 => replace_part(alloc, heap, plain, random, slot, size),
         8 => write_part(alloc, heap, plain, random, slot, size),
         _ => fill(alloc, heap, plain, random, slot),
+    }
+}
+
+fn free_one(
+    alloc: Global,
+    heap: &mut Heap,
+    plain: &mut PlainChunks,
+    random: &mut Random,
+    slot: usize,
+) -> Result<bool, AllocError> {
+    if random.below(LOOK) == 0 {
+        paired_calls::free_in_place(alloc, heap, plain, slot)
+    } else {
+        Ok(paired_calls::free(heap, plain, slot))
     }
 }
 
@@ -161,7 +178,11 @@ fn write_part(
     let at = random.up_to(size);
     let n = random.up_to(size.saturating_sub(at));
     let bytes = random.bytes(alloc, n)?;
-    paired_calls::write(heap, plain, slot, at, bytes.as_slice())
+    if random.below(LOOK) == 0 {
+        paired_calls::write_in_place(alloc, heap, plain, slot, at, bytes.as_slice())
+    } else {
+        paired_calls::write(heap, plain, slot, at, bytes.as_slice())
+    }
 }
 
 // The chunk of a slot gets other bytes, if there is one.

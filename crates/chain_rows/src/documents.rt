@@ -96,6 +96,11 @@ pub fn meets(
     Ok(numbers.as_slice() == expected)
 }
 
+// Whether a call was refused with this fault.
+pub fn is_refused<T: Drop>(answer: Result<T, Fault>, fault: Fault) -> bool {
+    answer.is_err_and(|refusal| refusal == fault)
+}
+
 // Whether the block that has body `bytes` is refused as the only block of a document.
 pub fn refusal_of(alloc: Global, bytes: &[u8]) -> Result<Option<Fault>, Fault> {
     let mut blocks = document(alloc, &[bytes])?;

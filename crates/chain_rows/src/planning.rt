@@ -1,5 +1,7 @@
 // Plans of copies, and of what is freed.
-use crate::documents::{carry_in, document, handles_of, has, put, put_heap, take_out, tree};
+use crate::documents::{
+    carry_in, document, handles_of, has, is_refused, put, put_heap, take_out, tree,
+};
 use geos_model::{Fault, VmHandle};
 use std::alloc::Global;
 use std::test::Fail;
@@ -59,21 +61,21 @@ fn a_copy_needs_as_many_free_handles_as_blocks(rt: HostRuntime) -> Result<(), Fa
     );
     put(rt.alloc(), &mut blocks, 3, b"\0")?;
     assert!(rt;
-        matches!(
+        is_refused(
             copy_plan(rt.alloc(), &mut blocks, VmHandle(1)),
-            Err(Fault::NoHandles)
+            Fault::NoHandles
         )
     );
     assert!(rt;
-        matches!(
+        is_refused(
             copy_plan(rt.alloc(), &mut blocks, VmHandle(3)),
-            Err(Fault::BadChain)
+            Fault::BadChain
         )
     );
     assert!(rt;
-        matches!(
+        is_refused(
             copy_plan(rt.alloc(), &mut blocks, VmHandle(4)),
-            Err(Fault::NoBlock)
+            Fault::NoBlock
         )
     );
     Ok(())
@@ -104,28 +106,28 @@ fn the_map_block_is_not_freed(rt: HostRuntime) -> Result<(), Fail> {
         blocks.set_map(VmHandle(2));
     }
     assert!(rt;
-        matches!(
+        is_refused(
             free_plan(rt.alloc(), &mut blocks, VmHandle(3)),
-            Err(Fault::IsMap)
+            Fault::IsMap
         )
     );
     assert!(rt;
-        matches!(
+        is_refused(
             free_plan(rt.alloc(), &mut blocks, VmHandle(2)),
-            Err(Fault::IsMap)
+            Fault::IsMap
         )
     );
     assert!(rt; free_plan(rt.alloc(), &mut blocks, VmHandle(4)).is_ok());
     assert!(rt;
-        matches!(
+        is_refused(
             free_plan(rt.alloc(), &mut blocks, VmHandle(5)),
-            Err(Fault::WrongKind)
+            Fault::WrongKind
         )
     );
     assert!(rt;
-        matches!(
+        is_refused(
             free_plan(rt.alloc(), &mut blocks, VmHandle(6)),
-            Err(Fault::BadChain)
+            Fault::BadChain
         )
     );
     Ok(())

@@ -1,5 +1,5 @@
 // Walks along chains, and what they measure.
-use crate::documents::{document, meets, put, put_heap, tree};
+use crate::documents::{document, is_refused, meets, put, put_heap, tree};
 use geos_model::{Fault, VmHandle};
 use std::alloc::Global;
 use std::test::Fail;
@@ -19,71 +19,31 @@ fn a_tree_is_met_block_before_branches(rt: HostRuntime) -> Result<(), Fail> {
 #[test]
 fn the_root_is_a_live_raw_block(rt: HostRuntime) -> Result<(), Fail> {
     let mut blocks = document(rt.alloc(), &[b"\x02\0"])?;
+    assert!(rt; is_refused(walk(rt.alloc(), &mut blocks, VmHandle(2)), Fault::NoBlock));
+    assert!(rt; is_refused(walk(rt.alloc(), &mut blocks, VmHandle(0)), Fault::NoBlock));
     assert!(rt;
-        matches!(
-            walk(rt.alloc(), &mut blocks, VmHandle(2)),
-            Err(Fault::NoBlock)
-        )
-    );
-    assert!(rt;
-        matches!(
-            walk(rt.alloc(), &mut blocks, VmHandle(0)),
-            Err(Fault::NoBlock)
-        )
-    );
-    assert!(rt;
-        matches!(
+        is_refused(
             walk(rt.alloc(), &mut blocks, VmHandle(2_049)),
-            Err(Fault::NoBlock)
+            Fault::NoBlock
         )
     );
     put_heap(rt.alloc(), &mut blocks, 2)?;
-    assert!(rt;
-        matches!(
-            walk(rt.alloc(), &mut blocks, VmHandle(2)),
-            Err(Fault::WrongKind)
-        )
-    );
-    assert!(rt;
-        matches!(
-            size(rt.alloc(), &mut blocks, VmHandle(2)),
-            Err(Fault::WrongKind)
-        )
-    );
+    assert!(rt; is_refused(walk(rt.alloc(), &mut blocks, VmHandle(2)), Fault::WrongKind));
+    assert!(rt; is_refused(size(rt.alloc(), &mut blocks, VmHandle(2)), Fault::WrongKind));
     Ok(())
 }
 
 #[test]
 fn each_link_is_to_a_live_raw_block(rt: HostRuntime) -> Result<(), Fail> {
     let mut blocks = document(rt.alloc(), &[b"\x02\0"])?;
-    assert!(rt;
-        matches!(
-            walk(rt.alloc(), &mut blocks, VmHandle(1)),
-            Err(Fault::BadChain)
-        )
-    );
-    assert!(rt;
-        matches!(
-            size(rt.alloc(), &mut blocks, VmHandle(1)),
-            Err(Fault::BadChain)
-        )
-    );
+    assert!(rt; is_refused(walk(rt.alloc(), &mut blocks, VmHandle(1)), Fault::BadChain));
+    assert!(rt; is_refused(size(rt.alloc(), &mut blocks, VmHandle(1)), Fault::BadChain));
     put_heap(rt.alloc(), &mut blocks, 2)?;
-    assert!(rt;
-        matches!(
-            walk(rt.alloc(), &mut blocks, VmHandle(1)),
-            Err(Fault::BadChain)
-        )
-    );
+    assert!(rt; is_refused(walk(rt.alloc(), &mut blocks, VmHandle(1)), Fault::BadChain));
     put(rt.alloc(), &mut blocks, 2, b"\0\0")?;
     assert!(rt; meets(rt.alloc(), &mut blocks, 1, &[1, 2])?);
     put(rt.alloc(), &mut blocks, 2, b"\0")?;
-    assert!(rt;
-        matches!(
-            walk(rt.alloc(), &mut blocks, VmHandle(1)),
-            Err(Fault::BadChain)
-        )
-    );
+    assert!(rt; is_refused(walk(rt.alloc(), &mut blocks, VmHandle(1)), Fault::BadChain));
     Ok(())
 }
 
@@ -103,9 +63,9 @@ fn no_block_is_met_twice(rt: HostRuntime) -> Result<(), Fail> {
     )?;
     for root in [1, 2, 3, 4, 5] {
         assert!(rt;
-            matches!(
+            is_refused(
                 walk(rt.alloc(), &mut blocks, VmHandle(root)),
-                Err(Fault::BadChain)
+                Fault::BadChain
             )
         );
     }

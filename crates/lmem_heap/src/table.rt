@@ -218,7 +218,8 @@ impl Table {
         requires room { at + length new.now + (to - from) ≤ length (unwrap_or (get_or self.old.chunks i None) []) }
         ensures { let b = unwrap_or (get_or self.old.chunks i None) [] in self.new.chunks ≡ set self.old.chunks i (Some (put (put b (at + length new.now) (slice_range b from to)) at new.now)) }
     {
-        let _size = self.size_of(i);
+        // What is always so of the fields is known where one is named: a chunk is no longer than the region.
+        let _ = &self.space;
         self.slide(i, from, at + new.len(), to - from);
         self.write(i, at, new);
     }

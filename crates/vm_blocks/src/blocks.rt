@@ -18,7 +18,7 @@ use std::alloc::{AllocError, Global};
 use std::marker::Model;
 
 /// How many blocks a document can have: their handles are 1 to this.
-pub(crate) const MOST_BLOCKS: usize = 2_048;
+pub const MOST_BLOCKS: usize = 2_048;
 
 /// The live blocks of a document. Contracts see it as the document.
 #[derive(Drop)]

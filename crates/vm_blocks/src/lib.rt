@@ -15,7 +15,7 @@ mod saved;
 mod version;
 
 pub use block::{Block, BlockBody};
-pub use blocks::Blocks;
+pub use blocks::{Blocks, MOST_BLOCKS};
 pub use change::{Change, Content, Direction, PartChange};
 pub use flushing::flush;
 pub use law::change_law;

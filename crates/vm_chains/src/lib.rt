@@ -15,6 +15,3 @@ pub use comparing::equal;
 pub use measuring::size;
 pub use planning::{copy_plan, free_plan};
 pub use walking::walk;
-
-/// How many blocks a document can have: their handles are 1 to this.
-pub(crate) const MOST_BLOCKS: usize = 2_048;

@@ -2,10 +2,10 @@ ghost use Rattle.std.specs.Prelude.{◌≡◌, [], ◌∷◌, ◌++◌, ◌==◌
 ghost use Rattle.std.specs.List.{list_any};
 ghost use Rattle.geos_model.specs.Document.{is_vm_handle};
 
-use crate::MOST_BLOCKS;
 use geos_model::VmHandle;
 use std::alloc::{AllocError, Global};
 use std::marker::Model;
+use vm_blocks::MOST_BLOCKS;
 
 /// The blocks that a walk has met, in order. Contracts see their handles.
 #[derive(Drop)]

@@ -9,12 +9,12 @@ ghost use Rattle.vm_chains.specs.Linking.{AreLinks};
 ghost use Rattle.vm_chains.specs.Numbers.{numbers};
 ghost use Rattle.vm_chains.specs.Naming.{name_in};
 
-use crate::MOST_BLOCKS;
 use crate::links::{Links, links_of};
 use byteorder::{ByteOrder, LittleEndian};
 use geos_model::VmHandle;
 use raw_region::RawBody;
 use std::alloc::{AllocError, Global};
+use vm_blocks::MOST_BLOCKS;
 
 /// A name for each of some handles.
 #[derive(Drop)]

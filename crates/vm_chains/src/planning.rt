@@ -11,10 +11,10 @@ ghost use Rattle.vm_chains.specs.Walking.{AreMembers};
 
 use crate::names::Names;
 use crate::reading::{relinked_at, saved_at};
-use crate::{MOST_BLOCKS, walk};
+use crate::walk;
 use geos_model::{Fault, VmHandle};
 use std::alloc::{AllocError, Global};
-use vm_blocks::{Blocks, Member, Members, SavedBlock};
+use vm_blocks::{Blocks, MOST_BLOCKS, Member, Members, SavedBlock};
 
 /// The blocks of a copy of a chain, under handles that are free. They link to one another as those of the chain do.
 pub fn copy_plan(alloc: Global, blocks: &mut Blocks, root: VmHandle) -> Result<Members, Fault>

@@ -5,13 +5,12 @@ ghost use Rattle.vm_chains.specs.Answers.{Answers};
 ghost use Rattle.vm_chains.specs.Numbers.{numbers};
 ghost use Rattle.vm_chains.specs.Walking.{AreMembers, GoesOn, RefusesRoot, Stops};
 
-use crate::MOST_BLOCKS;
 use crate::links::{links_of, push_links};
 use crate::met::Met;
 use crate::pending::Pending;
 use geos_model::{Fault, VmHandle};
 use std::alloc::Global;
-use vm_blocks::{BlockBody, Blocks};
+use vm_blocks::{BlockBody, Blocks, MOST_BLOCKS};
 
 /// The blocks of a chain: each before those that it links to, branches in order.
 pub fn walk(alloc: Global, blocks: &mut Blocks, root: VmHandle) -> Result<Vec<VmHandle>, Fault>

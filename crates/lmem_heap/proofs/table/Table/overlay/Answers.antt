@@ -1,9 +1,13 @@
 use Rattle.std.proofs.Common.{◌≡◌, ◌+◌, ◌-◌, ℕ, [], Some, None, length, get_or, set, unwrap_or, slice_range, ap, ◌∙◌, arith}
 use Rattle.raw_region.specs.Bytes.{put}
 use Rattle.raw_region.proofs.Puts.{length-put}
+use Rattle.lmem_heap.proofs.Shown.{chunk_small}
 use Rattle.lmem_heap.proofs.Splices.{set_twice, bytes_set}
 use Rattle.lmem_heap.proofs.table.Table.overlay.Goals.{After-slide}
 use Rattle.lmem_heap.proofs.table.Table.overlay.Goals as goal
+
+pub overflow_add-at : goal.overflow_add-at
+overflow_add-at c = omega (arith, c.requires.room, chunk_small c.self.inside.space c.args.self.now c.args.i c.self.invariant c.self.view_is c.requires.slot)
 
 -- what the slide leaves
 slid : (c : After-slide) → c.slide.new.self.chunks ≡ set c.args.self.now.chunks c.args.i (Some (put (unwrap_or (get_or c.args.self.now.chunks c.args.i None) []) (c.args.at + length c.args.new.now)
