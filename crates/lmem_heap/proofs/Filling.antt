@@ -5,10 +5,10 @@ use Rattle.std.proofs.lemmas.Bool.{cond-false, ne_eqb}
 use Rattle.std.specs.Option.{option_map}
 use Rattle.geos_model.proofs.Table.{slot_space}
 use Rattle.lmem_heap.specs.declared.space.Space.{Space}
-use Rattle.lmem_heap.specs.Pieces.{word_in, entry, piece_space, Piece, Used, Free, size_head, AllShaped, IsFresh, spaces}
+use Rattle.lmem_heap.specs.Pieces.{word_in, entry, piece_space, Piece, Used, Free, size_head, AllShaped, IsFresh, spaces, used, frees}
 use Rattle.lmem_heap.specs.Edits.{Same, IsSet, IsZeroed}
 use Rattle.lmem_heap.specs.Tiled.{IsTiled, chunk_under, chunks_in}
-use Rattle.lmem_heap.specs.Kept.{AreSpare, IsOther, IsHeld, IsSpaced, IsKept, IsLoose, IsChanged}
+use Rattle.lmem_heap.specs.Kept.{AreSpare, IsOther, IsChain, IsHeld, IsSpaced, IsKept, IsLoose, IsChanged}
 use Rattle.lmem_heap.proofs.Writes.{word_kept, entry_kept, entry_set, entry_other, set_before, set_behind, same_same}
 use Rattle.lmem_heap.proofs.Tiles.{lies_end, shaped_split, fresh_split}
 use Rattle.lmem_heap.proofs.Trades.{HasSlot, slot_in}
@@ -27,6 +27,21 @@ dead_fresh xs t low cs i tiled dead = elim (slot_in i cs) [
 -- what the chunks take
 pub total_small : {loose : ℕ} (s : Space) (cs : List Piece) (fs : List ℕ) → IsHeld s cs fs loose → s.low + s.total ≤ 65520
 total_small s cs fs h = omega (arith, h.count, used_le cs, lies_end size_head s.region s.low cs 65520 h.tiled.lies)
+
+-- where nothing is free behind the first piece there is no free piece
+no_frees : (limit : ℕ) (cs : List Piece) → AllShaped limit cs → spaces cs ≤ spaces (used cs) → frees cs ≡ 0
+no_frees limit [] shaped full = refl
+no_frees limit (Used i b ∷ cs) shaped full = no_frees limit cs shaped.1 (omega arith)
+no_frees limit (Free s ∷ cs) shaped full = absurd (omega (arith, shaped.0.0, used_le cs))
+
+no_head : (xs : List ℕ) (h : ℕ) (fs : List ℕ) → length fs ≡ 0 → IsChain xs h fs → h ≡ 0
+no_head xs h [] none chain = chain
+no_head xs h (f ∷ fs) none chain = absurd (omega arith)
+
+pub packed_head : (s : Space) → IsKept s → 65520 ≤ s.low + s.total → s.head ≡ 0
+packed_head s k full =
+    let h = k.held in let none = no_frees (16 + 2 * s.slots) k.pieces h.tiled.shaped (omega (arith, h.count, lies_end size_head s.region s.low k.pieces 65520 h.tiled.lies)) in
+    no_head s.region s.head k.free (omega (arith, h.all, none)) h.chain
 
 -- one with bytes has
 pub live_slot : (xs : List ℕ) (t low : ℕ) (cs : List Piece) (i : ℕ) → IsTiled xs t low cs → i < t → 1 < entry xs i → HasSlot i cs

@@ -4,6 +4,7 @@ pub mod Tiles
 pub mod Walking
 pub mod Trades
 pub mod Chunks
+pub mod Disjoint
 pub mod Raising
 pub mod Editing
 pub mod Rooms

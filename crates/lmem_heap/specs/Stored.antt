@@ -1,6 +1,7 @@
 -- What a table of chunks is to its callers.
-use Rattle.std.specs.Prelude.{◌≡◌, ◌+◌, ◌≤◌, ℕ, List, Option, None, IfSome, map, get_or}
+use Rattle.std.specs.Prelude.{◌≡◌, ◌≢◌, ℕ, ◌+◌, ◌*◌, ◌≤◌, ◌⊎◌, List, [], Option, None, IfSome, map, length, get_or, unwrap_or}
 use Rattle.std.specs.List.{range_with_len}
+use Rattle.geos_model.specs.Heap.{space_of}
 use Rattle.lmem_heap.specs.Pieces.{entry}
 use Rattle.lmem_heap.specs.Tiled.{chunks_in, offset_under}
 use Rattle.lmem_heap.specs.Kept.{IsKept}
@@ -28,3 +29,16 @@ pub record IsStored (s : Space) : Type 0 where
 -- chunks that take so much lie at the end of the region: none begins before its last so many bytes
 abbrev pub AreLast : List (Option ℕ) → ℕ → Type 0
 AreLast offsets space = (i : ℕ) → IfSome (get_or offsets i None) (λ at. 65522 ≤ at + space)
+
+-- two chunks lie apart, each in the space that it takes: their bytes begin at `a` and `b`
+abbrev pub IsApart : ℕ → List ℕ → ℕ → List ℕ → Type 0
+IsApart a bytes b others = (a + space_of (length bytes) ≤ b) ⊎ (b + space_of (length others) ≤ a)
+
+abbrev pub AreDisjoint : Stored → Type 0
+AreDisjoint m =
+    (i j : ℕ) → i ≢ j → IfSome (get_or m.offsets i None) (λ a. IfSome (get_or m.offsets j None) (λ b.
+    IsApart a (unwrap_or (get_or m.chunks i None) []) b (unwrap_or (get_or m.chunks j None) [])))
+
+-- and behind the words of all slots
+abbrev pub AreBehind : Stored → Type 0
+AreBehind m = (i : ℕ) → IfSome (get_or m.offsets i None) (λ at. 18 + 2 * length m.chunks ≤ at)

@@ -48,7 +48,7 @@ impl Model for Heap {
 
 impl Heap {
     ghost use Rattle.lmem_heap.specs.LendsHeapChunk.{lends_chunk};
-    ghost use Rattle.lmem_heap.specs.Placed.{AreAllLast};
+    ghost use Rattle.lmem_heap.specs.Placed.{AreAllLast, AreDisjoint, AreBehindTable};
 
     /// An empty heap.
     pub fn new(alloc: Global) -> Result<Heap, AllocError>
@@ -195,6 +195,8 @@ impl Heap {
         ensures place { result ≡ get self.now.places h.0 }
         ensures there { is_some result ≡ nat_lt 0 (length (chunk_bytes self.now.chunks h.0)) }
         ensures within { IfSome result (λ at. at + length (chunk_bytes self.now.chunks h.0) ≤ capacity) }
+        ensures apart { AreDisjoint self.now }
+        ensures behind { AreBehindTable self.now }
     {
         let i = slot_of(h, self.table.len())?;
         self.table.offset(i)

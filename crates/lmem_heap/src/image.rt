@@ -55,7 +55,7 @@ pub(crate) fn push_chunks(table: &Table, image: &mut Vec<u8>) -> Result<(), Allo
     Ok(())
 }
 
-/// The table length that an image begins with; None where the bytes are no heap's image.
+/// The table length that an image begins with; None where the bytes don't begin as a heap's image does.
 pub(crate) fn image_slots(bytes: &[u8]) -> Option<usize>
     ensures { MatchOption result
         ((n : ℕ) (rest : List ℕ) → bytes.now ≡ 1 ∷ word n ++ rest → ⊥)

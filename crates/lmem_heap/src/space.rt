@@ -1,4 +1,4 @@
-ghost use Rattle.std.specs.Prelude.{◌≡◌, ◌+◌, ◌-◌, ◌*◌, ◌/◌, ◌≤◌, ◌<◌, ℕ, [], Some, None, IfOk, IfSome, MatchOption, is_some, replicate, take, slice_range, set, length, get_or, unwrap_or, ◌++◌, ◌==◌, if◌then◌else◌};
+ghost use Rattle.std.specs.Prelude.{◌≡◌, ◌⊎◌, ◌+◌, ◌-◌, ◌*◌, ◌/◌, ◌≤◌, ◌<◌, ℕ, [], Some, None, IfOk, IfSome, MatchOption, is_some, replicate, take, slice_range, set, length, get_or, unwrap_or, ◌++◌, ◌==◌, if◌then◌else◌};
 ghost use Rattle.lmem_heap.specs.Pieces.{word_in, entry, piece_space};
 ghost use Rattle.std.specs.Option.{option_map, option_copied};
 ghost use Rattle.geos_model.specs.Heap.{space_of};
@@ -41,7 +41,7 @@ impl Space {
         })
     }
 
-    /// Packs the chunks at the end; what is free lies below them.
+    /// Packs the chunks at the end; what is free lies below them. Takes no time where they lie so.
     pub(crate) fn compact(&mut self)
         requires { IsKept self.old }
         ensures kept { IsKept self.new }
@@ -52,8 +52,10 @@ impl Space {
         ensures chunks { chunks_in self.new.region self.new.slots ≡ chunks_in self.old.region self.old.slots }
         ensures dead { (j : ℕ) → j < self.old.slots → entry self.old.region j ≤ 1 → entry self.new.region j ≡ entry self.old.region j }
     {
-        self.low = compact(&mut self.region, self.slots, self.low, self.total);
-        self.head = 0;
+        if self.low + self.total < SIZE {
+            self.low = compact(&mut self.region, self.slots, self.low, self.total);
+            self.head = 0;
+        }
     }
 
     /// A free piece of this room is made below the others.
@@ -259,6 +261,7 @@ impl Space {
         requires whole { room ≡ 4 * (room / 4) }
         requires fits { table_end self.old.slots + self.old.total + room ≤ 65520 }
         ensures loose { IsLoose self.new result room }
+        ensures spared { IsStill self.old self.new ⊎ (HasNone self.old room × (self.old.low < table_end self.old.slots + room)) }
         ensures slots { self.new.slots ≡ self.old.slots }
         ensures total { self.new.total ≡ self.old.total }
         ensures chunks { chunks_in self.new.region self.new.slots ≡ chunks_in self.old.region self.old.slots }
@@ -279,6 +282,7 @@ impl Space {
         requires fits { table_end t + self.old.total ≤ 65520 }
         ensures kept { IsKept self.new }
         ensures room { table_end t ≤ self.new.low }
+        ensures spared { (self.new ≡ self.old) ⊎ (self.old.low < table_end t) }
         ensures slots { self.new.slots ≡ self.old.slots }
         ensures total { self.new.total ≡ self.old.total }
         ensures chunks { chunks_in self.new.region self.new.slots ≡ chunks_in self.old.region self.old.slots }
@@ -444,8 +448,9 @@ pub(crate) const NO_CHUNK: usize = 0;
 /// The entry of a slot whose chunk has no bytes.
 pub(crate) const EMPTY: usize = 1;
 
-/// How many pieces of the free list a search looks at. Where none of so many has the room, packing the chunks takes less
-/// time than to look on, and leaves no list: so many chunks were freed since they were last packed.
+/// How many pieces of the free list a search looks at. A list whose first so many pieces lack the room is walked in vain
+/// again and again. Packing ends it, and is paid for by the chunks that were freed, cut short or moved since the last
+/// time: each of these put one piece on the list.
 const LOOKS: usize = 128;
 
 /// Where a table of `t` slots ends.

@@ -29,7 +29,7 @@ impl Model for Table {
 
 impl Table {
     ghost use Rattle.lmem_heap.specs.LendsChunk.{lends_chunk};
-    ghost use Rattle.lmem_heap.specs.Stored.{AreLast};
+    ghost use Rattle.lmem_heap.specs.Stored.{AreLast, AreDisjoint, AreBehind};
 
     pub(crate) fn new(alloc: Global) -> Result<Table, AllocError>
         ensures { IfOk result (λ t. (t.chunks ≡ []) × (t.offsets ≡ [])) }
@@ -43,6 +43,8 @@ impl Table {
         ensures chunks { result ≡ length self.now.chunks }
         ensures offsets { result ≡ length self.now.offsets }
         ensures room { need_in self.now.chunks ≤ 65520 }
+        ensures apart { AreDisjoint self.now }
+        ensures behind { AreBehind self.now }
     {
         self.space.slots
     }

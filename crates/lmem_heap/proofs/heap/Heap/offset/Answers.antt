@@ -7,6 +7,7 @@ use Rattle.geos_model.proofs.Tables.{get-table_map_at, get-table_map_off}
 use Rattle.lmem_heap.specs.Stored.{Stored}
 use Rattle.lmem_heap.specs.Placed.{Placed, placed_in}
 use Rattle.lmem_heap.proofs.Heaps.{shown_chunks, shown_places, get_slot, get_other}
+use Rattle.lmem_heap.proofs.Disjoint.{heap_disjoint, heap_behind}
 use Rattle.lmem_heap.proofs.heap.Heap.offset.Goals as goal
 
 -- the chunk under the handle of a slot
@@ -35,3 +36,15 @@ returns-clause-there c =
 pub returns-clause-within : goal.returns-clause-within
 returns-clause-within c =
     subst (λ (b : List ℕ). IfSome c.offset.result (λ n. n + length b ≤ 65520)) (bytes_here c.self.inside.table c.args.self.now c.in_ok-i.i c.args.h.0 c.self.view_is c.in_ok-i.ensures.1) c.offset.ensures.within
+
+pub returns-in_err-i-clause-apart : goal.returns-in_err-i-clause-apart
+returns-in_err-i-clause-apart c = heap_disjoint c.self.inside.table c.args.self.now c.self.view_is c.len.ensures.apart
+
+pub returns-in_err-i-clause-behind : goal.returns-in_err-i-clause-behind
+returns-in_err-i-clause-behind c = heap_behind c.self.inside.table c.args.self.now c.self.view_is c.len.ensures.behind
+
+pub returns-clause-apart : goal.returns-clause-apart
+returns-clause-apart c = heap_disjoint c.self.inside.table c.args.self.now c.self.view_is c.len.ensures.apart
+
+pub returns-clause-behind : goal.returns-clause-behind
+returns-clause-behind c = heap_behind c.self.inside.table c.args.self.now c.self.view_is c.len.ensures.behind
