@@ -40,9 +40,9 @@ module _ (s : Space) (stored : IsStored s) where
   each_slot : (P : Option ℕ → Type 0) (i : ℕ) → P None → (i < s.slots → 1 < entry s.region i → P (Some (entry s.region i + 2))) → P (get_or (offsets_in s.region s.slots) i None)
   each_slot P i none some = elim (cases_lt i s.slots) [
     | inl l ↦ subst P (sym (offset_in s.region s.slots i l)) (elim (cases_lt 1 (entry s.region i)) [
-        | inl live ↦ subst P (offset_some (entry s.region i) live) (some l live)
-        | inr dead ↦ subst P (offset_none (entry s.region i) (omega arith)) none
-      ])
+      | inl live ↦ subst P (offset_some (entry s.region i) live) (some l live)
+      | inr dead ↦ subst P (offset_none (entry s.region i) (omega arith)) none
+    ])
     | inr past ↦ subst P (sym (get_or_past (offsets_in s.region s.slots) i None (omega (arith, length-offsets_in s.region s.slots)))) none
   ]
 
@@ -113,11 +113,11 @@ module _ (m : Stored) where
   placed_apart : AreDisjoint m → placed.AreDisjoint (placed_in m)
   placed_apart apart h k ne = elim (slot_or_none h (length m.offsets)) [
     | inl at ↦ elim (slot_or_none k (length m.offsets)) [
-        | inl to ↦ apart_at apart h k at.0 to.0 ne at.1 to.1
-        | inr off ↦
-            subst (λ (o : Option ℕ). LieApart (get (table_map 2 16 m.offsets) h) (chunk_bytes (table_map 2 16 m.chunks) h) o (chunk_bytes (table_map 2 16 m.chunks) k)) (sym (get-table_map_off (omega arith) 16 m.offsets k off))
-            (no_other (get (table_map 2 16 m.offsets) h) (chunk_bytes (table_map 2 16 m.chunks) h) (chunk_bytes (table_map 2 16 m.chunks) k))
-      ]
+      | inl to ↦ apart_at apart h k at.0 to.0 ne at.1 to.1
+      | inr off ↦
+          subst (λ (o : Option ℕ). LieApart (get (table_map 2 16 m.offsets) h) (chunk_bytes (table_map 2 16 m.chunks) h) o (chunk_bytes (table_map 2 16 m.chunks) k)) (sym (get-table_map_off (omega arith) 16 m.offsets k off))
+          (no_other (get (table_map 2 16 m.offsets) h) (chunk_bytes (table_map 2 16 m.chunks) h) (chunk_bytes (table_map 2 16 m.chunks) k))
+    ]
     | inr off ↦
         subst (λ (o : Option ℕ). LieApart o (chunk_bytes (table_map 2 16 m.chunks) h) (get (table_map 2 16 m.offsets) k) (chunk_bytes (table_map 2 16 m.chunks) k)) (sym (get-table_map_off (omega arith) 16 m.offsets h off)) tt
   ]
