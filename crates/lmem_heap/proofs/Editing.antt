@@ -6,7 +6,7 @@ use Rattle.lmem_heap.specs.Edits.{Same}
 use Rattle.lmem_heap.specs.Tiled.{IsTiled, chunk_under, chunks_in, chunk_at}
 use Rattle.lmem_heap.specs.Kept.{IsSpareAt, AreSpare, IsChain, IsOther}
 use Rattle.lmem_heap.proofs.Writes.{word_kept}
-use Rattle.lmem_heap.proofs.Tiles.{spaces_append, lies_end, lies_append, lies_split, points_append, points_split, shaped_append, shaped_split, fresh_append, fresh_split, lies_kept, points_kept}
+use Rattle.lmem_heap.proofs.Tiles.{spaces_append, lies_end, lies_append, lies_split, points_append, points_split, shaped_append, shaped_split, fresh_append, fresh_split, distinct_behind, lies_kept, points_kept}
 use Rattle.lmem_heap.proofs.Chunks.{tiled_chunk, chunks_by, chunk_in, length-chunks_in}
 use Rattle.std.proofs.lemmas.List.{length-set}
 use Rattle.std.proofs.lemmas.Grind.{get_or-set_at}
@@ -18,11 +18,6 @@ shaped_fresh t [] i past h = tt
 shaped_fresh t (Used j b ∷ cs) i past h = ((λ e. omega (arith, h.0.1)), shaped_fresh t cs i past h.1)
 shaped_fresh t (Free s ∷ cs) i past h = shaped_fresh t cs i past h.1
 
-distinct_back : (cs ds : List Piece) → AreDistinct (cs ++ ds) → AreDistinct ds
-distinct_back [] ds h = h
-distinct_back (Used j b ∷ cs) ds h = distinct_back cs ds h.1
-distinct_back (Free s ∷ cs) ds h = distinct_back cs ds h
-
 -- pieces of slot i alone, before others
 distinct_new : (i : ℕ) (cs ds : List Piece) → ((j : ℕ) → j ≢ i → IsFresh j cs) → IsFresh i ds → AreDistinct cs → AreDistinct ds → AreDistinct (cs ++ ds)
 distinct_new i [] ds only fresh h r = r
@@ -32,7 +27,7 @@ distinct_new i (Used j b ∷ cs) ds only fresh h r =
 distinct_new i (Free s ∷ cs) ds only fresh h r = distinct_new i cs ds only fresh h r
 
 pub distinct_edit : (i : ℕ) (a old new d : List Piece) → ((j : ℕ) → j ≢ i → IsFresh j new) → IsFresh i a → IsFresh i d → AreDistinct new → AreDistinct (a ++ (old ++ d)) → AreDistinct (a ++ (new ++ d))
-distinct_edit i [] old new d only front back h l = distinct_new i new d only back h (distinct_back old d l)
+distinct_edit i [] old new d only front back h l = distinct_new i new d only back h (distinct_behind old d l)
 distinct_edit i (Used j b ∷ a) old new d only front back h l =
     let f = fresh_split j a (old ++ d) l.0 in let g = fresh_split j old d f.1 in
     (fresh_append j a (new ++ d) f.0 (fresh_append j new d (only j (λ e. front.0 (sym e))) g.1), distinct_edit i a old new d only front.1 back h l.1)

@@ -10,11 +10,10 @@ use Rattle.lmem_heap.specs.Edits.{Same, IsSet, IsZeroed}
 use Rattle.lmem_heap.specs.Tiled.{IsTiled, chunk_under, chunks_in}
 use Rattle.lmem_heap.specs.Kept.{AreSpare, IsOther, IsChain, IsHeld, IsSpaced, IsKept, IsLoose, IsChanged}
 use Rattle.lmem_heap.proofs.Writes.{word_kept, entry_kept, entry_set, entry_other, set_before, set_behind, same_same}
-use Rattle.lmem_heap.proofs.Tiles.{lies_end, shaped_split, fresh_split}
+use Rattle.lmem_heap.proofs.Tiles.{lies_end, shaped_split, fresh_split, used_le}
 use Rattle.lmem_heap.proofs.Trades.{HasSlot, slot_in}
 use Rattle.lmem_heap.proofs.Chunks.{piece_place, piece_size, piece_ends, piece_chunk, piece_others, under_dead, chunk_in}
 use Rattle.lmem_heap.proofs.Editing.{IsEdit, edited, edited_set, spare_bounds, spare_parts, spares_edited, chain_edited, Each, each_all, each_other, IsLinkKept, count_edited, frees_edited}
-use Rattle.lmem_heap.proofs.Raising.{used_le}
 use Rattle.lmem_heap.proofs.Rooms.{free_facts}
 
 -- a slot with no bytes has no piece

@@ -1,43 +1,17 @@
 -- The pieces up to a slot's go down, and room opens behind it.
-use Rattle.std.proofs.Common.{◌≡◌, ℕ, ◌+◌, ◌-◌, ◌*◌, ◌/◌, ◌<◌, ◌≤◌, List, [], ◌∷◌, ◌++◌, length, get_or, refl, sym, ap, subst, ◌∙◌, inl, inr, append_assoc, arith}
-use Rattle.lmem_heap.specs.Pieces.{word_in, entry, piece_space, Piece, Used, Free, space, size_head, IsAt, Lies, Points, IsShaped, AllShaped, spaces, place_of}
+use Rattle.std.proofs.Common.{◌≡◌, ℕ, ◌+◌, ◌-◌, ◌*◌, ◌/◌, ◌<◌, ◌≤◌, List, [], ◌∷◌, ◌++◌, length, refl, sym, ap, subst, ◌∙◌, inl, inr, append_assoc, arith}
+use Rattle.lmem_heap.specs.Pieces.{word_in, entry, piece_space, Piece, Used, Free, size_head, Lies, Points, AllShaped, spaces, place_of}
 use Rattle.lmem_heap.specs.Edits.{Same, IsSet, IsSlid, AreLowered}
 use Rattle.lmem_heap.specs.Tiled.{IsTiled, chunks_in, chunk_at, table_end}
 use Rattle.lmem_heap.proofs.Writes.{word_kept, entry_kept}
-use Rattle.lmem_heap.proofs.Tiles.{fits_in, spaces_append, lies_end, lies_append, lies_split, points_append, points_split, shaped_append, shaped_split, fresh_append, fresh_split, lies_kept}
+use Rattle.lmem_heap.proofs.Tiles.{spaces_append, lies_end, lies_append, lies_split, points_append, points_split, shaped_append, shaped_split, fresh_append, fresh_split, lies_kept, points_same}
+use Rattle.lmem_heap.proofs.Slides.{lies_slid}
 use Rattle.lmem_heap.proofs.Trades.{slot_in}
 use Rattle.lmem_heap.proofs.Chunks.{at_slot, piece_others, same_chunks}
 use Rattle.lmem_heap.proofs.Editing.{distinct_edit, at_after, spare_bounds, count_edited, frees_edited}
 use Rattle.lmem_heap.specs.declared.space.Space.{Space}
 use Rattle.lmem_heap.specs.Kept.{AreSpare, IsChain, IsHeld, IsKept, HasNext}
 use Rattle.lmem_heap.proofs.Filling.{IsLivePiece, live_piece}
-
--- a block that goes down
-module _ (xs ys : List ℕ) (from to n by : ℕ) (slid : IsSlid xs ys from to n) (down : from ≡ to + by) where
-  lowered_byte : (k j : ℕ) → from ≤ k → k < from + n → k ≡ j + by → get_or ys j 0 ≡ get_or xs k 0
-  lowered_byte k j low high is =
-      let there : j ≡ to + (k - from) = omega arith in let here : from + (k - from) ≡ k = omega arith in
-      ap (λ (m : ℕ). get_or ys m 0) there ∙ (slid.moved (k - from) (omega arith) ∙ ap (λ (m : ℕ). get_or xs m 0) here)
-
-  lowered_word : (p q : ℕ) → p ≡ q + by → from ≤ p → p + 2 ≤ from + n → word_in ys q ≡ word_in xs p
-  unfolding word_in
-  lowered_word p q is low high =
-      let first = lowered_byte p q low (omega arith) is in let second = lowered_byte (p + 1) (q + 1) (omega arith) (omega arith) (omega arith) in
-      omega (arith, first, second)
-
-  lowered_at : (f : Piece → ℕ) (limit p q : ℕ) (c : Piece) → p ≡ q + by → IsShaped limit c → from ≤ p → p + space c ≤ from + n → IsAt f xs p c → IsAt f ys q c
-  lowered_at f limit p q c is shaped low high at =
-      let s = fits_in limit c shaped in
-      record {
-        head = lowered_word p q is low (omega arith) ∙ at.head;
-        bytes = λ k l. lowered_byte (p + 2 + k) (q + 2 + k) (omega arith) (omega arith) (omega arith) ∙ at.bytes k l;
-      }
-
-  lies_lowered : (f : Piece → ℕ) (limit p q : ℕ) (cs : List Piece) (r u : ℕ) → p ≡ q + by → r ≡ u + by → AllShaped limit cs → from ≤ p → r ≤ from + n → Lies f xs p cs r → Lies f ys q cs u
-  lies_lowered f limit p q [] r u is ends shaped low high l = omega arith
-  lies_lowered f limit p q (c ∷ cs) r u is ends shaped low high l =
-      let e = lies_end f xs (p + space c) cs r l.1 in
-      (lowered_at f limit p q c is shaped.0 low (omega arith) l.0, lies_lowered f limit (p + space c) (q + space c) cs r u (omega arith) ends shaped.1 (omega arith) high l.1)
 
 -- entries that go down, and those that stay
 module _ (vs ys : List ℕ) (t m by : ℕ) (lowered : AreLowered vs ys t m by) where
@@ -54,12 +28,6 @@ module _ (vs ys : List ℕ) (t m by : ℕ) (lowered : AreLowered vs ys t m by) w
       let own = (lowered.each i (omega (arith, shaped.0.1))).high (omega (arith, l.0)) in
       (own ∙ l.0, points_high (p + piece_space (length b)) cs (omega arith) shaped.1 l.1)
   points_high p (Free s ∷ cs) above shaped l = points_high (p + s) cs (omega arith) shaped.1 l
-
--- entries in a table whose bytes are the same
-points_same : (xs vs : List ℕ) (t : ℕ) → ((j : ℕ) → j < t → entry vs j ≡ entry xs j) → (p : ℕ) (cs : List Piece) → AllShaped (16 + 2 * t) cs → Points place_of xs p cs → Points place_of vs p cs
-points_same xs vs t same p [] shaped l = tt
-points_same xs vs t same p (Used i b ∷ cs) shaped l = (same i (omega (arith, shaped.0.1)) ∙ l.0, points_same xs vs t same (p + piece_space (length b)) cs shaped.1 l.1)
-points_same xs vs t same p (Free s ∷ cs) shaped l = points_same xs vs t same (p + s) cs shaped.1 l
 
 module _ (xs us vs ys : List ℕ) (t low room i end : ℕ) (a : List Piece) (b : List ℕ) (d : List Piece) (tiled : IsTiled xs t low (a ++ (Used i b ∷ d))) (ends : end ≡ low + spaces a + piece_space (length b))
     (some : 0 < room) (whole : room ≡ 4 * (room / 4)) (fits : table_end t + room ≤ low)
@@ -90,14 +58,14 @@ module _ (xs us vs ys : List ℕ) (t low room i end : ℕ) (a : List Piece) (b :
       let at : end ≡ low + spaces (a ++ one) = omega arith in
       let lies_d : Lies size_head xs end d 65520 = subst (λ (k : ℕ). Lies size_head xs k d 65520) (sym at) L.1 in
       let last = lies_end size_head xs end d 65520 lies_d in
-      let front_us : Lies size_head us (low - room) (a ++ one) (end - room) = lies_lowered xs us low (low - room) (end - low) room slid (omega arith) size_head (16 + 2 * t) low (low - room) (a ++ one) end (end - room) (omega arith) (omega arith) shaped_one (omega arith) (omega arith)
+      let front_us : Lies size_head us (low - room) (a ++ one) (end - room) = lies_slid xs us low (low - room) (end - low) slid size_head (16 + 2 * t) low (low - room) (a ++ one) end (end - room) (omega arith) (omega arith) shaped_one (omega arith) (omega arith)
       (subst (λ (k : ℕ). Lies size_head xs low (a ++ one) k) (sym at) L.0) in
       let front : Lies size_head ys (low - room) (a ++ one) (end - room) = lies_kept size_head us ys (16 + 2 * t) (low - room) (end - room) below_same (low - room) (a ++ one) (end - room) shaped_one front_us (omega arith) (omega arith) in
       let back : Lies size_head ys end d 65520 = lies_kept size_head xs ys (16 + 2 * t) end 65520 above_same end d 65520 S.1.1 lies_d (omega arith) (omega arith) in
       let free_head : word_in ys (end - room) ≡ room + 1 = word_kept vs ys (end - room) (end - room + 2) (end - room) (record { at = λ k u v. lowered.beyond k (omega arith) }) (omega arith) (omega arith) ∙ head.word in
       let up : end ≡ end - room + room = omega arith in
       let free : Lies size_head ys (end - room) (Free room ∷ d) 65520 = (record { head = free_head; bytes = λ k l. absurd (omega arith) }, subst (λ (k : ℕ). Lies size_head ys k d 65520) up back) in
-      let P = points_split place_of vs low (a ++ one) d end at (subst (Points place_of vs low) (sym (append_assoc a one d)) (points_same xs vs t same_entries low (a ++ (Used i b ∷ d)) tiled.shaped tiled.points)) in
+      let P = points_split place_of vs low (a ++ one) d end at (subst (Points place_of vs low) (sym (append_assoc a one d)) (points_same place_of xs vs (16 + 2 * t) (λ j l. same_entries j (omega arith)) low (a ++ (Used i b ∷ d)) tiled.shaped tiled.points)) in
       let points_front = points_lowered vs ys t end room lowered low (low - room) (a ++ one) (omega arith) (omega arith) (omega arith) shaped_one P.0 in
       let points_back : Points place_of ys (end - room) (Free room ∷ d) = subst (λ (k : ℕ). Points place_of ys k d) up (points_high vs ys t end room lowered end d (omega arith) S.1.1 P.1) in
       let join = append_assoc a one (Free room ∷ d) in

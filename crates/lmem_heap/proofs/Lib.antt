@@ -1,6 +1,8 @@
 pub mod Runs
 pub mod Writes
 pub mod Tiles
+pub mod Slides
+pub mod Joining
 pub mod Walking
 pub mod Trades
 pub mod Chunks

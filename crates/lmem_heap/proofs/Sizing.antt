@@ -9,10 +9,9 @@ use Rattle.lmem_heap.specs.Edits.{Same, IsSet, IsSized}
 use Rattle.lmem_heap.specs.Tiled.{chunks_in}
 use Rattle.lmem_heap.specs.Kept.{AreSpare, IsOther, IsHeld, IsKept, IsLoose, HasNext, IsResized}
 use Rattle.lmem_heap.proofs.Writes.{word_kept, entry_kept, set_before}
-use Rattle.lmem_heap.proofs.Tiles.{spaces_append, lies_end, lies_split, shaped_split}
+use Rattle.lmem_heap.proofs.Tiles.{spaces_append, lies_end, lies_split, shaped_split, used_le}
 use Rattle.lmem_heap.proofs.Chunks.{piece_place, piece_size, piece_chunk, piece_others, chunk_in}
 use Rattle.lmem_heap.proofs.Editing.{IsEdit, edited, edited_set, spare_bounds, spare_parts, spares_edited, chain_edited, Each, each_all, each_other, IsLinkKept, count_edited, used_append, frees_edited}
-use Rattle.lmem_heap.proofs.Raising.{used_le}
 use Rattle.lmem_heap.proofs.Filling.{IsLivePiece}
 
 -- ---- the bytes

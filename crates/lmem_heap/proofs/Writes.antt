@@ -7,8 +7,8 @@ use Rattle.geos_model.specs.Words.{word}
 use Rattle.raw_region.specs.Bytes.{put}
 use Rattle.raw_region.proofs.Puts.{length-put}
 use Rattle.lmem_heap.proofs.Runs.{get_or-put, get_or-put_before, get_or-put_past, word-put_word}
-use Rattle.lmem_heap.specs.Pieces.{word_in, entry, piece_space}
-use Rattle.lmem_heap.specs.Edits.{Same, IsSet, IsSlid, IsMoved, IsZeroed, IsSized, IsCopied}
+use Rattle.lmem_heap.specs.Pieces.{word_in, entry}
+use Rattle.lmem_heap.specs.Edits.{Same, IsSet, IsSlid, IsZeroed, IsSized, IsCopied}
 
 pub entry_word : (xs : List ℕ) (i p : ℕ) → p ≡ 16 + 2 * i → word_in xs p ≡ entry xs i
 unfolding word_in entry
@@ -74,22 +74,6 @@ entry_other {xs = xs} {ys = ys} {p = p} i j s here other = elim (cases_lt j i) [
   | inl below ↦ entry_kept xs ys 0 p j (set_before 0 p s (omega arith)) (omega arith) (omega arith)
   | inr above ↦ let b = 18 + 2 * j in entry_kept xs ys (p + 2) b j (set_behind (p + 2) b s (omega arith)) (omega arith) (omega arith)
 ]
-
--- a piece that was moved
-pub moved_is : (xs ws vs ys : List ℕ) (i p q n e m h : ℕ) → IsSlid xs ws p q m → IsSet ws vs q n → IsSet vs ys h e → m ≡ piece_space n → h ≡ 16 + 2 * i → 18 + 2 * i ≤ q → 0 < n → IsMoved xs ys i p q n e
-moved_is xs ws vs ys i p q n e m h slid head written count here slot some = record {
-  long = omega (arith, slid.long, head.long, written.long);
-  entry_is = entry_set i written here;
-  others = λ j other in_table.
-      entry_other i j written here other ∙ entry_kept xs vs 0 q j (record { at = λ k from to. head.before k to ∙ slid.before k to }) (omega arith) in_table;
-  head = word_kept vs ys (h + 2) (q + 2) q (set_behind (h + 2) (q + 2) written (omega arith)) (omega arith) (omega arith) ∙ head.word;
-  bytes = λ k l.
-      let to : q + 2 + k ≡ q + (2 + k) = omega arith in let from : p + (2 + k) ≡ p + 2 + k = omega arith in
-      written.behind (q + 2 + k) (omega arith) ∙ (head.behind (q + 2 + k) (omega arith)
-      ∙ (ap (λ (j : ℕ). get_or ws j 0) to ∙ (slid.moved (2 + k) (omega arith) ∙ ap (λ (j : ℕ). get_or xs j 0) from)));
-  before = record { at = λ k from to. written.behind k (omega arith) ∙ (head.before k to ∙ slid.before k to) };
-  behind = record { at = λ k from to. written.behind k (omega arith) ∙ (head.behind k (omega arith) ∙ slid.behind k (omega arith)) };
-}
 
 -- the bytes of a piece, cut or with zeros behind them
 pub sized_is : (xs us ys : List ℕ) (p size n : ℕ) → (size < n → IsZeroed xs us (p + 2 + size) (n - size)) → (n ≤ size → us ≡ xs) → IsSet us ys p n → IsSized xs ys p size n

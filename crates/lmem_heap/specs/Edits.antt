@@ -1,6 +1,6 @@
 -- What a write leaves of the other bytes.
-use Rattle.std.specs.Prelude.{◌≡◌, ◌≢◌, ℕ, ◌+◌, ◌*◌, ◌<◌, ◌≤◌, List, length, get_or}
-use Rattle.lmem_heap.specs.Pieces.{word_in, entry, piece_space, Piece, Lies, Points, AllShaped, IsFresh, AreDistinct, size_head, handle_head, size_of, place_to, used, spaces}
+use Rattle.std.specs.Prelude.{◌≡◌, ◌≢◌, ℕ, ◌+◌, ◌*◌, ◌<◌, ◌≤◌, List, ◌++◌, length, get_or}
+use Rattle.lmem_heap.specs.Pieces.{word_in, entry, Piece, Lies, Points, AllShaped, IsFresh, AreDistinct, size_head, handle_head, size_of, place_to, used, spaces}
 
 -- the bytes from a to b are the same
 pub record Same (xs ys : List ℕ) (a b : ℕ) : Type 0 where
@@ -27,16 +27,6 @@ pub record IsZeroed (xs ys : List ℕ) (p n : ℕ) : Type 0 where
   pub before : (k : ℕ) → k < p → get_or ys k 0 ≡ get_or xs k 0
   pub behind : (k : ℕ) → p + n ≤ k → get_or ys k 0 ≡ get_or xs k 0
 
--- the chunk of slot i, of n bytes, was moved from p to q, and its entry is e
-pub record IsMoved (xs ys : List ℕ) (i p q n e : ℕ) : Type 0 where
-  pub long : length ys ≡ length xs
-  pub entry_is : entry ys i ≡ e
-  pub others : (j : ℕ) → j ≢ i → 18 + 2 * j ≤ q → entry ys j ≡ entry xs j
-  pub head : word_in ys q ≡ n
-  pub bytes : (k : ℕ) → k < n → get_or ys (q + 2 + k) 0 ≡ get_or xs (p + 2 + k) 0
-  pub before : Same xs ys (18 + 2 * i) q
-  pub behind : Same xs ys (q + piece_space n) 65520
-
 -- the chunks of the pieces lie one after another from `low` on, with the entries of a place `delta` further up; other entries are the same
 pub record IsPacked (xs ys : List ℕ) (low delta : ℕ) (cs : List Piece) : Type 0 where
   pub long : length ys ≡ 65520
@@ -51,7 +41,21 @@ pub record IsSwapped (xs : List ℕ) (low delta : ℕ) (cs : List Piece) : Type 
   pub points : Points size_of xs low cs
   pub shaped : AllShaped low cs
   pub distinct : AreDistinct (used cs)
-  pub room : low + spaces (used cs) + delta ≤ 65520
+  pub room : low + spaces (used cs) + delta ≡ 65520
+
+-- the chunks that lie first, up to `end`, have their sizes back, and entries of a place `delta` further up; the pieces behind them wait
+pub record IsRun (xs ys : List ℕ) (start delta : ℕ) (cs : List Piece) (end : ℕ) : Type 0 where
+  pub run : List Piece
+  pub rest : List Piece
+  pub whole : run ++ rest ≡ cs
+  pub chunks : used run ≡ run
+  pub long : length ys ≡ length xs
+  pub lies : Lies size_head ys start run end
+  pub points : Points (place_to delta) ys start run
+  pub waiting : Lies handle_head ys end rest 65520
+  pub sizes : Points size_of ys end rest
+  pub others : (j : ℕ) → IsFresh j run → 18 + 2 * j ≤ start → entry ys j ≡ entry xs j
+  pub before : (m : ℕ) → AllShaped m run → Same xs ys m start
 
 -- an entry that is a place below m goes down; others are the same
 pub record IsLow (xs ys : List ℕ) (m by i : ℕ) : Type 0 where

@@ -1,0 +1,34 @@
+use Rattle.std.proofs.Common.{arith}
+use Rattle.lmem_heap.proofs.Joining.{run_starts, run_within, run_turn}
+use Rattle.lmem_heap.proofs.packing.trade_run.Goals as goal
+
+pub word_in-head-requires : goal.word_in-head-requires
+word_in-head-requires c = run_within c.args.region.now c.args.start c.args.delta c.requires.0 c.requires.1 c.loop-p.region c.loop-p.p (c.loop-p.invariant c.requires.0 c.requires.1) c.loop-p-test.true
+
+pub word_in-n-requires : goal.word_in-n-requires
+word_in-n-requires c =
+    (run_turn c.args.region.now c.args.start c.args.delta c.requires.0 c.requires.1 c.loop-p.region c.loop-p.p (c.loop-p.invariant c.requires.0 c.requires.1) c.word_in-head.result c.word_in-head.ensures.value c.loop-p-test.true c.if-head-eq1.false).read
+
+pub overflow_sub-head : goal.overflow_sub-head
+overflow_sub-head c =
+    (run_turn c.args.region.now c.args.start c.args.delta c.requires.0 c.requires.1 c.loop-p.region c.loop-p.p (c.loop-p.invariant c.requires.0 c.requires.1) c.word_in-head.result c.word_in-head.ensures.value c.loop-p-test.true c.if-head-eq1.false).high
+
+pub trade-requires-clause-slot : goal.trade-requires-clause-slot
+trade-requires-clause-slot c =
+    (run_turn c.args.region.now c.args.start c.args.delta c.requires.0 c.requires.1 c.loop-p.region c.loop-p.p (c.loop-p.invariant c.requires.0 c.requires.1) c.word_in-head.result c.word_in-head.ensures.value c.loop-p-test.true c.if-head-eq1.false).below
+
+pub trade-requires-clause-within : goal.trade-requires-clause-within
+trade-requires-clause-within c = run_within c.args.region.now c.args.start c.args.delta c.requires.0 c.requires.1 c.loop-p.region c.loop-p.p (c.loop-p.invariant c.requires.0 c.requires.1) c.loop-p-test.true
+
+pub trade-requires-clause-word : goal.trade-requires-clause-word
+trade-requires-clause-word c =
+    let room = (run_turn c.args.region.now c.args.start c.args.delta c.requires.0 c.requires.1 c.loop-p.region c.loop-p.p (c.loop-p.invariant c.requires.0 c.requires.1) c.word_in-head.result c.word_in-head.ensures.value c.loop-p-test.true c.if-head-eq1.false).room in
+    omega arith
+
+pub loop-p-init : goal.loop-p-init
+loop-p-init c = λ cs h. run_starts c.args.region.now c.args.start c.args.delta cs h
+
+pub loop-p-preserved : goal.loop-p-preserved
+loop-p-preserved c = λ cs h.
+    (run_turn c.args.region.now c.args.start c.args.delta cs h c.loop-p.region c.loop-p.p (c.loop-p.invariant cs h) c.word_in-head.result c.word_in-head.ensures.value c.loop-p-test.true c.if-head-eq1.false).next
+    c.word_in-n.result c.trade.new.region c.word_in-n.ensures.value c.trade.ensures
