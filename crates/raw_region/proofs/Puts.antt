@@ -1,6 +1,6 @@
 -- What callers of a region need of `put`, `slice_range`, `splice` and `word_at`.
 use Rattle.std.proofs.Common.{◌≡◌, ℕ, suc, ◌+◌, ◌*◌, ◌-◌, ◌≤◌, List, [], ◌∷◌, ◌++◌, length, take, drop, get_or, arith, refl, sym, ap, ◌∙◌, inl, inr, append_assoc, length-append, length-take, length-drop, slice_range, replicate}
-use Rattle.std.specs.List.{copy_within, splice}
+use Rattle.std.specs.List.{splice}
 use Rattle.std.proofs.lemmas.Bool.{cases_lt}
 use Rattle.std.proofs.lemmas.List.{length-replicate, drop_all, take_all, append-nil, length-take-le, take_at, take-append-le, take-take, drop_at, drop-drop, drop-take, get_or-take, get_or-drop}
 use Rattle.std.proofs.lemmas.List.Edits.{length-between}
@@ -130,16 +130,13 @@ opened xs ys zs b len at n short is within room slid filled =
     ∙ ap (λ (m : ℕ). put xs (at + length Z) (slice_range xs m (m + (len - m)))) at_is) in
     spliced xs ys zs Z b len at 0 (at + n + (len - at)) short is (omega arith) (omega arith) moved filled (omega arith) ∙ ap (λ (j : ℕ). splice b at j Z) (sym at_is)
 
-copied : (xs : List ℕ) (i j to : ℕ) → j ≤ length xs → to + (j - i) ≤ length xs → copy_within xs i j to ≡ put xs to (slice_range xs i j)
-copied xs i j to le fits = rw (put_is xs (slice_range xs i j) to (omega (arith, length-between xs i j le)), length-between xs i j le) (append_assoc (take to xs) (slice_range xs i j) (drop (to + (j - i)) xs))
-
--- what `copy_within` on the whole region leaves
-pub slid : (xs ys zs : List ℕ) (size from to n : ℕ) → length xs ≡ size → from + n ≤ size → to + n ≤ size → ys ≡ slice_range xs 0 size → zs ≡ copy_within ys from (from + n) to
+-- what a move in the whole region leaves
+pub slid : (xs ys zs : List ℕ) (size from to n : ℕ) → length xs ≡ size → ys ≡ slice_range xs 0 size → zs ≡ put ys to (slice_range ys from (from + n))
     → put xs 0 (take size zs) ≡ put xs to (slice_range xs from (from + n))
-slid xs ys zs size from to n long source target whole after =
-    let r = slice_range xs from (from + n) in let count = length-between xs from (from + n) (omega arith) in
+slid xs ys zs size from to n long whole after =
+    let r = slice_range xs from (from + n) in
     let all : ys ≡ xs = whole ∙ between_to_end xs 0 size (omega arith) in
-    let is : zs ≡ put xs to r = after ∙ (ap (λ (l : List ℕ). copy_within l from (from + n) to) all ∙ copied xs from (from + n) to (omega arith) (omega arith)) in
+    let is : zs ≡ put xs to r = after ∙ ap (λ (l : List ℕ). put l to (slice_range l from (from + n))) all in
     let same : length zs ≡ length xs = ap length is ∙ length-put xs r to in
     ap (λ (l : List ℕ). put xs 0 l) (take_all size zs (omega arith))
     ∙ (put_is xs zs 0 (omega arith) ∙ (ap (λ (l : List ℕ). zs ++ l) (drop_all (0 + length zs) xs (omega arith)) ∙ (append-nil zs ∙ is)))

@@ -2,6 +2,7 @@
 #![tactic(auto)]
 
 mod body;
+mod moving;
 mod raw;
 mod region;
 

@@ -4,6 +4,7 @@ ghost use Rattle.geos_model.specs.Words.{word, word_at};
 ghost use Rattle.raw_region.specs.Bytes.{put};
 
 use crate::SIZE;
+use crate::moving::move_within;
 use crate::raw::Raw;
 use byteorder::{ByteOrder, LittleEndian};
 use std::alloc::{AllocError, Global};
@@ -81,7 +82,7 @@ impl Region {
         requires target { to + n ≤ SIZE }
         ensures { self.new ≡ put self.old to (slice_range self.old from (from + n)) }
     {
-        self.raw.slice_mut(0, SIZE).copy_within(from..from + n, to);
+        move_within(self.raw.slice_mut(0, SIZE), from, to, n);
     }
 
     /// Writes `bytes` over the region's from `at` on.

@@ -1,0 +1,58 @@
+ghost use Rattle.std.specs.Prelude.{◌≡◌, ◌+◌, ◌≤◌, length, slice_range};
+ghost use Rattle.raw_region.specs.Bytes.{put};
+
+/// How many bytes are copied aside at once.
+const BLOCK: usize = 1_024;
+
+/// Moves up to a block of bytes, copied aside first.
+fn copy_block(bytes: &mut [u8], from: usize, to: usize, n: usize)
+    requires small { n ≤ BLOCK }
+    requires source { from + n ≤ length bytes.old }
+    requires target { to + n ≤ length bytes.old }
+    ensures { bytes.new ≡ put bytes.old to (slice_range bytes.old from (from + n)) }
+{
+    let mut block = [0; BLOCK];
+    block[..n].copy_from_slice(&bytes[from..from + n]);
+    bytes[to..to + n].copy_from_slice(&block[..n]);
+}
+
+/// Moves bytes down, the first block first: what a block is written over was moved before it.
+fn move_down(bytes: &mut [u8], from: usize, to: usize, n: usize)
+    requires down { to ≤ from }
+    requires source { from + n ≤ length bytes.old }
+    ensures { bytes.new ≡ put bytes.old to (slice_range bytes.old from (from + n)) }
+{
+    let mut done = 0;
+    while done < n {
+        let k = (n - done).min(BLOCK);
+        copy_block(bytes, from + done, to + done, k);
+        done += k;
+    }
+}
+
+/// Moves bytes up, the last block first: what a block is written over was moved before it.
+fn move_up(bytes: &mut [u8], from: usize, to: usize, n: usize)
+    requires up { from ≤ to }
+    requires target { to + n ≤ length bytes.old }
+    ensures { bytes.new ≡ put bytes.old to (slice_range bytes.old from (from + n)) }
+{
+    let mut left = n;
+    while left > 0 {
+        let k = left.min(BLOCK);
+        left -= k;
+        copy_block(bytes, from + left, to + left, k);
+    }
+}
+
+/// Moves `n` bytes from `from` to `to`, as if they were copied aside first.
+pub(crate) fn move_within(bytes: &mut [u8], from: usize, to: usize, n: usize)
+    requires source { from + n ≤ length bytes.old }
+    requires target { to + n ≤ length bytes.old }
+    ensures { bytes.new ≡ put bytes.old to (slice_range bytes.old from (from + n)) }
+{
+    if to < from {
+        move_down(bytes, from, to, n);
+    } else {
+        move_up(bytes, from, to, n);
+    }
+}
