@@ -1,4 +1,5 @@
 use raw_region::{RawBody, Region, SIZE};
+use std::alloc::{AllocError, Global};
 use std::test::Fail;
 
 #[test]
@@ -37,6 +38,39 @@ fn bytes_slide_over_themselves(rt: HostRuntime) -> Result<(), Fail> {
     assert_eq!(rt; region.slice(0, 7), [1, 2, 1, 2, 3, 4, 0].as_slice());
     region.slide(3, 1, 4);
     assert_eq!(rt; region.slice(0, 7), [1, 2, 3, 4, 0, 4, 0].as_slice());
+    Ok(())
+}
+
+// Bytes that tell places in two blocks apart.
+fn filled(alloc: Global) -> Result<Region, AllocError> {
+    let mut region = Region::new(alloc)?;
+    for (i, byte) in region.slice_mut(0, SIZE).iter_mut().enumerate() {
+        *byte = (i % 251) as u8;
+    }
+    Ok(region)
+}
+
+#[test]
+fn long_runs_slide_over_themselves(rt: HostRuntime) -> Result<(), Fail> {
+    let before = filled(rt.alloc())?;
+    for (from, to, n) in [
+        (0, 1, SIZE - 1),
+        (1, 0, SIZE - 1),
+        (7, 1_030, 3_000),
+        (1_030, 7, 3_000),
+        (5, 1_029, 1_024),
+        (500, 499, 1_025),
+        (499, 500, 2_048),
+    ] {
+        let mut after = filled(rt.alloc())?;
+        after.slide(from, to, n);
+        assert_eq!(rt; after.slice(0, to), before.slice(0, to));
+        assert_eq!(rt; after.slice(to, n), before.slice(from, n));
+        assert_eq!(rt;
+            after.slice(to + n, SIZE - (to + n)),
+            before.slice(to + n, SIZE - (to + n))
+        );
+    }
     Ok(())
 }
 
