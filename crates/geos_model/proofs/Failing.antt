@@ -1,16 +1,18 @@
 -- No rule of the document answers want of memory or a file fault.
-use Rattle.std.proofs.Common.{◌≡◌, List, [], ◌∷◌, Bool, true, false, Option, Some, None, find, refl, sym, ap, subst, ◌∙◌, inl, inr}
+use Rattle.std.proofs.Common.{◌≡◌, ◌⊎◌, List, [], ◌∷◌, Bool, true, false, ◌==◌, length, Option, Some, None, find, refl, sym, ap, subst, ◌∙◌, inl, inr, arith}
 use Rattle.std.proofs.lemmas.Bool.{cases_Bool}
+use Rattle.std.proofs.lemmas.Bool.Decides.{nat_tests}
 use Rattle.std.specs.List.{list_all}
-use Rattle.std.specs.Option.{option_map_or}
+use Rattle.std.specs.Option.{option_map, option_map_or}
 use Rattle.geos_model.specs.Refusal.{one_order, applies, first_refusal}
-use Rattle.geos_model.specs.Reply.{Reply, Refused}
-use Rattle.geos_model.specs.Machine.{Machine, Request, Step, Answers, command_conditions, done_by, takes_memory, calls_store, may_give_up}
+use Rattle.geos_model.specs.Reply.{Reply, Accepted, Refused}
+use Rattle.geos_model.specs.Machine.{Machine, Request, UndoStep, Step, Answers, GivesUp, command_conditions, done_by, undone, redone, takes_memory, calls_store, may_give_up}
 use Rattle.geos_model.specs.Undoing.{is_refused}
-use Rattle.geos_model.specs.Failing.{FailingLaw}
+use Rattle.geos_model.specs.Failing.{FailingLaw, IsTakenOrGivenUp}
 use Rattle.geos_model.specs.declared.fault.Fault.{Fault}
-use Rattle.geos_model.specs.declared.fault.Fault.TheVariants.{Memory, File}
+use Rattle.geos_model.specs.declared.fault.Fault.TheVariants.{Memory, File, NothingToUndo, NothingToRedo}
 use Rattle.geos_model.specs.declared.command.Command.{Command}
+use Rattle.geos_model.specs.declared.command.Command.TheVariants as commands
 use Rattle.geos_model.proofs.Undoing.{OnDone, IsAnswer, on_done, done_by-answers, same_reply, refused, both_true}
 
 -- neither want of memory nor a file fault
@@ -75,9 +77,50 @@ store-failed failed old new request step =
     let both = both_true failed (calls_store gave.0 old) gave.2 in
     (both.0, gave.0, gave.1, both.1)
 
+-- no list with a first one is empty
+some-there : {A : Type 0} (x : A) (xs : List A) → (length (x ∷ xs) == 0) ≡ false
+some-there x xs = grind (arith, nat_tests)
+
+undone-accepted : (m new : Machine) (past : List UndoStep) (reply : Reply) → (past ≡ [] → ⊥)
+    → option_map_or {U = Option (Reply × Machine)} (λ fault. Some (Refused fault, m)) (first_refusal ((NothingToUndo, length past == 0) ∷ [])) (option_map (λ next. (Accepted, next)) (undone m past)) ≡ Some (reply, new)
+    → reply ≡ Accepted
+undone-accepted m new [] reply some is = absurd (some refl)
+undone-accepted m new (s ∷ past) reply some is = sym (same_reply (rw (some-there s past) at is))
+
+redone-accepted : (m new : Machine) (future : List UndoStep) (reply : Reply) → (future ≡ [] → ⊥)
+    → option_map_or {U = Option (Reply × Machine)} (λ fault. Some (Refused fault, m)) (first_refusal ((NothingToRedo, length future == 0) ∷ [])) (option_map (λ next. (Accepted, next)) (redone m future)) ≡ Some (reply, new)
+    → reply ≡ Accepted
+redone-accepted m new [] reply some is = absurd (some refl)
+redone-accepted m new (s ∷ future) reply some is = sym (same_reply (rw (some-there s future) at is))
+
+-- a fault that no rule decides is one of two, and File only where the store failed
+gives_up : (failed : Bool) (old : Machine) (c : Command) (fault : Fault) → may_give_up failed c old fault ≡ true → (fault ≡ Memory) ⊎ ((fault ≡ File) × (failed ≡ true))
+gives_up failed old c Memory may = inl refl
+gives_up failed old c File may = inr (refl, (both_true failed (calls_store c old) may).0)
+gives_up failed old c _ may = absurd (cc may)
+
+given_up : (failed : Bool) (old new : Machine) (c : Command) (reply : Reply) → GivesUp failed old (Some c) reply new → IsTakenOrGivenUp failed old reply new
+given_up failed old new c reply out = inr (
+  out.stays,
+  elim (gives_up failed old c out.fault out.may) [
+    | inl memory ↦ inl (out.says ∙ ap Refused memory)
+    | inr file ↦ inr (out.says ∙ ap Refused file.0, file.1)
+  ],
+)
+
+undo-taken : (failed : Bool) (old new : Machine) (reply : Reply) → (old.past ≡ [] → ⊥) → Step failed old (Some commands.Undo) reply new → IsTakenOrGivenUp failed old reply new
+undo-taken failed old new reply some (inl is) = inl (undone-accepted old new old.past reply some is)
+undo-taken failed old new reply some (inr out) = given_up failed old new commands.Undo reply out
+
+redo-taken : (failed : Bool) (old new : Machine) (reply : Reply) → (old.future ≡ [] → ⊥) → Step failed old (Some commands.Redo) reply new → IsTakenOrGivenUp failed old reply new
+redo-taken failed old new reply some (inl is) = inl (redone-accepted old new old.future reply some is)
+redo-taken failed old new reply some (inr out) = given_up failed old new commands.Redo reply out
+
 pub failing_law : FailingLaw
 failing_law = record {
   stays = λ failed old new request reply step h. refused request reply step h;
   memory = memory-taken;
   file = store-failed;
+  undo = undo-taken;
+  redo = redo-taken;
 }

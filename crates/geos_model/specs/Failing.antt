@@ -1,10 +1,15 @@
 -- When a call may fail in place of its answer.
-use Rattle.std.specs.Prelude.{◌≡◌, Bool, true, Some}
-use Rattle.geos_model.specs.Reply.{Reply, Refused}
+use Rattle.std.specs.Prelude.{◌≡◌, ◌⊎◌, Bool, true, [], Some}
+use Rattle.geos_model.specs.Reply.{Reply, Accepted, Refused}
 use Rattle.geos_model.specs.Machine.{Machine, Request, Step, takes_memory, calls_store}
 use Rattle.geos_model.specs.Undoing.{is_refused}
 use Rattle.geos_model.specs.declared.command.Command.{Command}
+use Rattle.geos_model.specs.declared.command.Command.TheVariants as commands
 use Rattle.geos_model.specs.declared.fault.Fault.TheVariants.{Memory, File}
+
+-- Accepted; or refused for want of memory, or since the store failed in that call, and then nothing changes.
+abbrev pub IsTakenOrGivenUp : Bool → Machine → Reply → Machine → Type 0
+IsTakenOrGivenUp failed old reply new = (reply ≡ Accepted) ⊎ ((new ≡ old) × ((reply ≡ Refused Memory) ⊎ ((reply ≡ Refused File) × (failed ≡ true))))
 
 -- A request that is refused leaves the machine. Want of memory is answered to nothing but a command that may take some, and a file
 -- fault to nothing but one that calls the store, where it failed.
@@ -14,3 +19,6 @@ pub record FailingLaw : Type 0 where
       → (c : Command) × (request ≡ Some c) × (takes_memory c old ≡ true)
   pub file : (failed : Bool) (old new : Machine) (request : Request) → Step failed old request (Refused File) new
       → (failed ≡ true) × (c : Command) × (request ≡ Some c) × (calls_store c old ≡ true)
+  -- where there is something to take back, an undo is refused for nothing else, and so is a redo where there is something to make again
+  pub undo : (failed : Bool) (old new : Machine) (reply : Reply) → (old.past ≡ [] → ⊥) → Step failed old (Some commands.Undo) reply new → IsTakenOrGivenUp failed old reply new
+  pub redo : (failed : Bool) (old new : Machine) (reply : Reply) → (old.future ≡ [] → ⊥) → Step failed old (Some commands.Redo) reply new → IsTakenOrGivenUp failed old reply new

@@ -84,7 +84,8 @@ pub fn save_law()
     ensures { SaveLaw }
 {}
 
-/// A refused request changes nothing, and a file fault is answered only where the store failed.
+/// A refused request changes nothing, and a file fault is answered only where the store failed. Where there is something to
+/// take back, an undo is refused only for want of memory or since the store failed in that call; so is a redo.
 pub fn failing_law()
     ensures { FailingLaw }
 {}
