@@ -1,5 +1,5 @@
 -- Calls that write nothing that the slots stand on: what they stand for is carried on to the store as it is then.
-use Rattle.std.proofs.Common.{◌≡◌, ◌⊎◌, ◌≤◌, IsTrue, All, refl, sym, ap, subst, inl, inr}
+use Rattle.std.proofs.Common.{◌≡◌, ◌⊎◌, ◌≤◌, IsTrue, All, refl, sym, ap, subst, ◌∙◌, inl, inr}
 use Rattle.vm_store.specs.Facts.{StoreFacts}
 use Rattle.vm_file.specs.Ranges.{KeepsAll}
 use Rattle.vm_file.specs.Slots.{block_extents, kept_extents, Outcome, Leaves, Outlives}
@@ -9,6 +9,7 @@ use Rattle.vm_file.specs.Sound.{IsFormed, IsSound, disk_of}
 use Rattle.vm_file.specs.declared.table.Table.{Table}
 use Rattle.vm_file.specs.declared.slots.Slots.{Slots}
 use Rattle.vm_file.proofs.KeptDocuments.{committed_again, attempted_again}
+use Rattle.vm_file.proofs.Away.{attempted_away}
 use Rattle.vm_file.proofs.Live.{EndsIn}
 use Rattle.vm_file.proofs.Outcomes.{outcome_keeps}
 use Rattle.vm_file.proofs.Stands.{outcome_stands, sound_readable, outcome_numbered}
@@ -33,6 +34,10 @@ module _ {S : Type 0} (facts : S → StoreFacts) (a b : S) (live : Table) (slots
     updated = λ so. ap (λ (d : Documents). d.0) (committed so).1;
     saved = λ so. ap (λ (d : Documents). d.1) (committed so).1;
     attempted = λ so. (attempted so).1;
+    tried = λ so pair was. record {
+      attempted = (attempted so).1 ∙ was.attempted;
+      gate = attempted_away (facts b) slots (facts a).content pair was.attempted (sound_readable (facts a) live slots sound.formed (sound.whole so)) (leaves so);
+    };
     sequence = refl;
     numbered = λ so none is c left. outcome_numbered slots (facts a).content c (sound_readable (facts a) live slots sound.formed (sound.whole so)) none (leaves so c left);
     crash = λ so. record {

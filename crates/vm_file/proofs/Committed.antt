@@ -9,12 +9,13 @@ use Rattle.geos_model.proofs.Table.{table_map}
 use Rattle.vm_file.specs.Ranges.{IsPlaced, KeepsAll, end_of}
 use Rattle.vm_file.specs.Slots.{turned, FailedEarly, Failed, Outcome, Leaves, Outlives, AreKept, block_extents, stored_extents, pair_extents, kept_extents}
 use Rattle.vm_file.specs.Documents.{Documents, document_in, documents_in, attempted_in, AreImaged, AreStored, IsHeldStored}
-use Rattle.vm_file.specs.Disk.{readable, StandsForOne, Crash, AddsNothing, Commits}
+use Rattle.vm_file.specs.Disk.{readable, StandsForOne, Crash, IsTried, AddsNothing, Commits}
 use Rattle.vm_file.specs.Sound.{AreTables, IsFormed, IsWhole, IsSound, disk_of}
 use Rattle.vm_file.specs.declared.table.Table.{Table}
 use Rattle.vm_file.specs.declared.slots.Pair.{Pair}
 use Rattle.vm_file.specs.declared.slots.Other.TheVariants.{Held}
 use Rattle.vm_file.specs.declared.slots.Slots.{Slots}
+use Rattle.vm_file.proofs.Away.{attempted_away}
 use Rattle.vm_file.proofs.KeptBytes.{keeps_itself, slots_keep}
 use Rattle.vm_file.proofs.KeptDocuments.{stored_within, committed_again, attempted_again}
 use Rattle.vm_file.proofs.Outcomes.{outcome_keeps, shut_kept, with_pair_kept, failed_kept, turned_kept}
@@ -235,16 +236,31 @@ module _ {S : Type 0} (facts : S → StoreFacts) (a b : S) (live : Table) (slots
         let P : Slots → Type 0 = λ s. s.committed ≡ slots.committed in
         elim failed as (λ _. P now) [ inl (inl same) ↦ subst P (sym same) refl | inl (inr shut) ↦ subst P (sym shut) refl | inr is_held ↦ subst P (sym is_held) refl ]
 
+    readable_now : IsTrue (facts a).honest → AreReadable now (facts a).content
+    readable_now so =
+        let has = has_all so in
+        record { some = now_formed.numbered; in_range = now_formed.in_range; placed = now_formed.kept; committed = has.committed; held = held_readable (facts a).content now.sequence now.other now_formed.held has.held }
+
+    -- the pair is held, and one gate away
+    held_tried : IsTrue (facts a).honest → now ≡ record slots { other = Held pair } → IsTried facts (documents_in (facts a).content pair) (disk_of facts b now)
+    unfolding now_formed has_all
+    held_tried so is_held =
+        let attempts : Slots → List Documents = λ s. attempted_in (facts a).content s.other in
+        record {
+          attempted = settle_attempted now_formed has_all so ∙ ap attempts is_held;
+          gate = attempted_away (facts b) now (facts a).content (documents_in (facts a).content pair) (ap attempts is_held) (readable_now so) (left so);
+        }
+
     -- the pair is held, or nothing of it can be read
-    added : FailsEarly slots pair now (facts a) (facts b) → IsTrue (facts a).honest → (attempted_in (facts b).content now.other ≡ documents_in (facts a).content pair ∷ []) ⊎ AddsNothing facts (disk_of facts a slots) (disk_of facts b now)
+    added : FailsEarly slots pair now (facts a) (facts b) → IsTrue (facts a).honest → IsTried facts (documents_in (facts a).content pair) (disk_of facts b now) ⊎ AddsNothing facts (disk_of facts a slots) (disk_of facts b now)
     unfolding now_formed has_all
     added early so =
         let attempts : Slots → List Documents = λ s. attempted_in (facts a).content s.other in
         let same = settle_attempted now_formed has_all so in
-        elim failed as (λ _. (attempted_in (facts b).content now.other ≡ documents_in (facts a).content pair ∷ []) ⊎ AddsNothing facts (disk_of facts a slots) (disk_of facts b now)) [
-          | inr is_held ↦ inl (same ∙ ap attempts is_held)
-          | inl before ↦ elim early as (λ _. (attempted_in (facts b).content now.other ≡ documents_in (facts a).content pair ∷ []) ⊎ AddsNothing facts (disk_of facts a slots) (disk_of facts b now)) [
-            | inl is_held ↦ inl (same ∙ ap attempts is_held)
+        elim failed as (λ _. IsTried facts (documents_in (facts a).content pair) (disk_of facts b now) ⊎ AddsNothing facts (disk_of facts a slots) (disk_of facts b now)) [
+          | inr is_held ↦ inl (held_tried so is_held)
+          | inl before ↦ elim early as (λ _. IsTried facts (documents_in (facts a).content pair) (disk_of facts b now) ⊎ AddsNothing facts (disk_of facts a slots) (disk_of facts b now)) [
+            | inl is_held ↦ inl (held_tried so is_held)
             | inr outlives ↦ inr (record {
               crash = settle_early so (outlives (facts a).content so (call.whole so).leaves);
               attempted = elim before as (λ _. (attempted_in (facts b).content now.other ≡ attempted_in (facts a).content slots.other) ⊎ (attempted_in (facts b).content now.other ≡ [])) [

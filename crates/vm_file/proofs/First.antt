@@ -58,9 +58,10 @@ slots_laid directory text a b c d behind directory_put first second =
       gate_is = second.below 4 (omega arith) ∙ first.each 4 (omega (arith, long));
       marked = put_holds 512 0 slot_mark slot_mark c d (inl (omega arith)) second (holds_part c 0 [] slot_mark (0 ∷ gate) there);
       rest = put_holds 512 5 slot_mark gate c d (inl (omega (arith, rest))) second (holds_part c 0 (slot_mark ++ 0 ∷ []) gate [] (subst P (sym (append-nil gate)) there));
+      second = Holds-Puts 512 slot_mark c d second;
       beside = second.above 516 (omega arith) ∙ first.above 516 (omega (arith, long)) ∙ directory_put.below 516 (omega (arith, behind));
       there = put_holds 512 (start_of directory) slot_mark text c d (inr (omega (arith, behind))) second (put_holds 0 (start_of directory) (first_slot directory) text b c (inr (omega (arith, behind, long))) first text_there);
-      others = λ i high out. second.above i (omega arith) ∙ first.above i (omega (arith, long)) ∙ put_byte (start_of directory) i text a b out directory_put;
+      others = λ i high apart out. put_byte 512 i slot_mark c d apart second ∙ first.above i (omega (arith, long)) ∙ put_byte (start_of directory) i text a b out directory_put;
       size = omega (arith, behind, long, directory_put.size, first.size, second.size);
     }
 
@@ -126,7 +127,7 @@ module _ (directory : Extent) (text : List ℕ) (live : Table) (slots : Slots) (
         let high = (founding.placed k x inside).behind in
         record {
           within = omega (arith, lying.within k x inside, laid.size);
-          bytes = λ i low under. laid.others i (omega (arith, high, low)) (elim (founding.clear k x inside) as (λ _. (i < start_of directory) ⊎ (start_of directory + length text ≤ i)) [
+          bytes = λ i low under. laid.others i (omega (arith, high, low)) (inr (omega (arith, high, low))) (elim (founding.clear k x inside) as (λ _. (i < start_of directory) ⊎ (start_of directory + length text ≤ i)) [
             | inl before ↦ inl (omega arith)
             | inr behind ↦ inr (omega (arith, founding.size))
           ]);

@@ -1,6 +1,8 @@
+pub mod Away
 pub mod BodyImages
 pub mod Carried
 pub mod Committed
+pub mod Content
 pub mod Copied
 pub mod Counting
 mod Crashes
@@ -9,6 +11,7 @@ pub mod Drafted
 pub mod Entries
 pub mod Filled
 pub mod First
+pub mod FirstFile
 pub mod Found
 pub mod Imaged
 pub mod KeptBytes

@@ -1,12 +1,12 @@
 -- How the promises of a document file are passed on.
-use Rattle.std.proofs.Common.{◌≡◌, ◌⊎◌, ℕ, Bool, IsTrue, List, [], ◌∷◌, refl, sym, ap, subst, ◌∙◌, arith, inl, inr}
+use Rattle.std.proofs.Common.{◌≡◌, ◌⊎◌, ℕ, Bool, IsTrue, List, [], ◌∷◌, refl, sym, subst, ◌∙◌, arith, inl, inr}
 use Rattle.std.specs.Prelude.{◌+◌, Result, Ok, Err, MatchResult}
 use Rattle.std.proofs.lemmas.Result.{on_ok_weaker, on_err_weaker}
 use Rattle.vm_store.specs.Facts.{StoreFacts, IsTimely}
 use Rattle.geos_model.specs.Document.{Document}
 use Rattle.geos_model.specs.declared.fault.Fault.{Fault}
 use Rattle.vm_file.specs.Documents.{Documents}
-use Rattle.vm_file.specs.Disk.{Disk, readable, StandsForOne, Settled, IsSettled, Numbered, Crash, Drifts, Passes, AddsNothing, Commits}
+use Rattle.vm_file.specs.Disk.{Disk, readable, StandsForOne, Settled, IsSettled, Numbered, Crash, Drifts, IsTried, Passes, AddsNothing, Commits}
 use Rattle.vm_file.specs.Passing.{PassingLaw}
 use Rattle.vm_file.proofs.Results.{on_ok_both, on_err_both}
 
@@ -45,7 +45,7 @@ Crash-since a b pairs timely settled p c left =
 
 module _ {S : Type 0} (facts : S → StoreFacts) where
   pub Passes-refl : (a : Disk S) → Passes facts a a
-  Passes-refl a = record { honest = refl; failures = omega arith; updated = λ _. refl; saved = λ _. refl; attempted = λ _. refl; sequence = refl; numbered = λ so none is. is; crash = λ _. Crash-refl _ _ }
+  Passes-refl a = record { honest = refl; failures = omega arith; updated = λ _. refl; saved = λ _. refl; attempted = λ _. refl; tried = λ so pair is. is; sequence = refl; numbered = λ so none is. is; crash = λ _. Crash-refl _ _ }
 
   pub same_readable : (a b : Disk S) → Passes facts a b → IsTrue (facts a.store).honest → readable b ≡ readable a
   same_readable a b p so = λ i. (p.updated so i, p.saved so i) ∷ p.attempted so i
@@ -60,6 +60,7 @@ module _ {S : Type 0} (facts : S → StoreFacts) where
     updated = λ so. q.updated (still a b p.honest so) ∙ p.updated so;
     saved = λ so. q.saved (still a b p.honest so) ∙ p.saved so;
     attempted = λ so. q.attempted (still a b p.honest so) ∙ p.attempted so;
+    tried = λ so pair is. q.tried (still a b p.honest so) pair (p.tried so pair is);
     sequence = q.sequence ∙ p.sequence;
     numbered = λ so none is. q.numbered (still a b p.honest so) (p.attempted so ∙ none) (p.numbered so none is);
     crash = λ so.
@@ -146,8 +147,8 @@ module _ {S : Type 0} (facts : S → StoreFacts) where
         numbered = on_ok_weaker result (λ given so. given (now so)) q.numbered;
         still_numbered = on_err_weaker result (λ given so was none. given (now so) (Passes-numbered a b p so was) none) q.still_numbered;
         err = on_err_weaker result (λ given so. ((given (now so)).0 ∙ p.updated so, (given (now so)).1 ∙ p.saved so)) q.err;
-        adds = on_err_weaker result (λ given so. elim (given (now so)) as (λ _. (c.attempted ≡ first ∷ []) ⊎ AddsNothing facts a c) [
-          | inl tried ↦ inl (tried ∙ ap (λ d. d ∷ []) (same so))
+        adds = on_err_weaker result (λ given so. elim (given (now so)) as (λ _. IsTried facts first c ⊎ AddsNothing facts a c) [
+          | inl tried ↦ inl (subst (λ d. IsTried facts d c) (same so) tried)
           | inr none ↦ inr (Passes-AddsNothing a b c p so none)
         ]) q.adds;
         sequence = subst (λ n. MatchResult result (λ _. c.sequence ≡ n + 1) (λ _. c.sequence ≡ n)) p.sequence q.sequence;
@@ -165,7 +166,7 @@ module _ {S : Type 0} (facts : S → StoreFacts) where
       elim (commits.adds so) as (λ _. StandsForOne (pair ∷ readable a) c) [
         | inl tried ↦ elim one as (λ _. StandsForOne (pair ∷ readable a) c) [
           | inl here ↦ inr (inl (here ∙ (λ i. Ok (same.0 i, same.1 i))))
-          | inr more ↦ elim (subst (λ ds. StandsForOne ds c) tried more) as (λ _. StandsForOne (pair ∷ readable a) c) [ inl here ↦ inl here | inr none ↦ absurd none ]
+          | inr more ↦ elim (subst (λ ds. StandsForOne ds c) tried.attempted more) as (λ _. StandsForOne (pair ∷ readable a) c) [ inl here ↦ inl here | inr none ↦ absurd none ]
         ]
         | inr none ↦ inr (fewer_readable a b c same none.attempted one)
       ]
@@ -190,8 +191,8 @@ module _ {S : Type 0} (facts : S → StoreFacts) where
           numbered = on_ok_both result (λ given ok so. q.numbered (now so) (ok so).1 (given so)) p.numbered p.ok;
           still_numbered = on_err_weaker result (λ given so was none. Passes-numbered b c q (now so) (given so was) none) p.still_numbered;
           err = on_err_weaker result (λ given so. (q.updated (now so) ∙ (given so).0, q.saved (now so) ∙ (given so).1)) p.err;
-          adds = on_err_both result (λ given same so. elim (given so) as (λ _. (c.attempted ≡ pair ∷ []) ⊎ AddsNothing facts a c) [
-            | inl tried ↦ inl (q.attempted (now so) ∙ tried)
+          adds = on_err_both result (λ given same so. elim (given so) as (λ _. IsTried facts pair c ⊎ AddsNothing facts a c) [
+            | inl tried ↦ inl (q.tried (now so) pair tried)
             | inr none ↦ inr (record {
               crash = Crash-trans _ _ _ _ none.crash (Crash-more _ _ (readable b) (readable a) (λ f one. fewer_readable a b f (same so) none.attempted one) (q.crash (now so)));
               attempted = elim none.attempted as (λ _. (c.attempted ≡ a.attempted) ⊎ (c.attempted ≡ [])) [ inl kept ↦ inl (q.attempted (now so) ∙ kept) | inr empty ↦ inr (q.attempted (now so) ∙ empty) ];

@@ -230,12 +230,20 @@ stale_beaten : (second : Bool) (sequence : ℕ) (c : List ℕ) → sequence < 2 
 stale_beaten second sequence c range long (inl unmarked) = inl (unmarked_shut (if second then 0 else 1) c (both_within c second long) unmarked)
 stale_beaten second sequence c range long (inr older) = older_beaten (if second then 0 else 1) sequence c range (both_within c second long) older
 
-held_beats : (second : Bool) (sequence : ℕ) (committed held : Pair) (file c : List ℕ) → FitsPair sequence committed → FitsPair (sequence + 1) held → AreStored file held → byte c (512 * (if second then 1 else 0) + 4) ≡ 1
+pub held_beats : (second : Bool) (sequence : ℕ) (committed held : Pair) (file c : List ℕ) → FitsPair sequence committed → FitsPair (sequence + 1) held → AreStored file held → byte c (512 * (if second then 1 else 0) + 4) ≡ 1
     → Leads (if second then 1 else 0) sequence committed file c → byte c (512 * (if second then 0 else 1) + 4) ≡ 1 → Leads (if second then 0 else 1) (sequence + 1) held file c → stands c ≡ Ok (documents_in file held)
 held_beats true sequence committed held file c fits fits_held stored gate leads held_gate held_leads =
     lead_stands (sequence + 1) held file c false fits_held stored held_gate held_leads (inr (slot_value sequence committed, lead_open 1 sequence committed file c fits gate leads, omega arith))
 held_beats false sequence committed held file c fits fits_held stored gate leads held_gate held_leads =
     lead_stands (sequence + 1) held file c true fits_held stored held_gate held_leads (inr (slot_value sequence committed, lead_open 0 sequence committed file c fits gate leads, omega arith))
+
+-- so that its number counts
+pub held_numbered : (second : Bool) (sequence : ℕ) (committed held : Pair) (file c : List ℕ) → FitsPair sequence committed → FitsPair (sequence + 1) held → byte c (512 * (if second then 1 else 0) + 4) ≡ 1
+    → Leads (if second then 1 else 0) sequence committed file c → byte c (512 * (if second then 0 else 1) + 4) ≡ 1 → Leads (if second then 0 else 1) (sequence + 1) held file c → sequence_in c ≡ Some (sequence + 1)
+held_numbered true sequence committed held file c fits fits_held gate leads held_gate held_leads =
+    ap sequence_of (counts c false (slot_value (sequence + 1) held) (lead_open 0 (sequence + 1) held file c fits_held held_gate held_leads) (inr (slot_value sequence committed, lead_open 1 sequence committed file c fits gate leads, omega arith)))
+held_numbered false sequence committed held file c fits fits_held gate leads held_gate held_leads =
+    ap sequence_of (counts c true (slot_value (sequence + 1) held) (lead_open 1 (sequence + 1) held file c fits_held held_gate held_leads) (inr (slot_value sequence committed, lead_open 0 sequence committed file c fits gate leads, omega arith)))
 
 one_stands : (other : Other) (second : Bool) (sequence : ℕ) (committed : Pair) (file c : List ℕ) → FitsPair sequence committed → AreStored file committed → All IsPlaced (held_extents other) → IsHeldReadable file sequence other
     → byte c (512 * (if second then 1 else 0) + 4) ≡ 1 → Leads (if second then 1 else 0) sequence committed file c → IsBeside other (if second then 0 else 1) sequence file c → StandsForOne (documents_in file committed ∷ attempted_in file other) c

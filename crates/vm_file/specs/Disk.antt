@@ -1,7 +1,8 @@
 -- What callers see of a document file, and the words by which the layers above pass its promises on.
-use Rattle.std.specs.Prelude.{◌≡◌, ◌⊎◌, ℕ, ◌+◌, ◌≤◌, Bool, IsTrue, List, [], ◌∷◌, true, Result, Ok, OnOk, OnErr, MatchResult, refl, Some}
+use Rattle.std.specs.Prelude.{◌≡◌, ◌⊎◌, ℕ, ◌+◌, ◌*◌, ◌≤◌, Bool, IsTrue, List, [], ◌∷◌, true, Result, Ok, OnOk, OnErr, MatchResult, refl, Some}
 use Rattle.std.specs.Coded.{Coded, code_by, coded×, coded_ℕ, coded_list}
 use Rattle.vm_store.specs.Facts.{StoreFacts}
+use Rattle.vm_store.specs.Bytes.{put}
 use Rattle.geos_model.specs.Document.{Document, block_at, is_live, is_valid_body, is_vm_handle, user_id_of}
 use Rattle.geos_model.specs.File.{stands}
 use Rattle.geos_model.specs.declared.fault.Fault.{Fault}
@@ -55,6 +56,26 @@ Numbered store n = (c : List ℕ) → store.may_leave c → sequence_in c ≡ So
 abbrev pub IsSettled : {S : Type 0} → (S → StoreFacts) → Disk S → Type 0
 IsSettled facts disk = IsTrue (facts disk.store).honest → Settled (facts disk.store) (readable disk)
 
+-- the content of an honest store stands for the acknowledged pair
+abbrev pub ContentStands : {S : Type 0} → (S → StoreFacts) → Disk S → Type 0
+ContentStands facts disk = IsTrue (facts disk.store).honest → stands (facts disk.store).content ≡ Ok (disk.updated, disk.saved)
+
+-- the file with the gate of a slot open
+abbrev pub with_gate_open : ℕ → List ℕ → List ℕ
+with_gate_open slot file = put (512 * slot + 4) (1 ∷ []) file
+
+-- A slot is whole but for its gate: each content that a crash now may leave, with that gate open, stands for the pair under this number.
+pub record IsOneGateAway (store : StoreFacts) (sequence : ℕ) (pair : Documents) : Type 0 where
+  pub slot : ℕ
+  pub is_slot : slot ≤ 1
+  pub stands_for : (c : List ℕ) → store.may_leave c → stands (with_gate_open slot c) ≡ Ok pair
+  pub numbered : (c : List ℕ) → store.may_leave c → sequence_in (with_gate_open slot c) ≡ Some sequence
+
+-- A commit of the pair has failed in its last step, before which all else of it is on the disk: the pair may be read.
+pub record IsTried {S : Type 0} (facts : S → StoreFacts) (pair : Documents) (disk : Disk S) : Type 0 where
+  pub attempted : disk.attempted ≡ pair ∷ []
+  pub gate : IsOneGateAway (facts disk.store) (disk.sequence + 1) pair
+
 -- What a crash since some time may leave is what one before these calls might have left, or stands for one of these.
 pub record Crash (old new : StoreFacts) (pairs : List Documents) : Type 0 where
   pub later : old.moment ≤ new.moment
@@ -80,6 +101,7 @@ pub record Passes {S : Type 0} (facts : S → StoreFacts) (old new : Disk S) : T
   pub updated : IsTrue (facts old.store).honest → new.updated ≡ old.updated
   pub saved : IsTrue (facts old.store).honest → new.saved ≡ old.saved
   pub attempted : IsTrue (facts old.store).honest → new.attempted ≡ old.attempted
+  pub tried : IsTrue (facts old.store).honest → (pair : Documents) → IsTried facts pair old → IsTried facts pair new
   pub sequence : new.sequence ≡ old.sequence
   pub numbered : IsTrue (facts old.store).honest → old.attempted ≡ [] → Numbered (facts old.store) old.sequence → Numbered (facts new.store) new.sequence
   pub crash : IsTrue (facts old.store).honest → Crash (facts old.store) (facts new.store) (readable old)
@@ -99,7 +121,7 @@ pub record Commits {S : Type 0} (facts : S → StoreFacts) (pair : Documents) (o
   pub ok : OnOk result (IsTrue (facts old.store).honest → ((new.updated, new.saved) ≡ pair) × (new.attempted ≡ []))
   pub err : OnErr result (IsTrue (facts old.store).honest → (new.updated ≡ old.updated) × (new.saved ≡ old.saved))
   -- where its last step failed, the pair may be read from then on; where an earlier one did, nothing of it can be, at any moment
-  pub adds : OnErr result (IsTrue (facts old.store).honest → (new.attempted ≡ pair ∷ []) ⊎ AddsNothing facts old new)
+  pub adds : OnErr result (IsTrue (facts old.store).honest → IsTried facts pair new ⊎ AddsNothing facts old new)
   pub numbered : OnOk result (IsTrue (facts old.store).honest → Numbered (facts new.store) new.sequence)
   -- a refusal keeps the number, where no pair of a commit that failed may be read
   pub still_numbered : OnErr result (IsTrue (facts old.store).honest → (old.attempted ≡ [] → Numbered (facts old.store) old.sequence) → new.attempted ≡ [] → Numbered (facts new.store) new.sequence)

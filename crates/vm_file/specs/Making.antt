@@ -1,7 +1,7 @@
 -- The making of a file.
-use Rattle.std.specs.Prelude.{◌≡◌, ◌⊎◌, ℕ, ◌+◌, ◌*◌, ◌<◌, ◌≤◌, max, false, List, [], ◌∷◌, ◌++◌, All, IfSome, Option, None, Some, length}
+use Rattle.std.specs.Prelude.{◌≡◌, ◌⊎◌, ℕ, ◌+◌, ◌*◌, ◌<◌, ◌≤◌, max, false, List, [], ◌∷◌, ◌++◌, All, IfSome, Option, None, Some, length, replicate, take, drop}
 use Rattle.vm_store.specs.Facts.{byte, Holds, Puts}
-use Rattle.geos_model.specs.File.{slot_mark, Directory, directory_text, bytes_in, pages_of}
+use Rattle.geos_model.specs.File.{slot_mark, slot_text, Directory, directory_text, bytes_in, pages_of}
 use Rattle.geos_model.specs.declared.file.Extent.{Extent}
 use Rattle.geos_model.specs.declared.file.Slot.{Slot}
 use Rattle.vm_file.specs.Ranges.{IsPlaced, start_of, end_of, IsClear}
@@ -19,15 +19,15 @@ use Rattle.vm_file.specs.declared.slots.Other.TheVariants.{Shut}
 abbrev pub first_slot : Extent → List ℕ
 first_slot directory = slot_mark ++ 0 ∷ gate_text 1 directory directory
 
--- Slot 0 has the number 1 and leads to one directory, which has this text; all behind the slots is as it was but for that, and so is
--- the gate of slot 1.
+-- Slot 0 has the number 1 and leads to one directory, which has this text, and slot 1 has its mark; all others are as they were.
 pub record IsLaid (gate : ℕ) (directory : Extent) (text old new : List ℕ) : Type 0 where
   pub gate_is : byte new 4 ≡ gate
   pub marked : Holds new 0 slot_mark
   pub rest : Holds new 5 (gate_text 1 directory directory)
+  pub second : Holds new 512 slot_mark
   pub beside : byte new 516 ≡ byte old 516
   pub there : Holds new (start_of directory) text
-  pub others : (i : ℕ) → 1024 ≤ i → (i < start_of directory) ⊎ (start_of directory + length text ≤ i) → byte new i ≡ byte old i
+  pub others : (i : ℕ) → 32 ≤ i → (i < 512) ⊎ (516 ≤ i) → (i < start_of directory) ⊎ (start_of directory + length text ≤ i) → byte new i ≡ byte old i
   pub size : length new ≡ max (length old) (start_of directory + length text)
 
 -- the same document, with a directory
@@ -73,6 +73,19 @@ no_blocks = record { map_block = 0; entries = [] }
 -- the slot that counts
 abbrev pub first_open : Slot
 first_open = record { gate = 1; version = 1; reserved = 0; sequence = 1; working = first_directory; saved = first_directory }
+
+-- its bytes: slot 0 at page 0, the mark of slot 1 at page 1, the directory at page 2, and zeros between them
+unfoldable pub first_file : List ℕ
+first_file = slot_text first_open ++ replicate 480 0 ++ slot_mark ++ replicate 508 0 ++ directory_text no_blocks
+
+-- which these bytes are
+pub record FirstFileLaw : Type 0 where
+  pub size : length first_file ≡ 1040
+  pub slot : take 32 first_file ≡ 0x47 ∷ 0x56 ∷ 0x4d ∷ 0x46 ∷ 1 ∷ 1 ∷ 0 ∷ 0 ∷ 1 ∷ 0 ∷ 0 ∷ 0 ∷ 0 ∷ 0 ∷ 0 ∷ 0 ∷ 2 ∷ 0 ∷ 0 ∷ 0 ∷ 16 ∷ 0 ∷ 0 ∷ 0 ∷ 2 ∷ 0 ∷ 0 ∷ 0 ∷ 16 ∷ 0 ∷ 0 ∷ 0 ∷ []
+  pub behind_slot : take 480 (drop 32 first_file) ≡ replicate 480 0
+  pub mark : take 4 (drop 512 first_file) ≡ 0x47 ∷ 0x56 ∷ 0x4d ∷ 0x46 ∷ []
+  pub behind_mark : take 508 (drop 516 first_file) ≡ replicate 508 0
+  pub directory : drop 1024 first_file ≡ 0x47 ∷ 0x44 ∷ 0x49 ∷ 0x52 ∷ 1 ∷ 0 ∷ 0 ∷ 0 ∷ 0 ∷ 0 ∷ 0 ∷ 0 ∷ 0 ∷ 0 ∷ 0 ∷ 0 ∷ []
 
 -- Copies.
 

@@ -3,9 +3,9 @@ ghost use Rattle.vm_store.specs.Facts.{Raised, Rests};
 ghost use Rattle.geos_model.specs.Document.{empty_document, is_live, is_vm_handle, user_id_of, with_user_id, block_at, is_heap_body};
 ghost use Rattle.geos_model.specs.Image.{image};
 ghost use Rattle.geos_model.specs.File.{bytes_in, directory_text, open_slot, stands};
-ghost use Rattle.vm_file.specs.Disk.{FileState, Drifts, IsListed, Passes, Commits, IsSettled, Numbered};
+ghost use Rattle.vm_file.specs.Disk.{FileState, ContentStands, Drifts, IsListed, Passes, Commits, IsSettled, Numbered};
 ghost use Rattle.vm_file.specs.Documents.{sequence_in};
-ghost use Rattle.vm_file.specs.Making.{first_directory, first_open, no_blocks};
+ghost use Rattle.vm_file.specs.Making.{first_directory, first_file, first_open, no_blocks};
 ghost use Rattle.vm_file.specs.Calls.{IsPut, put_all, remove_all, IsImageLength, IsSupply, IsCommitRefusal, IsOpenRefusal, last_sequence};
 
 use crate::copies::{copy_stored, copy_table, twice};
@@ -65,7 +65,9 @@ impl<S: Store> VmFile<S> {
             × (file.disk.attempted ≡ []) × (file.disk.sequence ≡ 1)) }
         ensures numbered { IfOk result (λ file. IsTrue (S.facts store).honest → Numbered (S.facts file.disk.store) 1) }
         ensures settled { IfOk result (λ file. IsSettled S.facts file.disk) }
+        ensures content { IfOk result (λ file. ContentStands S.facts file.disk) }
         // The slots, of which the first one counts, and a directory of no block.
+        ensures bytes { IfOk result (λ file. IsTrue (S.facts store).honest → (S.facts file.disk.store).content ≡ first_file) }
         ensures size { IfOk result (λ file. IsTrue (S.facts store).honest → length (S.facts file.disk.store).content ≡ 1040) }
         ensures first { IfOk result (λ file. IsTrue (S.facts store).honest → open_slot (S.facts file.disk.store).content 0 ≡ Some first_open) }
         ensures second { IfOk result (λ file. IsTrue (S.facts store).honest → open_slot (S.facts file.disk.store).content 1 ≡ None) }
@@ -247,6 +249,7 @@ impl<S: Store> VmFile<S> {
     /// done; Memory, before anything is written; File.
     pub fn commit_update(&mut self) -> Result<(), Fault>
         ensures commits { Commits S.facts (self.old.document, self.old.disk.saved) self.old.disk self.new.disk result }
+        ensures content { OnOk result (ContentStands S.facts self.new.disk) }
         ensures drifts { Drifts (S.facts self.old.disk.store).honest self.old.document self.new.document }
         ensures worn { IsErrOf result Fault.Worn ↔ self.old.disk.sequence ≡ last_sequence }
         ensures early { IfErr result (λ fault. fault ≢ Fault.File → self.new ≡ self.old) }
@@ -264,6 +267,7 @@ impl<S: Store> VmFile<S> {
     /// Makes the document as it is now the updated and the saved one. Refused as an update is.
     pub fn commit_save(&mut self) -> Result<(), Fault>
         ensures commits { Commits S.facts (self.old.document, self.old.document) self.old.disk self.new.disk result }
+        ensures content { OnOk result (ContentStands S.facts self.new.disk) }
         ensures drifts { Drifts (S.facts self.old.disk.store).honest self.old.document self.new.document }
         ensures worn { IsErrOf result Fault.Worn ↔ self.old.disk.sequence ≡ last_sequence }
         ensures early { IfErr result (λ fault. fault ≢ Fault.File → self.new ≡ self.old) }
@@ -281,6 +285,7 @@ impl<S: Store> VmFile<S> {
     /// Makes the saved document the updated one and the document as it is now. Refused as an update is.
     pub fn commit_revert(&mut self) -> Result<(), Fault>
         ensures commits { Commits S.facts (self.old.disk.saved, self.old.disk.saved) self.old.disk self.new.disk result }
+        ensures content { OnOk result (ContentStands S.facts self.new.disk) }
         ensures ok { OnOk result (Drifts (S.facts self.old.disk.store).honest self.old.disk.saved self.new.document) }
         ensures err { OnErr result (Drifts (S.facts self.old.disk.store).honest self.old.document self.new.document) }
         ensures worn { IsErrOf result Fault.Worn ↔ self.old.disk.sequence ≡ last_sequence }
@@ -317,6 +322,7 @@ impl<S: Store> VmFile<S> {
         ensures made { IfOk result (λ file. (file.disk.updated ≡ file.document) × (file.disk.saved ≡ file.document) × (file.disk.attempted ≡ []) × (file.disk.sequence ≡ 1)) }
         ensures numbered { IfOk result (λ file. IsTrue (S.facts target).honest → Numbered (S.facts file.disk.store) 1) }
         ensures settled { IfOk result (λ file. IsSettled S.facts file.disk) }
+        ensures content { IfOk result (λ file. ContentStands S.facts file.disk) }
         ensures file { IfErr result (λ refused. refused.fault ≡ Fault.File
             → Raised (S.facts self.old.disk.store) (S.facts self.new.disk.store) ⊎ Raised (S.facts target) (S.facts refused.store)) }
         ensures damaged { IfErr result (λ refused. refused.fault ≡ Fault.Damaged → IsTrue (S.facts self.old.disk.store).honest → ⊥) }

@@ -1,5 +1,8 @@
 // Laws of what callers see, for the layers above.
+ghost use Rattle.std.specs.Prelude.{◌≡◌, [], IsTrue};
 ghost use Rattle.vm_file.specs.Crashes.{CrashLaw};
+ghost use Rattle.vm_file.specs.Disk.{Disk, IsSettled, ContentStands};
+ghost use Rattle.vm_file.specs.Making.{FirstFileLaw};
 ghost use Rattle.vm_file.specs.Passing.{PassingLaw};
 
 use vm_store::Store;
@@ -14,4 +17,15 @@ pub fn crash_law<S: Store>()
 /// are one that does.
 pub fn passing_law<S: Store>()
     ensures { PassingLaw S.facts }
+{}
+
+/// What an honest store has now stands for the updated and the saved document of the last acknowledged commit, where no pair of
+/// a commit that failed may be read.
+pub fn content_law<S: Store>()
+    ensures { (disk : Disk S) → IsSettled S.facts disk → (IsTrue (S.facts disk.store).honest → disk.attempted ≡ []) → ContentStands S.facts disk }
+{}
+
+/// The bytes of a file that was just created, one by one.
+pub fn first_file_law()
+    ensures { FirstFileLaw }
 {}

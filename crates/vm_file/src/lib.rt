@@ -18,7 +18,7 @@ mod table;
 mod writing;
 
 pub use file::VmFile;
-pub use law::{crash_law, passing_law};
+pub use law::{content_law, crash_law, first_file_law, passing_law};
 pub use put::PutBlock;
 pub use refused::Refused;
 pub use table::Place;

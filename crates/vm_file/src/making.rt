@@ -4,7 +4,7 @@ ghost use Rattle.geos_model.specs.File.{slot_mark};
 ghost use Rattle.vm_store.specs.Facts.{IsDurable, Puts, Counts, Raised};
 ghost use Rattle.geos_model.specs.Document.{most_blocks};
 ghost use Rattle.vm_file.specs.Calls.{IsSupply};
-ghost use Rattle.vm_file.specs.Making.{first_directory, first_slot, IsLaid, IsFirst};
+ghost use Rattle.vm_file.specs.Making.{first_directory, first_slot, first_file, IsLaid, IsFirst};
 ghost use Rattle.vm_file.specs.Sound.{IsSound};
 
 use crate::commit::{MARK, PAGE, behind_gate_bytes};
@@ -149,6 +149,7 @@ pub fn make_empty<S: Store>(alloc: Global, store: &mut S) -> Result<Made, Fault>
     ensures map_block { IfOk result (λ made. made.live.map_block ≡ 0) }
     ensures places { IfOk result (λ made. made.live.places.items ≡ replicate most_blocks None) }
     ensures first { IfOk result (λ made. IsFirst first_directory made.live made.slots) }
+    ensures bytes { IfOk result (λ made. IsTrue (S.facts store.old).honest → (S.facts store.new).content ≡ first_file) }
     ensures size { IfOk result (λ made. IsTrue (S.facts store.old).honest → length (S.facts store.new).content ≡ 1040) }
     ensures early { IfErr result (λ fault. fault ≢ Fault.File → store.new ≡ store.old) }
     ensures file { IsErrOf result Fault.File → Raised (S.facts store.old) (S.facts store.new) }

@@ -2,6 +2,7 @@ use Rattle.std.proofs.Common.{[], IsTrue, refl, sym, subst}
 use Rattle.geos_model.specs.File.{directory_text}
 use Rattle.vm_file.specs.Making.{first_directory, no_blocks, IsLaid}
 use Rattle.vm_file.specs.Sound.{IsSound}
+use Rattle.vm_file.proofs.FirstFile.{first_bytes}
 use Rattle.vm_file.proofs.First.{IsEmpty, first_sound, empty_founding, empty_lying}
 use Rattle.vm_file.proofs.making.make_empty.Goals as goal
 
@@ -17,3 +18,9 @@ returns-in-Ok-clause-sound g c =
     let was = subst IsTrue c.found.ensures.honest so in
     let first = subst IsTrue c.empty.ensures.honest was in
     (empty_lying 2048 live none, subst (λ f. IsLaid 1 first_directory (directory_text no_blocks) f store.content) (c.in_ok-empty.ensures.empty first) (c.in-Ok.ensures.laid was), c.in-Ok.ensures.durable was)))
+
+pub returns-in-Ok-clause-bytes : goal.returns-in-Ok-clause-bytes
+returns-in-Ok-clause-bytes g c so =
+    let content = (g.S.Store.facts c.found.new.store).content in
+    let was = subst IsTrue (sym c.empty.ensures.honest) so in
+    first_bytes content (subst (λ f. IsLaid 1 first_directory (directory_text no_blocks) f content) (c.in_ok-empty.ensures.empty so) (c.in-Ok.ensures.laid was))

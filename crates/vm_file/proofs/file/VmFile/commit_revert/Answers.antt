@@ -9,6 +9,7 @@ use Rattle.vm_file.specs.Copies.{IsCopy}
 use Rattle.vm_file.specs.declared.slots.Pair.{Pair}
 use Rattle.std.proofs.lemmas.Result.{err_from_is_err_and}
 use Rattle.vm_file.proofs.KeptBytes.{all_left, all_right}
+use Rattle.vm_file.proofs.Content.{committed_content}
 use Rattle.vm_file.proofs.Copied.{pair_documents, pair_placed, pair_stored, sound_saved, copy_document, copies_alike, copy_itself, copy_drifts}
 use Rattle.vm_file.proofs.Passing.{Commits-refused}
 use Rattle.vm_file.proofs.Results.{on_err}
@@ -79,3 +80,6 @@ returns-clause-commits g c =
     let documents = pair_documents (g.S.Store.facts c.self.inside.store).content c.in_ok-pair.pair saved saved c.in_ok-pair.ensures.updated c.in_ok-pair.ensures.saved in
     subst (λ f. Commits g.S.Store.facts (f.disk.saved, f.disk.saved) f.disk (disk_of g.S.Store.facts b now) (Ok tt)) c.self.view_is
     (subst (λ (d : Documents). Commits g.S.Store.facts d (disk_of g.S.Store.facts c.self.inside.store c.self.inside.slots) (disk_of g.S.Store.facts b now) (Ok tt)) documents c.in_ok-settle.ensures.commits)
+
+pub returns-clause-content : goal.returns-clause-content
+returns-clause-content g c = committed_content g.S.Store.facts g.met.S.Store.timely _ _ _ (Ok tt) c.in_ok-settle.ensures.commits

@@ -4,6 +4,7 @@ use Rattle.geos_model.specs.Document.{Document}
 use Rattle.vm_file.specs.Documents.{document_in}
 use Rattle.vm_file.specs.Disk.{IsSettled, Drifts, Commits}
 use Rattle.vm_file.specs.Sound.{disk_of}
+use Rattle.vm_file.proofs.Content.{committed_content}
 use Rattle.vm_file.proofs.Copied.{copy_itself, copy_drifts, copy_document}
 use Rattle.vm_file.proofs.Passing.{Commits-refused}
 use Rattle.vm_file.proofs.Stands.{sound_settled}
@@ -38,3 +39,6 @@ returns-clause-drifts g c =
     let a = g.S.Store.facts c.self.inside.store in
     let b = g.S.Store.facts c.commit_draft.new.store in
     subst (λ f. Drifts (g.S.Store.facts f.disk.store).honest f.document (document_in b.content live)) c.self.view_is (copy_drifts a.honest a.content b.content live live (copy_itself live) c.commit_draft.ensures.same)
+
+pub returns-clause-content : goal.returns-clause-content
+returns-clause-content g c = committed_content g.S.Store.facts g.met.S.Store.timely _ _ _ c.commit_draft.result c.commit_draft.ensures.commits

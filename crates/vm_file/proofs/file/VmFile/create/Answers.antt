@@ -1,6 +1,8 @@
 use Rattle.std.proofs.Common.{IsTrue, sym, subst, ◌∙◌}
 use Rattle.vm_file.specs.Disk.{Numbered}
 use Rattle.vm_file.specs.Making.{first_directory}
+use Rattle.vm_file.specs.Sound.{disk_of}
+use Rattle.vm_file.proofs.Content.{settled_content}
 use Rattle.vm_file.proofs.First.{IsEmpty, empty_shown, first_shown}
 use Rattle.vm_file.proofs.Made.{made_open, made_shut, made_directory}
 use Rattle.vm_file.proofs.Stands.{sound_settled, sound_numbered}
@@ -44,3 +46,10 @@ returns-in-Ok-clause-directory g c so =
     let still = subst IsTrue (sym c.make_empty.ensures.honest) so in
     let none : IsEmpty 2048 c.in-Ok.made.live = record { map_block = c.in-Ok.ensures.map_block; places = c.in-Ok.ensures.places } in
     made_directory (g.S.Store.facts store) c.in-Ok.made.live c.in-Ok.made.slots c.in-Ok.ensures.sound c.in-Ok.ensures.first still (g.met.S.Store.timely store still).now 2048 none
+
+pub returns-in-Ok-clause-content : goal.returns-in-Ok-clause-content
+returns-in-Ok-clause-content g c =
+    let made = c.in-Ok.made in
+    let store = c.make_empty.new.store in
+    let one = first_shown (g.S.Store.facts store).content first_directory made.live made.slots c.in-Ok.ensures.first in
+    settled_content g.S.Store.facts g.met.S.Store.timely (disk_of g.S.Store.facts store made.slots) (sound_settled g.S.Store.facts store made.live made.slots c.in-Ok.ensures.sound) (λ _. one.attempted)

@@ -1,0 +1,77 @@
+-- A slot that is whole but for its gate: with the gate open, a file that a crash leaves stands for what the slot leads to.
+use Rattle.std.proofs.Common.{◌≡◌, ◌≢◌, ℕ, ◌+◌, ◌*◌, List, [], ◌∷◌, All, refl, ap, subst, ◌∙◌, arith}
+use Rattle.vm_store.specs.Facts.{StoreFacts, byte}
+use Rattle.vm_store.specs.Bytes.{puts-put, torn-put}
+use Rattle.vm_file.specs.Ranges.{IsPlaced}
+use Rattle.vm_file.specs.Slots.{pair_extents, held_extents, other_of, Leads, IsBeside, Outcome, Leaves}
+use Rattle.vm_file.specs.Documents.{Documents, documents_in, attempted_in}
+use Rattle.vm_file.specs.Disk.{with_gate_open, IsOneGateAway}
+use Rattle.vm_file.specs.declared.slots.Pair.{Pair}
+use Rattle.vm_file.specs.declared.slots.Other.{Other}
+use Rattle.vm_file.specs.declared.slots.Other.TheVariants.{Shut, Stale, Held}
+use Rattle.vm_file.specs.declared.slots.Slots.{Slots}
+use Rattle.vm_file.proofs.KeptBytes.{all_left, all_right}
+use Rattle.vm_file.proofs.Outcomes.{one_each, spares_gate, outcome_torn}
+use Rattle.vm_file.proofs.Stands.{AreReadable, IsHeldReadable, FitsPair, fits_pair, held_beats, held_numbered}
+
+module _ (slots : Slots) (pair : Pair) (file : List ℕ) (is : slots.other ≡ Held pair) (are : AreReadable slots file) where
+  slot : ℕ
+  slot = other_of slots
+
+  isnt : slots.other ≢ Shut
+  isnt shut = cc (is, shut)
+
+  fits : FitsPair slots.sequence slots.committed
+  fits = fits_pair slots.sequence slots.committed are.some are.in_range (all_left IsPlaced (pair_extents slots.committed) (held_extents slots.other) are.placed)
+
+  held : IsHeldReadable file slots.sequence (Held pair)
+  held = subst (IsHeldReadable file slots.sequence) is are.held
+
+  fits_held : FitsPair (slots.sequence + 1) pair
+  unfolding held
+  fits_held = fits_pair (slots.sequence + 1) pair (omega arith) held.1 (subst (λ o. All IsPlaced (held_extents o)) is (all_right IsPlaced (pair_extents slots.committed) (held_extents slots.other) are.placed))
+
+  module _ (c : List ℕ) (was : Outcome slots file c) where
+    opened : List ℕ
+    opened = with_gate_open (other_of slots) c
+
+    outcome : Outcome slots file opened
+    unfolding opened isnt
+    outcome = outcome_torn (512 * other_of slots + 4) 1 slots file c opened are.placed (spares_gate slots are.placed isnt) (torn-put (512 * other_of slots + 4) (1 ∷ []) c) was
+
+    gate : byte opened (512 * other_of slots + 4) ≡ 1
+    unfolding opened
+    gate =
+        let here : 512 * other_of slots + 4 ≡ 512 * other_of slots + 4 + 0 = omega arith in
+        ap (byte opened) here ∙ (puts-put (512 * other_of slots + 4) (1 ∷ []) c).each 0 (omega arith)
+
+    leads : Leads (other_of slots) (slots.sequence + 1) pair file opened
+    unfolding opened outcome
+    leads = subst (λ o. IsBeside o (other_of slots) slots.sequence file opened) is outcome.beside
+
+  -- one gate away
+  pub held_away : (store : StoreFacts) → Leaves store slots file → IsOneGateAway store (slots.sequence + 1) (documents_in file pair)
+  unfolding opened outcome gate leads fits held fits_held
+  held_away store leaves = record {
+    slot = other_of slots;
+    is_slot = (let each = one_each slots in omega arith);
+    stands_for = λ c left.
+        let was = leaves c left in
+        let now = outcome c was in
+        held_beats slots.second slots.sequence slots.committed pair file (opened c was) fits fits_held held.0 now.gate now.counts (gate c was) (leads c was);
+    numbered = λ c left.
+        let was = leaves c left in
+        let now = outcome c was in
+        held_numbered slots.second slots.sequence slots.committed pair file (opened c was) fits fits_held now.gate now.counts (gate c was) (leads c was);
+  }
+
+away_of : (other : Other) (store : StoreFacts) (slots : Slots) (file : List ℕ) (d : Documents) → slots.other ≡ other → attempted_in file other ≡ d ∷ [] → AreReadable slots file → Leaves store slots file → IsOneGateAway store (slots.sequence + 1) d
+away_of Shut store slots file d is one are leaves = absurd (cc one)
+away_of Stale store slots file d is one are leaves = absurd (cc one)
+away_of (Held pair) store slots file d is one are leaves =
+    let same : documents_in file pair ≡ d = cc one in
+    subst (IsOneGateAway store (slots.sequence + 1)) same (held_away slots pair file is are store leaves)
+
+-- the pair of a commit that failed in its last step
+pub attempted_away : (store : StoreFacts) (slots : Slots) (file : List ℕ) (d : Documents) → attempted_in file slots.other ≡ d ∷ [] → AreReadable slots file → Leaves store slots file → IsOneGateAway store (slots.sequence + 1) d
+attempted_away store slots file d one are leaves = away_of slots.other store slots file d refl one are leaves

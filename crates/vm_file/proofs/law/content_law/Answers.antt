@@ -1,0 +1,5 @@
+use Rattle.vm_file.proofs.Content.{settled_content}
+use Rattle.vm_file.proofs.law.content_law.Goals as goal
+
+pub returns : goal.returns
+returns g c disk settled none = settled_content g.S.Store.facts g.met.S.Store.timely disk settled none

@@ -1,0 +1,5 @@
+use Rattle.vm_file.proofs.FirstFile as first
+use Rattle.vm_file.proofs.law.first_file_law.Goals as goal
+
+pub returns : goal.returns
+returns c = first.first_file_law
