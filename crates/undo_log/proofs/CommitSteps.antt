@@ -1,13 +1,12 @@
 -- Over an honest store a commit is a step of the machine, and the documents of the disk stay valid.
-use Rattle.std.proofs.Common.{◌≡◌, ◌⊎◌, ◌↔◌, ◌≤◌, ◌+◌, ◌&&◌, ◌==◌, ℕ, Bool, true, false, IsTrue, List, [], Some, Result, Ok, Err, IfErr, refl, sym, ap, subst, ◌∙◌, inl, inr}
-use Rattle.std.specs.Prelude.{OnOk, OnErr, IfOk, IsErrOf, nat_le}
+use Rattle.std.proofs.Common.{◌≡◌, ◌⊎◌, ◌↔◌, ◌+◌, ◌==◌, ℕ, Bool, true, false, IsTrue, List, [], Some, Result, Ok, Err, IfErr, refl, sym, ap, subst, ◌∙◌, inl, inr}
+use Rattle.std.specs.Prelude.{OnOk, OnErr, IsErrOf}
 use Rattle.std.specs.FinMap.{empty}
 use Rattle.std.proofs.lemmas.Bool.{le-leb, ne_eqb}
 use Rattle.geos_model.specs.Document.{Document, IsValid}
 use Rattle.geos_model.specs.File.{stands}
-use Rattle.geos_model.specs.Refusal.{Conditions}
-use Rattle.geos_model.specs.Reply.{Reply, Accepted, Refused, reply_by}
-use Rattle.geos_model.specs.Machine.{Machine, Step, Answers, on_commit, command_conditions, takes_memory, calls_store, done_by, after_update, after_save, after_revert}
+use Rattle.geos_model.specs.Reply.{Accepted, Refused, reply_by}
+use Rattle.geos_model.specs.Machine.{Machine, Step, on_commit, command_conditions, takes_memory, calls_store}
 use Rattle.geos_model.specs.declared.command.Command.{Command}
 use Rattle.geos_model.specs.declared.command.Command.TheVariants as commands
 use Rattle.geos_model.specs.declared.fault.Fault.{Fault}

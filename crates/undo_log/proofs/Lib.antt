@@ -7,3 +7,4 @@ pub mod Marked
 pub mod Commits
 pub mod CommitSteps
 pub mod SavingAs
+pub mod Beginnings

@@ -3,15 +3,16 @@ ghost use Rattle.std.specs.Prelude.{◌≡◌, ◌≢◌, ◌⊎◌, ◌↔◌, 
 ghost use Rattle.std.specs.Result.{IsErrAnd};
 ghost use Rattle.std.specs.Borrow.{sem};
 ghost use Rattle.std.specs.Option.{option_map};
-ghost use Rattle.geos_model.specs.Document.{empty_document, most_blocks, IsValid};
+ghost use Rattle.geos_model.specs.Document.{Document, empty_document, most_blocks, IsValid};
 ghost use Rattle.geos_model.specs.File.{stands};
 ghost use Rattle.geos_model.specs.Reply.{Accepted, Refused as RefusedWith, AreEqual, BytesAre, NumberIs, TokenIs, reply_by, reply_of_done, info_is, blocks_are, chunks_are, found};
-ghost use Rattle.geos_model.specs.Machine.{IsValidMachine, Step};
+ghost use Rattle.geos_model.specs.Machine.{IsValidMachine, Step, empty_machine, opened_machine};
 ghost use Rattle.geos_model.specs.declared.command.Command.TheVariants as commands;
 ghost use Rattle.vm_store.specs.Facts.{Raised, Rests};
 ghost use Rattle.vm_file.specs.Calls.{IsSupply, IsCommitRefusal, IsOpenRefusal, last_sequence};
-ghost use Rattle.vm_file.specs.Disk.{Disk, Commits, Drifts, IsSettled, Numbered, Passes};
+ghost use Rattle.vm_file.specs.Disk.{Disk, Commits, ContentStands, Drifts, IsSettled, Numbered, Passes};
 ghost use Rattle.vm_file.specs.Documents.{sequence_in};
+ghost use Rattle.vm_file.specs.Making.{first_file};
 ghost use Rattle.vm_blocks.specs.Blocks.{is_resident};
 ghost use Rattle.vm_blocks.specs.InFile.{IsInFile};
 ghost use Rattle.vm_blocks.specs.Reading.{IsLoadRefusal};
@@ -150,7 +151,10 @@ impl<S: Store> Session<S> {
         ensures new { IfOk result (λ session. (session.undo ≡ []) × (session.redo ≡ []) × (session.frames ≡ frames)) }
         ensures numbered { IfOk result (λ session. IsTrue (S.facts store).honest → Numbered (S.facts session.disk.store) 1) }
         ensures settled { IfOk result (λ session. IsSettled S.facts session.disk) }
+        ensures content { IfOk result (λ session. ContentStands S.facts session.disk) }
+        ensures machine { IfOk result (λ session. (target : Bool) → machine_of target session ≡ empty_machine frames target) }
         // the slots, and a directory of no block
+        ensures bytes { IfOk result (λ session. IsTrue (S.facts store).honest → (S.facts session.disk.store).content ≡ first_file) }
         ensures size { IfOk result (λ session. IsTrue (S.facts store).honest → length (S.facts session.disk.store).content ≡ 1040) }
         ensures early { IfErr result (λ refused. refused.fault ≢ Fault.File → refused.store ≡ store) }
         ensures file { IfErr result (λ refused. refused.fault ≡ Fault.File → Raised (S.facts store) (S.facts refused.store)) }
@@ -189,6 +193,9 @@ impl<S: Store> Session<S> {
         ensures numbered { IfOk result (λ session. IsTrue (S.facts store).honest → sequence_in (S.facts store).content ≡ Some session.disk.sequence) }
         ensures numbered_now { IfOk result (λ session. IsTrue (S.facts store).honest → Numbered (S.facts session.disk.store) session.disk.sequence) }
         ensures settled { IfOk result (λ session. IsSettled S.facts session.disk) }
+        ensures machine { IfOk result (λ session. IsTrue (S.facts store).honest → (updated saved : Document) (sequence : ℕ) (target : Bool)
+            → stands (S.facts store).content ≡ Ok (updated, saved) → sequence_in (S.facts store).content ≡ Some sequence
+            → machine_of target session ≡ opened_machine updated saved sequence frames target) }
         ensures refused { IfErr result (λ refused. IsTrue (S.facts store).honest → IsSupply refused.fault ⊎ (stands (S.facts store).content ≡ Err refused.fault)) }
         ensures file { IfErr result (λ refused. refused.fault ≡ Fault.File → Raised (S.facts store) (S.facts refused.store)) }
         ensures refusals { IfErr result (λ refused. IsOpenRefusal refused.fault) }
@@ -218,6 +225,7 @@ impl<S: Store> Session<S> {
         ensures step { IsTrue (S.facts self.old.disk.store).honest → (target : Bool)
             → Step (has_failed (S.facts self.old.disk.store) (S.facts self.new.disk.store)) (machine_of target self.old) (Some commands.Update) (reply_by (λ _. Accepted) result) (machine_of target self.new) }
         ensures commits { Commits S.facts (self.old.document, self.old.disk.saved) self.old.disk self.new.disk result }
+        ensures content { OnOk result (ContentStands S.facts self.new.disk) }
         ensures drifts { Drifts (S.facts self.old.disk.store).honest self.old.document self.new.document }
         ensures lists { (self.new.undo ≡ self.old.undo) × (self.new.redo ≡ self.old.redo) × (self.new.frames ≡ self.old.frames) }
         ensures worn { IsErrOf result Fault.Worn ↔ self.old.disk.sequence ≡ last_sequence }
@@ -234,6 +242,7 @@ impl<S: Store> Session<S> {
         ensures step { IsTrue (S.facts self.old.disk.store).honest → (target : Bool)
             → Step (has_failed (S.facts self.old.disk.store) (S.facts self.new.disk.store)) (machine_of target self.old) (Some commands.Save) (reply_by (λ _. Accepted) result) (machine_of target self.new) }
         ensures commits { Commits S.facts (self.old.document, self.old.document) self.old.disk self.new.disk result }
+        ensures content { OnOk result (ContentStands S.facts self.new.disk) }
         ensures drifts { Drifts (S.facts self.old.disk.store).honest self.old.document self.new.document }
         ensures lists { (self.new.undo ≡ self.old.undo) × (self.new.redo ≡ self.old.redo) × (self.new.frames ≡ self.old.frames) }
         ensures worn { IsErrOf result Fault.Worn ↔ self.old.disk.sequence ≡ last_sequence }
@@ -251,6 +260,7 @@ impl<S: Store> Session<S> {
         ensures step { IsTrue (S.facts self.old.disk.store).honest → (target : Bool)
             → Step (has_failed (S.facts self.old.disk.store) (S.facts self.new.disk.store)) (machine_of target self.old) (Some commands.Revert) (reply_by (λ _. Accepted) result) (machine_of target self.new) }
         ensures commits { Commits S.facts (self.old.disk.saved, self.old.disk.saved) self.old.disk self.new.disk result }
+        ensures content { OnOk result (ContentStands S.facts self.new.disk) }
         ensures ok { OnOk result (Drifts (S.facts self.old.disk.store).honest self.old.disk.saved self.new.document × (self.new.undo ≡ []) × (self.new.redo ≡ [])) }
         ensures err { OnErr result (Drifts (S.facts self.old.disk.store).honest self.old.document self.new.document × (self.new.undo ≡ self.old.undo) × (self.new.redo ≡ self.old.redo)) }
         ensures frames { self.new.frames ≡ self.old.frames }
@@ -295,6 +305,9 @@ impl<S: Store> Session<S> {
         ensures new_file { IfOk result (λ _. (self.new.disk.attempted ≡ []) × (self.new.disk.sequence ≡ 1) × (self.new.disk.updated ≡ self.new.disk.saved)) }
         ensures numbered { IfOk result (λ _. IsTrue (S.facts target).honest → Numbered (S.facts self.new.disk.store) 1) }
         ensures settled { IfOk result (λ _. IsSettled S.facts self.new.disk) }
+        ensures content { IfOk result (λ _. ContentStands S.facts self.new.disk) }
+        // of the store that comes back
+        ensures reverted { IfOk result (λ store. IsTrue (S.facts self.old.disk.store).honest → stands (S.facts store).content ≡ Ok (self.old.disk.saved, self.old.disk.saved)) }
         ensures honest { MatchResult result
             (λ _. (S.facts self.new.disk.store).honest ≡ (S.facts target).honest)
             (λ refused. (S.facts refused.store).honest ≡ (S.facts target).honest) }

@@ -1,5 +1,5 @@
 use Rattle.geos_model.specs.Document.{Document}
-use Rattle.std.proofs.Common.{◌≢◌, Err, IfErr, sym, subst, ap, ◌∙◌}
+use Rattle.std.proofs.Common.{◌≢◌, Ok, Err, IfErr, sym, subst, ap, ◌∙◌}
 use Rattle.std.proofs.lemmas.Result.{err_from_is_err_and}
 use Rattle.vm_file.specs.Disk.{Commits, Passes}
 use Rattle.vm_file.proofs.Passing.{Passes-fails, Passes-Commits}
@@ -26,6 +26,12 @@ returns-in_err-commit_revert-clause-commits g c =
     let all : Commits g.S.Store.facts pair a d (Err c.in_err-commit_revert.field-0.0) = Passes-Commits g.S.Store.facts a b d pair (b.saved, b.saved) (Err c.in_err-commit_revert.field-0.0) passes
     (λ so i. (passes.saved so i, passes.saved so i)) c.in_err-commit_revert.ensures.commits in
     subst (λ r. Commits g.S.Store.facts pair a d r) (sym (p.1 ∙ ap Err p.2)) all
+
+pub returns-clause-commits : goal.returns-clause-commits
+returns-clause-commits g c =
+    let a = c.args.file.now.disk in let b = c.load.new.file.disk in let d = c.commit_revert.new.self.disk in
+    let passes = c.load.ensures.looks.passes in
+    Passes-Commits g.S.Store.facts a b d (a.saved, a.saved) (b.saved, b.saved) (Ok tt) passes (λ so i. (passes.saved so i, passes.saved so i)) c.in_ok-commit_revert.ensures.commits
 
 pub returns-in_err-saved-clause-disk_valid : goal.returns-in_err-saved-clause-disk_valid
 returns-in_err-saved-clause-disk_valid g c = valid_after g.S.Store.facts c.args.file.now.disk c.load.new.file.disk c.in_err-saved.ensures.looks.passes c.requires.disk_valid

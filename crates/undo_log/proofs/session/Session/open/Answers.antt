@@ -2,6 +2,7 @@ use Rattle.std.proofs.Common.{IsTrue, sym, subst}
 use Rattle.std.proofs.lemmas.Result.{IfOk-weaker, MatchResult-weaker}
 use Rattle.vm_store.specs.Facts.{StoreFacts, Rests}
 use Rattle.vm_file.proofs.Looking.{Rests-trans}
+use Rattle.undo_log.proofs.Beginnings.{opened, if_ok_all}
 use Rattle.undo_log.proofs.CommitSteps.{stands-valid}
 use Rattle.undo_log.proofs.session.Session.open.Goals as goal
 
@@ -22,3 +23,11 @@ pub returns-in-Ok-open-clause-numbered_now : goal.returns-in-Ok-open-clause-numb
 returns-in-Ok-open-clause-numbered_now g c =
     let opened = c.in-Ok-open.ensures in
     IfOk-weaker c.read.result _ _ (λ session passes so. passes.numbered (subst IsTrue (sym opened.honest) so) opened.document.1 (opened.numbered_now so)) c.read.ensures.passes
+
+pub returns-in-Ok-open-clause-machine : goal.returns-in-Ok-open-clause-machine
+returns-in-Ok-open-clause-machine g c =
+    let file = c.in-Ok-open.file in
+    let found = c.in-Ok-open.ensures in
+    if_ok_all c.read.result _ _ _ _ (λ session passes document new so.
+    opened g.S.Store.facts file (g.S.Store.facts c.args.store).content c.args.frames session (subst IsTrue (sym found.honest) so) (found.stands so) found.document.0 (found.numbered so) passes document new)
+    c.read.ensures.passes c.read.ensures.document c.read.ensures.new

@@ -1,9 +1,16 @@
 use Rattle.std.proofs.Common.{◌≡◌, ◌||◌, true, IsTrue, IfErr, Some, Ok, Err, MatchResult, reverse, refl, subst}
+use Rattle.std.specs.Prelude.{IfOk}
+use Rattle.std.proofs.lemmas.Result.{IfOk-weaker}
+use Rattle.geos_model.specs.File.{stands}
 use Rattle.geos_model.specs.Machine.{Step}
 use Rattle.geos_model.specs.Reply.{Refused}
 use Rattle.geos_model.specs.declared.command.Command.TheVariants as commands
-use Rattle.vm_file.specs.Disk.{Disk, Commits}
+use Rattle.geos_model.specs.declared.fault.Fault.TheVariants.{File}
+use Rattle.vm_store.specs.Facts.{Raised}
+use Rattle.vm_file.specs.Disk.{Disk, Passes, Commits}
 use Rattle.undo_log.specs.Records.{SessionState, machine_of, has_failed}
+use Rattle.vm_file.proofs.Content.{settled_content}
+use Rattle.undo_log.proofs.Beginnings.{comes_back}
 use Rattle.undo_log.proofs.SavingAs.{refused}
 use Rattle.undo_log.proofs.session.Session.save_as.Goals as goal
 
@@ -23,3 +30,20 @@ returns-clause-commits g c =
     subst (λ (s : SessionState g.row.S.Denot). MatchResult c.save_as.result
     (λ store. (disk : Disk g.row.S.Denot) × (disk.store ≡ store) × Commits facts (s.disk.saved, s.disk.saved) s.disk disk (Ok tt))
     (λ refused. Commits facts (s.disk.saved, s.disk.saved) s.disk c.save_as.new.file.disk (Err refused.fault))) c.self.view_is c.save_as.ensures.commits
+
+pub returns-clause-passes : goal.returns-clause-passes
+returns-clause-passes g c =
+    let facts = g.S.Store.facts in
+    let new : Disk g.row.S.Denot = c.save_as.new.file.disk in
+    subst (λ (s : SessionState g.row.S.Denot). IfErr c.save_as.result (λ refused. (refused.fault ≡ File → Raised (facts s.disk.store) (facts new.store) → ⊥) → Passes facts s.disk new)) c.self.view_is c.save_as.ensures.passes
+
+pub returns-clause-content : goal.returns-clause-content
+returns-clause-content g c =
+    IfOk-weaker c.save_as.result _ _ (λ _ new. settled_content g.S.Store.facts g.met.S.Store.timely c.save_as.new.file.disk c.save_as.ensures.settled (λ _. new.0)) c.save_as.ensures.new_file
+
+pub returns-clause-reverted : goal.returns-clause-reverted
+returns-clause-reverted g c =
+    let facts = g.S.Store.facts in
+    subst (λ (s : SessionState g.row.S.Denot). IfOk c.save_as.result (λ store. IsTrue (facts s.disk.store).honest → stands (facts store).content ≡ Ok (s.disk.saved, s.disk.saved))) c.self.view_is
+    (let old : Disk g.row.S.Denot = c.self.inside.file.disk in
+    comes_back facts g.met.S.Store.timely (old.saved, old.saved) old _ c.save_as.result c.save_as.ensures.commits)

@@ -1,0 +1,51 @@
+-- The machine that a session begins with, and what a store stands for that comes back.
+use Rattle.std.proofs.Common.{◌≡◌, ℕ, Bool, IsTrue, List, [], Some, sym, ap, subst, ◌∙◌}
+use Rattle.std.specs.Prelude.{Result, Ok, Err, IfOk, MatchResult}
+use Rattle.std.specs.FinMap.{empty}
+use Rattle.geos_model.specs.Document.{Document}
+use Rattle.geos_model.specs.File.{stands}
+use Rattle.geos_model.specs.Machine.{opened_machine}
+use Rattle.vm_store.specs.Facts.{StoreFacts, IsTimely}
+use Rattle.vm_blocks.specs.declared.change.Direction.TheVariants.{Backwards, Forwards}
+use Rattle.vm_file.specs.Documents.{Documents, sequence_in}
+use Rattle.vm_file.specs.Disk.{Disk, FileState, Drifts, Passes, Commits}
+use Rattle.vm_file.proofs.Content.{committed_content}
+use Rattle.undo_log.specs.Records.{SessionState, steps, machine_of}
+
+-- with nothing to undo or to redo
+pub begun : {S : Type 0} (s : SessionState S) (updated saved : Document) (sequence frames : ℕ) (target : Bool) → s.document ≡ updated → s.disk.updated ≡ updated → s.disk.saved ≡ saved → s.disk.sequence ≡ sequence
+    → s.undo ≡ [] → s.redo ≡ [] → s.frames ≡ frames → machine_of target s ≡ opened_machine updated saved sequence frames target
+begun s updated saved sequence frames target document is_updated is_saved number undo redo allowed = λ i. record {
+  document = document i;
+  past = steps Backwards (undo i) (document i);
+  future = steps Forwards (redo i) (document i);
+  updated = is_updated i;
+  saved = is_saved i;
+  locks = empty;
+  frames = allowed i;
+  target = target;
+  sequence = number i;
+}
+
+-- what a file that was opened stands for, and its number, are those of the session
+pub opened : {S : Type 0} (facts : S → StoreFacts) (file : FileState S) (content : List ℕ) (frames : ℕ) (s : SessionState S) → IsTrue (facts file.disk.store).honest → stands content ≡ Ok (file.disk.updated, file.disk.saved) → file.document ≡ file.disk.updated
+    → sequence_in content ≡ Some file.disk.sequence → Passes facts file.disk s.disk → Drifts (facts file.disk.store).honest file.document s.document → (s.undo ≡ []) × (s.redo ≡ []) × (s.frames ≡ frames)
+    → (updated saved : Document) (sequence : ℕ) (target : Bool) → stands content ≡ Ok (updated, saved) → sequence_in content ≡ Some sequence → machine_of target s ≡ opened_machine updated saved sequence frames target
+opened facts file content frames s so stand document number passes drifts new updated saved sequence target is is_number =
+    let same : (file.disk.updated, file.disk.saved) ≡ (updated, saved) = cc (stand, is) in
+    let numbers : file.disk.sequence ≡ sequence = cc (number, is_number) in
+    let first : file.disk.updated ≡ updated = ap (λ (d : Documents). d.0) same in
+    begun s updated saved sequence frames target (drifts.same so ∙ document ∙ first) (passes.updated so ∙ first) (passes.saved so ∙ ap (λ (d : Documents). d.1) same) (passes.sequence ∙ numbers) new.0 new.1 new.2
+
+-- three facts of one answer
+pub if_ok_all : {X E : Type 0} (r : Result X E) (P Q R T : X → Type 0) → ((x : X) → P x → Q x → R x → T x) → IfOk r P → IfOk r Q → IfOk r R → IfOk r T
+if_ok_all (Ok x) P Q R T f p q s = f x p q s
+if_ok_all (Err e) P Q R T f p q s = tt
+
+-- the store of a file whose pair was committed
+pub comes_back : {S E : Type 0} (facts : S → StoreFacts) (timely : (store : S) → IsTrue (facts store).honest → IsTimely (facts store)) (pair : Documents) (old : Disk S) (P : E → Type 0) (r : Result S E)
+    → MatchResult r (λ store. (disk : Disk S) × (disk.store ≡ store) × Commits facts pair old disk (Ok tt)) P → IfOk r (λ store. IsTrue (facts old.store).honest → stands (facts store).content ≡ Ok pair)
+comes_back facts timely pair old P (Ok store) (disk, is, commits) = λ so.
+    let now : IsTrue (facts disk.store).honest = subst IsTrue (sym commits.honest) so in
+    subst (λ s. stands (facts s).content ≡ Ok pair) is (committed_content facts timely pair old disk (Ok tt) commits now ∙ ap (λ d. Ok d) (commits.ok so).0)
+comes_back facts timely pair old P (Err e) given = tt
