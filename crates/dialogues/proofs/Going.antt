@@ -1,25 +1,27 @@
 -- A run that writes the replies.
-use Rattle.std.proofs.Common.{◌≡◌, ◌++◌, ℕ, List, [], false, Some, refl, ap, sym, subst, ◌∙◌, append-nil}
+use Rattle.std.proofs.Common.{◌≡◌, ◌++◌, ℕ, List, [], false, None, Some, refl, ap, sym, subst, ◌∙◌, append-nil}
 use Rattle.geos_model.specs.Document.{empty_document}
 use Rattle.geos_model.specs.Machine.{Machine, empty_machine}
 use Rattle.geos_model.specs.Script.{lines, requests, Answered}
 use Rattle.vm_store.specs.Facts.{StoreFacts}
 use Rattle.undo_log.specs.Records.{SessionState, machine_of}
-use Rattle.geos_shell.specs.Runs.{State, AnswersAll, AnswersOf, state_of}
+use Rattle.geos_shell.specs.Holdings.{Holding, held, machine}
+use Rattle.geos_shell.specs.Runs.{AnswersAll, AnswersOf}
 use Rattle.dialogues.specs.Dialogues.{Goes}
 
-module _ (old new : State) (script left replies before out : List ℕ) (none : before ≡ []) (all : AnswersAll old (Some script) (Some left) (Some before) (Some out) new) (same : out ≡ replies) where
+module _ {S : Type 0} (facts : S → StoreFacts) (old new : Holding S) (script left replies before out : List ℕ) (none : before ≡ [])
+    (all : AnswersAll facts old (Some script) (Some left) (Some before) (Some out) new) (same : out ≡ replies) where
   written_is : all.written ≡ replies
   written_is = sym (all.appended ∙ ap (λ (l : List ℕ). l ++ all.written) none) ∙ same
 
   script_is : all.script ≡ script
   script_is = sym (all.consumed ∙ ap (λ (l : List ℕ). all.script ++ l) all.ended ∙ append-nil all.script)
 
-  pub goes : (dialogue : List ℕ × List ℕ) → dialogue ≡ (script, replies) → AnswersOf old (requests (lines dialogue.0)) dialogue.1 new
+  pub goes : (dialogue : List ℕ × List ℕ) → dialogue ≡ (script, replies) → AnswersOf facts old (requests (lines dialogue.0)) dialogue.1 new
   goes dialogue is =
-      subst (λ (d : List ℕ × List ℕ). AnswersOf old (requests (lines d.0)) d.1 new) (sym is)
-      (subst (λ (read : List ℕ). AnswersOf old (requests (lines read)) replies new) script_is
-      (subst (λ (written : List ℕ). AnswersOf old (requests (lines all.script)) written new) written_is all.answered))
+      subst (λ (d : List ℕ × List ℕ). AnswersOf facts old (requests (lines d.0)) d.1 new) (sym is)
+      (subst (λ (read : List ℕ). AnswersOf facts old (requests (lines read)) replies new) script_is
+      (subst (λ (written : List ℕ). AnswersOf facts old (requests (lines all.script)) written new) written_is all.answered))
 
 -- A session on a new document answers so.
 
@@ -33,9 +35,9 @@ New session = (session.undo ≡ []) × (session.redo ≡ []) × (session.frames 
 machine_is : {S : Type 0} (session : SessionState S) → Made session → New session → machine_of false session ≡ empty_machine 8 false
 machine_is session made new = rw (made.0, made.1, made.2, made.4, new.0, new.1, new.2) refl
 
-pub begins : {S : Type 0} (facts : S → StoreFacts) (session : SessionState S) (script replies : List ℕ) (after : State) → Made session → New session → AnswersOf (state_of facts false session) (requests (lines script)) replies after → Goes script replies
+pub begins : {S : Type 0} (facts : S → StoreFacts) (session : SessionState S) (script replies : List ℕ) (after : Holding S) → Made session → New session → AnswersOf facts (held session None None) (requests (lines script)) replies after → Goes script replies
 begins facts session script replies after made new answers = record {
-  after = after.machine;
+  after = machine after;
   failed = answers.failed;
-  answered = subst (λ (m : Machine). Answered m (requests (lines script)) replies answers.failed after.machine) (machine_is session made new) answers.answered;
+  answered = subst (λ (m : Machine). Answered m (requests (lines script)) replies answers.failed (machine after)) (machine_is session made new) answers.answered;
 }

@@ -1,7 +1,8 @@
 //! A dialogue, and whether a run goes as it is written.
-ghost use Rattle.std.specs.Prelude.{◌≡◌, ◌++◌, ◌∷◌, [], Bool, is_some, IsTrue, IfOk, OnOk};
+ghost use Rattle.std.specs.Prelude.{◌≡◌, ◌++◌, ◌∷◌, [], None, Option, IsTrue, IfOk, OnOk};
 ghost use Rattle.geos_model.specs.Script.{line_feed, lines, requests};
-ghost use Rattle.geos_shell.specs.Runs.{AreHonest, AnswersOf, state_of};
+ghost use Rattle.geos_shell.specs.Holdings.{AreHonest, held};
+ghost use Rattle.geos_shell.specs.Runs.{AnswersOf};
 ghost use Rattle.dialogues.specs.Dialogues.{Goes};
 
 use crate::told::push_told;
@@ -142,9 +143,9 @@ impl Dialogue {
         session: Session<S>,
         target: Option<S>,
     ) -> Result<Session<S>, Departure>
-        ensures answers { IfOk result (λ after. AreHonest S.facts session target → (left : Bool)
-            × AnswersOf (state_of S.facts (is_some target) session) (requests (lines self.now.0)) self.now.1 (state_of S.facts left after)) }
-        ensures honest { IfOk result (λ after. AreHonest S.facts session target → IsTrue (S.facts after.disk.store).honest) }
+        ensures answers { IfOk result (λ after. AreHonest S.facts (held session target None) → (left former : Option S)
+            × AnswersOf S.facts (held session target None) (requests (lines self.now.0)) self.now.1 (held after left former)) }
+        ensures honest { IfOk result (λ after. AreHonest S.facts (held session target None) → IsTrue (S.facts after.disk.store).honest) }
     {
         let mut written = Vec::new(self.alloc);
         let session = run(

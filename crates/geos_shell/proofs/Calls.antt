@@ -10,3 +10,8 @@ on_ok_if (Err x) new good bad e = tt
 pub on_err_always : {T E P : Type 0} (r : Result T E) → P → OnErr r P
 on_err_always (Ok x) h = tt
 on_err_always (Err x) h = h
+
+-- what holds where a call failed follows from two facts of that
+pub on_err_both : {T E P Q R : Type 0} (r : Result T E) → (P → Q → R) → OnErr r P → OnErr r Q → OnErr r R
+on_err_both (Ok x) f p q = tt
+on_err_both (Err x) f p q = f p q

@@ -1,21 +1,25 @@
 -- Runs compose.
-use Rattle.std.proofs.Common.{◌≡◌, ◌⊎◌, ℕ, ◌+◌, List, [], ◌∷◌, ◌++◌, subst, refl, sym, ◌∙◌, cond, arith, inl, inr}
-use Rattle.std.specs.Prelude.{map}
+use Rattle.std.proofs.Common.{◌≡◌, ◌⊎◌, ℕ, ◌+◌, List, [], ◌∷◌, ◌++◌, Bool, true, false, None, subst, refl, sym, ◌∙◌, cond, arith, inl, inr, append-nil}
+use Rattle.std.specs.Prelude.{filter, map}
 use Rattle.std.proofs.lemmas.List.{map-append}
 use Rattle.std.proofs.lemmas.List.Elements.{filter-append}
 use Rattle.std.proofs.lemmas.List.Sums.{sum_by-append}
 use Rattle.std.proofs.lemmas.Grind.{flat_map-append}
 use Rattle.geos_model.specs.Machine.{Machine, Request, Call, Run}
+use Rattle.geos_model.specs.Reply.{Reply}
 use Rattle.geos_model.specs.Script.{Answered, gets_reply, reply_line}
+use Rattle.vm_store.specs.Facts.{StoreFacts}
 use Rattle.vm_file.specs.Documents.{Documents}
-use Rattle.geos_shell.specs.Runs.{State, CountsFailures, AddsNoPair, AfterFailures, AnswersOf}
+use Rattle.geos_shell.specs.Holdings.{AreHonest, Holding, Serves, Serving, has_failed_in, machine}
+use Rattle.geos_shell.specs.Runs.{AddsNoPair, AfterFailures, AnswersOf, CountsFailures}
+use Rattle.geos_shell.proofs.Failures.{after_serves}
 
-pub Run-append : (old mid new : Machine) (xs ys : List Call) → Run old xs mid → Run mid ys new → Run old (xs ++ ys) new
+Run-append : (old mid new : Machine) (xs ys : List Call) → Run old xs mid → Run mid ys new → Run old (xs ++ ys) new
 Run-append old mid new [] ys p q = subst (λ m. Run m ys new) p q
 Run-append old mid new (x ∷ xs) ys p q = (p.0, p.1, Run-append p.0 mid new xs ys p.2 q)
 
 -- the replies to more requests come behind the replies to the first ones
-pub Answered-append : {old mid new : Machine} {xs ys : List Request} {ws vs : List ℕ} {m n : ℕ} → Answered old xs ws m mid → Answered mid ys vs n new → Answered old (xs ++ ys) (ws ++ vs) (m + n) new
+abbrev Answered-append : {old mid new : Machine} {xs ys : List Request} {ws vs : List ℕ} {m n : ℕ} → Answered old xs ws m mid → Answered mid ys vs n new → Answered old (xs ++ ys) (ws ++ vs) (m + n) new
 Answered-append {old} {mid} {new} {xs} {ys} {ws} {vs} {m} {n} p q =
     record {
       calls = p.calls ++ q.calls;
@@ -25,37 +29,74 @@ Answered-append {old} {mid} {new} {xs} {ys} {ws} {vs} {m} {n} p q =
       fails = sum_by-append (λ (c : Call). cond c.failed 1 0) p.calls q.calls ∙ rw (p.fails, q.fails) refl;
     }
 
-Counts-append : (old mid new : State) (m n : ℕ) → CountsFailures old m mid → CountsFailures mid n new → CountsFailures old (m + n) new
-Counts-append old mid new m n p q none =
-    let first = p none in
-    let second = q first.0 in
-    (second.0, omega (arith, first.1, second.1))
-
 same_or_none : {old mid new : List Documents} → (mid ≡ old) ⊎ (mid ≡ []) → (new ≡ mid) ⊎ (new ≡ []) → (new ≡ old) ⊎ (new ≡ [])
 same_or_none first (inr gone) = inr gone
 same_or_none (inl before) (inl same) = inl (same ∙ before)
 same_or_none (inr gone) (inl same) = inr (same ∙ gone)
 
-Adds-append : (old mid new : State) (m n : ℕ) → AddsNoPair old m mid → AddsNoPair mid n new → AddsNoPair old (m + n) new
-Adds-append old mid new m n p q none = same_or_none (p (omega (arith, none))) (q (omega (arith, none)))
+-- in so many of one call a store failed
+once : (failed : Bool) → 0 + cond failed 1 0 ≡ cond failed 1 0
+once true = refl
+once false = refl
 
--- where nothing is called
-pub AfterFailures-none : (s : State) → AfterFailures s 0 s
-AfterFailures-none s = record { counted = λ none. (none, omega arith); adds = λ _. inl refl }
+module _ {S : Type 0} (facts : S → StoreFacts) where
+  Serving-append : (old mid new : Holding S) (xs ys : List Call) → Serving facts old xs mid → Serving facts mid ys new → Serving facts old (xs ++ ys) new
+  Serving-append old mid new [] ys p q = subst (λ h. Serving facts h ys new) p q
+  Serving-append old mid new (x ∷ xs) ys p q = (p.0, p.1, p.2, Serving-append p.0 mid new xs ys p.3 q)
 
-pub AfterFailures-append : (old mid new : State) (m n : ℕ) → AfterFailures old m mid → AfterFailures mid n new → AfterFailures old (m + n) new
-AfterFailures-append old mid new m n p q =
-    record { counted = Counts-append old mid new m n p.counted q.counted; adds = Adds-append old mid new m n p.adds q.adds }
+  Counts-append : (old mid new : Holding S) (m n : ℕ) → CountsFailures facts old m mid → CountsFailures facts mid n new → CountsFailures facts old (m + n) new
+  Counts-append old mid new m n p q none =
+      let first = p none in
+      let second = q first.0 in
+      (second.0, omega (arith, first.1, second.1))
 
--- where nothing is asked
-pub AnswersOf-none : (s : State) → AnswersOf s [] [] s
-AnswersOf-none s =
-    record { failed = 0; answered = record { calls = []; asks = refl; run = refl; text = refl; fails = refl }; stores = AfterFailures-none s }
+  Adds-append : (old mid new : Holding S) (m n : ℕ) → AddsNoPair old m mid → AddsNoPair mid n new → AddsNoPair old (m + n) new
+  Adds-append old mid new m n p q none = same_or_none (p (omega (arith, none))) (q (omega (arith, none)))
 
-pub AnswersOf-append : {old mid new : State} {xs ys : List Request} {ws vs : List ℕ} → AnswersOf old xs ws mid → AnswersOf mid ys vs new → AnswersOf old (xs ++ ys) (ws ++ vs) new
-AnswersOf-append {old} {mid} {new} p q =
+  -- where nothing is called
+  AfterFailures-none : (h : Holding S) → AfterFailures facts h 0 h
+  AfterFailures-none h = record { counted = λ none. (none, omega arith); adds = λ _. inl refl }
+
+  AfterFailures-append : (old mid new : Holding S) (m n : ℕ) → AfterFailures facts old m mid → AfterFailures facts mid n new → AfterFailures facts old (m + n) new
+  AfterFailures-append old mid new m n p q =
+      record { counted = Counts-append old mid new m n p.counted q.counted; adds = Adds-append old mid new m n p.adds q.adds }
+
+  -- where nothing that gets a reply is asked
+  pub AnswersOf-unasked : (h : Holding S) (asked : List Request) → filter gets_reply asked ≡ [] → AreHonest facts h → AnswersOf facts h asked [] h
+  AnswersOf-unasked h asked none honest =
+      record { honest = honest; failed = 0; answered = record { calls = []; asks = sym none; run = refl; text = refl; fails = refl }; serving = refl; stores = AfterFailures-none h }
+
+  -- where nothing is asked
+  pub AnswersOf-none : (h : Holding S) → AreHonest facts h → AnswersOf facts h [] [] h
+  AnswersOf-none h honest = AnswersOf-unasked h [] refl honest
+
+  -- one request that is served
+  pub AnswersOf-one : (old new : Holding S) (request : Request) (reply : Reply) → gets_reply request ≡ true → AreHonest facts old → Serves facts old request reply new
+      → AnswersOf facts old (request ∷ []) (reply_line reply) new
+  AnswersOf-one old new request reply asks honest serves =
+      let failed = has_failed_in facts old new in
+      let one : filter gets_reply (request ∷ []) ≡ request ∷ [] = rw asks refl in
+      record {
+        honest = serves.honest;
+        failed = cond failed 1 0;
+        answered = record {
+          calls = record { request = request; reply = reply; failed = failed } ∷ [];
+          asks = sym one;
+          run = (machine new, serves.step, refl);
+          text = sym (append-nil (reply_line reply));
+          fails = once failed;
+        };
+        serving = (new, refl, serves, refl);
+        stores = after_serves facts old new request reply honest serves;
+      }
+
+pub AnswersOf-append : {S : Type 0} {facts : S → StoreFacts} {old mid new : Holding S} {xs ys : List Request} {ws vs : List ℕ}
+    → AnswersOf facts old xs ws mid → AnswersOf facts mid ys vs new → AnswersOf facts old (xs ++ ys) (ws ++ vs) new
+AnswersOf-append {S} {facts} {old} {mid} {new} p q =
     record {
+      honest = q.honest;
       failed = p.failed + q.failed;
       answered = Answered-append p.answered q.answered;
-      stores = AfterFailures-append old mid new p.failed q.failed p.stores q.stores;
+      serving = Serving-append facts old mid new p.answered.calls q.answered.calls p.serving q.serving;
+      stores = AfterFailures-append facts old mid new p.failed q.failed p.stores q.stores;
     }

@@ -1,8 +1,11 @@
+pub mod Begun
 pub mod Calls
 pub mod Composed
 pub mod Counted
 pub mod Extending
 pub mod Failing
+pub mod Failures
+pub mod Lasting
 pub mod Lines
 pub mod LookUps
 pub mod Matched

@@ -103,9 +103,13 @@ StandsFor-trans begun kept part new p q =
       );
     }
 
--- bytes, cut at a line feed
-pub cut_at_feed : (bytes : List ℕ) (end : ℕ) → end < length bytes → slice_index bytes end == 10 ≡ true → bytes ≡ (take end bytes ++ 10 ∷ []) ++ drop (end + 1) bytes
-cut_at_feed bytes end within is =
+-- bytes, cut before a line feed
+pub rest_at_feed : (bytes : List ℕ) (end : ℕ) → end < length bytes → slice_index bytes end == 10 ≡ true → bytes ≡ take end bytes ++ 10 ∷ drop (end + 1) bytes
+rest_at_feed bytes end within is =
     let feed : slice_index bytes end ≡ 10 = eqb-true _ _ is in
     let from : drop end bytes ≡ 10 ∷ drop (end + 1) bytes = drop_more bytes end 0 within ∙ ap (λ x. x ∷ drop (end + 1) bytes) feed in
-    sym (take-append-drop end bytes) ∙ ap (λ l. take end bytes ++ l) from ∙ sym (append_assoc (take end bytes) (10 ∷ []) (drop (end + 1) bytes))
+    sym (take-append-drop end bytes) ∙ ap (λ l. take end bytes ++ l) from
+
+-- bytes, cut behind a line feed
+pub cut_at_feed : (bytes : List ℕ) (end : ℕ) → end < length bytes → slice_index bytes end == 10 ≡ true → bytes ≡ (take end bytes ++ 10 ∷ []) ++ drop (end + 1) bytes
+cut_at_feed bytes end within is = rest_at_feed bytes end within is ∙ sym (append_assoc (take end bytes) (10 ∷ []) (drop (end + 1) bytes))

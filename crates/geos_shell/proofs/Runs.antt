@@ -1,45 +1,46 @@
 -- What a run has read and written.
-use Rattle.std.proofs.Common.{◌⊎◌, inl, inr, ◌≡◌, ℕ, ◌<◌, List, [], ◌++◌, length, length-append, Option, is_some, arith}
+use Rattle.std.proofs.Common.{◌⊎◌, inl, inr, ◌≡◌, ℕ, ◌<◌, List, [], ◌++◌, length, length-append, Option, Result, Ok, Err, OnOk, OnErr, arith, refl, sym, ap, subst, ◌∙◌}
 use Rattle.std.proofs.lemmas.List.{append-nil}
 use Rattle.std.proofs.KnownBytes.{Appends-nil, Appends-trans, Consumes-nil, Consumes-trans, Consumes-kept}
 use Rattle.std.specs.Io.KnownBytes.{Appends, Consumes, Keeps, IsAtEnd}
+use Rattle.geos_model.specs.Script.{lines}
 use Rattle.vm_store.specs.Facts.{StoreFacts}
-use Rattle.undo_log.specs.Records.{SessionState}
 use Rattle.geos_shell.specs.declared.answering.Answering.{Answering}
-use Rattle.geos_shell.specs.Progress.{ProgressOf, AnswersPiece, StopsPiece, AnswersRest, StopsRest}
-use Rattle.geos_shell.specs.Runs.{State, AreHonest, state_of, AnswersAll, AnswersFinished, AnswersSome, EndsBy}
+use Rattle.geos_shell.specs.Holdings.{AreHonest, Holding}
+use Rattle.geos_shell.specs.Progress.{AnswersPiece, AnswersRest, Ends, GoesOver, Moment, ProgressOf, StopsAtEnd, StopsIn, StopsPiece, StopsRest, Unsent, moment}
+use Rattle.geos_shell.specs.Runs.{AnswersAll, AnswersFinished, AnswersSome, AnswersUnsent, EndsBy, Stopped}
 use Rattle.geos_shell.specs.declared.runner.RunFault.{RunFault}
 use Rattle.geos_shell.specs.declared.runner.RunFault.TheVariants as faults
-use Rattle.geos_shell.proofs.Steps.{Progress-none, Progress-some, Answered-finished, Stopped-after}
+use Rattle.geos_shell.proofs.Steps.{Progress-none, Answered-finished, Stopped-now}
 
--- the bytes that were read, the replies that were written, and the state that they led to
-pub record Ran {S : Type 0} (facts : S → StoreFacts) (start : State) (from to before after : Option (List ℕ)) (state : Answering S) : Type 0 where
+-- the bytes that were read, the replies that were written, and what they led to
+pub record Ran {S : Type 0} (facts : S → StoreFacts) (start : Holding S) (from to before after : Option (List ℕ)) (now : Moment S) : Type 0 where
   pub read : List ℕ
   pub consumed : Consumes from to read
   pub written : List ℕ
   pub appended : Appends before after written
-  pub progress : ProgressOf facts start read written state
-  pub none_left : state.replies.items ≡ []
+  pub progress : ProgressOf facts start read written now
+  pub none_left : now.kept.replies.items ≡ []
 
 -- nothing was read
-pub Ran-none : {S : Type 0} (facts : S → StoreFacts) (reader writer : Option (List ℕ)) (state : Answering S) → AreHonest facts state.session state.target
-    → state.begun.items ≡ [] → state.replies.items ≡ [] → Ran facts (state_of facts (is_some state.target) state.session) reader reader writer writer state
-Ran-none facts reader writer state honest begun replies =
+pub Ran-none : {S : Type 0} (facts : S → StoreFacts) (reader writer : Option (List ℕ)) (h : Holding S) (kept : Answering) → AreHonest facts h
+    → kept.begun.items ≡ [] → kept.replies.items ≡ [] → Ran facts h reader reader writer writer (moment h kept)
+Ran-none facts reader writer h kept honest begun replies =
     record {
       read = [];
       consumed = Consumes-nil reader;
       written = [];
       appended = Appends-nil writer;
-      progress = (honest, rw (begun, replies) (Progress-none (state_of facts (is_some state.target) state.session)));
+      progress = rw (begun, replies) (Progress-none facts h honest);
       none_left = replies;
     }
 
-module _ {S : Type 0} {facts : S → StoreFacts} {start : State} {from mid before out : Option (List ℕ)} {state : Answering S} (ran : Ran facts start from mid before out state) where
-  same_replies : ran.written ++ state.replies.items ≡ ran.written
+module _ {S : Type 0} {facts : S → StoreFacts} {start : Holding S} {from mid before out : Option (List ℕ)} {now : Moment S} (ran : Ran facts start from mid before out now) where
+  same_replies : ran.written ++ now.kept.replies.items ≡ ran.written
   same_replies = rw ran.none_left (append-nil ran.written)
 
   -- a read gave nothing
-  pub Ran-kept : (to : Option (List ℕ)) → Keeps mid to → Ran facts start from to before out state
+  pub Ran-kept : (to : Option (List ℕ)) → Keeps mid to → Ran facts start from to before out now
   Ran-kept to kept =
       record {
         read = ran.read;
@@ -51,7 +52,7 @@ module _ {S : Type 0} {facts : S → StoreFacts} {start : State} {from mid befor
       }
 
   -- a piece was read and answered
-  pub Ran-piece : (to after : Option (List ℕ)) (bytes : List ℕ) (new : Answering S) → Consumes mid to bytes → AnswersPiece facts state bytes new out after → Ran facts start from to before after new
+  pub Ran-piece : (to after : Option (List ℕ)) (bytes : List ℕ) (new : Moment S) → Consumes mid to bytes → AnswersPiece facts now bytes new out after → Ran facts start from to before after new
   Ran-piece to after bytes new consumed answers =
       record {
         read = ran.read ++ bytes;
@@ -63,45 +64,53 @@ module _ {S : Type 0} {facts : S → StoreFacts} {start : State} {from mid befor
       }
 
   -- a read failed
-  pub AnswersFinished-now : (to : Option (List ℕ)) → Keeps mid to → AnswersFinished start from to before out
+  pub AnswersFinished-now : (to : Option (List ℕ)) → Keeps mid to → AnswersFinished facts start from to before out now.holding
   AnswersFinished-now to kept =
       record {
         read = ran.read;
         consumed = Consumes-kept from mid to ran.read ran.consumed kept;
         written = ran.written;
-        new = state_of facts (is_some state.target) state.session;
-        answered = rw (same_replies) at (Answered-finished ran.progress.1);
+        answered = rw (same_replies) at (Answered-finished ran.progress);
         appended = ran.appended;
       }
 
   -- the run stops in a piece that was read
-  pub AnswersSome-piece : (to after : Option (List ℕ)) (bytes : List ℕ) → 0 < length bytes → Consumes mid to bytes → StopsPiece facts state bytes out after → AnswersSome start from to before after
-  AnswersSome-piece to after bytes some consumed stops =
+  pub AnswersSome-piece : (to after : Option (List ℕ)) (bytes : List ℕ) (new : Holding S) → 0 < length bytes → Consumes mid to bytes → StopsPiece facts now bytes new out after
+      → AnswersSome facts start from to before after new
+  AnswersSome-piece to after bytes new some consumed stops =
+      let at = stops.stops start ran.read ran.written ran.progress in
       record {
         read = ran.read ++ bytes;
         some = omega (arith, length-append ran.read bytes);
         consumed = Consumes-trans from mid to ran.read bytes ran.consumed consumed;
         written = ran.written ++ stops.written;
-        failed = (stops.stops start ran.read ran.written ran.progress).0;
-        answered = (stops.stops start ran.read ran.written ran.progress).1;
+        stopped = at.0;
+        finished = at.1;
         appended = Appends-trans before out after ran.written stops.written ran.appended stops.appended;
       }
 
   -- the run stops at the last line
-  pub AnswersSome-rest : (to after : Option (List ℕ)) → Consumes mid to [] → StopsRest state out after → AnswersSome start from to before after
-  AnswersSome-rest to after none stops =
+  pub AnswersSome-rest : (to after : Option (List ℕ)) (new : Holding S) → Consumes mid to [] → StopsRest facts now new out after → AnswersSome facts start from to before after new
+  AnswersSome-rest to after new none stops =
+      let (some, at) = stops.stops start ran.read ran.written ran.progress in
       record {
         read = ran.read;
-        some = Progress-some ran.progress.1 stops.begun;
+        some = some;
         consumed = rw (append-nil) at (Consumes-trans from mid to ran.read [] ran.consumed none);
-        written = ran.written ++ state.replies.items;
-        failed = (Stopped-after ran.progress.1 []).0;
-        answered = rw (append-nil) at (Stopped-after ran.progress.1 []).1;
-        appended = Appends-trans before out after ran.written state.replies.items ran.appended stops.appended;
+        written = ran.written ++ stops.written;
+        stopped = at.0;
+        finished = at.1;
+        appended = Appends-trans before out after ran.written stops.written ran.appended stops.appended;
       }
 
+  -- the writer fails
+  pub AnswersUnsent-behind : (to : Option (List ℕ)) (bytes : List ℕ) (new : Holding S) → Consumes mid to bytes → Unsent facts now bytes new → AnswersUnsent facts start from to new
+  AnswersUnsent-behind to bytes new consumed unsent =
+      let at = unsent start ran.read ran.written ran.progress in
+      record { read = ran.read ++ bytes; consumed = Consumes-trans from mid to ran.read bytes ran.consumed consumed; replies = at.0; stopped = at.1 }
+
   -- the run ends with the script
-  pub AnswersAll-end : (to after : Option (List ℕ)) (new : SessionState S) → Consumes mid to [] → IsAtEnd to → (rest : AnswersRest facts state new out after) → AnswersAll start from to before after (state_of facts rest.left new)
+  pub AnswersAll-end : (to after : Option (List ℕ)) (new : Holding S) → Consumes mid to [] → IsAtEnd to → AnswersRest facts now new out after → AnswersAll facts start from to before after new
   AnswersAll-end to after new none end rest =
       record {
         script = ran.read;
@@ -112,8 +121,33 @@ module _ {S : Type 0} {facts : S → StoreFacts} {start : State} {from mid befor
         appended = Appends-trans before out after ran.written rest.written ran.appended rest.appended;
       }
 
--- how the run ends where a piece or the last line stopped it
-pub EndsBy-or : {P : Type 0} (fault : RunFault) (old : State) (from to before after : Option (List ℕ)) → (P → AnswersSome old from to before after)
-    → (fault ≡ faults.Write) ⊎ ((fault ≡ faults.Memory) × P) → EndsBy fault old from to before after
-EndsBy-or fault old from to before after stopped (inl failed) = rw failed tt
-EndsBy-or fault old from to before after stopped (inr stops) = rw (stops.0) (stopped stops.1)
+-- how the run ends where the writer failed, or a piece or the last line stopped it
+pub EndsBy-or : {S P Q : Type 0} (fault : RunFault) (facts : S → StoreFacts) (old : Holding S) (from to before after : Option (List ℕ)) (new : Holding S)
+    → (P → AnswersUnsent facts old from to new) → (Q → AnswersSome facts old from to before after new)
+    → ((fault ≡ faults.Write) × P) ⊎ ((fault ≡ faults.Memory) × Q) → EndsBy fault facts old from to before after new
+EndsBy-or fault facts old from to before after new unsent stopped (inl failed) = rw (failed.0) (unsent failed.1)
+EndsBy-or fault facts old from to before after new unsent stopped (inr stops) = rw (stops.0) (stopped stops.1)
+
+module _ {S T E : Type 0} (facts : S → StoreFacts) (old new : Moment S) where
+  -- what was done in a piece whose replies weren't sent
+  pub Unsent-piece : (bytes : List ℕ) (fed : Result T E) → OnOk fed (GoesOver facts old bytes new) → OnErr fed (StopsIn facts old bytes new) → Unsent facts old bytes new.holding
+  Unsent-piece bytes (Ok x) goes stops start read sent p = (sent ++ new.kept.replies.items, Stopped-now (goes start read sent p))
+  Unsent-piece bytes (Err e) goes stops start read sent p = (sent ++ new.kept.replies.items, (stops start read sent p).0)
+
+  -- what was done at the end
+  pub Unsent-end : (ended : Result T E) → OnOk ended (Ends facts old new) → OnErr ended (StopsAtEnd facts old new) → Unsent facts old [] new.holding
+  Unsent-end (Ok x) ends stops start read sent p = (
+    sent ++ new.kept.replies.items,
+    record {
+      answered = lines read;
+      others = [];
+      parts = ap lines (append-nil read) ∙ sym (append-nil (lines read));
+      mid = new.holding;
+      run = ends start read sent p;
+      next = refl;
+    },
+  )
+  Unsent-end (Err e) ends stops start read sent p = (
+    sent ++ new.kept.replies.items,
+    subst (λ (r : List ℕ). Stopped facts start (lines r) (sent ++ new.kept.replies.items) new.holding) (sym (append-nil read)) (stops start read sent p).1.0,
+  )

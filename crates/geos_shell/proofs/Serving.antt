@@ -1,92 +1,116 @@
--- How a session and a target for a save-as serve a command.
-use Rattle.std.proofs.Common.{◌≡◌, ◌≢◌, ◌⊎◌, ℕ, ◌+◌, ◌≤◌, ◌||◌, min, Bool, true, false, cond, nat_le, [], Option, Some, is_some, IsTrue, Result, Ok, Err, IfErr, refl, sym, ap, subst, inl, inr, arith}
+-- How what is held serves a command.
+use Rattle.std.proofs.Common.{◌≡◌, ◌≢◌, ◌≤◌, ◌||◌, ◌&&◌, Bool, true, false, [], Option, Some, None, is_some, IsTrue, Result, Ok, Err, IfErr, refl, sym, ap, subst, inl, inr}
 use Rattle.std.specs.Prelude.{IsErrOf}
-use Rattle.std.proofs.lemmas.Bool.{leb-true, or_left}
-use Rattle.geos_model.specs.Reply.{Reply, Refused}
-use Rattle.geos_model.specs.Machine.{Step}
+use Rattle.std.specs.Option.{option_map_or}
+use Rattle.geos_model.specs.Reply.{Reply, Accepted, Refused, reply_by}
+use Rattle.geos_model.specs.Machine.{Machine, Request, Step, may_give_up}
 use Rattle.geos_model.specs.declared.fault.Fault.{Fault}
 use Rattle.geos_model.specs.declared.fault.Fault.TheVariants.{File}
 use Rattle.geos_model.specs.declared.command.Command.{Command}
 use Rattle.geos_model.specs.declared.command.Command.TheVariants as commands
-use Rattle.vm_store.specs.Facts.{StoreFacts, Raised, last_count, raised}
-use Rattle.vm_file.specs.Disk.{Disk, Commits, Passes}
+use Rattle.vm_store.specs.Facts.{StoreFacts, Raised}
+use Rattle.vm_file.specs.Disk.{Disk, Commits, IsSettled, Numbered, Passes}
 use Rattle.vm_file.specs.Documents.{Documents}
 use Rattle.undo_log.specs.Records.{SessionState, machine_of, has_failed}
-use Rattle.undo_log.proofs.CommitSteps.{failed_true}
-use Rattle.geos_shell.specs.Runs.{AreHonest}
-use Rattle.geos_shell.specs.Replies.{Serves}
+use Rattle.geos_shell.specs.Holdings.{AreHonest, CommitsAsTold, Holding, LeavesFiles, SaveAsAccepted, SaveAsRefused, Serves, Stays, TriesToCommit, failed_with, has_failed_in, held, result_told}
 
--- where a count rose, by one at least or to the last value
-counts_if : (rose : Bool) (m n : ℕ) → nat_le (raised m) n ≡ rose → m ≤ n → min (m + cond rose 1 0) last_count ≤ n
-counts_if false m n is least = omega (arith, least)
-counts_if true m n is least =
-    let high : raised m ≤ n = leb-true (raised m) n is in
-    omega (arith, high)
+-- Where more stores may have failed, no less may be given up.
 
-not_both : true ≡ false → ⊥
-not_both e = cc e
+may_more : (a b : Bool) (c : Command) (m : Machine) (fault : Fault) → may_give_up a c m fault ≡ true → may_give_up (a || b) c m fault ≡ true
+may_more true b c m File h = h
+may_more false b c m File h = cc
+may_more a b c m fault h = h
 
--- a call that failed is counted
-not_failed : (failed : Bool) → ◌≡◌ {A = ℕ} (cond failed 1 0) 0 → failed ≡ true → ⊥
-not_failed true none so = omega (arith, none)
-not_failed false none so = cc so
+asked_more : (a b : Bool) (request : Request) (m : Machine) (fault : Fault)
+    → option_map_or (λ c. may_give_up a c m fault) request false ≡ true → option_map_or (λ c. may_give_up (a || b) c m fault) request false ≡ true
+asked_more a b None m fault h = h
+asked_more a b (Some c) m fault h = may_more a b c m fault h
+
+step_more : (a b : Bool) (old new : Machine) (request : Request) (reply : Reply) → Step a old request reply new → Step (a || b) old request reply new
+step_more a b old new request reply (inl answers) = inl answers
+step_more a b old new request reply (inr gives) =
+    inr (record { fault = gives.fault; may = asked_more a b request old gives.fault gives.may; says = gives.says; stays = gives.stays })
+
+-- a step in which no store failed
+step_any : (failed : Bool) (old new : Machine) (request : Request) (reply : Reply) → Step false old request reply new → Step failed old request reply new
+step_any failed old new request reply step = step_more false failed old new request reply step
+
+-- a step in which the target stays
+step_kept : {S : Type 0} (facts : S → StoreFacts) (target : Option S) (failed : Bool) (old new : Machine) (request : Request) (reply : Reply)
+    → Step failed old request reply new → Step (failed_with failed facts target target) old request reply new
+step_kept facts None failed old new request reply step = step
+step_kept facts (Some t) failed old new request reply step = step_more failed (has_failed (facts t) (facts t)) old new request reply step
 
 module _ {S : Type 0} (facts : S → StoreFacts) where
-  -- which pairs of a failed commit may be read after a commit in which the store did not fail
-  adds_by_commit : (pair : Documents) (old new : Disk S) (result : Result (Unit {0}) Fault) → Commits facts pair old new result
-      → IfErr result (λ fault. fault ≢ File → Passes facts old new) → (IsErrOf result File → Raised (facts old.store) (facts new.store))
-      → IsTrue (facts old.store).honest → (Raised (facts old.store) (facts new.store) → ⊥) → (new.attempted ≡ old.attempted) ⊎ (new.attempted ≡ [])
-  adds_by_commit pair old new (Ok x) commits passes file so quiet = inr (commits.ok so).1
-  adds_by_commit pair old new (Err fault) commits passes file so quiet = inl ((passes (λ is. quiet (file (ap Err is)))).attempted so)
-
   -- a call that leaves the disk
-  pub serves_at_rest : (old new : SessionState S) (target : Option S) (c : Command) (reply : Reply) → new.disk ≡ old.disk
-      → Step false (machine_of (is_some target) old) (Some c) reply (machine_of (is_some target) new)
-      → AreHonest facts old target → Serves facts (old, target) c reply (new, target)
-  serves_at_rest old new target c reply rests step honest =
+  pub serves_at_rest : (old new : SessionState S) (target former : Option S) (request : Request) (reply : Reply) → new.disk ≡ old.disk
+      → Step false (machine_of (is_some target) old) request reply (machine_of (is_some target) new)
+      → (Stays (held old target former) (held new target former) → LeavesFiles facts (held old target former) request reply (held new target former))
+      → AreHonest facts (held old target former) → Serves facts (held old target former) request reply (held new target former)
+  serves_at_rest old new target former request reply rests step leaves honest =
       record {
         honest = (subst (λ d. IsTrue (facts d.store).honest) (sym rests) honest.0, honest.1);
-        failed = false;
-        step = step;
-        stores = record { counted = λ none. (none, omega (arith, ap (λ d. (facts d.store).failures) rests)); adds = λ _. inl (ap (λ d. d.attempted) rests) };
+        step = step_any (has_failed_in facts (held old target former) (held new target former)) _ _ request reply step;
+        files = leaves (record { disk = rests; target = refl; former = refl });
       }
 
+  -- how a commit tries a pair, in the words of its reply
+  tries : (pair : Documents) (old new : Disk S) (result : Result (Unit {0}) Fault) → Commits facts pair old new result
+      → IfErr result (λ fault. fault ≢ File → Passes facts old new) → (IsErrOf result File → Raised (facts old.store) (facts new.store))
+      → TriesToCommit facts pair old new (result_told (reply_by (λ _. Accepted) result))
+  tries pair old new (Ok x) commits passes file = record { commits = commits; passes = tt }
+  tries pair old new (Err fault) commits passes file =
+      record { commits = commits; passes = λ unless. passes (λ is. unless is (file (ap Err is))) }
+
   -- a commit
-  pub serves_commit : (old new : SessionState S) (target : Option S) (c : Command) (reply : Reply) (pair : Documents) (result : Result (Unit {0}) Fault)
+  pub serves_commit : (old new : SessionState S) (target former : Option S) (c : Command) (pair : Documents) (result : Result (Unit {0}) Fault)
       → Commits facts pair old.disk new.disk result → IfErr result (λ fault. fault ≢ File → Passes facts old.disk new.disk)
       → (IsErrOf result File → Raised (facts old.disk.store) (facts new.disk.store))
-      → (IsTrue (facts old.disk.store).honest → (left : Bool) → Step (has_failed (facts old.disk.store) (facts new.disk.store)) (machine_of left old) (Some c) reply (machine_of left new))
-      → AreHonest facts old target → Serves facts (old, target) c reply (new, target)
-  serves_commit old new target c reply pair result commits passes file step honest =
-      let before = facts old.disk.store in
-      let after = facts new.disk.store in
-      let failed = has_failed before after in
+      → (IsTrue (facts old.disk.store).honest → (left : Bool) → Step (has_failed (facts old.disk.store) (facts new.disk.store)) (machine_of left old) (Some c) (reply_by (λ _. Accepted) result) (machine_of left new))
+      → (CommitsAsTold facts pair (held old target former) (reply_by (λ _. Accepted) result) (held new target former)
+      → LeavesFiles facts (held old target former) (Some c) (reply_by (λ _. Accepted) result) (held new target former))
+      → AreHonest facts (held old target former) → Serves facts (held old target former) (Some c) (reply_by (λ _. Accepted) result) (held new target former)
+  serves_commit old new target former c pair result commits passes file step leaves honest =
       record {
         honest = (subst IsTrue (sym commits.honest) honest.0, honest.1);
-        failed = failed;
-        step = step honest.0 (is_some target);
-        stores = record {
-          counted = λ none. (none, counts_if failed before.failures after.failures refl commits.failures);
-          adds = λ none. adds_by_commit pair old.disk new.disk result commits passes file honest.0 (λ raised. not_failed failed none (failed_true before after raised));
-        };
+        step = step_kept facts target (has_failed (facts old.disk.store) (facts new.disk.store)) _ _ (Some c) _ (step honest.0 (is_some target));
+        files = leaves (record { tries = tries pair old.disk new.disk result commits passes file; target = refl; former = refl });
       }
 
   -- a save-as that was refused, after which the target is there again
-  pub serves_refused : (old new : SessionState S) (target back : S) (fault : Fault)
+  pub serves_refused : (old new : SessionState S) (target back : S) (former : Option S) (fault : Fault)
       → (IsTrue (facts old.disk.store).honest → Step (has_failed (facts old.disk.store) (facts new.disk.store) || has_failed (facts target) (facts back)) (machine_of true old) (Some commands.SaveAs) (Refused fault) (machine_of true new))
+      → Commits facts (old.disk.saved, old.disk.saved) old.disk new.disk (Err fault)
       → ((fault ≡ File → Raised (facts old.disk.store) (facts new.disk.store) → ⊥) → Passes facts old.disk new.disk)
-      → (facts new.disk.store).honest ≡ (facts old.disk.store).honest → (facts back).honest ≡ (facts target).honest
-      → AreHonest facts old (Some target) → Serves facts (old, Some target) commands.SaveAs (Refused fault) (new, Some back)
-  serves_refused old new target back fault step passes same same_target honest =
-      let before = facts old.disk.store in
-      let after = facts new.disk.store in
-      let failed = has_failed before after || has_failed (facts target) (facts back) in
+      → (facts back).honest ≡ (facts target).honest → (facts target).failures ≤ (facts back).failures
+      → AreHonest facts (held old (Some target) former) → Serves facts (held old (Some target) former) (Some commands.SaveAs) (Refused fault) (held new (Some back) former)
+  serves_refused old new target back former fault step commits passes same more honest =
       record {
-        honest = (subst IsTrue (sym same) honest.0, subst IsTrue (sym same_target) honest.1);
-        failed = failed;
+        honest = (subst IsTrue (sym commits.honest) honest.0, subst IsTrue (sym same) honest.1);
         step = step honest.0;
-        stores = record {
-          counted = λ left. absurd (not_both left);
-          adds = λ none. inl ((passes (λ _ raised. not_failed failed none (or_left _ _ (failed_true before after raised)))).attempted honest.0);
+        files = record { tries = record { commits = commits; passes = passes }; back = back; target = refl; failures = more; former = refl };
+      }
+
+  -- a save-as that was accepted, after which the store so far is put aside
+  pub serves_accepted : (old new : SessionState S) (target store : S) (former : Option S)
+      → (IsTrue (facts old.disk.store).honest → IsTrue (facts target).honest → Step false (machine_of true old) (Some commands.SaveAs) Accepted (machine_of false new))
+      → (disk : Disk S) × (disk.store ≡ store) × Commits facts (old.disk.saved, old.disk.saved) old.disk disk (Ok tt)
+      → (new.disk.attempted ≡ []) × (new.disk.sequence ≡ 1) × (new.disk.updated ≡ new.disk.saved)
+      → (IsTrue (facts target).honest → Numbered (facts new.disk.store) 1) → IsSettled facts new.disk
+      → (facts new.disk.store).honest ≡ (facts target).honest → (facts target).failures ≤ (facts new.disk.store).failures
+      → AreHonest facts (held old (Some target) former) → Serves facts (held old (Some target) former) (Some commands.SaveAs) Accepted (held new None (Some store))
+  serves_accepted old new target store former step commits new_file numbered settled same more honest =
+      record {
+        honest = (subst IsTrue (sym same) honest.1, tt);
+        step = step honest.0 honest.1;
+        files = record {
+          disk = commits.0;
+          commits = commits.2;
+          former = ap Some (sym commits.1);
+          target = refl;
+          failures = more;
+          new_file = (new_file.0, new_file.1);
+          numbered = numbered honest.1;
+          settled = settled;
         };
       }

@@ -1,4 +1,6 @@
+pub mod Files
 pub mod Given
+pub mod Holdings
 pub mod Options
 pub mod Outcome
 pub mod Program

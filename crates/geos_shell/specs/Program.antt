@@ -1,31 +1,158 @@
--- What a run of the program comes to.
-use Rattle.std.specs.Prelude.{◌≡◌, ◌⊎◌, true, false, List, Some, is_some, ⊤}
+-- What a run of the program comes to, and what becomes of the files that its words name.
+use Rattle.std.specs.Prelude.{◌≡◌, ◌≢◌, ◌⊎◌, ℕ, ◌≤◌, List, [], Bool, true, false, Option, Some, None, IsTrue, Result, Ok, Err}
 use Rattle.clap.specs.Words.{Text}
+use Rattle.geos_model.specs.File.{stands}
+use Rattle.geos_model.specs.Machine.{empty_machine, opened_machine}
 use Rattle.geos_model.specs.declared.fault.Fault.{Fault}
-use Rattle.geos_model.specs.declared.fault.Fault.TheVariants.{Memory, File, NotDocument, Damaged}
+use Rattle.geos_model.specs.declared.fault.Fault.TheVariants.{File}
+use Rattle.vm_store.specs.Facts.{StoreFacts, Raised, Rests}
+use Rattle.vm_file.specs.Calls.{IsSupply, IsOpenRefusal}
+use Rattle.vm_file.specs.Disk.{IsSettled, Numbered}
+use Rattle.vm_file.specs.Documents.{sequence_in}
+use Rattle.undo_log.specs.Records.{SessionState, machine_of}
+use Rattle.geos_shell.specs.Files.{Opener, OpensFile, FileFails, OpensTarget, TargetFails, ClosesAny}
 use Rattle.geos_shell.specs.Options.{CommandLine, IsUsable, Refuses, command_line}
+use Rattle.geos_shell.specs.Holdings.{Holding, AreHonest, held}
+use Rattle.geos_shell.specs.Runs.{AnswersAll, EndsBy}
+use Rattle.geos_shell.specs.declared.runner.RunFault.{RunFault}
 use Rattle.geos_shell.specs.declared.outcome.Outcome.{Outcome}
 use Rattle.geos_shell.specs.declared.outcome.Outcome.TheVariants as outcomes
 
--- why a document can't be made
-abbrev pub IsNotMade : Fault → Type 0
-IsNotMade fault = (fault ≡ Memory) ⊎ (fault ≡ File)
+-- ---- sessions
 
--- why a document can't be opened
-abbrev pub IsNotOpened : Fault → Type 0
-IsNotOpened fault = IsNotMade fault ⊎ ((fault ≡ Damaged) ⊎ (fault ≡ NotDocument))
+-- A session on a new file: the machine of the empty document, of which the file is one under the number 1.
+pub record IsCreated {S : Type 0} (facts : S → StoreFacts) (frames : ℕ) (store : S) (session : SessionState S) : Type 0 where
+  pub honest : (facts session.disk.store).honest ≡ (facts store).honest
+  pub failures : (facts store).failures ≤ (facts session.disk.store).failures
+  pub machine : (target : Bool) → machine_of target session ≡ empty_machine frames target
+  pub attempted : session.disk.attempted ≡ []
+  pub numbered : IsTrue (facts store).honest → Numbered (facts session.disk.store) 1
+  pub settled : IsSettled facts session.disk
 
--- What may come of a usable command line: only a new file is made, only another one is opened, and a target is there to fail.
-abbrev pub MayCome : CommandLine → Outcome → Type 0
-MayCome line (outcomes.Usage text) = ⊥
-MayCome line (outcomes.Help text) = ⊥
-MayCome line outcomes.SameFile = ⊥
-MayCome line (outcomes.Create fault) = (line.is_new ≡ true) × IsNotMade fault
-MayCome line (outcomes.Open fault) = (line.is_new ≡ false) × IsNotOpened fault
-MayCome line outcomes.Target = is_some line.target ≡ true
-MayCome line (outcomes.Run fault) = ⊤
-MayCome line outcomes.Done = ⊤
+-- A session on the file that a store has, in which nothing was written: the machine of the documents that the file stands for.
+pub record IsOpened {S : Type 0} (facts : S → StoreFacts) (frames : ℕ) (store : S) (session : SessionState S) : Type 0 where
+  pub honest : (facts session.disk.store).honest ≡ (facts store).honest
+  pub failures : (facts store).failures ≤ (facts session.disk.store).failures
+  pub rests : IsTrue (facts store).honest → Rests (facts store) (facts session.disk.store)
+  pub stands : IsTrue (facts store).honest → stands (facts store).content ≡ Ok (session.disk.updated, session.disk.saved)
+  pub sequence : IsTrue (facts store).honest → sequence_in (facts store).content ≡ Some session.disk.sequence
+  pub machine : IsTrue (facts store).honest → (target : Bool) → machine_of target session ≡ opened_machine session.disk.updated session.disk.saved session.disk.sequence frames target
+  pub numbered : IsTrue (facts store).honest → Numbered (facts session.disk.store) session.disk.sequence
+  pub frames_are : session.frames ≡ frames
+  pub attempted : IsTrue (facts store).honest → session.disk.attempted ≡ []
+  pub settled : IsSettled facts session.disk
 
--- Words that are no usable command line end in what says so, or in want of memory, and others in one of the rest.
-abbrev pub ComesTo : List Text → Outcome → Type 0
-ComesTo words outcome = Refuses words outcome ⊎ ((line : CommandLine) × (command_line words ≡ Some line) × IsUsable line × MayCome line outcome)
+-- which of the two is asked for
+abbrev pub IsMadeOrOpened : {S : Type 0} → (S → StoreFacts) → Bool → ℕ → S → SessionState S → Type 0
+IsMadeOrOpened facts true frames store session = IsCreated facts frames store session
+IsMadeOrOpened facts false frames store session = IsOpened facts frames store session
+
+-- What a store is left as in which no new document was made: as it was, where memory was wanting.
+pub record IsNotCreated {S : Type 0} (facts : S → StoreFacts) (fault : Fault) (store left : S) : Type 0 where
+  pub supply : IsSupply fault
+  pub early : fault ≢ File → left ≡ store
+  pub file : fault ≡ File → Raised (facts store) (facts left)
+
+-- What a store is left as of which no document was opened: nothing was written.
+pub record IsNotOpened {S : Type 0} (facts : S → StoreFacts) (fault : Fault) (store left : S) : Type 0 where
+  pub refusal : IsOpenRefusal fault
+  pub rests : IsTrue (facts store).honest → Rests (facts store) (facts left)
+  pub refused : IsTrue (facts store).honest → IsSupply fault ⊎ (stands (facts store).content ≡ Err fault)
+  pub file : fault ≡ File → Raised (facts store) (facts left)
+
+-- ---- what is done with the files
+
+-- FILE is opened as a store, and then there is the rest
+pub record FromFile {F S : Type 0} (calls : Opener F S) (line : CommandLine) (old : F) (Rest : S → F → Type 0) : Type 0 where
+  pub store : S
+  pub opened : F
+  pub file : OpensFile calls line old store opened
+  pub rest : Rest store opened
+
+-- FILE2 is opened, if it is named, but no document is made in FILE's store
+pub record CreateFails {F S : Type 0} (calls : Opener F S) (facts : S → StoreFacts) (named : Option Text) (fault : Fault) (store : S) (opened new : F) : Type 0 where
+  pub target : Option S
+  pub both : F
+  pub target_is : OpensTarget calls named opened target both
+  pub left : S
+  pub fails : IsNotCreated facts fault store left
+  pub closed : F
+  pub closes : calls.closes both left closed
+  pub closes_target : ClosesAny calls closed target new
+
+-- FILE's store has no document that could be opened
+pub record OpenFails {F S : Type 0} (calls : Opener F S) (facts : S → StoreFacts) (fault : Fault) (store : S) (opened new : F) : Type 0 where
+  pub left : S
+  pub fails : IsNotOpened facts fault store left
+  pub closes : calls.closes opened left new
+
+-- FILE2 can't be opened. Nothing was written to FILE: where it is to be made anew it wasn't called at all, and else its document was
+-- opened before.
+pub record TargetIsShut {F S : Type 0} (calls : Opener F S) (facts : S → StoreFacts) (line : CommandLine) (store : S) (opened new : F) : Type 0 where
+  pub failed : F
+  pub target : TargetFails calls line.target opened failed
+  pub left : S
+  pub untouched : line.is_new ≡ true → left ≡ store
+  pub was_opened : line.is_new ≡ false → (session : SessionState S) × IsOpened facts line.cache store session × (left ≡ session.disk.store)
+  pub closes : calls.closes failed left new
+
+-- A session is begun on FILE's store, and FILE2 is the target if it is named. A new document is made only after both are opened.
+pub record Begins {F S : Type 0} (calls : Opener F S) (facts : S → StoreFacts) (line : CommandLine) (store : S) (opened : F) (session : SessionState S) (target : Option S) (new : F) : Type 0 where
+  pub target_is : OpensTarget calls line.target opened target new
+  pub session_is : IsMadeOrOpened facts line.is_new line.cache store session
+
+-- the store of a session is closed, and so are the target and the old store of an accepted save-as, where they are there
+pub record Closes {F S : Type 0} (calls : Opener F S) (all : Holding S) (old new : F) : Type 0 where
+  pub first : F
+  pub second : F
+  pub file : calls.closes old all.session.disk.store first
+  pub target : ClosesAny calls first all.target second
+  pub former : ClosesAny calls second all.former new
+
+-- the script is answered, and whatever that comes to, all is closed
+pub record RunsOn {F S : Type 0} (calls : Opener F S) (Ends : Holding S → Type 0) (old new : F) : Type 0 where
+  pub left : Holding S
+  pub ends : Ends left
+  pub closes : Closes calls left old new
+
+-- ---- outcomes
+
+-- FILE can't be opened, which is told by what was to be done with it
+abbrev pub IsFileFault : CommandLine → Outcome → Type 0
+IsFileFault line (outcomes.Create fault) = (line.is_new ≡ true) × (fault ≡ File)
+IsFileFault line (outcomes.Open fault) = (line.is_new ≡ false) × (fault ≡ File)
+IsFileFault line _ = ⊥
+
+-- FILE was opened as a store, and the script isn't answered
+abbrev pub IsGivenUp : {F S : Type 0} → Opener F S → (S → StoreFacts) → CommandLine → S → F → F → Outcome → Type 0
+IsGivenUp calls facts line store opened new (outcomes.Create fault) = (line.is_new ≡ true) × CreateFails calls facts line.target fault store opened new
+IsGivenUp calls facts line store opened new (outcomes.Open fault) = (line.is_new ≡ false) × OpenFails calls facts fault store opened new
+IsGivenUp calls facts line store opened new outcomes.Target = TargetIsShut calls facts line store opened new
+IsGivenUp calls facts line store opened new _ = ⊥
+
+-- the script isn't answered
+abbrev pub IsNotBegun : {F S : Type 0} → Opener F S → (S → StoreFacts) → CommandLine → F → F → Outcome → Type 0
+IsNotBegun calls facts line old new outcome =
+    (FileFails calls line old new × IsFileFault line outcome) ⊎ FromFile calls line old (λ store opened. IsGivenUp calls facts line store opened new outcome)
+
+-- the script is answered: well, or until the run ended by a fault, which is the one that is told
+abbrev pub IsAnswered : {F S : Type 0} → Opener F S → (S → StoreFacts) → Holding S → F → F → Option (List ℕ) → Option (List ℕ) → Option (List ℕ) → Option (List ℕ) → Outcome → Type 0
+IsAnswered calls facts first old new from to before after outcomes.Done = RunsOn calls (λ left. AreHonest facts first → AnswersAll facts first from to before after left) old new
+IsAnswered calls facts first old new from to before after (outcomes.Run fault) = RunsOn calls (λ left. AreHonest facts first → EndsBy fault facts first from to before after left) old new
+IsAnswered calls facts first old new from to before after _ = ⊥
+
+-- a session was begun on FILE, and the script is answered
+pub record Serves {F S : Type 0} (calls : Opener F S) (facts : S → StoreFacts) (line : CommandLine) (old new : F) (from to before after : Option (List ℕ)) (outcome : Outcome) : Type 0 where
+  pub begun : F
+  pub session : SessionState S
+  pub target : Option S
+  pub begins : FromFile calls line old (λ store opened. Begins calls facts line store opened session target begun)
+  pub answers : IsAnswered calls facts (held session target None) begun new from to before after outcome
+
+-- Words that are no usable command line end in what says so, or in want of memory, and no file is opened. Of a usable one the files
+-- are opened and the script is answered, or, where that can't begin, nothing of it is read and no reply is written.
+abbrev pub ComesTo : {F S : Type 0} → Opener F S → (S → StoreFacts) → List Text → F → F → Option (List ℕ) → Option (List ℕ) → Option (List ℕ) → Option (List ℕ) → Outcome → Type 0
+ComesTo calls facts words old new from to before after outcome =
+    (Refuses words outcome × (new ≡ old) × (to ≡ from) × (after ≡ before))
+    ⊎ ((line : CommandLine) × (command_line words ≡ Some line) × IsUsable line
+    × ((IsNotBegun calls facts line old new outcome × (to ≡ from) × (after ≡ before)) ⊎ Serves calls facts line old new from to before after outcome))

@@ -1,13 +1,12 @@
 -- What a call that appends leaves, and which commands are looked up by which call.
-use Rattle.std.specs.Prelude.{ℕ, List, [], ◌∷◌, ◌++◌, ◌≡◌, Bool, true, false, if◌then◌else◌, Option, Some, is_some, length, take}
+use Rattle.std.specs.Prelude.{ℕ, List, ◌++◌, ◌≡◌, Bool, true, false, Some, Result, MatchResult, length, take}
 use Rattle.geos_model.specs.Reply.{Reply}
 use Rattle.geos_model.specs.Machine.{Machine, Request, Step}
-use Rattle.geos_model.specs.Script.{reply_text}
+use Rattle.geos_model.specs.Script.{reply_line, reply_text}
 use Rattle.geos_model.specs.declared.command.Command.{Command}
 use Rattle.geos_model.specs.declared.command.Command.TheVariants as commands
 use Rattle.vm_store.specs.Facts.{StoreFacts}
-use Rattle.undo_log.specs.Records.{SessionState}
-use Rattle.geos_shell.specs.Runs.{State, AfterFailures, AnswersOf, AreHonest, state_of}
+use Rattle.geos_shell.specs.Holdings.{Holding, MayServe, Serves}
 
 -- The bytes are still there, whatever stands behind them.
 abbrev pub Extends : List ℕ → List ℕ → Type 0
@@ -62,23 +61,17 @@ pub record Told (machine : Machine) (command : Command) (before after : List ℕ
   pub step : Step false machine (Some command) reply machine
   pub text : after ≡ before ++ reply_text reply
 
--- a session, and a target for a save-as where one is left
-abbrev pub Held : Type 0 → Type 0
-Held S = SessionState S × Option S
+-- The command is served, and its reply's text was put behind what was there.
+pub record Tells {S : Type 0} (facts : S → StoreFacts) (old : Holding S) (command : Command) (new : Holding S) (before after : List ℕ) : Type 0 where
+  pub reply : Reply
+  pub serves : Serves facts old (Some command) reply new
+  pub text : after ≡ before ++ reply_text reply
 
-abbrev pub state_held : {S : Type 0} → (S → StoreFacts) → Held S → State
-state_held facts held = state_of facts (is_some held.1) held.0
+-- A command is served, and where there was memory for its reply's text, that was put behind what was there.
+abbrev pub Replied : {S T E : Type 0} → Result T E → (S → StoreFacts) → Holding S → Command → Holding S → List ℕ → List ℕ → Type 0
+Replied result facts old command new before after = MatchResult result (λ _. Tells facts old command new before after) (λ _. MayServe facts old (Some command) new)
 
--- The command is answered so, and the stores stay honest.
-pub record Serves {S : Type 0} (facts : S → StoreFacts) (old : Held S) (command : Command) (reply : Reply) (new : Held S) : Type 0 where
-  pub honest : AreHonest facts new.0 new.1
-  pub failed : Bool
-  pub step : Step failed (state_held facts old).machine (Some command) reply (state_held facts new).machine
-  pub stores : AfterFailures (state_held facts old) (if failed then 1 else 0) (state_held facts new)
-
--- The request is answered, the stores stay honest, and what is written for it was put behind what was there.
-pub record Responds {S : Type 0} (facts : S → StoreFacts) (old : Held S) (request : Request) (new : Held S) (before after : List ℕ) : Type 0 where
-  pub honest : AreHonest facts new.0 new.1
-  pub written : List ℕ
-  pub answers : AnswersOf (state_held facts old) (request ∷ []) written (state_held facts new)
-  pub text : after ≡ before ++ written
+-- The request is served, and its reply line was put behind what was there; a blank line does nothing, and gets none.
+abbrev pub Responds : {S : Type 0} → (S → StoreFacts) → Holding S → Request → Holding S → List ℕ → List ℕ → Type 0
+Responds facts old (Some commands.Blank) new before after = (new ≡ old) × (after ≡ before)
+Responds facts old request new before after = (reply : Reply) × Serves facts old request reply new × (after ≡ before ++ reply_line reply)

@@ -1,8 +1,8 @@
 //! The lines of a script and their replies, as the script comes piece by piece.
-ghost use Rattle.std.specs.Prelude.{◌≡◌, ◌++◌, ◌∷◌, [], ◌<◌, ◌≤◌, ℕ, List, length, is_some, OnOk, OnErr};
-ghost use Rattle.geos_model.specs.Script.{line_feed, lines, requests};
-ghost use Rattle.geos_shell.specs.Runs.{State, AnswersOf, AreHonest, state_of};
-ghost use Rattle.geos_shell.specs.Progress.{HasNoFeed, StandsFor, ProgressOf, GoesOver, StopsIn};
+ghost use Rattle.std.specs.Prelude.{◌≡◌, ◌++◌, ◌∷◌, [], ◌≤◌, ℕ, List, length, OnOk, OnErr};
+ghost use Rattle.geos_model.specs.Script.{line_feed};
+ghost use Rattle.geos_shell.specs.Holdings.{held};
+ghost use Rattle.geos_shell.specs.Progress.{Ends, GoesOver, HasNoFeed, StandsFor, StopsAtEnd, StopsIn, moment};
 
 use crate::replies::answer_line;
 use bstr::ByteSlice;
@@ -13,51 +13,59 @@ use vm_store::Store;
 /// How many bytes of a line are kept. One that is longer than the longest command is a bad one whatever it holds.
 const LONGEST_KEPT: usize = 140_001;
 
-/// A script that is being answered, between two pieces of it.
+/// What is kept of a script that is being answered, between two pieces of it.
 #[derive(Drop)]
-pub(crate) struct Answering<S: Store> {
-    pub(crate) session: Session<S>,
-    /// Where a save-as goes, until one has gone well.
-    pub(crate) target: Option<S>,
+pub(crate) struct Answering {
     /// The front of the line that has begun and has not ended.
     pub(crate) begun: Vec<u8>,
     /// The replies that are not written yet.
     pub(crate) replies: Vec<u8>,
 }
 
-impl<S: Store> Answering<S> {
+impl Answering {
     /// Answers each line that ends in this piece, and keeps the rest of it.
-    pub(crate) fn feed(&mut self, alloc: Global, piece: &[u8]) -> Result<(), AllocError>
-        ensures ok { OnOk result (GoesOver S.facts self.old piece.now self.new) }
-        ensures err { OnErr result (StopsIn S.facts self.old piece.now self.new) }
+    pub(crate) fn feed<S: Store>(
+        &mut self,
+        alloc: Global,
+        session: &mut Session<S>,
+        target: &mut Option<S>,
+        former: &mut Option<S>,
+        piece: &[u8],
+    ) -> Result<(), AllocError>
+        ensures ok { OnOk result (GoesOver S.facts (moment (held session.old target.old former.old) self.old) piece.now (moment (held session.new target.new former.new) self.new)) }
+        ensures err { OnErr result (StopsIn S.facts (moment (held session.old target.old former.old) self.old) piece.now (moment (held session.new target.new former.new) self.new)) }
     {
         let mut rest = piece;
         while let Some(end) = rest.find_byte(b'\n') {
-            self.end_line(alloc, &rest[..end])?;
+            self.end_line(alloc, session, target, former, &rest[..end])?;
             rest = &rest[end + 1..];
         }
         keep(&mut self.begun, rest)
     }
 
     /// Answers the line that has begun and ends with `tail`.
-    fn end_line(&mut self, alloc: Global, tail: &[u8]) -> Result<(), AllocError>
-        ensures ok { OnOk result (HasNoFeed tail.now → GoesOver S.facts self.old (tail.now ++ line_feed ∷ []) self.new) }
-        ensures err { OnErr result (self.new.replies.items ≡ self.old.replies.items) }
+    fn end_line<S: Store>(
+        &mut self,
+        alloc: Global,
+        session: &mut Session<S>,
+        target: &mut Option<S>,
+        former: &mut Option<S>,
+        tail: &[u8],
+    ) -> Result<(), AllocError>
+        ensures ok { OnOk result (HasNoFeed tail.now
+            → GoesOver S.facts (moment (held session.old target.old former.old) self.old) (tail.now ++ line_feed ∷ []) (moment (held session.new target.new former.new) self.new)) }
+        ensures err { OnErr result (HasNoFeed tail.now → (rest : List ℕ)
+            → StopsIn S.facts (moment (held session.old target.old former.old) self.old) (tail.now ++ line_feed ∷ rest) (moment (held session.new target.new former.new) self.new)) }
     {
         if self.begun.is_empty() {
-            return answer_line(
-                alloc,
-                &mut self.session,
-                &mut self.target,
-                tail,
-                &mut self.replies,
-            );
+            return answer_line(alloc, session, target, former, tail, &mut self.replies);
         }
         keep(&mut self.begun, tail)?;
         answer_line(
             alloc,
-            &mut self.session,
-            &mut self.target,
+            session,
+            target,
+            former,
             &self.begun,
             &mut self.replies,
         )?;
@@ -66,19 +74,24 @@ impl<S: Store> Answering<S> {
     }
 
     /// Answers the last line, which no line feed ends, if there is one.
-    pub(crate) fn end(&mut self, alloc: Global) -> Result<(), AllocError>
-        ensures ok { OnOk result ((start : State) (read sent : List ℕ) → ProgressOf S.facts start read sent self.old
-            → AnswersOf start (requests (lines read)) (sent ++ self.new.replies.items) (state_of S.facts (is_some self.new.target) self.new.session)) }
-        ensures honest { OnOk result (AreHonest S.facts self.old.session self.old.target → AreHonest S.facts self.new.session self.new.target) }
-        ensures err { OnErr result ((0 < length self.old.begun.items) × (self.new.replies.items ≡ self.old.replies.items)) }
+    pub(crate) fn end<S: Store>(
+        &mut self,
+        alloc: Global,
+        session: &mut Session<S>,
+        target: &mut Option<S>,
+        former: &mut Option<S>,
+    ) -> Result<(), AllocError>
+        ensures ok { OnOk result (Ends S.facts (moment (held session.old target.old former.old) self.old) (moment (held session.new target.new former.new) self.new)) }
+        ensures err { OnErr result (StopsAtEnd S.facts (moment (held session.old target.old former.old) self.old) (moment (held session.new target.new former.new) self.new)) }
     {
         if self.begun.is_empty() {
             return Ok(());
         }
         answer_line(
             alloc,
-            &mut self.session,
-            &mut self.target,
+            session,
+            target,
+            former,
             &self.begun,
             &mut self.replies,
         )

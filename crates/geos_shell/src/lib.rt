@@ -3,6 +3,8 @@
 
 mod answering;
 mod command_line;
+mod files;
+mod host_files;
 mod operands;
 mod outcome;
 mod parser;
@@ -15,8 +17,11 @@ mod text;
 mod verbs;
 
 pub use command_line::options;
+pub use files::Files;
+pub use host_files::{HostFiles, machine_files};
 pub use outcome::Outcome;
 pub use parser::parse;
 pub use program::serve;
-pub use runner::{RunFault, run};
+pub use replies::answer_line;
+pub use runner::{RunFault, run, run_in};
 pub use settings::Options;

@@ -1,86 +1,184 @@
 //! The program: a document file, a script and its replies.
-ghost use Rattle.std.specs.Prelude.{◌≤◌, IfErr, map};
+ghost use Rattle.std.specs.Prelude.{◌≡◌, ◌≤◌, true, false, None, OnErr, IfOk, IfErr, map};
+ghost use Rattle.geos_shell.specs.Files.{OpensFile, FileFails, OpensTarget, TargetFails, ClosesAny};
 ghost use Rattle.geos_shell.specs.Options.{told_by};
-ghost use Rattle.geos_shell.specs.Program.{ComesTo, MayCome};
+ghost use Rattle.geos_shell.specs.Program.{FromFile, Begins, ComesTo, IsAnswered, IsGivenUp, IsNotBegun};
+ghost use Rattle.geos_shell.specs.Holdings.{held};
 
 use crate::command_line::options;
+use crate::files::Files;
 use crate::outcome::Outcome;
-use crate::runner::run;
+use crate::runner::run_in;
 use crate::settings::Options;
 use geos_model::Fault;
+use std::alloc::Global;
 use std::convert::AsStr;
 use std::io::{Read, Write};
 use undo_log::Session;
-use vm_store::HostStore;
+use vm_store::{Store, StoreFault};
 
 /// Runs the program on the words of a command line, of which the first is its name: it opens the files that they name, answers
-/// the script that the reader gives, and tells what that came to. What is wrong is found in this order: the command line, two
-/// names that are the same, the file, the target, the run. Where the target can't be opened the file was made or opened all
-/// the same, and nothing in it has changed since.
-pub fn serve<'a, T: AsStr, R: Read, W: Write>(
-    rt: &HostRuntime,
+/// the script that the reader gives, closes the files, and tells what that came to.
+///
+/// What is wrong is found in this order: the command line, two names that are the same, FILE, the target, the run. A new document is
+/// made only after the target was opened, so that where the target is FILE by another name nothing is written.
+pub fn serve<'a, F: Files, T: AsStr, R: Read, W: Write>(
+    alloc: Global,
+    files: &mut F,
     words: &'a [T],
     reader: &mut R,
     writer: &mut W,
 ) -> Outcome
-    ensures { ComesTo (map T.text words.entry.now) result }
+    ensures { ComesTo F.calls F.Opened.facts (map T.text words.entry.now) files.old files.new (R.remaining reader.old) (R.remaining reader.new) (W.contents writer.old) (W.contents writer.new) result }
 {
-    match options(rt.alloc(), words) {
-        Ok(options) => match answer(rt, options, reader, writer) {
-            Ok(()) => Outcome::Done,
+    match options(alloc, words) {
+        Ok(options) => match begin(alloc, files, options) {
+            Ok(begun) => answer(alloc, files, begun, reader, writer),
             Err(outcome) => outcome,
         },
         Err(outcome) => outcome,
     }
 }
 
-/// Opens the files and answers the script.
-fn answer<R: Read, W: Write>(
-    rt: &HostRuntime,
+/// A session, and a target if there is one.
+#[derive(Drop)]
+struct Begun<S: Store> {
+    session: Session<S>,
+    target: Option<S>,
+}
+
+/// Opens what a command line names, and begins a session on FILE.
+fn begin<F: Files>(
+    alloc: Global,
+    files: &mut F,
     options: Options,
-    reader: &mut R,
-    writer: &mut W,
-) -> Result<(), Outcome>
+) -> Result<Begun<F::Opened>, Outcome>
     requires { (1 ≤ options.cache) × (options.cache ≤ 64) }
-    ensures { IfErr result (MayCome (told_by options.entry)) }
+    ensures ok { IfOk result (λ begun. FromFile F.calls (told_by options.entry) files.old (λ store opened. Begins F.calls F.Opened.facts (told_by options.entry) store opened begun.session begun.target files.new)) }
+    ensures err { IfErr result (IsNotBegun F.calls F.Opened.facts (told_by options.entry) files.old files.new) }
 {
-    let session = begin(rt, options)?;
-    let target = open_target(rt, options)?;
-    match run(rt.alloc(), session, target, reader, writer) {
-        Ok(_) => Ok(()),
-        Err(fault) => Err(Outcome::Run(fault)),
+    match open_file(files, options) {
+        Ok(store) if options.new => create(alloc, files, options, store),
+        Ok(store) => open(alloc, files, options, store),
+        Err(_) if options.new => Err(Outcome::Create(Fault::File)),
+        Err(_) => Err(Outcome::Open(Fault::File)),
     }
 }
 
-/// The session on the file of the document, which is made or opened.
-fn begin(rt: &HostRuntime, options: Options) -> Result<Session<HostStore>, Outcome>
-    requires { (1 ≤ options.cache) × (options.cache ≤ 64) }
-    ensures { IfErr result (MayCome (told_by options.entry)) }
+/// Opens FILE, once the standard streams are guarded.
+fn open_file<F: Files>(files: &mut F, options: Options) -> Result<F::Opened, StoreFault>
+    ensures ok { IfOk result (λ store. OpensFile F.calls (told_by options.entry) files.old store files.new) }
+    ensures err { OnErr result (FileFails F.calls (told_by options.entry) files.old files.new) }
 {
-    let frames = usize::from(options.cache);
-    match (HostStore::open(rt, options.file, options.new), options.new) {
-        (Ok(store), true) => match Session::create(rt.alloc(), store, frames) {
-            Ok(session) => Ok(session),
-            Err(refused) => Err(Outcome::Create(refused.fault)),
-        },
-        (Ok(store), false) => match Session::open(rt.alloc(), store, frames) {
-            Ok(session) => Ok(session),
-            Err(refused) => Err(Outcome::Open(refused.fault)),
-        },
-        (Err(_), true) => Err(Outcome::Create(Fault::File)),
-        (Err(_), false) => Err(Outcome::Open(Fault::File)),
-    }
+    files.guard_streams()?;
+    files.open(options.file, options.new)
 }
 
-/// The target of a save-as, if there is one. A missing file is made; nothing is written to it before a save-as.
-fn open_target(rt: &HostRuntime, options: Options) -> Result<Option<HostStore>, Outcome>
-    ensures { IfErr result (MayCome (told_by options.entry)) }
+/// Opens the target of a save-as, if one is named. A missing file is made; nothing is written to it before a save-as.
+fn open_target<F: Files>(files: &mut F, options: Options) -> Result<Option<F::Opened>, StoreFault>
+    ensures ok { IfOk result (λ target. OpensTarget F.calls (told_by options.entry).target files.old target files.new) }
+    ensures err { OnErr result (TargetFails F.calls (told_by options.entry).target files.old files.new) }
 {
     match options.target {
-        Some(path) => match HostStore::open(rt, path, true) {
-            Ok(store) => Ok(Some(store)),
-            Err(_) => Err(Outcome::Target),
-        },
+        Some(name) => Ok(Some(files.open(name, true)?)),
         None => Ok(None),
+    }
+}
+
+/// Makes a new document in FILE's store, after the target is opened.
+fn create<F: Files>(
+    alloc: Global,
+    files: &mut F,
+    options: Options,
+    store: F::Opened,
+) -> Result<Begun<F::Opened>, Outcome>
+    requires frames { (1 ≤ options.cache) × (options.cache ≤ 64) }
+    requires new { options.new ≡ true }
+    ensures ok { IfOk result (λ begun. Begins F.calls F.Opened.facts (told_by options.entry) store files.old begun.session begun.target files.new) }
+    ensures err { IfErr result (IsGivenUp F.calls F.Opened.facts (told_by options.entry) store files.old files.new) }
+{
+    let target = match open_target(files, options) {
+        Ok(target) => target,
+        Err(_) => {
+            files.close(store);
+            return Err(Outcome::Target);
+        }
+    };
+    match Session::create(alloc, store, usize::from(options.cache)) {
+        Ok(session) => Ok(Begun { session, target }),
+        Err(refused) => {
+            files.close(refused.store);
+            close_any(files, target);
+            Err(Outcome::Create(refused.fault))
+        }
+    }
+}
+
+/// Opens the document that FILE's store has, and then the target.
+fn open<F: Files>(
+    alloc: Global,
+    files: &mut F,
+    options: Options,
+    store: F::Opened,
+) -> Result<Begun<F::Opened>, Outcome>
+    requires frames { (1 ≤ options.cache) × (options.cache ≤ 64) }
+    requires old { options.new ≡ false }
+    ensures ok { IfOk result (λ begun. Begins F.calls F.Opened.facts (told_by options.entry) store files.old begun.session begun.target files.new) }
+    ensures err { IfErr result (IsGivenUp F.calls F.Opened.facts (told_by options.entry) store files.old files.new) }
+{
+    let session = match Session::open(alloc, store, usize::from(options.cache)) {
+        Ok(session) => session,
+        Err(refused) => {
+            files.close(refused.store);
+            return Err(Outcome::Open(refused.fault));
+        }
+    };
+    match open_target(files, options) {
+        Ok(target) => Ok(Begun { session, target }),
+        Err(_) => {
+            files.close(session.close());
+            Err(Outcome::Target)
+        }
+    }
+}
+
+/// Answers the script, and closes all files.
+fn answer<F: Files, R: Read, W: Write>(
+    alloc: Global,
+    files: &mut F,
+    begun: Begun<F::Opened>,
+    reader: &mut R,
+    writer: &mut W,
+) -> Outcome
+    ensures { IsAnswered F.calls F.Opened.facts (held begun.session begun.target None) files.old files.new (R.remaining reader.old) (R.remaining reader.new) (W.contents writer.old) (W.contents writer.new) result }
+{
+    let Begun {
+        mut session,
+        mut target,
+    } = begun;
+    let mut former = None;
+    let ended = run_in(
+        alloc,
+        &mut session,
+        &mut target,
+        &mut former,
+        reader,
+        writer,
+    );
+    files.close(session.close());
+    close_any(files, target);
+    close_any(files, former);
+    match ended {
+        Ok(()) => Outcome::Done,
+        Err(fault) => Outcome::Run(fault),
+    }
+}
+
+/// Closes a store, if there is one.
+fn close_any<F: Files>(files: &mut F, store: Option<F::Opened>)
+    ensures { ClosesAny F.calls files.old store files.new }
+{
+    if let Some(store) = store {
+        files.close(store);
     }
 }

@@ -1,10 +1,10 @@
-ghost use Rattle.std.specs.Prelude.{◌≡◌, Bool, OnOk, OnErr, Some, IsTrue};
+ghost use Rattle.std.specs.Prelude.{◌≡◌, ◌≢◌, Bool, OnOk, OnErr, Some, IsTrue};
 ghost use Rattle.geos_model.specs.Reply.{Accepted, reply_by};
 ghost use Rattle.geos_model.specs.Script.{command};
 ghost use Rattle.geos_model.specs.declared.command.Command.TheVariants as commands;
 ghost use Rattle.undo_log.specs.Records.{machine_of};
-ghost use Rattle.geos_shell.specs.Runs.{AreHonest};
-ghost use Rattle.geos_shell.specs.Replies.{Extends, Told, Serves, Responds, asks_array, asks_chain, asks_names, asks_slots, is_look_up};
+ghost use Rattle.geos_shell.specs.Holdings.{AreHonest, MayServe, Serves, held};
+ghost use Rattle.geos_shell.specs.Replies.{Extends, Replied, Responds, Told, asks_array, asks_chain, asks_names, asks_slots, is_look_up};
 
 use crate::parser::parse;
 use crate::text;
@@ -147,21 +147,56 @@ fn push_look_up<S: Store>(
     }
 }
 
-// Saves to the target, which is used up where that goes well, and then the old store is dropped. Else the target goes back into
+// Saves to the target, which is used up where that goes well, and then the old store is put aside. Else the target goes back into
 // its place.
-fn save_as<S: Store>(session: &mut Session<S>, target: &mut Option<S>) -> Result<(), Fault>
-    ensures { AreHonest S.facts session.old target.old
-        → Serves S.facts (session.old, target.old) commands.SaveAs (reply_by (λ _. Accepted) result) (session.new, target.new) }
+fn save_as<S: Store>(
+    session: &mut Session<S>,
+    target: &mut Option<S>,
+    former: &mut Option<S>,
+) -> Result<(), Fault>
+    ensures { AreHonest S.facts (held session.old target.old former.old)
+        → Serves S.facts (held session.old target.old former.old) (Some commands.SaveAs) (reply_by (λ _. Accepted) result) (held session.new target.new former.new) }
 {
     let Some(store) = target.take() else {
         return Err(Fault::NoTarget);
     };
     match session.save_as(store) {
-        Ok(_) => Ok(()),
+        Ok(old) => {
+            *former = Some(old);
+            Ok(())
+        }
         Err(refused) => {
             *target = Some(refused.store);
             Err(refused.fault)
         }
+    }
+}
+
+// Carries out a command that gets a reply, and puts the reply's text behind `out`. Where memory is wanting, a part of it may stand
+// there.
+fn push_reply<S: Store>(
+    alloc: Global,
+    session: &mut Session<S>,
+    target: &mut Option<S>,
+    former: &mut Option<S>,
+    command: &Command,
+    out: &mut Vec<u8>,
+) -> Result<(), AllocError>
+    requires { command.now ≢ Command.Blank }
+    ensures replied { AreHonest S.facts (held session.old target.old former.old)
+        → Replied result S.facts (held session.old target.old former.old) command.now (held session.new target.new former.new) out.old.items out.new.items }
+    ensures ok { OnOk result (Extends out.old.items out.new.items) }
+    ensures err { OnErr result (Extends out.old.items out.new.items) }
+{
+    match command {
+        Command::Edit(edit) => text::push_done(alloc, out, session.edit(edit)),
+        Command::Undo => text::push_accepted(alloc, out, session.undo()),
+        Command::Redo => text::push_accepted(alloc, out, session.redo()),
+        Command::Update => text::push_accepted(alloc, out, session.update()),
+        Command::Save => text::push_accepted(alloc, out, session.save()),
+        Command::Revert => text::push_accepted(alloc, out, session.revert()),
+        Command::SaveAs => text::push_accepted(alloc, out, save_as(session, target, former)),
+        look_up => push_look_up(alloc, session, look_up, out),
     }
 }
 
@@ -170,26 +205,23 @@ fn respond<S: Store>(
     alloc: Global,
     session: &mut Session<S>,
     target: &mut Option<S>,
+    former: &mut Option<S>,
     command: &Command,
     out: &mut Vec<u8>,
 ) -> Result<(), AllocError>
-    ensures ok { OnOk result (AreHonest S.facts session.old target.old
-        → Responds S.facts (session.old, target.old) (Some command.now) (session.new, target.new) out.old.items out.new.items) }
+    ensures ok { OnOk result (AreHonest S.facts (held session.old target.old former.old)
+        → Responds S.facts (held session.old target.old former.old) (Some command.now) (held session.new target.new former.new) out.old.items out.new.items) }
+    ensures may { OnErr result (AreHonest S.facts (held session.old target.old former.old)
+        → MayServe S.facts (held session.old target.old former.old) (Some command.now) (held session.new target.new former.new)) }
     ensures err { OnErr result (Extends out.old.items out.new.items) }
 {
     match command {
-        Command::Blank => return Ok(()),
-        Command::Edit(edit) => text::push_done(alloc, out, session.edit(edit)),
-        Command::Undo => text::push_accepted(alloc, out, session.undo()),
-        Command::Redo => text::push_accepted(alloc, out, session.redo()),
-        Command::Update => text::push_accepted(alloc, out, session.update()),
-        Command::Save => text::push_accepted(alloc, out, session.save()),
-        Command::Revert => text::push_accepted(alloc, out, session.revert()),
-        Command::SaveAs => text::push_accepted(alloc, out, save_as(session, target)),
-        look_up => push_look_up(alloc, session, look_up, out),
-    }?;
-    out.push(b'\n')?;
-    Ok(())
+        Command::Blank => Ok(()),
+        replied => {
+            push_reply(alloc, session, target, former, replied, out)?;
+            Ok(out.push(b'\n')?)
+        }
+    }
 }
 
 // Answers a line, and may leave a part of its reply line where memory is wanting.
@@ -197,15 +229,18 @@ fn push_answer<S: Store>(
     alloc: Global,
     session: &mut Session<S>,
     target: &mut Option<S>,
+    former: &mut Option<S>,
     line: &[u8],
     out: &mut Vec<u8>,
 ) -> Result<(), AllocError>
-    ensures ok { OnOk result (AreHonest S.facts session.old target.old
-        → Responds S.facts (session.old, target.old) (command line.now) (session.new, target.new) out.old.items out.new.items) }
+    ensures ok { OnOk result (AreHonest S.facts (held session.old target.old former.old)
+        → Responds S.facts (held session.old target.old former.old) (command line.now) (held session.new target.new former.new) out.old.items out.new.items) }
+    ensures may { OnErr result (AreHonest S.facts (held session.old target.old former.old)
+        → MayServe S.facts (held session.old target.old former.old) (command line.now) (held session.new target.new former.new)) }
     ensures err { OnErr result (Extends out.old.items out.new.items) }
 {
     match parse(alloc, line) {
-        Ok(command) => respond(alloc, session, target, &command, out),
+        Ok(command) => respond(alloc, session, target, former, &command, out),
         Err(Fault::BadCommand) => {
             text::push_refusal(alloc, out, Fault::BadCommand)?;
             Ok(out.push(b'\n')?)
@@ -215,22 +250,30 @@ fn push_answer<S: Store>(
     }
 }
 
-/// Answers a line, without its line feed, and puts its reply line behind `out`; a blank line and a note get none. A save-as
-/// uses up the target.
-/// An `Err` is want of memory for the line or the text of its reply, and then the session may have gone on.
-pub(crate) fn answer_line<S: Store>(
+/// Answers a line, without its line feed, and puts its reply line behind `out`; a blank line and a note get none. A save-as goes to
+/// the target: where it goes well the target is used up, and the old store is put into `former`, whose store before is dropped.
+///
+/// Over an honest store and target each answer is the machine's, a file fault stands in its place only where a store failed in just
+/// this call, and the files are as the reply tells.
+///
+/// An `Err` is want of memory for the line or for the text of its reply. Then `out` is as it was, and the line may be carried out all
+/// the same: what it was answered isn't told.
+pub fn answer_line<S: Store>(
     alloc: Global,
     session: &mut Session<S>,
     target: &mut Option<S>,
+    former: &mut Option<S>,
     line: &[u8],
     out: &mut Vec<u8>,
 ) -> Result<(), AllocError>
-    ensures ok { OnOk result (AreHonest S.facts session.old target.old
-        → Responds S.facts (session.old, target.old) (command line.now) (session.new, target.new) out.old.items out.new.items) }
+    ensures ok { OnOk result (AreHonest S.facts (held session.old target.old former.old)
+        → Responds S.facts (held session.old target.old former.old) (command line.now) (held session.new target.new former.new) out.old.items out.new.items) }
+    ensures may { OnErr result (AreHonest S.facts (held session.old target.old former.old)
+        → MayServe S.facts (held session.old target.old former.old) (command line.now) (held session.new target.new former.new)) }
     ensures err { OnErr result (out.new.items ≡ out.old.items) }
 {
     let start = out.len();
-    let answered = push_answer(alloc, session, target, line, out);
+    let answered = push_answer(alloc, session, target, former, line, out);
     if answered.is_err() {
         out.truncate(start);
     }

@@ -1,8 +1,9 @@
-ghost use Rattle.std.specs.Prelude.{◌≡◌, ◌⊎◌, Bool, [], is_some, IsTrue, IfOk, IfErr, OnOk, ◌<◌, length};
-ghost use Rattle.std.specs.Io.KnownBytes.{Appends, IsAtEnd, Keeps};
-ghost use Rattle.geos_shell.specs.Runs.{AreHonest, AnswersAll, EndsBy, state_of};
+ghost use Rattle.std.specs.Prelude.{◌≡◌, ◌⊎◌, ◌<◌, [], IsTrue, IfOk, IfErr, OnOk, None, Option, length};
+ghost use Rattle.std.specs.Io.KnownBytes.{Appends, Keeps};
+ghost use Rattle.geos_shell.specs.Holdings.{AreHonest, Holding, held};
+ghost use Rattle.geos_shell.specs.Runs.{AnswersAll, EndsBy};
 ghost use Rattle.geos_shell.specs.Given.{Gives};
-ghost use Rattle.geos_shell.specs.Progress.{AnswersPiece, StopsPiece, AnswersRest, StopsRest};
+ghost use Rattle.geos_shell.specs.Progress.{AnswersPiece, AnswersRest, StopsPiece, StopsRest, Unsent, moment};
 
 use crate::answering::Answering;
 use std::alloc::Global;
@@ -44,10 +45,11 @@ impl fmt::Display for RunFault {
 /// The target is where the script's first save-as goes that goes well: its store is the session's from then on, and the store
 /// before is dropped. A later save-as has no target, as the first one has none where there is none to begin with.
 ///
-/// Over an honest store and target, the session handed back has the document, the records and the acknowledged documents that the
-/// answers lead to, and an honest store. A crash now leaves that with the documents acknowledged last or with those of a commit
-/// that failed since, as a session's `validity` says; where no call of a store failed in this run, with those of none that failed
-/// in it. A session that isn't handed back is dropped, with nothing more written.
+/// Over an honest store and target, the session handed back is what the answers lead to, over an honest store, and each answer is the
+/// machine's, with a file fault in its place only where a store failed in just this call. A crash now leaves the documents
+/// acknowledged last or those of a commit that failed since, as a session's `validity` says; where no call of a store failed in this
+/// run, those of none that failed in it. A session that isn't handed back is dropped, with nothing more written: `run_in` leaves it
+/// with its caller.
 pub fn run<S: Store, R: Read, W: Write>(
     alloc: Global,
     session: Session<S>,
@@ -56,16 +58,51 @@ pub fn run<S: Store, R: Read, W: Write>(
     writer: &mut W,
 ) -> Result<Session<S>, RunFault>
     // Where the run ends well, a whole script was read and each line of it answered.
-    ensures ok { IfOk result (λ after. AreHonest S.facts session target → (left : Bool)
-        × AnswersAll (state_of S.facts (is_some target) session) (R.remaining reader.old) (R.remaining reader.new) (W.contents writer.old) (W.contents writer.new) (state_of S.facts left after)) }
-    ensures honest { IfOk result (λ after. AreHonest S.facts session target → IsTrue (S.facts after.disk.store).honest) }
-    // Where reading fails, each line that had ended is answered; where memory runs out, the first ones.
-    ensures err { IfErr result (λ fault. AreHonest S.facts session target
-        → EndsBy fault (state_of S.facts (is_some target) session) (R.remaining reader.old) (R.remaining reader.new) (W.contents writer.old) (W.contents writer.new)) }
+    ensures ok { IfOk result (λ after. AreHonest S.facts (held session target None) → (left former : Option S)
+        × AnswersAll S.facts (held session target None) (R.remaining reader.old) (R.remaining reader.new) (W.contents writer.old) (W.contents writer.new) (held after left former)) }
+    ensures honest { IfOk result (λ after. AreHonest S.facts (held session target None) → IsTrue (S.facts after.disk.store).honest) }
+    // Where reading fails, each line that had ended is answered; where memory runs out or the writer fails, the first ones.
+    ensures err { IfErr result (λ fault. AreHonest S.facts (held session target None) → (after : Holding S)
+        × EndsBy fault S.facts (held session target None) (R.remaining reader.old) (R.remaining reader.new) (W.contents writer.old) (W.contents writer.new) after) }
+{
+    let mut session = session;
+    let mut target = target;
+    let mut former = None;
+    run_in(
+        alloc,
+        &mut session,
+        &mut target,
+        &mut former,
+        reader,
+        writer,
+    )?;
+    Ok(session)
+}
+
+/// Answers a script as `run` does, in places that its caller lends, and so keeps however it ends. An accepted save-as puts the old
+/// store into `former`, whose store before is dropped.
+///
+/// Over an honest store and target, the session is at each end what the answered lines lead to, as `answer_line` says of each of
+/// them. Where memory ran out, the next line may be carried out too, without its reply. Where the writer failed, some of the replies
+/// may not have gone out.
+pub fn run_in<S: Store, R: Read, W: Write>(
+    alloc: Global,
+    session: &mut Session<S>,
+    target: &mut Option<S>,
+    former: &mut Option<S>,
+    reader: &mut R,
+    writer: &mut W,
+) -> Result<(), RunFault>
+    // Where the run ends well, a whole script was read and each line of it answered.
+    ensures ok { OnOk result (AreHonest S.facts (held session.old target.old former.old)
+        → AnswersAll S.facts (held session.old target.old former.old) (R.remaining reader.old) (R.remaining reader.new) (W.contents writer.old) (W.contents writer.new)
+        (held session.new target.new former.new)) }
+    // Where reading fails, each line that had ended is answered; where memory runs out or the writer fails, the first ones.
+    ensures err { IfErr result (λ fault. AreHonest S.facts (held session.old target.old former.old)
+        → EndsBy fault S.facts (held session.old target.old former.old) (R.remaining reader.old) (R.remaining reader.new) (W.contents writer.old) (W.contents writer.new)
+        (held session.new target.new former.new)) }
 {
     let mut answering = Answering {
-        session,
-        target,
         begun: Vec::new(alloc),
         replies: Vec::new(alloc),
     };
@@ -73,8 +110,18 @@ pub fn run<S: Store, R: Read, W: Write>(
     for _ in 0..READS {
         match read_piece(reader, &mut piece)? {
             Given::Interrupted => {}
-            Given::End => return answer_rest(alloc, answering, writer),
-            Given::Bytes(count) => answer_piece(alloc, &mut answering, &piece[..count], writer)?,
+            Given::End => {
+                return answer_rest(alloc, &mut answering, session, target, former, writer);
+            }
+            Given::Bytes(count) => answer_piece(
+                alloc,
+                &mut answering,
+                session,
+                target,
+                former,
+                &piece[..count],
+                writer,
+            )?,
         }
     }
     Err(RunFault::Read)
@@ -107,15 +154,21 @@ fn read_piece<R: Read>(reader: &mut R, piece: &mut [u8]) -> Result<Given, RunFau
 /// Answers the lines that end in this piece, and writes the replies.
 fn answer_piece<S: Store, W: Write>(
     alloc: Global,
-    answering: &mut Answering<S>,
+    answering: &mut Answering,
+    session: &mut Session<S>,
+    target: &mut Option<S>,
+    former: &mut Option<S>,
     piece: &[u8],
     writer: &mut W,
 ) -> Result<(), RunFault>
-    ensures ok { OnOk result (AnswersPiece S.facts answering.old piece.now answering.new (W.contents writer.old) (W.contents writer.new)) }
-    ensures err { IfErr result (λ fault. (fault ≡ RunFault.Write)
-        ⊎ ((fault ≡ RunFault.Memory) × StopsPiece S.facts answering.old piece.now (W.contents writer.old) (W.contents writer.new))) }
+    ensures ok { OnOk result (AnswersPiece S.facts (moment (held session.old target.old former.old) answering.old) piece.now
+        (moment (held session.new target.new former.new) answering.new) (W.contents writer.old) (W.contents writer.new)) }
+    ensures err { IfErr result (λ fault.
+        ((fault ≡ RunFault.Write) × Unsent S.facts (moment (held session.old target.old former.old) answering.old) piece.now (held session.new target.new former.new))
+        ⊎ ((fault ≡ RunFault.Memory) × StopsPiece S.facts (moment (held session.old target.old former.old) answering.old) piece.now
+        (held session.new target.new former.new) (W.contents writer.old) (W.contents writer.new))) }
 {
-    let fed = answering.feed(alloc, piece);
+    let fed = answering.feed(alloc, session, target, former, piece);
     send(&mut answering.replies, writer)?;
     match fed {
         Ok(()) => Ok(()),
@@ -126,17 +179,22 @@ fn answer_piece<S: Store, W: Write>(
 /// Answers the last line if no line feed ended it, and writes its reply.
 fn answer_rest<S: Store, W: Write>(
     alloc: Global,
-    mut answering: Answering<S>,
+    answering: &mut Answering,
+    session: &mut Session<S>,
+    target: &mut Option<S>,
+    former: &mut Option<S>,
     writer: &mut W,
-) -> Result<Session<S>, RunFault>
-    ensures ok { IfOk result (λ after. AnswersRest S.facts answering after (W.contents writer.old) (W.contents writer.new)) }
-    ensures err { IfErr result (λ fault. (fault ≡ RunFault.Write)
-        ⊎ ((fault ≡ RunFault.Memory) × StopsRest answering (W.contents writer.old) (W.contents writer.new))) }
+) -> Result<(), RunFault>
+    ensures ok { OnOk result (AnswersRest S.facts (moment (held session.old target.old former.old) answering.old) (held session.new target.new former.new) (W.contents writer.old) (W.contents writer.new)) }
+    ensures err { IfErr result (λ fault.
+        ((fault ≡ RunFault.Write) × Unsent S.facts (moment (held session.old target.old former.old) answering.old) [] (held session.new target.new former.new))
+        ⊎ ((fault ≡ RunFault.Memory) × StopsRest S.facts (moment (held session.old target.old former.old) answering.old)
+        (held session.new target.new former.new) (W.contents writer.old) (W.contents writer.new))) }
 {
-    let ended = answering.end(alloc);
+    let ended = answering.end(alloc, session, target, former);
     send(&mut answering.replies, writer)?;
     match ended {
-        Ok(()) => Ok(answering.session),
+        Ok(()) => Ok(()),
         Err(_) => Err(RunFault::Memory),
     }
 }

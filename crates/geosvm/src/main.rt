@@ -2,7 +2,7 @@
 #![tactic(auto)]
 
 use geos_model::Bytes;
-use geos_shell::{Outcome, RunFault, serve};
+use geos_shell::{Outcome, RunFault, machine_files, serve};
 use std::alloc::Global;
 use std::env;
 use std::io::{self, ErrorKind};
@@ -32,8 +32,16 @@ fn refused(alloc: Global, kind: ErrorKind) -> Outcome {
 }
 
 fn main(rt: HostRuntime) -> ExitCode {
+    // They keep the standard streams guarded until all is told.
+    let mut files = machine_files(&rt);
     let outcome = match words(&rt) {
-        Ok(words) => serve(&rt, &words, &mut rt.reader(), &mut io::writer(&rt)),
+        Ok(words) => serve(
+            rt.alloc(),
+            &mut files,
+            &words,
+            &mut rt.reader(),
+            &mut io::writer(&rt),
+        ),
         Err(error) => refused(rt.alloc(), error.kind()),
     };
     // Where not even this can be told, the status still says what became of the run.

@@ -1,67 +1,10 @@
-use Rattle.std.proofs.Common.{◌<◌, length, take, arith, length-take}
-use Rattle.std.proofs.KnownBytes.{Keeps-refl}
-use Rattle.std.proofs.lemmas.Result.{IfOk-weaker, IfErr-weaker, err_from_is_err_and}
-use Rattle.geos_shell.proofs.Runs.{Ran-none, Ran-kept, Ran-piece, AnswersFinished-now, AnswersSome-piece, AnswersSome-rest, AnswersAll-end, EndsBy-or}
+use Rattle.std.proofs.lemmas.Result.{err_from_is_err_and}
+use Rattle.geos_shell.specs.Holdings.{held}
 use Rattle.geos_shell.proofs.runner.run.Goals as goal
-use Rattle.geos_shell.proofs.runner.run.Goals.{in-Interrupted, in-Bytes+in_ok-answer_piece-in-Bytes}
 
-pub loop-init : goal.loop-init
-loop-init g c = λ honest.
-    Ran-none g.S.Store.facts _ _ (record { session = c.args.session; target = c.args.target; begun = c.new.result; replies = c.new-2.result }) honest c.new.ensures.items c.new-2.ensures.items
-
--- The reader failed.
-pub returns-in_err-read_piece-clause-err : goal.returns-in_err-read_piece-clause-err
-returns-in_err-read_piece-clause-err g c =
-    let r = c.from_residual in
-    let p = err_from_is_err_and r.result r.ensures.1 in
-    let failed = c.in_err-read_piece.ensures.err in
-    rw (p.1, p.2, failed.0) (λ honest. AnswersFinished-now (c.loop.invariant honest) _ failed.1)
-
--- The script ended, and so did the run.
-pub returns-in-End-clause-ok : goal.returns-in-End-clause-ok
-returns-in-End-clause-ok g c =
-    let to = g.R.Read.remaining c.read_piece.new.reader in
-    let after = g.W.Write.contents c.answer_rest.new.writer in
-    let gives = rw c.in-End.is at c.in_ok-read_piece.ensures.ok in
-    IfOk-weaker c.answer_rest.result _ _ (λ new rest honest. (rest.left, AnswersAll-end (c.loop.invariant honest) to after new gives.0 gives.1 rest)) c.answer_rest.ensures.ok
-
-pub returns-in-End-clause-honest : goal.returns-in-End-clause-honest
-returns-in-End-clause-honest g c = IfOk-weaker c.answer_rest.result _ _ (λ new rest honest. rest.honest (c.loop.invariant honest).progress.0) c.answer_rest.ensures.ok
-
--- The script ended, and its last line stopped the run.
-pub returns-in-End-clause-err : goal.returns-in-End-clause-err
-returns-in-End-clause-err g c =
-    let to = g.R.Read.remaining c.read_piece.new.reader in
-    let after = g.W.Write.contents c.answer_rest.new.writer in
-    let gives = rw c.in-End.is at c.in_ok-read_piece.ensures.ok in
-    IfErr-weaker c.answer_rest.result _ _ (λ fault stops honest. EndsBy-or fault _ _ to _ after (AnswersSome-rest (c.loop.invariant honest) to after gives.0) stops) c.answer_rest.ensures.err
-
--- A piece stopped the run.
-pub returns-in_err-answer_piece-in-Bytes-clause-err :
-    goal.returns-in_err-answer_piece-in-Bytes-clause-err
-returns-in_err-answer_piece-in-Bytes-clause-err g c =
-    let to = g.R.Read.remaining c.read_piece.new.reader in
-    let after = g.W.Write.contents c.answer_piece.new.writer in
-    let piece = c.read_piece.new.piece in
-    let count = c.in-Bytes.count in
-    let gives = rw c.in-Bytes.is at c.in_ok-read_piece.ensures.ok in
-    let some : 0 < length (take count piece) = omega (arith, length-take count piece, gives.0, gives.1) in
-    let r = c.from_residual-in_err-answer_piece-in-Bytes in
-    let p = err_from_is_err_and r.result r.ensures.1 in
-    rw (p.1, p.2) (λ honest. EndsBy-or _ _ _ to _ after (AnswersSome-piece (c.loop.invariant honest) to after (take count piece) some gives.2) c.in_err-answer_piece-in-Bytes.ensures.err)
-
--- One more read.
-pub loop-preserved : goal.loop-preserved
-loop-preserved g c =
-    elim c.match-branch-2.branch [
-      | in-Interrupted w ↦
-          let gives = rw w.in-Interrupted.is at c.in_ok-read_piece.ensures.ok in
-          rw (w.writer-is, w.answering-is) (λ honest. Ran-kept (c.loop.invariant honest) _ gives)
-      | in-Bytes+in_ok-answer_piece-in-Bytes w ↦
-          let gives = rw w.in-Bytes.is at c.in_ok-read_piece.ensures.ok in
-          rw (w.writer-is, w.answering-is) (λ honest. Ran-piece (c.loop.invariant honest) _ _ (take w.in-Bytes.count c.read_piece.new.piece) _ gives.2 w.in_ok-answer_piece-in-Bytes.ensures.ok)
-    ]
-
--- The reader did not end.
-pub returns-clause-err : goal.returns-clause-err
-returns-clause-err g c = λ honest. AnswersFinished-now (c.loop.invariant honest) _ (Keeps-refl _)
+-- The session isn't handed back.
+pub returns-in_err-run_in-clause-err : goal.returns-in_err-run_in-clause-err
+returns-in_err-run_in-clause-err g c =
+    let new = held c.run_in.new.session c.run_in.new.target c.run_in.new.former in
+    let p = err_from_is_err_and c.from_residual.result c.from_residual.ensures.1 in
+    rw (p.1, p.2) (λ honest. (new, c.in_err-run_in.ensures.err honest))

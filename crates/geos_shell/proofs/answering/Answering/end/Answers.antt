@@ -1,8 +1,10 @@
 use Rattle.std.proofs.Common.{◌≡◌, ◌<◌, length, arith}
-use Rattle.std.proofs.lemmas.List.{append_assoc}
 use Rattle.std.proofs.lemmas.Result.{on_ok_weaker}
 use Rattle.std.proofs.lemmas.Bool.Decides.{nat_tests}
-use Rattle.geos_shell.proofs.Steps.{Answered-all, Answered-last}
+use Rattle.geos_shell.specs.Holdings.{held}
+use Rattle.geos_shell.proofs.Calls.{on_err_both}
+use Rattle.geos_shell.proofs.Lasting.{last_answered, last_stopped}
+use Rattle.geos_shell.proofs.Steps.{Answered-all}
 use Rattle.geos_shell.proofs.answering.Answering.end.Goals as goal
 
 -- Nothing is kept, so the last line feed ended the last line.
@@ -10,20 +12,24 @@ pub returns-then-is_empty-clause-ok : goal.returns-then-is_empty-clause-ok
 returns-then-is_empty-clause-ok g c start read sent p =
     let old = c.args.self.now in
     let none : length old.begun.items ≡ 0 = grind (arith, nat_tests, old.begun.ok.0) in
-    Answered-all p.1 none
-
-pub returns-then-is_empty-clause-honest : goal.returns-then-is_empty-clause-honest
-returns-then-is_empty-clause-honest g c = λ honest. honest
+    Answered-all p none
 
 -- What is kept is the last line.
 pub returns-clause-ok : goal.returns-clause-ok
 returns-clause-ok g c =
     let old = c.args.self.now in
+    let now = held c.args.session.now c.args.target.now c.args.former.now in
+    let new = held c.answer_line.new.session c.answer_line.new.target c.answer_line.new.former in
     let some : 0 < length old.begun.items = grind (arith, nat_tests, old.begun.ok.0) in
     on_ok_weaker c.answer_line.result (λ responds start read sent p.
-    let h = responds p.0 in
-    let answers = rw c.deref.ensures.value at h.answers in
-    rw (h.text, ← append_assoc sent old.replies.items h.written) (Answered-last p.1 h.written some answers)) c.answer_line.ensures.ok
+    last_answered g.S.Store.facts start now new read old.begun.items sent old.replies.items c.answer_line.new.out.items c.deref.result.now c.deref.ensures.value some responds p) c.answer_line.ensures.ok
 
-pub returns-clause-honest : goal.returns-clause-honest
-returns-clause-honest g c = on_ok_weaker c.answer_line.result (λ responds honest. (responds honest).honest) c.answer_line.ensures.ok
+-- It found no memory.
+pub returns-clause-err : goal.returns-clause-err
+returns-clause-err g c =
+    let old = c.args.self.now in
+    let now = held c.args.session.now c.args.target.now c.args.former.now in
+    let new = held c.answer_line.new.session c.answer_line.new.target c.answer_line.new.former in
+    let some : 0 < length old.begun.items = grind (arith, nat_tests, old.begun.ok.0) in
+    on_err_both c.answer_line.result (λ may same start read sent p.
+    last_stopped g.S.Store.facts start now new read old.begun.items sent old.replies.items c.answer_line.new.out.items c.deref.result.now c.deref.ensures.value some may same p) c.answer_line.ensures.may c.answer_line.ensures.err

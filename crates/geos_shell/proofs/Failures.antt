@@ -1,0 +1,93 @@
+-- What a call that is served shows of the stores: how often they failed, and which pairs of a failed commit may be read.
+use Rattle.std.proofs.Common.{◌≡◌, ◌⊎◌, ℕ, ◌+◌, ◌≤◌, ◌||◌, min, Bool, true, false, cond, nat_le, [], Option, Some, None, IsTrue, Result, Ok, Err, refl, sym, ap, ◌∙◌, inl, inr, arith}
+use Rattle.std.proofs.lemmas.Bool.{leb-true, or_left}
+use Rattle.geos_model.specs.Reply.{Reply, Refused}
+use Rattle.geos_model.specs.Machine.{Request}
+use Rattle.geos_model.specs.declared.fault.Fault.{Fault}
+use Rattle.geos_model.specs.declared.command.Command.TheVariants as commands
+use Rattle.vm_store.specs.Facts.{StoreFacts, Raised, last_count, raised}
+use Rattle.vm_file.specs.Disk.{Disk}
+use Rattle.vm_file.specs.Documents.{Documents}
+use Rattle.undo_log.specs.Records.{has_failed}
+use Rattle.undo_log.proofs.CommitSteps.{failed_true}
+use Rattle.geos_shell.specs.Holdings.{AreHonest, CommitsAsTold, Holding, LeavesFiles, SavesAs, Serves, Stays, TriesToCommit, failed_with, has_failed_in}
+use Rattle.geos_shell.specs.Runs.{AfterFailures, AddsNoPair, CountsFailures}
+
+-- where a count rose, by one at least or to the last value
+counts_if : (rose : Bool) (m n : ℕ) → nat_le (raised m) n ≡ rose → m ≤ n → min (m + cond rose 1 0) last_count ≤ n
+counts_if false m n is least = omega (arith, least)
+counts_if true m n is least =
+    let high : raised m ≤ n = leb-true (raised m) n is in
+    omega (arith, high)
+
+-- a call that failed is counted
+not_failed : (failed : Bool) → ◌≡◌ {A = ℕ} (cond failed 1 0) 0 → failed ≡ true → ⊥
+not_failed true none so = omega (arith, none)
+not_failed false none so = cc so
+
+module _ {S : Type 0} (facts : S → StoreFacts) where
+  -- where the session's store failed and no target was used up
+  failed_so : (failed : Bool) (old new : Option S) → (new ≡ None → old ≡ None) → failed ≡ true → failed_with failed facts old new ≡ true
+  failed_so failed None new left so = so
+  failed_so failed (Some t) (Some back) left so = or_left failed (has_failed (facts t) (facts back)) so
+  failed_so failed (Some t) None left so = let none : Some t ≡ None = left refl in cc none
+
+  counts : (old new : Holding S) → (old.target ≡ None → new.target ≡ None) → (facts old.session.disk.store).failures ≤ (facts new.session.disk.store).failures
+      → CountsFailures facts old (cond (has_failed_in facts old new) 1 0) new
+  counts old new used least none =
+      (used none, rw none (counts_if (has_failed (facts old.session.disk.store) (facts new.session.disk.store)) _ _ refl least))
+
+  after_stays : (old new : Holding S) → Stays old new → AfterFailures facts old (cond (has_failed_in facts old new) 1 0) new
+  after_stays old new stays =
+      record {
+        counted = counts old new (λ none. stays.target ∙ none) (omega (arith, ap (λ d. (facts d.store).failures) stays.disk));
+        adds = λ _. inl (ap (λ d. d.attempted) stays.disk);
+      }
+
+  -- which pairs may be read after a commit in which the store did not fail
+  adds_none : (pair : Documents) (old new : Disk S) (result : Result (Unit {0}) Fault) → TriesToCommit facts pair old new result
+      → IsTrue (facts old.store).honest → (Raised (facts old.store) (facts new.store) → ⊥) → (new.attempted ≡ old.attempted) ⊎ (new.attempted ≡ [])
+  adds_none pair old new (Ok x) tries so quiet = inr (tries.commits.ok so).1
+  adds_none pair old new (Err fault) tries so quiet = inl ((tries.passes (λ _ raised. quiet raised)).attempted so)
+
+  after_tries : (old new : Holding S) (pair : Documents) (result : Result (Unit {0}) Fault) → TriesToCommit facts pair old.session.disk new.session.disk result
+      → (old.target ≡ None → new.target ≡ None) → (new.target ≡ None → old.target ≡ None) → IsTrue (facts old.session.disk.store).honest
+      → AfterFailures facts old (cond (has_failed_in facts old new) 1 0) new
+  after_tries old new pair result tries used left so =
+      record {
+        counted = counts old new used tries.commits.failures;
+        adds = λ none. adds_none pair old.session.disk new.session.disk result tries so
+            (λ raised. not_failed (has_failed_in facts old new) none (failed_so _ old.target new.target left (failed_true (facts old.session.disk.store) (facts new.session.disk.store) raised)));
+      }
+
+  after_settles : (old new : Holding S) (pair : Documents) (reply : Reply) → CommitsAsTold facts pair old reply new → IsTrue (facts old.session.disk.store).honest
+      → AfterFailures facts old (cond (has_failed_in facts old new) 1 0) new
+  after_settles old new pair reply settles so =
+      after_tries old new pair _ settles.tries (λ none. settles.target ∙ none) (λ none. sym settles.target ∙ none) so
+
+  not_there : (t : S) (o : Option S) → o ≡ Some t → o ≡ None → ⊥
+  not_there t o some none = let both : Some t ≡ None = sym some ∙ none in cc both
+
+  after_accepted : (old new : Holding S) (t : S) → old.target ≡ Some t → new.session.disk.attempted ≡ [] → AfterFailures facts old (cond (has_failed_in facts old new) 1 0) new
+  after_accepted old new t there none_left =
+      record { counted = λ none. absurd (not_there t old.target there none); adds = λ _. inr none_left }
+
+  after_save_as : (old new : Holding S) (target : Option S) (reply : Reply) → old.target ≡ target → SavesAs facts old target reply new → IsTrue (facts old.session.disk.store).honest
+      → AfterFailures facts old (cond (has_failed_in facts old new) 1 0) new
+  after_save_as old new None reply is stays so = after_stays old new stays
+  after_save_as old new (Some t) (Refused fault) is back so =
+      after_tries old new _ (Err fault) back.tries (λ none. absurd (not_there t old.target is none)) (λ none. absurd (not_there back.back new.target back.target none)) so
+  after_save_as old new (Some t) reply is on so = after_accepted old new t is on.new_file.0
+
+  after_files : (old new : Holding S) (request : Request) (reply : Reply) → LeavesFiles facts old request reply new → IsTrue (facts old.session.disk.store).honest
+      → AfterFailures facts old (cond (has_failed_in facts old new) 1 0) new
+  after_files old new (Some commands.Update) reply files so = after_settles old new _ reply files so
+  after_files old new (Some commands.Save) reply files so = after_settles old new _ reply files so
+  after_files old new (Some commands.Revert) reply files so = after_settles old new _ reply files so
+  after_files old new (Some commands.SaveAs) reply files so = after_save_as old new old.target reply refl files so
+  after_files old new request reply files so = after_stays old new files
+
+  -- of a call that is served
+  pub after_serves : (old new : Holding S) (request : Request) (reply : Reply) → AreHonest facts old → Serves facts old request reply new
+      → AfterFailures facts old (cond (has_failed_in facts old new) 1 0) new
+  after_serves old new request reply honest serves = after_files old new request reply serves.files honest.0

@@ -1,0 +1,14 @@
+use Rattle.std.proofs.Common.{inr}
+use Rattle.geos_shell.specs.Options.{told_by}
+use Rattle.geos_shell.proofs.program.serve.Goals as goal
+
+-- The files are opened, and the script is answered.
+pub returns-in-Ok-begin : goal.returns-in-Ok-begin
+returns-in-Ok-begin g c =
+    let begun = c.in-Ok-begin.begun in
+    inr (
+      told_by c.in-Ok.options,
+      c.in-Ok.ensures.ok.0,
+      c.in-Ok.ensures.ok.1,
+      inr (record { begun = c.begin.new.files; session = begun.session; target = begun.target; begins = c.in-Ok-begin.ensures.ok; answers = c.answer.ensures }),
+    )

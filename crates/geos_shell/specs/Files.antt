@@ -1,0 +1,41 @@
+-- Who opens files, and which files a run of the program opens.
+use Rattle.std.specs.Prelude.{◌≡◌, ◌⊎◌, Bool, true, false, Option, Some, None, Result, Ok, Err, if◌then◌else◌}
+use Rattle.clap.specs.Words.{Text}
+use Rattle.vm_store.specs.declared.fault.StoreFault.{StoreFault}
+use Rattle.geos_shell.specs.Options.{CommandLine}
+
+-- what the calls of one who opens files do, from one state to another
+pub record Opener (F S : Type 0) : Type 1 where
+  -- the standard streams are guarded, or can't be
+  pub guards : F → Result (Unit {0}) StoreFault → F → Type 0
+  -- the file of a name is opened, and made where it is missing if that is asked for
+  pub opens : F → Text → Bool → Result S StoreFault → F → Type 0
+  pub closes : F → S → F → Type 0
+
+-- FILE is opened, after the streams are guarded; it is made only where that is asked for
+pub record OpensFile {F S : Type 0} (calls : Opener F S) (line : CommandLine) (old : F) (store : S) (new : F) : Type 0 where
+  pub guarded : F
+  pub guards : calls.guards old (Ok tt) guarded
+  pub opens : calls.opens guarded line.file line.is_new (Ok store) new
+
+-- the streams can't be guarded, or FILE can't be opened
+pub record FileFails {F S : Type 0} (calls : Opener F S) (line : CommandLine) (old new : F) : Type 0 where
+  pub fault : StoreFault
+  pub fails : calls.guards old (Err fault) new ⊎ ((guarded : F) × calls.guards old (Ok tt) guarded × calls.opens guarded line.file line.is_new (Err fault) new)
+
+-- FILE2 is opened, and made where it is missing, if a target is named
+abbrev pub OpensTarget : {F S : Type 0} → Opener F S → Option Text → F → Option S → F → Type 0
+OpensTarget calls None old target new = (target ≡ None) × (new ≡ old)
+OpensTarget {F} {S} calls (Some name) old target new = (store : S) × (target ≡ Some store) × calls.opens old name true (Ok store) new
+
+-- a target is named and can't be opened
+pub record TargetFails {F S : Type 0} (calls : Opener F S) (target : Option Text) (old new : F) : Type 0 where
+  pub name : Text
+  pub is_named : target ≡ Some name
+  pub fault : StoreFault
+  pub opens : calls.opens old name true (Err fault) new
+
+-- a store is closed, if there is one
+abbrev pub ClosesAny : {F S : Type 0} → Opener F S → F → Option S → F → Type 0
+ClosesAny calls old None new = new ≡ old
+ClosesAny calls old (Some store) new = calls.closes old store new

@@ -1,0 +1,115 @@
+-- What the caller of a session holds, and what a request that is served makes of it.
+use Rattle.std.specs.Prelude.{◌≡◌, ◌⊎◌, ◌≤◌, ◌||◌, Bool, false, true, IsTrue, List, [], ◌∷◌, Option, Some, None, is_some, IfSome, Result, Ok, Err, IfErr}
+use Rattle.geos_model.specs.Machine.{Machine, Request, Call, Step}
+use Rattle.geos_model.specs.Reply.{Reply, Refused}
+use Rattle.geos_model.specs.declared.fault.Fault.{Fault}
+use Rattle.geos_model.specs.declared.fault.Fault.TheVariants.{File}
+use Rattle.geos_model.specs.declared.command.Command.TheVariants as commands
+use Rattle.vm_store.specs.Facts.{StoreFacts, Raised}
+use Rattle.vm_file.specs.Disk.{Disk, Commits, IsSettled, Numbered, Passes}
+use Rattle.vm_file.specs.Documents.{Documents}
+use Rattle.undo_log.specs.Records.{SessionState, machine_of, has_failed}
+
+-- a session, the target of a save-as while one is left, and the store that a save-as went away from, where it was put aside
+pub record Holding (S : Type 0) : Type 0 where
+  pub session : SessionState S
+  pub target : Option S
+  pub former : Option S
+
+abbrev pub held : {S : Type 0} → SessionState S → Option S → Option S → Holding S
+held session target former = record { session = session; target = target; former = former }
+
+-- the machine that it is
+abbrev pub machine : {S : Type 0} → Holding S → Machine
+machine h = machine_of (is_some h.target) h.session
+
+-- the session's store is honest, and so is the target where there is one
+abbrev pub AreHonest : {S : Type 0} → (S → StoreFacts) → Holding S → Type 0
+AreHonest facts h = IsTrue (facts h.session.disk.store).honest × IfSome h.target (λ store. IsTrue (facts store).honest)
+
+-- Whether a call of a store has failed from one holding to the next: of the session's store, or of the target where it is left in
+-- both. An accepted save-as, which uses the target up, is no call that failed.
+
+abbrev pub failed_with : {S : Type 0} → Bool → (S → StoreFacts) → Option S → Option S → Bool
+failed_with failed facts None target = failed
+failed_with failed facts (Some old) (Some new) = failed || has_failed (facts old) (facts new)
+failed_with failed facts (Some old) None = false
+
+abbrev pub has_failed_in : {S : Type 0} → (S → StoreFacts) → Holding S → Holding S → Bool
+has_failed_in facts old new = failed_with (has_failed (facts old.session.disk.store) (facts new.session.disk.store)) facts old.target new.target
+
+-- What becomes of the files.
+
+-- nothing of them changes
+pub record Stays {S : Type 0} (old new : Holding S) : Type 0 where
+  pub disk : new.session.disk ≡ old.session.disk
+  pub target : new.target ≡ old.target
+  pub former : new.former ≡ old.former
+
+-- This pair is committed to the session's file, or refused. Unless the refusal is that the store failed, nothing is committed.
+pub record TriesToCommit {S : Type 0} (facts : S → StoreFacts) (pair : Documents) (old new : Disk S) (result : Result (Unit {0}) Fault) : Type 0 where
+  pub commits : Commits facts pair old new result
+  pub passes : IfErr result (λ fault. (fault ≡ File → Raised (facts old.store) (facts new.store) → ⊥) → Passes facts old new)
+
+-- the result that a reply to a commit tells
+abbrev pub result_told : Reply → Result (Unit {0}) Fault
+result_told (Refused fault) = Err fault
+result_told _ = Ok tt
+
+-- A commit of this pair to the session's file ends as the reply tells.
+pub record CommitsAsTold {S : Type 0} (facts : S → StoreFacts) (pair : Documents) (old : Holding S) (reply : Reply) (new : Holding S) : Type 0 where
+  pub tries : TriesToCommit facts pair old.session.disk new.session.disk (result_told reply)
+  pub target : new.target ≡ old.target
+  pub former : new.former ≡ old.former
+
+-- A save-as is refused: the session's file may have its saved document committed, and the target is back, with any bytes.
+pub record SaveAsRefused {S : Type 0} (facts : S → StoreFacts) (old : Holding S) (lent : S) (fault : Fault) (new : Holding S) : Type 0 where
+  pub tries : TriesToCommit facts (old.session.disk.saved, old.session.disk.saved) old.session.disk new.session.disk (Err fault)
+  pub back : S
+  pub target : new.target ≡ Some back
+  pub failures : (facts lent).failures ≤ (facts back).failures
+  pub former : new.former ≡ old.former
+
+-- A save-as is accepted: the file so far has its saved document committed, and its store is put aside. The target is used up, and
+-- the session is in it, which is a new file.
+pub record SaveAsAccepted {S : Type 0} (facts : S → StoreFacts) (old : Holding S) (lent : S) (new : Holding S) : Type 0 where
+  pub disk : Disk S
+  pub commits : Commits facts (old.session.disk.saved, old.session.disk.saved) old.session.disk disk (Ok tt)
+  pub former : new.former ≡ Some disk.store
+  pub target : new.target ≡ None
+  pub failures : (facts lent).failures ≤ (facts new.session.disk.store).failures
+  pub new_file : (new.session.disk.attempted ≡ []) × (new.session.disk.sequence ≡ 1)
+  pub numbered : Numbered (facts new.session.disk.store) 1
+  pub settled : IsSettled facts new.session.disk
+
+-- by the target that was left, and the reply
+abbrev pub SavesAs : {S : Type 0} → (S → StoreFacts) → Holding S → Option S → Reply → Holding S → Type 0
+SavesAs facts old None reply new = Stays old new
+SavesAs facts old (Some target) (Refused fault) new = SaveAsRefused facts old target fault new
+SavesAs facts old (Some target) reply new = SaveAsAccepted facts old target new
+
+-- by the request and the reply
+abbrev pub LeavesFiles : {S : Type 0} → (S → StoreFacts) → Holding S → Request → Reply → Holding S → Type 0
+LeavesFiles facts old (Some commands.Update) reply new = CommitsAsTold facts (old.session.document, old.session.disk.saved) old reply new
+LeavesFiles facts old (Some commands.Save) reply new = CommitsAsTold facts (old.session.document, old.session.document) old reply new
+LeavesFiles facts old (Some commands.Revert) reply new = CommitsAsTold facts (old.session.disk.saved, old.session.disk.saved) old reply new
+LeavesFiles facts old (Some commands.SaveAs) reply new = SavesAs facts old old.target reply new
+LeavesFiles facts old request reply new = Stays old new
+
+-- Requests.
+
+-- The request is answered so: by the machine, with a file fault in place of its answer only where a store failed in this very call.
+-- The files are as the reply tells, and the stores are honest still.
+pub record Serves {S : Type 0} (facts : S → StoreFacts) (old : Holding S) (request : Request) (reply : Reply) (new : Holding S) : Type 0 where
+  pub honest : AreHonest facts new
+  pub step : Step (has_failed_in facts old new) (machine old) request reply (machine new)
+  pub files : LeavesFiles facts old request reply new
+
+-- Nothing is done, or the request is served by a reply that isn't told.
+abbrev pub MayServe : {S : Type 0} → (S → StoreFacts) → Holding S → Request → Holding S → Type 0
+MayServe facts old request new = (new ≡ old) ⊎ ((reply : Reply) × Serves facts old request reply new)
+
+-- these calls are served, one after another
+abbrev pub Serving : {S : Type 0} → (S → StoreFacts) → Holding S → List Call → Holding S → Type 0
+Serving {S} facts old [] new = new ≡ old
+Serving {S} facts old (c ∷ cs) new = (mid : Holding S) × (c.failed ≡ has_failed_in facts old mid) × Serves facts old c.request c.reply mid × Serving facts mid cs new
