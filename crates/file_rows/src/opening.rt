@@ -1,4 +1,6 @@
 // What opens, and to which documents.
+ghost use Rattle.std.specs.Prelude.{◌<◌, ◌≤◌};
+
 use crate::calls::{
     has, has_no_block, image_of, live_blocks, open, revert, update, user_id_of, why,
 };
@@ -114,56 +116,137 @@ fn answer_to(alloc: Global, at: usize, value: u8) -> Result<Answer, Fault> {
     }
 }
 
-// The first place at which the example with this byte has another answer.
-fn first_wrong(alloc: Global, value: u8) -> Result<Option<usize>, Fault> {
-    for at in 0..LENGTH {
-        let mut bytes = example();
-        let want = if bytes[at] == value {
-            same(alloc)?
-        } else {
-            answer_to(alloc, at, value)?
-        };
-        bytes[at] = value;
-        if look(alloc, &bytes)? != want {
-            return Ok(Some(at));
+// Whether the example with this byte at a place has the answer that it is to have.
+fn is_answered(alloc: Global, at: usize, value: u8) -> Result<bool, Fault>
+    requires { at < 2051 }
+{
+    let mut bytes = example();
+    let want = if bytes[at] == value {
+        same(alloc)?
+    } else {
+        answer_to(alloc, at, value)?
+    };
+    bytes[at] = value;
+    Ok(look(alloc, &bytes)? == want)
+}
+
+// The first byte that has another answer at a place.
+fn first_wrong_value(alloc: Global, at: usize) -> Result<Option<u8>, Fault>
+    requires { at < 2051 }
+{
+    for value in 0..=u8::MAX {
+        if !is_answered(alloc, at, value)? {
+            return Ok(Some(value));
+        }
+    }
+    Ok(None)
+}
+
+// The first of these places at which a byte has another answer, and that byte.
+fn first_wrong(alloc: Global, from: usize, to: usize) -> Result<Option<(usize, u8)>, Fault>
+    requires { to ≤ 2051 }
+{
+    for at in from..to {
+        if let Some(value) = first_wrong_value(alloc, at)? {
+            return Ok(Some((at, value)));
         }
     }
     Ok(None)
 }
 
 #[test]
-fn each_byte_is_set_to_zero(rt: HostRuntime) -> Result<(), Fail> {
-    assert_eq!(rt; first_wrong(rt.alloc(), 0)?, None);
+fn each_byte_from_0_on_is_set_to_each_value(rt: HostRuntime) -> Result<(), Fail> {
+    assert_eq!(rt; first_wrong(rt.alloc(), 0, 128)?, None);
     Ok(())
 }
 
 #[test]
-fn each_byte_is_set_to_one(rt: HostRuntime) -> Result<(), Fail> {
-    assert_eq!(rt; first_wrong(rt.alloc(), 1)?, None);
+fn each_byte_from_128_on_is_set_to_each_value(rt: HostRuntime) -> Result<(), Fail> {
+    assert_eq!(rt; first_wrong(rt.alloc(), 128, 256)?, None);
     Ok(())
 }
 
 #[test]
-fn each_byte_is_set_to_two(rt: HostRuntime) -> Result<(), Fail> {
-    assert_eq!(rt; first_wrong(rt.alloc(), 2)?, None);
+fn each_byte_from_256_on_is_set_to_each_value(rt: HostRuntime) -> Result<(), Fail> {
+    assert_eq!(rt; first_wrong(rt.alloc(), 256, 384)?, None);
     Ok(())
 }
 
 #[test]
-fn each_byte_is_set_to_three(rt: HostRuntime) -> Result<(), Fail> {
-    assert_eq!(rt; first_wrong(rt.alloc(), 3)?, None);
+fn each_byte_from_384_on_is_set_to_each_value(rt: HostRuntime) -> Result<(), Fail> {
+    assert_eq!(rt; first_wrong(rt.alloc(), 384, 512)?, None);
     Ok(())
 }
 
 #[test]
-fn each_byte_is_set_to_254(rt: HostRuntime) -> Result<(), Fail> {
-    assert_eq!(rt; first_wrong(rt.alloc(), 254)?, None);
+fn each_byte_from_512_on_is_set_to_each_value(rt: HostRuntime) -> Result<(), Fail> {
+    assert_eq!(rt; first_wrong(rt.alloc(), 512, 640)?, None);
     Ok(())
 }
 
 #[test]
-fn each_byte_is_set_to_255(rt: HostRuntime) -> Result<(), Fail> {
-    assert_eq!(rt; first_wrong(rt.alloc(), 255)?, None);
+fn each_byte_from_640_on_is_set_to_each_value(rt: HostRuntime) -> Result<(), Fail> {
+    assert_eq!(rt; first_wrong(rt.alloc(), 640, 768)?, None);
+    Ok(())
+}
+
+#[test]
+fn each_byte_from_768_on_is_set_to_each_value(rt: HostRuntime) -> Result<(), Fail> {
+    assert_eq!(rt; first_wrong(rt.alloc(), 768, 896)?, None);
+    Ok(())
+}
+
+#[test]
+fn each_byte_from_896_on_is_set_to_each_value(rt: HostRuntime) -> Result<(), Fail> {
+    assert_eq!(rt; first_wrong(rt.alloc(), 896, 1_024)?, None);
+    Ok(())
+}
+
+#[test]
+fn each_byte_from_1024_on_is_set_to_each_value(rt: HostRuntime) -> Result<(), Fail> {
+    assert_eq!(rt; first_wrong(rt.alloc(), 1_024, 1_152)?, None);
+    Ok(())
+}
+
+#[test]
+fn each_byte_from_1152_on_is_set_to_each_value(rt: HostRuntime) -> Result<(), Fail> {
+    assert_eq!(rt; first_wrong(rt.alloc(), 1_152, 1_280)?, None);
+    Ok(())
+}
+
+#[test]
+fn each_byte_from_1280_on_is_set_to_each_value(rt: HostRuntime) -> Result<(), Fail> {
+    assert_eq!(rt; first_wrong(rt.alloc(), 1_280, 1_408)?, None);
+    Ok(())
+}
+
+#[test]
+fn each_byte_from_1408_on_is_set_to_each_value(rt: HostRuntime) -> Result<(), Fail> {
+    assert_eq!(rt; first_wrong(rt.alloc(), 1_408, 1_536)?, None);
+    Ok(())
+}
+
+#[test]
+fn each_byte_from_1536_on_is_set_to_each_value(rt: HostRuntime) -> Result<(), Fail> {
+    assert_eq!(rt; first_wrong(rt.alloc(), 1_536, 1_664)?, None);
+    Ok(())
+}
+
+#[test]
+fn each_byte_from_1664_on_is_set_to_each_value(rt: HostRuntime) -> Result<(), Fail> {
+    assert_eq!(rt; first_wrong(rt.alloc(), 1_664, 1_792)?, None);
+    Ok(())
+}
+
+#[test]
+fn each_byte_from_1792_on_is_set_to_each_value(rt: HostRuntime) -> Result<(), Fail> {
+    assert_eq!(rt; first_wrong(rt.alloc(), 1_792, 1_920)?, None);
+    Ok(())
+}
+
+#[test]
+fn each_byte_from_1920_on_is_set_to_each_value(rt: HostRuntime) -> Result<(), Fail> {
+    assert_eq!(rt; first_wrong(rt.alloc(), 1_920, LENGTH)?, None);
     Ok(())
 }
 

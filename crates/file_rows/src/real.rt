@@ -5,7 +5,7 @@ use std::alloc::Global;
 use std::fs;
 use std::test::Fail;
 use vm_file::VmFile;
-use vm_store::{HostStore, Store};
+use vm_store::{HostStore, HostSystem, Store};
 
 // Puts a block, which is saved, another one, which is updated, and a third one.
 fn fill<S: Store>(alloc: Global, mut file: VmFile<S>) -> Result<(), Fault> {
@@ -35,11 +35,12 @@ fn is_filled<S: Store>(alloc: Global, mut file: VmFile<S>) -> Result<bool, Fault
 fn a_real_file_is_made_committed_and_opened(rt: HostRuntime) -> Result<(), Fail> {
     let path = "file_rows_document";
     let alloc = rt.alloc();
+    let mut system = HostSystem::new(rt);
     let _ = fs::remove_file(&rt, path);
-    let file = create(alloc, HostStore::open(&rt, path, true)?)?;
+    let file = create(alloc, HostStore::open(&mut system, path, true)?)?;
     assert_eq!(rt; fs::read(&rt, path)?.len(), 1_040);
     fill(alloc, file)?;
-    let file = VmFile::open(alloc, HostStore::open(&rt, path, false)?).map_err(why)?;
+    let file = VmFile::open(alloc, HostStore::open(&mut system, path, false)?).map_err(why)?;
     assert!(rt; is_filled(alloc, file)?);
     fs::remove_file(&rt, path)?;
     Ok(())

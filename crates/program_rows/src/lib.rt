@@ -4,11 +4,15 @@
 #[cfg(test)]
 mod documents;
 #[cfg(test)]
+mod memory;
+#[cfg(test)]
 mod opening;
 #[cfg(test)]
 mod programs;
 #[cfg(test)]
 mod refusals;
+#[cfg(test)]
+mod serving;
 #[cfg(test)]
 mod targets;
 #[cfg(test)]

@@ -1,5 +1,5 @@
 // Runs of the program, and what its files have.
-use geos_shell::serve;
+use geos_shell::{machine_files, serve};
 use std::alloc::Global;
 use std::fs;
 use std::test::Fail;
@@ -22,7 +22,14 @@ fn comes_to(
 ) -> Result<(), Fail> {
     let alloc = rt.alloc();
     let mut replies = Vec::new(alloc);
-    let outcome = serve(rt, words, &mut script.as_bytes(), &mut replies);
+    let mut files = machine_files(rt);
+    let outcome = serve(
+        alloc,
+        &mut files,
+        words,
+        &mut script.as_bytes(),
+        &mut replies,
+    );
     let mut told = Vec::new(alloc);
     outcome.write_line(&mut told)?;
     same(alloc, &told, texts.1)?;

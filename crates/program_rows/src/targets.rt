@@ -2,7 +2,10 @@
 use crate::documents::{FIFTH, made, two_documents};
 use crate::programs::{answers, ends, forget, has, opens_to};
 use std::fs;
+use std::os::unix::fs::symlink;
 use std::test::Fail;
+
+const SHUT: &str = "geosvm: target 2 File\n";
 
 const SAVED_AS: &str =
     "newraw 1 1\nsave\nvwrite 0001 0 61\nsaveas\nsaveas\nundo\nvread 0001\nredo\n";
@@ -62,19 +65,40 @@ fn a_target_stays_until_a_save_as(rt: HostRuntime) -> Result<(), Fail> {
 }
 
 #[test]
-fn a_target_that_cannot_be_opened_leaves_the_file_as_made(rt: HostRuntime) -> Result<(), Fail> {
+fn a_target_that_cannot_be_opened_leaves_the_file_as_it_was(rt: HostRuntime) -> Result<(), Fail> {
     let path = "program_rows_alone";
-    forget(&rt, path);
-    let words = [
-        "geosvm",
-        "--new",
-        "--as",
-        "program_rows_no_folder/target",
-        path,
-    ];
-    ends(&rt, &words, 1, "geosvm: target 2 File\n")?;
-    has(&rt, path, &made(rt.alloc())?)?;
+    let document = two_documents(rt.alloc(), FIFTH)?;
+    fs::write(&rt, path, document.as_slice())?;
+    let target = "program_rows_no_folder/target";
+    ends(&rt, &["geosvm", "--as", target, path], 1, SHUT)?;
+    has(&rt, path, &document)?;
+    ends(&rt, &["geosvm", "--new", "--as", target, path], 1, SHUT)?;
+    has(&rt, path, &document)?;
     fs::remove_file(&rt, path)?;
+    ends(&rt, &["geosvm", "--new", "--as", target, path], 1, SHUT)?;
+    has(&rt, path, b"")?;
+    fs::remove_file(&rt, path)?;
+    Ok(())
+}
+
+// The file under another name is in use.
+#[test]
+fn a_target_that_is_the_file_under_another_name_is_refused(rt: HostRuntime) -> Result<(), Fail> {
+    let path = "program_rows_same";
+    let soft = "program_rows_soft_link";
+    let document = two_documents(rt.alloc(), FIFTH)?;
+    fs::write(&rt, path, document.as_slice())?;
+    forget(&rt, soft);
+    symlink(&rt, path, soft)?;
+    for name in [soft, "./program_rows_same"] {
+        ends(&rt, &["geosvm", "--as", name, path], 1, SHUT)?;
+        has(&rt, path, &document)?;
+        ends(&rt, &["geosvm", "--new", "--as", name, path], 1, SHUT)?;
+        has(&rt, path, &document)?;
+    }
+    for name in [path, soft] {
+        fs::remove_file(&rt, name)?;
+    }
     Ok(())
 }
 

@@ -86,6 +86,15 @@ pub(crate) struct Tiring {
     pub(crate) flushes: u32,
 }
 
+pub(crate) fn writer_that_tires(alloc: Global, most: usize, writes: u32, flushes: u32) -> Tiring {
+    Tiring {
+        taken: Vec::new(alloc),
+        most,
+        writes,
+        flushes,
+    }
+}
+
 // Counts down to a failure.
 fn tire(left: &mut u32) -> io::Result<()> {
     match left.checked_sub(1) {

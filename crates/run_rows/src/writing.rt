@@ -1,7 +1,6 @@
 // Writers that fail, or take a byte a write, and the order of reads and writes.
-use crate::fakes::{Counting, Desk, Line, Piece, Pieces, Tiring, Waiting, fault_of};
+use crate::fakes::{Counting, Desk, Line, Piece, Pieces, Waiting, fault_of, writer_that_tires};
 use geos_shell::RunFault;
-use std::alloc::Global;
 use std::cell::Cell;
 use std::test::Fail;
 
@@ -11,20 +10,11 @@ const THREE_LINES: [Piece; 3] = [
     Piece::Text("list\n"),
 ];
 
-fn tiring(alloc: Global, most: usize, writes: u32, flushes: u32) -> Tiring {
-    Tiring {
-        taken: Vec::new(alloc),
-        most,
-        writes,
-        flushes,
-    }
-}
-
 #[test]
 fn a_write_that_fails_ends_the_run(rt: HostRuntime) -> Result<(), Fail> {
     for (writes, written) in [(0, ""), (1, "block 0001\n"), (2, "block 0001\nok\n")] {
         let mut reader = Pieces(THREE_LINES.as_slice());
-        let mut writer = tiring(rt.alloc(), 100, writes, 100);
+        let mut writer = writer_that_tires(rt.alloc(), 100, writes, 100);
         let fault = fault_of(rt.alloc(), &mut reader, &mut writer)?;
         assert_eq!(rt; fault, Some(RunFault::Write), "after {writes} writes");
         assert!(rt;
@@ -39,7 +29,7 @@ fn a_write_that_fails_ends_the_run(rt: HostRuntime) -> Result<(), Fail> {
 #[test]
 fn a_flush_that_fails_ends_the_run(rt: HostRuntime) -> Result<(), Fail> {
     let mut reader = Pieces(THREE_LINES.as_slice());
-    let mut writer = tiring(rt.alloc(), 100, 100, 1);
+    let mut writer = writer_that_tires(rt.alloc(), 100, 100, 1);
     let fault = fault_of(rt.alloc(), &mut reader, &mut writer)?;
     assert_eq!(rt; fault, Some(RunFault::Write));
     assert_eq!(rt; reader.0.len(), 1);
@@ -49,7 +39,7 @@ fn a_flush_that_fails_ends_the_run(rt: HostRuntime) -> Result<(), Fail> {
 #[test]
 fn a_writer_that_takes_a_byte_a_write_gets_all_replies(rt: HostRuntime) -> Result<(), Fail> {
     let mut reader = Pieces(THREE_LINES.as_slice());
-    let mut writer = tiring(rt.alloc(), 1, 100, 100);
+    let mut writer = writer_that_tires(rt.alloc(), 1, 100, 100);
     assert_eq!(rt; fault_of(rt.alloc(), &mut reader, &mut writer)?, None);
     assert_eq!(rt;
         writer.taken.as_slice(),

@@ -11,3 +11,5 @@ mod files;
 mod fuses;
 #[cfg(test)]
 mod memory;
+#[cfg(test)]
+mod systems;

@@ -1,0 +1,116 @@
+// Files in memory, and what is asked of them; a reader and a writer that fail.
+ghost use Rattle.std.specs.Prelude.{◌≤◌, length};
+
+use geos_shell::Files;
+use std::alloc::Global;
+use std::io::{self, ErrorKind, Read, Write};
+use std::test::Fail;
+use vm_store::{MemStore, StoreFault};
+
+/// A file, while it isn't open.
+#[derive(Drop)]
+struct Kept {
+    name: &'static str,
+    store: MemStore,
+}
+
+/// Files in memory, of which each can be opened once. One by the name of `shut` can't be opened.
+#[derive(Drop)]
+pub(crate) struct MemFiles {
+    alloc: Global,
+    kept: Vec<Kept>,
+    /// Whether the standard streams can be guarded.
+    pub(crate) can_guard: bool,
+    /// What was asked for, a word a call: the streams are guarded, a file is opened, one is opened or made.
+    pub(crate) asked: String,
+    /// What was closed, in this order.
+    pub(crate) closed: Vec<MemStore>,
+}
+
+impl MemFiles {
+    pub(crate) fn new(alloc: Global) -> MemFiles {
+        MemFiles {
+            alloc,
+            kept: Vec::new(alloc),
+            can_guard: true,
+            asked: String::new(alloc),
+            closed: Vec::new(alloc),
+        }
+    }
+
+    /// Puts a file there.
+    pub(crate) fn keep(&mut self, name: &'static str, bytes: &[u8]) -> Result<(), Fail> {
+        let store = MemStore::from_bytes(self.alloc, bytes)?;
+        self.kept.push(Kept { name, store })?;
+        Ok(())
+    }
+
+    fn tell(&mut self, word: &str, name: &str) -> Result<(), StoreFault> {
+        for part in [word, name, " "] {
+            if self.asked.push_str(part).is_err() {
+                return Err(StoreFault);
+            }
+        }
+        Ok(())
+    }
+}
+
+impl Files for MemFiles {
+    type Opened = MemStore;
+
+    ghost calls = { record { guards = λ old result new. Unit {0}; opens = λ old name make result new. Unit {0}; closes = λ old store new. Unit {0} } };
+
+    fn guard_streams(&mut self) -> Result<(), StoreFault> {
+        self.tell("guard", "")?;
+        if self.can_guard {
+            Ok(())
+        } else {
+            Err(StoreFault)
+        }
+    }
+
+    fn open(&mut self, name: &str, make: bool) -> Result<MemStore, StoreFault> {
+        self.tell(if make { "make:" } else { "open:" }, name)?;
+        if let Some(at) = self.kept.iter().position(|kept| kept.name == name) {
+            return Ok(self.kept.swap_remove(at).store);
+        }
+        if make && name != "shut" {
+            return Ok(MemStore::new(self.alloc));
+        }
+        Err(StoreFault)
+    }
+
+    fn close(&mut self, store: MemStore) {
+        let _ = self.closed.push(store);
+    }
+}
+
+/// A reader that gives a text, and then fails.
+#[derive(Drop)]
+pub(crate) struct Breaking<'a>(pub(crate) &'a [u8]);
+
+impl Read for Breaking<'_> {
+    fn read(&mut self, buf: &mut [u8]) -> io::Result<usize> {
+        if self.0.is_empty() {
+            return Err(io::Error::from(ErrorKind::Other));
+        }
+        let count = self.0.len().min(buf.len());
+        buf[..count].copy_from_slice(&self.0[..count]);
+        self.0 = &self.0[count..];
+        Ok(count)
+    }
+}
+
+/// A writer that fails.
+#[derive(Drop)]
+pub(crate) struct Shut;
+
+impl Write for Shut {
+    fn write(&mut self, _buf: &[u8]) -> io::Result<usize> {
+        Err(io::Error::from(ErrorKind::Other))
+    }
+
+    fn flush(&mut self) -> io::Result<()> {
+        Err(io::Error::from(ErrorKind::Other))
+    }
+}
