@@ -1,0 +1,56 @@
+//! A script on a document, with the replies that it must get.
+ghost use Rattle.std.specs.Prelude.{IfOk};
+ghost use Rattle.examples.specs.Playing.{IsNew, IsOpened, IsOn, Plays};
+
+use dialogues::{Departure, Dialogue};
+use std::alloc::Global;
+use undo_log::Session;
+use vm_store::MemStore;
+
+/// The frames of a session.
+const FRAMES: usize = 8;
+
+/// A session on a new document.
+fn create(alloc: Global) -> Result<Session<MemStore>, Departure>
+    ensures { IfOk result IsNew }
+{
+    match Session::create(alloc, MemStore::new(alloc), FRAMES) {
+        Ok(session) => Ok(session),
+        Err(refused) => Err(Departure::Refused(refused.fault)),
+    }
+}
+
+/// A session on the document in a file.
+fn open(alloc: Global, file: MemStore) -> Result<Session<MemStore>, Departure>
+    ensures { IfOk result (IsOpened file) }
+{
+    match Session::open(alloc, file, FRAMES) {
+        Ok(session) => Ok(session),
+        Err(refused) => Err(Departure::Refused(refused.fault)),
+    }
+}
+
+/// A session on the document in a file that was left, or on a new one.
+pub(crate) fn begin(alloc: Global, left: Option<MemStore>) -> Result<Session<MemStore>, Departure>
+    ensures { IfOk result (IsOn left) }
+{
+    match left {
+        Some(file) => open(alloc, file),
+        None => create(alloc),
+    }
+}
+
+/// Runs a script on a session, and compares the replies. Gives back the file that it leaves, where they are as expected.
+pub(crate) fn answer(
+    alloc: Global,
+    session: Session<MemStore>,
+    script: &str,
+    replies: &str,
+) -> Result<MemStore, Departure>
+    ensures { IfOk result (Plays session script.now replies.now) }
+{
+    let mut dialogue = Dialogue::new(alloc);
+    dialogue.put(script, replies)?;
+    let after = dialogue.hold_on(session, None)?;
+    Ok(after.close())
+}
