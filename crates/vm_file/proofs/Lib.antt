@@ -8,6 +8,7 @@ pub mod Counting
 mod Crashes
 pub mod Directories
 pub mod Drafted
+pub mod Effects
 pub mod Entries
 pub mod Filled
 pub mod First

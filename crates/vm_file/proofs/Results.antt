@@ -1,5 +1,5 @@
 -- What holds where a call is refused, or where it isn't.
-use Rattle.std.specs.Prelude.{Result, Ok, Err, OnOk, OnErr}
+use Rattle.std.specs.Prelude.{Result, Ok, Err, OnOk, OnErr, MatchResult}
 
 pub on_err : {T E : Type 0} (r : Result T E) (P : Type 0) → P → OnErr r P
 on_err (Ok x) P p = tt
@@ -12,3 +12,7 @@ on_ok_both (Err x) f p q = tt
 pub on_err_both : {T E P Q R : Type 0} (r : Result T E) → (P → Q → R) → OnErr r P → OnErr r Q → OnErr r R
 on_err_both (Ok x) f p q = tt
 on_err_both (Err x) f p q = f p q
+
+pub either_way : {T E : Type 0} (r : Result T E) (P : Type 0) → P → MatchResult r (λ _. P) (λ _. P)
+either_way (Ok x) P p = p
+either_way (Err x) P p = p

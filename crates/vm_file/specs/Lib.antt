@@ -4,6 +4,7 @@ pub mod Crashes
 pub mod Disk
 pub mod Documents
 pub mod Drafts
+pub mod Effects
 pub mod Making
 pub mod Opened
 pub mod Passing

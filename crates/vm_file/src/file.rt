@@ -3,10 +3,11 @@ ghost use Rattle.vm_store.specs.Facts.{Raised, Rests};
 ghost use Rattle.geos_model.specs.Document.{empty_document, is_live, is_vm_handle, user_id_of, with_user_id, block_at, is_heap_body};
 ghost use Rattle.geos_model.specs.Image.{image};
 ghost use Rattle.geos_model.specs.File.{bytes_in, directory_text, open_slot, stands};
-ghost use Rattle.vm_file.specs.Disk.{FileState, ContentStands, Drifts, IsListed, Passes, Commits, IsSettled, Numbered};
+ghost use Rattle.vm_file.specs.Disk.{FileState, ContentStands, Drifts, Passes, IsSettled, Numbered};
+ghost use Rattle.vm_file.specs.Effects.{IsFile, OnlyReads, KeepsFile, IsCommit, Fails, NoFault, IsWorn};
 ghost use Rattle.vm_file.specs.Documents.{sequence_in};
 ghost use Rattle.vm_file.specs.Making.{first_directory, first_file, first_open, no_blocks};
-ghost use Rattle.vm_file.specs.Calls.{IsPut, put_all, remove_all, IsImageLength, IsSupply, IsCommitRefusal, IsOpenRefusal, last_sequence};
+ghost use Rattle.vm_file.specs.Calls.{IsPut, put_all, remove_all, IsImageLength, IsSupply, IsOpenRefusal, last_sequence};
 
 use crate::copies::{copy_stored, copy_table, twice};
 use crate::copying::copy_document;
@@ -134,10 +135,9 @@ impl<S: Store> VmFile<S> {
         place_of(&self.live.places, block)
     }
 
-    /// It does nothing: its caller learns what always holds of the document and of the saved one.
+    /// It does nothing: its caller learns what always holds of a file.
     pub fn validity(&self)
-        ensures document { IsListed (S.facts self.now.disk.store).honest self.now.document }
-        ensures saved { IsListed (S.facts self.now.disk.store).honest self.now.disk.saved }
+        ensures { IsFile S.facts self.now }
     {
         // What is always so of the fields is known where one is named.
         let _ = &self.slots;
@@ -162,14 +162,10 @@ impl<S: Store> VmFile<S> {
     /// The image of a block of the saved document. Memory, File.
     pub fn read_saved(&mut self, block: VmHandle) -> Result<Vec<u8>, Fault>
         requires { is_live self.old.disk.saved block.0 ≡ true }
-        ensures passes { Passes S.facts self.old.disk self.new.disk }
-        // Nothing is written.
-        ensures rests { IsTrue (S.facts self.old.disk.store).honest → Rests (S.facts self.old.disk.store) (S.facts self.new.disk.store) }
-        ensures drifts { Drifts (S.facts self.old.disk.store).honest self.old.document self.new.document }
+        ensures reads { OnlyReads S.facts self.old self.new }
         ensures saved { Drifts (S.facts self.old.disk.store).honest self.old.disk.saved self.new.disk.saved }
         ensures image { IfOk result (λ bytes. IsTrue (S.facts self.old.disk.store).honest → bytes.items ≡ image (block_at self.old.disk.saved block.0).body) }
-        ensures file { IsErrOf result Fault.File → Raised (S.facts self.old.disk.store) (S.facts self.new.disk.store) }
-        ensures refusals { IfErr result IsSupply }
+        ensures fails { Fails S.facts NoFault self.old.disk.store self.new.disk.store result }
     {
         match place_of(&self.slots.committed.saved.table.places, block) {
             Some(place) => read_extent(self.alloc, &mut self.store, place.extent),
@@ -187,14 +183,10 @@ impl<S: Store> VmFile<S> {
     /// The image of a block. Memory, File.
     pub fn read_block(&mut self, block: VmHandle) -> Result<Vec<u8>, Fault>
         requires { is_live self.old.document block.0 ≡ true }
-        ensures passes { Passes S.facts self.old.disk self.new.disk }
-        // Nothing is written.
-        ensures rests { IsTrue (S.facts self.old.disk.store).honest → Rests (S.facts self.old.disk.store) (S.facts self.new.disk.store) }
-        ensures drifts { Drifts (S.facts self.old.disk.store).honest self.old.document self.new.document }
+        ensures reads { OnlyReads S.facts self.old self.new }
         ensures image { IfOk result (λ bytes. IsTrue (S.facts self.old.disk.store).honest → bytes.items ≡ image (block_at self.old.document block.0).body) }
         ensures size { IfOk result (λ bytes. IsImageLength (length bytes.items)) }
-        ensures file { IsErrOf result Fault.File → Raised (S.facts self.old.disk.store) (S.facts self.new.disk.store) }
-        ensures refusals { IfErr result IsSupply }
+        ensures fails { Fails S.facts NoFault self.old.disk.store self.new.disk.store result }
     {
         match place_of(&self.live.places, block) {
             Some(place) => read_extent(self.alloc, &mut self.store, place.extent),
@@ -225,13 +217,12 @@ impl<S: Store> VmFile<S> {
         requires puts { All IsPut puts.now }
         requires few { length puts.now ≤ 2048 }
         requires removals { All (λ h. h.0 ≢ self.old.document.map_block) removals.now }
-        ensures passes { Passes S.facts self.old.disk self.new.disk }
-        ensures ok { OnOk result (Drifts (S.facts self.old.disk.store).honest (remove_all removals.now (put_all puts.now self.old.document)) self.new.document) }
-        ensures err { OnErr result (Drifts (S.facts self.old.disk.store).honest self.old.document self.new.document) }
+        ensures keeps { MatchResult result
+            (λ _. KeepsFile S.facts (remove_all removals.now (put_all puts.now self.old.document)) self.old self.new)
+            (λ _. KeepsFile S.facts self.old.document self.old self.new) }
         ensures early { IfErr result (λ fault. fault ≢ Fault.File → self.new ≡ self.old) }
         ensures removals_alone { puts.now ≡ [] → IsOk result × (self.new ≡ record self.old { document = remove_all removals.now self.old.document }) }
-        ensures file { IsErrOf result Fault.File → Raised (S.facts self.old.disk.store) (S.facts self.new.disk.store) }
-        ensures refusals { IfErr result IsSupply }
+        ensures fails { Fails S.facts NoFault self.old.disk.store self.new.disk.store result }
     {
         let extents = write_puts(
             self.alloc,
@@ -248,13 +239,9 @@ impl<S: Store> VmFile<S> {
     /// Makes the document as it is now the updated one. Worn where the sequence number can't rise, before anything else is
     /// done; Memory, before anything is written; File.
     pub fn commit_update(&mut self) -> Result<(), Fault>
-        ensures commits { Commits S.facts (self.old.document, self.old.disk.saved) self.old.disk self.new.disk result }
-        ensures content { OnOk result (ContentStands S.facts self.new.disk) }
-        ensures drifts { Drifts (S.facts self.old.disk.store).honest self.old.document self.new.document }
-        ensures worn { IsErrOf result Fault.Worn ↔ self.old.disk.sequence ≡ last_sequence }
+        ensures commit { IsCommit S.facts (self.old.document, self.old.disk.saved) self.old.document self.old self.new result }
         ensures early { IfErr result (λ fault. fault ≢ Fault.File → self.new ≡ self.old) }
-        ensures file { IsErrOf result Fault.File → Raised (S.facts self.old.disk.store) (S.facts self.new.disk.store) }
-        ensures refusals { IfErr result IsCommitRefusal }
+        ensures fails { Fails S.facts IsWorn self.old.disk.store self.new.disk.store result }
     {
         if self.slots.sequence == u64::MAX {
             return Err(Fault::Worn);
@@ -266,13 +253,9 @@ impl<S: Store> VmFile<S> {
 
     /// Makes the document as it is now the updated and the saved one. Refused as an update is.
     pub fn commit_save(&mut self) -> Result<(), Fault>
-        ensures commits { Commits S.facts (self.old.document, self.old.document) self.old.disk self.new.disk result }
-        ensures content { OnOk result (ContentStands S.facts self.new.disk) }
-        ensures drifts { Drifts (S.facts self.old.disk.store).honest self.old.document self.new.document }
-        ensures worn { IsErrOf result Fault.Worn ↔ self.old.disk.sequence ≡ last_sequence }
+        ensures commit { IsCommit S.facts (self.old.document, self.old.document) self.old.document self.old self.new result }
         ensures early { IfErr result (λ fault. fault ≢ Fault.File → self.new ≡ self.old) }
-        ensures file { IsErrOf result Fault.File → Raised (S.facts self.old.disk.store) (S.facts self.new.disk.store) }
-        ensures refusals { IfErr result IsCommitRefusal }
+        ensures fails { Fails S.facts IsWorn self.old.disk.store self.new.disk.store result }
     {
         if self.slots.sequence == u64::MAX {
             return Err(Fault::Worn);
@@ -284,14 +267,9 @@ impl<S: Store> VmFile<S> {
 
     /// Makes the saved document the updated one and the document as it is now. Refused as an update is.
     pub fn commit_revert(&mut self) -> Result<(), Fault>
-        ensures commits { Commits S.facts (self.old.disk.saved, self.old.disk.saved) self.old.disk self.new.disk result }
-        ensures content { OnOk result (ContentStands S.facts self.new.disk) }
-        ensures ok { OnOk result (Drifts (S.facts self.old.disk.store).honest self.old.disk.saved self.new.document) }
-        ensures err { OnErr result (Drifts (S.facts self.old.disk.store).honest self.old.document self.new.document) }
-        ensures worn { IsErrOf result Fault.Worn ↔ self.old.disk.sequence ≡ last_sequence }
+        ensures commit { IsCommit S.facts (self.old.disk.saved, self.old.disk.saved) self.old.disk.saved self.old self.new result }
         ensures early { IfErr result (λ fault. fault ≢ Fault.File → self.new ≡ self.old) }
-        ensures file { IsErrOf result Fault.File → Raised (S.facts self.old.disk.store) (S.facts self.new.disk.store) }
-        ensures refusals { IfErr result IsCommitRefusal }
+        ensures fails { Fails S.facts IsWorn self.old.disk.store self.new.disk.store result }
     {
         if self.slots.sequence == u64::MAX {
             return Err(Fault::Worn);
@@ -307,10 +285,9 @@ impl<S: Store> VmFile<S> {
     /// Makes another store a new file of the document as it is now, updated and saved, whatever was in it. What is read
     /// and isn't an image, which an honest store never gives, is Damaged; Memory, File.
     pub fn copy_to(&mut self, target: S) -> Result<VmFile<S>, Refused<S>>
-        ensures passes { Passes S.facts self.old.disk self.new.disk }
-        // The file so far is only read.
-        ensures rests { IsTrue (S.facts self.old.disk.store).honest → Rests (S.facts self.old.disk.store) (S.facts self.new.disk.store) }
-        ensures drifts { Drifts (S.facts self.old.disk.store).honest self.old.document self.new.document }
+        // The file so far.
+        ensures reads { OnlyReads S.facts self.old self.new }
+        // The target.
         ensures honest { MatchResult result
             (λ file. (S.facts file.disk.store).honest ≡ (S.facts target).honest)
             (λ refused. (S.facts refused.store).honest ≡ (S.facts target).honest) }

@@ -1,34 +1,39 @@
-use Rattle.std.proofs.Common.{◌≡◌, [], IsTrue, sym, ap, subst, ◌∙◌}
+use Rattle.std.proofs.Common.{◌≡◌, ◌≢◌, [], IsTrue, refl, sym, ap, subst, ◌∙◌}
+use Rattle.std.specs.Prelude.{Ok, Err}
+use Rattle.std.proofs.lemmas.Result.{err_from_is_err_and}
+use Rattle.geos_model.specs.declared.fault.Fault.TheVariants.{Worn}
+use Rattle.vm_file.specs.Calls.{last_sequence}
+use Rattle.vm_file.specs.Copies.{IsCopy}
+use Rattle.vm_file.specs.Disk.{FileState, IsSettled, Commits}
+use Rattle.vm_file.specs.Documents.{Documents, document_in}
+use Rattle.vm_file.specs.Effects.{IsCommit}
 use Rattle.vm_file.specs.Ranges.{IsPlaced}
 use Rattle.vm_file.specs.Slots.{stored_extents, pair_extents, held_extents}
-use Rattle.vm_file.specs.Documents.{Documents, document_in}
-use Rattle.vm_file.specs.Disk.{IsSettled, Drifts, Commits}
-use Rattle.std.specs.Prelude.{Ok}
 use Rattle.vm_file.specs.Sound.{disk_of}
-use Rattle.vm_file.specs.Copies.{IsCopy}
 use Rattle.vm_file.specs.declared.slots.Pair.{Pair}
-use Rattle.std.proofs.lemmas.Result.{err_from_is_err_and}
 use Rattle.vm_file.proofs.KeptBytes.{all_left, all_right}
-use Rattle.vm_file.proofs.Content.{committed_content}
 use Rattle.vm_file.proofs.Copied.{pair_documents, pair_placed, pair_stored, sound_saved, copy_document, copies_alike, copy_itself, copy_drifts}
-use Rattle.vm_file.proofs.Passing.{Commits-refused}
-use Rattle.vm_file.proofs.Results.{on_err}
+use Rattle.vm_file.proofs.Effects.{refused, refused_by, tried}
 use Rattle.vm_file.proofs.Stands.{sound_settled}
 use Rattle.vm_file.proofs.file.VmFile.commit_revert.Goals as goal
 
-pub returns-then-self-clause-commits : goal.returns-then-self-clause-commits
-returns-then-self-clause-commits g c =
-    Commits-refused g.S.Store.facts _ _ _ (subst (λ f. IsSettled g.S.Store.facts f.disk) c.self.view_is (sound_settled g.S.Store.facts c.self.inside.store c.self.inside.live c.self.inside.slots c.self.invariant))
+pub returns-then-self-clause-commit : goal.returns-then-self-clause-commit
+returns-then-self-clause-commit g c =
+    let i = c.self.inside in let f = c.args.self.now in
+    refused g.S.Store.facts f _ _ Worn (subst (λ s. IsSettled g.S.Store.facts s.disk) c.self.view_is (sound_settled g.S.Store.facts i.store i.live i.slots c.self.invariant))
+    (λ _. subst (λ s. s.disk.sequence ≡ last_sequence) c.self.view_is c.if-self.true, λ _. refl)
 
-pub returns-in_err-live-clause-commits : goal.returns-in_err-live-clause-commits
-returns-in_err-live-clause-commits g c =
-    let p = err_from_is_err_and c.from_residual.result c.from_residual.ensures.1 in
-    rw (p.1) (Commits-refused g.S.Store.facts _ _ _ (subst (λ f. IsSettled g.S.Store.facts f.disk) c.self.view_is (sound_settled g.S.Store.facts c.self.inside.store c.self.inside.live c.self.inside.slots c.self.invariant)))
+pub returns-in_err-live-clause-commit : goal.returns-in_err-live-clause-commit
+returns-in_err-live-clause-commit g c =
+    let i = c.self.inside in
+    refused_by g.S.Store.facts c.args.self.now _ _ c.from_residual.result c.from_residual.ensures.1 (subst (λ s. IsSettled g.S.Store.facts s.disk) c.self.view_is (sound_settled g.S.Store.facts i.store i.live i.slots c.self.invariant))
+    (subst (λ s. s.disk.sequence ≢ last_sequence) c.self.view_is c.if-self.false)
 
-pub returns-in_err-pair-clause-commits : goal.returns-in_err-pair-clause-commits
-returns-in_err-pair-clause-commits g c =
-    let p = err_from_is_err_and c.from_residual-in_err-pair.result c.from_residual-in_err-pair.ensures.1 in
-    rw (p.1) (Commits-refused g.S.Store.facts _ _ _ (subst (λ f. IsSettled g.S.Store.facts f.disk) c.self.view_is (sound_settled g.S.Store.facts c.self.inside.store c.self.inside.live c.self.inside.slots c.self.invariant)))
+pub returns-in_err-pair-clause-commit : goal.returns-in_err-pair-clause-commit
+returns-in_err-pair-clause-commit g c =
+    let i = c.self.inside in
+    refused_by g.S.Store.facts c.args.self.now _ _ c.from_residual-in_err-pair.result c.from_residual-in_err-pair.ensures.1 (subst (λ s. IsSettled g.S.Store.facts s.disk) c.self.view_is (sound_settled g.S.Store.facts i.store i.live i.slots c.self.invariant))
+    (subst (λ s. s.disk.sequence ≢ last_sequence) c.self.view_is c.if-self.false)
 
 pub settle-requires-clause-placed : goal.settle-requires-clause-placed
 settle-requires-clause-placed g c =
@@ -43,13 +48,21 @@ settle-requires-clause-stored g c so =
     let stored = (c.self.invariant.whole so).committed.saved in
     pair_stored (g.S.Store.facts c.self.inside.store).content c.in_ok-pair.pair saved saved c.in_ok-pair.ensures.updated c.in_ok-pair.ensures.saved stored stored
 
-pub returns-in_err-settle-clause-err : goal.returns-in_err-settle-clause-err
-returns-in_err-settle-clause-err g c =
-    let live = c.self.inside.live in
-    let a = g.S.Store.facts c.self.inside.store in
-    let b = g.S.Store.facts c.settle.new.store in
-    on_err c.from_residual-in_err-settle.result _ (subst (λ f. Drifts (g.S.Store.facts f.disk.store).honest f.document (document_in b.content live)) c.self.view_is
-    (copy_drifts a.honest a.content b.content live live (copy_itself live) c.settle.ensures.live))
+pub returns-in_err-settle-clause-commit : goal.returns-in_err-settle-clause-commit
+returns-in_err-settle-clause-commit g c =
+    let facts = g.S.Store.facts in let i = c.self.inside in
+    let saved = i.slots.committed.saved in
+    let a = facts i.store in let b = facts c.settle.new.store in
+    let p = err_from_is_err_and c.from_residual-in_err-settle.result c.from_residual-in_err-settle.ensures.1 in
+    let fault = c.in_err-settle.field-0.0 in
+    let documents = pair_documents a.content c.in_ok-pair.pair saved saved c.in_ok-pair.ensures.updated c.in_ok-pair.ensures.saved in
+    let old : FileState g.row.S.Denot = record { disk = disk_of facts i.store i.slots; document = document_in a.content i.live } in
+    let new : FileState g.row.S.Denot = record { disk = disk_of facts c.settle.new.store c.settle.new.slots; document = document_in b.content i.live } in
+    subst (λ (f : FileState g.row.S.Denot). IsCommit facts (f.disk.saved, f.disk.saved) f.disk.saved f new c.from_residual-in_err-settle.result) c.self.view_is
+    (subst (λ r. IsCommit facts (old.disk.saved, old.disk.saved) old.disk.saved old new r) (sym (p.1 ∙ ap Err p.2))
+    (tried facts g.met.S.Store.timely old new _ _ (Err fault)
+    (subst (λ (d : Documents). Commits facts d old.disk new.disk (Err fault)) documents c.in_err-settle.ensures.commits)
+    (copy_drifts a.honest a.content b.content i.live i.live (copy_itself i.live) c.settle.ensures.live) c.in_err-settle.ensures.refusals c.if-self.false))
 
 pub invariant_of-self-2 : goal.invariant_of-self-2
 invariant_of-self-2 g c =
@@ -58,28 +71,22 @@ invariant_of-self-2 g c =
     let alike = copies_alike c.in_ok-live.live c.in_ok-pair.pair.saved.table saved.table c.in_ok-live.ensures c.in_ok-pair.ensures.saved.table in
     sound_saved (g.S.Store.facts c.settle.new.store) c.self.inside.live c.in_ok-live.live now (subst (λ (p : Pair). IsCopy c.in_ok-live.live p.saved.table) (sym c.in_ok-settle.ensures.committed) alike) c.settle.ensures.sound
 
-pub returns-clause-ok : goal.returns-clause-ok
-returns-clause-ok g c =
-    let saved = c.self.inside.slots.committed.saved in
+pub returns-clause-commit : goal.returns-clause-commit
+returns-clause-commit g c =
+    let facts = g.S.Store.facts in let i = c.self.inside in
+    let saved = i.slots.committed.saved in
     let pair = c.in_ok-pair.pair in
     let copy = c.in_ok-live.live in
-    let a = g.S.Store.facts c.self.inside.store in
-    let b = g.S.Store.facts c.settle.new.store in
+    let a = facts i.store in let b = facts c.settle.new.store in
+    let documents = pair_documents a.content pair saved saved c.in_ok-pair.ensures.updated c.in_ok-pair.ensures.saved in
     let same : IsTrue a.honest → document_in b.content copy ≡ document_in a.content saved.table = λ so.
     copy_document b.content copy pair.saved.table (copies_alike copy pair.saved.table saved.table c.in_ok-live.ensures c.in_ok-pair.ensures.saved.table)
     ∙ sym (ap (λ (p : Pair). document_in b.content p.saved.table) c.in_ok-settle.ensures.committed)
     ∙ ap (λ (d : Documents). d.1) (c.in_ok-settle.ensures.commits.ok so).0
     ∙ copy_document a.content pair.saved.table saved.table c.in_ok-pair.ensures.saved.table in
-    subst (λ f. Drifts (g.S.Store.facts f.disk.store).honest f.disk.saved (document_in b.content copy)) c.self.view_is (copy_drifts a.honest a.content b.content copy saved.table c.in_ok-live.ensures same)
-
-pub returns-clause-commits : goal.returns-clause-commits
-returns-clause-commits g c =
-    let saved = c.self.inside.slots.committed.saved in
-    let b = c.settle.new.store in
-    let now = c.settle.new.slots in
-    let documents = pair_documents (g.S.Store.facts c.self.inside.store).content c.in_ok-pair.pair saved saved c.in_ok-pair.ensures.updated c.in_ok-pair.ensures.saved in
-    subst (λ f. Commits g.S.Store.facts (f.disk.saved, f.disk.saved) f.disk (disk_of g.S.Store.facts b now) (Ok tt)) c.self.view_is
-    (subst (λ (d : Documents). Commits g.S.Store.facts d (disk_of g.S.Store.facts c.self.inside.store c.self.inside.slots) (disk_of g.S.Store.facts b now) (Ok tt)) documents c.in_ok-settle.ensures.commits)
-
-pub returns-clause-content : goal.returns-clause-content
-returns-clause-content g c = committed_content g.S.Store.facts g.met.S.Store.timely _ _ _ (Ok tt) c.in_ok-settle.ensures.commits
+    let old : FileState g.row.S.Denot = record { disk = disk_of facts i.store i.slots; document = document_in a.content i.live } in
+    let new : FileState g.row.S.Denot = record { disk = disk_of facts c.settle.new.store c.settle.new.slots; document = document_in b.content copy } in
+    subst (λ (f : FileState g.row.S.Denot). IsCommit facts (f.disk.saved, f.disk.saved) f.disk.saved f new (Ok tt)) c.self.view_is
+    (tried facts g.met.S.Store.timely old new _ _ (Ok tt)
+    (subst (λ (d : Documents). Commits facts d old.disk new.disk (Ok tt)) documents c.in_ok-settle.ensures.commits)
+    (copy_drifts a.honest a.content b.content copy saved.table c.in_ok-live.ensures same) tt c.if-self.false)

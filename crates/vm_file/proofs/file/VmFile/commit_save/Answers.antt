@@ -1,44 +1,44 @@
-use Rattle.std.proofs.Common.{subst, ◌∙◌}
-use Rattle.std.proofs.lemmas.Result.{err_from_is_err_and}
+use Rattle.std.proofs.Common.{◌≡◌, ◌≢◌, refl, subst, ◌∙◌}
 use Rattle.geos_model.specs.Document.{Document}
+use Rattle.geos_model.specs.declared.fault.Fault.TheVariants.{Worn}
+use Rattle.vm_file.specs.Calls.{last_sequence}
 use Rattle.vm_file.specs.Documents.{document_in}
-use Rattle.vm_file.specs.Disk.{IsSettled, Drifts, Commits}
+use Rattle.vm_file.specs.Disk.{FileState, IsSettled, Commits}
+use Rattle.vm_file.specs.Effects.{IsCommit}
 use Rattle.vm_file.specs.Sound.{disk_of}
-use Rattle.vm_file.proofs.Content.{committed_content}
 use Rattle.vm_file.proofs.Copied.{copy_itself, copy_drifts, copy_document}
-use Rattle.vm_file.proofs.Passing.{Commits-refused}
+use Rattle.vm_file.proofs.Effects.{refused, refused_by, tried}
+use Rattle.vm_file.proofs.Results.{either_way}
 use Rattle.vm_file.proofs.Stands.{sound_settled}
 use Rattle.vm_file.proofs.file.VmFile.commit_save.Goals as goal
 
-pub returns-then-self-clause-commits : goal.returns-then-self-clause-commits
-returns-then-self-clause-commits g c =
-    Commits-refused g.S.Store.facts _ _ _ (subst (λ f. IsSettled g.S.Store.facts f.disk) c.self.view_is (sound_settled g.S.Store.facts c.self.inside.store c.self.inside.live c.self.inside.slots c.self.invariant))
+pub returns-then-self-clause-commit : goal.returns-then-self-clause-commit
+returns-then-self-clause-commit g c =
+    let i = c.self.inside in let f = c.args.self.now in
+    refused g.S.Store.facts f _ _ Worn (subst (λ s. IsSettled g.S.Store.facts s.disk) c.self.view_is (sound_settled g.S.Store.facts i.store i.live i.slots c.self.invariant))
+    (λ _. subst (λ s. s.disk.sequence ≡ last_sequence) c.self.view_is c.if-self.true, λ _. refl)
 
-pub returns-in_err-draft-clause-commits : goal.returns-in_err-draft-clause-commits
-returns-in_err-draft-clause-commits g c =
-    let p = err_from_is_err_and c.from_residual.result c.from_residual.ensures.1 in
-    rw (p.1) (Commits-refused g.S.Store.facts _ _ _ (subst (λ f. IsSettled g.S.Store.facts f.disk) c.self.view_is (sound_settled g.S.Store.facts c.self.inside.store c.self.inside.live c.self.inside.slots c.self.invariant)))
+pub returns-in_err-draft-clause-commit : goal.returns-in_err-draft-clause-commit
+returns-in_err-draft-clause-commit g c =
+    let i = c.self.inside in
+    refused_by g.S.Store.facts c.args.self.now _ _ c.from_residual.result c.from_residual.ensures.1 (subst (λ s. IsSettled g.S.Store.facts s.disk) c.self.view_is (sound_settled g.S.Store.facts i.store i.live i.slots c.self.invariant))
+    (subst (λ s. s.disk.sequence ≢ last_sequence) c.self.view_is c.if-self.false)
 
-pub returns-in_err-saved-clause-commits : goal.returns-in_err-saved-clause-commits
-returns-in_err-saved-clause-commits g c =
-    let p = err_from_is_err_and c.from_residual-in_err-saved.result c.from_residual-in_err-saved.ensures.1 in
-    rw (p.1) (Commits-refused g.S.Store.facts _ _ _ (subst (λ f. IsSettled g.S.Store.facts f.disk) c.self.view_is (sound_settled g.S.Store.facts c.self.inside.store c.self.inside.live c.self.inside.slots c.self.invariant)))
+pub returns-in_err-saved-clause-commit : goal.returns-in_err-saved-clause-commit
+returns-in_err-saved-clause-commit g c =
+    let i = c.self.inside in
+    refused_by g.S.Store.facts c.args.self.now _ _ c.from_residual-in_err-saved.result c.from_residual-in_err-saved.ensures.1 (subst (λ s. IsSettled g.S.Store.facts s.disk) c.self.view_is (sound_settled g.S.Store.facts i.store i.live i.slots c.self.invariant))
+    (subst (λ s. s.disk.sequence ≢ last_sequence) c.self.view_is c.if-self.false)
 
-pub returns-clause-commits : goal.returns-clause-commits
-returns-clause-commits g c =
-    let live = c.self.inside.live in
-    let a = (g.S.Store.facts c.self.inside.store).content in
+pub returns-clause-commit : goal.returns-clause-commit
+returns-clause-commit g c =
+    let facts = g.S.Store.facts in let i = c.self.inside in
+    let a = facts i.store in let b = facts c.commit_draft.new.store in
     let saved = c.in_ok-saved.saved in
-    let same = copy_document a saved.table c.in_ok-draft.draft.stored.table c.in_ok-saved.ensures.table ∙ copy_document a c.in_ok-draft.draft.stored.table live c.in_ok-draft.ensures.table in
-    subst (λ f. Commits g.S.Store.facts (f.document, f.document) f.disk (disk_of g.S.Store.facts c.commit_draft.new.store c.commit_draft.new.slots) c.commit_draft.result) c.self.view_is
-    (subst (λ (d : Document). Commits g.S.Store.facts (document_in a live, d) (disk_of g.S.Store.facts c.self.inside.store c.self.inside.slots) (disk_of g.S.Store.facts c.commit_draft.new.store c.commit_draft.new.slots) c.commit_draft.result) same c.commit_draft.ensures.commits)
-
-pub returns-clause-drifts : goal.returns-clause-drifts
-returns-clause-drifts g c =
-    let live = c.self.inside.live in
-    let a = g.S.Store.facts c.self.inside.store in
-    let b = g.S.Store.facts c.commit_draft.new.store in
-    subst (λ f. Drifts (g.S.Store.facts f.disk.store).honest f.document (document_in b.content live)) c.self.view_is (copy_drifts a.honest a.content b.content live live (copy_itself live) c.commit_draft.ensures.same)
-
-pub returns-clause-content : goal.returns-clause-content
-returns-clause-content g c = committed_content g.S.Store.facts g.met.S.Store.timely _ _ _ c.commit_draft.result c.commit_draft.ensures.commits
+    let same = copy_document a.content saved.table c.in_ok-draft.draft.stored.table c.in_ok-saved.ensures.table ∙ copy_document a.content c.in_ok-draft.draft.stored.table i.live c.in_ok-draft.ensures.table in
+    let old : FileState g.row.S.Denot = record { disk = disk_of facts i.store i.slots; document = document_in a.content i.live } in
+    let new : FileState g.row.S.Denot = record { disk = disk_of facts c.commit_draft.new.store c.commit_draft.new.slots; document = document_in b.content i.live } in
+    subst (λ (f : FileState g.row.S.Denot). IsCommit facts (f.document, f.document) f.document f new c.commit_draft.result) c.self.view_is
+    (tried facts g.met.S.Store.timely old new _ _ c.commit_draft.result
+    (subst (λ (d : Document). Commits facts (old.document, d) old.disk new.disk c.commit_draft.result) same c.commit_draft.ensures.commits)
+    (either_way c.commit_draft.result _ (copy_drifts a.honest a.content b.content i.live i.live (copy_itself i.live) c.commit_draft.ensures.same)) c.commit_draft.ensures.refusals c.if-self.false)

@@ -1,35 +1,22 @@
-use Rattle.std.proofs.Common.{IsTrue, false, refl, sym, ap, subst}
-use Rattle.vm_file.specs.Documents.{blocks_in, document_in}
+use Rattle.std.proofs.Common.{IsTrue, false, refl, sym, subst}
+use Rattle.vm_file.specs.Documents.{document_in}
 use Rattle.std.specs.Prelude.{IfOk}
-use Rattle.vm_file.specs.Disk.{Passes, Drifts, IsSettled, Numbered, ContentStands}
+use Rattle.vm_file.specs.Disk.{Drifts, IsSettled, Numbered, ContentStands}
+use Rattle.vm_file.specs.Effects.{OnlyReads}
 use Rattle.vm_file.specs.Sound.{disk_of}
-use Rattle.vm_file.proofs.Carried.{call_passes}
+use Rattle.vm_file.proofs.Effects.{rested}
 use Rattle.vm_file.proofs.Content.{settled_content}
 use Rattle.vm_file.proofs.LaidOut.{laid_drifts}
 use Rattle.vm_file.proofs.Stands.{sound_settled, sound_numbered}
-use Rattle.vm_file.proofs.Steps.{rests_leaves, rests_outlives}
-use Rattle.vm_file.proofs.Tables.{places_drift}
 use Rattle.vm_file.proofs.file.VmFile.copy_to.Goals.{in-Ok, in-Err}
 use Rattle.vm_file.proofs.file.VmFile.copy_to.Goals as goal
 
-pub returns-clause-passes : goal.returns-clause-passes
-returns-clause-passes g c =
-    let i = c.self.inside in
-    let a = g.S.Store.facts i.store in
-    let b = g.S.Store.facts c.copy_document.new.source in
+pub returns-clause-reads : goal.returns-clause-reads
+returns-clause-reads g c =
+    let facts = g.S.Store.facts in let i = c.self.inside in
     let looks = c.copy_document.ensures.looks in
-    subst (λ s. Passes g.S.Store.facts s.disk (disk_of g.S.Store.facts c.copy_document.new.source i.slots)) c.self.view_is
-    (call_passes g.S.Store.facts i.store c.copy_document.new.source i.live i.slots c.self.invariant looks.honest (λ so. (g.met.S.Store.timely c.copy_document.new.source so).now)
-    (λ so. rests_leaves i.slots a.content a b (looks.rests so) (c.self.invariant.whole so).leaves) looks.failures
-    (λ so. rests_outlives i.slots a.content a b (looks.rests so) (c.self.invariant.whole so).leaves))
-
-pub returns-clause-drifts : goal.returns-clause-drifts
-returns-clause-drifts g c =
-    let i = c.self.inside in
-    let a = g.S.Store.facts i.store in
-    let b = g.S.Store.facts c.copy_document.new.source in
-    subst (λ s. Drifts (g.S.Store.facts s.disk.store).honest s.document (document_in b.content i.live)) c.self.view_is
-    (places_drift a.honest a.content b.content i.live.places.items i.live.map_block (λ so. ap (λ f. blocks_in f i.live.places.items) (c.copy_document.ensures.looks.rests so).content))
+    subst (λ s. OnlyReads facts s (record { disk = disk_of facts c.copy_document.new.source i.slots; document = document_in (facts c.copy_document.new.source).content i.live })) c.self.view_is
+    (rested facts i.store c.copy_document.new.source i.live i.slots c.self.invariant (λ so. (g.met.S.Store.timely c.copy_document.new.source so).now) looks.honest looks.failures looks.rests)
 
 pub returns-clause-handles : goal.returns-clause-handles
 returns-clause-handles g c =

@@ -1,8 +1,10 @@
-use Rattle.std.proofs.Common.{◌≡◌, ◌≢◌, ◌++◌, All, length, refl, sym, ap, ap₂, subst, ◌∙◌, arith}
+use Rattle.std.proofs.Common.{◌≡◌, ◌≢◌, ◌++◌, All, IsTrue, length, refl, sym, ap, ap₂, subst, ◌∙◌, arith}
+use Rattle.std.specs.Prelude.{MatchResult}
 use Rattle.std.specs.Vec.{with_items}
 use Rattle.std.proofs.lemmas.Result.{err_from_is_err_and}
 use Rattle.vm_file.specs.Calls.{put_all, remove_all}
-use Rattle.vm_file.specs.Disk.{Drifts, Passes}
+use Rattle.vm_file.specs.Disk.{FileState}
+use Rattle.vm_file.specs.Effects.{KeepsFile}
 use Rattle.vm_file.specs.Documents.{document_in}
 use Rattle.vm_file.specs.Slots.{block_extents, kept_extents}
 use Rattle.vm_file.specs.Sound.{disk_of}
@@ -10,7 +12,6 @@ use Rattle.vm_file.specs.Writing.{IsSpared, with_places, without_places}
 use Rattle.vm_file.specs.declared.table.Table.{Table}
 use Rattle.vm_file.proofs.Filled.{shown_without_all}
 use Rattle.vm_file.proofs.Tables.{shown}
-use Rattle.vm_file.proofs.Results.{on_err}
 use Rattle.vm_file.proofs.Puts.{few_extents, changed_twice, spared_passes, spared_drifts, spared_sound, put_drifts, put_sound}
 use Rattle.vm_file.proofs.file.VmFile.put_blocks.Goals as goal
 
@@ -28,22 +29,20 @@ invariant_of-self g c =
     spared_sound g.S.Store.facts i.store b i.live i.slots c.self.invariant c.write_puts.ensures.honest (λ so. (g.met.S.Store.timely b so).now)
     (λ so. subst (λ ps. IsSpared (block_extents ps) i.slots (g.S.Store.facts i.store) (g.S.Store.facts b)) c.deref.ensures.value (c.write_puts.ensures.spared so))
 
-pub returns-in_err-extents-clause-passes : goal.returns-in_err-extents-clause-passes
-returns-in_err-extents-clause-passes g c =
-    let i = c.self.inside in
+pub returns-in_err-extents-clause-keeps : goal.returns-in_err-extents-clause-keeps
+returns-in_err-extents-clause-keeps g c =
+    let p = err_from_is_err_and c.from_residual.result c.from_residual.ensures.1 in
+    let facts = g.S.Store.facts in let i = c.self.inside in
     let b = c.write_puts.new.store in
-    subst (λ s. Passes g.S.Store.facts s.disk (disk_of g.S.Store.facts b i.slots)) c.self.view_is
-    (spared_passes g.S.Store.facts i.store b i.live i.slots c.self.invariant c.write_puts.ensures.honest (λ so. (g.met.S.Store.timely b so).now)
-    (λ so. subst (λ ps. IsSpared (block_extents ps) i.slots (g.S.Store.facts i.store) (g.S.Store.facts b)) c.deref.ensures.value (c.write_puts.ensures.spared so)) c.write_puts.ensures.failures)
-
-pub returns-in_err-extents-clause-err : goal.returns-in_err-extents-clause-err
-returns-in_err-extents-clause-err g c =
-    let i = c.self.inside in
-    let b = c.write_puts.new.store in
-    on_err c.from_residual.result _
-    (subst (λ s. Drifts (g.S.Store.facts s.disk.store).honest s.document (document_in (g.S.Store.facts b).content i.live)) c.self.view_is
-    (spared_drifts g.S.Store.facts i.store b i.live i.slots c.self.invariant c.write_puts.ensures.honest (λ so. (g.met.S.Store.timely b so).now)
-    (λ so. subst (λ ps. IsSpared (block_extents ps) i.slots (g.S.Store.facts i.store) (g.S.Store.facts b)) c.deref.ensures.value (c.write_puts.ensures.spared so))))
+    let timely : IsTrue (facts b).honest → (facts b).may_leave (facts b).content = λ so. (g.met.S.Store.timely b so).now in
+    let spared : IsTrue (facts i.store).honest → IsSpared (block_extents i.live.places.items) i.slots (facts i.store) (facts b) = λ so. subst (λ ps. IsSpared (block_extents ps) i.slots (facts i.store) (facts b)) c.deref.ensures.value (c.write_puts.ensures.spared so) in
+    let new : FileState g.row.S.Denot = record { disk = disk_of facts b i.slots; document = document_in (facts b).content i.live } in
+    let kept : KeepsFile facts (document_in (facts i.store).content i.live) (record { disk = disk_of facts i.store i.slots; document = document_in (facts i.store).content i.live }) new = record {
+      passes = spared_passes facts i.store b i.live i.slots c.self.invariant c.write_puts.ensures.honest timely spared c.write_puts.ensures.failures;
+      document = spared_drifts facts i.store b i.live i.slots c.self.invariant c.write_puts.ensures.honest timely spared;
+    } in
+    subst (λ r. MatchResult r (λ _. KeepsFile facts (remove_all c.args.removals.now (put_all c.args.puts.now c.args.self.now.document)) c.args.self.now new) (λ _. KeepsFile facts c.args.self.now.document c.args.self.now new)) (sym p.1)
+    (subst (λ (s : FileState g.row.S.Denot). KeepsFile facts s.document s new) c.self.view_is kept)
 
 pub returns-in_err-extents-clause-early : goal.returns-in_err-extents-clause-early
 returns-in_err-extents-clause-early g c =
@@ -69,17 +68,9 @@ invariant_of-self-2 g c =
     c.args.puts.now es c.args.removals.now new c.requires.puts _ c.in_ok-extents.ensures.found c.in_ok-extents.ensures.written refl changed
     (subst (λ s. All (λ h. h.0 ≢ s.document.map_block) c.args.removals.now) (sym c.self.view_is) c.requires.removals)
 
-pub returns-clause-passes : goal.returns-clause-passes
-returns-clause-passes g c =
-    let i = c.self.inside in
-    let b = c.write_puts.new.store in
-    subst (λ s. Passes g.S.Store.facts s.disk (disk_of g.S.Store.facts b i.slots)) c.self.view_is
-    (spared_passes g.S.Store.facts i.store b i.live i.slots c.self.invariant c.write_puts.ensures.honest (λ so. (g.met.S.Store.timely b so).now)
-    (λ so. subst (λ ps. IsSpared (block_extents ps) i.slots (g.S.Store.facts i.store) (g.S.Store.facts b)) c.deref.ensures.value (c.write_puts.ensures.spared so)) c.write_puts.ensures.failures)
-
-pub returns-clause-ok : goal.returns-clause-ok
-returns-clause-ok g c =
-    let i = c.self.inside in
+pub returns-clause-keeps : goal.returns-clause-keeps
+returns-clause-keeps g c =
+    let facts = g.S.Store.facts in let i = c.self.inside in
     let b = c.write_puts.new.store in
     let es = c.in_ok-extents.extents.items in
     let filled = c.put_places.ensures ∙ ap₂ (λ xs ps. with_places c.args.puts.now xs ps) c.deref-2.ensures.value c.deref_mut.ensures.value in
@@ -87,10 +78,13 @@ returns-clause-ok g c =
     let new : Table = record { map_block = i.live.map_block; places = with_items (with_items i.live.places c.put_places.new.places) c.remove_places.new.places } in
     let changed : new.places.items ≡ without_places c.args.removals.now (with_places c.args.puts.now es i.live.places.items) =
     changed_twice i.live.places.len i.live.places.items c.put_places.new.places c.remove_places.new.places c.args.puts.now es c.args.removals.now i.live.places.ok.0 filled left in
-    subst (λ s. Drifts (g.S.Store.facts s.disk.store).honest (remove_all c.args.removals.now (put_all c.args.puts.now s.document)) (document_in (g.S.Store.facts b).content new)) c.self.view_is
-    (put_drifts g.S.Store.facts i.store b i.live i.slots c.self.invariant c.write_puts.ensures.honest (λ so. (g.met.S.Store.timely b so).now)
-    (λ so. subst (λ ps. IsSpared (block_extents ps) i.slots (g.S.Store.facts i.store) (g.S.Store.facts b)) c.deref.ensures.value (c.write_puts.ensures.spared so))
-    c.args.puts.now es c.args.removals.now new c.requires.puts _ c.in_ok-extents.ensures.found c.in_ok-extents.ensures.written refl changed)
+    let timely : IsTrue (facts b).honest → (facts b).may_leave (facts b).content = λ so. (g.met.S.Store.timely b so).now in
+    let spared : IsTrue (facts i.store).honest → IsSpared (block_extents i.live.places.items) i.slots (facts i.store) (facts b) = λ so. subst (λ ps. IsSpared (block_extents ps) i.slots (facts i.store) (facts b)) c.deref.ensures.value (c.write_puts.ensures.spared so) in
+    subst (λ (s : FileState g.row.S.Denot). KeepsFile facts (remove_all c.args.removals.now (put_all c.args.puts.now s.document)) s (record { disk = disk_of facts b i.slots; document = document_in (facts b).content new })) c.self.view_is (record {
+      passes = spared_passes facts i.store b i.live i.slots c.self.invariant c.write_puts.ensures.honest timely spared c.write_puts.ensures.failures;
+      document = put_drifts facts i.store b i.live i.slots c.self.invariant c.write_puts.ensures.honest timely spared
+          c.args.puts.now es c.args.removals.now new c.requires.puts _ c.in_ok-extents.ensures.found c.in_ok-extents.ensures.written refl changed;
+    })
 
 pub returns-clause-removals_alone : goal.returns-clause-removals_alone
 returns-clause-removals_alone g c none =

@@ -6,11 +6,11 @@ use Rattle.geos_model.specs.Image.{image}
 use Rattle.geos_model.proofs.Tables.{slot_at}
 use Rattle.vm_file.specs.Ranges.{start_of}
 use Rattle.vm_file.specs.Documents.{blocks_in, document_in}
-use Rattle.vm_file.specs.Disk.{Passes, Drifts}
+use Rattle.vm_file.specs.Disk.{Drifts}
+use Rattle.vm_file.specs.Effects.{OnlyReads}
 use Rattle.vm_file.specs.Sound.{disk_of}
-use Rattle.vm_file.proofs.Carried.{call_passes}
+use Rattle.vm_file.proofs.Effects.{rested}
 use Rattle.vm_file.proofs.Imaged.{read_image, if_ok_both}
-use Rattle.vm_file.proofs.Steps.{rests_leaves, rests_outlives}
 use Rattle.vm_file.proofs.Tables.{IsPlaceOf, entry_live, entry_lies, places_drift}
 use Rattle.vm_file.proofs.file.VmFile.read_saved.Goals as goal
 
@@ -21,23 +21,12 @@ unreachable-requires g c =
     let is : IsPlaceOf saved.places.items h c.place_of.result = record { nothing = c.place_of.ensures.zero; place = λ low. c.place_of.ensures.place low ∙ ap (λ ps. slot_at ps (h - 1)) c.deref.ensures.value } in
     cc (sym (ap is_some c.in-None.is) ∙ entry_live (g.S.Store.facts c.self.inside.store).content saved.places.items saved.map_block h c.place_of.result is ∙ ap (λ s. is_live s.disk.saved h) c.self.view_is ∙ c.requires)
 
-pub returns-clause-passes : goal.returns-clause-passes
-returns-clause-passes g c =
-    let i = c.self.inside in
-    let a = g.S.Store.facts i.store in
-    let b = g.S.Store.facts c.read_extent.new.store in
-    subst (λ s. Passes g.S.Store.facts s.disk (disk_of g.S.Store.facts c.read_extent.new.store i.slots)) c.self.view_is
-    (call_passes g.S.Store.facts i.store c.read_extent.new.store i.live i.slots c.self.invariant c.read_extent.ensures.honest (λ so. (g.met.S.Store.timely c.read_extent.new.store so).now)
-    (λ so. rests_leaves i.slots a.content a b (c.read_extent.ensures.rests so) (c.self.invariant.whole so).leaves) c.read_extent.ensures.failures
-    (λ so. rests_outlives i.slots a.content a b (c.read_extent.ensures.rests so) (c.self.invariant.whole so).leaves))
-
-pub returns-clause-drifts : goal.returns-clause-drifts
-returns-clause-drifts g c =
-    let i = c.self.inside in
-    let a = g.S.Store.facts i.store in
-    let b = g.S.Store.facts c.read_extent.new.store in
-    subst (λ s. Drifts (g.S.Store.facts s.disk.store).honest s.document (document_in b.content i.live)) c.self.view_is
-    (places_drift a.honest a.content b.content i.live.places.items i.live.map_block (λ so. ap (λ f. blocks_in f i.live.places.items) (c.read_extent.ensures.rests so).content))
+pub returns-clause-reads : goal.returns-clause-reads
+returns-clause-reads g c =
+    let facts = g.S.Store.facts in let i = c.self.inside in
+    let read = c.read_extent.ensures in
+    subst (λ s. OnlyReads facts s (record { disk = disk_of facts c.read_extent.new.store i.slots; document = document_in (facts c.read_extent.new.store).content i.live })) c.self.view_is
+    (rested facts i.store c.read_extent.new.store i.live i.slots c.self.invariant (λ so. (g.met.S.Store.timely c.read_extent.new.store so).now) read.honest read.failures read.rests)
 
 pub returns-clause-saved : goal.returns-clause-saved
 returns-clause-saved g c =
