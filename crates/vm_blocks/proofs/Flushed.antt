@@ -1,5 +1,5 @@
 -- What is changed comes into a file batch by batch.
-use Rattle.std.proofs.Common.{◌≡◌, ◌≢◌, ◌⊎◌, ℕ, zero, suc, ◌+◌, ◌-◌, ◌<◌, ◌≤◌, Bool, true, false, IsTrue, List, [], ◌∷◌, ◌++◌, All, Option, None, Some, is_some, refl, sym, ap, subst, ◌∙◌, arith, inl, inr, nat_cmp}
+use Rattle.std.proofs.Common.{◌≡◌, ◌≢◌, ◌⊎◌, ℕ, zero, suc, ◌+◌, ◌-◌, ◌<◌, ◌≤◌, Bool, true, false, IsTrue, List, [], ◌∷◌, ◌++◌, All, Option, None, Some, is_some, refl, sym, ap, subst, ◌∙◌, arith, inl, inr}
 use Rattle.std.proofs.lemmas.Bool.{cases_eq, cases_lt, cases_Bool}
 use Rattle.std.proofs.lemmas.List.Elements.{All-append}
 use Rattle.std.specs.FinMap.{get, same_map, nat_cmp-IsAntisymmetric}
@@ -8,12 +8,12 @@ use Rattle.geos_model.specs.Document.{Block, Document, IsValid, is_live, is_vm_h
 use Rattle.geos_model.specs.Image.{body_read}
 use Rattle.geos_model.specs.declared.handle.VmHandle.{VmHandle}
 use Rattle.geos_model.proofs.HeapEdits.{get-put_same, get-put_other, get-taken_same, get-taken_other}
-use Rattle.vm_file.specs.Disk.{Drifts, IsListed}
+use Rattle.vm_file.specs.Disk.{Drifts}
 use Rattle.vm_file.specs.Calls.{IsPut, put_all, remove_all}
 use Rattle.vm_file.specs.declared.put.PutBlock.{PutBlock}
-use Rattle.vm_file.proofs.Tables.{handle_in, handle_within}
+use Rattle.vm_file.proofs.Tables.{handle_within}
 use Rattle.vm_blocks.specs.InFile.{is_changed, IsInFile, IsOutside, IsBatch, IsCleared, AreCleared}
-use Rattle.vm_blocks.proofs.Loaded.{dead, no_block, past_free}
+use Rattle.vm_blocks.proofs.Loaded.{dead, no_block}
 
 -- the block that is put
 abbrev pub put_block : PutBlock → Block

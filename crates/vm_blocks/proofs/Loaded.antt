@@ -1,6 +1,6 @@
 -- Blocks that are taken over from a file.
-use Rattle.std.proofs.Common.{◌≡◌, ℕ, suc, ◌+◌, ◌<◌, ◌≤◌, Bool, true, false, IsTrue, List, [], Option, None, Some, is_some, refl, sym, ap, subst, ◌∙◌, arith, inl, inr, nat_cmp}
-use Rattle.std.specs.Prelude.{unwrap_or}
+use Rattle.std.proofs.Common.{◌≡◌, ℕ, ◌+◌, ◌<◌, ◌≤◌, Bool, true, false, IsTrue, List, [], Option, None, Some, is_some, refl, sym, ap, subst, ◌∙◌, arith, inl, inr, nat_cmp}
+use Rattle.std.specs.Prelude.{unwrap_or, ◌⊎◌, Result, Err}
 use Rattle.std.specs.Option.{option_map_or}
 use Rattle.std.proofs.lemmas.Bool.{cases_eq, cases_lt, cases_Bool}
 use Rattle.std.specs.FinMap.{get, get-empty, same_map, nat_cmp-IsAntisymmetric}
@@ -11,12 +11,16 @@ use Rattle.geos_model.specs.declared.command.Body.{Body}
 use Rattle.geos_model.specs.declared.command.Body.TheVariants.{Raw}
 use Rattle.geos_model.proofs.Files.{body_of-image}
 use Rattle.geos_model.proofs.HeapEdits.{get-put_same, get-put_other}
+use Rattle.geos_model.specs.declared.fault.Fault.{Fault}
+use Rattle.geos_model.specs.declared.fault.Fault.TheVariants.{Memory, Damaged}
 use Rattle.vm_store.specs.Facts.{StoreFacts, IsTimely}
+use Rattle.vm_file.specs.Calls.{IsSupply}
 use Rattle.vm_file.specs.Disk.{FileState, Drifts, IsListed}
+use Rattle.vm_file.specs.Effects.{Fails, IsDamage}
 use Rattle.vm_file.proofs.Tables.{handle_within}
-use Rattle.vm_file.proofs.Looking.{Rests-refl, Rests-trans}
-use Rattle.vm_file.proofs.Passing.{Drifts-refl, Drifts-trans, Passes-refl, Passes-trans}
-use Rattle.vm_blocks.specs.Reading.{Looks}
+use Rattle.vm_file.proofs.Effects.{OnlyReads-refl, OnlyReads-trans}
+use Rattle.vm_file.proofs.Passing.{Drifts-refl, Drifts-trans}
+use Rattle.vm_blocks.specs.Reading.{ReadsVersion}
 use Rattle.vm_blocks.specs.InFile.{document_at, IsTaken, Takes, AreTaken}
 use Rattle.vm_blocks.specs.declared.version.Version.{Version}
 use Rattle.vm_blocks.specs.declared.version.Version.TheVariants.{Present, Saved}
@@ -136,15 +140,14 @@ module _ (honest : Bool) (d now old new : Document) (n : ℕ) (drifts : Drifts h
   taken_more takes = elim takes as (λ _. AreTaken honest d (n + 1) new) [ inl none ↦ nothing_more none.0 none.1 | inr one ↦ one_more one.0 one.1 ]
 
 module _ {S : Type 0} (facts : S → StoreFacts) (version : Version) where
-  pub looks_refl : (a : FileState S) → Looks facts version a a
-  looks_refl a = record { passes = Passes-refl facts a.disk; rests = λ so. Rests-refl (facts a.disk.store); present = Drifts-refl _ a.document; read = Drifts-refl _ (document_at version a) }
+  pub looks_refl : (a : FileState S) → ReadsVersion facts version a a
+  looks_refl a = record { reads = OnlyReads-refl facts a; version_stays = Drifts-refl _ (document_at version a) }
 
-  pub looks_trans : (a b c : FileState S) → (IsTrue (facts a.disk.store).honest → IsTimely (facts a.disk.store)) → Looks facts version a b → Looks facts version b c → Looks facts version a c
+  pub looks_trans : (a b c : FileState S) → (IsTrue (facts a.disk.store).honest → IsTimely (facts a.disk.store)) → ReadsVersion facts version a b → ReadsVersion facts version b c → ReadsVersion facts version a c
   looks_trans a b c timely p q = record {
-    passes = Passes-trans facts a.disk b.disk c.disk p.passes q.passes;
-    rests = λ so. Rests-trans (facts a.disk.store) (facts b.disk.store) (facts c.disk.store) (timely so) (p.rests so) (q.rests (subst IsTrue (sym p.passes.honest) so));
-    present = Drifts-trans _ a.document b.document c.document p.present (subst (λ t. Drifts t b.document c.document) p.passes.honest q.present);
-    read = Drifts-trans _ (document_at version a) (document_at version b) (document_at version c) p.read (subst (λ t. Drifts t (document_at version b) (document_at version c)) p.passes.honest q.read);
+    reads = OnlyReads-trans facts a b c timely p.reads q.reads;
+    version_stays = Drifts-trans _ (document_at version a) (document_at version b) (document_at version c) p.version_stays
+        (subst (λ t. Drifts t (document_at version b) (document_at version c)) p.reads.passes.honest q.version_stays);
   }
 
 -- All of them, and the map block.
@@ -164,3 +167,11 @@ loaded honest d all new map_block listed mb are is =
           let map : new.map_block ≡ d.map_block = ap (λ (x : Document). x.map_block) is ∙ mb in
           λ i. record { blocks = blocks i; map_block = map i };
     }
+
+-- what can't be read
+pub unread : {S A : Type 0} (facts : S → StoreFacts) (old new : S) (fault : Fault) (result : Result A Fault) → result ≡ Err fault → (fault ≡ Memory) ⊎ (fault ≡ Damaged) → (fault ≡ Damaged → IsTrue (facts old).honest → ⊥)
+    → Fails facts (IsDamage (facts old).honest) old new result
+unread facts old new fault result is either other = subst (Fails facts (IsDamage (facts old).honest) old new) (sym is) (record {
+  file = λ file. elim either [ inl memory ↦ absurd (cc (file, memory)) | inr damaged ↦ absurd (cc (file, damaged)) ];
+  faults = elim either as (λ _. IsSupply fault ⊎ IsDamage (facts old).honest fault) [ inl memory ↦ inl (inl memory) | inr damaged ↦ inr (damaged, other damaged) ];
+})

@@ -1,8 +1,7 @@
 -- What a document file has of the blocks that are in memory.
-use Rattle.std.specs.Prelude.{◌≡◌, ◌≢◌, ◌⊎◌, ℕ, ◌-◌, ◌+◌, ◌<◌, ◌≤◌, Bool, true, false, IsTrue, List, [], All, length, get_or, Option, None, Some}
+use Rattle.std.specs.Prelude.{◌≡◌, ◌≢◌, ◌⊎◌, ℕ, ◌-◌, ◌<◌, ◌≤◌, Bool, true, false, IsTrue, List, All, length, get_or, None, Some}
 use Rattle.std.specs.FinMap.{get}
-use Rattle.geos_model.specs.Document.{Block, Document, block_at, is_live, is_vm_handle, most_blocks, user_id_of, with_block}
-use Rattle.geos_model.specs.Image.{body_read}
+use Rattle.geos_model.specs.Document.{Block, Document, is_live, is_vm_handle, most_blocks, user_id_of, with_block}
 use Rattle.geos_model.specs.declared.command.Body.{Body}
 use Rattle.geos_model.specs.declared.handle.VmHandle.{VmHandle}
 use Rattle.vm_file.specs.Disk.{FileState}

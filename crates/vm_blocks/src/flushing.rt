@@ -1,9 +1,8 @@
 // What is changed in memory, written to a document file.
-ghost use Rattle.std.specs.Prelude.{◌≡◌, ◌≤◌, ◌<◌, ◌+◌, ◌-◌, ℕ, true, IsTrue, OnOk, IfOk, IfErr, IsErrOf, length};
-ghost use Rattle.vm_store.specs.Facts.{Raised};
+ghost use Rattle.std.specs.Prelude.{◌≡◌, ◌≤◌, ◌<◌, ◌+◌, ◌-◌, ℕ, true, IsTrue, OnOk, IfOk, length};
 ghost use Rattle.geos_model.specs.Document.{is_live, is_vm_handle, most_blocks};
-ghost use Rattle.vm_file.specs.Calls.{IsSupply};
 ghost use Rattle.vm_file.specs.Disk.{Passes};
+ghost use Rattle.vm_file.specs.Effects.{Fails, NoFault};
 ghost use Rattle.vm_blocks.specs.InFile.{is_changed, IsInFile, IsBatch, IsCleared, AreCleared};
 
 use crate::Blocks;
@@ -107,8 +106,7 @@ fn put_batch<S: Store>(
     ensures map_block { file.new.document.map_block ≡ 0 }
     ensures on { IfOk result (λ end. (from < end) × (end ≤ MOST_BLOCKS)) }
     ensures cleared { IfOk result (λ end. IsCleared from end changed.old changed.new) }
-    ensures file { IsErrOf result Fault.File → Raised (S.facts file.old.disk.store) (S.facts file.new.disk.store) }
-    ensures refusals { IfErr result IsSupply }
+    ensures fails { Fails S.facts NoFault file.old.disk.store file.new.disk.store result }
 {
     let (batch, end) = gather(alloc, blocks, changed, from)?;
     file.put_blocks(&batch.puts, &batch.removals)?;
@@ -128,8 +126,7 @@ fn put_changed<S: Store>(
     ensures passes { Passes S.facts file.old.disk file.new.disk }
     ensures kept { IsInFile (S.facts file.old.disk.store).honest file.new.document blocks.now changed.new }
     ensures cleared { OnOk result (AreCleared MOST_BLOCKS changed.new) }
-    ensures file { IsErrOf result Fault.File → Raised (S.facts file.old.disk.store) (S.facts file.new.disk.store) }
-    ensures refusals { IfErr result IsSupply }
+    ensures fails { Fails S.facts NoFault file.old.disk.store file.new.disk.store result }
 {
     let mut from = 0;
     while from < MOST_BLOCKS {
@@ -152,8 +149,7 @@ pub fn flush<S: Store>(
     ensures ok { OnOk result (IsTrue (S.facts file.old.disk.store).honest → file.new.document ≡ blocks.now) }
     ensures cleared { OnOk result (AreCleared MOST_BLOCKS changed.new) }
     ensures handles { OnOk result ((h : ℕ) → is_live file.new.document h ≡ is_live blocks.now h) }
-    ensures file { IsErrOf result Fault.File → Raised (S.facts file.old.disk.store) (S.facts file.new.disk.store) }
-    ensures refusals { IfErr result IsSupply }
+    ensures fails { Fails S.facts NoFault file.old.disk.store file.new.disk.store result }
 {
     blocks.validity();
     // The map block of the file may be one that goes out.

@@ -1,12 +1,11 @@
 // A document of a file, read into memory.
-ghost use Rattle.std.specs.Prelude.{◌≡◌, ◌⊎◌, true, IsTrue, OnOk, IfOk, IfErr, IfSome, IsErrOf, is_some};
-ghost use Rattle.vm_store.specs.Facts.{Raised};
+ghost use Rattle.std.specs.Prelude.{◌≡◌, true, IsTrue, OnOk, IfOk, IfSome, is_some};
 ghost use Rattle.geos_model.specs.Document.{block_at, is_live, is_vm_handle, user_id_of};
 ghost use Rattle.geos_model.specs.Image.{image};
-ghost use Rattle.vm_file.specs.Calls.{IsSupply};
 ghost use Rattle.vm_file.specs.Disk.{Drifts};
+ghost use Rattle.vm_file.specs.Effects.{Fails, NoFault, IsDamage};
 ghost use Rattle.vm_blocks.specs.InFile.{document_at, Takes, AreTaken};
-ghost use Rattle.vm_blocks.specs.Reading.{Looks, IsLoadRefusal};
+ghost use Rattle.vm_blocks.specs.Reading.{ReadsVersion};
 
 use crate::blocks::MOST_BLOCKS;
 use crate::images::read_image;
@@ -44,10 +43,9 @@ fn image_in<S: Store>(
     handle: VmHandle,
 ) -> Result<Vec<u8>, Fault>
     requires { is_live (document_at version file.old) handle.0 ≡ true }
-    ensures looks { Looks S.facts version file.old file.new }
+    ensures reads { ReadsVersion S.facts version file.old file.new }
     ensures image { IfOk result (λ bytes. IsTrue (S.facts file.old.disk.store).honest → bytes.items ≡ image (block_at (document_at version file.old) handle.0).body) }
-    ensures file { IsErrOf result Fault.File → Raised (S.facts file.old.disk.store) (S.facts file.new.disk.store) }
-    ensures refusals { IfErr result IsSupply }
+    ensures fails { Fails S.facts NoFault file.old.disk.store file.new.disk.store result }
 {
     match version {
         Version::Present => file.read_block(handle),
@@ -65,11 +63,9 @@ fn take_block<S: Store>(
     blocks: &mut Blocks,
 ) -> Result<(), Fault>
     requires { is_vm_handle handle.0 ≡ true }
-    ensures looks { Looks S.facts version file.old file.new }
+    ensures reads { ReadsVersion S.facts version file.old file.new }
     ensures ok { OnOk result (Takes (S.facts file.old.disk.store).honest (document_at version file.old) handle.0 blocks.old blocks.new) }
-    ensures damaged { IsErrOf result Fault.Damaged → IsTrue (S.facts file.old.disk.store).honest → ⊥ }
-    ensures file { IsErrOf result Fault.File → Raised (S.facts file.old.disk.store) (S.facts file.new.disk.store) }
-    ensures refusals { IfErr result IsLoadRefusal }
+    ensures fails { Fails S.facts (IsDamage (S.facts file.old.disk.store).honest) file.old.disk.store file.new.disk.store result }
 {
     file.validity();
     match user_id_in(file, version, handle) {
@@ -89,11 +85,9 @@ fn take_blocks<S: Store>(
     file: &mut VmFile<S>,
     version: Version,
 ) -> Result<Blocks, Fault>
-    ensures looks { Looks S.facts version file.old file.new }
+    ensures reads { ReadsVersion S.facts version file.old file.new }
     ensures ok { IfOk result (AreTaken (S.facts file.old.disk.store).honest (document_at version file.old) MOST_BLOCKS) }
-    ensures damaged { IsErrOf result Fault.Damaged → IsTrue (S.facts file.old.disk.store).honest → ⊥ }
-    ensures file { IsErrOf result Fault.File → Raised (S.facts file.old.disk.store) (S.facts file.new.disk.store) }
-    ensures refusals { IfErr result IsLoadRefusal }
+    ensures fails { Fails S.facts (IsDamage (S.facts file.old.disk.store).honest) file.old.disk.store file.new.disk.store result }
 {
     file.validity();
     let mut blocks = Blocks::new(alloc)?;
@@ -110,11 +104,9 @@ pub fn load<S: Store>(
     file: &mut VmFile<S>,
     version: Version,
 ) -> Result<Blocks, Fault>
-    ensures looks { Looks S.facts version file.old file.new }
+    ensures reads { ReadsVersion S.facts version file.old file.new }
     ensures ok { IfOk result (λ blocks. Drifts (S.facts file.old.disk.store).honest (document_at version file.old) blocks) }
-    ensures damaged { IsErrOf result Fault.Damaged → IsTrue (S.facts file.old.disk.store).honest → ⊥ }
-    ensures file { IsErrOf result Fault.File → Raised (S.facts file.old.disk.store) (S.facts file.new.disk.store) }
-    ensures refusals { IfErr result IsLoadRefusal }
+    ensures fails { Fails S.facts (IsDamage (S.facts file.old.disk.store).honest) file.old.disk.store file.new.disk.store result }
 {
     file.validity();
     let map_block = map_block_in(file, version);

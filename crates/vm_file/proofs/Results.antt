@@ -16,3 +16,7 @@ on_err_both (Err x) f p q = f p q
 pub either_way : {T E : Type 0} (r : Result T E) (P : Type 0) → P → MatchResult r (λ _. P) (λ _. P)
 either_way (Ok x) P p = p
 either_way (Err x) P p = p
+
+pub any_way : {T E : Type 0} (r : Result T E) (P : Type 0) → MatchResult r (λ _. P) (λ _. P) → P
+any_way (Ok x) P p = p
+any_way (Err x) P p = p

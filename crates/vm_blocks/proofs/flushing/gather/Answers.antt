@@ -1,4 +1,4 @@
-use Rattle.std.proofs.Common.{◌≡◌, ◌+◌, ◌-◌, sym, subst, arith}
+use Rattle.std.proofs.Common.{◌≡◌, ◌+◌, ◌-◌, subst, arith}
 use Rattle.vm_blocks.specs.InFile.{IsBatch}
 use Rattle.vm_blocks.proofs.flushing.gather.Goals as goal
 
