@@ -1,25 +1,23 @@
--- Over an honest store a commit is a step of the machine, and the documents of the disk stay valid.
-use Rattle.std.proofs.Common.{◌≡◌, ◌⊎◌, ◌↔◌, ◌+◌, ◌==◌, ℕ, Bool, true, false, IsTrue, List, [], Some, Result, Ok, Err, IfErr, refl, sym, ap, subst, ◌∙◌, inl, inr}
-use Rattle.std.specs.Prelude.{OnOk, OnErr, IsErrOf}
+-- Over an honest store a commit is a step of the machine.
+use Rattle.std.proofs.Common.{◌≡◌, ◌↔◌, ◌+◌, ◌==◌, ℕ, Bool, true, false, IsTrue, List, [], Some, Result, Ok, Err, refl, sym, ap, ◌∙◌, inl, inr}
+use Rattle.std.specs.Prelude.{IsErrOf, MatchResult}
 use Rattle.std.specs.FinMap.{empty}
 use Rattle.std.proofs.lemmas.Bool.{le-leb, ne_eqb}
-use Rattle.geos_model.specs.Document.{Document, IsValid}
-use Rattle.geos_model.specs.File.{stands}
+use Rattle.geos_model.specs.Document.{Document}
 use Rattle.geos_model.specs.Reply.{Accepted, Refused, reply_by}
 use Rattle.geos_model.specs.Machine.{Machine, Step, on_commit, command_conditions, takes_memory, calls_store}
 use Rattle.geos_model.specs.declared.command.Command.{Command}
 use Rattle.geos_model.specs.declared.command.Command.TheVariants as commands
 use Rattle.geos_model.specs.declared.fault.Fault.{Fault}
-use Rattle.geos_model.specs.declared.fault.Fault.TheVariants.{Memory, File, Worn, Damaged}
-use Rattle.geos_model.proofs.FileDocuments.{document_at-valid}
-use Rattle.geos_model.proofs.FileStands.{stands-by}
+use Rattle.geos_model.specs.declared.fault.Fault.TheVariants.{Memory, File, Worn}
 use Rattle.vm_store.specs.Facts.{StoreFacts, Raised, raised}
 use Rattle.vm_file.specs.Calls.{IsCommitRefusal, last_sequence}
-use Rattle.vm_file.specs.Disk.{Disk, Commits, Drifts, Passes}
+use Rattle.vm_file.specs.Disk.{Commits}
+use Rattle.vm_file.specs.Effects.{IsCommit, Fails, IsWorn}
 use Rattle.vm_file.specs.Documents.{Documents}
 use Rattle.vm_blocks.specs.declared.change.Change.{Change}
 use Rattle.vm_blocks.specs.declared.change.Direction.TheVariants.{Forwards, Backwards}
-use Rattle.undo_log.specs.Records.{SessionState, machine_of, has_failed, steps, AreValidOn}
+use Rattle.undo_log.specs.Records.{SessionState, file_of, machine_of, has_failed, steps, IsRevertFault}
 
 -- The machine of a session, from its parts.
 pub machine_is : {S : Type 0} (target : Bool) (d updated saved : Document) (undo redo : List Change) (frames sequence : ℕ) (new : SessionState S)
@@ -67,77 +65,39 @@ module _ {S : Type 0} (facts : S → StoreFacts) (target : Bool) (old new : Sess
   not_worn result worn is = ne_eqb old.disk.sequence last_sequence (λ last. let refused : Err Worn ≡ Ok tt = sym (worn.1 last) ∙ is in absurd (cc refused))
 
   -- an update
-  pub update_step : (result : Result (Unit {0}) Fault) → Commits facts (old.document, old.disk.saved) old.disk new.disk result → Drifts (facts old.disk.store).honest old.document new.document
-      → (new.undo ≡ old.undo) × (new.redo ≡ old.redo) × (new.frames ≡ old.frames) → (IsErrOf result Worn ↔ old.disk.sequence ≡ last_sequence)
-      → (IsErrOf result File → Raised (facts old.disk.store) (facts new.disk.store)) → IfErr result IsCommitRefusal
+  pub update_step : (result : Result (Unit {0}) Fault) → IsCommit facts (old.document, old.disk.saved) old.document (file_of old) (file_of new) result → Fails facts IsWorn old.disk.store new.disk.store result
+      → (new.undo ≡ old.undo) × (new.redo ≡ old.redo) × (new.frames ≡ old.frames)
       → Step (has_failed (facts old.disk.store) (facts new.disk.store)) (machine_of target old) (Some commands.Update) (reply_by (λ _. Accepted) result) (machine_of target new)
-  update_step (Ok x) commits drifts lists worn file refusals =
-      let is = commits.ok so in
-      let fresh = not_worn (Ok x) worn refl in
-      inl (rw (fresh, ← machine_is target old.document old.document old.disk.saved old.undo old.redo old.frames (old.disk.sequence + 1) new (sym (drifts.same so)) (sym lists.0) (sym lists.1) (sym (ap (λ p. p.0) is.0)) (sym (ap (λ p. p.1) is.0)) (sym lists.2) (sym commits.sequence)) refl)
-  update_step (Err fault) commits drifts lists worn file refusals =
-      refused_commit _ (machine_of target old) (machine_of target new) commands.Update fault (stays fault _ commits (drifts.same so) lists.0 lists.1 lists.2) refl refl refl
-      (λ is. worn.0 (ap Err is)) (λ is. failed_true (facts old.disk.store) (facts new.disk.store) (file (ap Err is))) refusals
+  update_step (Ok x) commit fails lists =
+      let is = commit.commits.ok so in
+      let fresh = not_worn (Ok x) commit.worn refl in
+      inl (rw (fresh, ← machine_is target old.document old.document old.disk.saved old.undo old.redo old.frames (old.disk.sequence + 1) new (sym (commit.document.same so)) (sym lists.0) (sym lists.1) (sym (ap (λ p. p.0) is.0)) (sym (ap (λ p. p.1) is.0)) (sym lists.2) (sym commit.commits.sequence)) refl)
+  update_step (Err fault) commit fails lists =
+      refused_commit _ (machine_of target old) (machine_of target new) commands.Update fault (stays fault _ commit.commits (commit.document.same so) lists.0 lists.1 lists.2) refl refl refl
+      (λ is. commit.worn.0 (ap Err is)) (λ is. failed_true (facts old.disk.store) (facts new.disk.store) (fails.file (ap Err is))) fails.faults
 
   -- a save
-  pub save_step : (result : Result (Unit {0}) Fault) → Commits facts (old.document, old.document) old.disk new.disk result → Drifts (facts old.disk.store).honest old.document new.document
-      → (new.undo ≡ old.undo) × (new.redo ≡ old.redo) × (new.frames ≡ old.frames) → (IsErrOf result Worn ↔ old.disk.sequence ≡ last_sequence)
-      → (IsErrOf result File → Raised (facts old.disk.store) (facts new.disk.store)) → IfErr result IsCommitRefusal
+  pub save_step : (result : Result (Unit {0}) Fault) → IsCommit facts (old.document, old.document) old.document (file_of old) (file_of new) result → Fails facts IsWorn old.disk.store new.disk.store result
+      → (new.undo ≡ old.undo) × (new.redo ≡ old.redo) × (new.frames ≡ old.frames)
       → Step (has_failed (facts old.disk.store) (facts new.disk.store)) (machine_of target old) (Some commands.Save) (reply_by (λ _. Accepted) result) (machine_of target new)
-  save_step (Ok x) commits drifts lists worn file refusals =
-      let is = commits.ok so in
-      let fresh = not_worn (Ok x) worn refl in
-      inl (rw (fresh, ← machine_is target old.document old.document old.document old.undo old.redo old.frames (old.disk.sequence + 1) new (sym (drifts.same so)) (sym lists.0) (sym lists.1) (sym (ap (λ p. p.0) is.0)) (sym (ap (λ p. p.1) is.0)) (sym lists.2) (sym commits.sequence)) refl)
-  save_step (Err fault) commits drifts lists worn file refusals =
-      refused_commit _ (machine_of target old) (machine_of target new) commands.Save fault (stays fault _ commits (drifts.same so) lists.0 lists.1 lists.2) refl refl refl
-      (λ is. worn.0 (ap Err is)) (λ is. failed_true (facts old.disk.store) (facts new.disk.store) (file (ap Err is))) refusals
+  save_step (Ok x) commit fails lists =
+      let is = commit.commits.ok so in
+      let fresh = not_worn (Ok x) commit.worn refl in
+      inl (rw (fresh, ← machine_is target old.document old.document old.document old.undo old.redo old.frames (old.disk.sequence + 1) new (sym (commit.document.same so)) (sym lists.0) (sym lists.1) (sym (ap (λ p. p.0) is.0)) (sym (ap (λ p. p.1) is.0)) (sym lists.2) (sym commit.commits.sequence)) refl)
+  save_step (Err fault) commit fails lists =
+      refused_commit _ (machine_of target old) (machine_of target new) commands.Save fault (stays fault _ commit.commits (commit.document.same so) lists.0 lists.1 lists.2) refl refl refl
+      (λ is. commit.worn.0 (ap Err is)) (λ is. failed_true (facts old.disk.store) (facts new.disk.store) (fails.file (ap Err is))) fails.faults
 
   -- a revert, which over an honest store never finds a damaged image
-  pub revert_step : (result : Result (Unit {0}) Fault) → Commits facts (old.disk.saved, old.disk.saved) old.disk new.disk result
-      → OnOk result (Drifts (facts old.disk.store).honest old.disk.saved new.document × (new.undo ≡ []) × (new.redo ≡ []))
-      → OnErr result (Drifts (facts old.disk.store).honest old.document new.document × (new.undo ≡ old.undo) × (new.redo ≡ old.redo))
-      → new.frames ≡ old.frames → (IsErrOf result Worn ↔ old.disk.sequence ≡ last_sequence)
-      → (IsErrOf result Damaged → IsTrue (facts old.disk.store).honest → ⊥)
-      → (IsErrOf result File → Raised (facts old.disk.store) (facts new.disk.store)) → IfErr result (λ fault. IsCommitRefusal fault ⊎ (fault ≡ Damaged))
+  pub revert_step : (result : Result (Unit {0}) Fault) → IsCommit facts (old.disk.saved, old.disk.saved) old.disk.saved (file_of old) (file_of new) result
+      → Fails facts (IsRevertFault (facts old.disk.store).honest) old.disk.store new.disk.store result
+      → MatchResult result (λ _. (new.undo ≡ []) × (new.redo ≡ [])) (λ _. (new.undo ≡ old.undo) × (new.redo ≡ old.redo)) → new.frames ≡ old.frames
       → Step (has_failed (facts old.disk.store) (facts new.disk.store)) (machine_of target old) (Some commands.Revert) (reply_by (λ _. Accepted) result) (machine_of target new)
-  revert_step (Ok x) commits ok err frames worn damaged file refusals =
-      let is = commits.ok so in
-      let fresh = not_worn (Ok x) worn refl in
-      inl (rw (fresh, ← machine_is target old.disk.saved old.disk.saved old.disk.saved [] [] old.frames (old.disk.sequence + 1) new (sym (ok.0.same so)) (sym ok.1) (sym ok.2) (sym (ap (λ p. p.0) is.0)) (sym (ap (λ p. p.1) is.0)) (sym frames) (sym commits.sequence)) refl)
-  revert_step (Err fault) commits ok err frames worn damaged file refusals =
-      let refusal : IsCommitRefusal fault = elim refusals [ inl commit ↦ commit | inr is ↦ absurd (damaged (ap Err is) so) ] in
-      refused_commit _ (machine_of target old) (machine_of target new) commands.Revert fault (stays fault _ commits (err.0.same so) err.1 err.2 frames) refl refl refl
-      (λ is. worn.0 (ap Err is)) (λ is. failed_true (facts old.disk.store) (facts new.disk.store) (file (ap Err is))) refusal
-
--- The documents that a file stands for are valid.
-pub stands-valid : (file : List ℕ) (updated saved : Document) → stands file ≡ Ok (updated, saved) → IsValid updated × IsValid saved
-stands-valid file updated saved is =
-    let by = stands-by file (updated, saved) is in (
-      document_at-valid file by.0.working updated by.1.working,
-      document_at-valid file by.0.saved saved by.1.saved_is,
-    )
-
--- Where a call keeps both documents over an honest store, they stay valid.
-same_valid : {S : Type 0} (facts : S → StoreFacts) (a b : Disk S) → (facts b.store).honest ≡ (facts a.store).honest → (IsTrue (facts a.store).honest → (b.updated ≡ a.updated) × (b.saved ≡ a.saved)) → AreValidOn facts a → AreValidOn facts b
-same_valid facts a b honest same valid = λ so.
-    let was = subst IsTrue honest so in (
-      subst IsValid (sym (same was).0) (valid was).0,
-      subst IsValid (sym (same was).1) (valid was).1,
-    )
-
-pub valid_after : {S : Type 0} (facts : S → StoreFacts) (a b : Disk S) → Passes facts a b → AreValidOn facts a → AreValidOn facts b
-valid_after facts a b passes = same_valid facts a b passes.honest (λ so. (passes.updated so, passes.saved so))
-
-pub valid_refused : {S : Type 0} (facts : S → StoreFacts) (a b : Disk S) (pair : Documents) (fault : Fault) → Commits facts pair a b (Err fault) → AreValidOn facts a → AreValidOn facts b
-valid_refused facts a b pair fault commits = same_valid facts a b commits.honest commits.err
-
--- So a commit of valid documents leaves valid ones.
-pub valid_committed : {S : Type 0} (facts : S → StoreFacts) (pair : Documents) (a b : Disk S) (result : Result (Unit {0}) Fault) → Commits facts pair a b result
-    → (IsTrue (facts a.store).honest → IsValid pair.0 × IsValid pair.1) → AreValidOn facts a → AreValidOn facts b
-valid_committed facts pair a b (Ok x) commits new valid = λ so.
-    let was = subst IsTrue commits.honest so in
-    let is = (commits.ok was).0 in (
-      subst IsValid (sym (ap (λ p. p.0) is)) (new was).0,
-      subst IsValid (sym (ap (λ p. p.1) is)) (new was).1,
-    )
-valid_committed facts pair a b (Err fault) commits new valid = valid_refused facts a b pair fault commits valid
+  revert_step (Ok x) commit fails lists frames =
+      let is = commit.commits.ok so in
+      let fresh = not_worn (Ok x) commit.worn refl in
+      inl (rw (fresh, ← machine_is target old.disk.saved old.disk.saved old.disk.saved [] [] old.frames (old.disk.sequence + 1) new (sym (commit.document.same so)) (sym lists.0) (sym lists.1) (sym (ap (λ p. p.0) is.0)) (sym (ap (λ p. p.1) is.0)) (sym frames) (sym commit.commits.sequence)) refl)
+  revert_step (Err fault) commit fails lists frames =
+      let refusal : IsCommitRefusal fault = elim fails.faults [ inl supply ↦ inl supply | inr (inl worn) ↦ inr worn | inr (inr damage) ↦ absurd (damage.1 so) ] in
+      refused_commit _ (machine_of target old) (machine_of target new) commands.Revert fault (stays fault _ commit.commits (commit.document.same so) lists.0 lists.1 frames) refl refl refl
+      (λ is. commit.worn.0 (ap Err is)) (λ is. failed_true (facts old.disk.store) (facts new.disk.store) (fails.file (ap Err is))) refusal

@@ -1,5 +1,5 @@
--- A save-as that is refused is a step of the machine, and done or refused it leaves valid documents on the disk.
-use Rattle.std.proofs.Common.{◌≡◌, ◌⊎◌, ◌↔◌, ◌==◌, ◌||◌, Bool, true, false, IsTrue, IfErr, Some, refl, subst, inl, inr}
+-- A save-as that is refused is a step of the machine.
+use Rattle.std.proofs.Common.{◌≡◌, ◌⊎◌, ◌↔◌, ◌==◌, ◌||◌, Bool, true, false, IsTrue, IfErr, Some, refl, inl, inr}
 use Rattle.std.specs.Prelude.{◌∷◌, [], Result, Ok, Err, MatchResult}
 use Rattle.std.specs.Result.{IsErrAnd}
 use Rattle.std.proofs.lemmas.Bool.{eq-eqb, le-leb, or_left, or_right}
@@ -9,13 +9,11 @@ use Rattle.geos_model.specs.Machine.{Step}
 use Rattle.geos_model.specs.declared.command.Command.TheVariants as commands
 use Rattle.geos_model.specs.declared.fault.Fault.{Fault}
 use Rattle.geos_model.specs.declared.fault.Fault.TheVariants.{Memory, File, Damaged, NoTarget, Worn}
-use Rattle.geos_model.specs.Document.{IsValid}
-use Rattle.vm_store.specs.Facts.{StoreFacts, IsTimely, Raised}
+use Rattle.vm_store.specs.Facts.{StoreFacts, Raised}
 use Rattle.vm_file.specs.Calls.{IsCommitRefusal, last_sequence}
-use Rattle.vm_file.specs.Disk.{Disk, StandsForOne, IsSettled, Commits}
+use Rattle.vm_file.specs.Disk.{Commits}
 use Rattle.vm_file.specs.Documents.{Documents}
-use Rattle.undo_log.specs.Records.{SessionState, machine_of, has_failed, AreValidOn}
-use Rattle.undo_log.proofs.CommitSteps.{stands-valid}
+use Rattle.undo_log.specs.Records.{SessionState, machine_of, has_failed}
 
 -- one of two stores failed
 one_failed : (a b c d : StoreFacts) → Raised a b ⊎ Raised c d → (has_failed a b || has_failed c d) ≡ true
@@ -59,12 +57,3 @@ module _ {S : Type 0} (facts : S → StoreFacts) (old new : SessionState S) (kee
   refused fault store target pair P (Err e) commits worn damaged file is = λ so.
       refusal (fault e) (has_failed (facts old.disk.store) (facts new.disk.store) || has_failed (facts target) (facts (store e))) (same_machine pair (fault e) commits so) worn.0
       (λ failing. one_failed (facts old.disk.store) (facts new.disk.store) (facts target) (facts (store e)) (file failing)) (λ is_damaged. damaged is_damaged so) is
-
--- What a file stands for that nothing else is tried on is valid.
-pub settled_valid : {S : Type 0} (facts : S → StoreFacts) (disk : Disk S) → (IsTrue (facts disk.store).honest → IsTimely (facts disk.store)) → IsSettled facts disk → disk.attempted ≡ [] → AreValidOn facts disk
-settled_valid facts disk timely settled none = λ so.
-    let file = (facts disk.store).content in
-    elim (settled so file (timely so).now) as (λ _. IsValid disk.updated × IsValid disk.saved) [
-      | inl stands ↦ stands-valid file disk.updated disk.saved stands
-      | inr other ↦ absurd (subst (λ ds. StandsForOne ds file) none other)
-    ]

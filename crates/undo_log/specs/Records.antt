@@ -1,11 +1,13 @@
 -- The records of a session are changes. What steps they are, and that each can be taken.
-use Rattle.std.specs.Prelude.{◌≡◌, ℕ, Bool, IsTrue, nat_le, List, [], ◌∷◌}
+use Rattle.std.specs.Prelude.{◌≡◌, ◌⊎◌, ℕ, Bool, nat_le, List, [], ◌∷◌}
 use Rattle.std.specs.FinMap.{empty}
 use Rattle.std.specs.List.{sum_by}
 use Rattle.geos_model.specs.Document.{Document, IsValid}
 use Rattle.geos_model.specs.Machine.{Machine, UndoStep}
+use Rattle.geos_model.specs.declared.fault.Fault.{Fault}
 use Rattle.vm_store.specs.Facts.{StoreFacts, raised}
-use Rattle.vm_file.specs.Disk.{Disk}
+use Rattle.vm_file.specs.Disk.{Disk, FileState}
+use Rattle.vm_file.specs.Effects.{IsWorn, IsDamage}
 use Rattle.vm_blocks.specs.Changes.{made, turned, weight, Applies}
 use Rattle.vm_blocks.specs.declared.change.Change.{Change}
 use Rattle.vm_blocks.specs.declared.change.Direction.{Direction}
@@ -38,6 +40,18 @@ pub record SessionState (S : Type 0) : Type 0 where
   pub redo : List Change
   pub frames : ℕ
 
+-- the file that a session shows: its document in place of the file's own
+abbrev pub file_of : {S : Type 0} → SessionState S → FileState S
+file_of s = record { disk = s.disk; document = s.document }
+
+-- a file with another document than its own
+abbrev pub held : {S : Type 0} → FileState S → Document → FileState S
+held file d = record { disk = file.disk; document = d }
+
+-- what a revert may be refused for: a number that can't rise, or bytes that are no image, which an honest store never gives
+abbrev pub IsRevertFault : Bool → Fault → Type 0
+IsRevertFault honest fault = IsWorn fault ⊎ IsDamage honest fault
+
 -- the machine that a session is, where a target for a save-as is left and where none is
 abbrev pub machine_of : {S : Type 0} → Bool → SessionState S → Machine
 machine_of target s = record {
@@ -51,10 +65,6 @@ machine_of target s = record {
   target = target;
   sequence = s.disk.sequence;
 }
-
--- of an honest store the updated and the saved document are valid
-abbrev pub AreValidOn : {S : Type 0} → (S → StoreFacts) → Disk S → Type 0
-AreValidOn facts disk = IsTrue (facts disk.store).honest → IsValid disk.updated × IsValid disk.saved
 
 -- whether a call of the store has failed since
 abbrev pub has_failed : StoreFacts → StoreFacts → Bool

@@ -1,11 +1,8 @@
 // What a session's commits do to its file.
-ghost use Rattle.std.specs.Prelude.{◌≡◌, ◌≢◌, ◌⊎◌, ◌↔◌, IsTrue, OnOk, OnErr, IfErr, IsErrOf, length};
-ghost use Rattle.geos_model.specs.Document.{IsValid};
-ghost use Rattle.vm_store.specs.Facts.{Raised};
-ghost use Rattle.vm_file.specs.Calls.{IsCommitRefusal, last_sequence};
-ghost use Rattle.vm_file.specs.Disk.{Commits, Drifts, IsSettled, Passes};
+ghost use Rattle.std.specs.Prelude.{◌≡◌, OnErr, length};
+ghost use Rattle.vm_file.specs.Effects.{IsCommit, Fails, IsWorn};
 ghost use Rattle.vm_blocks.specs.InFile.{IsInFile};
-ghost use Rattle.undo_log.specs.Records.{AreValidOn};
+ghost use Rattle.undo_log.specs.Records.{held, IsRevertFault};
 
 use geos_model::Fault;
 use std::alloc::Global;
@@ -20,19 +17,12 @@ pub fn update<S: Store>(
     blocks: &Blocks,
     changed: &mut [bool],
 ) -> Result<(), Fault>
-    requires kept { IsInFile (S.facts file.old.disk.store).honest file.old.document blocks.now changed.old }
-    requires settled { IsSettled S.facts file.old.disk }
-    requires valid { IsValid blocks.now }
-    requires disk_valid { AreValidOn S.facts file.old.disk }
-    ensures commits { Commits S.facts (blocks.now, file.old.disk.saved) file.old.disk file.new.disk result }
+    requires { IsInFile (S.facts file.old.disk.store).honest file.old.document blocks.now changed.old }
+    ensures commit { IsCommit S.facts (blocks.now, file.old.disk.saved) blocks.now (held file.old blocks.now) (held file.new blocks.now) result }
     ensures kept { IsInFile (S.facts file.new.disk.store).honest file.new.document blocks.now changed.new }
-    ensures disk_valid { AreValidOn S.facts file.new.disk }
-    ensures worn { IsErrOf result Fault.Worn ↔ file.old.disk.sequence ≡ last_sequence }
-    ensures early { IsErrOf result Fault.Worn → file.new ≡ file.old }
-    ensures passes { IfErr result (λ fault. fault ≢ Fault.File → Passes S.facts file.old.disk file.new.disk) }
-    ensures file { IsErrOf result Fault.File → Raised (S.facts file.old.disk.store) (S.facts file.new.disk.store) }
-    ensures refusals { IfErr result IsCommitRefusal }
+    ensures fails { Fails S.facts IsWorn file.old.disk.store file.new.disk.store result }
 {
+    file.validity();
     if file.is_worn() {
         return Err(Fault::Worn);
     }
@@ -47,19 +37,12 @@ pub fn save<S: Store>(
     blocks: &Blocks,
     changed: &mut [bool],
 ) -> Result<(), Fault>
-    requires kept { IsInFile (S.facts file.old.disk.store).honest file.old.document blocks.now changed.old }
-    requires settled { IsSettled S.facts file.old.disk }
-    requires valid { IsValid blocks.now }
-    requires disk_valid { AreValidOn S.facts file.old.disk }
-    ensures commits { Commits S.facts (blocks.now, blocks.now) file.old.disk file.new.disk result }
+    requires { IsInFile (S.facts file.old.disk.store).honest file.old.document blocks.now changed.old }
+    ensures commit { IsCommit S.facts (blocks.now, blocks.now) blocks.now (held file.old blocks.now) (held file.new blocks.now) result }
     ensures kept { IsInFile (S.facts file.new.disk.store).honest file.new.document blocks.now changed.new }
-    ensures disk_valid { AreValidOn S.facts file.new.disk }
-    ensures worn { IsErrOf result Fault.Worn ↔ file.old.disk.sequence ≡ last_sequence }
-    ensures early { IsErrOf result Fault.Worn → file.new ≡ file.old }
-    ensures passes { IfErr result (λ fault. fault ≢ Fault.File → Passes S.facts file.old.disk file.new.disk) }
-    ensures file { IsErrOf result Fault.File → Raised (S.facts file.old.disk.store) (S.facts file.new.disk.store) }
-    ensures refusals { IfErr result IsCommitRefusal }
+    ensures fails { Fails S.facts IsWorn file.old.disk.store file.new.disk.store result }
 {
+    file.validity();
     if file.is_worn() {
         return Err(Fault::Worn);
     }
@@ -84,22 +67,13 @@ pub fn revert<S: Store>(
     blocks: &mut Blocks,
     changed: &mut [bool],
 ) -> Result<(), Fault>
-    requires kept { IsInFile (S.facts file.old.disk.store).honest file.old.document blocks.old changed.old }
-    requires settled { IsSettled S.facts file.old.disk }
-    requires valid { IsValid blocks.old }
-    requires disk_valid { AreValidOn S.facts file.old.disk }
-    ensures commits { Commits S.facts (file.old.disk.saved, file.old.disk.saved) file.old.disk file.new.disk result }
-    ensures ok { OnOk result (Drifts (S.facts file.old.disk.store).honest file.old.disk.saved blocks.new) }
-    ensures err { OnErr result (blocks.new ≡ blocks.old) }
+    requires { IsInFile (S.facts file.old.disk.store).honest file.old.document blocks.old changed.old }
+    ensures commit { IsCommit S.facts (file.old.disk.saved, file.old.disk.saved) file.old.disk.saved (held file.old blocks.old) (held file.new blocks.new) result }
+    ensures stays { OnErr result (blocks.new ≡ blocks.old) }
     ensures kept { IsInFile (S.facts file.new.disk.store).honest file.new.document blocks.new changed.new }
-    ensures disk_valid { AreValidOn S.facts file.new.disk }
-    ensures worn { IsErrOf result Fault.Worn ↔ file.old.disk.sequence ≡ last_sequence }
-    ensures early { IsErrOf result Fault.Worn → file.new ≡ file.old }
-    ensures passes { IfErr result (λ fault. fault ≢ Fault.File → Passes S.facts file.old.disk file.new.disk) }
-    ensures damaged { IsErrOf result Fault.Damaged → IsTrue (S.facts file.old.disk.store).honest → ⊥ }
-    ensures file { IsErrOf result Fault.File → Raised (S.facts file.old.disk.store) (S.facts file.new.disk.store) }
-    ensures refusals { IfErr result (λ fault. IsCommitRefusal fault ⊎ (fault ≡ Fault.Damaged)) }
+    ensures fails { Fails S.facts (IsRevertFault (S.facts file.old.disk.store).honest) file.old.disk.store file.new.disk.store result }
 {
+    file.validity();
     if file.is_worn() {
         return Err(Fault::Worn);
     }

@@ -6,7 +6,6 @@ ghost use Rattle.vm_file.specs.Calls.{IsCommitRefusal, last_sequence};
 ghost use Rattle.vm_file.specs.Disk.{Disk, Commits, IsSettled, Numbered, Passes};
 ghost use Rattle.vm_blocks.specs.InFile.{IsInFile};
 ghost use Rattle.undo_log.specs.Marking.{AreMarked};
-ghost use Rattle.undo_log.specs.Records.{AreValidOn};
 
 use geos_model::Fault;
 use std::alloc::Global;
@@ -36,8 +35,7 @@ pub fn save_as<S: Store>(
     changed: &mut [bool],
     target: S,
 ) -> Result<S, Refused<S>>
-    requires kept { IsInFile (S.facts file.old.disk.store).honest file.old.document blocks.now changed.old }
-    requires settled { IsSettled S.facts file.old.disk }
+    requires { IsInFile (S.facts file.old.disk.store).honest file.old.document blocks.now changed.old }
     // of the file so far
     ensures commits { MatchResult result
         (λ store. (disk : Disk S) × (disk.store ≡ store) × Commits S.facts (file.old.disk.saved, file.old.disk.saved) file.old.disk disk (Ok tt))
@@ -55,7 +53,6 @@ pub fn save_as<S: Store>(
         (λ _. (S.facts target).failures ≤ (S.facts file.new.disk.store).failures)
         (λ refused. (S.facts target).failures ≤ (S.facts refused.store).failures) }
     ensures kept { IsInFile (S.facts file.new.disk.store).honest file.new.document blocks.now changed.new }
-    ensures disk_valid { AreValidOn S.facts file.old.disk → AreValidOn S.facts file.new.disk }
     ensures worn { IsErrAnd result (λ refused. refused.fault ≡ Fault.Worn) ↔ file.old.disk.sequence ≡ last_sequence }
     ensures early { IfErr result (λ refused. refused.fault ≡ Fault.Worn → (file.new ≡ file.old) × (refused.store ≡ target)) }
     ensures passes { IfErr result (λ refused. (refused.fault ≡ Fault.File → Raised (S.facts file.old.disk.store) (S.facts file.new.disk.store) → ⊥)
@@ -65,6 +62,7 @@ pub fn save_as<S: Store>(
         → Raised (S.facts file.old.disk.store) (S.facts file.new.disk.store) ⊎ Raised (S.facts target) (S.facts refused.store)) }
     ensures refusals { IfErr result (λ refused. IsCommitRefusal refused.fault ⊎ (refused.fault ≡ Fault.Damaged)) }
 {
+    file.validity();
     if file.is_worn() {
         return Err(Refused {
             fault: Fault::Worn,

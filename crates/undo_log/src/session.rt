@@ -12,13 +12,13 @@ ghost use Rattle.vm_store.specs.Facts.{Raised, Rests};
 ghost use Rattle.vm_file.specs.Calls.{IsSupply, IsCommitRefusal, IsOpenRefusal, last_sequence};
 ghost use Rattle.vm_file.specs.Disk.{Disk, Commits, ContentStands, Drifts, IsSettled, Numbered, Passes};
 ghost use Rattle.vm_file.specs.Documents.{sequence_in};
+ghost use Rattle.vm_file.specs.Effects.{IsCommit, Fails, IsWorn, IsDamage};
 ghost use Rattle.vm_file.specs.Making.{first_file};
 ghost use Rattle.vm_blocks.specs.Blocks.{is_resident};
 ghost use Rattle.vm_blocks.specs.InFile.{IsInFile};
-ghost use Rattle.vm_blocks.specs.Reading.{IsLoadRefusal};
 ghost use Rattle.vm_blocks.specs.declared.change.Direction.TheVariants.{Backwards, Forwards};
 ghost use Rattle.doc_edits.specs.LookUps.{Stays};
-ghost use Rattle.undo_log.specs.Records.{machine_of, has_failed, AreValidOn, total_cost, total_weight, Records};
+ghost use Rattle.undo_log.specs.Records.{file_of, machine_of, has_failed, IsRevertFault, total_cost, total_weight, Records};
 ghost use Rattle.undo_log.specs.Turning.{Moves};
 ghost use Rattle.undo_log.specs.contracts.session.Session.{the_row};
 
@@ -61,19 +61,16 @@ impl<S: Store> Model for Session<S> {
     ghost coded = { session_code S.code };
 
     ghost use Rattle.std.specs.Prelude.{◌+◌, ◌≤◌, reverse, vec_len, vec_capacity};
-    ghost use Rattle.vm_file.specs.Disk.{IsSettled};
     ghost use Rattle.vm_blocks.specs.InFile.{IsInFile};
     ghost use Rattle.vm_blocks.specs.declared.change.Direction.TheVariants.{Backwards};
-    ghost use Rattle.undo_log.specs.Records.{AreSteps, AreValidOn};
+    ghost use Rattle.undo_log.specs.Records.{AreSteps};
 
     ghost view = { λ s. record { disk = s.file.disk; document = s.blocks; undo = reverse s.undo.items; redo = reverse s.redo.items; frames = s.frames } };
 
     ghost invariant = { λ s. (vec_len s.undo + vec_len s.redo ≤ vec_capacity s.undo)
         × (vec_len s.undo + vec_len s.redo ≤ vec_capacity s.redo)
         × AreSteps Backwards s.blocks (reverse s.undo.items) (reverse s.redo.items)
-        × IsInFile (S.facts s.file.disk.store).honest s.file.document s.blocks s.changed.items
-        × IsSettled S.facts s.file.disk
-        × AreValidOn S.facts s.file.disk };
+        × IsInFile (S.facts s.file.disk.store).honest s.file.document s.blocks s.changed.items };
 }
 
 impl<S: Store> Session<S> {
@@ -85,9 +82,7 @@ impl<S: Store> Session<S> {
         changed: Vec<bool>,
         frames: usize,
     ) -> Session<S>
-        requires kept { IsInFile (S.facts file.disk.store).honest file.document blocks changed.items }
-        requires settled { IsSettled S.facts file.disk }
-        requires valid { AreValidOn S.facts file.disk }
+        requires { IsInFile (S.facts file.disk.store).honest file.document blocks changed.items }
         ensures { result ≡ record { disk = file.disk; document = blocks; undo = []; redo = []; frames = frames } }
     {
         blocks.validity();
@@ -110,22 +105,18 @@ impl<S: Store> Session<S> {
         changed: Vec<bool>,
         frames: usize,
     ) -> Result<Session<S>, Refused<S>>
-        requires size { length changed.items ≡ most_blocks }
-        requires settled { IsSettled S.facts file.disk }
-        requires valid { AreValidOn S.facts file.disk }
+        requires { length changed.items ≡ most_blocks }
         ensures passes { IfOk result (λ session. Passes S.facts file.disk session.disk) }
         ensures document { IfOk result (λ session. Drifts (S.facts file.disk.store).honest file.document session.document) }
         ensures new { IfOk result (λ session. (session.undo ≡ []) × (session.redo ≡ []) × (session.frames ≡ frames)) }
-        ensures settled { IfOk result (λ session. IsSettled S.facts session.disk) }
         // Nothing is written.
         ensures rests { IsTrue (S.facts file.disk.store).honest → MatchResult result
             (λ session. Rests (S.facts file.disk.store) (S.facts session.disk.store))
             (λ refused. Rests (S.facts file.disk.store) (S.facts refused.store)) }
         ensures honest { IfErr result (λ refused. (S.facts refused.store).honest ≡ (S.facts file.disk.store).honest) }
         ensures failures { IfErr result (λ refused. (S.facts file.disk.store).failures ≤ (S.facts refused.store).failures) }
-        ensures damaged { IfErr result (λ refused. refused.fault ≡ Fault.Damaged → IsTrue (S.facts file.disk.store).honest → ⊥) }
         ensures file { IfErr result (λ refused. refused.fault ≡ Fault.File → Raised (S.facts file.disk.store) (S.facts refused.store)) }
-        ensures refusals { IfErr result (λ refused. IsLoadRefusal refused.fault) }
+        ensures refusals { IfErr result (λ refused. IsSupply refused.fault ⊎ IsDamage (S.facts file.disk.store).honest refused.fault) }
     {
         let mut file = file;
         match load(alloc, &mut file, Version::Present) {
@@ -224,15 +215,9 @@ impl<S: Store> Session<S> {
     pub fn update(&mut self) -> Result<(), Fault>
         ensures step { IsTrue (S.facts self.old.disk.store).honest → (target : Bool)
             → Step (has_failed (S.facts self.old.disk.store) (S.facts self.new.disk.store)) (machine_of target self.old) (Some commands.Update) (reply_by (λ _. Accepted) result) (machine_of target self.new) }
-        ensures commits { Commits S.facts (self.old.document, self.old.disk.saved) self.old.disk self.new.disk result }
-        ensures content { OnOk result (ContentStands S.facts self.new.disk) }
-        ensures drifts { Drifts (S.facts self.old.disk.store).honest self.old.document self.new.document }
+        ensures commit { IsCommit S.facts (self.old.document, self.old.disk.saved) self.old.document (file_of self.old) (file_of self.new) result }
+        ensures fails { Fails S.facts IsWorn self.old.disk.store self.new.disk.store result }
         ensures lists { (self.new.undo ≡ self.old.undo) × (self.new.redo ≡ self.old.redo) × (self.new.frames ≡ self.old.frames) }
-        ensures worn { IsErrOf result Fault.Worn ↔ self.old.disk.sequence ≡ last_sequence }
-        ensures early { IsErrOf result Fault.Worn → self.new ≡ self.old }
-        ensures passes { IfErr result (λ fault. fault ≢ Fault.File → Passes S.facts self.old.disk self.new.disk) }
-        ensures file { IsErrOf result Fault.File → Raised (S.facts self.old.disk.store) (S.facts self.new.disk.store) }
-        ensures refusals { IfErr result IsCommitRefusal }
     {
         update(self.alloc, &mut self.file, &self.blocks, &mut self.changed)
     }
@@ -241,15 +226,9 @@ impl<S: Store> Session<S> {
     pub fn save(&mut self) -> Result<(), Fault>
         ensures step { IsTrue (S.facts self.old.disk.store).honest → (target : Bool)
             → Step (has_failed (S.facts self.old.disk.store) (S.facts self.new.disk.store)) (machine_of target self.old) (Some commands.Save) (reply_by (λ _. Accepted) result) (machine_of target self.new) }
-        ensures commits { Commits S.facts (self.old.document, self.old.document) self.old.disk self.new.disk result }
-        ensures content { OnOk result (ContentStands S.facts self.new.disk) }
-        ensures drifts { Drifts (S.facts self.old.disk.store).honest self.old.document self.new.document }
+        ensures commit { IsCommit S.facts (self.old.document, self.old.document) self.old.document (file_of self.old) (file_of self.new) result }
+        ensures fails { Fails S.facts IsWorn self.old.disk.store self.new.disk.store result }
         ensures lists { (self.new.undo ≡ self.old.undo) × (self.new.redo ≡ self.old.redo) × (self.new.frames ≡ self.old.frames) }
-        ensures worn { IsErrOf result Fault.Worn ↔ self.old.disk.sequence ≡ last_sequence }
-        ensures early { IsErrOf result Fault.Worn → self.new ≡ self.old }
-        ensures passes { IfErr result (λ fault. fault ≢ Fault.File → Passes S.facts self.old.disk self.new.disk) }
-        ensures file { IsErrOf result Fault.File → Raised (S.facts self.old.disk.store) (S.facts self.new.disk.store) }
-        ensures refusals { IfErr result IsCommitRefusal }
     {
         save(self.alloc, &mut self.file, &self.blocks, &mut self.changed)
     }
@@ -259,17 +238,9 @@ impl<S: Store> Session<S> {
     pub fn revert(&mut self) -> Result<(), Fault>
         ensures step { IsTrue (S.facts self.old.disk.store).honest → (target : Bool)
             → Step (has_failed (S.facts self.old.disk.store) (S.facts self.new.disk.store)) (machine_of target self.old) (Some commands.Revert) (reply_by (λ _. Accepted) result) (machine_of target self.new) }
-        ensures commits { Commits S.facts (self.old.disk.saved, self.old.disk.saved) self.old.disk self.new.disk result }
-        ensures content { OnOk result (ContentStands S.facts self.new.disk) }
-        ensures ok { OnOk result (Drifts (S.facts self.old.disk.store).honest self.old.disk.saved self.new.document × (self.new.undo ≡ []) × (self.new.redo ≡ [])) }
-        ensures err { OnErr result (Drifts (S.facts self.old.disk.store).honest self.old.document self.new.document × (self.new.undo ≡ self.old.undo) × (self.new.redo ≡ self.old.redo)) }
-        ensures frames { self.new.frames ≡ self.old.frames }
-        ensures worn { IsErrOf result Fault.Worn ↔ self.old.disk.sequence ≡ last_sequence }
-        ensures early { IsErrOf result Fault.Worn → self.new ≡ self.old }
-        ensures passes { IfErr result (λ fault. fault ≢ Fault.File → Passes S.facts self.old.disk self.new.disk) }
-        ensures damaged { IsErrOf result Fault.Damaged → IsTrue (S.facts self.old.disk.store).honest → ⊥ }
-        ensures file { IsErrOf result Fault.File → Raised (S.facts self.old.disk.store) (S.facts self.new.disk.store) }
-        ensures refusals { IfErr result (λ fault. IsCommitRefusal fault ⊎ (fault ≡ Fault.Damaged)) }
+        ensures commit { IsCommit S.facts (self.old.disk.saved, self.old.disk.saved) self.old.disk.saved (file_of self.old) (file_of self.new) result }
+        ensures fails { Fails S.facts (IsRevertFault (S.facts self.old.disk.store).honest) self.old.disk.store self.new.disk.store result }
+        ensures lists { MatchResult result (λ _. (self.new.undo ≡ []) × (self.new.redo ≡ [])) (λ _. (self.new.undo ≡ self.old.undo) × (self.new.redo ≡ self.old.redo)) × (self.new.frames ≡ self.old.frames) }
     {
         revert(
             self.alloc,
@@ -421,8 +392,7 @@ impl<S: Store> Session<S> {
         ensures future { (target : Bool) → All (λ s. IsValid s.document) (machine_of target self.now).future }
         ensures machine { IsTrue (S.facts self.now.disk.store).honest → (target : Bool) → IsValidMachine (machine_of target self.now) }
     {
-        // What is always so of the fields is known where one is named.
-        let _ = &self.undo;
+        self.file.validity();
     }
 
     /// How many content bytes the records of undo and redo hold, 2^64 - 1 where these are more.

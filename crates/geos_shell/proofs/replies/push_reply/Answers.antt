@@ -20,17 +20,17 @@ returns-in-Redo-clause-replied g c = λ honest.
 pub returns-in-Update-clause-replied : goal.returns-in-Update-clause-replied
 returns-in-Update-clause-replied g c = λ honest.
     let done = c.update.ensures in
-    rw c.in-Update.is (replied g.S.Store.facts c.push_accepted-in-Update.result _ _ _ _ _ _ (serves_commit g.S.Store.facts _ _ _ _ _ _ _ done.commits done.passes done.file done.step (λ settles. settles) honest) c.push_accepted-in-Update.ensures.ok)
+    rw c.in-Update.is (replied g.S.Store.facts c.push_accepted-in-Update.result _ _ _ _ _ _ (serves_commit g.S.Store.facts _ _ _ _ _ _ _ done.commit.commits done.commit.passes done.fails.file done.step (λ settles. settles) honest) c.push_accepted-in-Update.ensures.ok)
 
 pub returns-in-Save-clause-replied : goal.returns-in-Save-clause-replied
 returns-in-Save-clause-replied g c = λ honest.
     let done = c.save.ensures in
-    rw c.in-Save.is (replied g.S.Store.facts c.push_accepted-in-Save.result _ _ _ _ _ _ (serves_commit g.S.Store.facts _ _ _ _ _ _ _ done.commits done.passes done.file done.step (λ settles. settles) honest) c.push_accepted-in-Save.ensures.ok)
+    rw c.in-Save.is (replied g.S.Store.facts c.push_accepted-in-Save.result _ _ _ _ _ _ (serves_commit g.S.Store.facts _ _ _ _ _ _ _ done.commit.commits done.commit.passes done.fails.file done.step (λ settles. settles) honest) c.push_accepted-in-Save.ensures.ok)
 
 pub returns-in-Revert-clause-replied : goal.returns-in-Revert-clause-replied
 returns-in-Revert-clause-replied g c = λ honest.
     let done = c.revert.ensures in
-    rw c.in-Revert.is (replied g.S.Store.facts c.push_accepted-in-Revert.result _ _ _ _ _ _ (serves_commit g.S.Store.facts _ _ _ _ _ _ _ done.commits done.passes done.file done.step (λ settles. settles) honest) c.push_accepted-in-Revert.ensures.ok)
+    rw c.in-Revert.is (replied g.S.Store.facts c.push_accepted-in-Revert.result _ _ _ _ _ _ (serves_commit g.S.Store.facts _ _ _ _ _ _ _ done.commit.commits done.commit.passes done.fails.file done.step (λ settles. settles) honest) c.push_accepted-in-Revert.ensures.ok)
 
 pub returns-in-SaveAs-clause-replied : goal.returns-in-SaveAs-clause-replied
 returns-in-SaveAs-clause-replied g c = λ honest.

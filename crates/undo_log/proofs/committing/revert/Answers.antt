@@ -1,54 +1,53 @@
-use Rattle.geos_model.specs.Document.{Document}
-use Rattle.std.proofs.Common.{◌≢◌, Ok, Err, IfErr, sym, subst, ap, ◌∙◌}
+use Rattle.std.proofs.Common.{◌≢◌, refl, sym, ap, subst, ◌∙◌, inl, inr}
+use Rattle.std.specs.Prelude.{Ok, Err}
 use Rattle.std.proofs.lemmas.Result.{err_from_is_err_and}
-use Rattle.vm_file.specs.Disk.{Commits, Passes}
-use Rattle.vm_file.proofs.Passing.{Passes-fails, Passes-Commits}
-use Rattle.geos_model.specs.declared.fault.Fault.TheVariants.{File}
-use Rattle.undo_log.proofs.Commits.{settled_after, refused_passes}
-use Rattle.undo_log.proofs.CommitSteps.{valid_after, valid_committed}
+use Rattle.geos_model.specs.declared.fault.Fault.TheVariants.{Worn}
+use Rattle.vm_file.specs.Calls.{last_sequence}
+use Rattle.vm_file.specs.Effects.{IsCommit, IsWorn, IsDamage}
+use Rattle.vm_file.proofs.Effects.{refused, uncommitted, committed, unworn_damage, Fails-after, Fails-as}
+use Rattle.vm_file.proofs.Passing.{Drifts-refl}
+use Rattle.undo_log.specs.Records.{held, IsRevertFault}
 use Rattle.undo_log.proofs.committing.revert.Goals as goal
 
-pub returns-in_err-saved-clause-commits : goal.returns-in_err-saved-clause-commits
-returns-in_err-saved-clause-commits g c =
+pub returns-then-is_worn-clause-commit : goal.returns-then-is_worn-clause-commit
+returns-then-is_worn-clause-commit g c =
+    refused g.S.Store.facts (held c.args.file.now c.args.blocks.now) _ _ Worn c.validity.ensures.settled (λ _. c.is_worn.ensures.0 c.if-is_worn.true, λ _. refl)
+
+pub returns-in_err-saved-clause-commit : goal.returns-in_err-saved-clause-commit
+returns-in_err-saved-clause-commit g c =
     let p = err_from_is_err_and c.from_residual.result c.from_residual.ensures.1 in
-    let a = c.args.file.now.disk in let b = c.load.new.file.disk in
-    let pair : Document × Document = (c.args.file.now.disk.saved, c.args.file.now.disk.saved) in
-    let passes = c.in_err-saved.ensures.looks.passes in
-    subst (λ r. Commits g.S.Store.facts pair a b r) (sym p.1)
-    (Passes-fails g.S.Store.facts a b pair p.0 passes (settled_after g.S.Store.facts a b (λ s so. g.met.S.Store.timely s so) passes c.requires.settled))
+    let a = c.args.file.now in let b = c.load.new.file in let d = c.args.blocks.now in
+    let fresh : a.disk.sequence ≢ last_sequence = λ last. absurd (cc (sym c.if-is_worn.false ∙ c.is_worn.ensures.1 last)) in
+    subst (λ r. IsCommit g.S.Store.facts (a.disk.saved, a.disk.saved) a.disk.saved (held a d) (held b d) r) (sym (p.1 ∙ ap Err p.2))
+    (uncommitted g.S.Store.facts g.met.S.Store.timely a b _ d _ c.in_err-saved.field-0.0 c.in_err-saved.ensures.reads.reads.passes c.validity.ensures.settled fresh (unworn_damage _ _ c.in_err-saved.ensures.fails.faults))
 
-pub returns-in_err-commit_revert-clause-commits : goal.returns-in_err-commit_revert-clause-commits
-returns-in_err-commit_revert-clause-commits g c =
+pub returns-in_err-commit_revert-clause-commit : goal.returns-in_err-commit_revert-clause-commit
+returns-in_err-commit_revert-clause-commit g c =
     let p = err_from_is_err_and c.from_residual-in_err-commit_revert.result c.from_residual-in_err-commit_revert.ensures.1 in
-    let a = c.args.file.now.disk in let b = c.load.new.file.disk in let d = c.commit_revert.new.self.disk in
-    let pair : Document × Document = (a.saved, a.saved) in
-    let passes = c.load.ensures.looks.passes in
-    let all : Commits g.S.Store.facts pair a d (Err c.in_err-commit_revert.field-0.0) = Passes-Commits g.S.Store.facts a b d pair (b.saved, b.saved) (Err c.in_err-commit_revert.field-0.0) passes
-    (λ so i. (passes.saved so i, passes.saved so i)) c.in_err-commit_revert.ensures.commits in
-    subst (λ r. Commits g.S.Store.facts pair a d r) (sym (p.1 ∙ ap Err p.2)) all
+    let a = c.args.file.now in let b = c.load.new.file in let d = c.args.blocks.now in
+    let passes = c.load.ensures.reads.reads.passes in
+    let fresh : a.disk.sequence ≢ last_sequence = λ last. absurd (cc (sym c.if-is_worn.false ∙ c.is_worn.ensures.1 last)) in
+    subst (λ r. IsCommit g.S.Store.facts (a.disk.saved, a.disk.saved) a.disk.saved (held a d) (held c.commit_revert.new.self d) r) (sym (p.1 ∙ ap Err p.2))
+    (committed g.S.Store.facts g.met.S.Store.timely a b c.commit_revert.new.self (a.disk.saved, a.disk.saved) (b.disk.saved, b.disk.saved) d d a.disk.saved b.disk.saved (Err c.in_err-commit_revert.field-0.0) passes
+    (λ so i. (passes.saved so i, passes.saved so i)) fresh (Drifts-refl _ d) c.in_err-commit_revert.ensures.commit)
 
-pub returns-clause-commits : goal.returns-clause-commits
-returns-clause-commits g c =
-    let a = c.args.file.now.disk in let b = c.load.new.file.disk in let d = c.commit_revert.new.self.disk in
-    let passes = c.load.ensures.looks.passes in
-    Passes-Commits g.S.Store.facts a b d (a.saved, a.saved) (b.saved, b.saved) (Ok tt) passes (λ so i. (passes.saved so i, passes.saved so i)) c.in_ok-commit_revert.ensures.commits
+pub returns-clause-commit : goal.returns-clause-commit
+returns-clause-commit g c =
+    let a = c.args.file.now in let b = c.load.new.file in
+    let passes = c.load.ensures.reads.reads.passes in
+    let fresh : a.disk.sequence ≢ last_sequence = λ last. absurd (cc (sym c.if-is_worn.false ∙ c.is_worn.ensures.1 last)) in
+    committed g.S.Store.facts g.met.S.Store.timely a b c.commit_revert.new.self (a.disk.saved, a.disk.saved) (b.disk.saved, b.disk.saved) c.args.blocks.now c.in_ok-saved.saved a.disk.saved b.disk.saved (Ok tt) passes
+    (λ so i. (passes.saved so i, passes.saved so i)) fresh c.in_ok-saved.ensures.ok c.in_ok-commit_revert.ensures.commit
 
-pub returns-in_err-saved-clause-disk_valid : goal.returns-in_err-saved-clause-disk_valid
-returns-in_err-saved-clause-disk_valid g c = valid_after g.S.Store.facts c.args.file.now.disk c.load.new.file.disk c.in_err-saved.ensures.looks.passes c.requires.disk_valid
-
-pub returns-in_err-commit_revert-clause-disk_valid : goal.returns-in_err-commit_revert-clause-disk_valid
-returns-in_err-commit_revert-clause-disk_valid g c =
-    valid_committed g.S.Store.facts (c.args.file.now.disk.saved, c.args.file.now.disk.saved) c.args.file.now.disk c.commit_revert.new.self.disk _ (returns-in_err-commit_revert-clause-commits g c)
-    (λ so. ((c.requires.disk_valid so).1, (c.requires.disk_valid so).1)) c.requires.disk_valid
-
-pub returns-in_err-saved-clause-passes : goal.returns-in_err-saved-clause-passes
-returns-in_err-saved-clause-passes g c =
+pub returns-in_err-saved-clause-fails : goal.returns-in_err-saved-clause-fails
+returns-in_err-saved-clause-fails g c =
     let p = err_from_is_err_and c.from_residual.result c.from_residual.ensures.1 in
-    subst (λ r. IfErr r (λ fault. fault ≢ File → Passes g.S.Store.facts c.args.file.now.disk c.load.new.file.disk)) (sym p.1) (λ _. c.in_err-saved.ensures.looks.passes)
+    let honest = (g.S.Store.facts c.args.file.now.disk.store).honest in
+    Fails-as g.S.Store.facts (IsDamage honest) (IsRevertFault honest) _ _ c.in_err-saved.field-0.0 c.from_residual.result (p.1 ∙ ap Err p.2) (λ f damage. inr damage) c.in_err-saved.ensures.fails
 
-pub returns-in_err-commit_revert-clause-passes : goal.returns-in_err-commit_revert-clause-passes
-returns-in_err-commit_revert-clause-passes g c =
+pub returns-in_err-commit_revert-clause-fails : goal.returns-in_err-commit_revert-clause-fails
+returns-in_err-commit_revert-clause-fails g c =
     let p = err_from_is_err_and c.from_residual-in_err-commit_revert.result c.from_residual-in_err-commit_revert.ensures.1 in
-    let a = c.args.file.now in let b = c.load.new.file in let d = c.commit_revert.new.self in
-    subst (λ r. IfErr r (λ fault. fault ≢ File → Passes g.S.Store.facts a.disk d.disk)) (sym (p.1 ∙ ap Err p.2))
-    (refused_passes g.S.Store.facts a b d c.in_err-commit_revert.field-0.0 c.load.ensures.looks.passes c.in_err-commit_revert.ensures.early)
+    let honest = (g.S.Store.facts c.args.file.now.disk.store).honest in
+    Fails-as g.S.Store.facts IsWorn (IsRevertFault honest) _ _ c.in_err-commit_revert.field-0.0 c.from_residual-in_err-commit_revert.result (p.1 ∙ ap Err p.2) (λ f worn. inl worn)
+    (Fails-after g.S.Store.facts IsWorn _ _ _ (Err c.in_err-commit_revert.field-0.0) c.load.ensures.reads.reads.passes.failures c.in_err-commit_revert.ensures.fails)

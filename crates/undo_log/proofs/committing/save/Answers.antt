@@ -1,62 +1,48 @@
-use Rattle.geos_model.specs.Document.{Document}
-use Rattle.std.proofs.Common.{◌≡◌, ◌≢◌, ◌↔◌, IfErr, IsErrOf, sym, subst, ◌∙◌}
-use Rattle.std.proofs.lemmas.Result.{IfErr-weaker, err_from_is_err_and}
+use Rattle.std.proofs.Common.{◌≢◌, refl, sym, ap, subst, ◌∙◌}
+use Rattle.std.specs.Prelude.{Err}
+use Rattle.std.proofs.lemmas.Result.{err_from_is_err_and}
+use Rattle.geos_model.specs.declared.fault.Fault.TheVariants.{Worn}
 use Rattle.vm_file.specs.Calls.{last_sequence}
-use Rattle.vm_file.specs.Disk.{Commits, Drifts, Passes}
-use Rattle.vm_file.proofs.Passing.{Passes-fails, Passes-Commits}
-use Rattle.geos_model.specs.declared.fault.Fault.TheVariants.{File, Worn}
-use Rattle.undo_log.proofs.Commits.{settled_after, refused_passes, raised_after}
-use Rattle.undo_log.proofs.CommitSteps.{valid_after, valid_committed}
+use Rattle.vm_file.specs.Disk.{Drifts}
+use Rattle.vm_file.specs.Effects.{IsCommit, NoFault, IsWorn}
+use Rattle.vm_file.proofs.Effects.{refused, uncommitted, committed, unworn, Fails-after, Fails-as}
+use Rattle.vm_file.proofs.Passing.{Drifts-refl}
+use Rattle.vm_file.proofs.Results.{either_way, any_way}
+use Rattle.undo_log.specs.Records.{held}
 use Rattle.undo_log.proofs.Marked.{in_file_on}
 use Rattle.undo_log.proofs.committing.save.Goals as goal
 
-pub returns-in_err-flush-clause-commits : goal.returns-in_err-flush-clause-commits
-returns-in_err-flush-clause-commits g c =
-    let p = err_from_is_err_and c.from_residual.result c.from_residual.ensures.1 in
-    let a = c.args.file.now.disk in let b = c.flush.new.file.disk in
-    let pair : Document × Document = (c.args.blocks.now, c.args.blocks.now) in
-    let passes = c.in_err-flush.ensures.passes in
-    subst (λ r. Commits g.S.Store.facts pair a b r) (sym p.1)
-    (Passes-fails g.S.Store.facts a b pair p.0 passes (settled_after g.S.Store.facts a b (λ s so. g.met.S.Store.timely s so) passes c.requires.settled))
+pub returns-then-is_worn-clause-commit : goal.returns-then-is_worn-clause-commit
+returns-then-is_worn-clause-commit g c =
+    refused g.S.Store.facts (held c.args.file.now c.args.blocks.now) _ _ Worn c.validity.ensures.settled (λ _. c.is_worn.ensures.0 c.if-is_worn.true, λ _. refl)
 
-pub returns-clause-commits : goal.returns-clause-commits
-returns-clause-commits g c =
-    let a = c.args.file.now.disk in let b = c.flush.new.file.disk in let d = c.commit_save.new.self.disk in
+pub returns-in_err-flush-clause-commit : goal.returns-in_err-flush-clause-commit
+returns-in_err-flush-clause-commit g c =
+    let p = err_from_is_err_and c.from_residual.result c.from_residual.ensures.1 in
+    let a = c.args.file.now in let b = c.flush.new.file in let d = c.args.blocks.now in
+    let fresh : a.disk.sequence ≢ last_sequence = λ last. absurd (cc (sym c.if-is_worn.false ∙ c.is_worn.ensures.1 last)) in
+    subst (λ r. IsCommit g.S.Store.facts (d, d) d (held a d) (held b d) r) (sym (p.1 ∙ ap Err p.2))
+    (uncommitted g.S.Store.facts g.met.S.Store.timely a b _ d d c.in_err-flush.field-0.0 c.in_err-flush.ensures.passes c.validity.ensures.settled fresh (unworn _ c.in_err-flush.ensures.fails.faults))
+
+pub returns-clause-commit : goal.returns-clause-commit
+returns-clause-commit g c =
+    let a = c.args.file.now in let b = c.flush.new.file in let d = c.args.blocks.now in
     let passes = c.flush.ensures.passes in
-    Passes-Commits g.S.Store.facts a b d (c.args.blocks.now, c.args.blocks.now) (c.flush.new.file.document, c.flush.new.file.document) c.commit_save.result passes
-    (λ so i. (c.in_ok-flush.ensures.ok so i, c.in_ok-flush.ensures.ok so i)) c.commit_save.ensures.commits
+    let fresh : a.disk.sequence ≢ last_sequence = λ last. absurd (cc (sym c.if-is_worn.false ∙ c.is_worn.ensures.1 last)) in
+    committed g.S.Store.facts g.met.S.Store.timely a b c.commit_save.new.self (d, d) (b.document, b.document) d d d b.document c.commit_save.result passes
+    (λ so i. (c.in_ok-flush.ensures.ok so i, c.in_ok-flush.ensures.ok so i)) fresh (either_way c.commit_save.result _ (Drifts-refl _ d)) c.commit_save.ensures.commit
 
 pub returns-clause-kept : goal.returns-clause-kept
 returns-clause-kept g c =
     let file = c.flush.new.file.document in let new = c.commit_save.new.self.document in
-    let passes = c.flush.ensures.passes in
-    in_file_on _ _ file new c.args.blocks.now c.flush.new.changed (c.commit_save.ensures.commits.honest ∙ passes.honest)
-    (subst (λ t. Drifts t file new) passes.honest c.commit_save.ensures.drifts) c.flush.ensures.kept
+    let passes = c.flush.ensures.passes in let commit = c.commit_save.ensures.commit in
+    in_file_on _ _ file new c.args.blocks.now c.flush.new.changed (commit.commits.honest ∙ passes.honest)
+    (subst (λ t. Drifts t file new) passes.honest (any_way c.commit_save.result _ commit.document)) c.flush.ensures.kept
 
-pub returns-clause-worn : goal.returns-clause-worn
-returns-clause-worn g c = subst (λ n. IsErrOf c.commit_save.result Worn ↔ (n ≡ last_sequence)) c.flush.ensures.passes.sequence c.commit_save.ensures.worn
-
-pub returns-clause-early : goal.returns-clause-early
-returns-clause-early g c = λ e.
-    let t = c.is_worn.ensures.1 (sym c.flush.ensures.passes.sequence ∙ c.commit_save.ensures.worn.0 e) in
-    absurd (cc (sym c.if-is_worn.false ∙ t))
-
-pub returns-clause-file : goal.returns-clause-file
-returns-clause-file g c = λ e. raised_after (g.S.Store.facts c.args.file.now.disk.store) (g.S.Store.facts c.flush.new.file.disk.store) (g.S.Store.facts c.commit_save.new.self.disk.store) c.flush.ensures.passes.failures (c.commit_save.ensures.file e)
-
-pub returns-in_err-flush-clause-disk_valid : goal.returns-in_err-flush-clause-disk_valid
-returns-in_err-flush-clause-disk_valid g c = valid_after g.S.Store.facts c.args.file.now.disk c.flush.new.file.disk c.in_err-flush.ensures.passes c.requires.disk_valid
-
-pub returns-clause-disk_valid : goal.returns-clause-disk_valid
-returns-clause-disk_valid g c =
-    valid_committed g.S.Store.facts (c.args.blocks.now, c.args.blocks.now) c.args.file.now.disk c.commit_save.new.self.disk c.commit_save.result (returns-clause-commits g c) (λ so. (c.requires.valid, c.requires.valid)) c.requires.disk_valid
-
-pub returns-in_err-flush-clause-passes : goal.returns-in_err-flush-clause-passes
-returns-in_err-flush-clause-passes g c =
+pub returns-in_err-flush-clause-fails : goal.returns-in_err-flush-clause-fails
+returns-in_err-flush-clause-fails g c =
     let p = err_from_is_err_and c.from_residual.result c.from_residual.ensures.1 in
-    subst (λ r. IfErr r (λ fault. fault ≢ File → Passes g.S.Store.facts c.args.file.now.disk c.flush.new.file.disk)) (sym p.1) (λ _. c.in_err-flush.ensures.passes)
+    Fails-as g.S.Store.facts NoFault IsWorn _ _ c.in_err-flush.field-0.0 c.from_residual.result (p.1 ∙ ap Err p.2) (λ f none. absurd none) c.in_err-flush.ensures.fails
 
-pub returns-clause-passes : goal.returns-clause-passes
-returns-clause-passes g c =
-    let a = c.args.file.now in let b = c.flush.new.file in let d = c.commit_save.new.self in
-    IfErr-weaker c.commit_save.result _ _ (λ fault early. refused_passes g.S.Store.facts a b d fault c.flush.ensures.passes early) c.commit_save.ensures.early
+pub returns-clause-fails : goal.returns-clause-fails
+returns-clause-fails g c = Fails-after g.S.Store.facts IsWorn _ _ _ c.commit_save.result c.flush.ensures.passes.failures c.commit_save.ensures.fails

@@ -26,8 +26,6 @@ invariant_of-self-2 g c =
           (subst (λ (cs : List Change). AreSteps Backwards new (change ∷ undo) (reverse cs)) (sym c.clear.ensures.items) steps),
       c.take.ensures.tells (g.S.Store.facts c.self.inside.file.disk.store).honest c.self.inside.file.document
           (subst (λ (d : Document). IsInFile (g.S.Store.facts c.self.inside.file.disk.store).honest c.self.inside.file.document d c.self.inside.changed.items) (sym c.in_ok-change.ensures.stays) c.self.invariant.3),
-      c.self.invariant.4,
-      c.self.invariant.5,
     )
 
 pub returns-clause-step : goal.returns-clause-step
@@ -48,6 +46,4 @@ invariant_of-self-in_err-take g c = (
   search rules,
   c.take.ensures.tells (g.S.Store.facts c.self.inside.file.disk.store).honest c.self.inside.file.document
       (subst (λ (d : Document). IsInFile (g.S.Store.facts c.self.inside.file.disk.store).honest c.self.inside.file.document d c.self.inside.changed.items) (sym c.in_ok-change.ensures.stays) c.self.invariant.3),
-  c.self.invariant.4,
-  c.self.invariant.5,
 )

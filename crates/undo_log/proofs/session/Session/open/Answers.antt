@@ -1,15 +1,10 @@
 use Rattle.std.proofs.Common.{IsTrue, sym, subst}
 use Rattle.std.proofs.lemmas.Result.{IfOk-weaker, MatchResult-weaker}
 use Rattle.vm_store.specs.Facts.{StoreFacts, Rests}
+use Rattle.vm_file.proofs.Effects.{settled_after}
 use Rattle.vm_file.proofs.Looking.{Rests-trans}
 use Rattle.undo_log.proofs.Beginnings.{opened, if_ok_all}
-use Rattle.undo_log.proofs.CommitSteps.{stands-valid}
 use Rattle.undo_log.proofs.session.Session.open.Goals as goal
-
-pub read-requires-clause-valid : goal.read-requires-clause-valid
-read-requires-clause-valid g c = λ so.
-    let was = subst IsTrue c.in-Ok-open.ensures.honest so in
-    stands-valid (g.S.Store.facts c.args.store).content c.in-Ok-open.file.disk.updated c.in-Ok-open.file.disk.saved (c.in-Ok-open.ensures.stands was)
 
 pub returns-in-Ok-open-clause-rests : goal.returns-in-Ok-open-clause-rests
 returns-in-Ok-open-clause-rests g c = λ so.
@@ -31,3 +26,7 @@ returns-in-Ok-open-clause-machine g c =
     if_ok_all c.read.result _ _ _ _ (λ session passes document new so.
     opened g.S.Store.facts file (g.S.Store.facts c.args.store).content c.args.frames session (subst IsTrue (sym found.honest) so) (found.stands so) found.document.0 (found.numbered so) passes document new)
     c.read.ensures.passes c.read.ensures.document c.read.ensures.new
+
+pub returns-in-Ok-open-clause-settled : goal.returns-in-Ok-open-clause-settled
+returns-in-Ok-open-clause-settled g c =
+    IfOk-weaker c.read.result _ _ (λ session passes. settled_after g.S.Store.facts g.met.S.Store.timely c.in-Ok-open.file.disk session.disk passes c.in-Ok-open.ensures.settled) c.read.ensures.passes

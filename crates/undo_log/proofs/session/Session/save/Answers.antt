@@ -2,8 +2,6 @@ use Rattle.std.proofs.Common.{Bool, IsTrue, Some, reverse, refl, subst}
 use Rattle.geos_model.specs.Machine.{Step}
 use Rattle.geos_model.specs.Reply.{Accepted, reply_by}
 use Rattle.geos_model.specs.declared.command.Command.TheVariants as commands
-use Rattle.vm_file.proofs.Content.{committed_content}
-use Rattle.vm_file.proofs.Passing.{Drifts-refl}
 use Rattle.undo_log.specs.Records.{SessionState, machine_of, has_failed}
 use Rattle.undo_log.proofs.CommitSteps.{save_step}
 use Rattle.undo_log.proofs.session.Session.save.Goals as goal
@@ -14,7 +12,4 @@ returns-clause-step g c =
     let new : SessionState g.row.S.Denot = record old { disk = c.save.new.file.disk } in
     subst (λ (s : SessionState g.row.S.Denot). IsTrue (g.S.Store.facts s.disk.store).honest → (target : Bool)
     → Step (has_failed (g.S.Store.facts s.disk.store) (g.S.Store.facts new.disk.store)) (machine_of target s) (Some commands.Save) (reply_by (λ _. Accepted) c.save.result) (machine_of target new)) c.self.view_is
-    (λ so target. save_step g.S.Store.facts target old new so c.save.result c.save.ensures.commits (Drifts-refl (g.S.Store.facts c.self.inside.file.disk.store).honest c.self.inside.blocks) (refl, refl, refl) c.save.ensures.worn c.save.ensures.file c.save.ensures.refusals)
-
-pub returns-clause-content : goal.returns-clause-content
-returns-clause-content g c = committed_content g.S.Store.facts g.met.S.Store.timely _ _ _ c.save.result c.save.ensures.commits
+    (λ so target. save_step g.S.Store.facts target old new so c.save.result c.save.ensures.commit c.save.ensures.fails (refl, refl, refl))

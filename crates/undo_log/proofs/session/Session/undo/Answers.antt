@@ -15,8 +15,6 @@ invariant_of-self-2 g c = (
   search rules,
   kept_steps c.in_ok-turn.field-0 Backwards c.self.inside.blocks c.turn.new.blocks (reverse c.self.inside.undo.items) (reverse c.self.inside.redo.items) (reverse c.turn.new.from.items) (reverse c.turn.new.to.items) c.in_ok-turn.ensures.ok c.self.invariant.2,
   c.turn.ensures.tells (g.S.Store.facts c.self.inside.file.disk.store).honest c.self.inside.file.document c.self.invariant.3,
-  c.self.invariant.4,
-  c.self.invariant.5,
 )
 
 pub returns-clause-step : goal.returns-clause-step
@@ -35,6 +33,4 @@ invariant_of-self g c = (
   search rules,
   search rules,
   c.turn.ensures.tells (g.S.Store.facts c.self.inside.file.disk.store).honest c.self.inside.file.document c.self.invariant.3,
-  c.self.invariant.4,
-  c.self.invariant.5,
 )

@@ -10,7 +10,7 @@ pub returns-clause-document : goal.returns-clause-document
 returns-clause-document g c = subst (λ (s : SessionState g.row.S.Denot). IsValid s.document) c.self.view_is c.self.invariant.2.valid
 
 pub returns-clause-settled : goal.returns-clause-settled
-returns-clause-settled g c = subst (λ (s : SessionState g.row.S.Denot). IsSettled g.S.Store.facts s.disk) c.self.view_is c.self.invariant.4
+returns-clause-settled g c = subst (λ (s : SessionState g.row.S.Denot). IsSettled g.S.Store.facts s.disk) c.self.view_is c.validity.ensures.settled
 
 pub returns-clause-past : goal.returns-clause-past
 returns-clause-past g c = λ target.
@@ -28,6 +28,6 @@ returns-clause-machine g c =
       document = c.self.invariant.2.valid;
       past = past-valid c.self.inside.blocks (reverse c.self.inside.undo.items) (reverse c.self.inside.redo.items) c.self.invariant.2;
       future = future-valid c.self.inside.blocks (reverse c.self.inside.undo.items) (reverse c.self.inside.redo.items) c.self.invariant.2;
-      updated = (c.self.invariant.5 so).0;
-      saved = (c.self.invariant.5 so).1;
+      updated = (c.validity.ensures.valid so).0;
+      saved = (c.validity.ensures.valid so).1;
     })
