@@ -1,6 +1,6 @@
 // A store that lies: all that a session does over it ends, and a refused call leaves what can be known.
 ghost use Rattle.std.specs.Prelude.{◌≡◌};
-ghost use Rattle.vm_store.specs.Host.{host_facts, host_timely};
+ghost use Rattle.session_rows.specs.Lying.{lying_facts, lying_timely};
 
 use crate::calls::{FRAMES, answered, create, hold};
 use geos_model::Fault;
@@ -30,9 +30,9 @@ impl Liar {
 }
 
 impl Store for Liar {
-    ghost facts = { λ l. host_facts l.store.failures };
+    ghost facts = { λ l. lying_facts l.store.failures };
 
-    ghost timely = { λ l honest. host_timely l.store.failures };
+    ghost timely = { λ l honest. lying_timely l.store.failures };
 
     fn len(&mut self) -> Result<u64, StoreFault> {
         self.is_lied();
