@@ -10,6 +10,7 @@ use Rattle.geos_model.specs.declared.command.Command.{Command}
 use Rattle.geos_model.specs.declared.command.Command.TheVariants as commands
 use Rattle.vm_store.specs.Facts.{StoreFacts, Raised}
 use Rattle.vm_file.specs.Disk.{Disk, Commits, IsSettled, Numbered, Passes}
+use Rattle.vm_file.specs.Effects.{IsNewFile, Follows}
 use Rattle.vm_file.specs.Documents.{Documents}
 use Rattle.undo_log.specs.Records.{SessionState, machine_of, has_failed}
 use Rattle.geos_shell.specs.Holdings.{AreHonest, CommitsAsTold, Holding, LeavesFiles, SaveAsAccepted, SaveAsRefused, Serves, Stays, TriesToCommit, failed_with, has_failed_in, held, result_told}
@@ -82,35 +83,34 @@ module _ {S : Type 0} (facts : S → StoreFacts) where
       → (IsTrue (facts old.disk.store).honest → Step (has_failed (facts old.disk.store) (facts new.disk.store) || has_failed (facts target) (facts back)) (machine_of true old) (Some commands.SaveAs) (Refused fault) (machine_of true new))
       → Commits facts (old.disk.saved, old.disk.saved) old.disk new.disk (Err fault)
       → ((fault ≡ File → Raised (facts old.disk.store) (facts new.disk.store) → ⊥) → Passes facts old.disk new.disk)
-      → (facts back).honest ≡ (facts target).honest → (facts target).failures ≤ (facts back).failures
+      → Follows facts target back
       → AreHonest facts (held old (Some target) former) → Serves facts (held old (Some target) former) (Some commands.SaveAs) (Refused fault) (held new (Some back) former)
-  serves_refused old new target back former fault step commits passes same more honest =
+  serves_refused old new target back former fault step commits passes follows honest =
       record {
-        honest = (subst IsTrue (sym commits.honest) honest.0, subst IsTrue (sym same) honest.1);
+        honest = (subst IsTrue (sym commits.honest) honest.0, subst IsTrue (sym follows.honest) honest.1);
         step = step honest.0;
-        files = record { tries = record { commits = commits; passes = passes }; back = back; target = refl; failures = more; former = refl };
+        files = record { tries = record { commits = commits; passes = passes }; back = back; target = refl; failures = follows.failures; former = refl };
       }
 
   -- a save-as that was accepted, after which the store so far is put aside
   pub serves_accepted : (old new : SessionState S) (target store : S) (former : Option S)
       → (IsTrue (facts old.disk.store).honest → IsTrue (facts target).honest → Step false (machine_of true old) (Some commands.SaveAs) Accepted (machine_of false new))
       → (disk : Disk S) × (disk.store ≡ store) × Commits facts (old.disk.saved, old.disk.saved) old.disk disk (Ok tt)
-      → (new.disk.attempted ≡ []) × (new.disk.sequence ≡ 1) × (new.disk.updated ≡ new.disk.saved)
-      → (IsTrue (facts target).honest → Numbered (facts new.disk.store) 1) → IsSettled facts new.disk
-      → (facts new.disk.store).honest ≡ (facts target).honest → (facts target).failures ≤ (facts new.disk.store).failures
+      → IsNewFile facts new.disk.updated new.disk → Follows facts target new.disk.store
       → AreHonest facts (held old (Some target) former) → Serves facts (held old (Some target) former) (Some commands.SaveAs) Accepted (held new None (Some store))
-  serves_accepted old new target store former step commits new_file numbered settled same more honest =
+  serves_accepted old new target store former step commits new_file follows honest =
+      let still = subst IsTrue (sym follows.honest) honest.1 in
       record {
-        honest = (subst IsTrue (sym same) honest.1, tt);
+        honest = (still, tt);
         step = step honest.0 honest.1;
         files = record {
           disk = commits.0;
           commits = commits.2;
           former = ap Some (sym commits.1);
           target = refl;
-          failures = more;
-          new_file = (new_file.0, new_file.1);
-          numbered = numbered honest.1;
-          settled = settled;
+          failures = follows.failures;
+          new_file = (new_file.attempted, new_file.sequence);
+          numbered = new_file.numbered still;
+          settled = new_file.settled;
         };
       }

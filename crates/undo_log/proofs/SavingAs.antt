@@ -1,10 +1,10 @@
 -- A save-as that is refused is a step of the machine.
-use Rattle.std.proofs.Common.{◌≡◌, ◌⊎◌, ◌↔◌, ◌==◌, ◌||◌, Bool, true, false, IsTrue, IfErr, Some, refl, inl, inr}
-use Rattle.std.specs.Prelude.{◌∷◌, [], Result, Ok, Err, MatchResult}
+use Rattle.std.proofs.Common.{◌≡◌, ◌⊎◌, ◌↔◌, ◌==◌, ◌||◌, Bool, true, false, IsTrue, IfErr, Some, refl, inl, inr, sym}
+use Rattle.std.specs.Prelude.{◌∷◌, [], Result, Ok, Err, IfOk, MatchResult}
 use Rattle.std.specs.Result.{IsErrAnd}
-use Rattle.std.proofs.lemmas.Bool.{eq-eqb, le-leb, or_left, or_right}
+use Rattle.std.proofs.lemmas.Bool.{ne_eqb, eq-eqb, le-leb, or_left, or_right}
 use Rattle.geos_model.specs.Refusal.{first_refusal}
-use Rattle.geos_model.specs.Reply.{Refused}
+use Rattle.geos_model.specs.Reply.{Accepted, Refused}
 use Rattle.geos_model.specs.Machine.{Step}
 use Rattle.geos_model.specs.declared.command.Command.TheVariants as commands
 use Rattle.geos_model.specs.declared.fault.Fault.{Fault}
@@ -13,7 +13,9 @@ use Rattle.vm_store.specs.Facts.{StoreFacts, Raised}
 use Rattle.vm_file.specs.Calls.{IsCommitRefusal, last_sequence}
 use Rattle.vm_file.specs.Disk.{Commits}
 use Rattle.vm_file.specs.Documents.{Documents}
+use Rattle.vm_file.specs.Effects.{IsNewFile}
 use Rattle.undo_log.specs.Records.{SessionState, machine_of, has_failed}
+use Rattle.undo_log.proofs.CommitSteps.{machine_is}
 
 -- one of two stores failed
 one_failed : (a b c d : StoreFacts) → Raised a b ⊎ Raised c d → (has_failed a b || has_failed c d) ≡ true
@@ -57,3 +59,14 @@ module _ {S : Type 0} (facts : S → StoreFacts) (old new : SessionState S) (kee
   refused fault store target pair P (Err e) commits worn damaged file is = λ so.
       refusal (fault e) (has_failed (facts old.disk.store) (facts new.disk.store) || has_failed (facts target) (facts (store e))) (same_machine pair (fault e) commits so) worn.0
       (λ failing. one_failed (facts old.disk.store) (facts new.disk.store) (facts target) (facts (store e)) (file failing)) (λ is_damaged. damaged is_damaged so) is
+
+  -- where it is accepted the session is in the new file
+  pub accepted : {T E : Type 0} (fault : E → Fault) (target : S) (r : Result T E)
+      → IfOk r (λ _. IsTrue (facts old.disk.store).honest → IsTrue (facts target).honest → (new.disk.updated ≡ old.document) × (new.disk.saved ≡ old.document)) → IfOk r (λ _. IsNewFile facts new.disk.updated new.disk)
+      → (IsErrAnd r (λ e. fault e ≡ Worn) ↔ (old.disk.sequence ≡ last_sequence))
+      → IfOk r (λ _. IsTrue (facts old.disk.store).honest → IsTrue (facts target).honest → Step false (machine_of true old) (Some commands.SaveAs) Accepted (machine_of false new))
+  accepted fault target (Ok x) made new_file worn = λ so also.
+      let documents = made so also in
+      let fresh : (old.disk.sequence == last_sequence) ≡ false = ne_eqb old.disk.sequence last_sequence (λ last. absurd (worn.1 last)) in
+      inl (rw (fresh, ← machine_is false old.document old.document old.document old.undo old.redo old.frames 1 new (sym keeps.document) (sym keeps.undo) (sym keeps.redo) (sym documents.0) (sym documents.1) (sym keeps.frames) (sym new_file.sequence)) refl)
+  accepted fault target (Err e) made new_file worn = tt

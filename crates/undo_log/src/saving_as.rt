@@ -3,7 +3,8 @@ ghost use Rattle.std.specs.Prelude.{◌≡◌, ◌⊎◌, ◌↔◌, ◌≤◌, 
 ghost use Rattle.std.specs.Result.{IsErrAnd};
 ghost use Rattle.vm_store.specs.Facts.{Raised};
 ghost use Rattle.vm_file.specs.Calls.{IsCommitRefusal, last_sequence};
-ghost use Rattle.vm_file.specs.Disk.{Disk, Commits, IsSettled, Numbered, Passes};
+ghost use Rattle.vm_file.specs.Disk.{Disk, Commits, Passes};
+ghost use Rattle.vm_file.specs.Effects.{IsNewFile, Follows};
 ghost use Rattle.vm_blocks.specs.InFile.{IsInFile};
 ghost use Rattle.undo_log.specs.Marking.{AreMarked};
 
@@ -43,15 +44,10 @@ pub fn save_as<S: Store>(
     // of the target
     ensures made { IfOk result (λ _. IsTrue (S.facts file.old.disk.store).honest → IsTrue (S.facts target).honest
         → (file.new.disk.updated ≡ blocks.now) × (file.new.disk.saved ≡ blocks.now)) }
-    ensures new_file { IfOk result (λ _. (file.new.disk.attempted ≡ []) × (file.new.disk.sequence ≡ 1) × (file.new.disk.updated ≡ file.new.disk.saved)) }
-    ensures numbered { IfOk result (λ _. IsTrue (S.facts target).honest → Numbered (S.facts file.new.disk.store) 1) }
-    ensures settled { IsSettled S.facts file.new.disk }
-    ensures honest { MatchResult result
-        (λ _. (S.facts file.new.disk.store).honest ≡ (S.facts target).honest)
-        (λ refused. (S.facts refused.store).honest ≡ (S.facts target).honest) }
-    ensures failures { MatchResult result
-        (λ _. (S.facts target).failures ≤ (S.facts file.new.disk.store).failures)
-        (λ refused. (S.facts target).failures ≤ (S.facts refused.store).failures) }
+    ensures new_file { IfOk result (λ _. IsNewFile S.facts file.new.disk.updated file.new.disk) }
+    ensures target { MatchResult result
+        (λ _. Follows S.facts target file.new.disk.store)
+        (λ refused. Follows S.facts target refused.store) }
     ensures kept { IsInFile (S.facts file.new.disk.store).honest file.new.document blocks.now changed.new }
     ensures worn { IsErrAnd result (λ refused. refused.fault ≡ Fault.Worn) ↔ file.old.disk.sequence ≡ last_sequence }
     ensures early { IfErr result (λ refused. refused.fault ≡ Fault.Worn → (file.new ≡ file.old) × (refused.store ≡ target)) }

@@ -12,7 +12,7 @@ ghost use Rattle.vm_store.specs.Facts.{Raised, Rests};
 ghost use Rattle.vm_file.specs.Calls.{IsSupply, IsCommitRefusal, IsOpenRefusal, last_sequence};
 ghost use Rattle.vm_file.specs.Disk.{Disk, Commits, ContentStands, Drifts, IsSettled, Numbered, Passes};
 ghost use Rattle.vm_file.specs.Documents.{sequence_in};
-ghost use Rattle.vm_file.specs.Effects.{IsCommit, Fails, IsWorn, IsDamage};
+ghost use Rattle.vm_file.specs.Effects.{IsNewFile, Follows, IsCommit, Fails, IsWorn, IsDamage};
 ghost use Rattle.vm_file.specs.Making.{first_file};
 ghost use Rattle.vm_blocks.specs.Blocks.{is_resident};
 ghost use Rattle.vm_blocks.specs.InFile.{IsInFile};
@@ -113,8 +113,7 @@ impl<S: Store> Session<S> {
         ensures rests { IsTrue (S.facts file.disk.store).honest → MatchResult result
             (λ session. Rests (S.facts file.disk.store) (S.facts session.disk.store))
             (λ refused. Rests (S.facts file.disk.store) (S.facts refused.store)) }
-        ensures honest { IfErr result (λ refused. (S.facts refused.store).honest ≡ (S.facts file.disk.store).honest) }
-        ensures failures { IfErr result (λ refused. (S.facts file.disk.store).failures ≤ (S.facts refused.store).failures) }
+        ensures store { IfErr result (λ refused. Follows S.facts file.disk.store refused.store) }
         ensures file { IfErr result (λ refused. refused.fault ≡ Fault.File → Raised (S.facts file.disk.store) (S.facts refused.store)) }
         ensures refusals { IfErr result (λ refused. IsSupply refused.fault ⊎ IsDamage (S.facts file.disk.store).honest refused.fault) }
     {
@@ -131,18 +130,11 @@ impl<S: Store> Session<S> {
     /// Makes the store an empty document file, with nothing to undo, whatever was in it. Memory, before the store is called; File.
     pub fn create(alloc: Global, store: S, frames: usize) -> Result<Session<S>, Refused<S>>
         requires { (1 ≤ frames) × (frames ≤ 64) }
-        ensures honest { MatchResult result
-            (λ session. (S.facts session.disk.store).honest ≡ (S.facts store).honest)
-            (λ refused. (S.facts refused.store).honest ≡ (S.facts store).honest) }
-        ensures failures { MatchResult result
-            (λ session. (S.facts store).failures ≤ (S.facts session.disk.store).failures)
-            (λ refused. (S.facts store).failures ≤ (S.facts refused.store).failures) }
-        ensures made { IfOk result (λ session. (session.document ≡ empty_document) × (session.disk.updated ≡ empty_document) × (session.disk.saved ≡ empty_document)
-            × (session.disk.attempted ≡ []) × (session.disk.sequence ≡ 1)) }
+        ensures store { MatchResult result
+            (λ session. Follows S.facts store session.disk.store)
+            (λ refused. Follows S.facts store refused.store) }
+        ensures made { IfOk result (λ session. (session.document ≡ empty_document) × IsNewFile S.facts empty_document session.disk) }
         ensures new { IfOk result (λ session. (session.undo ≡ []) × (session.redo ≡ []) × (session.frames ≡ frames)) }
-        ensures numbered { IfOk result (λ session. IsTrue (S.facts store).honest → Numbered (S.facts session.disk.store) 1) }
-        ensures settled { IfOk result (λ session. IsSettled S.facts session.disk) }
-        ensures content { IfOk result (λ session. ContentStands S.facts session.disk) }
         ensures machine { IfOk result (λ session. (target : Bool) → machine_of target session ≡ empty_machine frames target) }
         // the slots, and a directory of no block
         ensures bytes { IfOk result (λ session. IsTrue (S.facts store).honest → (S.facts session.disk.store).content ≡ first_file) }
@@ -168,12 +160,9 @@ impl<S: Store> Session<S> {
     /// is on the disk from then on.
     pub fn open(alloc: Global, store: S, frames: usize) -> Result<Session<S>, Refused<S>>
         requires { (1 ≤ frames) × (frames ≤ 64) }
-        ensures honest { MatchResult result
-            (λ session. (S.facts session.disk.store).honest ≡ (S.facts store).honest)
-            (λ refused. (S.facts refused.store).honest ≡ (S.facts store).honest) }
-        ensures failures { MatchResult result
-            (λ session. (S.facts store).failures ≤ (S.facts session.disk.store).failures)
-            (λ refused. (S.facts store).failures ≤ (S.facts refused.store).failures) }
+        ensures store { MatchResult result
+            (λ session. Follows S.facts store session.disk.store)
+            (λ refused. Follows S.facts store refused.store) }
         // Nothing is written.
         ensures rests { IsTrue (S.facts store).honest → MatchResult result
             (λ session. Rests (S.facts store) (S.facts session.disk.store))
@@ -273,18 +262,12 @@ impl<S: Store> Session<S> {
         // of the target: a new file
         ensures made { IfOk result (λ _. IsTrue (S.facts self.old.disk.store).honest → IsTrue (S.facts target).honest
             → (self.new.disk.updated ≡ self.old.document) × (self.new.disk.saved ≡ self.old.document)) }
-        ensures new_file { IfOk result (λ _. (self.new.disk.attempted ≡ []) × (self.new.disk.sequence ≡ 1) × (self.new.disk.updated ≡ self.new.disk.saved)) }
-        ensures numbered { IfOk result (λ _. IsTrue (S.facts target).honest → Numbered (S.facts self.new.disk.store) 1) }
-        ensures settled { IfOk result (λ _. IsSettled S.facts self.new.disk) }
-        ensures content { IfOk result (λ _. ContentStands S.facts self.new.disk) }
+        ensures new_file { IfOk result (λ _. IsNewFile S.facts self.new.disk.updated self.new.disk) }
         // of the store that comes back
         ensures reverted { IfOk result (λ store. IsTrue (S.facts self.old.disk.store).honest → stands (S.facts store).content ≡ Ok (self.old.disk.saved, self.old.disk.saved)) }
-        ensures honest { MatchResult result
-            (λ _. (S.facts self.new.disk.store).honest ≡ (S.facts target).honest)
-            (λ refused. (S.facts refused.store).honest ≡ (S.facts target).honest) }
-        ensures failures { MatchResult result
-            (λ _. (S.facts target).failures ≤ (S.facts self.new.disk.store).failures)
-            (λ refused. (S.facts target).failures ≤ (S.facts refused.store).failures) }
+        ensures target { MatchResult result
+            (λ _. Follows S.facts target self.new.disk.store)
+            (λ refused. Follows S.facts target refused.store) }
         ensures drifts { Drifts ((S.facts self.old.disk.store).honest && (S.facts target).honest) self.old.document self.new.document }
         ensures stays { IfErr result (λ _. Drifts (S.facts self.old.disk.store).honest self.old.document self.new.document) }
         ensures lists { (self.new.undo ≡ self.old.undo) × (self.new.redo ≡ self.old.redo) × (self.new.frames ≡ self.old.frames) }

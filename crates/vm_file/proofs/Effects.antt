@@ -10,14 +10,15 @@ use Rattle.geos_model.proofs.FileDocuments.{document_at-valid}
 use Rattle.vm_store.specs.Facts.{StoreFacts, IsTimely, Rests}
 use Rattle.vm_file.specs.Calls.{IsSupply, last_sequence}
 use Rattle.vm_file.specs.Documents.{Documents, blocks_in, document_in, IsStored}
-use Rattle.vm_file.specs.Disk.{Disk, FileState, IsSettled, Drifts, Passes, Commits}
-use Rattle.vm_file.specs.Effects.{IsFile, OnlyReads, IsCommit, Fails, NoFault, IsDamage}
+use Rattle.vm_file.specs.Disk.{Disk, FileState, IsSettled, Numbered, Drifts, Passes, Commits}
+use Rattle.vm_file.specs.Effects.{IsFile, IsNewFile, OnlyReads, IsCommit, Fails, NoFault, IsDamage}
+use Rattle.vm_file.specs.Making.{IsOne}
 use Rattle.vm_file.specs.Sound.{IsSound, disk_of}
 use Rattle.vm_file.specs.declared.slots.Slots.{Slots}
 use Rattle.vm_file.specs.declared.slots.Stored.{Stored}
 use Rattle.vm_file.specs.declared.table.Table.{Table}
 use Rattle.vm_file.proofs.Carried.{call_passes}
-use Rattle.vm_file.proofs.Content.{committed_content}
+use Rattle.vm_file.proofs.Content.{settled_content, committed_content}
 use Rattle.vm_file.proofs.Listed.{listed}
 use Rattle.vm_file.proofs.Looking.{Rests-refl, Rests-trans}
 use Rattle.vm_file.proofs.Passing.{Passes-refl, Passes-trans, Passes-settled, Passes-fails, Passes-Commits, Drifts-refl, Drifts-trans, Commits-refused}
@@ -156,3 +157,18 @@ module _ {S : Type 0} (facts : S → StoreFacts) where
     rests = λ so. Rests-trans (facts a.disk.store) (facts b.disk.store) (facts c.disk.store) (timely so) (p.rests so) (q.rests (subst IsTrue (sym p.passes.honest) so));
     document = Drifts-trans _ a.document b.document c.document p.document (subst (λ t. Drifts t b.document c.document) p.passes.honest q.document);
   }
+
+-- A file that was just made.
+pub made_file : {S : Type 0} (facts : S → StoreFacts) → ((store : S) → IsTrue (facts store).honest → IsTimely (facts store)) → (store : S) (live : Table) (slots : Slots) → IsSound (facts store) live slots → IsOne (facts store).content live slots
+    → IsNewFile facts (document_in (facts store).content live) (disk_of facts store slots)
+made_file facts timely store live slots sound one =
+    let settled = sound_settled facts store live slots sound in
+    record {
+      updated = one.updated;
+      saved = one.saved;
+      attempted = one.attempted;
+      sequence = one.sequence;
+      numbered = λ so. subst (Numbered (facts store)) one.sequence (sound_numbered facts store live slots sound so one.attempted);
+      settled = settled;
+      content = settled_content facts timely (disk_of facts store slots) settled (λ _. one.attempted);
+    }

@@ -5,7 +5,7 @@ use Rattle.geos_model.specs.Document.{Document, IsValid}
 use Rattle.geos_model.specs.declared.fault.Fault.{Fault}
 use Rattle.geos_model.specs.declared.fault.Fault.TheVariants.{File, Damaged, Worn}
 use Rattle.vm_file.specs.Calls.{IsSupply, last_sequence}
-use Rattle.vm_file.specs.Disk.{FileState, Drifts, IsListed, Passes, Commits, IsSettled, Numbered, ContentStands}
+use Rattle.vm_file.specs.Disk.{Disk, FileState, Drifts, IsListed, Passes, Commits, IsSettled, Numbered, ContentStands}
 use Rattle.vm_file.specs.Documents.{Documents}
 
 -- What always holds of a file. Over an honest store a crash now leaves what may be read, the updated and the saved document are
@@ -18,6 +18,21 @@ pub record IsFile {S : Type 0} (facts : S → StoreFacts) (file : FileState S) :
   pub settled : IsSettled facts file.disk
   pub numbered : IsTrue (facts file.disk.store).honest → file.disk.attempted ≡ [] → Numbered (facts file.disk.store) file.disk.sequence
   pub sequence : (1 ≤ file.disk.sequence) × (file.disk.sequence ≤ last_sequence)
+
+-- The store is the one that was given: as honest, and no failure is forgotten.
+pub record Follows {S : Type 0} (facts : S → StoreFacts) (given now : S) : Type 0 where
+  pub honest : (facts now).honest ≡ (facts given).honest
+  pub failures : (facts given).failures ≤ (facts now).failures
+
+-- The file was just made of a document, which is the updated and the saved one, under the first number.
+pub record IsNewFile {S : Type 0} (facts : S → StoreFacts) (d : Document) (disk : Disk S) : Type 0 where
+  pub updated : disk.updated ≡ d
+  pub saved : disk.saved ≡ d
+  pub attempted : disk.attempted ≡ []
+  pub sequence : disk.sequence ≡ 1
+  pub numbered : IsTrue (facts disk.store).honest → Numbered (facts disk.store) 1
+  pub settled : IsSettled facts disk
+  pub content : ContentStands facts disk
 
 -- A call that only reads: nothing is written, nothing is committed, and the document stays as far as the store gives back what it has.
 pub record OnlyReads {S : Type 0} (facts : S → StoreFacts) (old new : FileState S) : Type 0 where

@@ -4,7 +4,7 @@ ghost use Rattle.geos_model.specs.Document.{empty_document, is_live, is_vm_handl
 ghost use Rattle.geos_model.specs.Image.{image};
 ghost use Rattle.geos_model.specs.File.{bytes_in, directory_text, open_slot, stands};
 ghost use Rattle.vm_file.specs.Disk.{FileState, ContentStands, Drifts, Passes, IsSettled, Numbered};
-ghost use Rattle.vm_file.specs.Effects.{IsFile, OnlyReads, KeepsFile, IsCommit, Fails, NoFault, IsWorn};
+ghost use Rattle.vm_file.specs.Effects.{IsFile, IsNewFile, Follows, OnlyReads, KeepsFile, IsCommit, Fails, NoFault, IsWorn};
 ghost use Rattle.vm_file.specs.Documents.{sequence_in};
 ghost use Rattle.vm_file.specs.Making.{first_directory, first_file, first_open, no_blocks};
 ghost use Rattle.vm_file.specs.Calls.{IsPut, put_all, remove_all, IsImageLength, IsSupply, IsOpenRefusal, last_sequence};
@@ -56,17 +56,10 @@ impl<S: Store> Model for VmFile<S> {
 impl<S: Store> VmFile<S> {
     /// Makes the store an empty document file, whatever was in it. Memory, before the store is called; File.
     pub fn create(alloc: Global, store: S) -> Result<VmFile<S>, Refused<S>>
-        ensures honest { MatchResult result
-            (λ file. (S.facts file.disk.store).honest ≡ (S.facts store).honest)
-            (λ refused. (S.facts refused.store).honest ≡ (S.facts store).honest) }
-        ensures failures { MatchResult result
-            (λ file. (S.facts store).failures ≤ (S.facts file.disk.store).failures)
-            (λ refused. (S.facts store).failures ≤ (S.facts refused.store).failures) }
-        ensures made { IfOk result (λ file. (file.document ≡ empty_document) × (file.disk.updated ≡ empty_document) × (file.disk.saved ≡ empty_document)
-            × (file.disk.attempted ≡ []) × (file.disk.sequence ≡ 1)) }
-        ensures numbered { IfOk result (λ file. IsTrue (S.facts store).honest → Numbered (S.facts file.disk.store) 1) }
-        ensures settled { IfOk result (λ file. IsSettled S.facts file.disk) }
-        ensures content { IfOk result (λ file. ContentStands S.facts file.disk) }
+        ensures store { MatchResult result
+            (λ file. Follows S.facts store file.disk.store)
+            (λ refused. Follows S.facts store refused.store) }
+        ensures made { IfOk result (λ file. (file.document ≡ empty_document) × IsNewFile S.facts empty_document file.disk) }
         // The slots, of which the first one counts, and a directory of no block.
         ensures bytes { IfOk result (λ file. IsTrue (S.facts store).honest → (S.facts file.disk.store).content ≡ first_file) }
         ensures size { IfOk result (λ file. IsTrue (S.facts store).honest → length (S.facts file.disk.store).content ≡ 1040) }
@@ -92,12 +85,9 @@ impl<S: Store> VmFile<S> {
     /// Opens the file that a store has: NotDocument or Damaged where it is none, and the store comes back as it was.
     /// Where a crash left the store, what is read is on the disk from then on.
     pub fn open(alloc: Global, mut store: S) -> Result<VmFile<S>, Refused<S>>
-        ensures honest { MatchResult result
-            (λ file. (S.facts file.disk.store).honest ≡ (S.facts store).honest)
-            (λ refused. (S.facts refused.store).honest ≡ (S.facts store).honest) }
-        ensures failures { MatchResult result
-            (λ file. (S.facts store).failures ≤ (S.facts file.disk.store).failures)
-            (λ refused. (S.facts store).failures ≤ (S.facts refused.store).failures) }
+        ensures store { MatchResult result
+            (λ file. Follows S.facts store file.disk.store)
+            (λ refused. Follows S.facts store refused.store) }
         // Nothing is written.
         ensures rests { IsTrue (S.facts store).honest → MatchResult result
             (λ file. Rests (S.facts store) (S.facts file.disk.store))
@@ -288,18 +278,12 @@ impl<S: Store> VmFile<S> {
         // The file so far.
         ensures reads { OnlyReads S.facts self.old self.new }
         // The target.
-        ensures honest { MatchResult result
-            (λ file. (S.facts file.disk.store).honest ≡ (S.facts target).honest)
-            (λ refused. (S.facts refused.store).honest ≡ (S.facts target).honest) }
-        ensures failures { MatchResult result
-            (λ file. (S.facts target).failures ≤ (S.facts file.disk.store).failures)
-            (λ refused. (S.facts target).failures ≤ (S.facts refused.store).failures) }
+        ensures target { MatchResult result
+            (λ file. Follows S.facts target file.disk.store)
+            (λ refused. Follows S.facts target refused.store) }
         ensures copied { IfOk result (λ file. IsTrue (S.facts self.old.disk.store).honest → IsTrue (S.facts target).honest → file.document ≡ self.old.document) }
         ensures handles { IfOk result (λ file. Drifts false self.old.document file.document) }
-        ensures made { IfOk result (λ file. (file.disk.updated ≡ file.document) × (file.disk.saved ≡ file.document) × (file.disk.attempted ≡ []) × (file.disk.sequence ≡ 1)) }
-        ensures numbered { IfOk result (λ file. IsTrue (S.facts target).honest → Numbered (S.facts file.disk.store) 1) }
-        ensures settled { IfOk result (λ file. IsSettled S.facts file.disk) }
-        ensures content { IfOk result (λ file. ContentStands S.facts file.disk) }
+        ensures made { IfOk result (λ file. IsNewFile S.facts file.document file.disk) }
         ensures file { IfErr result (λ refused. refused.fault ≡ Fault.File
             → Raised (S.facts self.old.disk.store) (S.facts self.new.disk.store) ⊎ Raised (S.facts target) (S.facts refused.store)) }
         ensures damaged { IfErr result (λ refused. refused.fault ≡ Fault.Damaged → IsTrue (S.facts self.old.disk.store).honest → ⊥) }

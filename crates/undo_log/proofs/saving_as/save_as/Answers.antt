@@ -1,17 +1,16 @@
 use Rattle.std.proofs.Common.{◌≢◌, Ok, Err, sym, ap, subst, ◌∙◌}
 use Rattle.std.proofs.lemmas.Result.{err_from_is_err_and}
-use Rattle.vm_file.specs.Disk.{FileState, IsSettled, Numbered}
-use Rattle.vm_file.proofs.Passing.{Passes-trans, Passes-fails, Passes-Commits}
+use Rattle.geos_model.specs.Document.{Document}
+use Rattle.vm_file.specs.Disk.{FileState, Drifts}
+use Rattle.vm_file.specs.Effects.{IsNewFile}
+use Rattle.vm_file.proofs.Passing.{Drifts-trans, Passes-trans, Passes-fails, Passes-Commits}
 use Rattle.geos_model.specs.declared.fault.Fault.TheVariants.{File}
 use Rattle.vm_file.proofs.Effects.{settled_after}
 use Rattle.undo_log.proofs.Commits.{raised_after}
-use Rattle.undo_log.proofs.Marked.{in_file_marked}
+use Rattle.undo_log.proofs.Marked.{in_file_on, in_file_marked}
 use Rattle.undo_log.proofs.saving_as.save_as.Goals as goal
 
 -- what is in memory couldn't be written
-
-pub returns-in-Err-clause-settled : goal.returns-in-Err-clause-settled
-returns-in-Err-clause-settled g c = settled_after g.S.Store.facts g.met.S.Store.timely c.args.file.now.disk c.flush.new.file.disk c.flush.ensures.passes c.validity.ensures.settled
 
 pub returns-in-Err-clause-commits : goal.returns-in-Err-clause-commits
 returns-in-Err-clause-commits g c =
@@ -20,11 +19,6 @@ returns-in-Err-clause-commits g c =
     (settled_after g.S.Store.facts g.met.S.Store.timely c.args.file.now.disk c.flush.new.file.disk passes c.validity.ensures.settled)
 
 -- it couldn't be copied
-
-pub returns-in_err-copied-clause-settled : goal.returns-in_err-copied-clause-settled
-returns-in_err-copied-clause-settled g c =
-    let a = c.args.file.now.disk in let b = c.flush.new.file.disk in let d = c.copy_to.new.self.disk in
-    settled_after g.S.Store.facts g.met.S.Store.timely a d (Passes-trans g.S.Store.facts a b d c.flush.ensures.passes c.copy_to.ensures.reads.passes) c.validity.ensures.settled
 
 pub returns-in_err-copied-clause-commits : goal.returns-in_err-copied-clause-commits
 returns-in_err-copied-clause-commits g c =
@@ -54,11 +48,21 @@ returns-clause-commits g c =
           (λ so i. (passes.saved so i, passes.saved so i)) c.in_default-commit_revert.ensures.commit.commits,
     )
 
-pub returns-clause-numbered : goal.returns-clause-numbered
-returns-clause-numbered g c = λ so. subst (λ (f : FileState g.row.S.Denot). Numbered (g.S.Store.facts f.disk.store) 1) (sym c.replace.ensures.after) (c.in_ok-copied.ensures.numbered so)
+pub returns-clause-new_file : goal.returns-clause-new_file
+returns-clause-new_file g c =
+    let made = c.in_ok-copied.ensures.made in
+    subst (λ (f : FileState g.row.S.Denot). IsNewFile g.S.Store.facts f.disk.updated f.disk) (sym c.replace.ensures.after)
+    (subst (λ (d : Document). IsNewFile g.S.Store.facts d c.in_ok-copied.copied.disk) (sym made.updated) made)
 
-pub returns-clause-settled : goal.returns-clause-settled
-returns-clause-settled g c = subst (λ (f : FileState g.row.S.Denot). IsSettled g.S.Store.facts f.disk) (sym c.replace.ensures.after) c.in_ok-copied.ensures.settled
+pub returns-in-Err-commit_revert-clause-kept : goal.returns-in-Err-commit_revert-clause-kept
+returns-in-Err-commit_revert-clause-kept g c =
+    let facts = g.S.Store.facts in
+    let a = c.args.file.now in let b = c.flush.new.file in let d = c.copy_to.new.self in let e = c.commit_revert.new.self in
+    let read = c.copy_to.ensures.reads in let revert = c.in-Err-commit_revert.ensures.commit in
+    let honest = (facts a.disk.store).honest in
+    let copied = read.passes.honest ∙ c.flush.ensures.passes.honest in
+    in_file_on honest (facts e.disk.store).honest b.document e.document c.args.blocks.now c.flush.new.changed (revert.commits.honest ∙ copied)
+    (Drifts-trans honest b.document d.document e.document (subst (λ t. Drifts t b.document d.document) c.flush.ensures.passes.honest read.document) (subst (λ t. Drifts t d.document e.document) copied revert.document)) c.flush.ensures.kept
 
 pub returns-clause-kept : goal.returns-clause-kept
 returns-clause-kept g c = in_file_marked _ _ _ _ (c.mark_all.ensures.size ∙ c.flush.ensures.kept.size) c.mark_all.ensures.all

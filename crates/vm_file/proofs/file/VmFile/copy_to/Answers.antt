@@ -1,10 +1,10 @@
 use Rattle.std.proofs.Common.{IsTrue, false, refl, sym, subst}
 use Rattle.vm_file.specs.Documents.{document_in}
 use Rattle.std.specs.Prelude.{IfOk}
-use Rattle.vm_file.specs.Disk.{Drifts, IsSettled, Numbered, ContentStands}
-use Rattle.vm_file.specs.Effects.{OnlyReads}
+use Rattle.vm_file.specs.Disk.{Drifts}
+use Rattle.vm_file.specs.Effects.{IsNewFile, OnlyReads}
 use Rattle.vm_file.specs.Sound.{disk_of}
-use Rattle.vm_file.proofs.Effects.{rested}
+use Rattle.vm_file.proofs.Effects.{rested, made_file}
 use Rattle.vm_file.proofs.Content.{settled_content}
 use Rattle.vm_file.proofs.LaidOut.{laid_drifts}
 use Rattle.vm_file.proofs.Stands.{sound_settled, sound_numbered}
@@ -32,28 +32,10 @@ returns-clause-handles g c =
       | in-Err w ↦ subst (λ r. IfOk r (λ file. Drifts false old file.document)) (sym w.result-is) tt
     ]
 
-pub returns-clause-settled : goal.returns-clause-settled
-returns-clause-settled g c =
-    elim c.match-copy_document.branch as (λ _. IfOk c.match-copy_document.result (λ file. IsSettled g.S.Store.facts file.disk)) [
-      | in-Ok w ↦ subst (λ r. IfOk r (λ file. IsSettled g.S.Store.facts file.disk)) (sym w.result-is) (sound_settled g.S.Store.facts c.copy_document.new.target w.in-Ok.made.live w.in-Ok.made.slots w.in-Ok.ensures.sound)
-      | in-Err w ↦ subst (λ r. IfOk r (λ file. IsSettled g.S.Store.facts file.disk)) (sym w.result-is) tt
-    ]
-
-pub returns-clause-numbered : goal.returns-clause-numbered
-returns-clause-numbered g c =
-    elim c.match-copy_document.branch as (λ _. IfOk c.match-copy_document.result (λ file. IsTrue (g.S.Store.facts c.args.target).honest → Numbered (g.S.Store.facts file.disk.store) 1)) [
-      | in-Ok w ↦ subst (λ r. IfOk r (λ file. IsTrue (g.S.Store.facts c.args.target).honest → Numbered (g.S.Store.facts file.disk.store) 1)) (sym w.result-is) (λ so.
-          let one = w.in-Ok.ensures.one in
-          subst (Numbered (g.S.Store.facts c.copy_document.new.target)) one.sequence
-          (sound_numbered g.S.Store.facts c.copy_document.new.target w.in-Ok.made.live w.in-Ok.made.slots w.in-Ok.ensures.sound (subst IsTrue (sym c.copy_document.ensures.honest) so) one.attempted))
-      | in-Err w ↦ subst (λ r. IfOk r (λ file. IsTrue (g.S.Store.facts c.args.target).honest → Numbered (g.S.Store.facts file.disk.store) 1)) (sym w.result-is) tt
-    ]
-
-pub returns-clause-content : goal.returns-clause-content
-returns-clause-content g c =
-    elim c.match-copy_document.branch as (λ _. IfOk c.match-copy_document.result (λ file. ContentStands g.S.Store.facts file.disk)) [
-      | in-Ok w ↦ subst (λ r. IfOk r (λ file. ContentStands g.S.Store.facts file.disk)) (sym w.result-is)
-          (let store = c.copy_document.new.target in
-          settled_content g.S.Store.facts g.met.S.Store.timely (disk_of g.S.Store.facts store w.in-Ok.made.slots) (sound_settled g.S.Store.facts store w.in-Ok.made.live w.in-Ok.made.slots w.in-Ok.ensures.sound) (λ _. w.in-Ok.ensures.one.attempted))
-      | in-Err w ↦ subst (λ r. IfOk r (λ file. ContentStands g.S.Store.facts file.disk)) (sym w.result-is) tt
+pub returns-clause-made : goal.returns-clause-made
+returns-clause-made g c =
+    elim c.match-copy_document.branch as (λ _. IfOk c.match-copy_document.result (λ file. IsNewFile g.S.Store.facts file.document file.disk)) [
+      | in-Ok w ↦ subst (λ r. IfOk r (λ file. IsNewFile g.S.Store.facts file.document file.disk)) (sym w.result-is)
+          (made_file g.S.Store.facts g.met.S.Store.timely c.copy_document.new.target w.in-Ok.made.live w.in-Ok.made.slots w.in-Ok.ensures.sound w.in-Ok.ensures.one)
+      | in-Err w ↦ subst (λ r. IfOk r (λ file. IsNewFile g.S.Store.facts file.document file.disk)) (sym w.result-is) tt
     ]
