@@ -1,5 +1,6 @@
 -- The image of a heap, as a table packed in bytes.
 use Rattle.std.proofs.Common.{◌≡◌, ℕ, suc, ◌+◌, ◌-◌, ◌<◌, ◌≤◌, true, List, [], ◌∷◌, ◌++◌, length, get_or, set, take, drop, replicate, Option, Some, None, unwrap_or, flat_map, refl, sym, ap, subst, ◌∙◌, arith, length-append, append_assoc}
+use Rattle.std.specs.Prelude.{◌↔◌, IsSome}
 use Rattle.std.proofs.lemmas.List.{append-nil, set_at, take_more, take_all, length-take-le, length-replicate, get_or-append_right, get_or-replicate}
 use Rattle.std.proofs.lemmas.List.Sums.{sum_by-cons, sum_by-append, sum_by-take-le}
 use Rattle.std.proofs.lemmas.List.Folds.{sum_by-replicate}
@@ -11,10 +12,11 @@ use Rattle.geos_model.specs.Words.{word, word_at}
 use Rattle.geos_model.specs.declared.command.Body.TheVariants as bodies
 use Rattle.geos_model.proofs.HeapTables.{image-table, slot_size_word, slot_bytes, need_le, heap_map-table, space_of_ge}
 use Rattle.geos_model.proofs.Images.{word-reads_back}
-use Rattle.lmem_heap.specs.Packed.{Slots, heads, chunks, packed, slots_in}
+use Rattle.lmem_heap.specs.Packed.{Slots, IsTable, heads, chunks, packed, slots_in}
 use Rattle.lmem_heap.specs.Slots.{space_in, need_in}
+use Rattle.lmem_heap.specs.HeapImage.{IsHeapImage, HasHeapTable}
 use Rattle.lmem_heap.proofs.Heaps.{need_is, is_heap}
-use Rattle.lmem_heap.proofs.PackedSlots.{length-packed, slots_in-packed, slot_some, slot_length, chunks-append, chunks-cons}
+use Rattle.lmem_heap.proofs.PackedSlots.{length-packed, length-slots_in, slots_in-packed, slot_some, slot_length, chunks-append, chunks-cons}
 
 -- a chunk takes no less than its bytes
 pub length-chunks_le : (t : Slots) → length (chunks t) ≤ space_in t
@@ -52,26 +54,24 @@ size_le t i size l is =
 
 -- ---- bytes that are no image
 
-abbrev pub NoImage : List ℕ → Type 0
-NoImage bytes = (m : ChunkMap) → is_heap_map m ≡ true → image (bodies.Heap m) ≡ bytes → ⊥
-
 -- a heap's image, by its table
-image_parts : (m : ChunkMap) → is_heap_map m ≡ true → (t : Slots) × IsTrimmed t × (need_in t ≤ 65520) × (image (bodies.Heap m) ≡ 1 ∷ word (length t) ++ packed t)
-image_parts m heap =
-    let shown = heap_map-table m heap in let t = shown.0 in
-    let room : need_in t ≤ 65520 = omega (arith, need_is t shown.1, ap need shown.2, need_le m heap) in
-    (t, shown.1, room, ap (λ (x : ChunkMap). image (bodies.Heap x)) shown.2 ∙ image_is t shown.1)
+image_parts : (bytes : List ℕ) → IsHeapImage bytes → (t : Slots) × IsTrimmed t × (need_in t ≤ 65520) × (bytes ≡ 1 ∷ word (length t) ++ packed t)
+unfolding IsHeapImage
+image_parts bytes is =
+    let shown = heap_map-table is.0 is.1 in let t = shown.0 in
+    let room : need_in t ≤ 65520 = omega (arith, need_is t shown.1, ap need shown.2, need_le is.0 is.1) in
+    (t, shown.1, room, sym is.2 ∙ (ap (λ (x : ChunkMap). image (bodies.Heap x)) shown.2 ∙ image_is t shown.1))
 
-pub no_image_begin : (bytes : List ℕ) → ((n : ℕ) (rest : List ℕ) → bytes ≡ 1 ∷ word n ++ rest → ⊥) → NoImage bytes
-no_image_begin bytes other m heap is = let parts = image_parts m heap in other (length parts.0) (packed parts.0) (sym is ∙ parts.3)
+pub no_image_begin : (bytes : List ℕ) → ((n : ℕ) (rest : List ℕ) → bytes ≡ 1 ∷ word n ++ rest → ⊥) → ¬ IsHeapImage bytes
+no_image_begin bytes other is = let parts = image_parts bytes is in other (length parts.0) (packed parts.0) parts.3
 
 packed_short : (t : Slots) → need_in t ≤ 65520 → length (packed t) ≤ 65504
 packed_short t room = omega (arith, length-packed t, length-chunks_le t)
 
-pub no_image_long : (bytes : List ℕ) → 65523 < length bytes → NoImage bytes
-no_image_long bytes long m heap is =
-    let parts = image_parts m heap in
-    absurd (omega (arith, packed_short parts.0 parts.2, ap length (sym is ∙ parts.3)))
+pub no_image_long : (bytes : List ℕ) → 65523 < length bytes → ¬ IsHeapImage bytes
+no_image_long bytes long is =
+    let parts = image_parts bytes is in
+    absurd (omega (arith, packed_short parts.0 parts.2, ap length parts.3))
 
 -- an image of a table of n slots
 same_parts : (n : ℕ) (bytes : List ℕ) (t : Slots) → n < 65536 → length t < 65536 → bytes ≡ 1 ∷ word n ++ drop 3 bytes → bytes ≡ 1 ∷ word (length t) ++ packed t → (length t ≡ n) × (packed t ≡ drop 3 bytes)
@@ -80,27 +80,52 @@ same_parts n bytes t n_word t_word begins is =
     let same : length t ≡ n = sym (word-reads_back (length t) (packed t) t_word) ∙ (ap (λ (l : List ℕ). word_at l 1) e ∙ word-reads_back n (drop 3 bytes) n_word) in
     (same, sym (ap (drop 3) is))
 
-pub no_image_table : (n : ℕ) (bytes rest : List ℕ) → n < 65536 → bytes ≡ 1 ∷ word n ++ drop 3 bytes → rest ≡ drop 3 bytes → ((t : Slots) → length t ≡ n → packed t ≡ rest → ⊥) → NoImage bytes
-no_image_table n bytes rest n_word begins behind none m heap is =
-    let parts = image_parts m heap in let room = parts.2 in
-    let same = same_parts n bytes parts.0 n_word (omega arith) begins (sym is ∙ parts.3) in
+pub no_image_table : (n : ℕ) (bytes rest : List ℕ) → n < 65536 → bytes ≡ 1 ∷ word n ++ drop 3 bytes → rest ≡ drop 3 bytes → ((t : Slots) → length t ≡ n → packed t ≡ rest → ⊥) → ¬ IsHeapImage bytes
+no_image_table n bytes rest n_word begins behind none is =
+    let parts = image_parts bytes is in let room = parts.2 in
+    let same = same_parts n bytes parts.0 n_word (omega arith) begins parts.3 in
     none parts.0 same.0 (same.1 ∙ sym behind)
 
-pub no_image_heap : (n : ℕ) (bytes rest : List ℕ) (t : Slots) → n < 65536 → bytes ≡ 1 ∷ word n ++ drop 3 bytes → rest ≡ drop 3 bytes → length rest ≤ 65520 → length t ≡ n → packed t ≡ rest → (IsTrimmed t → need_in t ≤ 65520 → ⊥) → NoImage bytes
-no_image_heap n bytes rest t n_word begins behind short count is_rest none m heap is =
-    let parts = image_parts m heap in let s = parts.0 in let room = parts.2 in
-    let same = same_parts n bytes s n_word (omega arith) begins (sym is ∙ parts.3) in
+pub no_image_heap : (n : ℕ) (bytes rest : List ℕ) (t : Slots) → n < 65536 → bytes ≡ 1 ∷ word n ++ drop 3 bytes → rest ≡ drop 3 bytes → length rest ≤ 65520 → length t ≡ n → packed t ≡ rest → (IsTrimmed t → need_in t ≤ 65520 → ⊥) → ¬ IsHeapImage bytes
+no_image_heap n bytes rest t n_word begins behind short count is_rest none is =
+    let parts = image_parts bytes is in let s = parts.0 in let room = parts.2 in
+    let same = same_parts n bytes s n_word (omega arith) begins parts.3 in
     let both : packed s ≡ packed t = same.1 ∙ (sym behind ∙ sym is_rest) in
     let there : s ≡ t = packed_same s t (omega (arith, length-chunks_le s, parts.2)) (omega (arith, length-packed t, ap length is_rest)) (same.0 ∙ sym count) both in
     none (subst (λ (x : Slots). IsTrimmed x) there parts.1) (subst (λ (x : Slots). need_in x ≤ 65520) there parts.2)
 
--- the heap of a table whose bytes stand behind the table's length
-pub image_again : (n : ℕ) (bytes rest : List ℕ) (t : Slots) (m : ChunkMap) → bytes ≡ 1 ∷ word n ++ drop 3 bytes → rest ≡ drop 3 bytes → length t ≡ n → packed t ≡ rest → m ≡ table_map 2 16 t → IsTrimmed t → need_in t ≤ 65520
-    → (image (bodies.Heap m) ≡ bytes) × (is_heap_map m ≡ true)
-image_again n bytes rest t m begins behind count is_rest shows trimmed room = (
-  ap (λ (x : ChunkMap). image (bodies.Heap x)) shows ∙ (image_is t trimmed ∙ (ap (λ (k : ℕ). 1 ∷ word k ++ packed t) count ∙ (ap (λ (l : List ℕ). 1 ∷ word n ++ l) (is_rest ∙ behind) ∙ sym begins))),
-  ap is_heap_map shows ∙ is_heap t trimmed room,
-)
+-- ---- bytes that are one
+
+pub heap_table : (n : ℕ) (bytes rest : List ℕ) → bytes ≡ 1 ∷ word n ++ drop 3 bytes → rest ≡ drop 3 bytes → IsTable n rest → IsTrimmed (slots_in n rest) × (need_in (slots_in n rest) ≤ 65520) → HasHeapTable n bytes
+heap_table n bytes rest begins behind table heap = record {
+  begins = begins;
+  table = subst (IsTable n) behind table;
+  trimmed = subst (λ xs. IsTrimmed (slots_in n xs)) behind heap.0;
+  fits = subst (λ xs. need_in (slots_in n xs) ≤ 65520) behind heap.1;
+}
+
+-- of the heap of the table that stands in it
+pub image_again : (n : ℕ) (bytes : List ℕ) (m : ChunkMap) → HasHeapTable n bytes → m ≡ table_map 2 16 (slots_in n (drop 3 bytes)) → (image (bodies.Heap m) ≡ bytes) × (is_heap_map m ≡ true)
+image_again n bytes m has shows =
+    let t = slots_in n (drop 3 bytes) in (
+      ap (λ (x : ChunkMap). image (bodies.Heap x)) shows ∙ (image_is t has.trimmed ∙ (ap (λ (k : ℕ). 1 ∷ word k ++ packed t) (length-slots_in n (drop 3 bytes)) ∙ (ap (λ (l : List ℕ). 1 ∷ word n ++ l) (sym has.table.whole) ∙ sym has.begins))),
+      ap is_heap_map shows ∙ is_heap t has.trimmed has.fits,
+    )
+
+image_there : (n : ℕ) (bytes : List ℕ) → HasHeapTable n bytes → IsHeapImage bytes
+unfolding IsHeapImage
+image_there n bytes has = let m = table_map 2 16 (slots_in n (drop 3 bytes)) in let again = image_again n bytes m has refl in (m, again.1, again.0)
+
+-- the test for one finds none, or one
+pub found_none : (bytes : List ℕ) → ¬ IsHeapImage bytes → IsSome {T = ℕ} None ↔ IsHeapImage bytes
+found_none bytes none = (λ found. absurd (cc found), λ is. absurd (none is))
+
+pub found_some : (n : ℕ) (bytes : List ℕ) → HasHeapTable n bytes → IsSome (Some n) ↔ IsHeapImage bytes
+found_some n bytes has = (λ found. image_there n bytes has, λ is. refl)
+
+pub no_such_heap : (bytes : List ℕ) → IsSome {T = ℕ} None ↔ IsHeapImage bytes → (m : ChunkMap) → is_heap_map m ≡ true → image (bodies.Heap m) ≡ bytes → ⊥
+unfolding IsHeapImage
+no_such_heap bytes none m valid is = let found = none.1 (m, valid, is) in absurd (cc found)
 
 -- ---- slot by slot
 

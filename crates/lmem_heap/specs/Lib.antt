@@ -4,6 +4,7 @@ pub mod Tiled
 pub mod Kept
 pub mod Packed
 pub mod Slots
+pub mod HeapImage
 pub mod Stored
 pub mod Placed
 pub mod LendsChunk

@@ -1,4 +1,4 @@
-ghost use Rattle.std.specs.Prelude.{◌≡◌, ◌⊎◌, ◌+◌, ◌*◌, ◌≤◌, ◌<◌, ℕ, true, Some, None, IsTrue, IfOk, IfErr, MatchOption, is_some, nat_lt, length, map, drop, replicate};
+ghost use Rattle.std.specs.Prelude.{◌≡◌, ◌⊎◌, ◌↔◌, ◌+◌, ◌*◌, ◌≤◌, ◌<◌, ℕ, true, Some, None, IsTrue, IfOk, IfErr, MatchOption, is_some, nat_lt, length, map, drop, replicate};
 ghost use Rattle.std.specs.Borrow.{sem};
 ghost use Rattle.std.specs.List.{splice};
 ghost use Rattle.std.specs.Option.{option_map, option_copied, IfSome};
@@ -9,10 +9,9 @@ ghost use Rattle.geos_model.specs.Image.{image};
 ghost use Rattle.geos_model.specs.declared.command.Body.TheVariants as bodies;
 ghost use Rattle.geos_model.proofs.Table.{table_map, first_gap, IsTrimmed};
 ghost use Rattle.lmem_heap.specs.Slots.{need_in};
+ghost use Rattle.lmem_heap.specs.HeapImage.{IsHeapImage};
 
-use crate::image::{
-    HEAP_KIND, PREFIX, image_len, image_slots, is_heap, is_table, push_chunks, push_sizes, unpack,
-};
+use crate::image::{HEAP_KIND, PREFIX, heap_slots, image_len, push_chunks, push_sizes, unpack};
 use crate::sizes::{need_of, space_of};
 use crate::space::NO_CHUNK;
 use crate::table::Table;
@@ -257,24 +256,24 @@ impl Heap {
         Ok(image)
     }
 
+    /// Whether the bytes are the image of a heap that fits, which `from_image` would make.
+    pub fn is_image(bytes: &[u8]) -> bool
+        ensures { IsTrue result ↔ IsHeapImage bytes.now }
+    {
+        heap_slots(bytes).is_some()
+    }
+
     /// The heap of which the bytes are the image. Damaged where they are the image of no heap that fits.
     pub fn from_image(alloc: Global, bytes: &[u8]) -> Result<Heap, Fault>
         ensures ok { IfOk result (λ h. (image (bodies.Heap h.chunks) ≡ bytes.now) × (is_heap_map h.chunks ≡ true)) }
         ensures err { IfErr result (λ fault. (fault ≡ Fault.Memory)
             ⊎ ((fault ≡ Fault.Damaged) × ((m : ChunkMap) → is_heap_map m ≡ true → image (bodies.Heap m) ≡ bytes.now → ⊥))) }
     {
-        let slots = match image_slots(bytes) {
+        let slots = match heap_slots(bytes) {
             Some(slots) => slots,
             None => return Err(Fault::Damaged),
         };
-        if bytes.len() > PREFIX + SIZE {
-            return Err(Fault::Damaged);
-        }
-        let rest = &bytes[PREFIX..];
-        if !is_table(rest, slots) || !is_heap(rest, slots) {
-            return Err(Fault::Damaged);
-        }
-        match unpack(alloc, rest, slots) {
+        match unpack(alloc, &bytes[PREFIX..], slots) {
             Ok(table) => Ok(Heap::of_table(table, alloc)),
             Err(_) => Err(Fault::Memory),
         }

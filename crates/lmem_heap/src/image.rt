@@ -1,10 +1,11 @@
-ghost use Rattle.std.specs.Prelude.{◌≡◌, ◌+◌, ◌*◌, ◌^◌, ◌≤◌, ◌<◌, ◌++◌, ◌∷◌, ℕ, List, true, false, Some, None, IfOk, OnOk, MatchOption, length, flat_map, take, drop, set, get_or};
+ghost use Rattle.std.specs.Prelude.{◌≡◌, ◌↔◌, ◌+◌, ◌*◌, ◌^◌, ◌≤◌, ◌<◌, ◌++◌, ◌∷◌, ℕ, List, true, false, Some, None, IsSome, IfSome, IfOk, OnOk, MatchOption, length, flat_map, take, drop, set, get_or};
 ghost use Rattle.std.specs.Option.{option_map};
 ghost use Rattle.geos_model.specs.Words.{word, word_at};
 ghost use Rattle.geos_model.proofs.Table.{IsTrimmed};
 ghost use Rattle.geos_model.proofs.HeapTables.{slot_size_word, slot_bytes};
 ghost use Rattle.lmem_heap.specs.Packed.{Slots, IsTable, chunks, packed, slots_in, words, total};
 ghost use Rattle.lmem_heap.specs.Slots.{space_in, need_in};
+ghost use Rattle.lmem_heap.specs.HeapImage.{IsHeapImage, HasHeapTable};
 
 use crate::sizes::{need_of, space_of};
 use crate::table::Table;
@@ -56,7 +57,7 @@ pub(crate) fn push_chunks(table: &Table, image: &mut Vec<u8>) -> Result<(), Allo
 }
 
 /// The table length that an image begins with; None where the bytes don't begin as a heap's image does.
-pub(crate) fn image_slots(bytes: &[u8]) -> Option<usize>
+fn image_slots(bytes: &[u8]) -> Option<usize>
     ensures { MatchOption result
         ((n : ℕ) (rest : List ℕ) → bytes.now ≡ 1 ∷ word n ++ rest → ⊥)
         (λ n. (n < 2 ^ 16) × (bytes.now ≡ 1 ∷ word n ++ drop 3 bytes.now)) }
@@ -93,7 +94,7 @@ fn bytes_total(rest: &[u8], slots: usize) -> usize
 }
 
 /// Whether what stands behind an image's first bytes is a size word for each of so many slots, and the chunks.
-pub(crate) fn is_table(rest: &[u8], slots: usize) -> bool
+fn is_table(rest: &[u8], slots: usize) -> bool
     requires { length rest.now ≤ 65520 }
     ensures yes { result ≡ true → IsTable slots rest.now }
     ensures no { result ≡ false → (t : Slots) → length t ≡ slots → packed t ≡ rest.now → ⊥ }
@@ -134,7 +135,7 @@ fn space_total(rest: &[u8], slots: usize) -> usize
 }
 
 /// Whether the last slot has a chunk, and the chunks fit into a heap.
-pub(crate) fn is_heap(rest: &[u8], slots: usize) -> bool
+fn is_heap(rest: &[u8], slots: usize) -> bool
     requires { IsTable slots rest.now }
     ensures yes { result ≡ true → IsTrimmed (slots_in slots rest.now) × (need_in (slots_in slots rest.now) ≤ 65520) }
     ensures no { result ≡ false → IsTrimmed (slots_in slots rest.now) → need_in (slots_in slots rest.now) ≤ 65520 → ⊥ }
@@ -143,6 +144,22 @@ pub(crate) fn is_heap(rest: &[u8], slots: usize) -> bool
         return false;
     }
     need_of(slots, space_total(rest, slots)) <= SIZE
+}
+
+/// The table length of the heap of which the bytes are the image; None where they are the image of no heap that fits.
+pub(crate) fn heap_slots(bytes: &[u8]) -> Option<usize>
+    ensures image { IsSome result ↔ IsHeapImage bytes.now }
+    ensures table { IfSome result (λ slots. HasHeapTable slots bytes.now) }
+{
+    let slots = image_slots(bytes)?;
+    if bytes.len() > PREFIX + SIZE {
+        return None;
+    }
+    let rest = &bytes[PREFIX..];
+    if !is_table(rest, slots) || !is_heap(rest, slots) {
+        return None;
+    }
+    Some(slots)
 }
 
 /// The chunks, in a region.
