@@ -69,7 +69,7 @@ module _ (old : List ℕ) (start delta : ℕ) (cs : List Piece) (swapped : IsSwa
       pub below : 18 + 2 * ((h - 16) / 2) ≤ p
       pub read : h + 2 ≤ 65520
       pub room : p + delta ≤ 65520
-      pub next : (n : ℕ) (ys : List ℕ) → n ≡ word_in xs h → IsTraded xs ys ((h - 16) / 2) p n (p + delta) → IsRun old ys start delta cs (p + (n + 5) / 4 * 4)
+      pub next : (n : ℕ) (ys : List ℕ) → n ≡ word_in xs h → IsTraded xs ys ((h - 16) / 2) p n (p + delta) → IsRun old ys start delta cs (p + piece_space n)
 
     turn_at : (rest : List Piece) → r.run ++ rest ≡ cs → Lies handle_head xs p rest 65520 → Points size_of xs p rest → (h : ℕ) → h ≡ word_in xs p → p < 65520 → h % 2 ≢ 1 → IsTurn h
     turn_at [] whole lies points h is more even = absurd (omega arith)
@@ -87,7 +87,7 @@ module _ (old : List ℕ) (start delta : ℕ) (cs : List Piece) (swapped : IsSwa
           read = omega (arith, shape.1);
           room = omega arith;
           next = λ n ys value traded.
-              let e = size n value in let to : p + piece_space (length b) ≡ p + (n + 5) / 4 * 4 = omega arith in
+              let e = size n value in let to : p + piece_space (length b) ≡ p + piece_space n = ap (λ (k : ℕ). p + piece_space k) (sym e) in
               let t : IsTraded xs ys i p (length b) (p + delta) = subst (λ (j : ℕ). IsTraded xs ys j p (length b) (p + delta)) slot (subst (λ (k : ℕ). IsTraded xs ys ((h - 16) / 2) p k (p + delta)) e traded) in
               subst (λ (k : ℕ). IsRun old ys start delta cs k) to (run_next i b after whole ys lies.0 lies.1 points.1 t);
         }

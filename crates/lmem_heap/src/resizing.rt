@@ -3,6 +3,7 @@ ghost use Rattle.lmem_heap.specs.Pieces.{word_in, entry, piece_space};
 ghost use Rattle.lmem_heap.specs.Tiled.{table_end};
 ghost use Rattle.lmem_heap.specs.Kept.{IsKept, IsLoose, HasNext, IsStill, IsReady, IsResized};
 
+use crate::sizes::piece_space;
 use crate::space::{NO_CHUNK, Space};
 use crate::words::{HEADER, copy_piece, set_size, set_word, word_in};
 
@@ -34,8 +35,8 @@ impl Space {
     {
         let p = word_in(&self.region, HEADER + 2 * i);
         let size = word_in(&self.region, p);
-        let kept = 4 * ((n + 5) / 4);
-        let rest = 4 * ((size + 5) / 4) - kept;
+        let kept = piece_space(n);
+        let rest = piece_space(size) - kept;
         set_size(&mut self.region, p, size, n);
         set_word(&mut self.region, p + kept, rest + 1);
         self.total -= rest;
@@ -53,7 +54,7 @@ impl Space {
         let p = word_in(&self.region, HEADER + 2 * i);
         let size = word_in(&self.region, p);
         set_size(&mut self.region, p, size, n);
-        self.total += 4 * ((n + 5) / 4) - 4 * ((size + 5) / 4);
+        self.total += piece_space(n) - piece_space(size);
     }
 
     /// The bytes of a slot's chunk are copied into a free piece that the list lacks, with zeros behind them up to `n`.
@@ -83,12 +84,12 @@ impl Space {
     {
         let p = word_in(&self.region, HEADER + 2 * i);
         let size = word_in(&self.region, p);
-        let room = 4 * ((size + 5) / 4);
+        let room = piece_space(size);
         set_word(&mut self.region, p, room + 1);
         set_word(&mut self.region, HEADER + 2 * i, NO_CHUNK);
         set_word(&mut self.region, q, n);
         set_word(&mut self.region, HEADER + 2 * i, q);
-        self.total = self.total - room + 4 * ((n + 5) / 4);
+        self.total = self.total - room + piece_space(n);
         p
     }
 
@@ -117,7 +118,7 @@ impl Space {
         ensures kept { IsKept self.new }
         ensures resized { IsResized self.old self.new i n }
     {
-        let room = 4 * ((n + 5) / 4);
+        let room = piece_space(n);
         match self.find_room(room) {
             Some(q) => self.move_to(i, q, n),
             None => self.enlarge_packed(i, n, room),
@@ -137,7 +138,7 @@ impl Space {
     {
         self.compact();
         let size = self.find_run(i).size;
-        self.open_gap(i, room - 4 * ((size + 5) / 4));
+        self.open_gap(i, room - piece_space(size));
         self.absorb(i, n);
     }
 
@@ -152,8 +153,8 @@ impl Space {
         ensures resized { IsResized self.old self.new i n }
     {
         let size = self.find_run(i).size;
-        let space = 4 * ((size + 5) / 4);
-        let room = 4 * ((n + 5) / 4);
+        let space = piece_space(size);
+        let room = piece_space(n);
         if room == space {
             self.refit(i, n);
         } else if room < space {

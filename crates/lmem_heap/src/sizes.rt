@@ -1,15 +1,24 @@
 ghost use Rattle.std.specs.Prelude.{◌≡◌, ◌<◌};
 ghost use Rattle.geos_model.specs.Heap.{space_of};
+ghost use Rattle.lmem_heap.specs.Pieces.{piece_space};
 ghost use Rattle.lmem_heap.specs.Slots.{need_of};
 
 use crate::words::HEADER;
 
-/// What a chunk of `n` bytes takes: its bytes and a word before them, in whole double words; an empty one takes nothing.
+/// What a piece takes that holds `n` bytes: they and the word before them, in whole double words.
+pub(crate) fn piece_space(n: usize) -> usize
+    requires { n < 4294967296 }
+    ensures { result ≡ piece_space n }
+{
+    4 * ((n + 5) / 4)
+}
+
+/// What a chunk of `n` bytes takes: a piece that holds them; an empty one takes nothing.
 pub(crate) fn space_of(n: usize) -> usize
     requires { n < 4294967296 }
     ensures { result ≡ space_of n }
 {
-    if n == 0 { 0 } else { 4 * ((n + 5) / 4) }
+    if n == 0 { 0 } else { piece_space(n) }
 }
 
 /// What a heap with so long a table needs, if its chunks take `space`.

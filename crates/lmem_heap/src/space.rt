@@ -8,6 +8,7 @@ ghost use Rattle.lmem_heap.specs.Kept.{IsRun, IsKept, IsLoose, HasNext, HasNone,
 
 use crate::compaction::compact;
 use crate::lowering::lower_entries;
+use crate::sizes::piece_space;
 use crate::words::{HEADER, SIZE, set_word, slide, word_in, zero};
 use raw_region::Region;
 use std::alloc::{AllocError, Global};
@@ -172,7 +173,7 @@ impl Space {
         zero(&mut self.region, p + 2, n);
         set_word(&mut self.region, p, n);
         set_word(&mut self.region, HEADER + 2 * i, p);
-        self.total += 4 * ((n + 5) / 4);
+        self.total += piece_space(n);
     }
 
     /// The piece of a slot's chunk becomes free, in no list; the entry becomes `e`, for no chunk or an empty one.
@@ -189,7 +190,7 @@ impl Space {
     {
         let p = word_in(&self.region, HEADER + 2 * i);
         let n = word_in(&self.region, p);
-        let room = 4 * ((n + 5) / 4);
+        let room = piece_space(n);
         set_word(&mut self.region, p, room + 1);
         set_word(&mut self.region, HEADER + 2 * i, e);
         self.total -= room;
@@ -322,7 +323,7 @@ impl Space {
         if n == 0 {
             self.set_dead(i, EMPTY);
         } else {
-            let p = self.room_for(4 * ((n + 5) / 4));
+            let p = self.room_for(piece_space(n));
             self.fill(p, i, n);
         }
     }
@@ -363,7 +364,7 @@ impl Space {
     {
         let p = word_in(&self.region, HEADER + 2 * i);
         let n = word_in(&self.region, p);
-        let end = p + 4 * ((n + 5) / 4);
+        let end = p + piece_space(n);
         let low = self.low - room;
         slide(&mut self.region, self.low, low, end - self.low);
         set_word(&mut self.region, end - room, room + 1);

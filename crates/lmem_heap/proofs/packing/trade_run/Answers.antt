@@ -30,5 +30,5 @@ loop-p-init c = λ cs h. run_starts c.args.region.now c.args.start c.args.delta 
 
 pub loop-p-preserved : goal.loop-p-preserved
 loop-p-preserved c = λ cs h.
-    (run_turn c.args.region.now c.args.start c.args.delta cs h c.loop-p.region c.loop-p.p (c.loop-p.invariant cs h) c.word_in-head.result c.word_in-head.ensures.value c.loop-p-test.true c.if-head-eq1.false).next
-    c.word_in-n.result c.trade.new.region c.word_in-n.ensures.value c.trade.ensures
+    rw c.piece_space-p.ensures ((run_turn c.args.region.now c.args.start c.args.delta cs h c.loop-p.region c.loop-p.p (c.loop-p.invariant cs h) c.word_in-head.result c.word_in-head.ensures.value c.loop-p-test.true c.if-head-eq1.false).next
+    c.word_in-n.result c.trade.new.region c.word_in-n.ensures.value c.trade.ensures)

@@ -22,22 +22,19 @@ set_size-requires-clause-held c = let f = next (goal.at.set_size-requires-clause
 pub set_size-requires-clause-long : goal.set_size-requires-clause-long
 set_size-requires-clause-long c = c.requires.next.held.tiled.long
 
-pub overflow_add-self : goal.overflow_add-self
-overflow_add-self c = let f = next (goal.at.overflow_add-self c).After-word_in-size in record { fits = omega (arith, f.more, f.beside.ends) }
-
-pub overflow_mul-self : goal.overflow_mul-self
-overflow_mul-self c = let f = next (goal.at.overflow_mul-self c).After-word_in-size in record { fits = omega (arith, f.more, f.beside.ends) }
+pub piece_space-requires : goal.piece_space-requires
+piece_space-requires c = let f = next (goal.at.piece_space-requires c).After-word_in-size in omega (arith, f.more, f.beside.ends)
 
 pub overflow_sub-self : goal.overflow_sub-self
 overflow_sub-self c = let f = next (goal.at.overflow_sub-self c).After-word_in-size in omega (arith, f.more)
 
-pub overflow_add-self-3 : goal.overflow_add-self-3
-overflow_add-self-3 c = let f = next (goal.at.overflow_add-self-3 c).After-word_in-size in record { fits = omega (arith, f.beside.small) }
+pub overflow_add-self : goal.overflow_add-self
+overflow_add-self c = let f = next (goal.at.overflow_add-self c).After-word_in-size in record { fits = omega (arith, f.beside.small) }
 
 pub returns-clause-kept : goal.returns-clause-kept
 returns-clause-kept c = let f = next (goal.at.returns-clause-kept c).After-word_in-size in
-    absorbed c.args.self.now c.set_size.new.region c.args.i c.word_in-p.result c.word_in-size.result c.args.n f.next f.beside c.requires.slot f.more c.set_size.ensures
+    rw (c.piece_space.ensures, c.piece_space-2.ensures) (absorbed c.args.self.now c.set_size.new.region c.args.i c.word_in-p.result c.word_in-size.result c.args.n f.next f.beside c.requires.slot f.more c.set_size.ensures)
 
 pub returns-clause-resized : goal.returns-clause-resized
 returns-clause-resized c = let f = next (goal.at.returns-clause-resized c).After-word_in-size in
-    absorb_resized c.args.self.now c.set_size.new.region c.args.i c.word_in-p.result c.word_in-size.result c.args.n f.next f.beside c.requires.slot f.more c.set_size.ensures
+    rw (c.piece_space.ensures, c.piece_space-2.ensures) (absorb_resized c.args.self.now c.set_size.new.region c.args.i c.word_in-p.result c.word_in-size.result c.args.n f.next f.beside c.requires.slot f.more c.set_size.ensures)

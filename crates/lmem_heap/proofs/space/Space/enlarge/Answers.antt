@@ -8,11 +8,8 @@ use Rattle.lmem_heap.proofs.space.Space.enlarge.Goals as goal
 found : (c : In-Some) → IsSameSize c.args.self.now c.find_room.new.self c.args.i
 found c = let e = c.in-Some.ensures.found in same_size c.args.self.now c.find_room.new.self c.args.i c.requires.kept (loose_kept e.0) e.1.slots e.1.chunks c.requires.slot c.requires.live
 
-pub overflow_add-room : goal.overflow_add-room
-overflow_add-room c = record { fits = omega (arith, c.requires.fits, size_ends c.requires.kept c.args.i c.requires.slot c.requires.live) }
-
-pub overflow_mul-room : goal.overflow_mul-room
-overflow_mul-room c = record { fits = omega (arith, c.requires.fits, size_ends c.requires.kept c.args.i c.requires.slot c.requires.live) }
+pub piece_space-room-requires : goal.piece_space-room-requires
+piece_space-room-requires c = omega (arith, c.requires.fits, size_ends c.requires.kept c.args.i c.requires.slot c.requires.live)
 
 pub move_to-requires-clause-more : goal.move_to-requires-clause-more
 move_to-requires-clause-more c = omega (arith, (found (goal.at.move_to-requires-clause-more c).In-Some).size, c.requires.more)

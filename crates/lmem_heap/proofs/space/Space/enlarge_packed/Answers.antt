@@ -47,7 +47,7 @@ absorb-requires-clause-next c =
     let v = c.open_gap.new.self in let i = c.args.i in let size = c.find_run-size.result.size in let n = c.args.n in
     let is : size ≡ word_in v.region (entry v.region i) = (packed (goal.at.absorb-requires-clause-next c).After-find_run-size).size ∙ sym (opened (goal.at.absorb-requires-clause-next c).After-open_gap).size in
     let same : c.args.room - piece_space size ≡ piece_space n - piece_space (word_in v.region (entry v.region i)) = ap (λ (m : ℕ). m - piece_space size) c.requires.room ∙ ap (λ (m : ℕ). piece_space n - piece_space m) is in
-    subst (λ (m : ℕ). HasNext v i m) same c.open_gap.ensures.next
+    subst (λ (m : ℕ). HasNext v i m) same (rw c.piece_space.ensures at c.open_gap.ensures.next)
 
 pub returns-clause-resized : goal.returns-clause-resized
 returns-clause-resized c =

@@ -15,12 +15,6 @@ word_in-p-requires c = omega (arith, entry_ends (loose_kept c.requires.loose) c.
 pub word_in-size-requires : goal.word_in-size-requires
 word_in-size-requires c = head_ends (loose_kept c.requires.loose) c.args.i c.word_in-p.result c.requires.slot c.requires.live c.word_in-p.ensures.value
 
-pub overflow_add-room : goal.overflow_add-room
-overflow_add-room c = record { fits = omega (arith, (piece (goal.at.overflow_add-room c).After-word_in-size).ends) }
-
-pub overflow_mul-room : goal.overflow_mul-room
-overflow_mul-room c = record { fits = omega (arith, (piece (goal.at.overflow_mul-room c).After-word_in-size).ends) }
-
 pub set_word-requires-clause-within : goal.set_word-requires-clause-within
 set_word-requires-clause-within c = omega (arith, (piece (goal.at.set_word-requires-clause-within c).After-word_in-size).ends)
 
@@ -55,21 +49,18 @@ pub set_word-requires-4-clause-long : goal.set_word-requires-4-clause-long
 set_word-requires-4-clause-long c = c.set_word-3.ensures.long ∙ (c.set_word-2.ensures.long ∙ (c.set_word.ensures.long ∙ c.requires.loose.held.tiled.long))
 
 pub overflow_sub-self : goal.overflow_sub-self
-overflow_sub-self c = (piece (goal.at.overflow_sub-self c).After-word_in-size).less
+overflow_sub-self c = rw c.piece_space-room.ensures (piece (goal.at.overflow_sub-self c).After-word_in-size).less
+
+pub piece_space-requires : goal.piece_space-requires
+piece_space-requires c = let room = loose_room c.requires.loose in omega arith
 
 pub overflow_add-self : goal.overflow_add-self
-overflow_add-self c = let room = loose_room c.requires.loose in record { fits = omega (arith) }
-
-pub overflow_mul-self : goal.overflow_mul-self
-overflow_mul-self c = let room = loose_room c.requires.loose in record { fits = omega (arith) }
-
-pub overflow_add-self-2 : goal.overflow_add-self-2
-overflow_add-self-2 c = let k = loose_kept c.requires.loose in let room = loose_room c.requires.loose in record { fits = omega (arith, total_small c.args.self.now k.pieces k.free k.held) }
+overflow_add-self c = let k = loose_kept c.requires.loose in let room = loose_room c.requires.loose in record { fits = omega (arith, c.piece_space.ensures, total_small c.args.self.now k.pieces k.free k.held) }
 
 pub returns-clause-loose : goal.returns-clause-loose
 returns-clause-loose c =
-    exchanged c.args.self.now c.args.i c.word_in-p.result c.args.q c.word_in-size.result c.args.n (piece_space c.args.n) _ c.requires.loose (piece (goal.at.returns-clause-loose c).After-word_in-size) c.requires.slot c.requires.some refl c.requires.ready c.set_word.new.region c.set_word-2.new.region c.set_word-3.new.region c.set_word-4.new.region c.set_word.ensures c.set_word-2.ensures c.set_word-3.ensures c.set_word-4.ensures refl
+    rw (c.piece_space-room.ensures, c.piece_space.ensures) (exchanged c.args.self.now c.args.i c.word_in-p.result c.args.q c.word_in-size.result c.args.n (piece_space c.args.n) _ c.requires.loose (piece (goal.at.returns-clause-loose c).After-word_in-size) c.requires.slot c.requires.some refl c.requires.ready c.set_word.new.region c.set_word-2.new.region c.set_word-3.new.region c.set_word-4.new.region (rw c.piece_space-room.ensures at c.set_word.ensures) c.set_word-2.ensures c.set_word-3.ensures c.set_word-4.ensures refl)
 
 pub returns-clause-resized : goal.returns-clause-resized
 returns-clause-resized c =
-    exchange_resized c.args.self.now c.args.i c.word_in-p.result c.args.q c.word_in-size.result c.args.n (piece_space c.args.n) _ c.requires.loose (piece (goal.at.returns-clause-resized c).After-word_in-size) c.requires.slot c.requires.some refl c.requires.ready c.set_word.new.region c.set_word-2.new.region c.set_word-3.new.region c.set_word-4.new.region c.set_word.ensures c.set_word-2.ensures c.set_word-3.ensures c.set_word-4.ensures refl
+    rw (c.piece_space-room.ensures, c.piece_space.ensures) (exchange_resized c.args.self.now c.args.i c.word_in-p.result c.args.q c.word_in-size.result c.args.n (piece_space c.args.n) _ c.requires.loose (piece (goal.at.returns-clause-resized c).After-word_in-size) c.requires.slot c.requires.some refl c.requires.ready c.set_word.new.region c.set_word-2.new.region c.set_word-3.new.region c.set_word-4.new.region (rw c.piece_space-room.ensures at c.set_word.ensures) c.set_word-2.ensures c.set_word-3.ensures c.set_word-4.ensures refl)

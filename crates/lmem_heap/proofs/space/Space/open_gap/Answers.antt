@@ -54,8 +54,8 @@ lower_entries-requires-clause-some c = omega (arith, (piece (goal.at.lower_entri
 
 pub returns-clause-next : goal.returns-clause-next
 returns-clause-next c =
-    gap_opened c.args.self.now c.requires.kept c.slide.new.region c.set_word.new.region c.lower_entries.new.region c.args.i c.word_in-p.result c.word_in-n.result c.args.room c.requires.packed (piece (goal.at.returns-clause-next c).After-word_in-n) c.requires.slot c.requires.some c.requires.whole c.requires.fits c.slide.ensures c.set_word.ensures c.lower_entries.ensures
+    gap_opened c.args.self.now c.requires.kept c.slide.new.region c.set_word.new.region c.lower_entries.new.region c.args.i c.word_in-p.result c.word_in-n.result c.args.room c.requires.packed (piece (goal.at.returns-clause-next c).After-word_in-n) c.requires.slot c.requires.some c.requires.whole c.requires.fits (rw c.piece_space.ensures at c.slide.ensures) (rw c.piece_space.ensures at c.set_word.ensures) (rw c.piece_space.ensures at c.lower_entries.ensures)
 
 pub returns-clause-chunks : goal.returns-clause-chunks
 returns-clause-chunks c =
-    gap_open_chunks c.args.self.now c.requires.kept c.slide.new.region c.set_word.new.region c.lower_entries.new.region c.args.i c.word_in-p.result c.word_in-n.result c.args.room c.requires.packed (piece (goal.at.returns-clause-chunks c).After-word_in-n) c.requires.slot c.requires.some c.requires.whole c.requires.fits c.slide.ensures c.set_word.ensures c.lower_entries.ensures
+    gap_open_chunks c.args.self.now c.requires.kept c.slide.new.region c.set_word.new.region c.lower_entries.new.region c.args.i c.word_in-p.result c.word_in-n.result c.args.room c.requires.packed (piece (goal.at.returns-clause-chunks c).After-word_in-n) c.requires.slot c.requires.some c.requires.whole c.requires.fits (rw c.piece_space.ensures at c.slide.ensures) (rw c.piece_space.ensures at c.set_word.ensures) (rw c.piece_space.ensures at c.lower_entries.ensures)

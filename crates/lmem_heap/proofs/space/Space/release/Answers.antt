@@ -31,15 +31,15 @@ pub set_word-requires-2-clause-long : goal.set_word-requires-2-clause-long
 set_word-requires-2-clause-long c = let long = c.requires.kept.held.tiled.long in omega (arith, c.set_word.ensures.long)
 
 pub overflow_sub-self : goal.overflow_sub-self
-overflow_sub-self c = (piece (goal.at.overflow_sub-self c).After-word_in-n).less
+overflow_sub-self c = rw c.piece_space-room.ensures (piece (goal.at.overflow_sub-self c).After-word_in-n).less
 
 pub returns-clause-loose : goal.returns-clause-loose
 returns-clause-loose c =
-    (piece_space c.word_in-n.result, released c.args.self.now c.requires.kept c.set_word.new.region c.set_word-2.new.region c.word_in-p.result c.args.i c.word_in-n.result c.args.e _ (piece (goal.at.returns-clause-loose c).After-word_in-n) c.requires.slot c.requires.dead c.set_word.ensures c.set_word-2.ensures refl)
+    rw c.piece_space-room.ensures (piece_space c.word_in-n.result, released c.args.self.now c.requires.kept c.set_word.new.region c.set_word-2.new.region c.word_in-p.result c.args.i c.word_in-n.result c.args.e _ (piece (goal.at.returns-clause-loose c).After-word_in-n) c.requires.slot c.requires.dead (rw c.piece_space-room.ensures at c.set_word.ensures) c.set_word-2.ensures refl)
 
 pub returns-clause-changed : goal.returns-clause-changed
 returns-clause-changed c =
-    release_changed c.args.self.now c.requires.kept c.set_word.new.region c.set_word-2.new.region c.word_in-p.result c.args.i c.word_in-n.result c.args.e _ (piece (goal.at.returns-clause-changed c).After-word_in-n) c.requires.slot c.requires.dead c.set_word.ensures c.set_word-2.ensures refl
+    rw c.piece_space-room.ensures (release_changed c.args.self.now c.requires.kept c.set_word.new.region c.set_word-2.new.region c.word_in-p.result c.args.i c.word_in-n.result c.args.e _ (piece (goal.at.returns-clause-changed c).After-word_in-n) c.requires.slot c.requires.dead (rw c.piece_space-room.ensures at c.set_word.ensures) c.set_word-2.ensures refl)
 
 pub returns-clause-total : goal.returns-clause-total
 returns-clause-total c = let f = piece (goal.at.returns-clause-total c).After-word_in-n in omega (arith, f.less, f.value)

@@ -18,11 +18,8 @@ word_in-p-requires c = omega (arith, entry_ends c.requires.kept c.args.i c.requi
 pub word_in-size-requires : goal.word_in-size-requires
 word_in-size-requires c = head_ends c.requires.kept c.args.i c.word_in-p.result c.requires.slot c.requires.live c.word_in-p.ensures.value
 
-pub overflow_add-kept : goal.overflow_add-kept
-overflow_add-kept c = record { fits = omega (arith, (piece (goal.at.overflow_add-kept c).After-word_in-size).ends, less (goal.at.overflow_add-kept c).After-word_in-size) }
-
-pub overflow_mul-kept : goal.overflow_mul-kept
-overflow_mul-kept c = record { fits = omega (arith, (piece (goal.at.overflow_mul-kept c).After-word_in-size).ends, less (goal.at.overflow_mul-kept c).After-word_in-size) }
+pub piece_space-kept-requires : goal.piece_space-kept-requires
+piece_space-kept-requires c = omega (arith, (piece (goal.at.piece_space-kept-requires c).After-word_in-size).ends, less (goal.at.piece_space-kept-requires c).After-word_in-size)
 
 pub overflow_sub-rest : goal.overflow_sub-rest
 overflow_sub-rest c = omega (arith, less (goal.at.overflow_sub-rest c).After-word_in-size)
@@ -56,8 +53,8 @@ overflow_add-result c = record { fits = omega (arith, (piece (goal.at.overflow_a
 
 pub returns-clause-loose : goal.returns-clause-loose
 returns-clause-loose c =
-    shortened c.args.self.now c.requires.kept c.set_size.new.region c.set_word.new.region c.args.i c.word_in-p.result c.word_in-size.result c.args.n (piece (goal.at.returns-clause-loose c).After-word_in-size) c.requires.slot c.requires.some (less (goal.at.returns-clause-loose c).After-word_in-size) c.set_size.ensures c.set_word.ensures
+    rw (c.piece_space-kept.ensures, c.piece_space.ensures) (shortened c.args.self.now c.requires.kept c.set_size.new.region c.set_word.new.region c.args.i c.word_in-p.result c.word_in-size.result c.args.n (piece (goal.at.returns-clause-loose c).After-word_in-size) c.requires.slot c.requires.some (less (goal.at.returns-clause-loose c).After-word_in-size) c.set_size.ensures (rw (c.piece_space-kept.ensures, c.piece_space.ensures) at c.set_word.ensures))
 
 pub returns-clause-resized : goal.returns-clause-resized
 returns-clause-resized c =
-    short_resized c.args.self.now c.requires.kept c.set_size.new.region c.set_word.new.region c.args.i c.word_in-p.result c.word_in-size.result c.args.n (piece (goal.at.returns-clause-resized c).After-word_in-size) c.requires.slot c.requires.some (less (goal.at.returns-clause-resized c).After-word_in-size) c.set_size.ensures c.set_word.ensures
+    rw (c.piece_space-kept.ensures, c.piece_space.ensures) (short_resized c.args.self.now c.requires.kept c.set_size.new.region c.set_word.new.region c.args.i c.word_in-p.result c.word_in-size.result c.args.n (piece (goal.at.returns-clause-resized c).After-word_in-size) c.requires.slot c.requires.some (less (goal.at.returns-clause-resized c).After-word_in-size) c.set_size.ensures (rw (c.piece_space-kept.ensures, c.piece_space.ensures) at c.set_word.ensures))
