@@ -1,6 +1,5 @@
 -- Which bytes are the image of a body.
 use Rattle.std.proofs.Common.{◌≡◌, ◌≢◌, ℕ, ◌+◌, ◌<◌, ◌≤◌, Bool, true, false, ◌&&◌, List, [], ◌∷◌, length, slice_index, Option, None, Some, refl, sym, ap, ◌∙◌, arith, le-leb}
-use Rattle.geos_model.specs.Heap.{ChunkMap, is_heap_map}
 use Rattle.geos_model.specs.Bytes.{same_bytes}
 use Rattle.geos_model.specs.Document.{is_valid_body, is_heap_body}
 use Rattle.geos_model.specs.Image.{image, body_of, body_read}
@@ -9,6 +8,7 @@ use Rattle.geos_model.specs.declared.command.Body.TheVariants.{Raw, Heap}
 use Rattle.geos_model.proofs.Files.{some_if, body_of-some, body_of-image}
 use Rattle.geos_model.proofs.Images.{length_image_body_le}
 use Rattle.std.proofs.lemmas.Bool.{cond-true}
+use Rattle.lmem_heap.specs.HeapImage.{IsHeapImage}
 use Rattle.vm_file.specs.Opened.{IsImageOf}
 
 pub none_if : {A : Type 0} (o : Option A) → ((a : A) → o ≡ Some a → ⊥) → o ≡ None
@@ -58,16 +58,18 @@ long_none bytes long = none_if (body_of bytes) (λ b e.
     let same = ap length some.1 in
     omega (arith, long, short, same))
 
-pub heap_image : (bytes : List ℕ) (m : ChunkMap) → image (Heap m) ≡ bytes → is_heap_map m ≡ true → IsImageOf true bytes
-heap_image bytes m is valid = image_of bytes (Heap m) true valid is refl
+pub heap_image : (bytes : List ℕ) → IsHeapImage bytes → IsImageOf true bytes
+unfolding IsHeapImage
+heap_image bytes is = image_of bytes (Heap is.0) true is.1 is.2 refl
 
 raw_first : (rest bytes : List ℕ) → image (Raw rest) ≡ bytes → slice_index bytes 0 ≡ 0
 unfolding image
 raw_first rest bytes is = sym (ap (λ bs. slice_index bs 0) is)
 
-no_heap : (bytes : List ℕ) (b : Body) → slice_index bytes 0 ≢ 0 → ((m : ChunkMap) → is_heap_map m ≡ true → image (Heap m) ≡ bytes → ⊥) → is_valid_body b ≡ true → image b ≡ bytes → ⊥
+no_heap : (bytes : List ℕ) (b : Body) → slice_index bytes 0 ≢ 0 → ¬ IsHeapImage bytes → is_valid_body b ≡ true → image b ≡ bytes → ⊥
+unfolding IsHeapImage
 no_heap bytes (Raw rest) first refuted valid is = first (raw_first rest bytes is)
-no_heap bytes (Heap m) first refuted valid is = refuted m valid is
+no_heap bytes (Heap m) first refuted valid is = refuted (m, valid, is)
 
-pub heap_none : (bytes : List ℕ) → slice_index bytes 0 ≢ 0 → ((m : ChunkMap) → is_heap_map m ≡ true → image (Heap m) ≡ bytes → ⊥) → body_of bytes ≡ None
+pub heap_none : (bytes : List ℕ) → slice_index bytes 0 ≢ 0 → ¬ IsHeapImage bytes → body_of bytes ≡ None
 heap_none bytes first refuted = none_if (body_of bytes) (λ b e. let some = body_of-some bytes b e in no_heap bytes b first refuted some.0 some.1)

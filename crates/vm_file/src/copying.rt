@@ -86,8 +86,7 @@ fn read_image<S: Store>(alloc: Global, store: &mut S, place: Place) -> Result<Ve
     ensures refusals { IfErr result IsReadRefusal }
 {
     let image = read_extent(alloc, store, place.extent)?;
-    let is_heap = image_kind(alloc, &image)?;
-    if is_heap != place.is_heap {
+    if image_kind(&image) != Some(place.is_heap) {
         return Err(Fault::Damaged);
     }
     Ok(image)

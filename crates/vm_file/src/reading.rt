@@ -1,5 +1,5 @@
 // The reading of a file that a crash may have left. Nothing is written.
-ghost use Rattle.std.specs.Prelude.{◌≡◌, ◌⊎◌, ◌↔◌, ◌<◌, ◌≤◌, ◌^◌, ◌==◌, ℕ, List, All, IsTrue, OnOk, IfOk, IfErr, IfSome, IsErrOf, MatchResult, Some, None, Ok, Err, length, get_or, slice_index, true, if◌then◌else◌};
+ghost use Rattle.std.specs.Prelude.{◌≡◌, ◌⊎◌, ◌↔◌, ◌<◌, ◌≤◌, ◌^◌, ◌==◌, ℕ, List, All, IsTrue, OnOk, IfOk, IfErr, IfSome, IsErrOf, MatchOption, MatchResult, Some, None, Ok, Err, length, get_or, slice_index, true, if◌then◌else◌};
 ghost use Rattle.std.specs.Option.{option_and_then};
 ghost use Rattle.vm_store.specs.Facts.{Holds, IsDurable, Raised, Rests};
 ghost use Rattle.geos_model.specs.Image.{body_of};
@@ -41,23 +41,20 @@ pub fn read_extent<S: Store>(alloc: Global, store: &mut S, extent: Extent) -> Re
 // The bytes of the greatest raw body and the byte before them.
 const LONGEST_IMAGE: usize = 65_521;
 
-/// Whether bytes are the image of a heap, and not of a raw body. Damaged where they are of neither; Memory.
-pub fn image_kind(alloc: Global, bytes: &[u8]) -> Result<bool, Fault>
-    ensures ok { IfOk result (λ is_heap. IsImageOf is_heap bytes.now) }
-    ensures damaged { IsErrOf result Fault.Damaged → body_of bytes.now ≡ None }
-    ensures refusals { IfErr result (λ fault. (fault ≡ Fault.Memory) ⊎ (fault ≡ Fault.Damaged)) }
+/// Whether bytes are the image of a heap, and not of a raw body. None where they are of neither.
+pub fn image_kind(bytes: &[u8]) -> Option<bool>
+    ensures { MatchOption result (body_of bytes.now ≡ None) (λ is_heap. IsImageOf is_heap bytes.now) }
 {
     if bytes.is_empty() {
-        return Err(Fault::Damaged);
+        return None;
     }
-    if bytes[0] != 0 {
-        let _heap = Heap::from_image(alloc, bytes)?;
-        return Ok(true);
-    }
-    if bytes.len() > LONGEST_IMAGE {
-        return Err(Fault::Damaged);
-    }
-    Ok(false)
+    let is_heap = bytes[0] != 0;
+    let is_image = if is_heap {
+        Heap::is_image(bytes)
+    } else {
+        bytes.len() <= LONGEST_IMAGE
+    };
+    if is_image { Some(is_heap) } else { None }
 }
 
 /// Whether the image in an extent is that of a heap. Damaged, Memory, File.
@@ -69,7 +66,7 @@ fn read_kind<S: Store>(alloc: Global, store: &mut S, extent: Extent) -> Result<b
     ensures refusals { IfErr result IsReadRefusal }
 {
     let bytes = read_extent(alloc, store, extent)?;
-    image_kind(alloc, &bytes)
+    image_kind(&bytes).ok_or(Fault::Damaged)
 }
 
 /// The kind of the image of a place that is known, if it lies in this extent.
