@@ -7,7 +7,7 @@ use Rattle.geos_model.specs.Image.{body_of}
 use Rattle.geos_model.specs.declared.fault.Fault.TheVariants.{Memory, Damaged}
 use Rattle.geos_model.specs.declared.command.Body.TheVariants.{Raw}
 use Rattle.vm_file.proofs.BodyImages.{empty_none, long_none, heap_none}
-use Rattle.vm_blocks.proofs.FileImages.{raw_read, heap_read}
+use Rattle.vm_blocks.proofs.FileImages.{raw_read, heap_read, no_heap_image}
 use Rattle.vm_blocks.proofs.images.read_image.Goals as goal
 
 pub returns-then-is_empty-clause-damaged : goal.returns-then-is_empty-clause-damaged
@@ -18,7 +18,7 @@ returns-in_err-from_image-clause-damaged c =
     let p = err_from_is_err_and c.from_residual.result c.from_residual.ensures.1 in
     rw (p.1, p.2) (λ e. elim c.in_err-from_image.ensures.err as (λ _. body_of c.args.bytes.now ≡ None) [
       | inl memory ↦ (let was : c.in_err-from_image.field-0.0 ≡ Damaged = (cc) in let wrong : Memory ≡ Damaged = sym memory ∙ was in absurd (cc wrong))
-      | inr damaged ↦ heap_none c.args.bytes.now c.if-bytes-ne-RAW.true damaged.1
+      | inr damaged ↦ heap_none c.args.bytes.now c.if-bytes-ne-RAW.true (no_heap_image c.args.bytes.now damaged.1)
     ])
 
 pub returns-then-bytes-ne-RAW-clause-read : goal.returns-then-bytes-ne-RAW-clause-read
