@@ -3,7 +3,6 @@ use Rattle.std.proofs.Common.{◌≡◌, ◌++◌, ℕ, List, [], false, None, S
 use Rattle.geos_model.specs.Document.{empty_document}
 use Rattle.geos_model.specs.Machine.{Machine, empty_machine}
 use Rattle.geos_model.specs.Script.{lines, requests, Answered}
-use Rattle.vm_file.specs.Effects.{IsNewFile}
 use Rattle.vm_store.specs.Facts.{StoreFacts}
 use Rattle.undo_log.specs.Records.{SessionState, machine_of}
 use Rattle.geos_shell.specs.Holdings.{Holding, held, machine}
@@ -26,18 +25,19 @@ module _ {S : Type 0} (facts : S → StoreFacts) (old new : Holding S) (script l
 
 -- A session on a new document answers so.
 
-abbrev pub Made : {S : Type 0} → (S → StoreFacts) → SessionState S → Type 0
-Made facts session = (session.document ≡ empty_document) × IsNewFile facts empty_document session.disk
+abbrev pub Made : {S : Type 0} → SessionState S → Type 0
+Made session =
+    (session.document ≡ empty_document) × (session.disk.updated ≡ empty_document) × (session.disk.saved ≡ empty_document) × (session.disk.sequence ≡ 1)
 
 abbrev pub New : {S : Type 0} → SessionState S → Type 0
 New session = (session.undo ≡ []) × (session.redo ≡ []) × (session.frames ≡ 8)
 
-machine_is : {S : Type 0} (facts : S → StoreFacts) (session : SessionState S) → Made facts session → New session → machine_of false session ≡ empty_machine 8 false
-machine_is facts session made new = rw (made.0, made.1.updated, made.1.saved, made.1.sequence, new.0, new.1, new.2) refl
+machine_is : {S : Type 0} (session : SessionState S) → Made session → New session → machine_of false session ≡ empty_machine 8 false
+machine_is session made new = rw (made.0, made.1, made.2, made.3, new.0, new.1, new.2) refl
 
-pub begins : {S : Type 0} (facts : S → StoreFacts) (session : SessionState S) (script replies : List ℕ) (after : Holding S) → Made facts session → New session → AnswersOf facts (held session None None) (requests (lines script)) replies after → Goes script replies
+pub begins : {S : Type 0} (facts : S → StoreFacts) (session : SessionState S) (script replies : List ℕ) (after : Holding S) → Made session → New session → AnswersOf facts (held session None None) (requests (lines script)) replies after → Goes script replies
 begins facts session script replies after made new answers = record {
   after = machine after;
   failed = answers.failed;
-  answered = subst (λ (m : Machine). Answered m (requests (lines script)) replies answers.failed (machine after)) (machine_is facts session made new) answers.answered;
+  answered = subst (λ (m : Machine). Answered m (requests (lines script)) replies answers.failed (machine after)) (machine_is session made new) answers.answered;
 }
