@@ -2,6 +2,7 @@
 use crate::plain_chunks::handle_of;
 use geos_model::ChunkHandle;
 use lmem_heap::Heap;
+use std::alloc::{AllocError, Global};
 use std::test::Fail;
 
 const THIRD: ChunkHandle = ChunkHandle(0x14);
@@ -182,5 +183,51 @@ fn a_freed_chunk_leaves_the_others_where_they_lie(rt: HostRuntime) -> Result<(),
     assert!(rt; heap.chunk(first).is_some());
     heap.free(first);
     assert_eq!(rt; [heap.offset(second), heap.offset(third)], places);
+    Ok(())
+}
+
+#[test]
+fn bytes_are_the_image_of_a_heap(rt: HostRuntime) {
+    let images: [&[u8]; 3] = [
+        &[1, 1, 0, 2, 0, 0xaa, 0xbb],
+        &[1, 2, 0, 0xff, 0xff, 1, 0, 0xcc],
+        &[1, 0, 0],
+    ];
+    for image in images {
+        assert!(rt; Heap::is_image(image));
+    }
+    // No bytes, a raw body, last slots with no chunk, and images with a byte too few or too many.
+    let others: [&[u8]; 8] = [
+        &[],
+        &[0, 0xaa, 0xbb],
+        &[1, 1, 0, 0xff, 0xff],
+        &[1, 2, 0, 1, 0, 0xff, 0xff, 0xcc],
+        &[1, 1, 0, 2, 0, 0xaa],
+        &[1, 1, 0, 2, 0, 0xaa, 0xbb, 0xcc],
+        &[1, 0],
+        &[1, 0, 0, 0],
+    ];
+    for bytes in others {
+        assert!(rt; !Heap::is_image(bytes));
+    }
+}
+
+// The image of one chunk of zeros, whether it fits or not.
+fn image_of_one(alloc: Global, size: u16) -> Result<Vec<u8>, AllocError> {
+    let mut image = vec![in alloc; 1, 1, 0]?;
+    image.extend_from_slice(size.to_le_bytes().as_slice())?;
+    image.extend_from_slice(&vec![in alloc; 0; usize::from(size)]?)?;
+    Ok(image)
+}
+
+#[test]
+fn the_image_of_the_fullest_heap_is_one(rt: HostRuntime) -> Result<(), Fail> {
+    let mut heap = Heap::new(rt.alloc())?;
+    assert!(rt; heap.fits_alloc(65_498) && !heap.fits_alloc(65_499));
+    heap.alloc(65_498);
+    let image = heap.image()?;
+    assert!(rt; image == image_of_one(rt.alloc(), 65_498)?);
+    assert!(rt; Heap::is_image(&image));
+    assert!(rt; !Heap::is_image(&image_of_one(rt.alloc(), 65_499)?));
     Ok(())
 }
