@@ -2,16 +2,16 @@
 ghost use Rattle.std.specs.Prelude.{IfOk};
 ghost use Rattle.vm_blocks.specs.Changes.{Applies, flipped};
 
-use crate::documents::{has, meets, tree};
+use crate::documents::{Blocks, has, meets, tree};
 use geos_model::{Fault, VmHandle};
 use std::test::Fail;
-use vm_blocks::{Blocks, Change, Direction, change_law};
+use vm_blocks::{Change, Direction, change_law};
 use vm_chains::{copy_plan, equal, free_plan};
 
 // Carries a change out.
 pub fn carry_out(blocks: &mut Blocks, change: &Change) -> Result<(), Fault>
-    requires { Applies change.now blocks.old }
-    ensures { IfOk result (λ _. Applies (flipped change.now) blocks.new) }
+    requires { Applies change.now blocks.old.document }
+    ensures { IfOk result (λ _. Applies (flipped change.now) blocks.new.document) }
 {
     blocks.validity();
     change_law();
@@ -22,7 +22,7 @@ pub fn carry_out(blocks: &mut Blocks, change: &Change) -> Result<(), Fault>
 
 // Takes a change back that was carried out.
 pub fn take_back(blocks: &mut Blocks, change: &Change) -> Result<(), Fault>
-    requires { Applies (flipped change.now) blocks.old }
+    requires { Applies (flipped change.now) blocks.old.document }
 {
     let prepared = blocks.prepare(change, Direction::Backwards)?;
     blocks.carry_out(change, Direction::Backwards, prepared);

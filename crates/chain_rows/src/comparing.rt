@@ -1,9 +1,8 @@
 // Chains that are equal, and chains that aren't.
-use crate::documents::{document, put_heap, tree};
+use crate::documents::{Blocks, document, put_heap, tree};
 use geos_model::{Fault, VmHandle};
 use std::alloc::Global;
 use std::test::Fail;
-use vm_blocks::Blocks;
 use vm_chains::equal;
 
 fn same(alloc: Global, blocks: &mut Blocks, first: u16, second: u16) -> Result<bool, Fault> {

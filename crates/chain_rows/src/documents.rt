@@ -3,10 +3,22 @@ use geos_model::{Fault, VmHandle};
 use lmem_heap::Heap;
 use raw_region::SIZE;
 use std::alloc::Global;
-use vm_blocks::{Block, BlockBody, Blocks, Members, SavedBlock};
+use vm_blocks::{Block, BlockBody, FileBlocks, Members, SavedBlock};
 use vm_chains::walk;
+use vm_store::MemStore;
+
+/// The blocks of a file in memory.
+pub type Blocks = FileBlocks<MemStore>;
 
 const GREATEST_HANDLE: u16 = 2_048;
+
+// No block yet.
+pub fn empty(alloc: Global) -> Result<Blocks, Fault> {
+    match FileBlocks::create(alloc, MemStore::new(alloc)) {
+        Ok(blocks) => Ok(blocks),
+        Err(refused) => Err(refused.fault),
+    }
+}
 
 pub fn put(alloc: Global, blocks: &mut Blocks, handle: u16, bytes: &[u8]) -> Result<(), Fault> {
     if handle == 0 || handle > GREATEST_HANDLE {
@@ -40,7 +52,7 @@ pub fn take_out(blocks: &mut Blocks, handle: u16) {
 
 // Raw blocks with these bodies, under the handles from 1 on, each handle its user ID.
 pub fn document(alloc: Global, bodies: &[&[u8]]) -> Result<Blocks, Fault> {
-    let mut blocks = Blocks::new(alloc)?;
+    let mut blocks = empty(alloc)?;
     let mut handle = 1;
     for body in bodies {
         put(alloc, &mut blocks, handle, body)?;
@@ -66,7 +78,7 @@ pub fn tree(alloc: Global) -> Result<Blocks, Fault> {
 
 // So many blocks under the handles from 1 on, each of which links to the next, and the last one to `end`.
 pub fn row(alloc: Global, count: u16, end: u16) -> Result<Blocks, Fault> {
-    let mut blocks = Blocks::new(alloc)?;
+    let mut blocks = empty(alloc)?;
     for handle in 1..count {
         let next = handle + 1;
         put(alloc, &mut blocks, handle, &next.to_le_bytes())?;

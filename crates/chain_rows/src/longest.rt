@@ -1,9 +1,8 @@
 // The longest chains.
-use crate::documents::{carry_in, is_refused, put, row, walked};
+use crate::documents::{Blocks, carry_in, empty, is_refused, put, row, walked};
 use geos_model::{Fault, VmHandle};
 use std::alloc::Global;
 use std::test::Fail;
-use vm_blocks::Blocks;
 use vm_chains::{copy_plan, equal, free_plan, size, walk};
 
 // All blocks that a document can have.
@@ -36,7 +35,7 @@ fn branching(alloc: Global, links: &[u16]) -> Result<Vec<u8>, Fault> {
 
 // A tree block under the handle 1 with a branch to each other block and then to these, and all of the others link to none.
 fn star(alloc: Global, more: &[u16]) -> Result<Blocks, Fault> {
-    let mut blocks = Blocks::new(alloc)?;
+    let mut blocks = empty(alloc)?;
     let mut links = Vec::new(alloc);
     for handle in 2..=MOST_BLOCKS {
         put(alloc, &mut blocks, handle, b"\0\0")?;

@@ -1,11 +1,10 @@
 // Plans of copies, and of what is freed.
 use crate::documents::{
-    carry_in, document, handles_of, has, is_refused, put, put_heap, take_out, tree,
+    Blocks, carry_in, document, empty, handles_of, has, is_refused, put, put_heap, take_out, tree,
 };
 use geos_model::{Fault, VmHandle};
 use std::alloc::Global;
 use std::test::Fail;
-use vm_blocks::Blocks;
 use vm_chains::{copy_plan, equal, free_plan};
 
 #[test]
@@ -89,7 +88,7 @@ fn all_blocks_of_a_chain_are_freed(rt: HostRuntime) -> Result<(), Fail> {
         handles_of(rt.alloc(), &plan)?.as_slice(),
         [3, 1, 2, 4].as_slice()
     );
-    let mut other = Blocks::new(rt.alloc())?;
+    let mut other = empty(rt.alloc())?;
     carry_in(rt.alloc(), &mut other, &plan)?;
     assert!(rt; has(&other, 1, b"\x02\0"));
     assert!(rt; has(&other, 4, b"\0\0\0"));

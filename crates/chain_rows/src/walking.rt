@@ -3,7 +3,6 @@ use crate::documents::{document, is_refused, meets, put, put_heap, tree};
 use geos_model::{Fault, VmHandle};
 use std::alloc::Global;
 use std::test::Fail;
-use vm_blocks::Blocks;
 use vm_chains::{size, walk};
 
 #[test]

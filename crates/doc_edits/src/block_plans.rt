@@ -5,17 +5,18 @@ ghost use Rattle.doc_edits.specs.Planning.{Plans, Refuses};
 use geos_model::{Done, Fault, VmHandle};
 use raw_region::SIZE;
 use std::alloc::Global;
-use vm_blocks::{Blocks, Change, Members, SavedBlock};
+use vm_blocks::{Change, FileBlocks, Members, SavedBlock};
+use vm_store::Store;
 
 /// Of the edit that makes a raw block of zeros.
 #[tactic(auto, using(crate::proofs::BlockPlans::block_made))]
-pub fn plan_new_raw(
+pub fn plan_new_raw<S: Store>(
     alloc: Global,
-    blocks: &Blocks,
+    blocks: &FileBlocks<S>,
     user_id: u16,
     size: u32,
 ) -> Result<(Change, Done), Fault>
-    ensures { MatchResult result (λ p. Plans (edits.NewRaw user_id size) blocks.now p.0 p.1) (Refuses (edits.NewRaw user_id size) blocks.now) }
+    ensures { MatchResult result (λ p. Plans (edits.NewRaw user_id size) blocks.now.document p.0 p.1) (Refuses (edits.NewRaw user_id size) blocks.now.document) }
 {
     if size as usize > SIZE {
         return Err(Fault::TooBig);
@@ -31,8 +32,12 @@ pub fn plan_new_raw(
 
 /// Of the edit that makes a block with an empty heap.
 #[tactic(auto, using(crate::proofs::BlockPlans::block_made))]
-pub fn plan_new_heap(alloc: Global, blocks: &Blocks, user_id: u16) -> Result<(Change, Done), Fault>
-    ensures { MatchResult result (λ p. Plans (edits.NewHeap user_id) blocks.now p.0 p.1) (Refuses (edits.NewHeap user_id) blocks.now) }
+pub fn plan_new_heap<S: Store>(
+    alloc: Global,
+    blocks: &FileBlocks<S>,
+    user_id: u16,
+) -> Result<(Change, Done), Fault>
+    ensures { MatchResult result (λ p. Plans (edits.NewHeap user_id) blocks.now.document p.0 p.1) (Refuses (edits.NewHeap user_id) blocks.now.document) }
 {
     let handle = match blocks.next_handle() {
         Some(handle) => handle,
@@ -45,12 +50,12 @@ pub fn plan_new_heap(alloc: Global, blocks: &Blocks, user_id: u16) -> Result<(Ch
 
 /// Of the edit that frees a block.
 #[tactic(auto, using(crate::proofs::BlockPlans::block_freed))]
-pub fn plan_free_block(
+pub fn plan_free_block<S: Store>(
     alloc: Global,
-    blocks: &Blocks,
+    blocks: &FileBlocks<S>,
     handle: VmHandle,
 ) -> Result<(Change, Done), Fault>
-    ensures { MatchResult result (λ p. Plans (edits.FreeBlock handle) blocks.now p.0 p.1) (Refuses (edits.FreeBlock handle) blocks.now) }
+    ensures { MatchResult result (λ p. Plans (edits.FreeBlock handle) blocks.now.document p.0 p.1) (Refuses (edits.FreeBlock handle) blocks.now.document) }
 {
     let block = match blocks.block(handle) {
         Some(block) => block,
@@ -66,12 +71,12 @@ pub fn plan_free_block(
 
 /// Of the edit that makes a block with the body and the user ID of another.
 #[tactic(auto, using(crate::proofs::BlockPlans::block_made))]
-pub fn plan_copy_block(
+pub fn plan_copy_block<S: Store>(
     alloc: Global,
-    blocks: &Blocks,
+    blocks: &FileBlocks<S>,
     from: VmHandle,
 ) -> Result<(Change, Done), Fault>
-    ensures { MatchResult result (λ p. Plans (edits.CopyBlock from) blocks.now p.0 p.1) (Refuses (edits.CopyBlock from) blocks.now) }
+    ensures { MatchResult result (λ p. Plans (edits.CopyBlock from) blocks.now.document p.0 p.1) (Refuses (edits.CopyBlock from) blocks.now.document) }
 {
     let block = match blocks.block(from) {
         Some(block) => block,
@@ -87,12 +92,12 @@ pub fn plan_copy_block(
 }
 
 /// Of the edit that sets the user ID of a block.
-pub fn plan_set_user_id(
-    blocks: &Blocks,
+pub fn plan_set_user_id<S: Store>(
+    blocks: &FileBlocks<S>,
     handle: VmHandle,
     user_id: u16,
 ) -> Result<(Change, Done), Fault>
-    ensures { MatchResult result (λ p. Plans (edits.SetUserId handle user_id) blocks.now p.0 p.1) (Refuses (edits.SetUserId handle user_id) blocks.now) }
+    ensures { MatchResult result (λ p. Plans (edits.SetUserId handle user_id) blocks.now.document p.0 p.1) (Refuses (edits.SetUserId handle user_id) blocks.now.document) }
 {
     if !blocks.is_live(handle) {
         return Err(Fault::NoBlock);
@@ -106,8 +111,11 @@ pub fn plan_set_user_id(
 }
 
 /// Of the edit that sets the map block, or with 0 that there is none.
-pub fn plan_set_map(blocks: &Blocks, handle: VmHandle) -> Result<(Change, Done), Fault>
-    ensures { MatchResult result (λ p. Plans (edits.SetMap handle) blocks.now p.0 p.1) (Refuses (edits.SetMap handle) blocks.now) }
+pub fn plan_set_map<S: Store>(
+    blocks: &FileBlocks<S>,
+    handle: VmHandle,
+) -> Result<(Change, Done), Fault>
+    ensures { MatchResult result (λ p. Plans (edits.SetMap handle) blocks.now.document p.0 p.1) (Refuses (edits.SetMap handle) blocks.now.document) }
 {
     if handle.0 != 0 && !blocks.is_live(handle) {
         return Err(Fault::NoBlock);

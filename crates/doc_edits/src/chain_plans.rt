@@ -4,16 +4,17 @@ ghost use Rattle.doc_edits.specs.Planning.{Plans, Refuses};
 
 use geos_model::{Done, Fault, VmHandle};
 use std::alloc::Global;
-use vm_blocks::{Blocks, Change};
+use vm_blocks::{Change, FileBlocks};
 use vm_chains::{copy_plan, free_plan};
+use vm_store::Store;
 
 /// Of the edit that copies a chain.
-pub fn plan_copy_chain(
+pub fn plan_copy_chain<S: Store>(
     alloc: Global,
-    blocks: &mut Blocks,
+    blocks: &mut FileBlocks<S>,
     root: VmHandle,
 ) -> Result<(Change, Done), Fault>
-    ensures planned { MatchResult result (λ p. Plans (edits.CopyChain root) blocks.old p.0 p.1) (Refuses (edits.CopyChain root) blocks.old) }
+    ensures planned { MatchResult result (λ p. Plans (edits.CopyChain root) blocks.old.document p.0 p.1) (Refuses (edits.CopyChain root) blocks.old.document) }
     ensures stays { blocks.new ≡ blocks.old }
 {
     let copies = copy_plan(alloc, blocks, root)?;
@@ -23,12 +24,12 @@ pub fn plan_copy_chain(
 }
 
 /// Of the edit that frees a chain.
-pub fn plan_free_chain(
+pub fn plan_free_chain<S: Store>(
     alloc: Global,
-    blocks: &mut Blocks,
+    blocks: &mut FileBlocks<S>,
     root: VmHandle,
 ) -> Result<(Change, Done), Fault>
-    ensures planned { MatchResult result (λ p. Plans (edits.FreeChain root) blocks.old p.0 p.1) (Refuses (edits.FreeChain root) blocks.old) }
+    ensures planned { MatchResult result (λ p. Plans (edits.FreeChain root) blocks.old.document p.0 p.1) (Refuses (edits.FreeChain root) blocks.old.document) }
     ensures stays { blocks.new ≡ blocks.old }
 {
     let chain = free_plan(alloc, blocks, root)?;

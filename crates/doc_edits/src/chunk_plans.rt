@@ -15,19 +15,20 @@ use chunk_edits::{Splice, copied};
 use geos_model::{ChunkHandle, Done, Edit, Fault, VmHandle};
 use lmem_heap::Heap;
 use std::alloc::Global;
-use vm_blocks::{Blocks, Change, Content, PartChange};
+use vm_blocks::{Change, Content, FileBlocks, PartChange};
+use vm_store::Store;
 
 /// Of an edit of a chunk's bytes: Full where the heap has no room for them.
-pub fn plan_in_chunk(
+pub fn plan_in_chunk<S: Store>(
     alloc: Global,
-    blocks: &Blocks,
+    blocks: &FileBlocks<S>,
     handle: VmHandle,
     chunk: ChunkHandle,
     edit: &Edit,
 ) -> Result<(Change, Done), Fault>
-    requires resident { is_resident blocks.now handle.0 ≡ true }
+    requires resident { is_resident blocks.now.document handle.0 ≡ true }
     requires place { place_of edit.now ≡ Some (handle, chunk) }
-    ensures { MatchResult result (λ p. Plans edit.now blocks.now p.0 p.1) (Refuses edit.now blocks.now) }
+    ensures { MatchResult result (λ p. Plans edit.now blocks.now.document p.0 p.1) (Refuses edit.now blocks.now.document) }
 {
     let heap = heap_at(blocks, handle)?;
     let bytes = bytes_in(heap, chunk)?;
@@ -53,15 +54,15 @@ fn has_room(heap: &Heap, chunk: ChunkHandle, splice: &Splice) -> bool
 }
 
 /// Of an edit that makes a chunk: Full where the heap has no handle or no room for it.
-pub fn plan_new_chunk(
+pub fn plan_new_chunk<S: Store>(
     alloc: Global,
-    blocks: &Blocks,
+    blocks: &FileBlocks<S>,
     handle: VmHandle,
     edit: &Edit,
 ) -> Result<(Change, Done), Fault>
-    requires resident { is_resident blocks.now handle.0 ≡ true }
+    requires resident { is_resident blocks.now.document handle.0 ≡ true }
     requires new { new_in edit.now ≡ Some handle }
-    ensures { MatchResult result (λ p. Plans edit.now blocks.now p.0 p.1) (Refuses edit.now blocks.now) }
+    ensures { MatchResult result (λ p. Plans edit.now blocks.now.document p.0 p.1) (Refuses edit.now blocks.now.document) }
 {
     let heap = heap_at(blocks, handle)?;
     let content = build_chunk(alloc, edit)?;
@@ -102,14 +103,14 @@ fn size_of(content: &Content) -> Option<u32>
 }
 
 /// Of the edit that frees a chunk.
-pub fn plan_free_chunk(
+pub fn plan_free_chunk<S: Store>(
     alloc: Global,
-    blocks: &Blocks,
+    blocks: &FileBlocks<S>,
     handle: VmHandle,
     chunk: ChunkHandle,
 ) -> Result<(Change, Done), Fault>
-    requires { is_resident blocks.now handle.0 ≡ true }
-    ensures { MatchResult result (λ p. Plans (edits.Free handle chunk) blocks.now p.0 p.1) (Refuses (edits.Free handle chunk) blocks.now) }
+    requires { is_resident blocks.now.document handle.0 ≡ true }
+    ensures { MatchResult result (λ p. Plans (edits.Free handle chunk) blocks.now.document p.0 p.1) (Refuses (edits.Free handle chunk) blocks.now.document) }
 {
     let heap = heap_at(blocks, handle)?;
     let bytes = bytes_in(heap, chunk)?;

@@ -8,14 +8,15 @@ ghost use Rattle.doc_edits.specs.Found.{AreLate, IsRawAt, IsHeapAt, IsChunkAt};
 use geos_model::{ChunkHandle, Fault, VmHandle};
 use lmem_heap::Heap;
 use raw_region::RawBody;
-use vm_blocks::{BlockBody, Blocks};
+use vm_blocks::{BlockBody, FileBlocks};
+use vm_store::Store;
 
 /// The raw body of a block in memory: WrongKind where it is a heap.
-pub fn raw_at(blocks: &Blocks, handle: VmHandle) -> Result<&RawBody, Fault>
-    requires { is_resident blocks.now handle.0 ≡ true }
+pub fn raw_at<S: Store>(blocks: &FileBlocks<S>, handle: VmHandle) -> Result<&RawBody, Fault>
+    requires { is_resident blocks.now.document handle.0 ≡ true }
     ensures { MatchResult result
-        (λ body. IsRawAt blocks.now handle.0 body.now)
-        (λ fault. (rest : Conditions) → AreLate rest → first_refusal (on_raw blocks.now handle.0 ++ rest) ≡ Some fault) }
+        (λ body. IsRawAt blocks.now.document handle.0 body.now)
+        (λ fault. (rest : Conditions) → AreLate rest → first_refusal (on_raw blocks.now.document handle.0 ++ rest) ≡ Some fault) }
 {
     match blocks.body(handle) {
         BlockBody::Raw(body) => Ok(body),
@@ -24,11 +25,11 @@ pub fn raw_at(blocks: &Blocks, handle: VmHandle) -> Result<&RawBody, Fault>
 }
 
 /// The heap of a block in memory: WrongKind where it is raw.
-pub fn heap_at(blocks: &Blocks, handle: VmHandle) -> Result<&Heap, Fault>
-    requires { is_resident blocks.now handle.0 ≡ true }
+pub fn heap_at<S: Store>(blocks: &FileBlocks<S>, handle: VmHandle) -> Result<&Heap, Fault>
+    requires { is_resident blocks.now.document handle.0 ≡ true }
     ensures { MatchResult result
-        (λ heap. IsHeapAt blocks.now handle.0 heap.now.chunks)
-        (λ fault. (rest : Conditions) → AreLate rest → first_refusal (on_heap blocks.now handle.0 ++ rest) ≡ Some fault) }
+        (λ heap. IsHeapAt blocks.now.document handle.0 heap.now.chunks)
+        (λ fault. (rest : Conditions) → AreLate rest → first_refusal (on_heap blocks.now.document handle.0 ++ rest) ≡ Some fault) }
 {
     match blocks.body(handle) {
         BlockBody::Heap(heap) => Ok(heap),

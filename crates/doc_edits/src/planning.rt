@@ -11,12 +11,17 @@ use crate::chunk_plans::{plan_free_chunk, plan_in_chunk, plan_new_chunk};
 use crate::raw_plans::{plan_attach, plan_write_raw};
 use geos_model::{Done, Edit, Fault, VmHandle};
 use std::alloc::Global;
-use vm_blocks::{Blocks, Change};
+use vm_blocks::{Change, FileBlocks};
+use vm_store::Store;
 
 /// The change that an edit means in this document, and what it answers; or its first refusal, or want of memory. Nothing
 /// changes.
-pub fn plan(alloc: Global, blocks: &mut Blocks, edit: &Edit) -> Result<(Change, Done), Fault>
-    ensures planned { MatchResult result (λ p. Plans edit.now blocks.old p.0 p.1) (Refuses edit.now blocks.old) }
+pub fn plan<S: Store>(
+    alloc: Global,
+    blocks: &mut FileBlocks<S>,
+    edit: &Edit,
+) -> Result<(Change, Done), Fault>
+    ensures planned { MatchResult result (λ p. Plans edit.now blocks.old.document p.0 p.1) (Refuses edit.now blocks.old.document) }
     ensures stays { blocks.new ≡ blocks.old }
 {
     match edit {
@@ -27,9 +32,13 @@ pub fn plan(alloc: Global, blocks: &mut Blocks, edit: &Edit) -> Result<(Change, 
 }
 
 /// The same of an edit that looks into no block, or into one.
-fn plan_of_block(alloc: Global, blocks: &mut Blocks, edit: &Edit) -> Result<(Change, Done), Fault>
+fn plan_of_block<S: Store>(
+    alloc: Global,
+    blocks: &mut FileBlocks<S>,
+    edit: &Edit,
+) -> Result<(Change, Done), Fault>
     requires { is_of_chain edit.now ≡ false }
-    ensures planned { MatchResult result (λ p. Plans edit.now blocks.old p.0 p.1) (Refuses edit.now blocks.old) }
+    ensures planned { MatchResult result (λ p. Plans edit.now blocks.old.document p.0 p.1) (Refuses edit.now blocks.old.document) }
     ensures stays { blocks.new ≡ blocks.old }
 {
     if let Some(handle) = block_read(edit) {
@@ -79,10 +88,14 @@ fn block_read(edit: &Edit) -> Option<VmHandle>
 }
 
 /// The same where the block into whose body the edit looks is in memory.
-fn plan_loaded(alloc: Global, blocks: &Blocks, edit: &Edit) -> Result<(Change, Done), Fault>
+fn plan_loaded<S: Store>(
+    alloc: Global,
+    blocks: &FileBlocks<S>,
+    edit: &Edit,
+) -> Result<(Change, Done), Fault>
     requires of_block { is_of_chain edit.now ≡ false }
-    requires loaded { MatchOption (block_read edit.now) (Unit {0}) (λ b. is_resident blocks.now b.0 ≡ true) }
-    ensures { MatchResult result (λ p. Plans edit.now blocks.now p.0 p.1) (Refuses edit.now blocks.now) }
+    requires loaded { MatchOption (block_read edit.now) (Unit {0}) (λ b. is_resident blocks.now.document b.0 ≡ true) }
+    ensures { MatchResult result (λ p. Plans edit.now blocks.now.document p.0 p.1) (Refuses edit.now blocks.now.document) }
 {
     match edit {
         Edit::NewRaw(user_id, size) => plan_new_raw(alloc, blocks, *user_id, *size),

@@ -7,18 +7,19 @@ use crate::found::raw_at;
 use chunk_edits::{raw_replace, raw_write};
 use geos_model::{Bytes, Done, Fault, VmHandle};
 use std::alloc::Global;
-use vm_blocks::{Blocks, Change, PartChange};
+use vm_blocks::{Change, FileBlocks, PartChange};
+use vm_store::Store;
 
 /// Of the edit that writes over the bytes of a raw block.
-pub fn plan_write_raw(
+pub fn plan_write_raw<S: Store>(
     alloc: Global,
-    blocks: &Blocks,
+    blocks: &FileBlocks<S>,
     handle: VmHandle,
     at: u32,
     bytes: &Bytes,
 ) -> Result<(Change, Done), Fault>
-    requires { is_resident blocks.now handle.0 ≡ true }
-    ensures { MatchResult result (λ p. Plans (edits.WriteRaw handle at bytes.now) blocks.now p.0 p.1) (Refuses (edits.WriteRaw handle at bytes.now) blocks.now) }
+    requires { is_resident blocks.now.document handle.0 ≡ true }
+    ensures { MatchResult result (λ p. Plans (edits.WriteRaw handle at bytes.now) blocks.now.document p.0 p.1) (Refuses (edits.WriteRaw handle at bytes.now) blocks.now.document) }
 {
     let body = raw_at(blocks, handle)?;
     let splice = raw_write(alloc, body, at, bytes.as_slice())?;
@@ -26,14 +27,14 @@ pub fn plan_write_raw(
 }
 
 /// Of the edit that replaces the bytes of a raw block.
-pub fn plan_attach(
+pub fn plan_attach<S: Store>(
     alloc: Global,
-    blocks: &Blocks,
+    blocks: &FileBlocks<S>,
     handle: VmHandle,
     bytes: &Bytes,
 ) -> Result<(Change, Done), Fault>
-    requires { is_resident blocks.now handle.0 ≡ true }
-    ensures { MatchResult result (λ p. Plans (edits.Attach handle bytes.now) blocks.now p.0 p.1) (Refuses (edits.Attach handle bytes.now) blocks.now) }
+    requires { is_resident blocks.now.document handle.0 ≡ true }
+    ensures { MatchResult result (λ p. Plans (edits.Attach handle bytes.now) blocks.now.document p.0 p.1) (Refuses (edits.Attach handle bytes.now) blocks.now.document) }
 {
     let body = raw_at(blocks, handle)?;
     let splice = raw_replace(alloc, body, bytes.as_slice())?;

@@ -12,7 +12,8 @@ use Rattle.vm_blocks.specs.Changes.{made, flipped}
 use Rattle.vm_blocks.specs.declared.change.Change.{Change}
 use Rattle.vm_blocks.specs.declared.change.Direction.TheVariants.{Forwards, Backwards}
 use Rattle.doc_edits.specs.Planning.{kind_of_change, change_cost, Plans}
-use Rattle.undo_log.specs.Records.{after, step, steps, AreSteps}
+use Rattle.vm_blocks.specs.Changes.{after}
+use Rattle.undo_log.specs.Records.{step, steps, AreSteps}
 use Rattle.undo_log.specs.Turning.{Moves, Stays, Turns}
 use Rattle.undo_log.proofs.Steps.{goes_back}
 

@@ -8,7 +8,8 @@ use Rattle.geos_model.specs.Machine.{opened_machine}
 use Rattle.vm_store.specs.Facts.{StoreFacts, IsTimely}
 use Rattle.vm_blocks.specs.declared.change.Direction.TheVariants.{Backwards, Forwards}
 use Rattle.vm_file.specs.Documents.{Documents, sequence_in}
-use Rattle.vm_file.specs.Disk.{Disk, FileState, Drifts, Passes, Commits}
+use Rattle.vm_file.specs.Disk.{Disk, FileState, Commits}
+use Rattle.vm_blocks.specs.Committing.{IsSavedAs}
 use Rattle.vm_file.proofs.Content.{committed_content}
 use Rattle.undo_log.specs.Records.{SessionState, steps, machine_of}
 
@@ -28,24 +29,28 @@ begun s updated saved sequence frames target document is_updated is_saved number
 }
 
 -- what a file that was opened stands for, and its number, are those of the session
-pub opened : {S : Type 0} (facts : S → StoreFacts) (file : FileState S) (content : List ℕ) (frames : ℕ) (s : SessionState S) → IsTrue (facts file.disk.store).honest → stands content ≡ Ok (file.disk.updated, file.disk.saved) → file.document ≡ file.disk.updated
-    → sequence_in content ≡ Some file.disk.sequence → Passes facts file.disk s.disk → Drifts (facts file.disk.store).honest file.document s.document → (s.undo ≡ []) × (s.redo ≡ []) × (s.frames ≡ frames)
+pub opened : {S : Type 0} (file : FileState S) (content : List ℕ) (frames : ℕ) (s : SessionState S) → s ≡ record { disk = file.disk; document = file.document; undo = []; redo = []; frames = frames }
+    → stands content ≡ Ok (file.disk.updated, file.disk.saved) → file.document ≡ file.disk.updated → sequence_in content ≡ Some file.disk.sequence
     → (updated saved : Document) (sequence : ℕ) (target : Bool) → stands content ≡ Ok (updated, saved) → sequence_in content ≡ Some sequence → machine_of target s ≡ opened_machine updated saved sequence frames target
-opened facts file content frames s so stand document number passes drifts new updated saved sequence target is is_number =
+opened {S} file content frames s begins stand document number updated saved sequence target is is_number =
     let same : (file.disk.updated, file.disk.saved) ≡ (updated, saved) = cc (stand, is) in
     let numbers : file.disk.sequence ≡ sequence = cc (number, is_number) in
     let first : file.disk.updated ≡ updated = ap (λ (d : Documents). d.0) same in
-    begun s updated saved sequence frames target (drifts.same so ∙ document ∙ first) (passes.updated so ∙ first) (passes.saved so ∙ ap (λ (d : Documents). d.1) same) (passes.sequence ∙ numbers) new.0 new.1 new.2
+    begun s updated saved sequence frames target
+    (ap (λ (x : SessionState S). x.document) begins ∙ document ∙ first)
+    (ap (λ (x : SessionState S). x.disk.updated) begins ∙ first)
+    (ap (λ (x : SessionState S). x.disk.saved) begins ∙ ap (λ (d : Documents). d.1) same)
+    (ap (λ (x : SessionState S). x.disk.sequence) begins ∙ numbers)
+    (ap (λ (x : SessionState S). x.undo) begins)
+    (ap (λ (x : SessionState S). x.redo) begins)
+    (ap (λ (x : SessionState S). x.frames) begins)
 
--- three facts of one answer
-pub if_ok_all : {X E : Type 0} (r : Result X E) (P Q R T : X → Type 0) → ((x : X) → P x → Q x → R x → T x) → IfOk r P → IfOk r Q → IfOk r R → IfOk r T
-if_ok_all (Ok x) P Q R T f p q s = f x p q s
-if_ok_all (Err e) P Q R T f p q s = tt
-
--- the store of a file whose pair was committed
-pub comes_back : {S E : Type 0} (facts : S → StoreFacts) (timely : (store : S) → IsTrue (facts store).honest → IsTimely (facts store)) (pair : Documents) (old : Disk S) (P : E → Type 0) (r : Result S E)
-    → MatchResult r (λ store. (disk : Disk S) × (disk.store ≡ store) × Commits facts pair old disk (Ok tt)) P → IfOk r (λ store. IsTrue (facts old.store).honest → stands (facts store).content ≡ Ok pair)
-comes_back facts timely pair old P (Ok store) (disk, is, commits) = λ so.
+-- the store that comes back from a save-as
+pub comes_back : {S E : Type 0} (facts : S → StoreFacts) (timely : (store : S) → IsTrue (facts store).honest → IsTimely (facts store)) (target : S) (old new : FileState S) (P : E → Type 0) (r : Result S E)
+    → MatchResult r (λ store. IsSavedAs facts target store old new) P → IfOk r (λ store. IsTrue (facts old.disk.store).honest → stands (facts store).content ≡ Ok (old.disk.saved, old.disk.saved))
+comes_back facts timely target old new P (Ok store) saved = λ so.
+    let pair : Documents = (old.disk.saved, old.disk.saved) in
+    let (disk, is, commits) = saved.reverted in
     let now : IsTrue (facts disk.store).honest = subst IsTrue (sym commits.honest) so in
-    subst (λ s. stands (facts s).content ≡ Ok pair) is (committed_content facts timely pair old disk (Ok tt) commits now ∙ ap (λ d. Ok d) (commits.ok so).0)
-comes_back facts timely pair old P (Err e) given = tt
+    subst (λ s. stands (facts s).content ≡ Ok pair) is (committed_content facts timely pair old.disk disk (Ok tt) commits now ∙ ap (λ d. Ok d) (commits.ok so).0)
+comes_back facts timely target old new P (Err e) given = tt

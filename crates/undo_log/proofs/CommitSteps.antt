@@ -17,7 +17,8 @@ use Rattle.vm_file.specs.Effects.{IsCommit, Fails, IsWorn}
 use Rattle.vm_file.specs.Documents.{Documents}
 use Rattle.vm_blocks.specs.declared.change.Change.{Change}
 use Rattle.vm_blocks.specs.declared.change.Direction.TheVariants.{Forwards, Backwards}
-use Rattle.undo_log.specs.Records.{SessionState, file_of, machine_of, has_failed, steps, IsRevertFault}
+use Rattle.vm_blocks.specs.Committing.{IsRevertFault}
+use Rattle.undo_log.specs.Records.{SessionState, file_of, machine_of, has_failed, steps}
 
 -- The machine of a session, from its parts.
 pub machine_is : {S : Type 0} (target : Bool) (d updated saved : Document) (undo redo : List Change) (frames sequence : ℕ) (new : SessionState S)

@@ -3,8 +3,6 @@ pub mod Steps
 pub mod Answers
 pub mod Weights
 pub mod LookUps
-pub mod Marked
-pub mod Commits
 pub mod CommitSteps
 pub mod SavingAs
 pub mod Beginnings

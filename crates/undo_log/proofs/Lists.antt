@@ -9,7 +9,8 @@ use Rattle.vm_blocks.specs.Changes.{turned, Applies}
 use Rattle.vm_blocks.specs.declared.change.Change.{Change}
 use Rattle.vm_blocks.specs.declared.change.Direction.{Direction}
 use Rattle.doc_edits.specs.Planning.{kind_of_change}
-use Rattle.undo_log.specs.Records.{after, steps, CanTake}
+use Rattle.vm_blocks.specs.Changes.{after}
+use Rattle.undo_log.specs.Records.{steps, CanTake}
 use Rattle.undo_log.specs.Turning.{takes, Moves, WantsMemory}
 
 newest_first : (from from' : List Change) (c : Change) → from ≡ from' ++ c ∷ [] → reverse from ≡ c ∷ reverse from'

@@ -13,8 +13,8 @@ use Rattle.vm_store.specs.Facts.{StoreFacts, Raised}
 use Rattle.vm_file.specs.Calls.{IsCommitRefusal, last_sequence}
 use Rattle.vm_file.specs.Disk.{Commits}
 use Rattle.vm_file.specs.Documents.{Documents}
-use Rattle.vm_file.specs.Effects.{IsNewFile}
-use Rattle.undo_log.specs.Records.{SessionState, machine_of, has_failed}
+use Rattle.vm_blocks.specs.Committing.{IsSavedAs, IsNotSavedAs}
+use Rattle.undo_log.specs.Records.{SessionState, file_of, machine_of, has_failed}
 use Rattle.undo_log.proofs.CommitSteps.{machine_is}
 
 -- one of two stores failed
@@ -48,25 +48,23 @@ module _ {S : Type 0} (facts : S → StoreFacts) (old new : SessionState S) (kee
     | inr other ↦ absurd (damaged other)
   ]
 
-  pub refused : {T E : Type 0} (fault : E → Fault) (store : E → S) (target : S) (pair : Documents) (P : T → Type 0) (r : Result T E) → MatchResult r P (λ e. Commits facts pair old.disk new.disk (Err (fault e)))
+  pub refused : {T E : Type 0} (fault : E → Fault) (store : E → S) (target : S) (P : T → Type 0) (r : Result T E)
+      → MatchResult r P (λ e. IsNotSavedAs facts target (store e) (file_of old) (file_of new) (fault e))
       → (IsErrAnd r (λ e. fault e ≡ Worn) ↔ (old.disk.sequence ≡ last_sequence))
-      → IfErr r (λ e. fault e ≡ Damaged → IsTrue (facts old.disk.store).honest → ⊥)
-      → IfErr r (λ e. fault e ≡ File → Raised (facts old.disk.store) (facts new.disk.store) ⊎ Raised (facts target) (facts (store e)))
-      → IfErr r (λ e. IsCommitRefusal (fault e) ⊎ (fault e ≡ Damaged))
       → IfErr r (λ e. IsTrue (facts old.disk.store).honest
       → Step (has_failed (facts old.disk.store) (facts new.disk.store) || has_failed (facts target) (facts (store e))) (machine_of true old) (Some commands.SaveAs) (Refused (fault e)) (machine_of true new))
-  refused fault store target pair P (Ok x) commits worn damaged file is = tt
-  refused fault store target pair P (Err e) commits worn damaged file is = λ so.
-      refusal (fault e) (has_failed (facts old.disk.store) (facts new.disk.store) || has_failed (facts target) (facts (store e))) (same_machine pair (fault e) commits so) worn.0
-      (λ failing. one_failed (facts old.disk.store) (facts new.disk.store) (facts target) (facts (store e)) (file failing)) (λ is_damaged. damaged is_damaged so) is
+  refused fault store target P (Ok x) given worn = tt
+  refused fault store target P (Err e) given worn = λ so.
+      refusal (fault e) (has_failed (facts old.disk.store) (facts new.disk.store) || has_failed (facts target) (facts (store e))) (same_machine (old.disk.saved, old.disk.saved) (fault e) given.commits so) worn.0
+      (λ failing. one_failed (facts old.disk.store) (facts new.disk.store) (facts target) (facts (store e)) (given.file failing)) (λ is_damaged. given.damaged is_damaged so) given.faults
 
   -- where it is accepted the session is in the new file
-  pub accepted : {T E : Type 0} (fault : E → Fault) (target : S) (r : Result T E)
-      → IfOk r (λ _. IsTrue (facts old.disk.store).honest → IsTrue (facts target).honest → (new.disk.updated ≡ old.document) × (new.disk.saved ≡ old.document)) → IfOk r (λ _. IsNewFile facts new.disk.updated new.disk)
+  pub accepted : {E : Type 0} (fault : E → Fault) (target : S) (Q : E → Type 0) (r : Result S E)
+      → MatchResult r (λ store. IsSavedAs facts target store (file_of old) (file_of new)) Q
       → (IsErrAnd r (λ e. fault e ≡ Worn) ↔ (old.disk.sequence ≡ last_sequence))
       → IfOk r (λ _. IsTrue (facts old.disk.store).honest → IsTrue (facts target).honest → Step false (machine_of true old) (Some commands.SaveAs) Accepted (machine_of false new))
-  accepted fault target (Ok x) made new_file worn = λ so also.
-      let documents = made so also in
+  accepted fault target Q (Ok x) saved worn = λ so also.
+      let documents = saved.made so also in
       let fresh : (old.disk.sequence == last_sequence) ≡ false = ne_eqb old.disk.sequence last_sequence (λ last. absurd (worn.1 last)) in
-      inl (rw (fresh, ← machine_is false old.document old.document old.document old.undo old.redo old.frames 1 new (sym keeps.document) (sym keeps.undo) (sym keeps.redo) (sym documents.0) (sym documents.1) (sym keeps.frames) (sym new_file.sequence)) refl)
-  accepted fault target (Err e) made new_file worn = tt
+      inl (rw (fresh, ← machine_is false old.document old.document old.document old.undo old.redo old.frames 1 new (sym keeps.document) (sym keeps.undo) (sym keeps.redo) (sym documents.0) (sym documents.1) (sym keeps.frames) (sym saved.new_file.sequence)) refl)
+  accepted fault target Q (Err e) saved worn = tt

@@ -9,7 +9,8 @@ use Rattle.vm_blocks.specs.declared.change.Direction.{Direction}
 use Rattle.vm_blocks.specs.declared.change.Direction.TheVariants.{Forwards, Backwards}
 use Rattle.vm_blocks.proofs.ChangeLaws.{change_back, flip_twice}
 use Rattle.doc_edits.specs.Planning.{kind_of_change}
-use Rattle.undo_log.specs.Records.{opposite, after, step, steps, CanTake, AreSteps}
+use Rattle.vm_blocks.specs.Changes.{after}
+use Rattle.undo_log.specs.Records.{opposite, step, steps, CanTake, AreSteps}
 use Rattle.undo_log.specs.Turning.{takes, Moves, Turns}
 
 -- what holds of a change that was carried out

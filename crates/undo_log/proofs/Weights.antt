@@ -17,7 +17,8 @@ use Rattle.vm_blocks.specs.declared.change.PartChange.TheVariants as parts
 use Rattle.vm_blocks.specs.declared.change.Direction.{Direction}
 use Rattle.vm_blocks.specs.declared.change.Direction.TheVariants.{Forwards, Backwards}
 use Rattle.doc_edits.specs.Planning.{part_cost, change_cost}
-use Rattle.undo_log.specs.Records.{after, step, steps, total_weight, total_cost}
+use Rattle.vm_blocks.specs.Changes.{after}
+use Rattle.undo_log.specs.Records.{step, steps, total_weight, total_cost}
 
 content_weight-le : (content : Content) → content_weight content ≤ length (bytes_of content)
 content_weight-le (contents.Bytes bytes) = omega arith

@@ -1,4 +1,3 @@
 pub mod Records
 pub mod Turning
 pub mod Codes
-pub mod Marking

@@ -7,8 +7,7 @@ use Rattle.geos_model.specs.Machine.{Machine, UndoStep}
 use Rattle.geos_model.specs.declared.fault.Fault.{Fault}
 use Rattle.vm_store.specs.Facts.{StoreFacts, raised}
 use Rattle.vm_file.specs.Disk.{Disk, FileState}
-use Rattle.vm_file.specs.Effects.{IsWorn, IsDamage}
-use Rattle.vm_blocks.specs.Changes.{made, turned, weight, Applies}
+use Rattle.vm_blocks.specs.Changes.{after, turned, weight, Applies}
 use Rattle.vm_blocks.specs.declared.change.Change.{Change}
 use Rattle.vm_blocks.specs.declared.change.Direction.{Direction}
 use Rattle.vm_blocks.specs.declared.change.Direction.TheVariants.{Forwards, Backwards}
@@ -17,10 +16,6 @@ use Rattle.doc_edits.specs.Planning.{kind_of_change, change_cost}
 abbrev pub opposite : Direction → Direction
 opposite Forwards = Backwards
 opposite Backwards = Forwards
-
--- the document after a change is carried out in a direction
-abbrev pub after : Direction → Change → Document → Document
-after direction c d = made (turned direction c) d
 
 -- the step that a change is, carried out in a direction
 abbrev pub step : Direction → Change → Document → UndoStep
@@ -43,14 +38,6 @@ pub record SessionState (S : Type 0) : Type 0 where
 -- the file that a session shows: its document in place of the file's own
 abbrev pub file_of : {S : Type 0} → SessionState S → FileState S
 file_of s = record { disk = s.disk; document = s.document }
-
--- a file with another document than its own
-abbrev pub held : {S : Type 0} → FileState S → Document → FileState S
-held file d = record { disk = file.disk; document = d }
-
--- what a revert may be refused for: a number that can't rise, or bytes that are no image, which an honest store never gives
-abbrev pub IsRevertFault : Bool → Fault → Type 0
-IsRevertFault honest fault = IsWorn fault ⊎ IsDamage honest fault
 
 -- the machine that a session is, where a target for a save-as is left and where none is
 abbrev pub machine_of : {S : Type 0} → Bool → SessionState S → Machine

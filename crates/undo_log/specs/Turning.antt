@@ -8,7 +8,8 @@ use Rattle.geos_model.specs.declared.fault.Fault.TheVariants.{Memory}
 use Rattle.vm_blocks.specs.declared.change.Change.{Change}
 use Rattle.vm_blocks.specs.declared.change.Direction.{Direction}
 use Rattle.vm_blocks.specs.declared.change.Direction.TheVariants.{Forwards, Backwards}
-use Rattle.undo_log.specs.Records.{after, steps}
+use Rattle.vm_blocks.specs.Changes.{after}
+use Rattle.undo_log.specs.Records.{steps}
 
 -- the newest change of a list is carried out, and is the newest of the other
 pub record Moves (direction : Direction) (old new : Document) (from to from' to' : List Change) : Type 0 where

@@ -13,26 +13,23 @@ ghost use Rattle.vm_file.specs.Calls.{IsSupply, IsCommitRefusal, IsOpenRefusal, 
 ghost use Rattle.vm_file.specs.Disk.{Disk, Commits, ContentStands, Drifts, IsSettled, Numbered, Passes};
 ghost use Rattle.vm_file.specs.Documents.{sequence_in};
 ghost use Rattle.vm_file.specs.Effects.{IsNewFile, Follows, IsCommit, Fails, IsWorn, IsDamage};
-ghost use Rattle.vm_file.specs.Making.{first_file};
 ghost use Rattle.vm_blocks.specs.Blocks.{is_resident};
-ghost use Rattle.vm_blocks.specs.InFile.{IsInFile};
 ghost use Rattle.vm_blocks.specs.declared.change.Direction.TheVariants.{Backwards, Forwards};
 ghost use Rattle.doc_edits.specs.LookUps.{Stays};
-ghost use Rattle.undo_log.specs.Records.{file_of, machine_of, has_failed, IsRevertFault, total_cost, total_weight, Records};
+ghost use Rattle.vm_blocks.specs.Committing.{IsRevertFault, IsSavedAs, IsNotSavedAs};
+ghost use Rattle.vm_blocks.specs.Opening.{IsOpenedFrom, IsNotOpened, IsMadeIn, IsNotMade};
+ghost use Rattle.undo_log.specs.Records.{file_of, machine_of, has_failed, total_cost, total_weight, Records};
 ghost use Rattle.undo_log.specs.Turning.{Moves};
 ghost use Rattle.undo_log.specs.contracts.session.Session.{the_row};
 
-use crate::committing::{revert, save, update};
-use crate::opening::{clean_marks, nothing};
-use crate::saving_as::save_as;
 use crate::turn::{take, turn};
 use crate::weighing::total_weight;
 use doc_edits::{look_ups, plan};
 use geos_model::{Bytes, ChunkHandle, Done, Edit, Fault, Info, Token, VmHandle};
 use std::alloc::Global;
 use std::marker::Model;
-use vm_blocks::{Blocks, Change, Direction, Version, load};
-use vm_file::{Refused, VmFile};
+use vm_blocks::{Change, Direction, FileBlocks};
+use vm_file::Refused;
 use vm_store::Store;
 
 /// A document of a file that is edited, with what undo needs. Contracts see it as the disk and the document with its records, of
@@ -40,10 +37,7 @@ use vm_store::Store;
 #[derive(Drop)]
 pub struct Session<S: Store> {
     alloc: Global,
-    file: VmFile<S>,
-    blocks: Blocks,
-    /// For each block whether it isn't in the file as it is in memory.
-    changed: Vec<bool>,
+    blocks: FileBlocks<S>,
     /// The newest edit is the last. There is room for the changes of both lists.
     undo: Vec<Change>,
     /// The next edit to make again is the last. There is room for the changes of both lists.
@@ -61,133 +55,61 @@ impl<S: Store> Model for Session<S> {
     ghost coded = { session_code S.code };
 
     ghost use Rattle.std.specs.Prelude.{◌+◌, ◌≤◌, reverse, vec_len, vec_capacity};
-    ghost use Rattle.vm_blocks.specs.InFile.{IsInFile};
     ghost use Rattle.vm_blocks.specs.declared.change.Direction.TheVariants.{Backwards};
     ghost use Rattle.undo_log.specs.Records.{AreSteps};
 
-    ghost view = { λ s. record { disk = s.file.disk; document = s.blocks; undo = reverse s.undo.items; redo = reverse s.redo.items; frames = s.frames } };
+    ghost view = { λ s. record { disk = s.blocks.disk; document = s.blocks.document; undo = reverse s.undo.items; redo = reverse s.redo.items; frames = s.frames } };
 
     ghost invariant = { λ s. (vec_len s.undo + vec_len s.redo ≤ vec_capacity s.undo)
         × (vec_len s.undo + vec_len s.redo ≤ vec_capacity s.redo)
-        × AreSteps Backwards s.blocks (reverse s.undo.items) (reverse s.redo.items)
-        × IsInFile (S.facts s.file.disk.store).honest s.file.document s.blocks s.changed.items };
+        × AreSteps Backwards s.blocks.document (reverse s.undo.items) (reverse s.redo.items) };
 }
 
 impl<S: Store> Session<S> {
-    // A session of a file, with nothing to undo.
-    fn begin(
-        alloc: Global,
-        file: VmFile<S>,
-        blocks: Blocks,
-        changed: Vec<bool>,
-        frames: usize,
-    ) -> Session<S>
-        requires { IsInFile (S.facts file.disk.store).honest file.document blocks changed.items }
-        ensures { result ≡ record { disk = file.disk; document = blocks; undo = []; redo = []; frames = frames } }
+    // A session of blocks of a file, with nothing to undo.
+    fn begin(alloc: Global, blocks: FileBlocks<S>, frames: usize) -> Session<S>
+        ensures { result ≡ record { disk = blocks.disk; document = blocks.document; undo = []; redo = []; frames = frames } }
     {
         blocks.validity();
         Session {
             alloc,
-            file,
             blocks,
-            changed,
             undo: Vec::new(alloc),
             redo: Vec::new(alloc),
             frames,
         }
     }
 
-    // A session of a file that was opened. What is read and isn't an image, which an honest store never gives, is Damaged;
-    // Memory, File.
-    fn read(
-        alloc: Global,
-        file: VmFile<S>,
-        changed: Vec<bool>,
-        frames: usize,
-    ) -> Result<Session<S>, Refused<S>>
-        requires { length changed.items ≡ most_blocks }
-        ensures passes { IfOk result (λ session. Passes S.facts file.disk session.disk) }
-        ensures document { IfOk result (λ session. Drifts (S.facts file.disk.store).honest file.document session.document) }
-        ensures new { IfOk result (λ session. (session.undo ≡ []) × (session.redo ≡ []) × (session.frames ≡ frames)) }
-        // Nothing is written.
-        ensures rests { IsTrue (S.facts file.disk.store).honest → MatchResult result
-            (λ session. Rests (S.facts file.disk.store) (S.facts session.disk.store))
-            (λ refused. Rests (S.facts file.disk.store) (S.facts refused.store)) }
-        ensures store { IfErr result (λ refused. Follows S.facts file.disk.store refused.store) }
-        ensures file { IfErr result (λ refused. refused.fault ≡ Fault.File → Raised (S.facts file.disk.store) (S.facts refused.store)) }
-        ensures refusals { IfErr result (λ refused. IsSupply refused.fault ⊎ IsDamage (S.facts file.disk.store).honest refused.fault) }
-    {
-        let mut file = file;
-        match load(alloc, &mut file, Version::Present) {
-            Ok(blocks) => Ok(Session::begin(alloc, file, blocks, changed, frames)),
-            Err(fault) => Err(Refused {
-                fault,
-                store: file.close(),
-            }),
-        }
-    }
-
     /// Makes the store an empty document file, with nothing to undo, whatever was in it. Memory, before the store is called; File.
     pub fn create(alloc: Global, store: S, frames: usize) -> Result<Session<S>, Refused<S>>
         requires { (1 ≤ frames) × (frames ≤ 64) }
-        ensures store { MatchResult result
-            (λ session. Follows S.facts store session.disk.store)
-            (λ refused. Follows S.facts store refused.store) }
-        ensures made { IfOk result (λ session. (session.document ≡ empty_document) × IsNewFile S.facts empty_document session.disk) }
+        ensures made { MatchResult result
+            (λ session. IsMadeIn S.facts store (file_of session))
+            (λ refused. IsNotMade S.facts store refused.store refused.fault) }
         ensures new { IfOk result (λ session. (session.undo ≡ []) × (session.redo ≡ []) × (session.frames ≡ frames)) }
         ensures machine { IfOk result (λ session. (target : Bool) → machine_of target session ≡ empty_machine frames target) }
-        // the slots, and a directory of no block
-        ensures bytes { IfOk result (λ session. IsTrue (S.facts store).honest → (S.facts session.disk.store).content ≡ first_file) }
-        ensures size { IfOk result (λ session. IsTrue (S.facts store).honest → length (S.facts session.disk.store).content ≡ 1040) }
-        ensures early { IfErr result (λ refused. refused.fault ≢ Fault.File → refused.store ≡ store) }
-        ensures file { IfErr result (λ refused. refused.fault ≡ Fault.File → Raised (S.facts store) (S.facts refused.store)) }
-        ensures refusals { IfErr result (λ refused. IsSupply refused.fault) }
     {
-        let Ok((blocks, changed)) = nothing(alloc) else {
-            return Err(Refused {
-                fault: Fault::Memory,
-                store,
-            });
-        };
-        match VmFile::create(alloc, store) {
-            Ok(file) => Ok(Session::begin(alloc, file, blocks, changed, frames)),
+        match FileBlocks::create(alloc, store) {
+            Ok(blocks) => Ok(Session::begin(alloc, blocks, frames)),
             Err(refused) => Err(refused),
         }
     }
 
     /// Opens the file that a store has, with its updated document as it is now and nothing to undo. Where it is refused the store
-    /// comes back as it was: NotDocument or Damaged where it has no file; Memory, File. Where a crash left the store, what is read
+    /// comes back, and nothing was written to an honest one: NotDocument or Damaged where it has no file; Memory, File. Where a crash left the store, what is read
     /// is on the disk from then on.
     pub fn open(alloc: Global, store: S, frames: usize) -> Result<Session<S>, Refused<S>>
         requires { (1 ≤ frames) × (frames ≤ 64) }
-        ensures store { MatchResult result
-            (λ session. Follows S.facts store session.disk.store)
-            (λ refused. Follows S.facts store refused.store) }
-        // Nothing is written.
-        ensures rests { IsTrue (S.facts store).honest → MatchResult result
-            (λ session. Rests (S.facts store) (S.facts session.disk.store))
-            (λ refused. Rests (S.facts store) (S.facts refused.store)) }
-        ensures stands { IfOk result (λ session. IsTrue (S.facts store).honest → stands (S.facts store).content ≡ Ok (session.disk.updated, session.disk.saved)) }
-        ensures document { IfOk result (λ session. IsTrue (S.facts store).honest → (session.document ≡ session.disk.updated) × (session.disk.attempted ≡ [])) }
+        ensures opened { MatchResult result
+            (λ session. IsOpenedFrom S.facts store (file_of session))
+            (λ refused. IsNotOpened S.facts store refused.store refused.fault) }
         ensures new { IfOk result (λ session. (session.undo ≡ []) × (session.redo ≡ []) × (session.frames ≡ frames)) }
-        ensures numbered { IfOk result (λ session. IsTrue (S.facts store).honest → sequence_in (S.facts store).content ≡ Some session.disk.sequence) }
-        ensures numbered_now { IfOk result (λ session. IsTrue (S.facts store).honest → Numbered (S.facts session.disk.store) session.disk.sequence) }
-        ensures settled { IfOk result (λ session. IsSettled S.facts session.disk) }
         ensures machine { IfOk result (λ session. IsTrue (S.facts store).honest → (updated saved : Document) (sequence : ℕ) (target : Bool)
             → stands (S.facts store).content ≡ Ok (updated, saved) → sequence_in (S.facts store).content ≡ Some sequence
             → machine_of target session ≡ opened_machine updated saved sequence frames target) }
-        ensures refused { IfErr result (λ refused. IsTrue (S.facts store).honest → IsSupply refused.fault ⊎ (stands (S.facts store).content ≡ Err refused.fault)) }
-        ensures file { IfErr result (λ refused. refused.fault ≡ Fault.File → Raised (S.facts store) (S.facts refused.store)) }
-        ensures refusals { IfErr result (λ refused. IsOpenRefusal refused.fault) }
     {
-        let Ok(changed) = clean_marks(alloc) else {
-            return Err(Refused {
-                fault: Fault::Memory,
-                store,
-            });
-        };
-        match VmFile::open(alloc, store) {
-            Ok(file) => Session::read(alloc, file, changed, frames),
+        match FileBlocks::open(alloc, store) {
+            Ok(blocks) => Ok(Session::begin(alloc, blocks, frames)),
             Err(refused) => Err(refused),
         }
     }
@@ -196,7 +118,7 @@ impl<S: Store> Session<S> {
     pub fn close(self) -> S
         ensures { result ≡ self.disk.store }
     {
-        self.file.close()
+        self.blocks.close()
     }
 
     /// Makes the document as it is now the updated one. Worn where the sequence number can't rise, before anything is written;
@@ -208,7 +130,7 @@ impl<S: Store> Session<S> {
         ensures fails { Fails S.facts IsWorn self.old.disk.store self.new.disk.store result }
         ensures lists { (self.new.undo ≡ self.old.undo) × (self.new.redo ≡ self.old.redo) × (self.new.frames ≡ self.old.frames) }
     {
-        update(self.alloc, &mut self.file, &self.blocks, &mut self.changed)
+        self.blocks.update()
     }
 
     /// Makes the document as it is now the updated and the saved one. Refused as an update is.
@@ -219,11 +141,11 @@ impl<S: Store> Session<S> {
         ensures fails { Fails S.facts IsWorn self.old.disk.store self.new.disk.store result }
         ensures lists { (self.new.undo ≡ self.old.undo) × (self.new.redo ≡ self.old.redo) × (self.new.frames ≡ self.old.frames) }
     {
-        save(self.alloc, &mut self.file, &self.blocks, &mut self.changed)
+        self.blocks.save()
     }
 
-    /// Makes the saved document the updated one and the document as it is now, with nothing to undo. Where it is refused nothing
-    /// changes. Refused as an update is; over a store that isn't honest what is read may be no image, which is Damaged.
+    /// Makes the saved document the updated one and the document as it is now, with nothing to undo. Where it is refused the
+    /// document, over an honest store, and both lists stay. Refused as an update is; over a store that isn't honest what is read may be no image, which is Damaged.
     pub fn revert(&mut self) -> Result<(), Fault>
         ensures step { IsTrue (S.facts self.old.disk.store).honest → (target : Bool)
             → Step (has_failed (S.facts self.old.disk.store) (S.facts self.new.disk.store)) (machine_of target self.old) (Some commands.Revert) (reply_by (λ _. Accepted) result) (machine_of target self.new) }
@@ -231,12 +153,7 @@ impl<S: Store> Session<S> {
         ensures fails { Fails S.facts (IsRevertFault (S.facts self.old.disk.store).honest) self.old.disk.store self.new.disk.store result }
         ensures lists { MatchResult result (λ _. (self.new.undo ≡ []) × (self.new.redo ≡ [])) (λ _. (self.new.undo ≡ self.old.undo) × (self.new.redo ≡ self.old.redo)) × (self.new.frames ≡ self.old.frames) }
     {
-        revert(
-            self.alloc,
-            &mut self.file,
-            &mut self.blocks,
-            &mut self.changed,
-        )?;
+        self.blocks.revert()?;
         self.blocks.validity();
         self.undo.clear();
         self.redo.clear();
@@ -255,38 +172,15 @@ impl<S: Store> Session<S> {
         ensures err { IfErr result (λ refused. IsTrue (S.facts self.old.disk.store).honest
             → Step (has_failed (S.facts self.old.disk.store) (S.facts self.new.disk.store) || has_failed (S.facts target) (S.facts refused.store))
             (machine_of true self.old) (Some commands.SaveAs) (RefusedWith refused.fault) (machine_of true self.new)) }
-        // of the file so far: a commit of its saved document, with which its store comes back
-        ensures commits { MatchResult result
-            (λ store. (disk : Disk S) × (disk.store ≡ store) × Commits S.facts (self.old.disk.saved, self.old.disk.saved) self.old.disk disk (Ok tt))
-            (λ refused. Commits S.facts (self.old.disk.saved, self.old.disk.saved) self.old.disk self.new.disk (Err refused.fault)) }
-        // of the target: a new file
-        ensures made { IfOk result (λ _. IsTrue (S.facts self.old.disk.store).honest → IsTrue (S.facts target).honest
-            → (self.new.disk.updated ≡ self.old.document) × (self.new.disk.saved ≡ self.old.document)) }
-        ensures new_file { IfOk result (λ _. IsNewFile S.facts self.new.disk.updated self.new.disk) }
+        ensures saved_as { MatchResult result
+            (λ store. IsSavedAs S.facts target store (file_of self.old) (file_of self.new))
+            (λ refused. IsNotSavedAs S.facts target refused.store (file_of self.old) (file_of self.new) refused.fault) }
         // of the store that comes back
         ensures reverted { IfOk result (λ store. IsTrue (S.facts self.old.disk.store).honest → stands (S.facts store).content ≡ Ok (self.old.disk.saved, self.old.disk.saved)) }
-        ensures target { MatchResult result
-            (λ _. Follows S.facts target self.new.disk.store)
-            (λ refused. Follows S.facts target refused.store) }
-        ensures drifts { Drifts ((S.facts self.old.disk.store).honest && (S.facts target).honest) self.old.document self.new.document }
-        ensures stays { IfErr result (λ _. Drifts (S.facts self.old.disk.store).honest self.old.document self.new.document) }
         ensures lists { (self.new.undo ≡ self.old.undo) × (self.new.redo ≡ self.old.redo) × (self.new.frames ≡ self.old.frames) }
         ensures worn { IsErrAnd result (λ refused. refused.fault ≡ Fault.Worn) ↔ self.old.disk.sequence ≡ last_sequence }
-        ensures early { IfErr result (λ refused. refused.fault ≡ Fault.Worn → (self.new ≡ self.old) × (refused.store ≡ target)) }
-        ensures passes { IfErr result (λ refused. (refused.fault ≡ Fault.File → Raised (S.facts self.old.disk.store) (S.facts self.new.disk.store) → ⊥)
-            → Passes S.facts self.old.disk self.new.disk) }
-        ensures damaged { IfErr result (λ refused. refused.fault ≡ Fault.Damaged → IsTrue (S.facts self.old.disk.store).honest → ⊥) }
-        ensures file { IfErr result (λ refused. refused.fault ≡ Fault.File
-            → Raised (S.facts self.old.disk.store) (S.facts self.new.disk.store) ⊎ Raised (S.facts target) (S.facts refused.store)) }
-        ensures refusals { IfErr result (λ refused. IsCommitRefusal refused.fault ⊎ (refused.fault ≡ Fault.Damaged)) }
     {
-        save_as(
-            self.alloc,
-            &mut self.file,
-            &self.blocks,
-            &mut self.changed,
-            target,
-        )
+        self.blocks.save_as(target)
     }
 
     /// Makes an edit, which can be undone from then on.
@@ -299,12 +193,7 @@ impl<S: Store> Session<S> {
         self.undo.reserve(self.redo.len() + 1)?;
         self.redo.reserve(self.undo.len() + 1)?;
         let (change, done) = plan(self.alloc, &mut self.blocks, edit)?;
-        take(
-            &mut self.blocks,
-            &mut self.changed,
-            &change,
-            Direction::Forwards,
-        )?;
+        take(&mut self.blocks, &change, Direction::Forwards)?;
         self.redo.clear();
         self.undo.push_reserved(change);
         Ok(done)
@@ -319,7 +208,6 @@ impl<S: Store> Session<S> {
     {
         if turn(
             &mut self.blocks,
-            &mut self.changed,
             &mut self.undo,
             &mut self.redo,
             Direction::Backwards,
@@ -339,7 +227,6 @@ impl<S: Store> Session<S> {
     {
         if turn(
             &mut self.blocks,
-            &mut self.changed,
             &mut self.redo,
             &mut self.undo,
             Direction::Forwards,
@@ -375,7 +262,7 @@ impl<S: Store> Session<S> {
         ensures future { (target : Bool) → All (λ s. IsValid s.document) (machine_of target self.now).future }
         ensures machine { IsTrue (S.facts self.now.disk.store).honest → (target : Bool) → IsValidMachine (machine_of target self.now) }
     {
-        self.file.validity();
+        self.blocks.validity();
     }
 
     /// How many content bytes the records of undo and redo hold, 2^64 - 1 where these are more.

@@ -1,59 +1,52 @@
 ghost use Rattle.std.specs.Prelude.{◌≡◌, ◌+◌, ◌≤◌, true, IfOk, IfErr, OnErr, length, reverse, vec_len, vec_capacity};
-ghost use Rattle.geos_model.specs.Document.{most_blocks};
-ghost use Rattle.vm_blocks.specs.Changes.{turned, Applies};
+ghost use Rattle.vm_blocks.specs.Changes.{after, turned, Applies};
+ghost use Rattle.vm_blocks.specs.Committing.{held};
 ghost use Rattle.doc_edits.specs.Planning.{kind_of_change};
-ghost use Rattle.undo_log.specs.Records.{after, CanTake};
-ghost use Rattle.undo_log.specs.Marking.{Tells};
+ghost use Rattle.undo_log.specs.Records.{CanTake};
 ghost use Rattle.undo_log.specs.Turning.{takes, Turns, WantsMemory};
 
-use crate::marking::mark;
 use geos_model::Fault;
-use vm_blocks::{Blocks, Change, Direction};
+use vm_blocks::{Change, Direction, FileBlocks};
+use vm_store::Store;
 
-/// Carries a change out in a direction, and marks what it touches. Memory where the blocks that come in find none, and nothing
+/// Carries a change out in a direction. Memory where the blocks that come in find none, and nothing
 /// changes.
-pub fn take(
-    blocks: &mut Blocks,
-    changed: &mut Vec<bool>,
+pub fn take<S: Store>(
+    blocks: &mut FileBlocks<S>,
     change: &Change,
     direction: Direction,
 ) -> Result<(), Fault>
-    requires applies { Applies (turned direction change.now) blocks.old }
-    requires marks { length changed.old.items ≡ most_blocks }
-    ensures ok { IfOk result (λ _. blocks.new ≡ after direction change.now blocks.old) }
+    requires applies { Applies (turned direction change.now) blocks.old.document }
+    ensures ok { IfOk result (λ _. blocks.new ≡ held blocks.old (after direction change.now blocks.old.document)) }
     ensures err { IfErr result (λ fault. (fault ≡ Fault.Memory) × (takes direction (kind_of_change change.now) ≡ true)) }
     ensures stays { OnErr result (blocks.new ≡ blocks.old) }
-    ensures tells { Tells blocks.old blocks.new changed.old.items changed.new.items }
 {
     let prepared = blocks.prepare(change, direction)?;
     blocks.carry_out(change, direction, prepared);
-    mark(changed, change);
     Ok(())
 }
 
 /// Carries the newest change of one list out in a direction, and puts it on the other; false where there is none.
-pub fn turn(
-    blocks: &mut Blocks,
-    changed: &mut Vec<bool>,
+pub fn turn<S: Store>(
+    blocks: &mut FileBlocks<S>,
     from: &mut Vec<Change>,
     to: &mut Vec<Change>,
     direction: Direction,
 ) -> Result<bool, Fault>
     requires from_room { vec_len from.old ≤ vec_capacity from.old }
     requires to_room { vec_len from.old + vec_len to.old ≤ vec_capacity to.old }
-    requires steps { CanTake direction (reverse from.old.items) blocks.old }
-    requires marks { length changed.old.items ≡ most_blocks }
-    ensures ok { IfOk result (λ turned. Turns turned direction blocks.old blocks.new (reverse from.old.items) (reverse to.old.items) (reverse from.new.items) (reverse to.new.items)) }
-    ensures err { IfErr result (λ fault. WantsMemory direction blocks.old (reverse from.old.items) fault) }
+    requires steps { CanTake direction (reverse from.old.items) blocks.old.document }
+    ensures ok { IfOk result (λ turned. Turns turned direction blocks.old.document blocks.new.document (reverse from.old.items) (reverse to.old.items) (reverse from.new.items) (reverse to.new.items)) }
+    ensures err { IfErr result (λ fault. WantsMemory direction blocks.old.document (reverse from.old.items) fault) }
     ensures stays { OnErr result ((blocks.new ≡ blocks.old) × (from.new.items ≡ from.old.items) × (to.new.items ≡ to.old.items)) }
-    ensures tells { Tells blocks.old blocks.new changed.old.items changed.new.items }
+    ensures disk { blocks.new.disk ≡ blocks.old.disk }
     ensures count { vec_len from.new + vec_len to.new ≡ vec_len from.old + vec_len to.old }
     ensures from_capacity { vec_capacity from.new ≡ vec_capacity from.old }
     ensures to_capacity { vec_capacity to.new ≡ vec_capacity to.old }
 {
     match from.pop() {
         None => Ok(false),
-        Some(change) => match take(blocks, changed, &change, direction) {
+        Some(change) => match take(blocks, &change, direction) {
             Ok(()) => {
                 to.push_reserved(change);
                 Ok(true)

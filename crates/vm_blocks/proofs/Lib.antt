@@ -10,3 +10,8 @@ pub mod FileImages
 pub mod Loaded
 pub mod Flushed
 pub mod Held
+pub mod Commits
+pub mod Marked
+pub mod Documents
+pub mod SavedAs
+pub mod Opened

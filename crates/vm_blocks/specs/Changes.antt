@@ -69,6 +69,10 @@ abbrev pub turned : Direction → Change → Change
 turned Forwards change = change
 turned Backwards change = flipped change
 
+-- the document after a change is carried out in a direction
+abbrev pub after : Direction → Change → Document → Document
+after direction c d = made (turned direction c) d
+
 -- In which documents a change can be made.
 
 -- a handle that a block can have, and none has

@@ -7,3 +7,6 @@ pub mod Parts
 pub mod Saved
 pub mod InFile
 pub mod Reading
+pub mod Marking
+pub mod Committing
+pub mod Opening

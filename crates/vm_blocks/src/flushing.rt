@@ -137,7 +137,7 @@ fn put_changed<S: Store>(
 
 /// Makes the document of the file the one that is in memory: what is changed is put into it. Where that is refused, some of it
 /// may be in the file, and the rest is still changed. Memory, File.
-pub fn flush<S: Store>(
+pub(crate) fn flush<S: Store>(
     alloc: Global,
     file: &mut VmFile<S>,
     blocks: &Blocks,

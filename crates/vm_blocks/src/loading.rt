@@ -9,7 +9,8 @@ ghost use Rattle.vm_blocks.specs.Reading.{ReadsVersion};
 
 use crate::blocks::MOST_BLOCKS;
 use crate::images::read_image;
-use crate::{Block, Blocks, Version};
+use crate::version::Version;
+use crate::{Block, Blocks};
 use geos_model::{Fault, VmHandle};
 use std::alloc::Global;
 use vm_file::VmFile;
@@ -99,7 +100,7 @@ fn take_blocks<S: Store>(
 
 /// A document of a file, all of it in memory; nothing is written. Damaged where what is read is no image, which an honest store
 /// never gives; Memory, File.
-pub fn load<S: Store>(
+pub(crate) fn load<S: Store>(
     alloc: Global,
     file: &mut VmFile<S>,
     version: Version,

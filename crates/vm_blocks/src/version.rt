@@ -1,6 +1,6 @@
 /// Which document of a file.
 #[derive(Clone, Copy, Debug, PartialEq, Eq)]
-pub enum Version {
+pub(crate) enum Version {
     /// As it is now.
     Present,
     /// As it was saved.

@@ -15,17 +15,18 @@ use crate::reading::relinked_at;
 use crate::walking::{test_root, walk_from};
 use geos_model::{Fault, VmHandle};
 use std::alloc::{AllocError, Global};
-use vm_blocks::Blocks;
+use vm_blocks::FileBlocks;
+use vm_store::Store;
 
 /// Whether two chains are equal, each link compared by the place of its block in its chain, and user IDs not at all.
-pub fn equal(
+pub fn equal<S: Store>(
     alloc: Global,
-    blocks: &mut Blocks,
+    blocks: &mut FileBlocks<S>,
     first: VmHandle,
     second: VmHandle,
 ) -> Result<bool, Fault>
-    ensures value { Answers (on_chains blocks.old first.0 second.0)
-        (λ same. same ≡ same_shape blocks.old (chain_blocks blocks.old first.0) (chain_blocks blocks.old second.0)) result }
+    ensures value { Answers (on_chains blocks.old.document first.0 second.0)
+        (λ same. same ≡ same_shape blocks.old.document (chain_blocks blocks.old.document first.0) (chain_blocks blocks.old.document second.0)) result }
     ensures stays { blocks.new ≡ blocks.old }
 {
     test_roots(blocks, first, second)?;
@@ -35,10 +36,14 @@ pub fn equal(
 }
 
 /// NoBlock where one of the two isn't live, and then WrongKind where one is a heap.
-fn test_roots(blocks: &mut Blocks, first: VmHandle, second: VmHandle) -> Result<(), Fault>
+fn test_roots<S: Store>(
+    blocks: &mut FileBlocks<S>,
+    first: VmHandle,
+    second: VmHandle,
+) -> Result<(), Fault>
     ensures value { MatchResult result
-        (λ _. (is_raw blocks.old first.0 ≡ true) × (is_raw blocks.old second.0 ≡ true))
-        (λ fault. first_refusal (on_chains blocks.old first.0 second.0) ≡ Some fault) }
+        (λ _. (is_raw blocks.old.document first.0 ≡ true) × (is_raw blocks.old.document second.0 ≡ true))
+        (λ fault. first_refusal (on_chains blocks.old.document first.0 second.0) ≡ Some fault) }
     ensures stays { blocks.new ≡ blocks.old }
 {
     if !blocks.is_live(first) || !blocks.is_live(second) {
@@ -49,15 +54,15 @@ fn test_roots(blocks: &mut Blocks, first: VmHandle, second: VmHandle) -> Result<
 }
 
 /// Whether these bodies are the same, one by one, with places for links.
-fn same_shape(
+fn same_shape<S: Store>(
     alloc: Global,
-    blocks: &mut Blocks,
+    blocks: &mut FileBlocks<S>,
     first: &[VmHandle],
     second: &[VmHandle],
 ) -> Result<bool, Fault>
-    requires first { AreMembers blocks.old first.now }
-    requires second { AreMembers blocks.old second.now }
-    ensures value { MatchResult result (λ same. same ≡ same_shape blocks.old (numbers first.now) (numbers second.now)) (λ fault. fault ≡ Memory) }
+    requires first { AreMembers blocks.old.document first.now }
+    requires second { AreMembers blocks.old.document second.now }
+    ensures value { MatchResult result (λ same. same ≡ same_shape blocks.old.document (numbers first.now) (numbers second.now)) (λ fault. fault ≡ Memory) }
     ensures stays { blocks.new ≡ blocks.old }
 {
     if first.len() != second.len() {

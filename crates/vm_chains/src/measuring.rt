@@ -9,11 +9,16 @@ use crate::reading::len_at;
 use crate::walk;
 use geos_model::{Fault, VmHandle};
 use std::alloc::Global;
-use vm_blocks::Blocks;
+use vm_blocks::FileBlocks;
+use vm_store::Store;
 
 /// How many bytes the blocks of a chain have.
-pub fn size(alloc: Global, blocks: &mut Blocks, root: VmHandle) -> Result<u32, Fault>
-    ensures value { Answers (on_chain blocks.old root.0) (λ n. n ≡ bytes_in blocks.old (chain_blocks blocks.old root.0)) result }
+pub fn size<S: Store>(
+    alloc: Global,
+    blocks: &mut FileBlocks<S>,
+    root: VmHandle,
+) -> Result<u32, Fault>
+    ensures value { Answers (on_chain blocks.old.document root.0) (λ n. n ≡ bytes_in blocks.old.document (chain_blocks blocks.old.document root.0)) result }
     ensures stays { blocks.new ≡ blocks.old }
 {
     let handles = walk(alloc, blocks, root)?;
@@ -21,9 +26,9 @@ pub fn size(alloc: Global, blocks: &mut Blocks, root: VmHandle) -> Result<u32, F
 }
 
 /// How many bytes these blocks have.
-fn total_len(blocks: &mut Blocks, handles: &[VmHandle]) -> Result<u32, Fault>
-    requires { AreMembers blocks.old handles.now }
-    ensures value { MatchResult result (λ n. n ≡ bytes_in blocks.old (numbers handles.now)) (λ fault. fault ≡ Memory) }
+fn total_len<S: Store>(blocks: &mut FileBlocks<S>, handles: &[VmHandle]) -> Result<u32, Fault>
+    requires { AreMembers blocks.old.document handles.now }
+    ensures value { MatchResult result (λ n. n ≡ bytes_in blocks.old.document (numbers handles.now)) (λ fault. fault ≡ Memory) }
     ensures stays { blocks.new ≡ blocks.old }
 {
     let mut total = 0;

@@ -14,12 +14,17 @@ use crate::reading::{relinked_at, saved_at};
 use crate::walk;
 use geos_model::{Fault, VmHandle};
 use std::alloc::{AllocError, Global};
-use vm_blocks::{Blocks, MOST_BLOCKS, Member, Members, SavedBlock};
+use vm_blocks::{FileBlocks, MOST_BLOCKS, Member, Members, SavedBlock};
+use vm_store::Store;
 
 /// The blocks of a copy of a chain, under handles that are free. They link to one another as those of the chain do.
-pub fn copy_plan(alloc: Global, blocks: &mut Blocks, root: VmHandle) -> Result<Members, Fault>
-    ensures value { Answers (copy_conditions blocks.old root.0) (λ plan. saved_blocks plan.list.items ≡ copies_of blocks.old (chain_blocks blocks.old root.0)) result }
-    ensures applies { IfOk result (λ plan. Applies (changes.BlocksIn plan) blocks.old) }
+pub fn copy_plan<S: Store>(
+    alloc: Global,
+    blocks: &mut FileBlocks<S>,
+    root: VmHandle,
+) -> Result<Members, Fault>
+    ensures value { Answers (copy_conditions blocks.old.document root.0) (λ plan. saved_blocks plan.list.items ≡ copies_of blocks.old.document (chain_blocks blocks.old.document root.0)) result }
+    ensures applies { IfOk result (λ plan. Applies (changes.BlocksIn plan) blocks.old.document) }
     ensures stays { blocks.new ≡ blocks.old }
 {
     let handles = walk(alloc, blocks, root)?;
@@ -31,9 +36,13 @@ pub fn copy_plan(alloc: Global, blocks: &mut Blocks, root: VmHandle) -> Result<M
 }
 
 /// The blocks of a chain as they are, none of them the map block.
-pub fn free_plan(alloc: Global, blocks: &mut Blocks, root: VmHandle) -> Result<Members, Fault>
-    ensures value { Answers (free_conditions blocks.old root.0) (λ plan. saved_blocks plan.list.items ≡ blocks_of blocks.old (chain_blocks blocks.old root.0)) result }
-    ensures applies { IfOk result (λ plan. Applies (changes.BlocksOut plan) blocks.old) }
+pub fn free_plan<S: Store>(
+    alloc: Global,
+    blocks: &mut FileBlocks<S>,
+    root: VmHandle,
+) -> Result<Members, Fault>
+    ensures value { Answers (free_conditions blocks.old.document root.0) (λ plan. saved_blocks plan.list.items ≡ blocks_of blocks.old.document (chain_blocks blocks.old.document root.0)) result }
+    ensures applies { IfOk result (λ plan. Applies (changes.BlocksOut plan) blocks.old.document) }
     ensures stays { blocks.new ≡ blocks.old }
 {
     let handles = walk(alloc, blocks, root)?;
@@ -51,9 +60,13 @@ fn contains(handles: &[VmHandle], wanted: VmHandle) -> bool
 }
 
 /// Each of these blocks as it is.
-fn saved(alloc: Global, blocks: &mut Blocks, handles: &[VmHandle]) -> Result<Members, Fault>
-    requires { AreMembers blocks.old handles.now }
-    ensures value { MatchResult result (λ plan. saved_blocks plan.list.items ≡ blocks_of blocks.old (numbers handles.now)) (λ fault. fault ≡ Memory) }
+fn saved<S: Store>(
+    alloc: Global,
+    blocks: &mut FileBlocks<S>,
+    handles: &[VmHandle],
+) -> Result<Members, Fault>
+    requires { AreMembers blocks.old.document handles.now }
+    ensures value { MatchResult result (λ plan. saved_blocks plan.list.items ≡ blocks_of blocks.old.document (numbers handles.now)) (λ fault. fault ≡ Memory) }
     ensures stays { blocks.new ≡ blocks.old }
 {
     let mut plan = Vec::new(alloc);
@@ -68,8 +81,12 @@ fn saved(alloc: Global, blocks: &mut Blocks, handles: &[VmHandle]) -> Result<Mem
 }
 
 /// The least free handles, rising, as many as these if there are so many.
-fn free_handles(alloc: Global, blocks: &Blocks, wanted: usize) -> Result<Vec<VmHandle>, AllocError>
-    ensures { IfOk result (λ handles. numbers handles.items ≡ new_handles blocks.now wanted) }
+fn free_handles<S: Store>(
+    alloc: Global,
+    blocks: &FileBlocks<S>,
+    wanted: usize,
+) -> Result<Vec<VmHandle>, AllocError>
+    ensures { IfOk result (λ handles. numbers handles.items ≡ new_handles blocks.now.document wanted) }
 {
     let mut handles = Vec::new(alloc);
     for i in 0..MOST_BLOCKS {
@@ -85,16 +102,16 @@ fn free_handles(alloc: Global, blocks: &Blocks, wanted: usize) -> Result<Vec<VmH
 }
 
 /// Each block under the handle at its place, with the handles for links that stand at the places of theirs.
-fn copies(
+fn copies<S: Store>(
     alloc: Global,
-    blocks: &mut Blocks,
+    blocks: &mut FileBlocks<S>,
     handles: &[VmHandle],
     new: &[VmHandle],
 ) -> Result<Members, Fault>
-    requires members { AreMembers blocks.old handles.now }
+    requires members { AreMembers blocks.old.document handles.now }
     requires new { length handles.now ≡ length new.now }
     ensures value { MatchResult result
-        (λ plan. saved_blocks plan.list.items ≡ renamed_blocks blocks.old (numbers handles.now) (numbers new.now)) (λ fault. fault ≡ Memory) }
+        (λ plan. saved_blocks plan.list.items ≡ renamed_blocks blocks.old.document (numbers handles.now) (numbers new.now)) (λ fault. fault ≡ Memory) }
     ensures stays { blocks.new ≡ blocks.old }
 {
     let names = Names::new(alloc, handles, new)?;

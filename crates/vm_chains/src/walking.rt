@@ -10,12 +10,17 @@ use crate::met::Met;
 use crate::pending::Pending;
 use geos_model::{Fault, VmHandle};
 use std::alloc::Global;
-use vm_blocks::{BlockBody, Blocks, MOST_BLOCKS};
+use vm_blocks::{BlockBody, FileBlocks, MOST_BLOCKS};
+use vm_store::Store;
 
 /// The blocks of a chain: each before those that it links to, branches in order.
-pub fn walk(alloc: Global, blocks: &mut Blocks, root: VmHandle) -> Result<Vec<VmHandle>, Fault>
-    ensures value { Answers (on_chain blocks.old root.0) (λ handles. chain blocks.old root.0 ≡ Some (numbers handles.items)) result }
-    ensures members { IfOk result (λ handles. AreMembers blocks.old handles.items) }
+pub fn walk<S: Store>(
+    alloc: Global,
+    blocks: &mut FileBlocks<S>,
+    root: VmHandle,
+) -> Result<Vec<VmHandle>, Fault>
+    ensures value { Answers (on_chain blocks.old.document root.0) (λ handles. chain blocks.old.document root.0 ≡ Some (numbers handles.items)) result }
+    ensures members { IfOk result (λ handles. AreMembers blocks.old.document handles.items) }
     ensures stays { blocks.new ≡ blocks.old }
 {
     test_root(blocks, root)?;
@@ -23,8 +28,8 @@ pub fn walk(alloc: Global, blocks: &mut Blocks, root: VmHandle) -> Result<Vec<Vm
 }
 
 /// NoBlock where no block is there, WrongKind where a heap is.
-pub(crate) fn test_root(blocks: &mut Blocks, root: VmHandle) -> Result<(), Fault>
-    ensures value { MatchResult result (λ _. is_raw blocks.old root.0 ≡ true) (RefusesRoot blocks.old root.0) }
+pub(crate) fn test_root<S: Store>(blocks: &mut FileBlocks<S>, root: VmHandle) -> Result<(), Fault>
+    ensures value { MatchResult result (λ _. is_raw blocks.old.document root.0 ≡ true) (RefusesRoot blocks.old.document root.0) }
     ensures stays { blocks.new ≡ blocks.old }
 {
     blocks.load(root)?;
@@ -35,15 +40,15 @@ pub(crate) fn test_root(blocks: &mut Blocks, root: VmHandle) -> Result<(), Fault
 }
 
 /// The blocks of the chain of a raw block.
-pub(crate) fn walk_from(
+pub(crate) fn walk_from<S: Store>(
     alloc: Global,
-    blocks: &mut Blocks,
+    blocks: &mut FileBlocks<S>,
     root: VmHandle,
 ) -> Result<Vec<VmHandle>, Fault>
     ensures value { MatchResult result
-        (λ handles. chain blocks.old root.0 ≡ Some (numbers handles.items))
-        (Stops (chain blocks.old root.0 ≡ None)) }
-    ensures members { IfOk result (λ handles. AreMembers blocks.old handles.items) }
+        (λ handles. chain blocks.old.document root.0 ≡ Some (numbers handles.items))
+        (Stops (chain blocks.old.document root.0 ≡ None)) }
+    ensures members { IfOk result (λ handles. AreMembers blocks.old.document handles.items) }
     ensures stays { blocks.new ≡ blocks.old }
 {
     blocks.validity();
@@ -68,10 +73,14 @@ pub(crate) fn walk_from(
 }
 
 /// Puts what a block links to before all that is pending. BadChain where the block is none of a chain.
-fn follow(blocks: &mut Blocks, handle: VmHandle, pending: &mut Pending) -> Result<(), Fault>
+fn follow<S: Store>(
+    blocks: &mut FileBlocks<S>,
+    handle: VmHandle,
+    pending: &mut Pending,
+) -> Result<(), Fault>
     ensures value { MatchResult result
-        (λ _. GoesOn blocks.old handle.0 pending.old pending.new)
-        (Stops (is_member blocks.old handle.0 ≡ false)) }
+        (λ _. GoesOn blocks.old.document handle.0 pending.old pending.new)
+        (Stops (is_member blocks.old.document handle.0 ≡ false)) }
     ensures stays { blocks.new ≡ blocks.old }
 {
     if !blocks.is_live(handle) {

@@ -5,15 +5,15 @@ use Rattle.doc_edits.proofs.ChainPlans.{some_copies, first_copy, copy_planned}
 use Rattle.doc_edits.proofs.chain_plans.plan_copy_chain.Goals as goal
 
 pub index-requires : goal.index-requires
-index-requires c =
+index-requires g c =
     let copies = c.in_ok-copies.copies in
     let planned = c.in_ok-copies.ensures.value in
-    let some = some_copies c.args.blocks.now c.args.root copies planned.0 planned.1 in
+    let some = some_copies c.args.blocks.now.document c.args.root copies planned.0 planned.1 in
     omega (arith, some, copies.list.ok.0)
 
 pub returns-clause-planned : goal.returns-clause-planned
-returns-clause-planned c =
-    let d = c.args.blocks.now in
+returns-clause-planned g c =
+    let d = c.args.blocks.now.document in
     let copies = c.in_ok-copies.copies in
     let planned = c.in_ok-copies.ensures.value in
     let first : Member = c.index.result.now in

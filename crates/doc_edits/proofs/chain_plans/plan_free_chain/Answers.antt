@@ -2,6 +2,6 @@ use Rattle.doc_edits.proofs.ChainPlans.{free_planned}
 use Rattle.doc_edits.proofs.chain_plans.plan_free_chain.Goals as goal
 
 pub returns-clause-planned : goal.returns-clause-planned
-returns-clause-planned c =
+returns-clause-planned g c =
     let planned = c.in_ok-chain.ensures.value in
-    free_planned c.args.blocks.now c.args.root c.in_ok-chain.chain planned.0 planned.1 c.in_ok-chain.ensures.applies
+    free_planned c.args.blocks.now.document c.args.root c.in_ok-chain.chain planned.0 planned.1 c.in_ok-chain.ensures.applies

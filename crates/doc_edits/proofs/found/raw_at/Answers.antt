@@ -6,7 +6,7 @@ use Rattle.doc_edits.proofs.Refusals.{no_raw}
 use Rattle.doc_edits.proofs.found.raw_at.Goals as goal
 
 pub returns-in-Heap : goal.returns-in-Heap
-returns-in-Heap c = λ rest late. no_raw c.args.blocks.now c.args.handle.0 _ rest (body_at c.args.blocks.now c.args.handle.0 _ (c.body.ensures ∙ ap (λ (b : BlockBody). Some (body_of b)) c.in-Heap.is)) refl late
+returns-in-Heap g c = λ rest late. no_raw c.args.blocks.now.document c.args.handle.0 _ rest (body_at c.args.blocks.now.document c.args.handle.0 _ (c.body.ensures ∙ ap (λ (b : BlockBody). Some (body_of b)) c.in-Heap.is)) refl late
 
 pub returns-in-Raw : goal.returns-in-Raw
-returns-in-Raw c = body_at c.args.blocks.now c.args.handle.0 _ (c.body.ensures ∙ ap (λ (b : BlockBody). Some (body_of b)) c.in-Raw.is)
+returns-in-Raw g c = body_at c.args.blocks.now.document c.args.handle.0 _ (c.body.ensures ∙ ap (λ (b : BlockBody). Some (body_of b)) c.in-Raw.is)

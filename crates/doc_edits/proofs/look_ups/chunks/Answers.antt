@@ -4,7 +4,8 @@ use Rattle.geos_model.specs.Refusal.{first_refusal}
 use Rattle.geos_model.specs.Reply.{look_up_conditions}
 use Rattle.geos_model.specs.declared.command.Command.TheVariants as commands
 use Rattle.doc_edits.proofs.LookUps.{look_up_refused, refused_as}
+use Rattle.vm_blocks.proofs.Documents.{same_document}
 use Rattle.doc_edits.proofs.look_ups.chunks.Goals as goal
 
 pub returns-in_err-heap-clause-value : goal.returns-in_err-heap-clause-value
-returns-in_err-heap-clause-value c = refused_as (commands.Chunks c.args.block) c.args.blocks.now _ c.from_residual-in_err-heap.result c.in_err-heap.field-0.0 c.from_residual-in_err-heap.ensures.1 (look_up_refused (commands.Chunks c.args.block) c.args.blocks.now c.in_err-heap.field-0.0 (ap (λ (d : Document). first_refusal (look_up_conditions (commands.Chunks c.args.block) d)) (sym c.load.ensures.same) ∙ c.in_err-heap.ensures [] refl))
+returns-in_err-heap-clause-value g c = refused_as (commands.Chunks c.args.block) c.args.blocks.now.document _ c.from_residual-in_err-heap.result c.in_err-heap.field-0.0 c.from_residual-in_err-heap.ensures.1 (look_up_refused (commands.Chunks c.args.block) c.args.blocks.now.document c.in_err-heap.field-0.0 (ap (λ (d : Document). first_refusal (look_up_conditions (commands.Chunks c.args.block) d)) (sym (same_document c.load.ensures.same)) ∙ c.in_err-heap.ensures [] refl))

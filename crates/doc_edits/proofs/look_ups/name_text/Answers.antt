@@ -4,7 +4,7 @@ use Rattle.doc_edits.proofs.LookUps.{refused_so}
 use Rattle.doc_edits.proofs.look_ups.name_text.Goals as goal
 
 pub returns-in_err-bytes : goal.returns-in_err-bytes
-returns-in_err-bytes c = (
+returns-in_err-bytes g c = (
   (refl, (λ _. tt), c.chunk_at.follows.holds-at-none),
-  record { value = refused_so (commands.NameText c.args.block c.args.chunk c.args.token) c.args.blocks.now c.args.block c.args.chunk _ c.from_residual.result c.in_err-bytes.field-0.0 c.in_err-bytes.ensures.value refl c.from_residual.ensures.1; stays = tt },
+  record { value = refused_so (commands.NameText c.args.block c.args.chunk c.args.token) c.args.blocks.now.document c.args.block c.args.chunk _ c.from_residual.result c.in_err-bytes.field-0.0 c.in_err-bytes.ensures.value refl c.from_residual.ensures.1; stays = tt },
 )

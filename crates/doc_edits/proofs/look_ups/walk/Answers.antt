@@ -7,6 +7,6 @@ use Rattle.doc_edits.proofs.LookUps.{chain_answered}
 use Rattle.doc_edits.proofs.look_ups.walk.Goals as goal
 
 pub returns-clause-value : goal.returns-clause-value
-returns-clause-value c =
-    chain_answered (commands.Walk c.args.root) c.args.blocks.now (λ handles. blocks_are handles.items) (λ handles. chain c.args.blocks.now c.args.root.0 ≡ Some (numbers handles.items)) c.walk.result
+returns-clause-value g c =
+    chain_answered (commands.Walk c.args.root) c.args.blocks.now.document (λ handles. blocks_are handles.items) (λ handles. chain c.args.blocks.now.document c.args.root.0 ≡ Some (numbers handles.items)) c.walk.result
     (λ handles is. ap (λ (o : Option (List ℕ)). Some (BlocksAre (unwrap_or o []))) is) c.walk.ensures.value

@@ -5,16 +5,16 @@ use Rattle.geos_shell.proofs.program.create.Goals as goal
 -- The session is that of a new file.
 pub returns-in-Ok-create-clause-ok : goal.returns-in-Ok-create-clause-ok
 returns-in-Ok-create-clause-ok g c =
-    let made = c.in-Ok-create.ensures in
+    let made = c.in-Ok-create.ensures in let file = made.made in
     let frames : c.in-Ok-create.session.frames ≡ c.args.options.cache = cc (made.new.2, c.from.ensures) in
     record {
       target_is = c.in-Ok.ensures.ok;
       session_is = rw c.requires.new (record {
-        honest = made.store.honest;
-        failures = made.store.failures;
-        machine = λ target. machine-empty c.in-Ok-create.session c.args.options.cache target made.made.0 made.made.1.updated made.made.1.saved made.made.1.sequence made.new.0 made.new.1 frames;
-        attempted = made.made.1.attempted;
-        numbered = λ so. made.made.1.numbered (subst IsTrue (sym made.store.honest) so);
-        settled = made.made.1.settled;
+        honest = file.follows.honest;
+        failures = file.follows.failures;
+        machine = λ target. machine-empty c.in-Ok-create.session c.args.options.cache target file.document file.new_file.updated file.new_file.saved file.new_file.sequence made.new.0 made.new.1 frames;
+        attempted = file.new_file.attempted;
+        numbered = λ so. file.new_file.numbered (subst IsTrue (sym file.follows.honest) so);
+        settled = file.new_file.settled;
       });
     }

@@ -6,7 +6,7 @@ use Rattle.vm_chains.proofs.comparing.same_shape.Given as goal
 
 -- the bodies are the same if those that are left are
 abbrev pub invariant-loop-i : goal.invariant-loop-i
-invariant-loop-i l = record {
-  rest : same_shape l.fn.blocks (numbers l.first) (numbers l.second) ≡ same_from l.fn.blocks l.first l.second (drop l.i l.first) (drop l.i l.second);
+invariant-loop-i g l = record {
+  rest : same_shape l.fn.blocks.document (numbers l.first) (numbers l.second) ≡ same_from l.fn.blocks.document l.first l.second (drop l.i l.first) (drop l.i l.second);
   same : l.blocks ≡ l.fn.blocks;
 }

@@ -5,8 +5,8 @@ use Rattle.geos_model.specs.Heap.{capacity}
 use Rattle.vm_chains.proofs.measuring.total_len.Given as goal
 
 abbrev pub invariant-loop-handle : goal.invariant-loop-handle
-invariant-loop-handle l = record {
-  total : l.total ≡ sum_by (λ h. length (raw_bytes_of l.fn.blocks h.0)) (take l.handle-index l.handles);
+invariant-loop-handle g l = record {
+  total : l.total ≡ sum_by (λ h. length (raw_bytes_of l.fn.blocks.document h.0)) (take l.handle-index l.handles);
   small : l.total ≤ capacity * l.handle-index;
   same : l.blocks ≡ l.fn.blocks;
 }

@@ -5,8 +5,8 @@ use Rattle.vm_chains.proofs.planning.copies.Given as goal
 
 -- the plan has the blocks before this one
 abbrev pub invariant-loop-i : goal.invariant-loop-i
-invariant-loop-i l = record {
-  plan : saved_blocks l.plan.items ++ copies_from l.fn.blocks l.handles l.new (drop l.i l.handles) (drop l.i l.new) ≡ copies_from l.fn.blocks l.handles l.new l.handles l.new;
+invariant-loop-i g l = record {
+  plan : saved_blocks l.plan.items ++ copies_from l.fn.blocks.document l.handles l.new (drop l.i l.handles) (drop l.i l.new) ≡ copies_from l.fn.blocks.document l.handles l.new l.handles l.new;
   many : length l.plan.items ≡ l.i;
   same : l.blocks ≡ l.fn.blocks;
 }

@@ -8,17 +8,17 @@ use Rattle.vm_chains.proofs.planning.free_handles.Goals as goal
 use Rattle.vm_chains.proofs.planning.free_handles.Goals.{then-not-is_live+in_ok-push, else-not-is_live}
 
 pub loop-i-init : goal.loop-i-init
-loop-i-init c =
+loop-i-init g c =
     let nothing = c.new-handles.ensures.items in
-    let d = c.args.blocks.now in
+    let d = c.args.blocks.now.document in
     record {
       found = (λ j. numbers (nothing j) ++ take (c.args.wanted - length (nothing j)) (all_free d j)) ∙ ap (λ (n : ℕ). take n (free_handles d)) (omega arith);
       few = omega (arith, ap (λ (hs : List VmHandle). length hs) nothing);
     }
 
 pub loop-i-preserved : goal.loop-i-preserved
-loop-i-preserved c =
-    let d = c.args.blocks.now in let i = c.loop-i.i in let wanted = c.args.wanted in let items = c.loop-i.handles.items in
+loop-i-preserved g c =
+    let d = c.args.blocks.now.document in let i = c.loop-i.i in let wanted = c.args.wanted in let items = c.loop-i.handles.items in
     let few : length items < wanted = omega (arith, c.loop-i.handles.ok.0) in
     elim c.if-not-is_live.branch [
       | then-not-is_live+in_ok-push w ↦
@@ -40,5 +40,5 @@ loop-i-preserved c =
     ]
 
 pub returns : goal.returns
-returns c =
-    new_end c.loop-i.handles.items (c.args.wanted - length c.loop-i.handles.items) (free_from c.args.blocks.now c.loop-i.i) _ (none_free c.args.blocks.now c.loop-i.i c.loop-i-test.false) c.loop-i.invariant.found
+returns g c =
+    new_end c.loop-i.handles.items (c.args.wanted - length c.loop-i.handles.items) (free_from c.args.blocks.now.document c.loop-i.i) _ (none_free c.args.blocks.now.document c.loop-i.i c.loop-i-test.false) c.loop-i.invariant.found

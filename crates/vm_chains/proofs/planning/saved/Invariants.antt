@@ -5,8 +5,8 @@ use Rattle.vm_chains.specs.Numbers.{numbers}
 use Rattle.vm_chains.proofs.planning.saved.Given as goal
 
 abbrev pub invariant-loop-handle : goal.invariant-loop-handle
-invariant-loop-handle l = record {
-  plan : saved_blocks l.plan.items ≡ blocks_of l.fn.blocks (numbers (take l.handle-index l.handles));
+invariant-loop-handle g l = record {
+  plan : saved_blocks l.plan.items ≡ blocks_of l.fn.blocks.document (numbers (take l.handle-index l.handles));
   many : length l.plan.items ≡ l.handle-index;
   same : l.blocks ≡ l.fn.blocks;
 }

@@ -5,5 +5,5 @@ use Rattle.dialogues.proofs.dialogue.Dialogue.hold.Goals as goal
 pub returns-in_ok-hold_on-in-Ok : goal.returns-in_ok-hold_on-in-Ok
 returns-in_ok-hold_on-in-Ok c =
     let made = c.in-Ok.ensures.made in
-    let answers = c.in_ok-hold_on-in-Ok.ensures.answers (c.in-Ok.ensures.store.honest, tt) in
-    begins facts_of c.in-Ok.session _ _ _ (made.0, made.1.updated, made.1.saved, made.1.sequence) c.in-Ok.ensures.new answers.2
+    let answers = c.in_ok-hold_on-in-Ok.ensures.answers (made.follows.honest, tt) in
+    begins facts_of c.in-Ok.session _ _ _ (made.document, made.new_file.updated, made.new_file.saved, made.new_file.sequence) c.in-Ok.ensures.new answers.2

@@ -6,5 +6,5 @@ use Rattle.undo_log.proofs.session.Session.redo_count.Goals as goal
 
 pub returns-clause-future : goal.returns-clause-future
 returns-clause-future g c = λ target.
-    length-newest Forwards c.self.inside.redo.items c.self.inside.blocks c.len.result (c.len.ensures ∙ c.self.inside.redo.ok.0)
+    length-newest Forwards c.self.inside.redo.items c.self.inside.blocks.document c.len.result (c.len.ensures ∙ c.self.inside.redo.ok.0)
     ∙ ap (λ (s : SessionState g.row.S.Denot). length (machine_of target s).future) c.self.view_is

@@ -12,8 +12,8 @@ pub returns-in_err-revert-clause-step : goal.returns-in_err-revert-clause-step
 returns-in_err-revert-clause-step g c =
     let facts = g.S.Store.facts in let i = c.self.inside in let e = c.in_err-revert.ensures in
     let p = err_from_is_err_and c.from_residual.result c.from_residual.ensures.1 in
-    let old : SessionState g.row.S.Denot = record { disk = i.file.disk; document = i.blocks; undo = reverse i.undo.items; redo = reverse i.redo.items; frames = i.frames } in
-    let new : SessionState g.row.S.Denot = record old { disk = c.revert.new.file.disk; document = c.revert.new.blocks } in
+    let old : SessionState g.row.S.Denot = record { disk = i.blocks.disk; document = i.blocks.document; undo = reverse i.undo.items; redo = reverse i.redo.items; frames = i.frames } in
+    let new : SessionState g.row.S.Denot = record old { disk = c.revert.new.self.disk; document = c.revert.new.self.document } in
     subst (λ (s : SessionState g.row.S.Denot). IsTrue (facts s.disk.store).honest → (target : Bool)
     → Step (has_failed (facts s.disk.store) (facts new.disk.store)) (machine_of target s) (Some commands.Revert) (reply_by (λ _. Accepted) c.from_residual.result) (machine_of target new)) c.self.view_is
     (λ so target. subst (λ r. Step (has_failed (facts old.disk.store) (facts new.disk.store)) (machine_of target old) (Some commands.Revert) (reply_by (λ _. Accepted) r) (machine_of target new)) (sym (p.1 ∙ ap Err p.2))
@@ -22,8 +22,8 @@ returns-in_err-revert-clause-step g c =
 pub returns-clause-step : goal.returns-clause-step
 returns-clause-step g c =
     let facts = g.S.Store.facts in let i = c.self.inside in let e = c.in_ok-revert.ensures in
-    let old : SessionState g.row.S.Denot = record { disk = i.file.disk; document = i.blocks; undo = reverse i.undo.items; redo = reverse i.redo.items; frames = i.frames } in
-    let new : SessionState g.row.S.Denot = record { disk = c.revert.new.file.disk; document = c.revert.new.blocks; undo = reverse c.clear.new.self.items; redo = reverse c.clear-2.new.self.items; frames = i.frames } in
+    let old : SessionState g.row.S.Denot = record { disk = i.blocks.disk; document = i.blocks.document; undo = reverse i.undo.items; redo = reverse i.redo.items; frames = i.frames } in
+    let new : SessionState g.row.S.Denot = record { disk = c.revert.new.self.disk; document = c.revert.new.self.document; undo = reverse c.clear.new.self.items; redo = reverse c.clear-2.new.self.items; frames = i.frames } in
     subst (λ (s : SessionState g.row.S.Denot). IsTrue (facts s.disk.store).honest → (target : Bool)
     → Step (has_failed (facts s.disk.store) (facts new.disk.store)) (machine_of target s) (Some commands.Revert) Accepted (machine_of target new)) c.self.view_is
     (λ so target. revert_step facts target old new so (Ok c.in_ok-revert.field-0) e.commit e.fails (ap reverse c.clear.ensures.items, ap reverse c.clear-2.ensures.items) refl)

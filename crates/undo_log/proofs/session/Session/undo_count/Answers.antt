@@ -6,5 +6,5 @@ use Rattle.undo_log.proofs.session.Session.undo_count.Goals as goal
 
 pub returns-clause-past : goal.returns-clause-past
 returns-clause-past g c = λ target.
-    length-newest Backwards c.self.inside.undo.items c.self.inside.blocks c.len.result (c.len.ensures ∙ c.self.inside.undo.ok.0)
+    length-newest Backwards c.self.inside.undo.items c.self.inside.blocks.document c.len.result (c.len.ensures ∙ c.self.inside.undo.ok.0)
     ∙ ap (λ (s : SessionState g.row.S.Denot). length (machine_of target s).past) c.self.view_is

@@ -8,8 +8,8 @@ use Rattle.undo_log.proofs.session.Session.update.Goals as goal
 
 pub returns-clause-step : goal.returns-clause-step
 returns-clause-step g c =
-    let old : SessionState g.row.S.Denot = record { disk = c.self.inside.file.disk; document = c.self.inside.blocks; undo = reverse c.self.inside.undo.items; redo = reverse c.self.inside.redo.items; frames = c.self.inside.frames } in
-    let new : SessionState g.row.S.Denot = record old { disk = c.update.new.file.disk } in
+    let old : SessionState g.row.S.Denot = record { disk = c.self.inside.blocks.disk; document = c.self.inside.blocks.document; undo = reverse c.self.inside.undo.items; redo = reverse c.self.inside.redo.items; frames = c.self.inside.frames } in
+    let new : SessionState g.row.S.Denot = record old { disk = c.update.new.self.disk; document = c.update.new.self.document } in
     subst (λ (s : SessionState g.row.S.Denot). IsTrue (g.S.Store.facts s.disk.store).honest → (target : Bool)
     → Step (has_failed (g.S.Store.facts s.disk.store) (g.S.Store.facts new.disk.store)) (machine_of target s) (Some commands.Update) (reply_by (λ _. Accepted) c.update.result) (machine_of target new)) c.self.view_is
     (λ so target. update_step g.S.Store.facts target old new so c.update.result c.update.ensures.commit c.update.ensures.fails (refl, refl, refl))
