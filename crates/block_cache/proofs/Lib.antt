@@ -1,0 +1,7 @@
+pub mod Commits
+pub mod FileImages
+pub mod Loaded
+pub mod Overlay
+pub mod Seats
+pub mod Steps
+pub mod Tables

@@ -1,0 +1,300 @@
+-- The document under frames.
+use Rattle.std.proofs.Common.{◌≡◌, ◌≢◌, ℕ, nat_eq, Bool, true, false, cond, IsTrue, List, [], ◌∷◌, map, Option, None, Some, is_some, refl, sym, ap, subst, ◌∙◌, inl, inr, unwrap_or, eq-eqb}
+use Rattle.std.proofs.lemmas.Bool.{cases_eq, ne_eqb}
+use Rattle.std.specs.Option.{option_map_or, option_map}
+use Rattle.std.specs.Map.{set_value}
+use Rattle.std.specs.Cmp.{nat_cmp_total, nat_eq_equiv}
+use Rattle.std.proofs.lemmas.Map.{lookup-set_value}
+use Rattle.std.specs.FinMap.{get, same_map, nat_cmp-IsAntisymmetric}
+use Rattle.geos_model.specs.Document.{Block, Document, block_at, is_live, user_id_of, with_body}
+use Rattle.geos_model.specs.declared.command.Body.{Body}
+use Rattle.geos_model.specs.declared.command.Body.TheVariants.{Raw}
+use Rattle.geos_model.proofs.HeapEdits.{get-put_same, get-put_other}
+use Rattle.vm_file.specs.Disk.{Drifts}
+use Rattle.block_cache.specs.Bodies.{body_of}
+use Rattle.block_cache.specs.Frames.{held, overlay, with_frame, is_changed_in, IsKept, AreKept}
+use Rattle.block_cache.specs.declared.frame.Frame.{Frame}
+
+-- a block as a frame covers it
+abbrev pub cover : Option Frame → Document → ℕ → Option Block
+cover None d h = get d.blocks h
+cover (Some f) d h = Some (record { user_id = user_id_of d h; body = body_of f.body })
+
+abbrev pub uid : Option Block → ℕ
+uid o = option_map_or (λ (b : Block). b.user_id) o 0
+
+pub uid-cover : (o : Option Frame) (d : Document) (h : ℕ) → uid (cover o d h) ≡ user_id_of d h
+uid-cover None d h = refl
+uid-cover (Some f) d h = refl
+
+pub held_here : (e : ℕ × Frame) (es : List (ℕ × Frame)) (h : ℕ) → h ≡ e.0 → held (e ∷ es) h ≡ Some e.1
+held_here e es h here = ap (λ b. cond b (Some e.1) (held es h)) (eq-eqb h e.0 here)
+
+pub held_on : (e : ℕ × Frame) (es : List (ℕ × Frame)) (h : ℕ) → h ≢ e.0 → held (e ∷ es) h ≡ held es h
+held_on e es h other = ap (λ b. cond b (Some e.1) (held es h)) (ne_eqb h e.0 other)
+
+pub get-overlay : (es : List (ℕ × Frame)) (d : Document) (h : ℕ) → get (overlay es d).blocks h ≡ cover (held es h) d h
+get-overlay [] d h = refl
+get-overlay (e ∷ es) d h =
+    let body : Body = body_of e.1.body in
+    let user : user_id_of (overlay es d) e.0 ≡ user_id_of d e.0 = ap uid (get-overlay es d e.0) ∙ uid-cover (held es e.0) d e.0 in
+    elim (cases_eq h e.0) as (λ _. get (overlay (e ∷ es) d).blocks h ≡ cover (held (e ∷ es) h) d h) [
+      | inl here ↦ get-put_same (overlay es d).blocks e.0 (record { user_id = user_id_of (overlay es d) e.0; body = body }) h here
+          ∙ ap (λ u. Some (record { user_id = u; body = body })) (user ∙ ap (user_id_of d) (sym here))
+          ∙ sym (ap (λ o. cover o d h) (held_here e es h here))
+      | inr other ↦ get-put_other (overlay es d).blocks e.0 (record { user_id = user_id_of (overlay es d) e.0; body = body }) h other
+          ∙ get-overlay es d h ∙ sym (ap (λ o. cover o d h) (held_on e es h other))
+    ]
+
+pub overlay_user : (es : List (ℕ × Frame)) (d : Document) (h : ℕ) → user_id_of (overlay es d) h ≡ user_id_of d h
+overlay_user es d h = ap uid (get-overlay es d h) ∙ uid-cover (held es h) d h
+
+pub overlay_map : (es : List (ℕ × Frame)) (d : Document) → (overlay es d).map_block ≡ d.map_block
+overlay_map [] d = refl
+overlay_map (e ∷ es) d = overlay_map es d
+
+live_cover : (honest : Bool) (d : Document) (h : ℕ) (o : Option Frame) → ((f : Frame) → o ≡ Some f → IsKept honest d h f) → is_some (cover o d h) ≡ is_live d h
+live_cover honest d h None kept = refl
+live_cover honest d h (Some f) kept = sym (kept f refl).live
+
+pub overlay_live : (honest : Bool) (es : List (ℕ × Frame)) (d : Document) (h : ℕ) → AreKept honest d es → is_live (overlay es d) h ≡ is_live d h
+overlay_live honest es d h kept = ap is_some (get-overlay es d h) ∙ live_cover honest d h (held es h) (kept.each h)
+
+pub same_document : (d e : Document) → e.map_block ≡ d.map_block → ((h : ℕ) → get e.blocks h ≡ get d.blocks h) → e ≡ d
+same_document d e map same =
+    let blocks : e.blocks ≡ d.blocks = same_map nat_cmp_total nat_cmp-IsAntisymmetric e.blocks d.blocks same in
+    λ i. record { blocks = blocks i; map_block = map i }
+
+-- what holds of frames and files that show the same blocks
+pub agree : (honest : Bool) (es : List (ℕ × Frame)) (d : Document) (fs : List (ℕ × Frame)) (e : Document) → AreKept honest d es → AreKept honest e fs
+    → ((h : ℕ) → is_live e h ≡ is_live d h) → ((h : ℕ) → user_id_of e h ≡ user_id_of d h) → e.map_block ≡ d.map_block
+    → (IsTrue honest → (h : ℕ) → cover (held fs h) e h ≡ cover (held es h) d h) → Drifts honest (overlay es d) (overlay fs e)
+agree honest es d fs e kept kept' live user map same = record {
+  live = λ h. overlay_live honest fs e h kept' ∙ live h ∙ sym (overlay_live honest es d h kept);
+  user_ids = λ h. overlay_user fs e h ∙ user h ∙ sym (overlay_user es d h);
+  map_block = overlay_map fs e ∙ map ∙ sym (overlay_map es d);
+  same = λ so. same_document (overlay es d) (overlay fs e) (overlay_map fs e ∙ map ∙ sym (overlay_map es d)) (λ h. get-overlay fs e h ∙ same so h ∙ sym (get-overlay es d h));
+}
+
+-- the file drifts under the frames
+
+pub kept_drifts : (honest : Bool) (es : List (ℕ × Frame)) (d e : Document) → Drifts honest d e → AreKept honest d es → AreKept honest e es
+kept_drifts honest es d e drifts kept = record {
+  each = λ h f is. record {
+    live = drifts.live h ∙ (kept.each h f is).live;
+    clean = λ so same. ap (λ (x : Document). (block_at x h).body) (drifts.same so) ∙ (kept.each h f is).clean so same;
+  };
+}
+
+pub overlay_drifts : (honest : Bool) (es : List (ℕ × Frame)) (d e : Document) → Drifts honest d e → AreKept honest d es → Drifts honest (overlay es d) (overlay es e)
+overlay_drifts honest es d e drifts kept =
+    agree honest es d es e kept (kept_drifts honest es d e drifts kept) drifts.live drifts.user_ids drifts.map_block (λ so h. ap (λ (x : Document). cover (held es h) x h) (drifts.same so))
+
+-- frames in another order
+
+pub overlay_same : (es fs : List (ℕ × Frame)) (d : Document) → ((h : ℕ) → held fs h ≡ held es h) → overlay fs d ≡ overlay es d
+overlay_same es fs d same = same_document (overlay es d) (overlay fs d) (overlay_map fs d ∙ sym (overlay_map es d)) (λ h. get-overlay fs d h ∙ ap (λ o. cover o d h) (same h) ∙ sym (get-overlay es d h))
+
+pub kept_same : (honest : Bool) (es fs : List (ℕ × Frame)) (d : Document) → ((h : ℕ) → held fs h ≡ held es h) → AreKept honest d es → AreKept honest d fs
+kept_same honest es fs d same kept = record { each = λ h f is. kept.each h f (sym (same h) ∙ is) }
+
+-- a block that is live
+
+pub block_by : (o : Option Block) → is_some o ≡ true → (b : Block) × (o ≡ Some b)
+block_by None live = absurd (cc live)
+block_by (Some b) live = (b, refl)
+
+abbrev pub body_by : Option Block → Body
+body_by o = let b : Block = unwrap_or o (record { user_id = 0; body = Raw [] }) in b.body
+
+-- a frame that has what the file has
+pub covers_same : (d : Document) (h : ℕ) (f : Frame) → is_live d h ≡ true → (block_at d h).body ≡ body_of f.body → cover (Some f) d h ≡ get d.blocks h
+covers_same d h f live same =
+    let b = block_by (get d.blocks h) live in
+    let user : user_id_of d h ≡ b.0.user_id = ap uid b.1 in
+    let body : b.0.body ≡ body_of f.body = sym (ap body_by b.1) ∙ same in
+    (λ i. Some (record { user_id = user i; body = sym body i })) ∙ sym b.1
+
+-- a block is read into a frame
+pub kept_more : (honest : Bool) (es : List (ℕ × Frame)) (d : Document) (h : ℕ) (f : Frame) → AreKept honest d es → IsKept honest d h f → AreKept honest d ((h, f) ∷ es)
+kept_more honest es d h f kept one = record {
+  each = λ q g is. elim (cases_eq q h) as (λ _. IsKept honest d q g) [
+    | inl here ↦ let same : Some f ≡ Some g = sym (held_here (h, f) es q here) ∙ is in
+        let at : f ≡ g = ap (λ o. unwrap_or o f) same in
+        subst (λ k. IsKept honest d k g) (sym here) (subst (IsKept honest d h) at one)
+    | inr other ↦ kept.each q g (sym (held_on (h, f) es q other) ∙ is)
+  ];
+}
+
+pub fetched : (honest : Bool) (es : List (ℕ × Frame)) (d : Document) (h : ℕ) (f : Frame) → AreKept honest d es → held es h ≡ None → is_live d h ≡ true → (IsTrue honest → (block_at d h).body ≡ body_of f.body) → Drifts honest (overlay es d) (overlay ((h, f) ∷ es) d)
+fetched honest es d h f kept absent live same =
+    agree honest es d ((h, f) ∷ es) d kept (kept_more honest es d h f kept (record { live = live; clean = λ so _. same so })) (λ _. refl) (λ _. refl) refl
+    (λ so q. elim (cases_eq q h) as (λ _. cover (held ((h, f) ∷ es) q) d q ≡ cover (held es q) d q) [
+      | inl here ↦ ap (λ o. cover o d q) (held_here (h, f) es q here) ∙ covers_same d q f (ap (is_live d) here ∙ live) (ap (λ k. (block_at d k).body) here ∙ same so) ∙ sym (ap (λ o. cover o d q) (ap (held es) here ∙ absent))
+      | inr other ↦ ap (λ o. cover o d q) (held_on (h, f) es q other)
+    ])
+
+-- a frame is changed
+
+pub held-with_frame : (es : List (ℕ × Frame)) (h : ℕ) (g : Frame → Frame) (q : ℕ) → held (with_frame es h g) q ≡ cond (nat_eq h q) (option_map g (held es h)) (held es q)
+held-with_frame es h g q = by (held es h) refl
+  where
+    by : (o : Option Frame) → held es h ≡ o → held (option_map_or (λ f. set_value (nat_eq h) es (g f)) o es) q ≡ cond (nat_eq h q) (option_map g o) (held es q)
+    by None is = elim (cases_eq h q) as (λ _. held es q ≡ cond (nat_eq h q) None (held es q)) [
+      | inl here ↦ sym (ap (held es) here) ∙ is ∙ sym (ap (λ b. cond b None (held es q)) (eq-eqb h q here))
+      | inr other ↦ sym (ap (λ b. cond b None (held es q)) (ne_eqb h q other))
+    ]
+    by (Some f) is = lookup-set_value nat_eq_equiv (nat_eq h) (nat_eq_equiv.congr h) q (g f) es (ap is_some is)
+
+-- a document with another body of a block
+
+pub cover_by : (o : Option Frame) (d e : Document) (h : ℕ) → get e.blocks h ≡ get d.blocks h → cover o e h ≡ cover o d h
+cover_by None d e h same = same
+cover_by (Some f) d e h same = ap (λ u. Some (record { user_id = u; body = body_of f.body })) (ap uid same)
+
+module _ (d : Document) (h : ℕ) (body : Body) (live : is_live d h ≡ true) where
+  abbrev block : Block
+  block = record { user_id = user_id_of d h; body = body }
+
+  pub get-with_body : (q : ℕ) → q ≡ h → get (with_body d h body).blocks q ≡ Some block
+  get-with_body q here = get-put_same d.blocks h block q here
+
+  pub get-with_other : (q : ℕ) → q ≢ h → get (with_body d h body).blocks q ≡ get d.blocks q
+  get-with_other q other = get-put_other d.blocks h block q other
+
+  pub live-with_body : (q : ℕ) → is_live (with_body d h body) q ≡ is_live d q
+  live-with_body q = elim (cases_eq q h) as (λ _. is_live (with_body d h body) q ≡ is_live d q) [
+    | inl here ↦ ap is_some (get-with_body q here) ∙ sym (ap (is_live d) here ∙ live)
+    | inr other ↦ ap is_some (get-with_other q other)
+  ]
+
+  pub user-with_body : (q : ℕ) → user_id_of (with_body d h body) q ≡ user_id_of d q
+  user-with_body q = elim (cases_eq q h) as (λ _. user_id_of (with_body d h body) q ≡ user_id_of d q) [
+    | inl here ↦ ap uid (get-with_body q here) ∙ ap (user_id_of d) (sym here)
+    | inr other ↦ ap uid (get-with_other q other)
+  ]
+
+-- a frame is written to the file
+module _ (honest : Bool) (es : List (ℕ × Frame)) (d : Document) (h : ℕ) (f g : Frame) (fs : List (ℕ × Frame)) (e : Document) (kept : AreKept honest d es) (here : held es h ≡ Some f) (same : body_of g.body ≡ body_of f.body)
+    (now : (q : ℕ) → held fs q ≡ cond (nat_eq h q) (Some g) (held es q)) (drifts : Drifts honest (with_body d h (body_of f.body)) e) where
+  live : is_live d h ≡ true
+  live = (kept.each h f here).live
+
+  abbrev put : Document
+  put = with_body d h (body_of f.body)
+
+  at_block : (q : ℕ) → q ≡ h → held fs q ≡ Some g
+  at_block q is = now q ∙ ap (λ b. cond b (Some g) (held es q)) (eq-eqb h q (sym is))
+
+  elsewhere : (q : ℕ) → q ≢ h → held fs q ≡ held es q
+  elsewhere q other = now q ∙ ap (λ b. cond b (Some g) (held es q)) (ne_eqb h q (λ is. other (sym is)))
+
+  body_now : IsTrue honest → (q : ℕ) → q ≡ h → (block_at e q).body ≡ body_of g.body
+  body_now so q is = ap (λ (x : Document). body_by (get x.blocks q)) (drifts.same so) ∙ ap body_by (get-with_body d h (body_of f.body) live q is) ∙ sym same
+
+  pub written_kept : AreKept honest e fs
+  written_kept = record {
+    each = λ q k is. elim (cases_eq q h) as (λ _. IsKept honest e q k) [
+      | inl at ↦ let found : Some g ≡ Some k = sym (at_block q at) ∙ is in
+          let the : g ≡ k = ap (λ o. unwrap_or o g) found in
+          record {
+            live = drifts.live q ∙ live-with_body d h (body_of f.body) live q ∙ ap (is_live d) at ∙ live;
+            clean = λ so clean. body_now so q at ∙ ap (λ (x : Frame). body_of x.body) the;
+          }
+      | inr other ↦ let was = kept.each q k (sym (elsewhere q other) ∙ is) in
+          record {
+            live = drifts.live q ∙ live-with_body d h (body_of f.body) live q ∙ was.live;
+            clean = λ so clean. ap (λ (x : Document). body_by (get x.blocks q)) (drifts.same so) ∙ ap body_by (get-with_other d h (body_of f.body) live q other) ∙ was.clean so clean;
+          }
+    ];
+  }
+
+  pub written : Drifts honest (overlay es d) (overlay fs e)
+  written = agree honest es d fs e kept written_kept (λ q. drifts.live q ∙ live-with_body d h (body_of f.body) live q) (λ q. drifts.user_ids q ∙ user-with_body d h (body_of f.body) live q) drifts.map_block
+      (λ so q. elim (cases_eq q h) as (λ _. cover (held fs q) e q ≡ cover (held es q) d q) [
+        | inl at ↦ ap (λ o. cover o e q) (at_block q at)
+            ∙ (λ i. Some (record { user_id = (drifts.user_ids q ∙ user-with_body d h (body_of f.body) live q) i; body = same i }))
+            ∙ sym (ap (λ o. cover o d q) (ap (held es) at ∙ here))
+        | inr other ↦ ap (λ o. cover o e q) (elsewhere q other) ∙ cover_by (held es q) d e q (ap (λ (x : Document). get x.blocks q) (drifts.same so) ∙ get-with_other d h (body_of f.body) live q other)
+      ])
+
+-- a frame that isn't changed goes
+module _ (honest : Bool) (es : List (ℕ × Frame)) (d : Document) (h : ℕ) (fs : List (ℕ × Frame)) (kept : AreKept honest d es) (clean : is_changed_in es h ≡ false) (now : (q : ℕ) → held fs q ≡ cond (nat_eq h q) None (held es q)) where
+  gone_at : (q : ℕ) → q ≡ h → held fs q ≡ None
+  gone_at q is = now q ∙ ap (λ b. cond b None (held es q)) (eq-eqb h q (sym is))
+
+  stays_at : (q : ℕ) → q ≢ h → held fs q ≡ held es q
+  stays_at q other = now q ∙ ap (λ b. cond b None (held es q)) (ne_eqb h q (λ is. other (sym is)))
+
+  pub dropped_kept : AreKept honest d fs
+  dropped_kept = record {
+    each = λ q k is. elim (cases_eq q h) as (λ _. IsKept honest d q k) [
+      | inl at ↦ let wrong : None ≡ Some k = sym (gone_at q at) ∙ is in absurd (cc wrong)
+      | inr other ↦ kept.each q k (sym (stays_at q other) ∙ is)
+    ];
+  }
+
+  uncovered : IsTrue honest → (o : Option Frame) → held es h ≡ o → get d.blocks h ≡ cover o d h
+  uncovered so None is = refl
+  uncovered so (Some f) is =
+      let unchanged : f.changed ≡ false = sym (ap (λ o. option_map_or (λ (x : Frame). x.changed) o false) is) ∙ clean in
+      let was = kept.each h f is in
+      sym (covers_same d h f was.live (was.clean so unchanged))
+
+  pub dropped : Drifts honest (overlay es d) (overlay fs d)
+  dropped = agree honest es d fs d kept dropped_kept (λ _. refl) (λ _. refl) refl (λ so q. elim (cases_eq q h) as (λ _. cover (held fs q) d q ≡ cover (held es q) d q) [
+    | inl at ↦ ap (λ o. cover o d q) (gone_at q at) ∙ subst (λ k. get d.blocks k ≡ cover (held es k) d k) (sym at) (uncovered so (held es h) refl)
+    | inr other ↦ ap (λ o. cover o d q) (stays_at q other)
+  ])
+
+-- a frame is changed, and its body stays
+module _ (es : List (ℕ × Frame)) (h : ℕ) (g : Frame → Frame) (body : (f : Frame) → body_of (g f).body ≡ body_of f.body) where
+  cover_changed : (o : Option Frame) (d : Document) (q : ℕ) → cover (option_map g o) d q ≡ cover o d q
+  cover_changed None d q = refl
+  cover_changed (Some f) d q = ap (λ (b : Body). Some (record { user_id = user_id_of d q; body = b })) (body f)
+
+  pub overlay_with_frame : (d : Document) → overlay (with_frame es h g) d ≡ overlay es d
+  overlay_with_frame d = same_document (overlay es d) (overlay (with_frame es h g) d) (overlay_map (with_frame es h g) d ∙ sym (overlay_map es d))
+      (λ q. get-overlay (with_frame es h g) d q ∙ ap (λ o. cover o d q) (held-with_frame es h g q)
+      ∙ elim (cases_eq q h) as (λ _. cover (cond (nat_eq h q) (option_map g (held es h)) (held es q)) d q ≡ cover (held es q) d q) [
+        | inl at ↦ ap (λ b. cover (cond b (option_map g (held es h)) (held es q)) d q) (eq-eqb h q (sym at)) ∙ ap (λ k. cover (option_map g (held es k)) d q) (sym at) ∙ cover_changed (held es q) d q
+        | inr other ↦ ap (λ b. cover (cond b (option_map g (held es h)) (held es q)) d q) (ne_eqb h q (λ is. other (sym is)))
+      ] ∙ sym (get-overlay es d q))
+
+  kept_by : (honest : Bool) (d : Document) (q : ℕ) (o : Option Frame) (k : Frame) → ((f : Frame) → (g f).changed ≡ false → f.changed ≡ false) → ((f : Frame) → o ≡ Some f → IsKept honest d q f) → option_map g o ≡ Some k → IsKept honest d q k
+  kept_by honest d q None k clean kept is = absurd (cc is)
+  kept_by honest d q (Some f) k clean kept is =
+      let at : g f ≡ k = ap (λ (o : Option Frame). unwrap_or o (g f)) is in
+      let was = kept f refl in
+      record { live = was.live; clean = λ so same. was.clean so (clean f (ap (λ (x : Frame). x.changed) at ∙ same)) ∙ sym (body f) ∙ ap (λ (x : Frame). body_of x.body) at }
+
+  pub kept_with_frame : (honest : Bool) (d : Document) → ((f : Frame) → (g f).changed ≡ false → f.changed ≡ false) → AreKept honest d es → AreKept honest d (with_frame es h g)
+  kept_with_frame honest d clean kept = record {
+    each = λ q k is. elim (cases_eq q h) as (λ _. IsKept honest d q k) [
+      | inl at ↦ kept_by honest d q (held es q) k clean (kept.each q) (ap (λ j. option_map g (held es j)) at ∙ sym (ap (λ b. cond b (option_map g (held es h)) (held es q)) (eq-eqb h q (sym at))) ∙ sym (held-with_frame es h g q) ∙ is)
+      | inr other ↦ kept.each q k (sym (ap (λ b. cond b (option_map g (held es h)) (held es q)) (ne_eqb h q (λ is. other (sym is)))) ∙ sym (held-with_frame es h g q) ∙ is)
+    ];
+  }
+
+-- nothing in memory differs from the file
+pub clean_overlay : (honest : Bool) (es : List (ℕ × Frame)) (d : Document) → IsTrue honest → AreKept honest d es → ((h : ℕ) → is_changed_in es h ≡ false) → overlay es d ≡ d
+clean_overlay honest es d so kept clean = same_document d (overlay es d) (overlay_map es d) (λ h. get-overlay es d h ∙ by h (held es h) refl)
+  where
+    by : (h : ℕ) (o : Option Frame) → held es h ≡ o → cover o d h ≡ get d.blocks h
+    by h None is = refl
+    by h (Some f) is =
+        let unchanged : f.changed ≡ false = sym (ap (λ o. option_map_or (λ (x : Frame). x.changed) o false) is) ∙ clean h in
+        let was = kept.each h f is in
+        covers_same d h f was.live (was.clean so unchanged)
+
+-- no frame is left
+pub bare_kept : (honest : Bool) (d : Document) → AreKept honest d []
+bare_kept honest d = record { each = λ h f is. absurd (cc is) }
+
+pub bare : (honest : Bool) (es : List (ℕ × Frame)) (d : Document) → AreKept honest d es → ((h : ℕ) → is_changed_in es h ≡ false) → Drifts honest (overlay es d) (overlay [] d)
+bare honest es d kept clean = record {
+  live = λ h. sym (overlay_live honest es d h kept);
+  user_ids = λ h. sym (overlay_user es d h);
+  map_block = sym (overlay_map es d);
+  same = λ so. sym (clean_overlay honest es d so kept clean);
+}

@@ -1,0 +1,91 @@
+use Rattle.std.proofs.Common.{◌≡◌, ℕ, ◌∷◌, true, false, cond, nat_lt, nat_eq, length, refl, ap, sym, subst, ◌∙◌, inl, inr}
+use Rattle.std.specs.Prelude.{OnOk}
+use Rattle.vm_file.specs.Disk.{Drifts}
+use Rattle.vm_file.specs.Effects.{Fails, IsDamage}
+use Rattle.vm_file.proofs.Passing.{Drifts-refl}
+use Rattle.geos_model.specs.Document.{is_live}
+use Rattle.lru.specs.LruCache.{LruCache, promoted}
+use Rattle.block_cache.specs.State.{CacheState, Stays, is_resident, seated, evicted, all_locked}
+use Rattle.block_cache.specs.Frames.{held, seats, overlay}
+use Rattle.block_cache.specs.declared.frame.Frame.{Frame}
+use Rattle.block_cache.proofs.Seats.{resident_is, seats-promoted, held-promoted}
+use Rattle.block_cache.proofs.Overlay.{overlay_same, kept_same, overlay_live}
+use Rattle.block_cache.proofs.Steps.{moves_frames, stays_by, state}
+use Rattle.block_cache.proofs.cache.Cache.load.Goals as goal
+
+pub invariant_of-self : goal.invariant_of-self
+invariant_of-self g c =
+    let es = c.self.inside.frames.entries in
+    let h = c.args.block.0 in
+    kept_same _ es c.promote.new.self.entries c.self.inside.file.document (λ q. ap (λ (x : LruCache ℕ Frame). held x.entries q) c.promote.ensures.entries ∙ held-promoted h q es c.len-count.ensures.valid.0) c.self.invariant
+
+pub bring-requires-clause-live : goal.bring-requires-clause-live
+bring-requires-clause-live g c = sym (overlay_live _ c.self.inside.frames.entries c.self.inside.file.document c.args.block.0 c.self.invariant) ∙ ap (λ s. is_live s.document c.args.block.0) c.self.view_is ∙ c.requires.live
+
+pub bring-requires-clause-room : goal.bring-requires-clause-room
+bring-requires-clause-room g c =
+    let es = c.self.inside.frames.entries in
+    let h = c.args.block.0 in
+    let out : is_resident c.args.self.now.resident h ≡ false = ap (λ s. is_resident s.resident h) (sym c.self.view_is) ∙ resident_is h es ∙ sym c.contains.ensures ∙ c.if-contains.false in
+    elim c.requires.room as (λ _. all_locked c.self.inside.frames.cap (seats es) ≡ false) [
+      | inl there ↦ let wrong : true ≡ false = sym there ∙ out in absurd (cc wrong)
+      | inr room ↦ ap (λ s. all_locked s.frames s.resident) c.self.view_is ∙ room
+    ]
+
+pub returns-then-contains-clause-stays : goal.returns-then-contains-clause-stays
+returns-then-contains-clause-stays g c =
+    let facts = g.S.Store.facts in
+    let a = c.self.inside.file in
+    let es = c.self.inside.frames.entries in
+    let ps = c.promote.new.self.entries in
+    let h = c.args.block.0 in
+    let honest = (facts a.disk.store).honest in
+    let now : (q : ℕ) → held ps q ≡ held es q = λ q. ap (λ (x : LruCache ℕ Frame). held x.entries q) c.promote.ensures.entries ∙ held-promoted h q es c.len-count.ensures.valid.0 in
+    let kept = kept_same honest es ps a.document now c.self.invariant in
+    let drifts : Drifts honest (overlay es a.document) (overlay ps a.document) = subst (Drifts honest (overlay es a.document)) (sym (overlay_same es ps a.document now)) (Drifts-refl honest (overlay es a.document)) in
+    subst (λ s. Stays facts s (state facts a ps c.promote.new.self.cap)) c.self.view_is
+    (stays_by facts a es c.self.inside.frames.cap a ps c.promote.new.self.cap (moves_frames facts a es ps kept drifts) (ap (λ (x : LruCache ℕ Frame). x.cap) c.promote.ensures.entries))
+
+pub returns-then-contains-clause-ok : goal.returns-then-contains-clause-ok
+returns-then-contains-clause-ok g c =
+    let es = c.self.inside.frames.entries in
+    let ps = c.promote.new.self.entries in
+    let h = c.args.block.0 in
+    let there : is_resident (seats es) h ≡ true = resident_is h es ∙ sym c.contains.ensures ∙ c.if-contains.true in
+    let base : seats ps ≡ seated c.self.inside.frames.cap h (seats es) =
+    ap (λ (x : LruCache ℕ Frame). seats x.entries) c.promote.ensures.entries ∙ seats-promoted h es
+    ∙ sym (ap (λ b. cond b (promoted (nat_eq h) (seats es)) ((h, 0) ∷ cond (nat_lt (length (seats es)) c.self.inside.frames.cap) (seats es) (evicted (seats es)))) there) in
+    subst (λ s. seats ps ≡ seated s.frames h s.resident) c.self.view_is base
+
+pub returns-then-contains-clause-already : goal.returns-then-contains-clause-already
+returns-then-contains-clause-already g c there =
+    let es = c.self.inside.frames.entries in
+    let ps = c.promote.new.self.entries in
+    let h = c.args.block.0 in
+    let now : (q : ℕ) → held ps q ≡ held es q = λ q. ap (λ (x : LruCache ℕ Frame). held x.entries q) c.promote.ensures.entries ∙ held-promoted h q es c.len-count.ensures.valid.0 in
+    (refl, ap (λ s. s.disk) c.self.view_is, overlay_same es ps c.self.inside.file.document now ∙ ap (λ s. s.document) c.self.view_is)
+
+pub returns-else-contains-clause-ok : goal.returns-else-contains-clause-ok
+returns-else-contains-clause-ok g c =
+    let es = c.self.inside.frames.entries in
+    let h = c.args.block.0 in
+    let out : is_resident (seats es) h ≡ false = resident_is h es ∙ sym c.contains.ensures ∙ c.if-contains.false in
+    let base : (h, 0) ∷ cond (nat_lt (length (seats es)) c.self.inside.frames.cap) (seats es) (evicted (seats es)) ≡ seated c.self.inside.frames.cap h (seats es) =
+    sym (ap (λ b. cond b (promoted (nat_eq h) (seats es)) ((h, 0) ∷ cond (nat_lt (length (seats es)) c.self.inside.frames.cap) (seats es) (evicted (seats es)))) out) in
+    subst (λ x. OnOk c.bring.result (seats c.bring.new.frames.entries ≡ x)) (base ∙ ap (λ s. seated s.frames h s.resident) c.self.view_is) c.bring.ensures.ok
+
+pub returns-else-contains-clause-already : goal.returns-else-contains-clause-already
+returns-else-contains-clause-already g c there =
+    let es = c.self.inside.frames.entries in
+    let h = c.args.block.0 in
+    let out : is_resident c.args.self.now.resident h ≡ false = ap (λ s. is_resident s.resident h) (sym c.self.view_is) ∙ resident_is h es ∙ sym c.contains.ensures ∙ c.if-contains.false in
+    let wrong : true ≡ false = sym there ∙ out in absurd (cc wrong)
+
+pub returns-else-contains-clause-fails : goal.returns-else-contains-clause-fails
+returns-else-contains-clause-fails g c = subst (λ (s : CacheState g.row.S.Denot). Fails g.S.Store.facts (IsDamage (g.S.Store.facts s.disk.store).honest) s.disk.store c.bring.new.file.disk.store c.bring.result) c.self.view_is c.bring.ensures.fails
+
+pub returns-else-contains-clause-stays : goal.returns-else-contains-clause-stays
+returns-else-contains-clause-stays g c =
+    let facts = g.S.Store.facts in
+    subst (λ s. Stays facts s (state facts c.bring.new.file c.bring.new.frames.entries c.bring.new.frames.cap)) c.self.view_is
+    (stays_by facts c.self.inside.file c.self.inside.frames.entries c.self.inside.frames.cap c.bring.new.file c.bring.new.frames.entries c.bring.new.frames.cap c.bring.ensures.moves c.bring.ensures.cap)

@@ -1,0 +1,68 @@
+-- What callers see of a cache.
+use Rattle.std.specs.Prelude.{◌≡◌, ℕ, ◌==◌, Bool, not, nat_eq, nat_le, nat_lt, cond, List, [], ◌∷◌, length, count_by, Option, Some, None, is_some, unwrap_or, refl}
+use Rattle.std.specs.Option.{option_map_or}
+use Rattle.std.specs.Map.{lookup, remove_entry}
+use Rattle.std.specs.Coded.{Coded, code_by, coded×, coded_ℕ, coded_list}
+use Rattle.vm_store.specs.Facts.{StoreFacts}
+use Rattle.geos_model.specs.Document.{Document}
+use Rattle.geos_model.proofs.Codes.{document_code}
+use Rattle.vm_file.specs.Disk.{Disk, FileState, disk_code}
+use Rattle.vm_file.specs.Effects.{KeepsFile}
+use Rattle.lru.specs.LruCache.{promoted}
+
+-- A block in memory: its handle, and how often it is locked.
+abbrev pub Seat : Type 0
+Seat = ℕ × ℕ
+
+-- The disk, the document as it is now, those of its blocks that are in memory, the most recently used first, and how many may be.
+pub record CacheState (S : Type 0) : Type 0 where
+  pub disk : Disk S
+  pub document : Document
+  pub resident : List Seat
+  pub frames : ℕ
+
+abbrev pub cache_state_code : {S : Type 0} → Coded S → Coded (CacheState S)
+cache_state_code {S} s =
+    code_by (Disk S × (Document × (List (ℕ × ℕ) × ℕ))) (coded× (disk_code s) (coded× document_code (coded× (coded_list (coded× coded_ℕ coded_ℕ)) coded_ℕ))) (λ c. (c.disk, (c.document, (c.resident, c.frames))))
+    (λ p. record { disk = p.0; document = p.1.0; resident = p.1.1.0; frames = p.1.1.1 }) (λ _. refl)
+
+abbrev pub is_resident : List Seat → ℕ → Bool
+is_resident seats h = is_some (lookup (nat_eq h) seats)
+
+-- how often a block is locked, 0 where it isn't in memory
+abbrev pub locks_of : List Seat → ℕ → ℕ
+locks_of seats h = unwrap_or (lookup (nat_eq h) seats) 0
+
+abbrev pub is_locked : Seat → Bool
+is_locked s = not (s.1 == 0)
+
+abbrev pub locked_count : List Seat → ℕ
+locked_count seats = count_by is_locked seats
+
+-- each frame has a locked block
+abbrev pub all_locked : ℕ → List Seat → Bool
+all_locked frames seats = nat_le frames (locked_count seats)
+
+-- the least recently used block that isn't locked
+abbrev pub victim : List Seat → Option ℕ
+victim [] = None
+victim (s ∷ ss) = option_map_or (λ h. Some h) (victim ss) (cond (is_locked s) None (Some s.0))
+
+-- without it
+abbrev pub evicted : List Seat → List Seat
+evicted seats = option_map_or (λ h. remove_entry (nat_eq h) seats) (victim seats) seats
+
+-- What is in memory once a block was loaded: that block first. Where it wasn't there and each frame was taken, the least recently
+-- used one that isn't locked had to go.
+abbrev pub seated : ℕ → ℕ → List Seat → List Seat
+seated frames h seats =
+    cond (is_resident seats h) (promoted (nat_eq h) seats) ((h, 0) ∷ cond (nat_lt (length seats) frames) seats (evicted seats))
+
+-- The cache as a file, whose document is the one that callers see.
+abbrev pub seen : {S : Type 0} → CacheState S → FileState S
+seen c = record { disk = c.disk; document = c.document }
+
+-- A call that commits nothing and keeps the document, over any store as many frames.
+pub record Stays {S : Type 0} (facts : S → StoreFacts) (old new : CacheState S) : Type 0 where
+  pub file : KeepsFile facts old.document (seen old) (seen new)
+  pub frames : new.frames ≡ old.frames

@@ -1,0 +1,276 @@
+ghost use Rattle.std.specs.Prelude.{◌≡◌, ◌⊎◌, ◌≤◌, ◌<◌, ◌+◌, ◌-◌, true, false, IfOk, IfErr, OnOk, OnErr, Ok, Some, [], nat_eq, nat_lt};
+ghost use Rattle.std.specs.FinMap.{get};
+ghost use Rattle.std.specs.Map.{set_value};
+ghost use Rattle.std.specs.Option.{option_map};
+ghost use Rattle.geos_model.specs.Document.{is_live, is_heap, is_raw, chunks_of, raw_bytes_of, user_id_of, with_user_id};
+ghost use Rattle.vm_file.specs.Effects.{IsCommit, Fails, NoFault, IsWorn, IsDamage};
+ghost use Rattle.block_cache.specs.Bodies.{body_of};
+ghost use Rattle.block_cache.specs.State.{is_resident, locks_of, locked_count, all_locked, seated, evicted, seen, Stays};
+
+use crate::frame::{Frame, all_locked, body_in, has_locks, lock, locks_of, mark, unlock};
+use crate::loading::{bring, drop_all, flush};
+use crate::{BlockBody, committing};
+use geos_model::{Fault, VmHandle};
+use lmem_heap::Heap;
+use lru::LruCache;
+use raw_region::RawBody;
+use std::alloc::Global;
+use std::marker::Model;
+use std::num::NonZeroUsize;
+use vm_file::{Refused, VmFile};
+use vm_store::Store;
+
+/// The document of a file, of which some blocks are in memory.
+#[derive(Drop)]
+pub struct Cache<S: Store> {
+    alloc: Global,
+    file: VmFile<S>,
+    frames: LruCache<u16, Frame>,
+}
+
+impl<S: Store> Model for Cache<S> {
+    ghost use Rattle.block_cache.specs.State.{CacheState, cache_state_code};
+
+    ghost Value = { CacheState S };
+
+    ghost coded = { cache_state_code S.code };
+
+    ghost use Rattle.block_cache.specs.Frames.{overlay, seats, AreKept};
+
+    ghost view = { λ a. record { disk = a.file.disk; document = overlay a.frames.entries a.file.document; resident = seats a.frames.entries; frames = a.frames.cap } };
+
+    ghost invariant = { λ a. AreKept (S.facts a.file.disk.store).honest a.file.document a.frames.entries };
+}
+
+impl<S: Store> Cache<S> {
+    /// A file with so many frames, none of them taken. Memory: the store comes back.
+    pub fn open(alloc: Global, file: VmFile<S>, frames: usize) -> Result<Cache<S>, Refused<S>>
+        requires some { 1 ≤ frames }
+        requires few { frames ≤ 64 }
+        ensures ok { IfOk result (λ cache. cache ≡ record { disk = file.disk; document = file.document; resident = []; frames = frames }) }
+        ensures err { IfErr result (λ refused. (refused.fault ≡ Fault.Memory) × (refused.store ≡ file.disk.store)) }
+    {
+        let cap = NonZeroUsize::new(frames).unwrap();
+        match LruCache::new(alloc, cap) {
+            Ok(frames) => Ok(Cache {
+                alloc,
+                file,
+                frames,
+            }),
+            Err(_) => Err(Refused {
+                fault: Fault::Memory,
+                store: file.close(),
+            }),
+        }
+    }
+
+    /// How many blocks may be in memory.
+    pub fn frames(&self) -> usize
+        ensures { result ≡ self.now.frames }
+    {
+        self.frames.cap().get()
+    }
+
+    /// Whether a block is in memory.
+    pub fn is_resident(&self, block: VmHandle) -> bool
+        ensures { result ≡ is_resident self.now.resident block.0 }
+    {
+        self.frames.contains(&block.0)
+    }
+
+    /// How often a block is locked, 0 where it isn't in memory.
+    pub fn locks(&self, block: VmHandle) -> u8
+        ensures { result ≡ locks_of self.now.resident block.0 }
+    {
+        locks_of(&self.frames, block.0)
+    }
+
+    /// Whether a block in memory is locked.
+    pub fn has_locks(&self) -> bool
+        ensures { result ≡ nat_lt 0 (locked_count self.now.resident) }
+    {
+        has_locks(&self.frames)
+    }
+
+    /// Whether each frame has a locked block, so that no other can be loaded.
+    pub fn all_locked(&self) -> bool
+        ensures { result ≡ all_locked self.now.frames self.now.resident }
+    {
+        all_locked(&self.frames)
+    }
+
+    /// Whether a block has this handle, in memory or not.
+    pub fn is_live(&self, block: VmHandle) -> bool
+        ensures { result ≡ is_live self.now.document block.0 }
+    {
+        self.file.entry(block).is_some()
+    }
+
+    /// The user ID of a block, in memory or not.
+    pub fn user_id(&self, block: VmHandle) -> u16
+        requires { is_live self.now.document block.0 ≡ true }
+        ensures { result ≡ user_id_of self.now.document block.0 }
+    {
+        self.file.entry(block).unwrap().user_id
+    }
+
+    /// The map block, 0 if there is none.
+    pub fn map_block(&self) -> VmHandle
+        ensures { result.0 ≡ self.now.document.map_block }
+    {
+        self.file.map_block()
+    }
+
+    /// The body of a block in memory.
+    pub fn body(&self, block: VmHandle) -> &BlockBody
+        requires { is_resident self.now.resident block.0 ≡ true }
+        ensures { option_map (λ b. b.body) (get self.now.document.blocks block.0) ≡ Some (body_of result.now) }
+    {
+        body_in(&self.frames, block.0)
+    }
+
+    /// The heap of a block in memory.
+    pub fn heap(&self, block: VmHandle) -> &Heap
+        requires resident { is_resident self.now.resident block.0 ≡ true }
+        requires heap { is_heap self.now.document block.0 ≡ true }
+        ensures { result.now.chunks ≡ chunks_of self.now.document block.0 }
+    {
+        match self.body(block) {
+            BlockBody::Heap(heap) => heap,
+            BlockBody::Raw(_) => unreachable!(),
+        }
+    }
+
+    /// The raw body of a block in memory.
+    pub fn raw(&self, block: VmHandle) -> &RawBody
+        requires resident { is_resident self.now.resident block.0 ≡ true }
+        requires raw { is_raw self.now.document block.0 ≡ true }
+        ensures { result.now ≡ raw_bytes_of self.now.document block.0 }
+    {
+        match self.body(block) {
+            BlockBody::Raw(raw) => raw,
+            BlockBody::Heap(_) => unreachable!(),
+        }
+    }
+
+    /// Sets the user ID of a block, in memory or not. No memory, no store.
+    pub fn set_uid(&mut self, block: VmHandle, user_id: u16)
+        requires { is_live self.old.document block.0 ≡ true }
+        ensures { self.new ≡ record self.old { document = with_user_id self.old.document block.0 user_id } }
+    {
+        self.file.set_uid(block, user_id);
+    }
+
+    /// Sets the map block, 0 for none. No memory, no store.
+    pub fn set_map(&mut self, block: VmHandle)
+        requires { (block.0 ≡ 0) ⊎ (is_live self.old.document block.0 ≡ true) }
+        ensures { self.new ≡ record self.old { document = record self.old.document { map_block = block.0 } } }
+    {
+        self.file.set_map(block);
+    }
+
+    /// Brings a block into memory, and makes it the most recently used. Where each frame is taken, the least recently used block
+    /// that isn't locked goes; if it is changed, it is first written to the file. Memory, File; Damaged where what is read is no
+    /// image, which an honest store never gives. For a block that is in memory it takes no memory, calls no store and isn't refused.
+    pub fn load(&mut self, block: VmHandle) -> Result<(), Fault>
+        requires live { is_live self.old.document block.0 ≡ true }
+        requires room { (is_resident self.old.resident block.0 ≡ true) ⊎ (all_locked self.old.frames self.old.resident ≡ false) }
+        ensures stays { Stays S.facts self.old self.new }
+        ensures ok { OnOk result (self.new.resident ≡ seated self.old.frames block.0 self.old.resident) }
+        ensures err { OnErr result ((self.new.resident ≡ self.old.resident) ⊎ (self.new.resident ≡ evicted self.old.resident)) }
+        ensures already { is_resident self.old.resident block.0 ≡ true → (result ≡ Ok tt) × (self.new.disk ≡ self.old.disk) × (self.new.document ≡ self.old.document) }
+        ensures fails { Fails S.facts (IsDamage (S.facts self.old.disk.store).honest) self.old.disk.store self.new.disk.store result }
+    {
+        let _count = self.frames.len();
+        if self.frames.contains(&block.0) {
+            self.frames.promote(&block.0);
+            Ok(())
+        } else {
+            bring(self.alloc, &mut self.file, &mut self.frames, block)
+        }
+    }
+
+    /// One more lock of a block in memory. No memory, no store.
+    pub fn lock(&mut self, block: VmHandle)
+        requires resident { is_resident self.old.resident block.0 ≡ true }
+        requires few { locks_of self.old.resident block.0 < 255 }
+        ensures { self.new ≡ record self.old { resident = set_value (nat_eq block.0) self.old.resident (locks_of self.old.resident block.0 + 1) } }
+    {
+        lock(&mut self.frames, block.0);
+    }
+
+    /// One lock less of a block. No memory, no store.
+    pub fn unlock(&mut self, block: VmHandle)
+        requires { 0 < locks_of self.old.resident block.0 }
+        ensures { self.new ≡ record self.old { resident = set_value (nat_eq block.0) self.old.resident (locks_of self.old.resident block.0 - 1) } }
+    {
+        unlock(&mut self.frames, block.0);
+    }
+
+    /// Has a block in memory written to the file with the next flush, or when it is evicted. Nothing that a caller sees changes.
+    pub fn dirty(&mut self, block: VmHandle)
+        ensures { self.new ≡ self.old }
+    {
+        mark(&mut self.frames, block.0, true);
+    }
+
+    /// Writes all blocks in memory that are changed to the file; they stay in memory. Where that is refused, some are written,
+    /// and the others are still changed. Memory, File.
+    pub fn flush(&mut self) -> Result<(), Fault>
+        ensures stays { Stays S.facts self.old self.new }
+        ensures resident { self.new.resident ≡ self.old.resident }
+        ensures fails { Fails S.facts NoFault self.old.disk.store self.new.disk.store result }
+    {
+        flush(self.alloc, &mut self.file, &mut self.frames)
+    }
+
+    /// Takes all blocks out of memory, the locked ones too; what is changed is written to the file first. Where that is refused
+    /// they stay. Memory, File.
+    pub fn drop_frames(&mut self) -> Result<(), Fault>
+        ensures stays { Stays S.facts self.old self.new }
+        ensures ok { OnOk result (self.new.resident ≡ []) }
+        ensures err { OnErr result (self.new.resident ≡ self.old.resident) }
+        ensures fails { Fails S.facts NoFault self.old.disk.store self.new.disk.store result }
+    {
+        drop_all(self.alloc, &mut self.file, &mut self.frames)
+    }
+
+    /// Makes the document as it is now the updated one: what is changed in memory goes into the file first. Worn where the
+    /// sequence number can't rise, before anything is written; Memory, where nothing is committed; File, where what was to be
+    /// may be read after a crash.
+    pub fn commit_update(&mut self) -> Result<(), Fault>
+        ensures commit { IsCommit S.facts (self.old.document, self.old.disk.saved) self.old.document (seen self.old) (seen self.new) result }
+        ensures resident { (self.new.resident ≡ self.old.resident) × (self.new.frames ≡ self.old.frames) }
+        ensures fails { Fails S.facts IsWorn self.old.disk.store self.new.disk.store result }
+    {
+        committing::update(self.alloc, &mut self.file, &mut self.frames)
+    }
+
+    /// Makes the document as it is now the updated and the saved one. Refused as an update is.
+    pub fn commit_save(&mut self) -> Result<(), Fault>
+        ensures commit { IsCommit S.facts (self.old.document, self.old.document) self.old.document (seen self.old) (seen self.new) result }
+        ensures resident { (self.new.resident ≡ self.old.resident) × (self.new.frames ≡ self.old.frames) }
+        ensures fails { Fails S.facts IsWorn self.old.disk.store self.new.disk.store result }
+    {
+        committing::save(self.alloc, &mut self.file, &mut self.frames)
+    }
+
+    /// Makes the saved document the updated one and the document as it is now. All blocks go from memory, the locked ones too,
+    /// with what was changed in them; where it is refused they stay. Refused as an update is.
+    pub fn commit_revert(&mut self) -> Result<(), Fault>
+        ensures commit { IsCommit S.facts (self.old.disk.saved, self.old.disk.saved) self.old.disk.saved (seen self.old) (seen self.new) result }
+        ensures ok { OnOk result (self.new.resident ≡ []) }
+        ensures err { OnErr result (self.new.resident ≡ self.old.resident) }
+        ensures frames { self.new.frames ≡ self.old.frames }
+        ensures fails { Fails S.facts IsWorn self.old.disk.store self.new.disk.store result }
+    {
+        committing::revert(&mut self.file, &mut self.frames)
+    }
+
+    /// Gives the store back. Nothing is written.
+    pub fn close(self) -> S
+        ensures { result ≡ self.disk.store }
+    {
+        self.file.close()
+    }
+}

@@ -1,0 +1,77 @@
+// What the commits of a cache do to its file.
+ghost use Rattle.std.specs.Prelude.{◌≡◌, OnOk, OnErr, []};
+ghost use Rattle.vm_file.specs.Effects.{IsCommit, Fails, IsWorn};
+ghost use Rattle.block_cache.specs.Frames.{seats, overlay, covered, AreKept};
+
+use crate::frame::Frame;
+use crate::loading::flush;
+use geos_model::Fault;
+use lru::LruCache;
+use std::alloc::Global;
+use vm_file::VmFile;
+use vm_store::Store;
+
+/// Makes the document under the frames the updated one. Worn, before anything is written; Memory, where nothing is committed;
+/// File.
+pub fn update<S: Store>(
+    alloc: Global,
+    file: &mut VmFile<S>,
+    frames: &mut LruCache<u16, Frame>,
+) -> Result<(), Fault>
+    requires kept { AreKept (S.facts file.old.disk.store).honest file.old.document frames.old.entries }
+    ensures commit { IsCommit S.facts (overlay frames.old.entries file.old.document, file.old.disk.saved) (overlay frames.old.entries file.old.document)
+        (covered file.old frames.old.entries) (covered file.new frames.new.entries) result }
+    ensures kept { AreKept (S.facts file.new.disk.store).honest file.new.document frames.new.entries }
+    ensures seats { seats frames.new.entries ≡ seats frames.old.entries }
+    ensures cap { frames.new.cap ≡ frames.old.cap }
+    ensures fails { Fails S.facts IsWorn file.old.disk.store file.new.disk.store result }
+{
+    file.validity();
+    if file.is_worn() {
+        return Err(Fault::Worn);
+    }
+    flush(alloc, file, frames)?;
+    file.commit_update()
+}
+
+/// Makes the document under the frames the updated and the saved one. Refused as an update is.
+pub fn save<S: Store>(
+    alloc: Global,
+    file: &mut VmFile<S>,
+    frames: &mut LruCache<u16, Frame>,
+) -> Result<(), Fault>
+    requires kept { AreKept (S.facts file.old.disk.store).honest file.old.document frames.old.entries }
+    ensures commit { IsCommit S.facts (overlay frames.old.entries file.old.document, overlay frames.old.entries file.old.document) (overlay frames.old.entries file.old.document)
+        (covered file.old frames.old.entries) (covered file.new frames.new.entries) result }
+    ensures kept { AreKept (S.facts file.new.disk.store).honest file.new.document frames.new.entries }
+    ensures seats { seats frames.new.entries ≡ seats frames.old.entries }
+    ensures cap { frames.new.cap ≡ frames.old.cap }
+    ensures fails { Fails S.facts IsWorn file.old.disk.store file.new.disk.store result }
+{
+    file.validity();
+    if file.is_worn() {
+        return Err(Fault::Worn);
+    }
+    flush(alloc, file, frames)?;
+    file.commit_save()
+}
+
+/// Makes the saved document the updated one and the one of the file, over which no frame lies any more. Where it is refused the
+/// frames stay: Worn, before anything is written; Memory, where nothing is committed; File.
+pub fn revert<S: Store>(
+    file: &mut VmFile<S>,
+    frames: &mut LruCache<u16, Frame>,
+) -> Result<(), Fault>
+    requires kept { AreKept (S.facts file.old.disk.store).honest file.old.document frames.old.entries }
+    ensures commit { IsCommit S.facts (file.old.disk.saved, file.old.disk.saved) file.old.disk.saved
+        (covered file.old frames.old.entries) (covered file.new frames.new.entries) result }
+    ensures kept { AreKept (S.facts file.new.disk.store).honest file.new.document frames.new.entries }
+    ensures ok { OnOk result (frames.new.entries ≡ []) }
+    ensures err { OnErr result (frames.new.entries ≡ frames.old.entries) }
+    ensures cap { frames.new.cap ≡ frames.old.cap }
+    ensures fails { Fails S.facts IsWorn file.old.disk.store file.new.disk.store result }
+{
+    file.commit_revert()?;
+    frames.clear();
+    Ok(())
+}

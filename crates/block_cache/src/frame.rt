@@ -1,0 +1,99 @@
+// The blocks in memory, in the order of their use.
+ghost use Rattle.std.specs.Prelude.{◌≡◌, ◌<◌, ◌+◌, ◌-◌, true, nat_lt, is_some, Some, MatchOption};
+ghost use Rattle.std.specs.Option.{option_map};
+ghost use Rattle.lru.specs.LruCache.{lru_cache};
+ghost use Rattle.block_cache.specs.Frames.{held, seats, with_frame};
+ghost use Rattle.block_cache.specs.State.{locks_of, locked_count, all_locked, victim};
+
+use crate::body::BlockBody;
+use lru::LruCache;
+
+/// A block in memory.
+#[derive(Drop)]
+pub struct Frame {
+    pub body: BlockBody,
+    /// Whether the file may have another body of it.
+    pub changed: bool,
+    /// How often it is locked.
+    pub locks: u8,
+}
+
+/// Says whether a block in memory may differ from what the file has of it.
+pub fn mark(frames: &mut LruCache<u16, Frame>, block: u16, changed: bool)
+    ensures { frames.new ≡ lru_cache (with_frame frames.old.entries block (λ f. record f { changed = changed })) frames.old.cap }
+{
+    if let Some(frame) = frames.peek_mut(&block) {
+        frame.changed = changed;
+    }
+}
+
+/// One more lock of a block in memory.
+pub fn lock(frames: &mut LruCache<u16, Frame>, block: u16)
+    requires { MatchOption (held frames.old.entries block) (Unit {0}) (λ f. f.locks < 255) }
+    ensures { frames.new ≡ lru_cache (with_frame frames.old.entries block (λ f. record f { locks = f.locks + 1 })) frames.old.cap }
+{
+    if let Some(frame) = frames.peek_mut(&block) {
+        frame.locks += 1;
+    }
+}
+
+/// One lock less of a block in memory.
+pub fn unlock(frames: &mut LruCache<u16, Frame>, block: u16)
+    requires { MatchOption (held frames.old.entries block) (Unit {0}) (λ f. 0 < f.locks) }
+    ensures { frames.new ≡ lru_cache (with_frame frames.old.entries block (λ f. record f { locks = f.locks - 1 })) frames.old.cap }
+{
+    if let Some(frame) = frames.peek_mut(&block) {
+        frame.locks -= 1;
+    }
+}
+
+/// The least recently used block that isn't locked.
+pub fn victim(frames: &LruCache<u16, Frame>) -> Option<u16>
+    ensures { result ≡ victim (seats frames.now.entries) }
+{
+    match frames.iter().rev().find(|(_, frame)| frame.locks == 0) {
+        Some((block, _)) => Some(*block),
+        None => None,
+    }
+}
+
+/// The body of a block in memory.
+pub fn body_in(frames: &LruCache<u16, Frame>, block: u16) -> &BlockBody
+    requires { is_some (held frames.now.entries block) ≡ true }
+    ensures { option_map (λ f. f.body) (held frames.now.entries block) ≡ Some result.now }
+{
+    &frames.peek(&block).unwrap().body
+}
+
+/// How often a block is locked, 0 where it isn't in memory.
+pub fn locks_of(frames: &LruCache<u16, Frame>, block: u16) -> u8
+    ensures { result ≡ locks_of (seats frames.now.entries) block }
+{
+    match frames.peek(&block) {
+        Some(frame) => frame.locks,
+        None => 0,
+    }
+}
+
+/// Whether a block in memory is locked.
+pub fn has_locks(frames: &LruCache<u16, Frame>) -> bool
+    ensures { result ≡ nat_lt 0 (locked_count (seats frames.now.entries)) }
+{
+    match frames.iter().find(|(_, frame)| frame.locks != 0) {
+        Some(_) => true,
+        None => false,
+    }
+}
+
+/// Whether each frame has a locked block, so that no other can come into memory.
+pub fn all_locked(frames: &LruCache<u16, Frame>) -> bool
+    ensures { result ≡ all_locked frames.now.cap (seats frames.now.entries) }
+{
+    if frames.len() < frames.cap().get() {
+        return false;
+    }
+    match victim(frames) {
+        Some(_) => false,
+        None => true,
+    }
+}

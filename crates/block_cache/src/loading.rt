@@ -1,0 +1,223 @@
+// Blocks that come into memory and go out of it.
+ghost use Rattle.std.specs.Prelude.{◌≡◌, ◌⊎◌, ◌<◌, false, true, cond, nat_lt, List, [], ◌∷◌, length, IsTrue, is_some, None, Some, IfOk, OnOk, OnErr, MatchOption};
+ghost use Rattle.geos_model.specs.Document.{is_live, with_body};
+ghost use Rattle.vm_file.specs.Calls.{IsPut, put_all};
+ghost use Rattle.vm_file.specs.Effects.{Fails, NoFault, IsDamage};
+ghost use Rattle.block_cache.specs.Bodies.{body_of};
+ghost use Rattle.block_cache.specs.Frames.{held, seats, overlay, is_changed_in, some_changed, AreClean, IsChangedBody, AreKept, Moves};
+ghost use Rattle.block_cache.specs.State.{all_locked, victim, evicted};
+
+use crate::body::{BlockBody, read_image, write_image};
+use crate::frame::{Frame, mark, victim};
+use geos_model::{Bytes, Fault, VmHandle};
+use lru::LruCache;
+use std::alloc::{AllocError, Global};
+use vm_file::{PutBlock, VmFile};
+use vm_store::Store;
+
+// A block in memory as it is put into the file.
+fn put_of<S: Store>(
+    alloc: Global,
+    file: &VmFile<S>,
+    block: VmHandle,
+    body: &BlockBody,
+) -> Result<PutBlock, AllocError>
+    requires { is_live file.now.document block.0 ≡ true }
+    ensures put { IfOk result IsPut }
+    ensures is { IfOk result (λ put. put_all (put ∷ []) file.now.document ≡ with_body file.now.document block.0 (body_of body.now)) }
+{
+    let place = file.entry(block).unwrap();
+    let image = write_image(alloc, body)?;
+    Ok(PutBlock {
+        handle: block,
+        user_id: place.user_id,
+        image: Bytes::from_vec(image),
+    })
+}
+
+// The body of a block in memory, if it is changed.
+fn changed_body(frames: &LruCache<u16, Frame>, block: u16) -> Option<&BlockBody>
+    ensures { MatchOption result (is_changed_in frames.now.entries block ≡ false) (λ body. IsChangedBody frames.now.entries block body.now) }
+{
+    match frames.peek(&block) {
+        Some(frame) => {
+            if frame.changed {
+                Some(&frame.body)
+            } else {
+                None
+            }
+        }
+        None => None,
+    }
+}
+
+/// Puts a block in memory into the file, if it is changed. Memory, File.
+pub fn write_back<S: Store>(
+    alloc: Global,
+    file: &mut VmFile<S>,
+    frames: &mut LruCache<u16, Frame>,
+    block: VmHandle,
+) -> Result<(), Fault>
+    requires kept { AreKept (S.facts file.old.disk.store).honest file.old.document frames.old.entries }
+    ensures moves { Moves S.facts file.old frames.old.entries file.new frames.new.entries }
+    ensures seats { seats frames.new.entries ≡ seats frames.old.entries }
+    ensures cap { frames.new.cap ≡ frames.old.cap }
+    ensures clean { OnOk result (is_changed_in frames.new.entries block.0 ≡ false) }
+    ensures fewer { OnOk result (is_changed_in frames.old.entries block.0 ≡ true → some_changed frames.new.entries < some_changed frames.old.entries) }
+    ensures fails { Fails S.facts NoFault file.old.disk.store file.new.disk.store result }
+{
+    match changed_body(frames, block.0) {
+        None => Ok(()),
+        Some(body) => {
+            let puts = [put_of(alloc, file, block, body)?];
+            file.put_blocks(&puts, &[])?;
+            mark(frames, block.0, false);
+            Ok(())
+        }
+    }
+}
+
+// Frees the frame of the least recently used block that isn't locked. Memory, File.
+fn evict<S: Store>(
+    alloc: Global,
+    file: &mut VmFile<S>,
+    frames: &mut LruCache<u16, Frame>,
+) -> Result<(), Fault>
+    requires kept { AreKept (S.facts file.old.disk.store).honest file.old.document frames.old.entries }
+    requires some { IsTrue (is_some (victim (seats frames.old.entries))) }
+    ensures moves { Moves S.facts file.old frames.old.entries file.new frames.new.entries }
+    ensures ok { OnOk result (seats frames.new.entries ≡ evicted (seats frames.old.entries)) }
+    ensures fewer { OnOk result (length frames.new.entries < length frames.old.entries) }
+    ensures err { OnErr result (seats frames.new.entries ≡ seats frames.old.entries) }
+    ensures cap { frames.new.cap ≡ frames.old.cap }
+    ensures fails { Fails S.facts NoFault file.old.disk.store file.new.disk.store result }
+{
+    let block = victim(frames).unwrap();
+    write_back(alloc, file, frames, VmHandle(block))?;
+    let _count = frames.len();
+    frames.pop(&block);
+    Ok(())
+}
+
+/// Frees a frame, if each one is taken. Memory, File.
+pub fn make_room<S: Store>(
+    alloc: Global,
+    file: &mut VmFile<S>,
+    frames: &mut LruCache<u16, Frame>,
+) -> Result<(), Fault>
+    requires kept { AreKept (S.facts file.old.disk.store).honest file.old.document frames.old.entries }
+    requires room { all_locked frames.old.cap (seats frames.old.entries) ≡ false }
+    ensures moves { Moves S.facts file.old frames.old.entries file.new frames.new.entries }
+    ensures ok { OnOk result (seats frames.new.entries ≡ cond (nat_lt (length (seats frames.old.entries)) frames.old.cap) (seats frames.old.entries) (evicted (seats frames.old.entries))) }
+    ensures room { OnOk result (length frames.new.entries < frames.new.cap) }
+    ensures err { OnErr result (seats frames.new.entries ≡ seats frames.old.entries) }
+    ensures cap { frames.new.cap ≡ frames.old.cap }
+    ensures fails { Fails S.facts NoFault file.old.disk.store file.new.disk.store result }
+{
+    if frames.len() < frames.cap().get() {
+        return Ok(());
+    }
+    evict(alloc, file, frames)
+}
+
+/// Reads a block into a free frame. Damaged where what is read is no image, which an honest store never gives; Memory, File.
+pub fn fetch<S: Store>(
+    alloc: Global,
+    file: &mut VmFile<S>,
+    frames: &mut LruCache<u16, Frame>,
+    block: VmHandle,
+) -> Result<(), Fault>
+    requires kept { AreKept (S.facts file.old.disk.store).honest file.old.document frames.old.entries }
+    requires live { is_live file.old.document block.0 ≡ true }
+    requires absent { held frames.old.entries block.0 ≡ None }
+    requires room { length frames.old.entries < frames.old.cap }
+    ensures moves { Moves S.facts file.old frames.old.entries file.new frames.new.entries }
+    ensures ok { OnOk result (seats frames.new.entries ≡ (block.0, 0) ∷ seats frames.old.entries) }
+    ensures err { OnErr result (seats frames.new.entries ≡ seats frames.old.entries) }
+    ensures cap { frames.new.cap ≡ frames.old.cap }
+    ensures fails { Fails S.facts (IsDamage (S.facts file.old.disk.store).honest) file.old.disk.store file.new.disk.store result }
+{
+    file.validity();
+    let image = file.read_block(block)?;
+    let body = read_image(alloc, &image)?;
+    frames.put(
+        block.0,
+        Frame {
+            body,
+            changed: false,
+            locks: 0,
+        },
+    )?;
+    Ok(())
+}
+
+/// Brings a block into memory that isn't there, and frees a frame for it if each one is taken. Refused as `fetch` is.
+pub fn bring<S: Store>(
+    alloc: Global,
+    file: &mut VmFile<S>,
+    frames: &mut LruCache<u16, Frame>,
+    block: VmHandle,
+) -> Result<(), Fault>
+    requires kept { AreKept (S.facts file.old.disk.store).honest file.old.document frames.old.entries }
+    requires live { is_live file.old.document block.0 ≡ true }
+    requires absent { held frames.old.entries block.0 ≡ None }
+    requires room { all_locked frames.old.cap (seats frames.old.entries) ≡ false }
+    ensures moves { Moves S.facts file.old frames.old.entries file.new frames.new.entries }
+    ensures ok { OnOk result (seats frames.new.entries ≡ (block.0, 0) ∷ cond (nat_lt (length (seats frames.old.entries)) frames.old.cap) (seats frames.old.entries) (evicted (seats frames.old.entries))) }
+    ensures err { OnErr result ((seats frames.new.entries ≡ seats frames.old.entries) ⊎ (seats frames.new.entries ≡ evicted (seats frames.old.entries))) }
+    ensures cap { frames.new.cap ≡ frames.old.cap }
+    ensures fails { Fails S.facts (IsDamage (S.facts file.old.disk.store).honest) file.old.disk.store file.new.disk.store result }
+{
+    make_room(alloc, file, frames)?;
+    fetch(alloc, file, frames, block)
+}
+
+// A block in memory that is changed.
+fn first_changed(frames: &LruCache<u16, Frame>) -> Option<u16>
+    ensures { MatchOption result (AreClean frames.now.entries) (λ block. IsTrue (is_changed_in frames.now.entries block)) }
+{
+    let _count = frames.len();
+    match frames.iter().find(|(_, frame)| frame.changed) {
+        Some((block, _)) => Some(*block),
+        None => None,
+    }
+}
+
+/// Puts all blocks in memory that are changed into the file; they stay in memory. Where that is refused, some are in the file,
+/// and the others are still changed. Memory, File.
+pub fn flush<S: Store>(
+    alloc: Global,
+    file: &mut VmFile<S>,
+    frames: &mut LruCache<u16, Frame>,
+) -> Result<(), Fault>
+    requires kept { AreKept (S.facts file.old.disk.store).honest file.old.document frames.old.entries }
+    ensures moves { Moves S.facts file.old frames.old.entries file.new frames.new.entries }
+    ensures seats { seats frames.new.entries ≡ seats frames.old.entries }
+    ensures cap { frames.new.cap ≡ frames.old.cap }
+    ensures clean { OnOk result (AreClean frames.new.entries) }
+    ensures fails { Fails S.facts NoFault file.old.disk.store file.new.disk.store result }
+{
+    while let Some(block) = first_changed(frames) {
+        write_back(alloc, file, frames, VmHandle(block))?;
+    }
+    Ok(())
+}
+
+/// Frees all frames, the locked ones too, with each block that is changed written first; where that is refused they stay.
+/// Memory, File.
+pub fn drop_all<S: Store>(
+    alloc: Global,
+    file: &mut VmFile<S>,
+    frames: &mut LruCache<u16, Frame>,
+) -> Result<(), Fault>
+    requires kept { AreKept (S.facts file.old.disk.store).honest file.old.document frames.old.entries }
+    ensures moves { Moves S.facts file.old frames.old.entries file.new frames.new.entries }
+    ensures ok { OnOk result (seats frames.new.entries ≡ []) }
+    ensures err { OnErr result (seats frames.new.entries ≡ seats frames.old.entries) }
+    ensures cap { frames.new.cap ≡ frames.old.cap }
+    ensures fails { Fails S.facts NoFault file.old.disk.store file.new.disk.store result }
+{
+    flush(alloc, file, frames)?;
+    frames.clear();
+    Ok(())
+}
