@@ -1,5 +1,6 @@
 pub mod Commits
 pub mod FileImages
+pub mod Lent
 pub mod Loaded
 pub mod Overlay
 pub mod Seats

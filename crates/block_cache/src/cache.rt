@@ -1,4 +1,5 @@
 ghost use Rattle.std.specs.Prelude.{◌≡◌, ◌⊎◌, ◌≤◌, ◌<◌, ◌+◌, ◌-◌, true, false, IfOk, IfErr, OnOk, OnErr, Ok, Some, [], nat_eq, nat_lt};
+ghost use Rattle.std.specs.Borrow.{sem};
 ghost use Rattle.std.specs.FinMap.{get};
 ghost use Rattle.std.specs.Map.{set_value};
 ghost use Rattle.std.specs.Option.{option_map};
@@ -43,6 +44,8 @@ impl<S: Store> Model for Cache<S> {
 }
 
 impl<S: Store> Cache<S> {
+    ghost use Rattle.block_cache.specs.LendsBlock.{lends_heap, lends_raw};
+
     /// A file with so many frames, none of them taken. Memory: the store comes back.
     pub fn open(alloc: Global, file: VmFile<S>, frames: usize) -> Result<Cache<S>, Refused<S>>
         requires some { 1 ≤ frames }
@@ -151,6 +154,26 @@ impl<S: Store> Cache<S> {
             BlockBody::Raw(raw) => raw,
             BlockBody::Heap(_) => unreachable!(),
         }
+    }
+
+    /// The heap of a block in memory, to be changed. No memory, no store.
+    pub fn heap_mut(&mut self, block: VmHandle) -> &mut Heap
+        requires resident { is_resident self.old.resident block.0 ≡ true }
+        requires heap { is_heap self.old.document block.0 ≡ true }
+        ensures* writes_back { sem 𝓛 (lends_heap S.row S.Store self.entry block.0 result) }
+        ensures value { result.now.chunks ≡ chunks_of self.old.document block.0 }
+    {
+        self.frames.peek_mut(&block.0).unwrap().heap_mut()
+    }
+
+    /// The raw bytes of a block in memory, to be changed. No memory, no store.
+    pub fn raw_mut(&mut self, block: VmHandle) -> &mut RawBody
+        requires resident { is_resident self.old.resident block.0 ≡ true }
+        requires raw { is_raw self.old.document block.0 ≡ true }
+        ensures* writes_back { sem 𝓛 (lends_raw S.row S.Store self.entry block.0 result) }
+        ensures value { result.now ≡ raw_bytes_of self.old.document block.0 }
+    {
+        self.frames.peek_mut(&block.0).unwrap().raw_mut()
     }
 
     /// Sets the user ID of a block, in memory or not. No memory, no store.

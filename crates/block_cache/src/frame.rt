@@ -1,12 +1,17 @@
 // The blocks in memory, in the order of their use.
-ghost use Rattle.std.specs.Prelude.{◌≡◌, ◌<◌, ◌+◌, ◌-◌, true, nat_lt, is_some, Some, MatchOption};
+ghost use Rattle.std.specs.Prelude.{◌≡◌, ◌<◌, ◌+◌, ◌-◌, true, false, nat_lt, is_some, Some, MatchOption};
+ghost use Rattle.std.specs.Borrow.{sem};
 ghost use Rattle.std.specs.Option.{option_map};
+ghost use Rattle.geos_model.specs.Document.{is_heap_body};
 ghost use Rattle.lru.specs.LruCache.{lru_cache};
+ghost use Rattle.block_cache.specs.Bodies.{body_of};
 ghost use Rattle.block_cache.specs.Frames.{held, seats, with_frame};
 ghost use Rattle.block_cache.specs.State.{locks_of, locked_count, all_locked, victim};
 
 use crate::body::BlockBody;
+use lmem_heap::Heap;
 use lru::LruCache;
+use raw_region::RawBody;
 
 /// A block in memory.
 #[derive(Drop)]
@@ -16,6 +21,30 @@ pub struct Frame {
     pub changed: bool,
     /// How often it is locked.
     pub locks: u8,
+}
+
+impl Frame {
+    ghost use Rattle.block_cache.specs.LendsFrame.{lends_heap, lends_raw};
+
+    /// The heap of a frame that has one, to be changed: from now on the file may have another.
+    pub(crate) fn heap_mut(&mut self) -> &mut Heap
+        requires { is_heap_body (body_of self.old.body) ≡ true }
+        ensures* writes_back { sem 𝓛 (lends_heap self.entry result) }
+        ensures value { self.old.body ≡ BlockBody.Heap result.now }
+    {
+        self.changed = true;
+        self.body.heap_mut()
+    }
+
+    /// The raw bytes of a frame that has such, to be changed: from now on the file may have others.
+    pub(crate) fn raw_mut(&mut self) -> &mut RawBody
+        requires { is_heap_body (body_of self.old.body) ≡ false }
+        ensures* writes_back { sem 𝓛 (lends_raw self.entry result) }
+        ensures value { self.old.body ≡ BlockBody.Raw result.now }
+    {
+        self.changed = true;
+        self.body.raw_mut()
+    }
 }
 
 /// Says whether a block in memory may differ from what the file has of it.

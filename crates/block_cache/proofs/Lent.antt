@@ -1,0 +1,74 @@
+-- A body of a block in memory that is lent, to be changed.
+use Rattle.std.proofs.Common.{◌≡◌, ◌≢◌, ℕ, Bool, true, false, not, cond, nat_eq, List, [], Option, None, Some, is_some, unwrap_or, inl, inr, refl, sym, ap, ◌∙◌, eq-eqb}
+use Rattle.std.proofs.lemmas.Bool.{cases_eq, ne_eqb}
+use Rattle.std.proofs.lemmas.Map.{lookup-set_value}
+use Rattle.std.specs.Cmp.{nat_eq_equiv}
+use Rattle.std.specs.Map.{set_value}
+use Rattle.std.specs.Borrow.{MutBor}
+use Rattle.std.specs.Option.{IsSome, option_map_or, option_copied_mut}
+use Rattle.std.specs.FinMap.{get, empty}
+use Rattle.geos_model.specs.Document.{Document, Block, is_live, user_id_of, with_body, is_heap, is_raw, is_heap_body, chunks_of, chunks_of_body, raw_bytes_of, bytes_of_body}
+use Rattle.geos_model.proofs.HeapEdits.{get-put_same, get-put_other}
+use Rattle.block_cache.specs.Bodies.{body_of}
+use Rattle.block_cache.specs.Frames.{held, overlay, IsKept, AreKept}
+use Rattle.block_cache.specs.declared.frame.Frame.{Frame}
+use Rattle.block_cache.proofs.Overlay.{cover, get-overlay, overlay_map, overlay_user, same_document}
+
+pub is_lent : (o : Option (MutBor Frame)) → is_some (option_copied_mut o) ≡ true → IsSome o
+is_lent None is = absurd (cc is)
+is_lent (Some r) is = refl
+
+module _ (es : List (ℕ × Frame)) (h : ℕ) (f : Frame) (here : held es h ≡ Some f) (d : Document) where
+  -- what the document has of it
+  shown : get (overlay es d).blocks h ≡ Some (record { user_id = user_id_of d h; body = body_of f.body })
+  shown = get-overlay es d h ∙ ap (λ o. cover o d h) here
+
+  pub heap_shown : is_heap (overlay es d) h ≡ is_heap_body (body_of f.body)
+  heap_shown = ap (λ o. option_map_or (λ (b : Block). is_heap_body b.body) o false) shown
+
+  pub raw_shown : is_raw (overlay es d) h ≡ not (is_heap_body (body_of f.body))
+  raw_shown = ap (λ o. option_map_or (λ (b : Block). not (is_heap_body b.body)) o false) shown
+
+  pub chunks_shown : chunks_of (overlay es d) h ≡ chunks_of_body (body_of f.body)
+  chunks_shown = ap (λ o. option_map_or (λ (b : Block). chunks_of_body b.body) o empty) shown
+
+  pub bytes_shown : raw_bytes_of (overlay es d) h ≡ bytes_of_body (body_of f.body)
+  bytes_shown = ap (λ o. option_map_or (λ (b : Block). bytes_of_body b.body) o []) shown
+
+  module _ (g : Frame) where
+    abbrev lent : List (ℕ × Frame)
+    lent = set_value (nat_eq h) es g
+
+    now : (q : ℕ) → held lent q ≡ cond (nat_eq h q) (Some g) (held es q)
+    now q = lookup-set_value nat_eq_equiv (nat_eq h) (nat_eq_equiv.congr h) q g es (ap is_some here)
+
+    now_here : (q : ℕ) → q ≡ h → held lent q ≡ Some g
+    now_here q at = now q ∙ ap (λ b. cond b (Some g) (held es q)) (eq-eqb h q (sym at))
+
+    now_other : (q : ℕ) → q ≢ h → held lent q ≡ held es q
+    now_other q other = now q ∙ ap (λ b. cond b (Some g) (held es q)) (ne_eqb h q (λ is. other (sym is)))
+
+    pub overlay_lent : overlay lent d ≡ with_body (overlay es d) h (body_of g.body)
+    overlay_lent =
+        let over = overlay es d in
+        same_document (with_body over h (body_of g.body)) (overlay lent d) (overlay_map lent d ∙ sym (overlay_map es d))
+        (λ q. get-overlay lent d q ∙ elim (cases_eq q h) as (λ _. cover (held lent q) d q ≡ get (with_body over h (body_of g.body)).blocks q) [
+          | inl at ↦ ap (λ o. cover o d q) (now_here q at)
+              ∙ ap (λ u. Some (record { user_id = u; body = body_of g.body })) (ap (user_id_of d) at ∙ sym (overlay_user es d h))
+              ∙ sym (get-put_same over.blocks h (record { user_id = user_id_of over h; body = body_of g.body }) q at)
+          | inr other ↦ ap (λ o. cover o d q) (now_other q other) ∙ sym (get-overlay es d q)
+              ∙ sym (get-put_other over.blocks h (record { user_id = user_id_of over h; body = body_of g.body }) q other)
+        ])
+
+    pub kept_lent : (honest : Bool) → g.changed ≡ true → AreKept honest d es → AreKept honest d lent
+    kept_lent honest changed kept = record {
+      each = λ q k is. elim (cases_eq q h) as (λ _. IsKept honest d q k) [
+        | inl at ↦ let found : Some g ≡ Some k = sym (now_here q at) ∙ is in
+            let the : g ≡ k = ap (λ o. unwrap_or o g) found in
+            record {
+              live = ap (is_live d) at ∙ (kept.each h f here).live;
+              clean = λ so same. let wrong : true ≡ false = sym changed ∙ ap (λ (x : Frame). x.changed) the ∙ same in absurd (cc wrong);
+            }
+        | inr other ↦ kept.each q k (sym (now_other q other) ∙ is)
+      ];
+    }
