@@ -1,10 +1,14 @@
-ghost use Rattle.std.specs.Prelude.{◌≡◌, ◌⊎◌, ◌≤◌, ◌<◌, ◌+◌, ◌-◌, true, false, IfOk, IfErr, OnOk, OnErr, Ok, Some, [], nat_eq, nat_lt};
+ghost use Rattle.std.specs.Prelude.{◌≡◌, ◌≢◌, ◌⊎◌, ◌≤◌, ◌<◌, ◌+◌, ◌-◌, ℕ, true, false, IsTrue, MatchResult, IfOk, IfErr, OnOk, OnErr, Ok, Some, [], nat_eq, nat_lt};
 ghost use Rattle.std.specs.Borrow.{sem};
 ghost use Rattle.std.specs.FinMap.{get};
 ghost use Rattle.std.specs.Map.{set_value};
 ghost use Rattle.std.specs.Option.{option_map};
-ghost use Rattle.geos_model.specs.Document.{is_live, is_heap, is_raw, chunks_of, raw_bytes_of, user_id_of, with_user_id};
-ghost use Rattle.vm_file.specs.Effects.{IsCommit, Fails, NoFault, IsWorn, IsDamage};
+ghost use Rattle.vm_store.specs.Facts.{Raised};
+ghost use Rattle.geos_model.specs.Document.{IsValid, empty_document, is_vm_handle, is_live, is_heap, is_raw, chunks_of, raw_bytes_of, user_id_of, with_user_id};
+ghost use Rattle.vm_file.specs.Calls.{IsSupply};
+ghost use Rattle.vm_file.specs.Disk.{IsSettled};
+ghost use Rattle.vm_file.specs.Making.{first_file};
+ghost use Rattle.vm_file.specs.Effects.{Follows, IsNewFile, IsCommit, Fails, NoFault, IsWorn, IsDamage};
 ghost use Rattle.block_cache.specs.Bodies.{body_of};
 ghost use Rattle.block_cache.specs.State.{is_resident, locks_of, locked_count, all_locked, seated, evicted, seen, Stays};
 
@@ -46,10 +50,39 @@ impl<S: Store> Model for Cache<S> {
 impl<S: Store> Cache<S> {
     ghost use Rattle.block_cache.specs.LendsBlock.{lends_heap, lends_raw};
 
+    /// Makes the store an empty document file with so many frames, whatever was in it. Memory, before the store is called; File.
+    pub fn create(alloc: Global, store: S, frames: usize) -> Result<Cache<S>, Refused<S>>
+        requires { 1 ≤ frames }
+        ensures store { MatchResult result
+            (λ cache. Follows S.facts store cache.disk.store)
+            (λ refused. Follows S.facts store refused.store) }
+        ensures made { IfOk result (λ cache. (cache.document ≡ empty_document) × IsNewFile S.facts empty_document cache.disk) }
+        ensures empty { IfOk result (λ cache. (cache.resident ≡ []) × (cache.frames ≡ frames)) }
+        ensures bytes { IfOk result (λ cache. IsTrue (S.facts store).honest → (S.facts cache.disk.store).content ≡ first_file) }
+        ensures early { IfErr result (λ refused. refused.fault ≢ Fault.File → refused.store ≡ store) }
+        ensures file { IfErr result (λ refused. refused.fault ≡ Fault.File → Raised (S.facts store) (S.facts refused.store)) }
+        ensures refusals { IfErr result (λ refused. IsSupply refused.fault) }
+    {
+        let cap = NonZeroUsize::new(frames).unwrap();
+        let Ok(frames) = LruCache::new(alloc, cap) else {
+            return Err(Refused {
+                fault: Fault::Memory,
+                store,
+            });
+        };
+        match VmFile::create(alloc, store) {
+            Ok(file) => Ok(Cache {
+                alloc,
+                file,
+                frames,
+            }),
+            Err(refused) => Err(refused),
+        }
+    }
+
     /// A file with so many frames, none of them taken. Memory: the store comes back.
     pub fn open(alloc: Global, file: VmFile<S>, frames: usize) -> Result<Cache<S>, Refused<S>>
-        requires some { 1 ≤ frames }
-        requires few { frames ≤ 64 }
+        requires { 1 ≤ frames }
         ensures ok { IfOk result (λ cache. cache ≡ record { disk = file.disk; document = file.document; resident = []; frames = frames }) }
         ensures err { IfErr result (λ refused. (refused.fault ≡ Fault.Memory) × (refused.store ≡ file.disk.store)) }
     {
@@ -288,6 +321,16 @@ impl<S: Store> Cache<S> {
         ensures fails { Fails S.facts IsWorn self.old.disk.store self.new.disk.store result }
     {
         committing::revert(&mut self.file, &mut self.frames)
+    }
+
+    /// It does nothing: its caller learns what always holds of the disk, and of which handles are live.
+    pub fn validity(&self)
+        ensures settled { IsSettled S.facts self.now.disk }
+        ensures valid { IsTrue (S.facts self.now.disk.store).honest → IsValid self.now.disk.updated × IsValid self.now.disk.saved }
+        ensures handles { (h : ℕ) → is_live self.now.document h ≡ true → is_vm_handle h ≡ true }
+        ensures map_block { (self.now.document.map_block ≡ 0) ⊎ (is_live self.now.document self.now.document.map_block ≡ true) }
+    {
+        self.file.validity();
     }
 
     /// Gives the store back. Nothing is written.
