@@ -2,6 +2,7 @@ pub mod Commits
 pub mod FileImages
 pub mod Lent
 pub mod Loaded
+pub mod Locks
 pub mod Overlay
 pub mod Seats
 pub mod Steps

@@ -58,6 +58,11 @@ abbrev pub seated : ℕ → ℕ → List Seat → List Seat
 seated frames h seats =
     cond (is_resident seats h) (promoted (nat_eq h) seats) ((h, 0) ∷ cond (nat_lt (length seats) frames) seats (evicted seats))
 
+-- Each block is locked as often as before, one that isn't in memory not at all, so that as many are locked.
+pub record KeepsLocks (old new : List Seat) : Type 0 where
+  pub each : (h : ℕ) → locks_of new h ≡ locks_of old h
+  pub count : locked_count new ≡ locked_count old
+
 -- The cache as a file, whose document is the one that callers see.
 abbrev pub seen : {S : Type 0} → CacheState S → FileState S
 seen c = record { disk = c.disk; document = c.document }

@@ -10,7 +10,7 @@ ghost use Rattle.vm_file.specs.Disk.{IsSettled};
 ghost use Rattle.vm_file.specs.Making.{first_file};
 ghost use Rattle.vm_file.specs.Effects.{Follows, IsNewFile, IsCommit, Fails, NoFault, IsWorn, IsDamage};
 ghost use Rattle.block_cache.specs.Bodies.{body_of};
-ghost use Rattle.block_cache.specs.State.{is_resident, locks_of, locked_count, all_locked, seated, evicted, seen, Stays};
+ghost use Rattle.block_cache.specs.State.{is_resident, locks_of, locked_count, all_locked, seated, evicted, seen, Stays, KeepsLocks};
 
 use crate::frame::{Frame, all_locked, body_in, has_locks, lock, locks_of, mark, unlock};
 use crate::loading::{bring, drop_all, flush};
@@ -234,6 +234,7 @@ impl<S: Store> Cache<S> {
         ensures stays { Stays S.facts self.old self.new }
         ensures ok { OnOk result (self.new.resident ≡ seated self.old.frames block.0 self.old.resident) }
         ensures err { OnErr result ((self.new.resident ≡ self.old.resident) ⊎ (self.new.resident ≡ evicted self.old.resident)) }
+        ensures locks { KeepsLocks self.old.resident self.new.resident }
         ensures already { is_resident self.old.resident block.0 ≡ true → (result ≡ Ok tt) × (self.new.disk ≡ self.old.disk) × (self.new.document ≡ self.old.document) }
         ensures fails { Fails S.facts (IsDamage (S.facts self.old.disk.store).honest) self.old.disk.store self.new.disk.store result }
     {

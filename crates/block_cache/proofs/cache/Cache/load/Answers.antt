@@ -1,15 +1,19 @@
-use Rattle.std.proofs.Common.{◌≡◌, ℕ, ◌∷◌, true, false, cond, nat_lt, nat_eq, length, refl, ap, sym, subst, ◌∙◌, inl, inr}
+use Rattle.std.proofs.Common.{◌≡◌, ℕ, ◌∷◌, true, false, cond, nat_lt, nat_eq, length, unwrap_or, None, refl, ap, sym, subst, ◌∙◌, inl, inr}
 use Rattle.std.specs.Prelude.{OnOk}
 use Rattle.vm_file.specs.Disk.{Drifts}
 use Rattle.vm_file.specs.Effects.{Fails, IsDamage}
 use Rattle.vm_file.proofs.Passing.{Drifts-refl}
 use Rattle.geos_model.specs.Document.{is_live}
+use Rattle.std.specs.List.{IsDistinct}
+use Rattle.std.specs.Map.{lookup, keys_of}
+use Rattle.std.specs.Option.{option_map}
 use Rattle.lru.specs.LruCache.{LruCache, promoted}
-use Rattle.block_cache.specs.State.{CacheState, Stays, is_resident, seated, evicted, all_locked}
+use Rattle.block_cache.specs.State.{CacheState, KeepsLocks, locked_count, Stays, is_resident, seated, evicted, all_locked}
 use Rattle.block_cache.specs.Frames.{held, seats, overlay}
 use Rattle.block_cache.specs.declared.frame.Frame.{Frame}
-use Rattle.block_cache.proofs.Seats.{resident_is, seats-promoted, held-promoted}
+use Rattle.block_cache.proofs.Seats.{none_held, resident_is, lookup-seats, seats-promoted, held-promoted}
 use Rattle.block_cache.proofs.Overlay.{overlay_same, kept_same, overlay_live}
+use Rattle.block_cache.proofs.Locks.{keys-seats, count_promoted, keeps_either}
 use Rattle.block_cache.proofs.Steps.{moves_frames, stays_by, state}
 use Rattle.block_cache.proofs.cache.Cache.load.Goals as goal
 
@@ -89,3 +93,26 @@ returns-else-contains-clause-stays g c =
     let facts = g.S.Store.facts in
     subst (λ s. Stays facts s (state facts c.bring.new.file c.bring.new.frames.entries c.bring.new.frames.cap)) c.self.view_is
     (stays_by facts c.self.inside.file c.self.inside.frames.entries c.self.inside.frames.cap c.bring.new.file c.bring.new.frames.entries c.bring.new.frames.cap c.bring.ensures.moves c.bring.ensures.cap)
+
+pub returns-then-contains-clause-locks : goal.returns-then-contains-clause-locks
+returns-then-contains-clause-locks g c =
+    let es = c.self.inside.frames.entries in
+    let ps = c.promote.new.self.entries in
+    let h = c.args.block.0 in
+    let now : (q : ℕ) → held ps q ≡ held es q = λ q. ap (λ (x : LruCache ℕ Frame). held x.entries q) c.promote.ensures.entries ∙ held-promoted h q es c.len-count.ensures.valid.0 in
+    let base : KeepsLocks (seats es) (seats ps) = record {
+      each = λ q. ap (λ o. unwrap_or o 0) (lookup-seats q ps ∙ ap (option_map (λ (f : Frame). f.locks)) (now q) ∙ sym (lookup-seats q es));
+      count = ap (λ (x : LruCache ℕ Frame). locked_count (seats x.entries)) c.promote.ensures.entries ∙ ap locked_count (seats-promoted h es) ∙ count_promoted h (seats es);
+    } in
+    subst (λ s. KeepsLocks s.resident (seats ps)) c.self.view_is base
+
+pub returns-else-contains-clause-locks : goal.returns-else-contains-clause-locks
+returns-else-contains-clause-locks g c =
+    let es = c.self.inside.frames.entries in
+    let fs = c.bring.new.frames.entries in
+    let h = c.args.block.0 in
+    let distinct : IsDistinct nat_eq (keys_of (seats es)) = subst (IsDistinct nat_eq) (sym (keys-seats es)) c.len-count.ensures.valid.0 in
+    let out : held es h ≡ None = none_held (held es h) (sym c.contains.ensures ∙ c.if-contains.false) in
+    let absent : lookup (nat_eq h) (seats es) ≡ None = lookup-seats h es ∙ ap (option_map (λ (f : Frame). f.locks)) out in
+    subst (λ s. KeepsLocks s.resident (seats fs)) c.self.view_is
+    (keeps_either c.bring.result h (nat_lt (length (seats es)) c.self.inside.frames.cap) (seats es) (seats fs) distinct absent c.bring.ensures.ok c.bring.ensures.err)
