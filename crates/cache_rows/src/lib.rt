@@ -1,0 +1,7 @@
+//! Tests of the cache of blocks: what it holds with few frames, and what it leaves in the file.
+#![tactic(auto)]
+
+#[cfg(test)]
+mod calls;
+#[cfg(test)]
+mod using;
