@@ -15,3 +15,5 @@ pub mod Marked
 pub mod Documents
 pub mod SavedAs
 pub mod Opened
+pub mod KeepingLaws
+pub mod AllInMemory

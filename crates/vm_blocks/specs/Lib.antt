@@ -10,3 +10,4 @@ pub mod Reading
 pub mod Marking
 pub mod Committing
 pub mod Opening
+pub mod Keeping

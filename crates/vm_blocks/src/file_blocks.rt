@@ -9,11 +9,12 @@ ghost use Rattle.vm_store.specs.Facts.{Raised, Rests};
 ghost use Rattle.vm_file.specs.Calls.{IsSupply, last_sequence};
 ghost use Rattle.vm_file.specs.Disk.{IsSettled};
 ghost use Rattle.vm_file.specs.Effects.{Follows, IsCommit, Fails, OnlyReads, IsWorn, IsDamage};
-ghost use Rattle.vm_blocks.specs.Blocks.{block_of, is_resident};
+ghost use Rattle.vm_blocks.specs.Blocks.{block_of};
 ghost use Rattle.vm_blocks.specs.Bodies.{body_of};
 ghost use Rattle.vm_blocks.specs.Changes.{after, turned, Applies, blocks_in, IsFor};
 ghost use Rattle.vm_blocks.specs.Committing.{held, IsRevertFault, IsSavedAs, IsNotSavedAs};
 ghost use Rattle.vm_blocks.specs.InFile.{IsInFile};
+ghost use Rattle.vm_blocks.specs.Keeping.{Keeps, Lacks, is_loaded};
 ghost use Rattle.vm_blocks.specs.Opening.{IsOpenedFrom, IsNotOpened, IsMadeIn, IsNotMade};
 ghost use Rattle.vm_blocks.specs.Saved.{with_slot};
 
@@ -228,24 +229,28 @@ impl<S: Store> FileBlocks<S> {
     }
 
     /// Whether a block is in memory, so that its body can be read.
+    #[tactic(auto, unfolding(crate::specs::Keeping::is_loaded))]
     pub fn is_resident(&self, handle: VmHandle) -> bool
-        ensures { result ≡ is_resident self.now.document handle.0 }
+        ensures { result ≡ is_loaded self.now handle.0 }
     {
         self.blocks.is_resident(handle)
     }
 
     /// Brings a block into memory. NoBlock where it isn't live.
+    #[tactic(auto, unfolding(crate::specs::Keeping::Keeps, crate::specs::Keeping::is_loaded))]
     pub fn load(&mut self, handle: VmHandle) -> Result<(), Fault>
+        ensures keeps { Keeps S.facts self.old self.new }
         ensures same { self.new ≡ self.old }
-        ensures ok { IfOk result (λ _. is_resident self.new.document handle.0 ≡ true) }
-        ensures err { IfErr result (λ fault. (fault ≡ Fault.NoBlock) × (is_live self.old.document handle.0 ≡ false)) }
+        ensures ok { IfOk result (λ _. is_loaded self.new handle.0 ≡ true) }
+        ensures err { IfErr result (λ fault. Lacks S.facts self.old.disk.store self.new.disk.store fault ⊎ ((fault ≡ Fault.NoBlock) × (is_live self.new.document handle.0 ≡ false))) }
     {
         self.blocks.load(handle)
     }
 
     /// The body of a block that is in memory.
+    #[tactic(auto, unfolding(crate::specs::Keeping::is_loaded))]
     pub fn body(&self, handle: VmHandle) -> &BlockBody
-        requires { is_resident self.now.document handle.0 ≡ true }
+        requires { is_loaded self.now handle.0 ≡ true }
         ensures { option_map (λ b. b.body) (get self.now.document.blocks handle.0) ≡ Some (body_of result.now) }
     {
         self.blocks.body(handle)
