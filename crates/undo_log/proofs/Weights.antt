@@ -5,9 +5,7 @@ use Rattle.std.proofs.lemmas.List.Sorted.{sum_by-IsPermutation, IsPermutation-re
 use Rattle.std.specs.List.{sum_by}
 use Rattle.geos_model.specs.Document.{Document}
 use Rattle.geos_model.specs.Machine.{UndoStep}
-use Rattle.vm_blocks.proofs.Held.{blocks_weight-le}
 use Rattle.vm_blocks.specs.Changes.{weight, part_weight, content_weight, bytes_of}
-use Rattle.vm_blocks.specs.Members.{saved_blocks}
 use Rattle.vm_blocks.specs.declared.change.Change.{Change}
 use Rattle.vm_blocks.specs.declared.change.Change.TheVariants as changes
 use Rattle.vm_blocks.specs.declared.change.Content.{Content}
@@ -31,8 +29,8 @@ part_weight-le (parts.ChunkIn c content) = content_weight-le content
 part_weight-le (parts.ChunkOut c content) = content_weight-le content
 
 weight-le : (c : Change) → weight c ≤ change_cost c
-weight-le (changes.BlocksIn ms) = blocks_weight-le (saved_blocks ms.list.items)
-weight-le (changes.BlocksOut ms) = blocks_weight-le (saved_blocks ms.list.items)
+weight-le (changes.BlocksIn ms) = omega arith
+weight-le (changes.BlocksOut ms) = omega arith
 weight-le (changes.Part b part) = part_weight-le part
 weight-le (changes.UserId b old new) = omega arith
 weight-le (changes.Map old new) = omega arith

@@ -4,12 +4,10 @@ pub mod ManyBlocks
 pub mod ChangeLaws
 pub mod PartLemmas
 pub mod RoomLemmas
-pub mod SavedLemmas
 pub mod ValidLemmas
 pub mod FileImages
 pub mod Loaded
 pub mod Flushed
-pub mod Held
 pub mod Commits
 pub mod Marked
 pub mod Documents

@@ -10,7 +10,7 @@ use Rattle.geos_model.specs.declared.command.Body.{Body}
 use Rattle.geos_model.specs.declared.command.Body.TheVariants.{Raw, Heap}
 use Rattle.chunk_edits.specs.Splicing.{Stands, forwards}
 use Rattle.chunk_edits.specs.declared.splice.Splice.{Splice}
-use Rattle.geos_model.specs.Image.{image}
+use Rattle.geos_model.specs.Cost.{images_length}
 use Rattle.vm_blocks.specs.Members.{saved_blocks, ready_blocks}
 use Rattle.vm_blocks.specs.declared.prepared.Prepared.{Prepared}
 use Rattle.vm_blocks.specs.declared.change.Change.{Change}
@@ -166,15 +166,6 @@ IsFor prepared change = ready_blocks prepared.incoming.items ≡ blocks_in chang
 
 -- How many content bytes a change holds.
 
--- a body that was saved: a raw one is held as its bytes, a heap as its image
-abbrev pub body_weight : Body → ℕ
-body_weight (Raw bytes) = length bytes
-body_weight (Heap m) = length (image (Heap m))
-
--- the bodies of these blocks together
-abbrev pub blocks_weight : List (ℕ × Block) → ℕ
-blocks_weight blocks = sum_by (λ p. body_weight p.1.body) blocks
-
 abbrev pub content_weight : Content → ℕ
 content_weight (contents.Bytes bytes) = length bytes
 content_weight (contents.Zeros n) = 0
@@ -186,8 +177,8 @@ part_weight (parts.ChunkIn c content) = content_weight content
 part_weight (parts.ChunkOut c content) = content_weight content
 
 abbrev pub weight : Change → ℕ
-weight (changes.BlocksIn ms) = blocks_weight (saved_blocks ms.list.items)
-weight (changes.BlocksOut ms) = blocks_weight (saved_blocks ms.list.items)
+weight (changes.BlocksIn ms) = images_length (saved_blocks ms.list.items)
+weight (changes.BlocksOut ms) = images_length (saved_blocks ms.list.items)
 weight (changes.Part b part) = part_weight part
 weight (changes.UserId b old new) = 0
 weight (changes.Map old new) = 0

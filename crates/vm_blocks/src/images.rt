@@ -1,18 +1,17 @@
 // Bodies as the bytes that a file keeps.
 ghost use Rattle.std.specs.Prelude.{◌≡◌, ◌⊎◌, ◌≤◌, true, Some, None, IfOk, IfErr, IsErrOf, length};
-ghost use Rattle.geos_model.specs.Document.{is_vm_handle};
-ghost use Rattle.geos_model.specs.Image.{image, body_of as body_of_image, body_read};
-ghost use Rattle.geos_model.specs.declared.command.Body.TheVariants as bodies;
+ghost use Rattle.geos_model.specs.Document.{is_vm_handle, is_valid_body};
+ghost use Rattle.geos_model.specs.Image.{body_of as body_of_image, body_read};
 ghost use Rattle.vm_file.specs.Calls.{IsPut};
 ghost use Rattle.vm_blocks.specs.Blocks.{block_of};
 ghost use Rattle.vm_blocks.specs.Bodies.{body_of};
 
 use crate::{Block, BlockBody};
-use geos_model::{Bytes, Fault, VmHandle};
+use geos_model::{Fault, VmHandle};
 use lmem_heap::Heap;
 use raw_region::{RawBody, SIZE};
 use std::alloc::{AllocError, Global};
-use vm_file::PutBlock;
+use vm_file::{Image, PutBlock};
 
 // The first byte of an image.
 const RAW: u8 = 0;
@@ -44,23 +43,28 @@ pub fn read_image(alloc: Global, bytes: &[u8]) -> Result<BlockBody, Fault>
     Ok(BlockBody::Raw(raw_of(alloc, &bytes[1..])?))
 }
 
-#[tactic(auto, unfolding(geos_model::specs::Image::image))]
-fn raw_image(alloc: Global, bytes: &[u8]) -> Result<Vec<u8>, AllocError>
-    ensures { IfOk result (λ image_bytes. image_bytes.items ≡ image (bodies.Raw bytes.now)) }
-{
-    let mut image = Vec::with_capacity(alloc, bytes.len() + 1)?;
-    image.push(RAW)?;
-    image.extend_from_slice(bytes)?;
-    Ok(image)
-}
-
 /// The image of a body.
-pub fn write_image(alloc: Global, body: &BlockBody) -> Result<Vec<u8>, AllocError>
-    ensures { IfOk result (λ bytes. bytes.items ≡ image (body_of body.now)) }
+pub fn image_of(alloc: Global, body: &BlockBody) -> Result<Image, AllocError>
+    ensures { IfOk result (λ i. i ≡ body_of body.now) }
 {
     match body {
-        BlockBody::Raw(raw) => raw_image(alloc, raw.bytes()),
-        BlockBody::Heap(heap) => heap.image(),
+        BlockBody::Raw(raw) => Image::of_raw(alloc, raw.bytes()),
+        BlockBody::Heap(heap) => Image::of_heap(heap),
+    }
+}
+
+/// The body of an image.
+pub fn restore(alloc: Global, image: &Image) -> Result<BlockBody, AllocError>
+    ensures value { IfOk result (λ body. body_of body ≡ image.now) }
+    ensures valid { IfOk result (λ body. is_valid_body (body_of body) ≡ true) }
+{
+    image.validity();
+    match read_image(alloc, image.as_slice()) {
+        Ok(body) => Ok(body),
+        Err(fault) => match fault {
+            Fault::Memory => Err(AllocError),
+            _ => unreachable!(),
+        },
     }
 }
 
@@ -71,10 +75,10 @@ pub fn put_of(alloc: Global, handle: VmHandle, block: &Block) -> Result<PutBlock
     ensures handle { IfOk result (λ put. put.handle ≡ handle) }
     ensures block { IfOk result (λ put. record { user_id = put.user_id; body = body_read put.image } ≡ block_of block.now) }
 {
-    let image = write_image(alloc, &block.body)?;
+    let image = image_of(alloc, &block.body)?;
     Ok(PutBlock {
         handle,
         user_id: block.user_id,
-        image: Bytes::from_vec(image),
+        image: image.into_bytes(),
     })
 }

@@ -25,4 +25,4 @@ pub use file_blocks::FileBlocks;
 pub use law::change_law;
 pub use member::{Member, Members};
 pub use prepared::Prepared;
-pub use saved::{SavedBlock, SavedBody, SavedHeap, SavedRaw};
+pub use saved::SavedBlock;

@@ -23,7 +23,7 @@ pub struct Members {
 }
 
 impl Members {
-    ghost use Rattle.vm_blocks.specs.Changes.{blocks_weight};
+    ghost use Rattle.geos_model.specs.Cost.{images_length};
 
     /// One block alone.
     pub fn one(alloc: Global, handle: VmHandle, block: SavedBlock) -> Result<Members, AllocError>
@@ -42,9 +42,9 @@ impl Members {
         Members { list }
     }
 
-    /// How many bytes their bodies hold.
+    /// How many bytes their images have.
     pub(crate) fn weight(&self) -> u64
-        ensures { result ≡ blocks_weight (saved_blocks self.now.list.items) }
+        ensures { result ≡ images_length (saved_blocks self.now.list.items) }
     {
         let mut total = 0;
         for member in &self.list {

@@ -5,6 +5,7 @@ pub mod Disk
 pub mod Documents
 pub mod Drafts
 pub mod Effects
+pub mod Images
 pub mod Making
 pub mod Opened
 pub mod Passing

@@ -6,6 +6,7 @@ mod copies;
 mod copying;
 mod directory;
 mod file;
+mod image;
 mod law;
 mod making;
 mod placing;
@@ -18,6 +19,7 @@ mod table;
 mod writing;
 
 pub use file::VmFile;
+pub use image::Image;
 pub use law::{content_law, crash_law, first_file_law, passing_law};
 pub use put::PutBlock;
 pub use refused::Refused;

@@ -1,10 +1,10 @@
 use Rattle.std.proofs.Common.{◌≡◌, ◌≤◌, ◌*◌, take}
-use Rattle.vm_blocks.specs.Changes.{blocks_weight}
+use Rattle.geos_model.specs.Cost.{images_length}
 use Rattle.vm_blocks.specs.Members.{saved_blocks}
 use Rattle.vm_blocks.proofs.member.Members.weight.Given as goal
 
 abbrev pub invariant-loop-member : goal.invariant-loop-member
 invariant-loop-member l = record {
-  total : l.total ≡ blocks_weight (saved_blocks (take l.member-index l.self.list.items));
+  total : l.total ≡ images_length (saved_blocks (take l.member-index l.self.list.items));
   small : l.total ≤ 65521 * l.member-index;
 }
