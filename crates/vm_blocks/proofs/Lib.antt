@@ -16,4 +16,5 @@ pub mod Documents
 pub mod SavedAs
 pub mod Opened
 pub mod KeepingLaws
+pub mod Preparing
 pub mod AllInMemory
