@@ -14,4 +14,5 @@ pub mod Documents
 pub mod SavedAs
 pub mod Opened
 pub mod KeepingLaws
+pub mod Preparing
 pub mod AllInMemory

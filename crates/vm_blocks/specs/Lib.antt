@@ -11,3 +11,4 @@ pub mod Marking
 pub mod Committing
 pub mod Opening
 pub mod Keeping
+pub mod Preparing

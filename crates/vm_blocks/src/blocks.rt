@@ -1,13 +1,15 @@
 ghost use Rattle.std.specs.Prelude.{◌≡◌, ◌≢◌, ◌+◌, ◌≤◌, ℕ, [], Some, None, true, false, IsTrue, IsOk, IfOk, IfErr, IfSome, IsSome, length, map, replicate, unwrap_or};
 ghost use Rattle.std.specs.Option.{option_map, option_copied};
 ghost use Rattle.std.specs.FinMap.{get, keys};
-ghost use Rattle.geos_model.specs.Document.{IsValid, empty_document, next_handle, is_live, is_vm_handle, most_blocks, user_id_of, with_user_id, with_blocks, handles_of, without_blocks};
+ghost use Rattle.geos_model.specs.Document.{IsValid, block_at, empty_document, next_handle, is_live, is_vm_handle, most_blocks, user_id_of, with_user_id, with_blocks, handles_of, without_blocks};
 ghost use Rattle.geos_model.specs.Reply.{found};
 ghost use Rattle.geos_model.proofs.Table.{table_entries, first_gap};
 ghost use Rattle.vm_blocks.specs.Blocks.{block_of, table_of, document_of, start_after, is_resident};
 ghost use Rattle.vm_blocks.specs.Bodies.{body_of};
-ghost use Rattle.vm_blocks.specs.Changes.{made, part_made, turned, turned_part, Applies, PartApplies, AreFree, CanAllGo, blocks_in, IsFor};
+ghost use Rattle.vm_blocks.specs.Changes.{made, part_made, turned, turned_part, AreFree, blocks_in, IsFor};
 ghost use Rattle.vm_blocks.specs.Members.{saved_blocks, ready_blocks};
+ghost use Rattle.vm_blocks.specs.Parts.{Takes};
+ghost use Rattle.vm_blocks.specs.Preparing.{Listed, BodyTakes, CanLeave};
 ghost use Rattle.vm_blocks.specs.Saved.{with_slot};
 
 use crate::part::carry_out;
@@ -263,7 +265,7 @@ impl Blocks {
         }
     }
 
-    /// Takes what memory carrying a change out will need: that of the blocks that come in. Memory where there is too little.
+    /// Takes the memory that carrying a change out will need: that of the blocks that come in. Memory where there is too little.
     pub fn prepare(&self, change: &Change, direction: Direction) -> Result<Prepared, Fault>
         ensures ok { IfOk result (λ prepared. IsFor prepared (turned direction change.now)) }
         ensures err { IfErr result (λ fault. fault ≡ Fault.Memory) }
@@ -286,7 +288,8 @@ impl Blocks {
 
     /// Carries a change out in place, with what was prepared for it.
     pub fn carry_out(&mut self, change: &Change, direction: Direction, prepared: Prepared)
-        requires applies { Applies (turned direction change.now) self.old }
+        requires listed { Listed (turned direction change.now) self.old }
+        requires takes { BodyTakes (turned direction change.now) self.old }
         requires prepared { IsFor prepared (turned direction change.now) }
         ensures { self.new ≡ made (turned direction change.now) self.old }
     {
@@ -323,7 +326,7 @@ impl Blocks {
 
     /// Takes each of these blocks out.
     fn take_out(&mut self, members: &Members)
-        requires { CanAllGo self.old (saved_blocks members.now.list.items) }
+        requires { CanLeave self.old (handles_of (saved_blocks members.now.list.items)) }
         ensures { self.new ≡ without_blocks self.old (handles_of (saved_blocks members.now.list.items)) }
     {
         self.validity();
@@ -334,7 +337,8 @@ impl Blocks {
 
     /// Carries a change of a part of a block out.
     fn carry_out_part(&mut self, handle: VmHandle, part: &PartChange, direction: Direction)
-        requires { PartApplies handle.0 (turned_part direction part.now) self.old }
+        requires live { is_live self.old handle.0 ≡ true }
+        requires takes { Takes (turned_part direction part.now) (block_at self.old handle.0).body }
         ensures { self.new ≡ part_made handle.0 (turned_part direction part.now) self.old }
     {
         let slots = &mut self.slots;

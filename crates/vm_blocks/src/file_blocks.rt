@@ -1,9 +1,9 @@
 //! The blocks of a document file.
-ghost use Rattle.std.specs.Prelude.{◌≡◌, ◌≢◌, ◌⊎◌, ◌↔◌, [], Some, None, Ok, Err, true, false, IsTrue, IsOk, IfOk, IfErr, IfSome, IsSome, OnErr, MatchResult, length, map};
+ghost use Rattle.std.specs.Prelude.{◌≡◌, ◌≢◌, ◌⊎◌, ◌↔◌, [], Some, None, Ok, Err, true, false, IsTrue, IsOk, IfOk, IfErr, IfSome, IsSome, OnOk, OnErr, MatchResult, length, map};
 ghost use Rattle.std.specs.Option.{option_map, option_copied};
 ghost use Rattle.std.specs.Result.{IsErrAnd};
 ghost use Rattle.std.specs.FinMap.{get, keys};
-ghost use Rattle.geos_model.specs.Document.{IsValid, empty_document, most_blocks, next_handle, is_live, is_vm_handle, user_id_of};
+ghost use Rattle.geos_model.specs.Document.{IsValid, block_at, empty_document, most_blocks, next_handle, is_live, is_vm_handle, user_id_of};
 ghost use Rattle.geos_model.specs.Reply.{found};
 ghost use Rattle.vm_store.specs.Facts.{Raised, Rests};
 ghost use Rattle.vm_file.specs.Calls.{IsSupply, last_sequence};
@@ -11,17 +11,22 @@ ghost use Rattle.vm_file.specs.Disk.{IsSettled};
 ghost use Rattle.vm_file.specs.Effects.{Follows, IsCommit, Fails, OnlyReads, IsWorn, IsDamage};
 ghost use Rattle.vm_blocks.specs.Blocks.{block_of};
 ghost use Rattle.vm_blocks.specs.Bodies.{body_of};
-ghost use Rattle.vm_blocks.specs.Changes.{after, turned, Applies, blocks_in, IsFor};
+ghost use Rattle.vm_blocks.specs.Changes.{after, turned, turned_part, Applies, PartApplies, blocks_in};
 ghost use Rattle.vm_blocks.specs.Committing.{held, IsRevertFault, IsSavedAs, IsNotSavedAs};
 ghost use Rattle.vm_blocks.specs.InFile.{IsInFile};
 ghost use Rattle.vm_blocks.specs.Keeping.{Keeps, Lacks, is_loaded};
 ghost use Rattle.vm_blocks.specs.Opening.{IsOpenedFrom, IsNotOpened, IsMadeIn, IsNotMade};
+ghost use Rattle.vm_blocks.specs.Parts.{Takes};
+ghost use Rattle.vm_blocks.specs.Preparing.{Listed, BodyTakes, IsAtHand, IsReady, IsUnready};
 ghost use Rattle.vm_blocks.specs.Saved.{with_slot};
 
 use crate::loading::load;
 use crate::marking::{clean_marks, mark, mark_one};
+use crate::part::can_take;
 use crate::version::Version;
-use crate::{Block, BlockBody, Blocks, Change, Direction, Prepared, committing, saving_as};
+use crate::{
+    Block, BlockBody, Blocks, Change, Direction, PartChange, Prepared, committing, saving_as,
+};
 use geos_model::{Fault, VmHandle};
 use std::alloc::{AllocError, Global};
 use std::marker::Model;
@@ -304,19 +309,77 @@ impl<S: Store> FileBlocks<S> {
         self.blocks.set_map(handle);
     }
 
-    /// Takes what memory carrying a change out will need: that of the blocks that come in. Memory where there is too little.
-    pub fn prepare(&self, change: &Change, direction: Direction) -> Result<Prepared, Fault>
-        ensures ok { IfOk result (λ prepared. IsFor prepared (turned direction change.now)) }
-        ensures err { IfErr result (λ fault. fault ≡ Fault.Memory) }
-        ensures sure { blocks_in (turned direction change.now) ≡ [] → IsOk result }
+    // Brings a live block into memory, if it isn't there yet.
+    fn bring_in(&mut self, handle: VmHandle) -> Result<(), Fault>
+        requires { is_live self.old.document handle.0 ≡ true }
+        ensures keeps { Keeps S.facts self.old self.new }
+        ensures ok { OnOk result (is_loaded self.new handle.0 ≡ true) }
+        ensures err { IfErr result (Lacks S.facts self.old.disk.store self.new.disk.store) }
+        ensures sure { is_loaded self.old handle.0 ≡ true → IsOk result × (self.new ≡ self.old) }
     {
+        if self.is_resident(handle) {
+            return Ok(());
+        }
+        self.load(handle)
+    }
+
+    // Brings the block of a part into memory, and tests that its body takes the change.
+    fn ready_part(
+        &mut self,
+        handle: VmHandle,
+        part: &PartChange,
+        direction: Direction,
+    ) -> Result<(), Fault>
+        requires { is_live self.old.document handle.0 ≡ true }
+        ensures keeps { Keeps S.facts self.old self.new }
+        ensures loaded { OnOk result (is_loaded self.new handle.0 ≡ true) }
+        ensures takes { OnOk result (Takes (turned_part direction part.now) (block_at self.new.document handle.0).body) }
+        ensures err { IfErr result (IsUnready S.facts (Change.Part handle (turned_part direction part.now)) self.old self.new) }
+        ensures sure { is_loaded self.old handle.0 ≡ true → PartApplies handle.0 (turned_part direction part.now) self.old.document → IsOk result × (self.new ≡ self.old) }
+    {
+        self.bring_in(handle)?;
+        if can_take(self.body(handle), part, direction) {
+            Ok(())
+        } else {
+            Err(Fault::Damaged)
+        }
+    }
+
+    // Brings the block whose body changes into memory, if there is one, and tests that the body takes the change.
+    fn ready_body(&mut self, change: &Change, direction: Direction) -> Result<(), Fault>
+        requires { Listed (turned direction change.now) self.old.document }
+        ensures keeps { Keeps S.facts self.old self.new }
+        ensures at_hand { OnOk result (IsAtHand (turned direction change.now) self.new) }
+        ensures takes { OnOk result (BodyTakes (turned direction change.now) self.new.document) }
+        ensures err { IfErr result (IsUnready S.facts (turned direction change.now) self.old self.new) }
+        ensures sure { IsAtHand (turned direction change.now) self.old → Applies (turned direction change.now) self.old.document → IsOk result × (self.new ≡ self.old) }
+    {
+        match change {
+            Change::Part(handle, part) => self.ready_part(*handle, part, direction),
+            Change::BlocksIn(_)
+            | Change::BlocksOut(_)
+            | Change::UserId { .. }
+            | Change::Map { .. } => Ok(()),
+        }
+    }
+
+    /// Makes ready what carrying a change out needs, so that it can't be refused then: brings the block whose body changes into
+    /// memory and tests that the body takes the change, and takes the memory of the blocks that come in. Damaged where the body
+    /// doesn't take it; otherwise refused as `load` is.
+    pub fn prepare(&mut self, change: &Change, direction: Direction) -> Result<Prepared, Fault>
+        requires { Listed (turned direction change.now) self.old.document }
+        ensures keeps { Keeps S.facts self.old self.new }
+        ensures ok { IfOk result (λ prepared. IsReady prepared (turned direction change.now) self.new) }
+        ensures err { IfErr result (IsUnready S.facts (turned direction change.now) self.old self.new) }
+        ensures sure { blocks_in (turned direction change.now) ≡ [] → IsAtHand (turned direction change.now) self.old → Applies (turned direction change.now) self.old.document → IsOk result × (self.new ≡ self.old) }
+    {
+        self.ready_body(change, direction)?;
         self.blocks.prepare(change, direction)
     }
 
     /// Carries a change out in memory, with what was prepared for it.
     pub fn carry_out(&mut self, change: &Change, direction: Direction, prepared: Prepared)
-        requires applies { Applies (turned direction change.now) self.old.document }
-        requires prepared { IsFor prepared (turned direction change.now) }
+        requires { IsReady prepared (turned direction change.now) self.old }
         ensures { self.new ≡ held self.old (after direction change.now self.old.document) }
     {
         self.blocks.carry_out(change, direction, prepared);

@@ -22,7 +22,7 @@ pub use block::{Block, BlockBody};
 pub use blocks::{Blocks, MOST_BLOCKS};
 pub use change::{Change, Content, Direction, PartChange};
 pub use file_blocks::FileBlocks;
-pub use law::change_law;
+pub use law::{change_law, listed_law};
 pub use member::{Member, Members};
 pub use prepared::Prepared;
 pub use saved::SavedBlock;

@@ -1,8 +1,9 @@
-ghost use Rattle.std.specs.Prelude.{◌≡◌};
-ghost use Rattle.std.specs.FinMap.{insert};
+ghost use Rattle.std.specs.Prelude.{◌≡◌, ◌+◌, ◌≤◌, ◌↔◌, ℕ, List, IsTrue, None, length};
+ghost use Rattle.std.specs.FinMap.{get, insert, contains_key};
+ghost use Rattle.geos_model.specs.Heap.{chunk_bytes, fits_with, is_chunk_handle, is_heap_map};
 ghost use Rattle.geos_model.specs.declared.command.Body.TheVariants as bodies;
 ghost use Rattle.vm_blocks.specs.Bodies.{body_of};
-ghost use Rattle.vm_blocks.specs.Allowing.{AllowsNewChunk};
+ghost use Rattle.vm_blocks.specs.Allowing.{AllowsRaw, AllowsChunk, AllowsNewChunk};
 ghost use Rattle.vm_blocks.specs.Changes.{bytes_of, turned_part};
 ghost use Rattle.vm_blocks.specs.Parts.{Takes, RawTakes, HeapTakes, body_made};
 
@@ -11,7 +12,128 @@ use crate::{BlockBody, Content, Direction, PartChange};
 use chunk_edits::{apply, apply_back, apply_raw, apply_raw_back};
 use geos_model::ChunkHandle;
 use lmem_heap::Heap;
-use raw_region::RawBody;
+use raw_region::{RawBody, SIZE};
+
+/// Whether a body takes a change of a part of it: it is of the kind, and has the range, the room and the chunk.
+pub(crate) fn can_take(body: &BlockBody, change: &PartChange, direction: Direction) -> bool
+    ensures { IsTrue result ↔ Takes (turned_part direction change.now) (body_of body.now) }
+{
+    match body {
+        BlockBody::Raw(body) => raw_can_take(body, change, direction),
+        BlockBody::Heap(heap) => heap_can_take(heap, change, direction),
+    }
+}
+
+/// Of a raw body.
+fn raw_can_take(body: &RawBody, change: &PartChange, direction: Direction) -> bool
+    ensures { IsTrue result ↔ RawTakes (turned_part direction change.now) body.now }
+{
+    match change {
+        PartChange::Raw(splice) => {
+            let (old, new) = (splice.old.as_slice(), splice.new.as_slice());
+            match direction {
+                Direction::Forwards => raw_allows(body, splice.at, old, new),
+                Direction::Backwards => raw_allows(body, splice.at, new, old),
+            }
+        }
+        PartChange::Chunk(_, _) | PartChange::ChunkIn(_, _) | PartChange::ChunkOut(_, _) => false,
+    }
+}
+
+/// Of a heap.
+fn heap_can_take(heap: &Heap, change: &PartChange, direction: Direction) -> bool
+    ensures { IsTrue result ↔ HeapTakes (turned_part direction change.now) heap.now.chunks }
+{
+    match change {
+        PartChange::Chunk(chunk, splice) => {
+            let (old, new) = (splice.old.as_slice(), splice.new.as_slice());
+            match direction {
+                Direction::Forwards => chunk_allows(heap, *chunk, splice.at, old, new),
+                Direction::Backwards => chunk_allows(heap, *chunk, splice.at, new, old),
+            }
+        }
+        PartChange::ChunkIn(chunk, content) => match direction {
+            Direction::Forwards => allows_new(heap, *chunk, content),
+            Direction::Backwards => heap.chunk(*chunk).is_some(),
+        },
+        PartChange::ChunkOut(chunk, content) => match direction {
+            Direction::Forwards => heap.chunk(*chunk).is_some(),
+            Direction::Backwards => allows_new(heap, *chunk, content),
+        },
+        PartChange::Raw(_) => false,
+    }
+}
+
+/// Whether so many bytes have a part of `k` bytes at a place.
+fn is_within(size: usize, at: usize, k: usize) -> bool
+    ensures { IsTrue result ↔ at + k ≤ size }
+{
+    at <= size && k <= size - at
+}
+
+/// Whether a raw body has the range of the old part, and room for the new one in its place.
+fn raw_allows(body: &RawBody, at: u32, old: &[u8], new: &[u8]) -> bool
+    ensures { IsTrue result ↔ AllowsRaw body.now (record { at = at; old = old.now; new = new.now }) }
+{
+    let size = body.bytes().len();
+    is_within(size, at as usize, old.len()) && new.len() <= SIZE - (size - old.len())
+}
+
+/// So of a chunk in its heap.
+fn chunk_allows(heap: &Heap, chunk: ChunkHandle, at: u32, old: &[u8], new: &[u8]) -> bool
+    ensures { IsTrue result ↔ AllowsChunk heap.now.chunks chunk.0 (record { at = at; old = old.now; new = new.now }) }
+{
+    match heap.chunk(chunk) {
+        Some(bytes) => {
+            let size = bytes.len();
+            is_within(size, at as usize, old.len())
+                && has_room(heap, chunk, size - old.len(), new.len())
+        }
+        None => false,
+    }
+}
+
+/// Whether a heap has room for a live chunk with `new` bytes beside `rest` of its own.
+fn has_room(heap: &Heap, chunk: ChunkHandle, rest: usize, new: usize) -> bool
+    requires live { IsTrue (contains_key heap.now.chunks chunk.0) }
+    requires valid { IsTrue (is_heap_map heap.now.chunks) }
+    requires rest { rest ≤ length (chunk_bytes heap.now.chunks chunk.0) }
+    ensures { (bytes : List ℕ) → length bytes ≡ rest + new → result ≡ fits_with heap.now.chunks chunk.0 bytes }
+{
+    // No heap has room for more, whatever else is in it.
+    new <= SIZE && heap.fits_resize(chunk, (rest + new) as u32)
+}
+
+/// Whether a heap takes a new chunk of this content: its handle can be one and is free, and there is room.
+fn allows_new(heap: &Heap, chunk: ChunkHandle, content: &Content) -> bool
+    ensures { IsTrue result ↔ AllowsNewChunk heap.now.chunks chunk.0 (bytes_of content.now) }
+{
+    if !is_handle(chunk) || heap.chunk(chunk).is_some() {
+        return false;
+    }
+    match content {
+        Content::Bytes(bytes) => has_room_for_new(heap, chunk, bytes.as_slice().len()),
+        Content::Zeros(n) => has_room_for_new(heap, chunk, *n as usize),
+    }
+}
+
+/// Whether a heap has room for a chunk of `n` bytes under a free handle.
+fn has_room_for_new(heap: &Heap, chunk: ChunkHandle, n: usize) -> bool
+    requires handle { IsTrue (is_chunk_handle chunk.0) }
+    requires free { get heap.now.chunks chunk.0 ≡ None }
+    ensures { (bytes : List ℕ) → length bytes ≡ n → result ≡ fits_with heap.now.chunks chunk.0 bytes }
+{
+    // No heap has room for more, whatever else is in it.
+    n <= SIZE && heap.fits_at(chunk, n as u32)
+}
+
+/// Whether a chunk can have this handle.
+#[tactic(auto, unfolding(geos_model::specs::Heap::is_chunk_handle))]
+fn is_handle(chunk: ChunkHandle) -> bool
+    ensures { result ≡ is_chunk_handle chunk.0 }
+{
+    16 <= chunk.0 && chunk.0 <= 0xFFEE && chunk.0 % 2 == 0
+}
 
 /// Carries a change of a part of a body out in place.
 pub(crate) fn carry_out(body: &mut BlockBody, change: &PartChange, direction: Direction)

@@ -1,0 +1,203 @@
+-- What is known of a change by handles alone, and what its body has to have.
+use Rattle.std.proofs.Common.{◌≡◌, ◌≢◌, ◌⊎◌, ℕ, Bool, true, false, List, [], ◌∷◌, Option, Some, None, is_some, inl, inr, refl, sym, ap, subst, ◌∙◌}
+use Rattle.std.specs.Prelude.{unwrap_or, Result, Ok, Err, IfOk, IfErr}
+use Rattle.std.specs.Option.{option_map, option_map_or}
+use Rattle.std.proofs.lemmas.Bool.{cases_eq, true≢false}
+use Rattle.std.proofs.lemmas.List.Elements.{All-map}
+use Rattle.std.specs.FinMap.{get}
+use Rattle.geos_model.specs.Document.{Block, Document, block_at, is_live, with_block, without_block, with_blocks, without_blocks, with_user_id, handles_of}
+use Rattle.geos_model.specs.declared.command.Body.{Body}
+use Rattle.geos_model.specs.declared.command.Body.TheVariants.{Raw}
+use Rattle.geos_model.proofs.HeapEdits.{get-put_same, get-put_other, get-taken_same, get-taken_other}
+use Rattle.geos_model.specs.declared.fault.Fault.{Fault}
+use Rattle.geos_model.specs.declared.fault.Fault.TheVariants.{Memory, NoBlock}
+use Rattle.vm_store.specs.Facts.{StoreFacts}
+use Rattle.vm_file.specs.Disk.{FileState, Drifts}
+use Rattle.vm_blocks.specs.Members.{saved_blocks}
+use Rattle.vm_blocks.specs.Changes.{made, part_made, Applies, PartApplies, CanAllGo, IsFor}
+use Rattle.vm_blocks.specs.Keeping.{Keeps, IsSteady, Lacks}
+use Rattle.vm_blocks.specs.Parts.{Takes}
+use Rattle.vm_blocks.specs.Preparing.{CanLeave, Listed, BodyTakes, IsAtHand, IsReady, IsUnready, AllListed, HalvesLaw, ListedLaw}
+use Rattle.vm_blocks.specs.declared.prepared.Prepared.{Prepared}
+use Rattle.vm_blocks.specs.declared.change.Change.{Change}
+use Rattle.vm_blocks.specs.declared.change.Change.TheVariants as changes
+use Rattle.vm_blocks.specs.declared.change.PartChange.{PartChange}
+use Rattle.vm_blocks.specs.declared.change.PartChange.TheVariants as parts
+use Rattle.vm_blocks.proofs.KeepingLaws.{keeps-drifts, keeps-same, lacks-memory}
+use Rattle.vm_blocks.proofs.PartLemmas.{part_live, part_takes}
+
+some_block : (o : Option Block) → is_some o ≡ true → (block : Block) × (o ≡ Some block)
+some_block None h = absurd (true≢false (sym h))
+some_block (Some block) h = (block, refl)
+
+-- the block that stands under a handle
+pub block_there : (d : Document) (h : ℕ) (block : Block) → get d.blocks h ≡ Some block → block_at d h ≡ block
+block_there d h block is = ap (λ (o : Option Block). unwrap_or o (record { user_id = 0; body = Raw [] })) is
+
+pub live_there : (d : Document) (h : ℕ) → is_live d h ≡ true → get d.blocks h ≡ Some (block_at d h)
+live_there d h live = let found = some_block (get d.blocks h) live in found.1 ∙ ap (λ (b : Block). Some b) (sym (block_there d h found.0 found.1))
+
+pub takes_there : (p : PartChange) (d : Document) (h : ℕ) (block : Block) → get d.blocks h ≡ Some block → Takes p (block_at d h).body → Takes p block.body
+takes_there p d h block is takes = subst (λ (b : Block). Takes p b.body) (block_there d h block is) takes
+
+-- A change that applies.
+
+pub part_body : (b : ℕ) (p : PartChange) (d : Document) → PartApplies b p d → Takes p (block_at d b).body
+part_body b p d applies = part_takes b p d (block_at d b) (live_there d b (part_live b p d applies)) applies
+
+can_leave : (d : Document) (ps : List (ℕ × Block)) → CanAllGo d ps → CanLeave d (handles_of ps)
+can_leave d ps can = record {
+  live = All-map (λ h. is_live d h ≡ true) (λ p. p.0) ps (λ i p within. ap is_some (can.go i p within).stands);
+  others = All-map (λ h. d.map_block ≢ h) (λ p. p.0) ps (λ i p within. (can.go i p within).other);
+  distinct = can.distinct;
+}
+
+pub halves : HalvesLaw
+halves (changes.BlocksIn ms) d applies = (applies, tt)
+halves (changes.BlocksOut ms) d applies = (can_leave d (saved_blocks ms.list.items) applies, tt)
+halves (changes.Part b part) d applies = (part_live b.0 part d applies, part_body b.0 part d applies)
+halves (changes.UserId b old new) d applies = (applies, tt)
+halves (changes.Map old new) d applies = (applies, tt)
+
+pub applies_listed : (c : Change) (d : Document) → Applies c d → Listed c d
+applies_listed c d applies = (halves c d applies).0
+
+pub applies_takes : (c : Change) (d : Document) → Applies c d → BodyTakes c d
+applies_takes c d applies = (halves c d applies).1
+
+-- Documents with the same handles, user IDs and map block, over any store.
+
+abbrev Alike : Document → Document → Type 0
+Alike a b = Drifts false a b
+
+alike : (honest : Bool) (a b : Document) → Drifts honest a b → Alike a b
+alike honest a b drifts = record { live = drifts.live; user_ids = drifts.user_ids; map_block = drifts.map_block; same = λ no. absurd (true≢false (sym no)) }
+
+abbrev uid : Option Block → ℕ
+uid o = option_map_or (λ (b : Block). b.user_id) o 0
+
+-- the same block but for its body, put under a handle
+put_alike : (a b : Document) (h : ℕ) (x y : Block) → y.user_id ≡ x.user_id → Alike a b → Alike (with_block a h x) (with_block b h y)
+put_alike a b h x y same drifts = record {
+  live = λ k. elim (cases_eq k h) [
+    | inl e ↦ ap is_some (get-put_same b.blocks h y k e) ∙ sym (ap is_some (get-put_same a.blocks h x k e))
+    | inr other ↦ ap is_some (get-put_other b.blocks h y k other) ∙ (drifts.live k ∙ sym (ap is_some (get-put_other a.blocks h x k other)))
+  ];
+  user_ids = λ k. elim (cases_eq k h) [
+    | inl e ↦ ap uid (get-put_same b.blocks h y k e) ∙ (same ∙ sym (ap uid (get-put_same a.blocks h x k e)))
+    | inr other ↦ ap uid (get-put_other b.blocks h y k other) ∙ (drifts.user_ids k ∙ sym (ap uid (get-put_other a.blocks h x k other)))
+  ];
+  map_block = drifts.map_block;
+  same = λ no. absurd (true≢false (sym no));
+}
+
+taken_alike : (a b : Document) (h : ℕ) → Alike a b → Alike (without_block a h) (without_block b h)
+taken_alike a b h drifts = record {
+  live = λ k. elim (cases_eq k h) [
+    | inl e ↦ ap is_some (get-taken_same b.blocks h k e) ∙ sym (ap is_some (get-taken_same a.blocks h k e))
+    | inr other ↦ ap is_some (get-taken_other b.blocks h k other) ∙ (drifts.live k ∙ sym (ap is_some (get-taken_other a.blocks h k other)))
+  ];
+  user_ids = λ k. elim (cases_eq k h) [
+    | inl e ↦ ap uid (get-taken_same b.blocks h k e) ∙ sym (ap uid (get-taken_same a.blocks h k e))
+    | inr other ↦ ap uid (get-taken_other b.blocks h k other) ∙ (drifts.user_ids k ∙ sym (ap uid (get-taken_other a.blocks h k other)))
+  ];
+  map_block = drifts.map_block;
+  same = λ no. absurd (true≢false (sym no));
+}
+
+put_all_alike : (a b : Document) (ps : List (ℕ × Block)) → Alike a b → Alike (with_blocks a ps) (with_blocks b ps)
+put_all_alike a b [] drifts = drifts
+put_all_alike a b (p ∷ ps) drifts = put_all_alike (with_block a p.0 p.1) (with_block b p.0 p.1) ps (put_alike a b p.0 p.1 p.1 refl drifts)
+
+taken_all_alike : (a b : Document) (hs : List ℕ) → Alike a b → Alike (without_blocks a hs) (without_blocks b hs)
+taken_all_alike a b [] drifts = drifts
+taken_all_alike a b (h ∷ hs) drifts = taken_all_alike (without_block a h) (without_block b h) hs (taken_alike a b h drifts)
+
+-- whatever bodies they have, and whatever the change makes of them
+part_alike : (a b : Document) (h : ℕ) (p : PartChange) → Alike a b → Alike (part_made h p a) (part_made h p b)
+part_alike a b h (parts.Raw s) drifts = put_alike a b h _ _ (drifts.user_ids h) drifts
+part_alike a b h (parts.Chunk c s) drifts = put_alike a b h _ _ (drifts.user_ids h) drifts
+part_alike a b h (parts.ChunkIn c content) drifts = put_alike a b h _ _ (drifts.user_ids h) drifts
+part_alike a b h (parts.ChunkOut c content) drifts = put_alike a b h _ _ (drifts.user_ids h) drifts
+
+user_id_alike : (a b : Document) (h user_id : ℕ) → Alike a b → Alike (with_user_id a h user_id) (with_user_id b h user_id)
+user_id_alike a b h user_id drifts = of (get a.blocks h) (get b.blocks h) (drifts.live h)
+  where
+    of : (x y : Option Block) → is_some y ≡ is_some x
+        → Alike (option_map_or (λ (o : Block). with_block a h (record o { user_id = user_id })) x a) (option_map_or (λ (o : Block). with_block b h (record o { user_id = user_id })) y b)
+    of None None same = drifts
+    of None (Some y) same = absurd (true≢false same)
+    of (Some x) None same = absurd (true≢false (sym same))
+    of (Some x) (Some y) same = put_alike a b h (record x { user_id = user_id }) (record y { user_id = user_id }) refl drifts
+
+made_alike : (c : Change) (a b : Document) → Alike a b → Alike (made c a) (made c b)
+made_alike (changes.BlocksIn ms) a b drifts = put_all_alike a b (saved_blocks ms.list.items) drifts
+made_alike (changes.BlocksOut ms) a b drifts = taken_all_alike a b (handles_of (saved_blocks ms.list.items)) drifts
+made_alike (changes.Part h part) a b drifts = part_alike a b h.0 part drifts
+made_alike (changes.UserId h old new) a b drifts = user_id_alike a b h.0 new drifts
+made_alike (changes.Map old new) a b drifts = record { live = drifts.live; user_ids = drifts.user_ids; map_block = refl; same = λ no. absurd (true≢false (sym no)) }
+
+none_there : (o : Option Block) → is_some o ≡ false → o ≡ None
+none_there None free = refl
+none_there (Some block) free = absurd (true≢false free)
+
+listed_alike : (c : Change) (a b : Document) → Alike a b → Listed c a → Listed c b
+listed_alike (changes.BlocksIn ms) a b drifts are = record {
+  free = λ i h within. record { handle = (are.free i h within).handle; free = none_there _ (drifts.live _ ∙ ap is_some (are.free i h within).free) };
+  distinct = are.distinct;
+}
+listed_alike (changes.BlocksOut ms) a b drifts can = record {
+  live = λ i h within. drifts.live _ ∙ can.live i h within;
+  others = λ i h within same. can.others i h within (sym drifts.map_block ∙ same);
+  distinct = can.distinct;
+}
+listed_alike (changes.Part h part) a b drifts live = drifts.live h.0 ∙ live
+listed_alike (changes.UserId h old new) a b drifts has = record { live = drifts.live h.0 ∙ has.live; stands = drifts.user_ids h.0 ∙ has.stands; word = has.word }
+listed_alike (changes.Map old new) a b drifts has = record { stands = drifts.map_block ∙ has.stands; live = λ some. drifts.live new.0 ∙ has.live some }
+
+all_listed_alike : (cs : List Change) (a b : Document) → Alike a b → AllListed cs a → AllListed cs b
+all_listed_alike [] a b drifts listed = tt
+all_listed_alike (c ∷ cs) a b drifts listed = (listed_alike c a b drifts listed.0, all_listed_alike cs (made c a) (made c b) (made_alike c a b drifts) listed.1)
+
+pub listed_on : (c : Change) (honest : Bool) (old new : Document) → Drifts honest old new → Listed c old → Listed c new
+listed_on c honest old new drifts listed = listed_alike c old new (alike honest old new drifts) listed
+
+pub all_listed_on : ListedLaw
+all_listed_on honest cs old new drifts listed = all_listed_alike cs old new (alike honest old new drifts) listed
+
+-- What a call of `prepare` leaves.
+
+body_of_option : (o : Option Block) (body : Body) → option_map (λ x. x.body) o ≡ Some body → (unwrap_or o (record { user_id = 0; body = Raw [] })).body ≡ body
+body_of_option None body is = absurd (cc is)
+body_of_option (Some block) body is = cc is
+
+module _ {S : Type 0} (facts : S → StoreFacts) (old new : FileState S) (keeps : Keeps facts old new) where
+  -- a block that was live wasn't refused for want of one
+  pub lacks_alone : {A : Type 0} (h : ℕ) (result : Result A Fault) → is_live old.document h ≡ true
+      → IfErr result (λ fault. Lacks facts old.disk.store new.disk.store fault ⊎ ((fault ≡ NoBlock) × (is_live new.document h ≡ false))) → IfErr result (Lacks facts old.disk.store new.disk.store)
+  lacks_alone h (Ok done) live err = tt
+  lacks_alone h (Err fault) live err = elim err as (λ _. Lacks facts old.disk.store new.disk.store fault) [
+    | inl lacks ↦ lacks
+    | inr dead ↦ absurd (true≢false (sym live ∙ (sym ((keeps-drifts facts old new keeps).live h) ∙ dead.1)))
+  ]
+
+  -- a body that doesn't take a change of a part, so that the change didn't apply
+  pub unfit : (h : ℕ) (p : PartChange) (body : Body) → option_map (λ x. x.body) (get new.document.blocks h) ≡ Some body → (Takes p body → ⊥) → IsSteady facts old.disk.store → PartApplies h p old.document → ⊥
+  unfit h p body is refuses steady applies =
+      let now : PartApplies h p new.document = subst (λ (d : Document). PartApplies h p d) (sym (keeps-same facts old new keeps steady)) applies in
+      refuses (subst (Takes p) (body_of_option (get new.document.blocks h) body is) (part_body h p new.document now))
+
+  module _ (c : Change) where
+    pub ready : (result : Result Prepared Fault) → Listed c old.document → IsAtHand c new → BodyTakes c new.document → IfOk result (λ prepared. IsFor prepared c) → IfOk result (λ prepared. IsReady prepared c new)
+    ready (Ok prepared) listed at_hand takes incoming = record {
+      listed = listed_on c (facts old.disk.store).honest old.document new.document (keeps-drifts facts old new keeps) listed;
+      takes = takes;
+      at_hand = at_hand;
+      incoming = incoming;
+    }
+    ready (Err fault) listed at_hand takes incoming = tt
+
+    -- memory was wanting
+    pub unready : (result : Result Prepared Fault) → IfErr result (λ fault. fault ≡ Memory) → IfErr result (IsUnready facts c old new)
+    unready (Ok prepared) memory = tt
+    unready (Err fault) memory = inl (subst (Lacks facts old.disk.store new.disk.store) (sym memory) (lacks-memory facts old.disk.store new.disk.store))

@@ -1,0 +1,25 @@
+use Rattle.std.proofs.Common.{◌≡◌, ◌-◌, ℕ, List, length, take, replicate, arith, sym, ◌∙◌, length-append, length-take}
+use Rattle.std.proofs.lemmas.Bool.{lt-leb}
+use Rattle.std.proofs.lemmas.List.{length-replicate}
+use Rattle.geos_model.specs.Bytes.{resized}
+use Rattle.geos_model.specs.Heap.{ChunkMap, chunk_bytes}
+use Rattle.geos_model.proofs.HeapTables.{chunk_bytes_le, fits_with-same, fits_with-many}
+use Rattle.vm_blocks.proofs.part.has_room.Goals as goal
+
+length-resized : (bytes : List ℕ) (n : ℕ) → length (resized bytes n) ≡ n
+length-resized bytes n = omega (arith, length-append (take n bytes) (replicate (n - length bytes) 0), length-take n bytes, length-replicate {A = ℕ} (n - length bytes) 0)
+
+pub overflow_add-rest : goal.overflow_add-rest
+overflow_add-rest c = let few = chunk_bytes_le c.args.heap.now.chunks c.args.chunk.0 c.requires.valid c.requires.live in omega (arith, few)
+
+pub overflow_cast-rest : goal.overflow_cast-rest
+overflow_cast-rest c = let few = chunk_bytes_le c.args.heap.now.chunks c.args.chunk.0 c.requires.valid c.requires.live in omega (arith, few)
+
+pub returns-then-new-le-SIZE : goal.returns-then-new-le-SIZE
+returns-then-new-le-SIZE c = λ bytes long.
+    let m : ChunkMap = c.args.heap.now.chunks in let h : ℕ = c.args.chunk.0 in
+    c.fits_resize.ensures ∙ fits_with-same m h _ bytes c.requires.valid c.requires.live (length-resized (chunk_bytes m h) _ ∙ sym long)
+
+pub returns-else-new-le-SIZE : goal.returns-else-new-le-SIZE
+returns-else-new-le-SIZE c = λ bytes long.
+    lt-leb c.args.new 65520 c.if-new-le-SIZE.false ∙ sym (fits_with-many c.args.heap.now.chunks c.args.chunk.0 bytes c.requires.valid c.requires.live (omega (arith, long, c.if-new-le-SIZE.false)))
