@@ -1,5 +1,5 @@
 -- Extents that are found for images, one by one.
-use Rattle.std.proofs.Common.{◌≡◌, ℕ, ◌+◌, ◌*◌, ◌%◌, ◌<◌, ◌≤◌, List, [], ◌∷◌, ◌++◌, All, Option, None, Some, take, length, get_or, refl, sym, ap, subst, ◌∙◌, arith, inl, inr, length-append}
+use Rattle.std.proofs.Common.{◌≡◌, ℕ, ◌+◌, ◌*◌, ◌%◌, ◌<◌, ◌≤◌, List, [], ◌∷◌, ◌++◌, All, Option, None, Some, take, drop, zero, suc, length, get_or, refl, sym, ap, subst, ◌∙◌, arith, inl, inr, length-append}
 use Rattle.std.proofs.lemmas.Bool.{cases_eq}
 use Rattle.std.proofs.Math.Nat.{div-add-mod, mod-lt}
 use Rattle.std.proofs.lemmas.List.{append_assoc, append-nil, take_more, get_or_append_left}
@@ -7,10 +7,15 @@ use Rattle.std.proofs.lemmas.List.Elements.{All-nil, All-cons, All-head, All-tai
 use Rattle.geos_model.specs.File.{pages_of}
 use Rattle.geos_model.specs.declared.file.Extent.{Extent}
 use Rattle.vm_space.specs.Placing.{IsApart, IsFirstFit}
-use Rattle.vm_space.specs.Space.{Space, IsLeft}
+use Rattle.std.specs.List.Sorted.{IsPermutation}
+use Rattle.std.proofs.lemmas.List.Sorted.{IsPermutation-refl, IsPermutation-trans, IsPermutation-middle}
+use Rattle.vm_space.specs.Space.{Space, AreTaken}
+use Rattle.vm_space.proofs.Taking.{taken-permuted}
 use Rattle.vm_file.specs.Ranges.{start_of, end_of, IsPlaced, IsOut, IsClear}
 use Rattle.vm_file.specs.Slots.{block_extents}
+use Rattle.vm_file.specs.Known.{Takes}
 use Rattle.vm_file.specs.Writing.{AreFor}
+use Rattle.vm_file.proofs.Spaces.{takes-one}
 use Rattle.vm_file.specs.declared.table.Place.{Place}
 use Rattle.vm_file.specs.declared.put.PutBlock.{PutBlock}
 
@@ -22,8 +27,7 @@ taken_with taken (e ∷ es) = taken_with (e ∷ taken) es
 -- extents were found for the first n images
 pub record IsPlacing (taken : List Extent) (puts : List PutBlock) (n : ℕ) (extents : List Extent) (space : Space) : Type 0 where
   pub found : AreFor taken puts n extents
-  pub count : space.count ≡ length taken + n
-  pub left : IsLeft (taken_with taken extents) space
+  pub are : AreTaken (taken_with taken extents) space
 
 -- Lists with one more element.
 
@@ -88,20 +92,26 @@ module _ (taken extents : List Extent) (puts : List PutBlock) (n : ℕ) (r : Ext
         ];
       }
 
-  pub placing_more : (old new : Space) → IsPlacing taken puts n extents old → new.count ≡ old.count + 1 → IsLeft (r ∷ taken_with taken extents) new → IsPlacing taken puts (n + 1) (extents ++ r ∷ []) new
-  placing_more old new was count left = record {
+  pub placing_more : (old new : Space) → IsPlacing taken puts n extents old → AreTaken (r ∷ taken_with taken extents) new → IsPlacing taken puts (n + 1) (extents ++ r ∷ []) new
+  placing_more old new was are = record {
     found = found_more was.found;
-    count = omega (arith, count, was.count);
-    left = subst (λ es. IsLeft es new) (sym (with_more taken extents r)) left;
+    are = subst (λ es. AreTaken es new) (sym (with_more taken extents r)) are;
   }
 
 -- nothing is found yet
-pub placing_none : (taken : List Extent) (puts : List PutBlock) (space : Space) → space.count ≡ length taken → IsLeft taken space → IsPlacing taken puts 0 [] space
-placing_none taken puts space count left = record {
+pub placing_none : (taken : List Extent) (puts : List PutBlock) (space : Space) → AreTaken taken space → IsPlacing taken puts 0 [] space
+placing_none taken puts space all = record {
   found = record { count = refl; sizes = λ k e p low. absurd (omega arith); placed = All-nil IsPlaced; clear = All-nil (λ e. IsClear (start_of e) e.length taken); apart = λ i k e less low. absurd (omega arith) };
-  count = omega (arith, count);
-  left = left;
+  are = all;
 }
+
+-- the newest first or last
+with_order : (taken es : List Extent) → IsPermutation (taken_with taken es) (es ++ taken)
+with_order taken [] = IsPermutation-refl taken
+with_order taken (e ∷ es) = IsPermutation-trans (taken_with (e ∷ taken) es) (es ++ e ∷ taken) (e ∷ (es ++ taken)) (with_order (e ∷ taken) es) (IsPermutation-middle es e taken)
+
+pub placing_taken : (taken es : List Extent) (puts : List PutBlock) (n : ℕ) (space : Space) → IsPlacing taken puts n es space → AreTaken (es ++ taken) space
+placing_taken taken es puts n space is = taken-permuted (taken_with taken es) (es ++ taken) space (with_order taken es) is.are
 
 -- The extents of the first places.
 
@@ -113,11 +123,26 @@ blocks_end (Some x ∷ xs) o = ap (λ (l : List Extent). x.extent ∷ l) (blocks
 pub blocks_more : (places : List (Option Place)) (i : ℕ) (o : Option Place) → i < length places → get_or places i None ≡ o → block_extents (take (i + 1) places) ≡ block_extents (take i places) ++ block_extents (o ∷ [])
 blocks_more places i o inside is = ap block_extents (take_more places i None inside) ∙ ap (λ x. block_extents (take i places ++ x ∷ [])) is ∙ blocks_end (take i places) o
 
--- an extent is pushed, or none
-pub pushed_some : (places : List (Option Place)) (i : ℕ) (place : Place) (before was now : List Extent) → i < length places → get_or places i None ≡ Some place → was ≡ before ++ block_extents (take i places) → now ≡ was ++ place.extent ∷ [] → now ≡ before ++ block_extents (take (i + 1) places)
-pushed_some places i place before was now inside is so pushed =
-    pushed ∙ ap (λ (l : List Extent). l ++ place.extent ∷ []) so ∙ append_assoc before (block_extents (take i places)) (place.extent ∷ []) ∙ ap (λ (l : List Extent). before ++ l) (sym (blocks_more places i (Some place) inside is))
+blocks_split : (places : List (Option Place)) (i : ℕ) → block_extents places ≡ block_extents (take i places) ++ block_extents (drop i places)
+blocks_split places zero = refl
+blocks_split [] (suc i) = refl
+blocks_split (None ∷ xs) (suc i) = blocks_split xs i
+blocks_split (Some x ∷ xs) (suc i) = ap (λ (l : List Extent). x.extent ∷ l) (blocks_split xs i)
 
-pub pushed_none : (places : List (Option Place)) (i : ℕ) (before was : List Extent) → i < length places → get_or places i None ≡ None → was ≡ before ++ block_extents (take i places) → was ≡ before ++ block_extents (take (i + 1) places)
-pushed_none places i before was inside is so =
-    so ∙ ap (λ (l : List Extent). before ++ l) (sym (blocks_more places i None inside is ∙ append-nil (block_extents (take i places))))
+-- those of the first places are fewer than all where another follows
+pub blocks_fewer : (places : List (Option Place)) (i : ℕ) (place : Place) → i < length places → get_or places i None ≡ Some place → length (block_extents (take i places)) + 1 ≤ length (block_extents places)
+blocks_fewer places i place inside is =
+    let next : block_extents (take (i + 1) places) ≡ block_extents (take i places) ++ place.extent ∷ [] = blocks_more places i (Some place) inside is in
+    let whole = ap length (blocks_split places (i + 1)) in
+    let both = length-append (block_extents (take (i + 1) places)) (block_extents (drop (i + 1) places)) in
+    let one = ap length next in
+    let long = length-append (block_extents (take i places)) (place.extent ∷ []) in
+    omega (arith, whole, both, one, long)
+
+-- an extent more is taken, or none
+pub takes_some : (places : List (Option Place)) (i : ℕ) (place : Place) (a b c : Space) → i < length places → get_or places i None ≡ Some place → Takes (block_extents (take i places)) a b → c.count ≡ b.count + 1 → ((taken : List Extent) → AreTaken taken b → AreTaken (place.extent ∷ taken) c)
+    → Takes (block_extents (take (i + 1) places)) a c
+takes_some places i place a b c inside is before count held = subst (λ l. Takes l a c) (sym (blocks_more places i (Some place) inside is)) (takes-one (block_extents (take i places)) place.extent a b c before count held)
+
+pub takes_no_more : (places : List (Option Place)) (i : ℕ) (a b : Space) → i < length places → get_or places i None ≡ None → Takes (block_extents (take i places)) a b → Takes (block_extents (take (i + 1) places)) a b
+takes_no_more places i a b inside is before = subst (λ l. Takes l a b) (sym (blocks_more places i None inside is ∙ append-nil (block_extents (take i places)))) before

@@ -27,6 +27,7 @@ pub mod Outcomes
 pub mod Passing
 pub mod Puts
 pub mod Results
+pub mod Spaces
 pub mod Stands
 pub mod Steps
 pub mod Tables

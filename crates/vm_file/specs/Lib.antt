@@ -13,3 +13,4 @@ pub mod Ranges
 pub mod Slots
 pub mod Sound
 pub mod Writing
+pub mod Known

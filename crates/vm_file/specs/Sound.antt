@@ -1,11 +1,13 @@
 -- What always holds of a document file.
-use Rattle.std.specs.Prelude.{◌≡◌, ◌⊎◌, ℕ, ◌+◌, ◌-◌, ◌^◌, ◌<◌, ◌≤◌, true, IsTrue, None, is_some, length, All, get_or}
+use Rattle.std.specs.Prelude.{◌≡◌, ◌⊎◌, ℕ, ◌+◌, ◌-◌, ◌^◌, ◌<◌, ◌≤◌, ◌++◌, true, IsTrue, Option, None, is_some, length, All, get_or}
 use Rattle.vm_store.specs.Facts.{StoreFacts}
 use Rattle.geos_model.specs.Document.{most_blocks}
 use Rattle.vm_file.specs.Ranges.{IsPlaced, end_of}
-use Rattle.vm_file.specs.Slots.{block_extents, AreKept, Leaves}
+use Rattle.vm_file.specs.Slots.{block_extents, kept_extents, AreKept, Leaves}
 use Rattle.vm_file.specs.Documents.{document_in, attempted_in, AreImaged, AreStored, IsHeldStored}
 use Rattle.vm_file.specs.Disk.{Disk}
+use Rattle.vm_file.specs.Known.{IsKnown}
+use Rattle.vm_space.specs.Space.{Space}
 use Rattle.vm_file.specs.declared.table.Table.{Table}
 use Rattle.vm_file.specs.declared.slots.Pair.{Pair}
 use Rattle.vm_file.specs.declared.slots.Other.{Other}
@@ -49,6 +51,11 @@ pub record IsWhole (store : StoreFacts) (live : Table) (slots : Slots) : Type 0 
 pub record IsSound (store : StoreFacts) (live : Table) (slots : Slots) : Type 0 where
   pub formed : IsFormed live slots
   pub whole : IsTrue store.honest → IsWhole store live slots
+
+-- with the free space: taken is all that lies in the file and stays
+pub record IsSoundFile (store : StoreFacts) (live : Table) (slots : Slots) (space : Option Space) : Type 0 where
+  pub sound : IsSound store live slots
+  pub known : IsKnown (block_extents live.places.items ++ kept_extents slots) space
 
 -- what callers see of it
 abbrev pub disk_of : {S : Type 0} → (S → StoreFacts) → S → Slots → Disk S

@@ -8,17 +8,18 @@ ghost use Rattle.vm_file.specs.Documents.{entries_of, directory_of_table, docume
 ghost use Rattle.vm_file.specs.Disk.{Passes, Commits};
 ghost use Rattle.vm_file.specs.Sound.{IsFormed, IsSound, disk_of};
 ghost use Rattle.vm_file.specs.Drafts.{IsDraft};
+ghost use Rattle.vm_file.specs.Known.{IsKnown};
 ghost use Rattle.vm_file.specs.Copies.{IsStoredCopy};
 
 use crate::commit::write_extent;
 use crate::copies::copy_table;
-use crate::placing::taken_extents;
+use crate::placing::known_space;
 use crate::settle::settle;
 use crate::slots::{Pair, Slots, Stored};
 use crate::table::{Place, Table};
 use geos_model::{Entry, Extent, Fault, VmHandle};
 use std::alloc::{AllocError, Global};
-use vm_space::{place, write_dir};
+use vm_space::{FreeSpace, write_dir};
 use vm_store::{Store, StoreFault};
 
 /// A directory that is to be written.
@@ -54,32 +55,40 @@ pub fn entries_of(alloc: Global, places: &[Option<Place>]) -> Result<Vec<Entry>,
     Ok(entries)
 }
 
-// A place for a directory of so many bytes.
+// A place for a directory of so many bytes. The free space isn't needed any more: the commit changes what is taken.
 fn place_directory(
     alloc: Global,
     live: &Table,
     slots: &Slots,
+    space: Option<FreeSpace>,
     len: u32,
 ) -> Result<Extent, AllocError>
     requires formed { IsFormed live.now slots.now }
     requires some { 1 ≤ len }
     requires short { len ≤ 32784 }
+    requires known { IsKnown (block_extents live.now.places.items ++ kept_extents slots.now) space }
     ensures size { IfOk result (λ extent. extent.length ≡ len) }
     ensures placed { IfOk result IsPlaced }
     ensures clear { IfOk result (λ extent. IsClear (start_of extent) extent.length (block_extents live.now.places.items ++ kept_extents slots.now)) }
 {
-    let taken = taken_extents(alloc, &live.places, slots)?;
-    Ok(place(&taken, len))
+    let mut space = known_space(alloc, &live.places, slots, space)?;
+    space.take(len)
 }
 
 /// The directory of the live table. It takes all the memory that writing it needs.
-pub fn draft_of(alloc: Global, live: &Table, slots: &Slots) -> Result<Draft, AllocError>
-    requires { IsFormed live.now slots.now }
+pub fn draft_of(
+    alloc: Global,
+    live: &Table,
+    slots: &Slots,
+    space: Option<FreeSpace>,
+) -> Result<Draft, AllocError>
+    requires formed { IsFormed live.now slots.now }
+    requires known { IsKnown (block_extents live.now.places.items ++ kept_extents slots.now) space }
     ensures { IfOk result (λ draft. IsDraft live.now slots.now draft) }
 {
     let entries = entries_of(alloc, &live.places)?;
     let text = write_dir(alloc, VmHandle(live.map_block), &entries)?;
-    let directory = place_directory(alloc, live, slots, text.len() as u32)?;
+    let directory = place_directory(alloc, live, slots, space, text.len() as u32)?;
     let table = copy_table(alloc, live)?;
     Ok(Draft {
         stored: Stored { directory, table },

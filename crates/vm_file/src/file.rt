@@ -23,6 +23,7 @@ use crate::writing::write_puts;
 use geos_model::{Fault, VmHandle};
 use std::alloc::Global;
 use std::marker::Model;
+use vm_space::FreeSpace;
 use vm_store::Store;
 
 /// A document file over a store. What was committed stays where it lies until another commit is acknowledged, so that a
@@ -34,12 +35,15 @@ pub struct VmFile<S: Store> {
     store: S,
     live: Table,
     slots: Slots,
+    // What is free around all that lies in the file and stays, where it is known. The first image that is placed finds it
+    // out, and a commit forgets it.
+    space: Option<FreeSpace>,
 }
 
 impl<S: Store> Model for VmFile<S> {
     ghost use Rattle.vm_file.specs.Disk.{FileState, file_state_code};
     ghost use Rattle.vm_file.specs.Documents.{document_in};
-    ghost use Rattle.vm_file.specs.Sound.{disk_of, IsSound};
+    ghost use Rattle.vm_file.specs.Sound.{disk_of, IsSoundFile};
 
     ghost Value = { FileState S };
 
@@ -50,7 +54,7 @@ impl<S: Store> Model for VmFile<S> {
       document = document_in (S.facts f.store).content f.live;
     } };
 
-    ghost invariant = { λ f. IsSound (S.facts f.store) f.live f.slots };
+    ghost invariant = { λ f. IsSoundFile (S.facts f.store) f.live f.slots f.space };
 }
 
 impl<S: Store> VmFile<S> {
@@ -77,6 +81,7 @@ impl<S: Store> VmFile<S> {
                 store,
                 live: made.live,
                 slots: made.slots,
+                space: None,
             }),
             Err(fault) => Err(Refused { fault, store }),
         }
@@ -107,6 +112,7 @@ impl<S: Store> VmFile<S> {
                 store,
                 live,
                 slots,
+                space: None,
             }),
             Err(fault) => Err(Refused { fault, store }),
         }
@@ -214,15 +220,24 @@ impl<S: Store> VmFile<S> {
         ensures removals_alone { puts.now ≡ [] → IsOk result × (self.new ≡ record self.old { document = remove_all removals.now self.old.document }) }
         ensures fails { Fails S.facts NoFault self.old.disk.store self.new.disk.store result }
     {
-        let extents = write_puts(
+        let written = write_puts(
             self.alloc,
             &mut self.store,
             &self.live.places,
             &self.slots,
+            self.space.take(),
             puts,
         )?;
-        put_places(&mut self.live.places, puts, &extents);
-        remove_places(&mut self.live.places, removals);
+        let mut space = written.space;
+        put_places(
+            &mut self.live.places,
+            puts,
+            &written.extents,
+            &self.slots,
+            &mut space,
+        );
+        remove_places(&mut self.live.places, removals, &self.slots, &mut space);
+        self.space = space;
         Ok(())
     }
 
@@ -236,7 +251,7 @@ impl<S: Store> VmFile<S> {
         if self.slots.sequence == u64::MAX {
             return Err(Fault::Worn);
         }
-        let draft = draft_of(self.alloc, &self.live, &self.slots)?;
+        let draft = draft_of(self.alloc, &self.live, &self.slots, self.space.take())?;
         let saved = copy_stored(self.alloc, &self.slots.committed.saved)?;
         commit_draft(&mut self.store, &mut self.slots, &self.live, draft, saved)
     }
@@ -250,7 +265,7 @@ impl<S: Store> VmFile<S> {
         if self.slots.sequence == u64::MAX {
             return Err(Fault::Worn);
         }
-        let draft = draft_of(self.alloc, &self.live, &self.slots)?;
+        let draft = draft_of(self.alloc, &self.live, &self.slots, self.space.take())?;
         let saved = copy_stored(self.alloc, &draft.stored)?;
         commit_draft(&mut self.store, &mut self.slots, &self.live, draft, saved)
     }
@@ -267,6 +282,7 @@ impl<S: Store> VmFile<S> {
         let saved = &self.slots.committed.saved;
         let live = copy_table(self.alloc, &saved.table)?;
         let pair = twice(self.alloc, saved)?;
+        self.space = None;
         settle(&mut self.store, &mut self.slots, pair, &self.live)?;
         self.live = live;
         Ok(())
@@ -296,6 +312,7 @@ impl<S: Store> VmFile<S> {
                 store: target,
                 live: made.live,
                 slots: made.slots,
+                space: None,
             }),
             Err(fault) => Err(Refused {
                 fault,

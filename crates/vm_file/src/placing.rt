@@ -1,10 +1,11 @@
-// Where images come to lie: apart from all that lies in the file and stays.
-ghost use Rattle.std.specs.Prelude.{◌≡◌, ◌++◌, ◌+◌, ◌≤◌, All, IfOk, OnOk, length};
-ghost use Rattle.std.specs.List.Sorted.{IsPermutation};
-ghost use Rattle.vm_space.specs.Placing.{AreInOrder};
+// Where images and directories come to lie: apart from all that lies in the file and stays.
+ghost use Rattle.std.specs.Prelude.{◌≡◌, ◌++◌, ◌+◌, ◌≤◌, List, All, IfOk, OnOk, length};
+ghost use Rattle.geos_model.specs.declared.file.Extent.{Extent};
+ghost use Rattle.vm_space.specs.Space.{AreTaken};
 ghost use Rattle.vm_file.specs.Ranges.{IsPlaced};
-ghost use Rattle.vm_file.specs.Slots.{block_extents, stored_extents, pair_extents, kept_extents};
+ghost use Rattle.vm_file.specs.Slots.{block_extents, stored_extents, pair_extents, held_extents, kept_extents};
 ghost use Rattle.vm_file.specs.Calls.{IsPut};
+ghost use Rattle.vm_file.specs.Known.{IsKnown, Takes};
 ghost use Rattle.vm_file.specs.Writing.{AreFor};
 
 use crate::put::PutBlock;
@@ -14,73 +15,107 @@ use geos_model::Extent;
 use std::alloc::{AllocError, Global};
 use vm_space::{FreeSpace, MOST_EXTENTS};
 
-fn push_blocks(extents: &mut Vec<Extent>, places: &[Option<Place>]) -> Result<(), AllocError>
-    ensures { OnOk result (extents.new.items ≡ extents.old.items ++ block_extents places.now) }
+fn hold_blocks(space: &mut FreeSpace, places: &[Option<Place>]) -> Result<(), AllocError>
+    requires few { space.old.count + length (block_extents places.now) ≤ MOST_EXTENTS }
+    requires placed { All IsPlaced (block_extents places.now) }
+    ensures { OnOk result (Takes (block_extents places.now) space.old space.new) }
 {
     for place in places {
         if let Some(place) = place {
-            extents.push(place.extent)?;
+            space.hold(place.extent)?;
         }
     }
     Ok(())
 }
 
-fn push_stored(extents: &mut Vec<Extent>, stored: &Stored) -> Result<(), AllocError>
-    ensures { OnOk result (extents.new.items ≡ extents.old.items ++ stored_extents stored.now) }
+fn hold_stored(space: &mut FreeSpace, stored: &Stored) -> Result<(), AllocError>
+    requires few { space.old.count + length (stored_extents stored.now) ≤ MOST_EXTENTS }
+    requires placed { All IsPlaced (stored_extents stored.now) }
+    ensures { OnOk result (Takes (stored_extents stored.now) space.old space.new) }
 {
-    extents.push(stored.directory)?;
-    push_blocks(extents, &stored.table.places)
+    hold_blocks(space, &stored.table.places)?;
+    space.hold(stored.directory)
 }
 
-fn push_pair(extents: &mut Vec<Extent>, pair: &Pair) -> Result<(), AllocError>
-    ensures { OnOk result (extents.new.items ≡ extents.old.items ++ pair_extents pair.now) }
+fn hold_pair(space: &mut FreeSpace, pair: &Pair) -> Result<(), AllocError>
+    requires few { space.old.count + length (pair_extents pair.now) ≤ MOST_EXTENTS }
+    requires placed { All IsPlaced (pair_extents pair.now) }
+    ensures { OnOk result (Takes (pair_extents pair.now) space.old space.new) }
 {
-    push_stored(extents, &pair.updated)?;
-    push_stored(extents, &pair.saved)
+    hold_stored(space, &pair.saved)?;
+    hold_stored(space, &pair.updated)
 }
 
-fn push_kept(extents: &mut Vec<Extent>, slots: &Slots) -> Result<(), AllocError>
-    ensures { OnOk result (extents.new.items ≡ extents.old.items ++ kept_extents slots.now) }
+fn hold_other(space: &mut FreeSpace, other: &Other) -> Result<(), AllocError>
+    requires few { space.old.count + length (held_extents other.now) ≤ MOST_EXTENTS }
+    requires placed { All IsPlaced (held_extents other.now) }
+    ensures { OnOk result (Takes (held_extents other.now) space.old space.new) }
 {
-    push_pair(extents, &slots.committed)?;
-    match &slots.other {
-        Other::Held(pair) => push_pair(extents, pair),
+    match other {
+        Other::Held(pair) => hold_pair(space, pair),
         Other::Shut | Other::Stale => Ok(()),
     }
 }
 
-/// What must not be written over, by rising pages: the blocks of the live table, and all that the slots stand on.
-pub fn taken_extents(
+fn hold_kept(space: &mut FreeSpace, slots: &Slots) -> Result<(), AllocError>
+    requires few { space.old.count + length (kept_extents slots.now) ≤ MOST_EXTENTS }
+    requires placed { All IsPlaced (kept_extents slots.now) }
+    ensures { OnOk result (Takes (kept_extents slots.now) space.old space.new) }
+{
+    hold_other(space, &slots.other)?;
+    hold_pair(space, &slots.committed)
+}
+
+// Taken is what must not be written over: the blocks of the live table, and all that the slots stand on.
+fn space_around(
     alloc: Global,
     live: &[Option<Place>],
     slots: &Slots,
-) -> Result<Vec<Extent>, AllocError>
-    ensures all { IfOk result (λ taken. IsPermutation (block_extents live.now ++ kept_extents slots.now) taken.items) }
-    ensures in_order { IfOk result (λ taken. AreInOrder taken.items) }
+) -> Result<FreeSpace, AllocError>
+    requires few { length (block_extents live.now ++ kept_extents slots.now) ≤ MOST_EXTENTS }
+    requires live { All IsPlaced (block_extents live.now) }
+    requires kept { All IsPlaced (kept_extents slots.now) }
+    ensures { IfOk result (AreTaken (block_extents live.now ++ kept_extents slots.now)) }
 {
-    let mut taken = Vec::new(alloc);
-    push_blocks(&mut taken, live)?;
-    push_kept(&mut taken, slots)?;
-    taken.sort_unstable_by_key(|extent| extent.page);
-    Ok(taken)
+    let mut space = FreeSpace::new(alloc);
+    hold_kept(&mut space, slots)?;
+    hold_blocks(&mut space, live)?;
+    Ok(space)
 }
 
-/// Free extents for the images of blocks.
+/// The free space of a file, which is found out where it isn't known.
+pub fn known_space(
+    alloc: Global,
+    live: &[Option<Place>],
+    slots: &Slots,
+    space: Option<FreeSpace>,
+) -> Result<FreeSpace, AllocError>
+    requires few { length (block_extents live.now ++ kept_extents slots.now) ≤ MOST_EXTENTS }
+    requires live { All IsPlaced (block_extents live.now) }
+    requires kept { All IsPlaced (kept_extents slots.now) }
+    requires known { IsKnown (block_extents live.now ++ kept_extents slots.now) space }
+    ensures { IfOk result (AreTaken (block_extents live.now ++ kept_extents slots.now)) }
+{
+    match space {
+        Some(space) => Ok(space),
+        None => space_around(alloc, live, slots),
+    }
+}
+
+/// Takes free extents for the images of blocks. After a refusal some may be taken.
 pub fn place_images(
     alloc: Global,
-    taken: &[Extent],
+    space: &mut FreeSpace,
     puts: &[PutBlock],
 ) -> Result<Vec<Extent>, AllocError>
-    requires few { length taken.now + length puts.now ≤ MOST_EXTENTS }
-    requires placed { All IsPlaced taken.now }
-    requires in_order { AreInOrder taken.now }
+    requires few { space.old.count + length puts.now ≤ MOST_EXTENTS }
     requires puts { All IsPut puts.now }
-    ensures { IfOk result (λ extents. AreFor taken.now puts.now (length puts.now) extents.items) }
+    ensures found { IfOk result (λ extents. (taken : List Extent) → AreTaken taken space.old → AreFor taken puts.now (length puts.now) extents.items) }
+    ensures taken { IfOk result (λ extents. (taken : List Extent) → AreTaken taken space.old → AreTaken (extents.items ++ taken) space.new) }
 {
-    let mut space = FreeSpace::new(alloc, taken)?;
     let mut extents = Vec::with_capacity(alloc, puts.len())?;
     for put in puts {
-        let extent = space.take(put.image.as_slice().len() as u32);
+        let extent = space.take(put.image.as_slice().len() as u32)?;
         extents.push(extent)?;
     }
     Ok(extents)

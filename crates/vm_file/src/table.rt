@@ -1,12 +1,18 @@
 // The blocks of a document, and where their images lie in the file.
 ghost use Rattle.vm_file.specs.declared.table.Place.{Place};
-ghost use Rattle.std.specs.Prelude.{◌≡◌, ◌≤◌, ◌-◌, All, None, Some, get_or, length, slice_set};
+ghost use Rattle.std.specs.Prelude.{◌≡◌, ◌≤◌, ◌-◌, ◌++◌, ◌∷◌, [], List, All, IfSome, None, Some, get_or, length, slice_set};
+ghost use Rattle.geos_model.specs.declared.file.Extent.{Extent};
+ghost use Rattle.vm_space.specs.Space.{AreTaken};
+ghost use Rattle.vm_file.specs.Known.{IsKnown};
+ghost use Rattle.vm_file.specs.Slots.{block_extents, kept_extents};
 ghost use Rattle.geos_model.specs.Document.{most_blocks};
 ghost use Rattle.vm_file.specs.Calls.{IsPut};
 ghost use Rattle.vm_file.specs.Writing.{placed_at, with_places, without_place, without_places};
 
 use crate::put::PutBlock;
+use crate::slots::Slots;
 use geos_model::{Extent, VmHandle};
+use vm_space::FreeSpace;
 
 /// A block in the file.
 #[derive(Clone, Copy, Debug, PartialEq, Eq)]
@@ -62,31 +68,74 @@ fn placed_at(put: &PutBlock, extent: Extent) -> Place
     }
 }
 
-/// Puts blocks into a table, each in its extent.
-pub fn put_places(places: &mut [Option<Place>], puts: &[PutBlock], extents: &[Extent])
+// Where a block lay is free again.
+fn give_back(space: &mut Option<FreeSpace>, place: Option<Place>)
+    requires { IfSome space.old (λ s. (rest : List Extent) × AreTaken (block_extents (place ∷ []) ++ rest) s) }
+    ensures { (rest : List Extent) → IsKnown (block_extents (place ∷ []) ++ rest) space.old → IsKnown rest space.new }
+{
+    if let Some(space) = space {
+        if let Some(place) = place {
+            space.release(place.extent);
+        }
+    }
+}
+
+/// Puts blocks into a table, each in its extent. Of the free space their extents are taken before; where a block is that gets
+/// another place, it is free afterwards.
+pub fn put_places(
+    places: &mut [Option<Place>],
+    puts: &[PutBlock],
+    extents: &[Extent],
+    slots: &Slots,
+    space: &mut Option<FreeSpace>,
+)
     requires size { length places.old ≡ most_blocks }
     requires puts { All IsPut puts.now }
     requires extents { length extents.now ≡ length puts.now }
-    ensures { places.new ≡ with_places puts.now extents.now places.old }
+    requires known { IsKnown (extents.now ++ (block_extents places.old ++ kept_extents slots.now)) space.old }
+    ensures places { places.new ≡ with_places puts.now extents.now places.old }
+    ensures known { IsKnown (block_extents places.new ++ kept_extents slots.now) space.new }
 {
+    let _ = slots;
     for (i, put) in puts.iter().enumerate() {
-        places[usize::from(put.handle.0) - 1] = Some(placed_at(put, extents[i]));
+        let at = usize::from(put.handle.0) - 1;
+        let gone = places[at];
+        give_back(space, gone);
+        places[at] = Some(placed_at(put, extents[i]));
     }
 }
 
-fn remove_place(places: &mut [Option<Place>], block: VmHandle)
-    ensures { places.new ≡ without_place block.0 places.old }
+fn remove_place(
+    places: &mut [Option<Place>],
+    block: VmHandle,
+    slots: &Slots,
+    space: &mut Option<FreeSpace>,
+)
+    requires { IsKnown (block_extents places.old ++ kept_extents slots.now) space.old }
+    ensures places { places.new ≡ without_place block.0 places.old }
+    ensures known { IsKnown (block_extents places.new ++ kept_extents slots.now) space.new }
 {
+    let _ = slots;
     if block.0 != 0 && usize::from(block.0) <= places.len() {
-        places[usize::from(block.0) - 1] = None;
+        let at = usize::from(block.0) - 1;
+        let gone = places[at];
+        give_back(space, gone);
+        places[at] = None;
     }
 }
 
-/// Takes blocks out of a table. Handles that aren't live change nothing.
-pub fn remove_places(places: &mut [Option<Place>], removals: &[VmHandle])
-    ensures { places.new ≡ without_places removals.now places.old }
+/// Takes blocks out of a table: where they lay is free. Handles that aren't live change nothing.
+pub fn remove_places(
+    places: &mut [Option<Place>],
+    removals: &[VmHandle],
+    slots: &Slots,
+    space: &mut Option<FreeSpace>,
+)
+    requires { IsKnown (block_extents places.old ++ kept_extents slots.now) space.old }
+    ensures places { places.new ≡ without_places removals.now places.old }
+    ensures known { IsKnown (block_extents places.new ++ kept_extents slots.now) space.new }
 {
     for block in removals {
-        remove_place(places, *block);
+        remove_place(places, *block, slots, space);
     }
 }

@@ -4,16 +4,17 @@ ghost use Rattle.vm_store.specs.Facts.{Raised};
 ghost use Rattle.vm_file.specs.Ranges.{IsPlaced};
 ghost use Rattle.vm_file.specs.Slots.{block_extents, kept_extents, AreKept};
 ghost use Rattle.vm_file.specs.Calls.{IsPut, IsSupply};
+ghost use Rattle.vm_file.specs.Known.{IsKnown};
 ghost use Rattle.vm_file.specs.Writing.{AreFor, Fills, AreWritten, IsSpared};
 
 use crate::commit::write_extent;
-use crate::placing::{place_images, taken_extents};
+use crate::placing::{known_space, place_images};
 use crate::put::PutBlock;
 use crate::slots::Slots;
 use crate::table::Place;
 use geos_model::{Extent, Fault};
 use std::alloc::Global;
-use vm_space::MOST_EXTENTS;
+use vm_space::{FreeSpace, MOST_EXTENTS};
 use vm_store::{Store, StoreFault};
 
 /// Writes the images of blocks into extents on which nothing stands. Doesn't sync.
@@ -37,36 +38,51 @@ pub fn write_images<S: Store>(
     Ok(())
 }
 
-/// Finds free extents for the images of blocks, and writes them there; none where there is nothing to write. Memory, before
+/// Images that are written.
+#[derive(Drop)]
+pub struct Written {
+    pub extents: Vec<Extent>,
+    /// The free space without these extents, where it is known.
+    pub space: Option<FreeSpace>,
+}
+
+/// Takes free extents for the images of blocks, and writes them there; none where there is nothing to write. Memory, before
 /// anything is written; File.
 pub fn write_puts<S: Store>(
     alloc: Global,
     store: &mut S,
     live: &[Option<Place>],
     slots: &Slots,
+    space: Option<FreeSpace>,
     puts: &[PutBlock],
-) -> Result<Vec<Extent>, Fault>
+) -> Result<Written, Fault>
     requires live { All IsPlaced (block_extents live.now) }
     requires kept { AreKept slots.now }
     requires few { length (block_extents live.now ++ kept_extents slots.now) + length puts.now ≤ MOST_EXTENTS }
     requires puts { All IsPut puts.now }
+    requires known { IsKnown (block_extents live.now ++ kept_extents slots.now) space }
     ensures honest { (S.facts store.new).honest ≡ (S.facts store.old).honest }
     ensures failures { (S.facts store.old).failures ≤ (S.facts store.new).failures }
     ensures spared { IsTrue (S.facts store.old).honest → IsSpared (block_extents live.now) slots.now (S.facts store.old) (S.facts store.new) }
-    ensures found { IfOk result (λ extents. AreFor (block_extents live.now ++ kept_extents slots.now) puts.now (length puts.now) extents.items) }
-    ensures written { IfOk result (λ extents. IsTrue (S.facts store.old).honest → AreWritten (length puts.now) puts.now extents.items (S.facts store.new).content) }
+    ensures found { IfOk result (λ written. AreFor (block_extents live.now ++ kept_extents slots.now) puts.now (length puts.now) written.extents.items) }
+    ensures written { IfOk result (λ written. IsTrue (S.facts store.old).honest → AreWritten (length puts.now) puts.now written.extents.items (S.facts store.new).content) }
+    ensures known { IfOk result (λ written. IsKnown (written.extents.items ++ (block_extents live.now ++ kept_extents slots.now)) written.space) }
     ensures early { IfErr result (λ fault. fault ≢ Fault.File → store.new ≡ store.old) }
     ensures nothing { puts.now ≡ [] → IsOk result × (store.new ≡ store.old) }
     ensures file { IsErrOf result Fault.File → Raised (S.facts store.old) (S.facts store.new) }
     ensures refusals { IfErr result IsSupply }
 {
     if puts.is_empty() {
-        return Ok(Vec::new(alloc));
+        let extents = Vec::new(alloc);
+        return Ok(Written { extents, space });
     }
-    let taken = taken_extents(alloc, live, slots)?;
-    let extents = place_images(alloc, &taken, puts)?;
+    let mut space = known_space(alloc, live, slots, space)?;
+    let extents = place_images(alloc, &mut space, puts)?;
     match write_images(store, slots, &extents, puts) {
-        Ok(()) => Ok(extents),
+        Ok(()) => Ok(Written {
+            extents,
+            space: Some(space),
+        }),
         Err(_) => Err(Fault::File),
     }
 }

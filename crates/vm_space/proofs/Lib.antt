@@ -1,4 +1,5 @@
 pub mod Fitting
 pub mod Texts
-pub mod Gaps
-pub mod Building
+pub mod Counting
+pub mod Reaching
+pub mod Taking

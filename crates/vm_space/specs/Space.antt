@@ -1,61 +1,56 @@
--- The pages that extents leave free.
-use Rattle.std.specs.Prelude.{◌≡◌, ◌⊎◌, ◌+◌, ◌*◌, ◌-◌, ◌<◌, ◌≤◌, ℕ, List, [], ◌∷◌, All, length, slice_index, slice_index_or, ⊤}
-use Rattle.geos_model.specs.File.{end_page, last_page}
+-- The pages that extents take, counted.
+use Rattle.std.specs.Prelude.{◌≡◌, ℕ, ◌+◌, ◌<◌, ◌≤◌, Bool, ◌&&◌, cond, List, ◌∷◌, length, count_by, nat_le, nat_lt, slice_index}
+use Rattle.geos_model.specs.File.{end_page}
 use Rattle.geos_model.specs.declared.file.Extent.{Extent}
-use Rattle.vm_space.specs.Placing.{IsFree}
-use Rattle.vm_space.specs.declared.free_space.Gap.{Gap}
+use Rattle.vm_space.specs.Placing.{AreExtents}
 
--- gaps between extents, and how many extents were taken
+-- for each page on how many of the taken extents it lies, none behind the last; and how many extents are taken
 pub record Space : Type 0 where
-  pub gaps : List Gap
+  pub counts : List ℕ
   pub count : ℕ
 
--- a page lies outside a gap
-abbrev pub IsOutside : ℕ → Gap → Type 0
-IsOutside page gap = (page < gap.start) ⊎ (gap.end ≤ page)
+-- a page lies from the one on and before the other
+abbrev pub is_within : ℕ → ℕ → ℕ → Bool
+is_within start end page = nat_le start page && nat_lt page end
 
--- an extent lies outside a gap
-abbrev pub IsClear : Extent → Gap → Type 0
-IsClear e gap = (end_page e ≤ gap.start) ⊎ (gap.end ≤ e.page)
+-- a page lies on an extent
+abbrev pub is_on : ℕ → Extent → Bool
+is_on page e = is_within e.page (end_page e) page
 
--- The gaps are what these extents leave: none of the extents lies in a gap, and each page that can be used and lies in no gap is an extent's.
-pub record IsLeft (taken : List Extent) (space : Space) : Type 0 where
-  pub clear : All (λ gap. All (λ e. IsClear e gap) taken) space.gaps
-  pub all : (page : ℕ) → 2 ≤ page → page < last_page → All (IsOutside page) space.gaps → IsFree taken page 1 → ⊥
+-- These extents are the ones that are taken, in any order; some may overlap.
+pub record AreTaken (taken : List Extent) (space : Space) : Type 0 where
+  pub extents : AreExtents taken
+  pub count : space.count ≡ length taken
+  pub pages : (page : ℕ) → slice_index space.counts page ≡ count_by (is_on page) taken
 
--- How gaps are kept.
+-- this extent is one of those that are taken
+abbrev pub IsTaken : Extent → Space → Type 0
+IsTaken e space = (rest : List Extent) × AreTaken (e ∷ rest) space
 
-abbrev pub gap_size : Gap → ℕ
-gap_size gap = gap.end - gap.start
+-- How they are kept.
 
--- No gap begins further on than so many pages and all gaps before it: where those are small, it begins early.
-abbrev pub Reaches : ℕ → List Gap → Type 0
-Reaches limit [] = ⊤
-Reaches limit (gap ∷ gaps) = (gap.start ≤ limit) × Reaches (limit + gap_size gap) gaps
+-- so many pages from one on are free
+abbrev pub IsRun : List ℕ → ℕ → ℕ → Type 0
+IsRun counts n page = (k : ℕ) → page ≤ k → k < page + n → slice_index counts k ≡ 0
 
--- Gaps lie behind the slots, one behind the other with pages between. Some may be empty.
-pub record AreGaps (gaps : List Gap) : Type 0 where
-  pub order : All (λ gap. (2 ≤ gap.start) × (gap.start ≤ gap.end)) gaps
-  pub apart : (k : ℕ) (d : Gap) → k + 1 < length gaps → (slice_index_or gaps k d).end < (slice_index_or gaps (k + 1) d).start
+-- The first page from one on at which so many are free.
+pub record IsFirstRun (counts : List ℕ) (from n page : ℕ) : Type 0 where
+  pub from_on : from ≤ page
+  pub run : IsRun counts n page
+  pub first : (q : ℕ) → from ≤ q → q < page → IsRun counts n q → ⊥
 
--- where the last gap ends, as good as nowhere
-abbrev pub far : ℕ
-far = 18446744073709551615
+-- Before this page so many are free nowhere behind the slots.
+pub record IsHint (counts : List ℕ) (n hint : ℕ) : Type 0 where
+  pub behind_slots : 2 ≤ hint
+  pub none : (q : ℕ) → 2 ≤ q → q < hint → IsRun counts n q → ⊥
 
--- The gaps of at most so many extents, the last one open. All gaps before the hint for n pages are smaller than n pages.
-pub record IsSound (gaps : List Gap) (hints : List ℕ) (count : ℕ) : Type 0 where
-  pub gaps_are : AreGaps gaps
-  pub reach : Reaches (2 + 128 * count) gaps
-  pub near : All (λ gap. gap.start ≤ 4294967296 + 128 * (count + 1)) gaps
-  pub some : 1 ≤ length gaps
-  pub few : length gaps ≤ count + 1
-  pub last : (d : Gap) → (slice_index_or gaps (length gaps - 1) d).end ≡ far
+-- Some extents are the ones that are taken, and there is a hint for each number of pages.
+pub record IsSound (counts hints : List ℕ) (count : ℕ) : Type 0 where
+  pub taken : List Extent
+  pub are : AreTaken taken (record { counts = counts; count = count })
   pub hint_count : length hints ≡ 129
-  pub hint_below : (n : ℕ) → n < 129 → slice_index hints n < length gaps
-  pub hint : (n k : ℕ) (d : Gap) → n < 129 → k < slice_index hints n → gap_size (slice_index_or gaps k d) < n
+  pub hint : (n : ℕ) → n < 129 → IsHint counts n (slice_index hints n)
 
--- The first gap from one on that has so many pages.
-pub record IsFirstGap (gaps : List Gap) (from pages at : ℕ) : Type 0 where
-  pub inside : at < length gaps
-  pub fits : (d : Gap) → pages ≤ gap_size (slice_index_or gaps at d)
-  pub smaller : (k : ℕ) (d : Gap) → from ≤ k → k < at → gap_size (slice_index_or gaps k d) < pages
+-- each count with one more from a page on and before another
+abbrev pub AreRaised : ℕ → ℕ → List ℕ → List ℕ → Type 0
+AreRaised start end old new = (page : ℕ) → slice_index new page ≡ cond (is_within start end page) 1 0 + slice_index old page

@@ -1,33 +1,28 @@
-ghost use Rattle.std.specs.Prelude.{◌≡◌, ◌∷◌, ◌+◌, ◌-◌, ◌<◌, ◌≤◌, List, All, ℕ, length, IfOk, slice_index_or};
+ghost use Rattle.std.specs.Prelude.{◌≡◌, ◌∷◌, [], ◌+◌, ◌^◌, ◌<◌, ◌≤◌, List, All, ℕ, length, min, replicate, IfOk, OnOk, OnErr, slice_index};
 ghost use Rattle.geos_model.specs.declared.file.Extent.{Extent};
-ghost use Rattle.vm_space.specs.Placing.{AreExtents, AreInOrder, IsFirstFit, IsLength};
-ghost use Rattle.vm_space.specs.Space.{IsLeft, IsFirstGap, gap_size};
-ghost use Rattle.vm_space.specs.declared.free_space.Gap as gap;
+ghost use Rattle.vm_space.specs.Placing.{IsFirstFit, IsLength};
+ghost use Rattle.vm_space.specs.Space.{AreRaised, AreTaken, IsFirstRun, IsTaken};
 
 use crate::MOST_EXTENTS;
-use crate::pages::{FIRST_PAGE, first_page, page_behind, page_count};
+use crate::pages::{FIRST_PAGE, page_behind, page_count};
 use geos_model::Extent;
 use std::alloc::{AllocError, Global};
 use std::marker::Model;
 
-// Free pages, from `start` to before `end`.
-#[derive(Clone, Copy)]
-pub(crate) struct Gap {
-    pub(crate) start: u64,
-    pub(crate) end: u64,
-}
-
 // How many pages an extent takes at most.
-const MOST_PAGES: usize = 128;
+const MOST_PAGES: u32 = 128;
 
-/// The pages that are free while many extents are placed, one after another. All of these together pass over the gaps once
-/// for each number of pages.
+// An extent takes from no page, which none that is taken does, to that many.
+const SIZES: usize = 129;
+
+/// The pages that are free while extents come and go.
 #[derive(Drop)]
 pub struct FreeSpace {
-    // By rising pages. An extent is cut from a gap's front, and a gap that is used up stays; the last one has no end.
-    gaps: Vec<Gap>,
-    // For each number of pages, a gap before which all are smaller. Gaps only shrink, so it only rises.
-    hints: Vec<usize>,
+    // For each page, how many of the extents that are taken lie on it: extents of a file may overlap. A page behind the last
+    // one is free.
+    counts: Vec<u16>,
+    // For each number of pages, one before which so many are free nowhere.
+    hints: [u32; SIZES],
     count: usize,
 }
 
@@ -36,73 +31,136 @@ impl Model for FreeSpace {
 
     ghost Value = { Space };
 
-    ghost view = { λ f. record { gaps = f.gaps.items; count = f.count } };
+    ghost view = { λ f. record { counts = f.counts.items; count = f.count } };
 
-    ghost invariant = { λ f. IsSound f.gaps.items f.hints.items f.count };
+    ghost invariant = { λ f. IsSound f.counts.items f.hints f.count };
 }
 
 impl FreeSpace {
-    /// Around extents that are taken, of 1 to 128 pages each; they may overlap each other.
-    pub fn new(alloc: Global, taken: &[Extent]) -> Result<FreeSpace, AllocError>
-        requires few { length taken.now ≤ MOST_EXTENTS }
-        requires extents { AreExtents taken.now }
-        requires in_order { AreInOrder taken.now }
-        ensures { IfOk result (λ space. (space.count ≡ length taken.now) × IsLeft taken.now space) }
+    /// Nothing is taken. It takes no memory.
+    pub fn new(alloc: Global) -> FreeSpace
+        ensures { AreTaken [] result }
     {
-        let hints = vec![in alloc; 0; MOST_PAGES + 1]?;
-        let mut gaps = Vec::with_capacity(alloc, taken.len() + 1)?;
-        let mut page = u64::from(FIRST_PAGE);
-        for extent in taken {
-            let start = first_page(*extent);
-            if page < start {
-                gaps.push(Gap {
-                    start: page,
-                    end: start,
-                })?;
-            }
-            page = page.max(page_behind(*extent));
+        FreeSpace {
+            counts: Vec::new(alloc),
+            hints: first_hints(),
+            count: 0,
         }
-        gaps.push(Gap {
-            start: page,
-            end: u64::MAX,
-        })?;
-        Ok(FreeSpace {
-            gaps,
-            hints,
-            count: taken.len(),
-        })
     }
 
-    /// Takes the first free extent of `len` bytes, 1 to 128 pages. It takes no memory.
-    pub fn take(&mut self, len: u32) -> Extent
+    /// One more extent is taken, of 1 to 128 pages; others may lie there too. Memory goes to pages behind all that were taken
+    /// so far.
+    pub fn hold(&mut self, extent: Extent) -> Result<(), AllocError>
+        requires few { self.old.count < MOST_EXTENTS }
+        requires behind_slots { 2 ≤ extent.page }
+        requires in_range { IsLength extent.length }
+        ensures held { OnOk result ((taken : List Extent) → AreTaken taken self.old → AreTaken (extent ∷ taken) self.new) }
+        ensures count { OnOk result (self.new.count ≡ self.old.count + 1) }
+        ensures refused { OnErr result (self.new ≡ self.old) }
+    {
+        let start = extent.page as usize;
+        let end = page_behind(extent) as usize;
+        make_room(&mut self.counts, end)?;
+        count_up(&mut self.counts, start, end);
+        self.count += 1;
+        Ok(())
+    }
+
+    /// Takes the first free extent of `len` bytes, 1 to 128 pages.
+    pub fn take(&mut self, len: u32) -> Result<Extent, AllocError>
         requires few { self.old.count < MOST_EXTENTS }
         requires in_range { IsLength len }
-        ensures count { self.new.count ≡ self.old.count + 1 }
-        ensures placed { (taken : List Extent) → IsLeft taken self.old → IsFirstFit taken len result × IsLeft (result ∷ taken) self.new }
+        ensures placed { IfOk result (λ extent. (taken : List Extent) → AreTaken taken self.old → IsFirstFit taken len extent × AreTaken (extent ∷ taken) self.new) }
+        ensures count { OnOk result (self.new.count ≡ self.old.count + 1) }
+        ensures refused { OnErr result (self.new ≡ self.old) }
     {
-        let pages = page_count(len);
-        let at = first_gap(&self.gaps, self.hints[pages as usize], u64::from(pages));
-        let start = self.gaps[at].start;
-        self.gaps[at].start = start + u64::from(pages);
-        self.hints[pages as usize] = at;
-        self.count += 1;
-        Extent {
-            page: start as u32,
-            length: len,
-        }
+        let pages = page_count(len) as usize;
+        let page = first_run(&self.counts, self.hints[pages] as usize, pages) as u32;
+        let extent = Extent { page, length: len };
+        self.hold(extent)?;
+        self.hints[pages] = page;
+        Ok(extent)
+    }
+
+    /// Gives back an extent that is taken.
+    pub fn release(&mut self, extent: Extent)
+        requires { IsTaken extent self.old }
+        ensures left { (rest : List Extent) → AreTaken (extent ∷ rest) self.old → AreTaken rest self.new }
+        ensures count { self.old.count ≡ self.new.count + 1 }
+    {
+        count_down(
+            &mut self.counts,
+            extent.page as usize,
+            page_behind(extent) as usize,
+        );
+        self.count -= 1;
+        // Pages that are free now may go with as many before them as an extent has.
+        let first = extent.page.saturating_sub(MOST_PAGES - 1).max(FIRST_PAGE);
+        lower(&mut self.hints, first);
     }
 }
 
-// The first gap from one on that has so many pages; the last one has.
-fn first_gap(gaps: &[Gap], from: usize, pages: u64) -> usize
-    requires inside { from < length gaps.now }
-    requires order { All (λ gap. gap.start ≤ gap.end) gaps.now }
-    requires last { (d : gap.Gap) → pages ≤ gap_size (slice_index_or gaps.now (length gaps.now - 1) d) }
-    ensures { IsFirstGap gaps.now from pages result }
+// Before the first page behind the slots nothing is free.
+fn first_hints() -> [u32; SIZES]
+    ensures { result ≡ replicate 129 2 }
 {
-    let mut at = from;
-    while gaps[at].end - gaps[at].start < pages {
-        at += 1;
+    [FIRST_PAGE; SIZES]
+}
+
+// Counts of pages before `end` are there.
+fn make_room(counts: &mut Vec<u16>, end: usize) -> Result<(), AllocError>
+    ensures room { OnOk result (end ≤ length counts.new.items) }
+    ensures same { (page : ℕ) → slice_index counts.new.items page ≡ slice_index counts.old.items page }
+    ensures refused { OnErr result (counts.new.items ≡ counts.old.items) }
+{
+    if counts.len() < end {
+        counts.resize(end, 0)?;
     }
-    at
+    Ok(())
+}
+
+fn count_up(counts: &mut [u16], start: usize, end: usize)
+    requires inside { end ≤ length counts.old }
+    requires order { start ≤ end }
+    requires few { (page : ℕ) → slice_index counts.old page < 65535 }
+    ensures { AreRaised start end counts.old counts.new }
+{
+    for page in start..end {
+        counts[page] += 1;
+    }
+}
+
+fn count_down(counts: &mut [u16], start: usize, end: usize)
+    requires order { start ≤ end }
+    requires some { (page : ℕ) → start ≤ page → page < end → 1 ≤ slice_index counts.old page }
+    ensures { AreRaised start end counts.new counts.old }
+{
+    for page in start..end {
+        counts[page] -= 1;
+    }
+}
+
+fn lower(hints: &mut [u32], page: u32)
+    ensures { (n : ℕ) → slice_index hints.new n ≡ min (slice_index hints.old n) page }
+{
+    for hint in hints {
+        *hint = (*hint).min(page);
+    }
+}
+
+// The first page from one on at which so many are free.
+fn first_run(counts: &[u16], from: usize, pages: usize) -> usize
+    requires near { from < 2 ^ 32 }
+    requires few { pages ≤ MOST_PAGES }
+    ensures { IsFirstRun counts.now from pages result }
+{
+    let mut start = from;
+    let mut page = from;
+    while page < start + pages && page < counts.len() {
+        if counts[page] != 0 {
+            start = page + 1;
+        }
+        page += 1;
+    }
+    start
 }

@@ -17,7 +17,7 @@ entries_are c = c.deref-2.ensures.value ∙ c.in_ok-entries.ensures.entries ∙ 
 text_short : (c : goal.After-len) → c.len.result ≤ 32784
 text_short c =
     let few = entries_few 1 c.args.live.now.places.items in
-    let size = c.requires.table.size in
+    let size = c.requires.formed.table.size in
     let count = ap length (entries_are c) in
     let long = ap length c.in_ok-text.ensures in
     let text = length-directory (listed c.args.live.now.map_block c.deref-2.result.now) in
@@ -28,7 +28,7 @@ text_short c =
 pub write_dir-requires : goal.write_dir-requires
 write_dir-requires c =
     let few = entries_few 1 c.args.live.now.places.items in
-    let size = c.requires.table.size in
+    let size = c.requires.formed.table.size in
     let count = ap length (c.deref-2.ensures.value ∙ c.in_ok-entries.ensures.entries ∙ ap (entries_of 1) c.deref.ensures.value) in
     omega (arith, few, size, count)
 

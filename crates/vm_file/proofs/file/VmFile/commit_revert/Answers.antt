@@ -20,32 +20,32 @@ use Rattle.vm_file.proofs.file.VmFile.commit_revert.Goals as goal
 pub returns-then-self-clause-commit : goal.returns-then-self-clause-commit
 returns-then-self-clause-commit g c =
     let i = c.self.inside in let f = c.args.self.now in
-    refused g.S.Store.facts f _ _ Worn (subst (λ s. IsSettled g.S.Store.facts s.disk) c.self.view_is (sound_settled g.S.Store.facts i.store i.live i.slots c.self.invariant))
+    refused g.S.Store.facts f _ _ Worn (subst (λ s. IsSettled g.S.Store.facts s.disk) c.self.view_is (sound_settled g.S.Store.facts i.store i.live i.slots c.self.invariant.sound))
     (λ _. subst (λ s. s.disk.sequence ≡ last_sequence) c.self.view_is c.if-self.true, λ _. refl)
 
 pub returns-in_err-live-clause-commit : goal.returns-in_err-live-clause-commit
 returns-in_err-live-clause-commit g c =
     let i = c.self.inside in
-    refused_by g.S.Store.facts c.args.self.now _ _ c.from_residual.result c.from_residual.ensures.1 (subst (λ s. IsSettled g.S.Store.facts s.disk) c.self.view_is (sound_settled g.S.Store.facts i.store i.live i.slots c.self.invariant))
+    refused_by g.S.Store.facts c.args.self.now _ _ c.from_residual.result c.from_residual.ensures.1 (subst (λ s. IsSettled g.S.Store.facts s.disk) c.self.view_is (sound_settled g.S.Store.facts i.store i.live i.slots c.self.invariant.sound))
     (subst (λ s. s.disk.sequence ≢ last_sequence) c.self.view_is c.if-self.false)
 
 pub returns-in_err-pair-clause-commit : goal.returns-in_err-pair-clause-commit
 returns-in_err-pair-clause-commit g c =
     let i = c.self.inside in
-    refused_by g.S.Store.facts c.args.self.now _ _ c.from_residual-in_err-pair.result c.from_residual-in_err-pair.ensures.1 (subst (λ s. IsSettled g.S.Store.facts s.disk) c.self.view_is (sound_settled g.S.Store.facts i.store i.live i.slots c.self.invariant))
+    refused_by g.S.Store.facts c.args.self.now _ _ c.from_residual-in_err-pair.result c.from_residual-in_err-pair.ensures.1 (subst (λ s. IsSettled g.S.Store.facts s.disk) c.self.view_is (sound_settled g.S.Store.facts i.store i.live i.slots c.self.invariant.sound))
     (subst (λ s. s.disk.sequence ≢ last_sequence) c.self.view_is c.if-self.false)
 
 pub settle-requires-clause-placed : goal.settle-requires-clause-placed
 settle-requires-clause-placed g c =
     let slots = c.self.inside.slots in
     let saved = slots.committed.saved in
-    let placed = all_right IsPlaced (stored_extents slots.committed.updated) (stored_extents saved) (all_left IsPlaced (pair_extents slots.committed) (held_extents slots.other) c.self.invariant.formed.kept) in
+    let placed = all_right IsPlaced (stored_extents slots.committed.updated) (stored_extents saved) (all_left IsPlaced (pair_extents slots.committed) (held_extents slots.other) c.self.invariant.sound.formed.kept) in
     pair_placed [] c.in_ok-pair.pair saved saved c.in_ok-pair.ensures.updated c.in_ok-pair.ensures.saved placed placed
 
 pub settle-requires-clause-stored : goal.settle-requires-clause-stored
 settle-requires-clause-stored g c so =
     let saved = c.self.inside.slots.committed.saved in
-    let stored = (c.self.invariant.whole so).committed.saved in
+    let stored = (c.self.invariant.sound.whole so).committed.saved in
     pair_stored (g.S.Store.facts c.self.inside.store).content c.in_ok-pair.pair saved saved c.in_ok-pair.ensures.updated c.in_ok-pair.ensures.saved stored stored
 
 pub returns-in_err-settle-clause-commit : goal.returns-in_err-settle-clause-commit
@@ -69,7 +69,7 @@ invariant_of-self-2 g c =
     let saved = c.self.inside.slots.committed.saved in
     let now = c.settle.new.slots in
     let alike = copies_alike c.in_ok-live.live c.in_ok-pair.pair.saved.table saved.table c.in_ok-live.ensures c.in_ok-pair.ensures.saved.table in
-    sound_saved (g.S.Store.facts c.settle.new.store) c.self.inside.live c.in_ok-live.live now (subst (λ (p : Pair). IsCopy c.in_ok-live.live p.saved.table) (sym c.in_ok-settle.ensures.committed) alike) c.settle.ensures.sound
+    record { sound = sound_saved (g.S.Store.facts c.settle.new.store) c.self.inside.live c.in_ok-live.live now (subst (λ (p : Pair). IsCopy c.in_ok-live.live p.saved.table) (sym c.in_ok-settle.ensures.committed) alike) c.settle.ensures.sound; known = tt }
 
 pub returns-clause-commit : goal.returns-clause-commit
 returns-clause-commit g c =

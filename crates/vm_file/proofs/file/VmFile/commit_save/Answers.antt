@@ -1,4 +1,4 @@
-use Rattle.std.proofs.Common.{◌≡◌, ◌≢◌, refl, subst, ◌∙◌}
+use Rattle.std.proofs.Common.{◌≡◌, ◌≢◌, refl, sym, subst, ◌∙◌}
 use Rattle.geos_model.specs.Document.{Document}
 use Rattle.geos_model.specs.declared.fault.Fault.TheVariants.{Worn}
 use Rattle.vm_file.specs.Calls.{last_sequence}
@@ -15,20 +15,22 @@ use Rattle.vm_file.proofs.file.VmFile.commit_save.Goals as goal
 pub returns-then-self-clause-commit : goal.returns-then-self-clause-commit
 returns-then-self-clause-commit g c =
     let i = c.self.inside in let f = c.args.self.now in
-    refused g.S.Store.facts f _ _ Worn (subst (λ s. IsSettled g.S.Store.facts s.disk) c.self.view_is (sound_settled g.S.Store.facts i.store i.live i.slots c.self.invariant))
+    refused g.S.Store.facts f _ _ Worn (subst (λ s. IsSettled g.S.Store.facts s.disk) c.self.view_is (sound_settled g.S.Store.facts i.store i.live i.slots c.self.invariant.sound))
     (λ _. subst (λ s. s.disk.sequence ≡ last_sequence) c.self.view_is c.if-self.true, λ _. refl)
 
 pub returns-in_err-draft-clause-commit : goal.returns-in_err-draft-clause-commit
 returns-in_err-draft-clause-commit g c =
-    let i = c.self.inside in
-    refused_by g.S.Store.facts c.args.self.now _ _ c.from_residual.result c.from_residual.ensures.1 (subst (λ s. IsSettled g.S.Store.facts s.disk) c.self.view_is (sound_settled g.S.Store.facts i.store i.live i.slots c.self.invariant))
-    (subst (λ s. s.disk.sequence ≢ last_sequence) c.self.view_is c.if-self.false)
+    let i = c.self.inside in let f = c.args.self.now in
+    subst (λ (s : FileState g.row.S.Denot). IsCommit g.S.Store.facts (f.document, f.document) f.document f s c.from_residual.result) (sym c.self.view_is)
+    (refused_by g.S.Store.facts f (f.document, f.document) f.document c.from_residual.result c.from_residual.ensures.1 (subst (λ s. IsSettled g.S.Store.facts s.disk) c.self.view_is (sound_settled g.S.Store.facts i.store i.live i.slots c.self.invariant.sound))
+    (subst (λ s. s.disk.sequence ≢ last_sequence) c.self.view_is c.if-self.false))
 
 pub returns-in_err-saved-clause-commit : goal.returns-in_err-saved-clause-commit
 returns-in_err-saved-clause-commit g c =
-    let i = c.self.inside in
-    refused_by g.S.Store.facts c.args.self.now _ _ c.from_residual-in_err-saved.result c.from_residual-in_err-saved.ensures.1 (subst (λ s. IsSettled g.S.Store.facts s.disk) c.self.view_is (sound_settled g.S.Store.facts i.store i.live i.slots c.self.invariant))
-    (subst (λ s. s.disk.sequence ≢ last_sequence) c.self.view_is c.if-self.false)
+    let i = c.self.inside in let f = c.args.self.now in
+    subst (λ (s : FileState g.row.S.Denot). IsCommit g.S.Store.facts (f.document, f.document) f.document f s c.from_residual-in_err-saved.result) (sym c.self.view_is)
+    (refused_by g.S.Store.facts f (f.document, f.document) f.document c.from_residual-in_err-saved.result c.from_residual-in_err-saved.ensures.1 (subst (λ s. IsSettled g.S.Store.facts s.disk) c.self.view_is (sound_settled g.S.Store.facts i.store i.live i.slots c.self.invariant.sound))
+    (subst (λ s. s.disk.sequence ≢ last_sequence) c.self.view_is c.if-self.false))
 
 pub returns-clause-commit : goal.returns-clause-commit
 returns-clause-commit g c =

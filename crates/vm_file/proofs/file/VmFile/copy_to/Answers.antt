@@ -16,7 +16,7 @@ returns-clause-reads g c =
     let facts = g.S.Store.facts in let i = c.self.inside in
     let looks = c.copy_document.ensures.looks in
     subst (λ s. OnlyReads facts s (record { disk = disk_of facts c.copy_document.new.source i.slots; document = document_in (facts c.copy_document.new.source).content i.live })) c.self.view_is
-    (rested facts i.store c.copy_document.new.source i.live i.slots c.self.invariant (λ so. (g.met.S.Store.timely c.copy_document.new.source so).now) looks.honest looks.failures looks.rests)
+    (rested facts i.store c.copy_document.new.source i.live i.slots c.self.invariant.sound (λ so. (g.met.S.Store.timely c.copy_document.new.source so).now) looks.honest looks.failures looks.rests)
 
 pub returns-clause-handles : goal.returns-clause-handles
 returns-clause-handles g c =

@@ -32,21 +32,21 @@ returns-clause-kind g c =
     let facts = g.S.Store.facts c.self.inside.store in
     let is : IsPlaceOf live.places.items h c.place_of.result = record { nothing = c.place_of.ensures.zero; place = λ low. c.place_of.ensures.place low ∙ ap (λ ps. slot_at ps (h - 1)) c.deref.ensures.value } in
     subst (λ s. IfSome c.place_of.result (λ place. IsTrue (g.S.Store.facts s.disk.store).honest → place.is_heap ≡ is_heap_body (block_at s.document h).body)) c.self.view_is
-    (entry_kind (IsTrue facts.honest) facts.content live.places.items live.map_block h c.place_of.result (λ yes. (c.self.invariant.whole yes).images) is)
+    (entry_kind (IsTrue facts.honest) facts.content live.places.items live.map_block h c.place_of.result (λ yes. (c.self.invariant.sound.whole yes).images) is)
 
 pub returns-clause-handle : goal.returns-clause-handle
 returns-clause-handle g c =
     let live = c.self.inside.live in
     let h = c.args.block.0 in
     let is : IsPlaceOf live.places.items h c.place_of.result = record { nothing = c.place_of.ensures.zero; place = λ low. c.place_of.ensures.place low ∙ ap (λ ps. slot_at ps (h - 1)) c.deref.ensures.value } in
-    entry_handle live.places.items h c.place_of.result c.self.invariant.formed.table.size is
+    entry_handle live.places.items h c.place_of.result c.self.invariant.sound.formed.table.size is
 
 pub returns-clause-length : goal.returns-clause-length
 returns-clause-length g c =
     let live = c.self.inside.live in
     let h = c.args.block.0 in
     let is : IsPlaceOf live.places.items h c.place_of.result = record { nothing = c.place_of.ensures.zero; place = λ low. c.place_of.ensures.place low ∙ ap (λ ps. slot_at ps (h - 1)) c.deref.ensures.value } in
-    entry_extent (λ e. IsImageLength e.length) live.places.items h c.place_of.result (placed_lengths (block_extents live.places.items) c.self.invariant.formed.placed) is
+    entry_extent (λ e. IsImageLength e.length) live.places.items h c.place_of.result (placed_lengths (block_extents live.places.items) c.self.invariant.sound.formed.placed) is
 
 pub returns-clause-image : goal.returns-clause-image
 returns-clause-image g c =
@@ -55,4 +55,4 @@ returns-clause-image g c =
     let facts = g.S.Store.facts c.self.inside.store in
     let is : IsPlaceOf live.places.items h c.place_of.result = record { nothing = c.place_of.ensures.zero; place = λ low. c.place_of.ensures.place low ∙ ap (λ ps. slot_at ps (h - 1)) c.deref.ensures.value } in
     subst (λ s. IfSome c.place_of.result (λ place. IsTrue (g.S.Store.facts s.disk.store).honest → bytes_in (g.S.Store.facts s.disk.store).content place.extent ≡ image (block_at s.document h).body)) c.self.view_is
-    (entry_image (IsTrue facts.honest) facts.content live.places.items live.map_block h c.place_of.result (λ yes. (c.self.invariant.whole yes).images) is)
+    (entry_image (IsTrue facts.honest) facts.content live.places.items live.map_block h c.place_of.result (λ yes. (c.self.invariant.sound.whole yes).images) is)

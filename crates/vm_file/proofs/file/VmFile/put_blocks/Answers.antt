@@ -10,27 +10,53 @@ use Rattle.vm_file.specs.Slots.{block_extents, kept_extents}
 use Rattle.vm_file.specs.Sound.{disk_of}
 use Rattle.vm_file.specs.Writing.{IsSpared, with_places, without_places}
 use Rattle.vm_file.specs.declared.table.Table.{Table}
-use Rattle.vm_file.proofs.Filled.{shown_without_all}
-use Rattle.vm_file.proofs.Tables.{shown}
-use Rattle.vm_file.proofs.Puts.{few_extents, changed_twice, spared_passes, spared_drifts, spared_sound, put_drifts, put_sound}
+use Rattle.vm_file.specs.Known.{IsKnown}
+use Rattle.vm_file.proofs.Filled.{shown_without_all, length-with_places, length-without_places}
+use Rattle.vm_file.proofs.Tables.{shown, items_kept}
+use Rattle.vm_file.proofs.Puts.{few_extents, kept_twice, changed_twice, spared_passes, spared_drifts, spared_sound, put_drifts, put_sound}
 use Rattle.vm_file.proofs.file.VmFile.put_blocks.Goals as goal
 
 pub write_puts-requires-clause-few : goal.write_puts-requires-clause-few
 write_puts-requires-clause-few g c =
-    let few = few_extents c.self.inside.live c.self.inside.slots c.self.invariant.formed in
+    let few = few_extents c.self.inside.live c.self.inside.slots c.self.invariant.sound.formed in
     let same = ap (λ ps. length (block_extents ps ++ kept_extents c.self.inside.slots)) c.deref.ensures.value in
     let puts = c.requires.few in
     omega (arith, few, same, puts)
+
+pub write_puts-requires-clause-known : goal.write_puts-requires-clause-known
+write_puts-requires-clause-known g c =
+    let slots = c.self.inside.slots in
+    subst (λ ps. IsKnown (block_extents ps ++ kept_extents slots) c.take.result) (sym c.deref.ensures.value) (subst (λ space. IsKnown (block_extents c.self.inside.live.places.items ++ kept_extents slots) space) (sym c.take.ensures.value) c.self.invariant.known)
+
+pub put_places-requires-clause-known : goal.put_places-requires-clause-known
+put_places-requires-clause-known g c =
+    let kept = kept_extents c.self.inside.slots in
+    let es = c.in_ok-written.written.extents.items in
+    let space = c.in_ok-written.written.space in
+    subst (λ xs. IsKnown (xs ++ (block_extents c.deref_mut.result.now ++ kept)) space) (sym c.deref-2.ensures.value)
+    (subst (λ ps. IsKnown (es ++ (block_extents ps ++ kept)) space) (c.deref.ensures.value ∙ sym c.deref_mut.ensures.value) c.in_ok-written.ensures.known)
+
+pub remove_places-requires : goal.remove_places-requires
+remove_places-requires g c =
+    let i = c.self.inside in
+    let es = c.in_ok-written.written.extents.items in
+    let filled = c.put_places.ensures.places ∙ ap₂ (λ xs ps. with_places c.args.puts.now xs ps) c.deref-2.ensures.value c.deref_mut.ensures.value in
+    let long = ap length filled ∙ length-with_places c.args.puts.now es i.live.places.items in
+    let mid = items_kept i.live.places.len c.put_places.new.places i.live.places.items i.live.places.ok.0 long in
+    subst (λ ps. IsKnown (block_extents ps ++ kept_extents i.slots) c.put_places.new.space) (sym (c.deref_mut-2.ensures.value ∙ mid)) c.put_places.ensures.known
 
 pub invariant_of-self : goal.invariant_of-self
 invariant_of-self g c =
     let i = c.self.inside in
     let b = c.write_puts.new.store in
-    spared_sound g.S.Store.facts i.store b i.live i.slots c.self.invariant c.write_puts.ensures.honest (λ so. (g.met.S.Store.timely b so).now)
-    (λ so. subst (λ ps. IsSpared (block_extents ps) i.slots (g.S.Store.facts i.store) (g.S.Store.facts b)) c.deref.ensures.value (c.write_puts.ensures.spared so))
+    record {
+      sound = spared_sound g.S.Store.facts i.store b i.live i.slots c.self.invariant.sound c.write_puts.ensures.honest (λ so. (g.met.S.Store.timely b so).now)
+          (λ so. subst (λ ps. IsSpared (block_extents ps) i.slots (g.S.Store.facts i.store) (g.S.Store.facts b)) c.deref.ensures.value (c.write_puts.ensures.spared so));
+      known = subst (λ space. IsKnown (block_extents i.live.places.items ++ kept_extents i.slots) space) (sym c.take.ensures.after) tt;
+    }
 
-pub returns-in_err-extents-clause-keeps : goal.returns-in_err-extents-clause-keeps
-returns-in_err-extents-clause-keeps g c =
+pub returns-in_err-written-clause-keeps : goal.returns-in_err-written-clause-keeps
+returns-in_err-written-clause-keeps g c =
     let p = err_from_is_err_and c.from_residual.result c.from_residual.ensures.1 in
     let facts = g.S.Store.facts in let i = c.self.inside in
     let b = c.write_puts.new.store in
@@ -38,61 +64,67 @@ returns-in_err-extents-clause-keeps g c =
     let spared : IsTrue (facts i.store).honest → IsSpared (block_extents i.live.places.items) i.slots (facts i.store) (facts b) = λ so. subst (λ ps. IsSpared (block_extents ps) i.slots (facts i.store) (facts b)) c.deref.ensures.value (c.write_puts.ensures.spared so) in
     let new : FileState g.row.S.Denot = record { disk = disk_of facts b i.slots; document = document_in (facts b).content i.live } in
     let kept : KeepsFile facts (document_in (facts i.store).content i.live) (record { disk = disk_of facts i.store i.slots; document = document_in (facts i.store).content i.live }) new = record {
-      passes = spared_passes facts i.store b i.live i.slots c.self.invariant c.write_puts.ensures.honest timely spared c.write_puts.ensures.failures;
-      document = spared_drifts facts i.store b i.live i.slots c.self.invariant c.write_puts.ensures.honest timely spared;
+      passes = spared_passes facts i.store b i.live i.slots c.self.invariant.sound c.write_puts.ensures.honest timely spared c.write_puts.ensures.failures;
+      document = spared_drifts facts i.store b i.live i.slots c.self.invariant.sound c.write_puts.ensures.honest timely spared;
     } in
     subst (λ r. MatchResult r (λ _. KeepsFile facts (remove_all c.args.removals.now (put_all c.args.puts.now c.args.self.now.document)) c.args.self.now new) (λ _. KeepsFile facts c.args.self.now.document c.args.self.now new)) (sym p.1)
     (subst (λ (s : FileState g.row.S.Denot). KeepsFile facts s.document s new) c.self.view_is kept)
 
-pub returns-in_err-extents-clause-early : goal.returns-in_err-extents-clause-early
-returns-in_err-extents-clause-early g c =
+pub returns-in_err-written-clause-early : goal.returns-in_err-written-clause-early
+returns-in_err-written-clause-early g c =
     let p = err_from_is_err_and c.from_residual.result c.from_residual.ensures.1 in
     let i = c.self.inside in
     let facts = g.S.Store.facts in
     rw (p.1) (λ other.
-    let same = c.in_err-extents.ensures.early (λ is. other (p.2 ∙ is)) in
+    let same = c.in_err-written.ensures.early (λ is. other (p.2 ∙ is)) in
     (λ j. record { disk = disk_of facts (same j) i.slots; document = document_in (facts (same j)).content i.live }) ∙ c.self.view_is)
 
 pub invariant_of-self-2 : goal.invariant_of-self-2
 invariant_of-self-2 g c =
     let i = c.self.inside in
     let b = c.write_puts.new.store in
-    let es = c.in_ok-extents.extents.items in
-    let filled = c.put_places.ensures ∙ ap₂ (λ xs ps. with_places c.args.puts.now xs ps) c.deref-2.ensures.value c.deref_mut.ensures.value in
-    let left = c.remove_places.ensures ∙ ap (without_places c.args.removals.now) c.deref_mut-2.ensures.value in
+    let es = c.in_ok-written.written.extents.items in
+    let filled = c.put_places.ensures.places ∙ ap₂ (λ xs ps. with_places c.args.puts.now xs ps) c.deref-2.ensures.value c.deref_mut.ensures.value in
+    let left = c.remove_places.ensures.places ∙ ap (without_places c.args.removals.now) c.deref_mut-2.ensures.value in
     let new : Table = record { map_block = i.live.map_block; places = with_items (with_items i.live.places c.put_places.new.places) c.remove_places.new.places } in
     let changed : new.places.items ≡ without_places c.args.removals.now (with_places c.args.puts.now es i.live.places.items) =
     changed_twice i.live.places.len i.live.places.items c.put_places.new.places c.remove_places.new.places c.args.puts.now es c.args.removals.now i.live.places.ok.0 filled left in
-    put_sound g.S.Store.facts i.store b i.live i.slots c.self.invariant c.write_puts.ensures.honest (λ so. (g.met.S.Store.timely b so).now)
-    (λ so. subst (λ ps. IsSpared (block_extents ps) i.slots (g.S.Store.facts i.store) (g.S.Store.facts b)) c.deref.ensures.value (c.write_puts.ensures.spared so))
-    c.args.puts.now es c.args.removals.now new c.requires.puts _ c.in_ok-extents.ensures.found c.in_ok-extents.ensures.written refl changed
-    (subst (λ s. All (λ h. h.0 ≢ s.document.map_block) c.args.removals.now) (sym c.self.view_is) c.requires.removals)
+    let long = ap length filled ∙ length-with_places c.args.puts.now es i.live.places.items in
+    let mid = items_kept i.live.places.len c.put_places.new.places i.live.places.items i.live.places.ok.0 long in
+    let kept = kept_twice i.live.places.len i.live.places.items c.put_places.new.places c.remove_places.new.places i.live.places.ok.0 long (ap length (left ∙ ap (without_places c.args.removals.now) mid) ∙ length-without_places c.args.removals.now c.put_places.new.places) in
+    record {
+      sound = put_sound g.S.Store.facts i.store b i.live i.slots c.self.invariant.sound c.write_puts.ensures.honest (λ so. (g.met.S.Store.timely b so).now)
+          (λ so. subst (λ ps. IsSpared (block_extents ps) i.slots (g.S.Store.facts i.store) (g.S.Store.facts b)) c.deref.ensures.value (c.write_puts.ensures.spared so))
+          c.args.puts.now es c.args.removals.now new c.requires.puts _ c.in_ok-written.ensures.found c.in_ok-written.ensures.written refl changed
+          (subst (λ s. All (λ h. h.0 ≢ s.document.map_block) c.args.removals.now) (sym c.self.view_is) c.requires.removals);
+      known = subst (λ ps. IsKnown (block_extents ps ++ kept_extents i.slots) c.remove_places.new.space) (sym kept) c.remove_places.ensures.known;
+    }
 
 pub returns-clause-keeps : goal.returns-clause-keeps
 returns-clause-keeps g c =
     let facts = g.S.Store.facts in let i = c.self.inside in
     let b = c.write_puts.new.store in
-    let es = c.in_ok-extents.extents.items in
-    let filled = c.put_places.ensures ∙ ap₂ (λ xs ps. with_places c.args.puts.now xs ps) c.deref-2.ensures.value c.deref_mut.ensures.value in
-    let left = c.remove_places.ensures ∙ ap (without_places c.args.removals.now) c.deref_mut-2.ensures.value in
+    let es = c.in_ok-written.written.extents.items in
+    let filled = c.put_places.ensures.places ∙ ap₂ (λ xs ps. with_places c.args.puts.now xs ps) c.deref-2.ensures.value c.deref_mut.ensures.value in
+    let left = c.remove_places.ensures.places ∙ ap (without_places c.args.removals.now) c.deref_mut-2.ensures.value in
     let new : Table = record { map_block = i.live.map_block; places = with_items (with_items i.live.places c.put_places.new.places) c.remove_places.new.places } in
     let changed : new.places.items ≡ without_places c.args.removals.now (with_places c.args.puts.now es i.live.places.items) =
     changed_twice i.live.places.len i.live.places.items c.put_places.new.places c.remove_places.new.places c.args.puts.now es c.args.removals.now i.live.places.ok.0 filled left in
     let timely : IsTrue (facts b).honest → (facts b).may_leave (facts b).content = λ so. (g.met.S.Store.timely b so).now in
     let spared : IsTrue (facts i.store).honest → IsSpared (block_extents i.live.places.items) i.slots (facts i.store) (facts b) = λ so. subst (λ ps. IsSpared (block_extents ps) i.slots (facts i.store) (facts b)) c.deref.ensures.value (c.write_puts.ensures.spared so) in
     subst (λ (s : FileState g.row.S.Denot). KeepsFile facts (remove_all c.args.removals.now (put_all c.args.puts.now s.document)) s (record { disk = disk_of facts b i.slots; document = document_in (facts b).content new })) c.self.view_is (record {
-      passes = spared_passes facts i.store b i.live i.slots c.self.invariant c.write_puts.ensures.honest timely spared c.write_puts.ensures.failures;
-      document = put_drifts facts i.store b i.live i.slots c.self.invariant c.write_puts.ensures.honest timely spared
-          c.args.puts.now es c.args.removals.now new c.requires.puts _ c.in_ok-extents.ensures.found c.in_ok-extents.ensures.written refl changed;
+      passes = spared_passes facts i.store b i.live i.slots c.self.invariant.sound c.write_puts.ensures.honest timely spared c.write_puts.ensures.failures;
+      document = put_drifts facts i.store b i.live i.slots c.self.invariant.sound c.write_puts.ensures.honest timely spared
+          c.args.puts.now es c.args.removals.now new c.requires.puts _ c.in_ok-written.ensures.found c.in_ok-written.ensures.written refl changed;
     })
 
 pub returns-clause-removals_alone : goal.returns-clause-removals_alone
 returns-clause-removals_alone g c none =
     let i = c.self.inside in
     let b = c.write_puts.new.store in
-    let es = c.in_ok-extents.extents.items in
-    let filled = c.put_places.ensures ∙ ap₂ (λ xs ps. with_places c.args.puts.now xs ps) c.deref-2.ensures.value c.deref_mut.ensures.value in
-    let left = c.remove_places.ensures ∙ ap (without_places c.args.removals.now) c.deref_mut-2.ensures.value in
+    let es = c.in_ok-written.written.extents.items in
+    let filled = c.put_places.ensures.places ∙ ap₂ (λ xs ps. with_places c.args.puts.now xs ps) c.deref-2.ensures.value c.deref_mut.ensures.value in
+    let left = c.remove_places.ensures.places ∙ ap (without_places c.args.removals.now) c.deref_mut-2.ensures.value in
     let new : Table = record { map_block = i.live.map_block; places = with_items (with_items i.live.places c.put_places.new.places) c.remove_places.new.places } in
     let changed : new.places.items ≡ without_places c.args.removals.now (with_places c.args.puts.now es i.live.places.items) =
     changed_twice i.live.places.len i.live.places.items c.put_places.new.places c.remove_places.new.places c.args.puts.now es c.args.removals.now i.live.places.ok.0 filled left in

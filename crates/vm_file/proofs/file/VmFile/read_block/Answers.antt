@@ -27,7 +27,7 @@ returns-clause-reads g c =
     let facts = g.S.Store.facts in let i = c.self.inside in
     let read = c.read_extent.ensures in
     subst (λ s. OnlyReads facts s (record { disk = disk_of facts c.read_extent.new.store i.slots; document = document_in (facts c.read_extent.new.store).content i.live })) c.self.view_is
-    (rested facts i.store c.read_extent.new.store i.live i.slots c.self.invariant (λ so. (g.met.S.Store.timely c.read_extent.new.store so).now) read.honest read.failures read.rests)
+    (rested facts i.store c.read_extent.new.store i.live i.slots c.self.invariant.sound (λ so. (g.met.S.Store.timely c.read_extent.new.store so).now) read.honest read.failures read.rests)
 
 pub returns-clause-image : goal.returns-clause-image
 returns-clause-image g c =
@@ -39,7 +39,7 @@ returns-clause-image g c =
     let at = entry_lies i.live.places.items h c.in-Some.place (subst (λ o. IsPlaceOf i.live.places.items h o) c.in-Some.is is) in
     subst (λ s. IfOk c.read_extent.result (λ bytes. IsTrue (g.S.Store.facts s.disk.store).honest → bytes.items ≡ image (block_at s.document h).body)) c.self.view_is
     (if_ok_both (λ bytes. length bytes.items ≡ e.length) (λ bytes. IsTrue a.honest → Holds a.content (start_of e) bytes.items) _ c.read_extent.result
-    (λ bytes size holds so. read_image a.content bytes.items i.live.places.items i.live.map_block h c.in-Some.place at.0 at.1 (c.self.invariant.whole so).images size (holds so)) c.read_extent.ensures.size c.read_extent.ensures.bytes)
+    (λ bytes size holds so. read_image a.content bytes.items i.live.places.items i.live.map_block h c.in-Some.place at.0 at.1 (c.self.invariant.sound.whole so).images size (holds so)) c.read_extent.ensures.size c.read_extent.ensures.bytes)
 
 pub returns-clause-size : goal.returns-clause-size
 returns-clause-size g c =
@@ -48,5 +48,5 @@ returns-clause-size g c =
     let e = c.in-Some.place.extent in
     let is : IsPlaceOf i.live.places.items h c.place_of.result = record { nothing = c.place_of.ensures.zero; place = λ low. c.place_of.ensures.place low ∙ ap (λ ps. slot_at ps (h - 1)) c.deref.ensures.value } in
     let at = entry_lies i.live.places.items h c.in-Some.place (subst (λ o. IsPlaceOf i.live.places.items h o) c.in-Some.is is) in
-    let placed : IsPlaced e = each_at (λ p. IsPlaced p.extent) i.live.places.items (h - 1) c.in-Some.place at.1 (places_of IsPlaced i.live.places.items c.self.invariant.formed.placed) in
+    let placed : IsPlaced e = each_at (λ p. IsPlaced p.extent) i.live.places.items (h - 1) c.in-Some.place at.1 (places_of IsPlaced i.live.places.items c.self.invariant.sound.formed.placed) in
     IfOk-weaker c.read_extent.result (λ bytes. length bytes.items ≡ e.length) (λ bytes. IsImageLength (length bytes.items)) (λ bytes size. (omega (arith, size, placed.some), omega (arith, size, placed.short))) c.read_extent.ensures.size

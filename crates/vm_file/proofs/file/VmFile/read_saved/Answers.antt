@@ -26,7 +26,7 @@ returns-clause-reads g c =
     let facts = g.S.Store.facts in let i = c.self.inside in
     let read = c.read_extent.ensures in
     subst (λ s. OnlyReads facts s (record { disk = disk_of facts c.read_extent.new.store i.slots; document = document_in (facts c.read_extent.new.store).content i.live })) c.self.view_is
-    (rested facts i.store c.read_extent.new.store i.live i.slots c.self.invariant (λ so. (g.met.S.Store.timely c.read_extent.new.store so).now) read.honest read.failures read.rests)
+    (rested facts i.store c.read_extent.new.store i.live i.slots c.self.invariant.sound (λ so. (g.met.S.Store.timely c.read_extent.new.store so).now) read.honest read.failures read.rests)
 
 pub returns-clause-saved : goal.returns-clause-saved
 returns-clause-saved g c =
@@ -48,4 +48,4 @@ returns-clause-image g c =
     let at = entry_lies saved.places.items h c.in-Some.place (subst (λ o. IsPlaceOf saved.places.items h o) c.in-Some.is is) in
     subst (λ s. IfOk c.read_extent.result (λ bytes. IsTrue (g.S.Store.facts s.disk.store).honest → bytes.items ≡ image (block_at s.disk.saved h).body)) c.self.view_is
     (if_ok_both (λ bytes. length bytes.items ≡ e.length) (λ bytes. IsTrue a.honest → Holds a.content (start_of e) bytes.items) _ c.read_extent.result
-    (λ bytes size holds so. read_image a.content bytes.items saved.places.items saved.map_block h c.in-Some.place at.0 at.1 (c.self.invariant.whole so).committed.saved.images size (holds so)) c.read_extent.ensures.size c.read_extent.ensures.bytes)
+    (λ bytes size holds so. read_image a.content bytes.items saved.places.items saved.map_block h c.in-Some.place at.0 at.1 (c.self.invariant.sound.whole so).committed.saved.images size (holds so)) c.read_extent.ensures.size c.read_extent.ensures.bytes)

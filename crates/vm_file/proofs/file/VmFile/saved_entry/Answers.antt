@@ -25,4 +25,4 @@ returns-clause-handle g c =
     let saved = c.self.inside.slots.committed.saved.table in
     let h = c.args.block.0 in
     let is : IsPlaceOf saved.places.items h c.place_of.result = record { nothing = c.place_of.ensures.zero; place = λ low. c.place_of.ensures.place low ∙ ap (λ ps. slot_at ps (h - 1)) c.deref.ensures.value } in
-    entry_handle saved.places.items h c.place_of.result c.self.invariant.formed.committed.saved.size is
+    entry_handle saved.places.items h c.place_of.result c.self.invariant.sound.formed.committed.saved.size is

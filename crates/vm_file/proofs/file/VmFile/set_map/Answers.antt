@@ -9,7 +9,10 @@ invariant_of-self g c =
     let live = c.self.inside.live in
     let h = c.args.block.0 in
     let facts = g.S.Store.facts c.self.inside.store in
-    sound_map facts live _ c.self.inside.slots c.self.invariant refl (elim c.requires as (λ _. (h ≡ 0) ⊎ (Lies live.places.items h)) [
-      | inl none ↦ inl none
-      | inr one ↦ inr (lies facts.content live.places.items live.map_block h (subst (λ s. is_live s.document h ≡ true) (sym c.self.view_is) one))
-    ])
+    record {
+      sound = sound_map facts live _ c.self.inside.slots c.self.invariant.sound refl (elim c.requires as (λ _. (h ≡ 0) ⊎ (Lies live.places.items h)) [
+        | inl none ↦ inl none
+        | inr one ↦ inr (lies facts.content live.places.items live.map_block h (subst (λ s. is_live s.document h ≡ true) (sym c.self.view_is) one))
+      ]);
+      known = c.self.invariant.known;
+    }

@@ -1,7 +1,11 @@
-use Rattle.std.proofs.Common.{◌≡◌, ◌-◌, true, Some, length, set, refl, sym, ap, subst, ◌∙◌, length-set}
+use Rattle.std.proofs.Common.{◌≡◌, ◌-◌, ◌++◌, List, true, Some, length, set, refl, sym, ap, subst, ◌∙◌, length-set}
 use Rattle.geos_model.specs.Document.{is_live, with_user_id}
 use Rattle.geos_model.proofs.Tables.{slot_at}
+use Rattle.geos_model.specs.declared.file.Extent.{Extent}
+use Rattle.vm_file.specs.Known.{IsKnown}
+use Rattle.vm_file.specs.Slots.{block_extents, kept_extents}
 use Rattle.vm_file.proofs.Live.{sound_user_id}
+use Rattle.vm_file.proofs.Spaces.{same_extents}
 use Rattle.vm_file.proofs.Tables.{lies, shown, shown_user_id, items_kept}
 use Rattle.vm_file.proofs.file.VmFile.set_uid.Goals as goal
 
@@ -13,7 +17,11 @@ invariant_of-self g c =
     let l = lies file live.places.items live.map_block h (subst (λ s. is_live s.document h ≡ true) (sym c.self.view_is) c.requires) in
     let is = c.set_user_id.ensures l.place l.low (ap (λ ps. slot_at ps (h - 1)) c.deref_mut.ensures.value ∙ l.at) ∙ ap (λ ps. set ps (h - 1) (Some (record l.place { user_id = c.args.user_id }))) c.deref_mut.ensures.value in
     let long = ap length is ∙ length-set live.places.items (h - 1) (Some (record l.place { user_id = c.args.user_id })) in
-    sound_user_id (g.S.Store.facts c.self.inside.store) live _ c.self.inside.slots h c.args.user_id l.place c.self.invariant l.at refl (items_kept live.places.len c.set_user_id.new.places live.places.items live.places.ok.0 long ∙ is)
+    let kept = items_kept live.places.len c.set_user_id.new.places live.places.items live.places.ok.0 long ∙ is in
+    record {
+      sound = sound_user_id (g.S.Store.facts c.self.inside.store) live _ c.self.inside.slots h c.args.user_id l.place c.self.invariant.sound l.at refl kept;
+      known = subst (λ (es : List Extent). IsKnown (es ++ kept_extents c.self.inside.slots) c.self.inside.space) (sym (ap block_extents kept ∙ same_extents live.places.items (h - 1) l.place (record l.place { user_id = c.args.user_id }) l.at refl)) c.self.invariant.known;
+    }
 
 pub returns : goal.returns
 returns g c =

@@ -4,4 +4,4 @@ use Rattle.vm_file.proofs.Effects.{sound_file}
 use Rattle.vm_file.proofs.file.VmFile.validity.Goals as goal
 
 pub returns : goal.returns
-returns g c = subst (IsFile g.S.Store.facts) c.self.view_is (sound_file g.S.Store.facts c.self.inside.store c.self.inside.live c.self.inside.slots c.self.invariant)
+returns g c = subst (IsFile g.S.Store.facts) c.self.view_is (sound_file g.S.Store.facts c.self.inside.store c.self.inside.live c.self.inside.slots c.self.invariant.sound)

@@ -1,77 +1,51 @@
-use Rattle.std.proofs.Common.{◌≡◌, ℕ, ◌+◌, ◌<◌, ◌≤◌, ◌-◌, List, ◌∷◌, length, get_or, set, subst, sym, ap, ◌∙◌, arith}
-use Rattle.geos_model.specs.File.{pages_of}
-use Rattle.vm_space.specs.Placing.{IsFirstFit}
-use Rattle.vm_space.specs.Space.{Space, IsLeft, IsSound, gap_size}
-use Rattle.vm_space.specs.declared.free_space.Gap.{Gap}
+use Rattle.std.proofs.Common.{ℕ, ◌+◌, ◌*◌, ◌<◌, ◌≤◌, List, ◌∷◌, get_or, set, sym, subst, arith}
+use Rattle.geos_model.specs.File.{pages_of, end_page}
+use Rattle.geos_model.specs.declared.file.Extent.{Extent}
+use Rattle.vm_space.specs.Space.{Space, AreRaised, AreTaken, IsSound}
 use Rattle.vm_space.proofs.Fitting.{pages_few}
-use Rattle.vm_space.proofs.Gaps.{cut_gap, cut_from, sound-cut, left-cut, gap_fits, start_early, last_room, IsFound, found_from}
+use Rattle.vm_space.proofs.Taking.{found_from, hint_for, run_near, run_fits, taken-raised, sound-hinted}
 use Rattle.vm_space.proofs.free_space.FreeSpace.take.Goals as goal
 
-pub first_gap-at-requires-clause-last : goal.first_gap-at-requires-clause-last
-first_gap-at-requires-clause-last c = λ d.
-    let gaps : List Gap = c.self.inside.gaps.items in
-    let wanted = pages_few c.args.len c.requires.in_range in
-    let few : c.self.inside.count < 16384 = subst (λ (s : Space). s.count < 16384) (sym c.self.view_is) c.requires.few in
-    let room : c.from.result ≤ gap_size (get_or gaps (length gaps - 1) d) = last_room gaps c.self.inside.hints.items c.self.inside.count c.from.result d c.self.invariant few (omega (arith, wanted, c.from.ensures, c.page_count-pages.ensures)) in
-    subst (λ (gs : List Gap). c.from.result ≤ gap_size (get_or gs (length gs - 1) d)) (sym c.deref.ensures.value) room
-
-pub overflow_add-start : goal.overflow_add-start
-overflow_add-start c =
-    let g : Gap = c.index-2.result.now in
-    let gaps : List Gap = c.self.inside.gaps.items in
-    let hints : List ℕ = c.self.inside.hints.items in
-    let m : ℕ = c.first_gap-at.result in
-    let few : c.self.inside.count < 16384 = subst (λ (s : Space). s.count < 16384) (sym c.self.view_is) c.requires.few in
-    let is : IsFound gaps m c.args.len g =
-    found_from gaps c.deref.result.now hints c.self.inside.count c.args.len c.page_count-pages.result c.from.result c.index.result.now m g c.deref.ensures.value c.self.invariant c.requires.in_range c.page_count-pages.ensures c.index.ensures c.from.ensures c.first_gap-at.ensures in
-    let early = start_early gaps hints c.self.inside.count m c.args.len g c.requires.in_range c.self.invariant is.inside is.fits is.smaller few in
-    let starts : g.start ≡ (get_or gaps m g).start = ap (λ (x : Gap). x.start) c.index-2.ensures in
-    let wanted = pages_few c.args.len c.requires.in_range in
-    omega (arith, early, starts, wanted, c.from-2.ensures, c.page_count-pages.ensures)
-
-pub overflow_cast-result : goal.overflow_cast-result
-overflow_cast-result c =
-    let g : Gap = c.index-2.result.now in
-    let gaps : List Gap = c.self.inside.gaps.items in
-    let hints : List ℕ = c.self.inside.hints.items in
-    let m : ℕ = c.first_gap-at.result in
-    let few : c.self.inside.count < 16384 = subst (λ (s : Space). s.count < 16384) (sym c.self.view_is) c.requires.few in
-    let is : IsFound gaps m c.args.len g =
-    found_from gaps c.deref.result.now hints c.self.inside.count c.args.len c.page_count-pages.result c.from.result c.index.result.now m g c.deref.ensures.value c.self.invariant c.requires.in_range c.page_count-pages.ensures c.index.ensures c.from.ensures c.first_gap-at.ensures in
-    let early = start_early gaps hints c.self.inside.count m c.args.len g c.requires.in_range c.self.invariant is.inside is.fits is.smaller few in
-    let starts : g.start ≡ (get_or gaps m g).start = ap (λ (x : Gap). x.start) c.index-2.ensures in
-    omega (arith, early, starts)
+pub overflow_cast-page : goal.overflow_cast-page
+overflow_cast-page c =
+    let counts : List ℕ = c.self.inside.counts.items in
+    let hints : List ℕ = c.self.inside.hints in
+    let count : ℕ = c.self.inside.count in
+    let few : count < 16384 = subst (λ (s : Space). s.count < 16384) (sym c.self.view_is) c.requires.few in
+    let found = found_from counts c.deref.result.now hints c.args.len c.page_count-pages.result c.first_run-page.result c.deref.ensures.value c.page_count-pages.ensures c.first_run-page.ensures in
+    let hint = hint_for counts hints count c.args.len c.self.invariant c.requires.in_range in
+    let near : c.first_run-page.result ≤ 2 + 255 * count = run_near c.self.invariant.taken counts count (get_or hints (pages_of c.args.len) 0) c.args.len c.first_run-page.result few c.requires.in_range c.self.invariant.are hint found in
+    omega (arith, near, few)
 
 pub invariant_of-self : goal.invariant_of-self
 invariant_of-self c =
-    let g : Gap = c.index-2.result.now in
-    let gaps : List Gap = c.self.inside.gaps.items in
-    let hints : List ℕ = c.self.inside.hints.items in
+    let counts : List ℕ = c.self.inside.counts.items in
+    let hints : List ℕ = c.self.inside.hints in
     let count : ℕ = c.self.inside.count in
-    let m : ℕ = c.first_gap-at.result in
-    let is : IsFound gaps m c.args.len g =
-    found_from gaps c.deref.result.now hints count c.args.len c.page_count-pages.result c.from.result c.index.result.now m g c.deref.ensures.value c.self.invariant c.requires.in_range c.page_count-pages.ensures c.index.ensures c.from.ensures c.first_gap-at.ensures in
-    let cut = cut_from gaps m (pages_of c.args.len) g c.index_mut.result.now c.from-2.result is.inside c.index-2.ensures c.index_mut.ensures.value (c.from-2.ensures ∙ c.page_count-pages.ensures) in
-    subst (λ (x : Gap). IsSound (set gaps m x) (set hints c.page_count-pages.result m) (count + 1)) (sym cut)
-    (subst (λ (n : ℕ). IsSound (set gaps m (cut_gap (pages_of c.args.len) (get_or gaps m g))) (set hints n m) (count + 1)) (sym c.page_count-pages.ensures)
-    (sound-cut gaps hints count m c.args.len g c.requires.in_range c.self.invariant is.inside is.fits is.smaller))
+    let page : ℕ = c.first_run-page.result in
+    let e : Extent = record { page = page; length = c.args.len } in
+    let taken : List Extent = c.self.invariant.taken in
+    let new : List ℕ = c.self-2.inside.counts.items in
+    let found = found_from counts c.deref.result.now hints c.args.len c.page_count-pages.result page c.deref.ensures.value c.page_count-pages.ensures c.first_run-page.ensures in
+    let hint = hint_for counts hints count c.args.len c.self.invariant c.requires.in_range in
+    let before : AreTaken taken c.args.self.now = subst (λ (s : Space). AreTaken taken s) c.self.view_is c.self.invariant.are in
+    let behind : AreTaken (e ∷ taken) (record { counts = new; count = c.self-2.inside.count }) = subst (λ (s : Space). AreTaken (e ∷ taken) s) (sym c.self-2.view_is) (c.in_ok-hold.ensures.held taken before) in
+    let raised : AreRaised page (end_page e) counts new = taken-raised taken e counts new count c.self-2.inside.count c.self.invariant.are behind in
+    let wanted = pages_few c.args.len c.requires.in_range in
+    subst (λ (n : ℕ). IsSound new (set c.self-2.inside.hints n page) c.self-2.inside.count) (sym c.page_count-pages.ensures)
+    (sound-hinted counts new c.self-2.inside.hints page (end_page e) (get_or hints (pages_of c.args.len) 0) (pages_of c.args.len) page c.self-2.inside.count c.self-2.invariant raised hint found (omega (arith, wanted)))
 
 pub returns-clause-placed : goal.returns-clause-placed
-returns-clause-placed c = λ taken left.
-    let g : Gap = c.index-2.result.now in
-    let gaps : List Gap = c.self.inside.gaps.items in
-    let hints : List ℕ = c.self.inside.hints.items in
+returns-clause-placed c = λ taken are.
+    let counts : List ℕ = c.self.inside.counts.items in
+    let hints : List ℕ = c.self.inside.hints in
     let count : ℕ = c.self.inside.count in
-    let m : ℕ = c.first_gap-at.result in
+    let page : ℕ = c.first_run-page.result in
+    let e : Extent = record { page = page; length = c.args.len } in
     let few : count < 16384 = subst (λ (s : Space). s.count < 16384) (sym c.self.view_is) c.requires.few in
-    let is : IsFound gaps m c.args.len g =
-    found_from gaps c.deref.result.now hints count c.args.len c.page_count-pages.result c.from.result c.index.result.now m g c.deref.ensures.value c.self.invariant c.requires.in_range c.page_count-pages.ensures c.index.ensures c.from.ensures c.first_gap-at.ensures in
-    let before : IsLeft taken (record { gaps = gaps; count = count }) = subst (λ (s : Space). IsLeft taken s) (sym c.self.view_is) left in
-    let starts : (get_or gaps m g).start ≡ g.start = sym (ap (λ (x : Gap). x.start) c.index-2.ensures) in
-    let cut = cut_from gaps m (pages_of c.args.len) g c.index_mut.result.now c.from-2.result is.inside c.index-2.ensures c.index_mut.ensures.value (c.from-2.ensures ∙ c.page_count-pages.ensures) in
-    let made : Gap = record { start = g.start + c.from-2.result; end = c.index_mut.result.now.end } in
-    let fits = gap_fits gaps hints count m c.args.len g c.requires.in_range c.self.invariant is.inside is.fits is.smaller few taken before in
-    let after = left-cut gaps hints count m c.args.len g c.requires.in_range c.self.invariant is.inside is.fits is.smaller taken before in (
-      subst (λ (page : ℕ). IsFirstFit taken c.args.len (record { page = page; length = c.args.len })) starts fits,
-      subst (λ (page : ℕ). IsLeft (record { page = page; length = c.args.len } ∷ taken) (record { gaps = set gaps m made; count = count + 1 })) starts (subst (λ (x : Gap). IsLeft (record { page = (get_or gaps m g).start; length = c.args.len } ∷ taken) (record { gaps = set gaps m x; count = count + 1 })) (sym cut) after),
+    let found = found_from counts c.deref.result.now hints c.args.len c.page_count-pages.result page c.deref.ensures.value c.page_count-pages.ensures c.first_run-page.ensures in
+    let hint = hint_for counts hints count c.args.len c.self.invariant c.requires.in_range in
+    let before : AreTaken taken (record { counts = counts; count = count }) = subst (λ (s : Space). AreTaken taken s) (sym c.self.view_is) are in (
+      run_fits taken counts count (get_or hints (pages_of c.args.len) 0) c.args.len page few c.requires.in_range before hint found,
+      subst (λ (s : Space). AreTaken (e ∷ taken) s) (sym c.self-2.view_is) (c.in_ok-hold.ensures.held taken are),
     )

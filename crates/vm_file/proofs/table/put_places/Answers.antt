@@ -1,0 +1,54 @@
+use Rattle.std.proofs.Common.{◌≡◌, ℕ, ◌+◌, ◌-◌, ◌<◌, ◌≤◌, ◌++◌, ◌∷◌, [], List, Some, None, true, false, get_or, set, drop, length, length-set, sym, ap, ap₂, subst, refl, ◌∙◌, arith}
+use Rattle.std.proofs.lemmas.List.{drop_more}
+use Rattle.geos_model.specs.declared.file.Extent.{Extent}
+use Rattle.vm_file.specs.Calls.{IsPut}
+use Rattle.vm_file.specs.Known.{IsKnown}
+use Rattle.vm_file.specs.Slots.{block_extents, kept_extents}
+use Rattle.vm_file.specs.declared.table.Place.{Place}
+use Rattle.vm_file.specs.Writing.{with_places}
+use Rattle.vm_file.specs.declared.put.PutBlock.{PutBlock}
+use Rattle.vm_file.proofs.Tables.{handle_within}
+use Rattle.vm_file.proofs.Spaces.{known-put, known_rest}
+use Rattle.vm_file.proofs.table.put_places.Goals as goal
+
+pub give_back-requires : goal.give_back-requires
+give_back-requires c =
+    let i : ℕ = c.loop-i.i in
+    let extents : List Extent = c.args.extents.now in
+    let d : Extent = record { page = 0; length = 0 } in
+    let e : Extent = get_or extents i d in
+    let at : ℕ = c.from-at.result - 1 in
+    let p : Place = record { user_id = 0; is_heap = false; extent = e } in
+    let kept : List Extent = kept_extents c.args.slots.now in
+    let places = c.loop-i.places in
+    let put : IsPut c.index-puts-i.result = subst IsPut (sym c.index-puts-i.is) (c.requires.puts i _ c.loop-i-test.true) in
+    let handle = handle_within c.index-puts-i.result.handle.0 put.handle in
+    let within : at < length places = omega (arith, handle.0, handle.1, c.from-at.ensures, c.loop-i.invariant.long, c.requires.size) in
+    let inside : i < length extents = omega (arith, c.requires.extents, c.loop-i-test.true) in
+    let before : IsKnown ((e ∷ drop (i + 1) extents) ++ (block_extents places ++ kept)) c.loop-i.space = subst (λ es. IsKnown (es ++ (block_extents places ++ kept)) c.loop-i.space) (drop_more extents i d inside) c.loop-i.invariant.known in
+    known_rest (block_extents (get_or places at None ∷ [])) (drop (i + 1) extents ++ (block_extents (set places at (Some p)) ++ kept)) c.loop-i.space
+    (known-put places at e p (drop (i + 1) extents) kept c.loop-i.space within refl before)
+
+pub loop-i-preserved : goal.loop-i-preserved
+loop-i-preserved c =
+    let i : ℕ = c.loop-i.i in
+    let extents : List Extent = c.args.extents.now in
+    let d : Extent = record { page = 0; length = 0 } in
+    let e : Extent = get_or extents i d in
+    let at : ℕ = c.from-at.result - 1 in
+    let p : Place = c.placed_at.result in
+    let kept : List Extent = kept_extents c.args.slots.now in
+    let places = c.loop-i.places in
+    let put : IsPut c.index-puts-i.result = subst IsPut (sym c.index-puts-i.is) (c.requires.puts i _ c.loop-i-test.true) in
+    let handle = handle_within c.index-puts-i.result.handle.0 put.handle in
+    let within : at < length places = omega (arith, handle.0, handle.1, c.from-at.ensures, c.loop-i.invariant.long, c.requires.size) in
+    let inside : i < length extents = omega (arith, c.requires.extents, c.loop-i-test.true) in
+    let before : IsKnown ((e ∷ drop (i + 1) extents) ++ (block_extents places ++ kept)) c.loop-i.space = subst (λ es. IsKnown (es ++ (block_extents places ++ kept)) c.loop-i.space) (drop_more extents i d inside) c.loop-i.invariant.known in
+    let puts : List PutBlock = c.args.puts.now in
+    let first : drop i puts ≡ c.index-puts-i.result ∷ drop (i + 1) puts = drop_more puts i c.index-puts-i.result c.loop-i-test.true ∙ ap (λ (x : PutBlock). x ∷ drop (i + 1) puts) (sym c.index-puts-i.is) in
+    record {
+      long = length-set places at (Some p) ∙ c.loop-i.invariant.long;
+      filled = ap₂ (λ (n : ℕ) (x : Place). with_places (drop (i + 1) puts) (drop (i + 1) extents) (set places (n - 1) (Some x))) c.from-at.ensures c.placed_at.ensures
+          ∙ ap₂ (λ xs es. with_places xs es places) (sym first) (sym (drop_more extents i d inside)) ∙ c.loop-i.invariant.filled;
+      known = c.give_back.ensures (drop (i + 1) extents ++ (block_extents (set places at (Some p)) ++ kept)) (known-put places at e p (drop (i + 1) extents) kept c.loop-i.space within (ap (λ (x : Place). x.extent) c.placed_at.ensures) before);
+    }

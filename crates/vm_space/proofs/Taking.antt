@@ -1,0 +1,206 @@
+-- What the counts say of the extents that are taken.
+use Rattle.std.proofs.Common.{◌≡◌, ◌⊎◌, ℕ, zero, suc, ◌+◌, ◌*◌, ◌-◌, ◌<◌, ◌≤◌, true, cond, max, min, List, [], ◌∷◌, length, get_or, set, replicate, count_by, refl, sym, ap, subst, ◌∙◌, arith, inl, inr}
+use Rattle.std.specs.List.Sorted.{IsPermutation}
+use Rattle.std.proofs.lemmas.Bool.{cases_lt, cases_eq, false≢true}
+use Rattle.std.proofs.lemmas.List.Sorted.{sum_by-IsPermutation, length_permutation, All-permutation}
+use Rattle.std.proofs.lemmas.List.Sums.{count_by-le-length}
+use Rattle.std.proofs.lemmas.List.{get_or-set_same, get_or-set_other, length-set, get_or-replicate, length-replicate}
+use Rattle.geos_model.specs.File.{pages_of, end_page}
+use Rattle.geos_model.specs.declared.file.Extent.{Extent}
+use Rattle.vm_space.specs.Placing.{IsFree, IsFirstFit, IsLength, AreExtents}
+use Rattle.vm_space.specs.Space.{Space, is_on, AreTaken, IsRun, IsFirstRun, IsHint, IsSound, AreRaised}
+use Rattle.vm_space.proofs.Fitting.{pages_some, pages_few}
+use Rattle.vm_space.proofs.Counting.{within_yes, within_no, once, once_yes, once_no}
+use Rattle.vm_space.proofs.Reaching.{count_cons, none_pass, count_none, free_window}
+
+-- The order doesn't matter.
+pub taken-permuted : (xs ys : List Extent) (space : Space) → IsPermutation xs ys → AreTaken xs space → AreTaken ys space
+taken-permuted xs ys space same taken = record {
+  extents = All-permutation (λ (e : Extent). (2 ≤ e.page) × IsLength e.length) xs ys same taken.extents;
+  count = taken.count ∙ sym (length_permutation xs ys same);
+  pages = λ page. taken.pages page ∙ sym (sum_by-IsPermutation (λ e. cond (is_on page e) 1 0) xs ys same);
+}
+
+-- free pages are those on which no extent lies
+pub free_run : (taken : List Extent) (counts : List ℕ) (page n : ℕ) → ((k : ℕ) → get_or counts k 0 ≡ count_by (is_on k) taken) → IsFree taken page n → IsRun counts (pages_of n) page
+free_run taken counts page n are free k low high = are k ∙ count_none (is_on k) taken (λ i d l. within_no (get_or taken i d).page (end_page (get_or taken i d)) k (λ from before. elim (free i d l) [
+  | inl ends ↦ absurd (omega (arith, ends, from, high))
+  | inr begins ↦ absurd (omega (arith, begins, before, low))
+]))
+
+pub run_free : (taken : List Extent) (counts : List ℕ) (page n : ℕ) → AreExtents taken → IsLength n → ((k : ℕ) → get_or counts k 0 ≡ count_by (is_on k) taken) → IsRun counts (pages_of n) page → IsFree taken page n
+run_free taken counts page n extents is_length are run i d l =
+    let e : Extent = get_or taken i d in
+    let some = pages_some e.length (extents i d l).1 in
+    let wanted = pages_some n is_length in
+    elim (cases_lt page (end_page e)) [
+      | inr ends ↦ inr ends
+      | inl before ↦ elim (cases_lt e.page (page + pages_of n)) [
+        | inr behind ↦ inl behind
+        | inl from ↦
+            let k : ℕ = max page e.page in
+            let none : count_by (is_on k) taken ≡ 0 = sym (are k) ∙ run k (omega arith) (omega (arith, from, wanted)) in
+            let yes : is_on k e ≡ true = within_yes e.page (end_page e) k (omega arith) (omega (arith, before, some)) in
+            absurd (false≢true (sym (none_pass (is_on k) taken none i d l) ∙ yes))
+      ]
+    ]
+
+-- One more is taken, and one is given back.
+pub taken-more : (taken : List Extent) (e : Extent) (old new : List ℕ) (count : ℕ) → 2 ≤ e.page → IsLength e.length → AreTaken taken (record { counts = old; count = count }) → AreRaised e.page (end_page e) old new → AreTaken (e ∷ taken) (record { counts = new; count = count + 1 })
+taken-more taken e old new count behind is_length are raised = record {
+  extents = each_cons taken e (behind, is_length) are.extents;
+  count = (let old_count = are.count in omega (arith, old_count));
+  pages = λ page. raised page ∙ ap (λ n. once e.page (end_page e) page + n) (are.pages page) ∙ sym (count_cons (is_on page) e taken);
+}
+  where
+    each_cons : (xs : List Extent) (e : Extent) → (2 ≤ e.page) × IsLength e.length → AreExtents xs → AreExtents (e ∷ xs)
+    each_cons xs e one all zero d l = one
+    each_cons xs e one all (suc k) d l = all k d (omega (arith, l))
+
+pub taken-less : (rest : List Extent) (e : Extent) (old new : List ℕ) (count less : ℕ) → AreTaken (e ∷ rest) (record { counts = old; count = count }) → AreRaised e.page (end_page e) new old → less + 1 ≡ count → AreTaken rest (record { counts = new; count = less })
+taken-less rest e old new count less are raised one = record {
+  extents = λ k d l. are.extents (suc k) d (omega (arith, l));
+  count = (let old_count = are.count in omega (arith, old_count, one));
+  pages = λ page. (let was = are.pages page in let is = raised page in let whole = count_cons (is_on page) e rest in omega (arith, was, is, whole));
+}
+
+-- the counts of a taken extent's pages
+pub taken_there : (rest : List Extent) (e : Extent) (space : Space) → AreTaken (e ∷ rest) space → (page : ℕ) → e.page ≤ page → page < end_page e → 1 ≤ get_or space.counts page 0
+taken_there rest e space are page low high =
+    let is = are.pages page in
+    let yes = once_yes e.page (end_page e) page low high in
+    let whole = count_cons (is_on page) e rest in
+    omega (arith, is, yes, whole)
+
+pub taken_few : (taken : List Extent) (space : Space) → AreTaken taken space → (page : ℕ) → get_or space.counts page 0 ≤ space.count
+taken_few taken space are page =
+    let is = are.pages page in
+    let most = count_by-le-length (is_on page) taken in
+    let count = are.count in
+    omega (arith, is, most, count)
+
+-- The first run is near, and gives the first fit.
+pub run_near : (taken : List Extent) (counts : List ℕ) (count from n page : ℕ) → count < 16384 → IsLength n → AreTaken taken (record { counts = counts; count = count }) → IsHint counts (pages_of n) from → IsFirstRun counts from (pages_of n) page → page ≤ 2 + 255 * count
+run_near taken counts count from n page few is_length are hint is =
+    let found = free_window taken n are.extents is_length in
+    let size = are.count in
+    let within = found.1 in
+    elim (cases_lt (2 + 255 * found.0) page) [
+      | inr near ↦ omega (arith, near, within, size)
+      | inl past ↦
+          let run = free_run taken counts (2 + 255 * found.0) n are.pages found.2 in
+          elim (cases_lt (2 + 255 * found.0) from) [
+            | inl before ↦ absurd (hint.none (2 + 255 * found.0) (omega arith) before run)
+            | inr on ↦ absurd (is.first (2 + 255 * found.0) on past run)
+          ]
+    ]
+
+pub run_fits : (taken : List Extent) (counts : List ℕ) (count from n page : ℕ) → count < 16384 → IsLength n → AreTaken taken (record { counts = counts; count = count }) → IsHint counts (pages_of n) from → IsFirstRun counts from (pages_of n) page → IsFirstFit taken n (record { page = page; length = n })
+run_fits taken counts count from n page few is_length are hint is =
+    let near = run_near taken counts count from n page few is_length are hint is in
+    let wanted = pages_few n is_length in
+    let low = hint.behind_slots in
+    let on = is.from_on in
+    record {
+      length_is = refl;
+      behind_slots = omega (arith, low, on);
+      free = run_free taken counts page n are.extents is_length are.pages is.run;
+      first = λ q from_slots before free. (let run = free_run taken counts q n are.pages free in elim (cases_lt q from) [
+        | inl below ↦ hint.none q from_slots below run
+        | inr past ↦ is.first q past before run
+      ]);
+      in_reach = omega (arith, near, wanted, few);
+    }
+
+-- Hints, when pages are taken and when they are given back.
+pub run_less : (start end n page : ℕ) (old new : List ℕ) → AreRaised start end old new → IsRun new n page → IsRun old n page
+run_less start end n page old new raised run k low high = (let is = raised k in let none = run k low high in omega (arith, is, none))
+
+pub hint-raised : (start end n hint : ℕ) (old new : List ℕ) → AreRaised start end old new → IsHint old n hint → IsHint new n hint
+hint-raised start end n hint old new raised is = record {
+  behind_slots = is.behind_slots;
+  none = λ q low high run. is.none q low high (run_less start end n q old new raised run);
+}
+
+-- at least so many pages before the ones that are given back
+pub hint-lowered : (start end n hint lower : ℕ) (old new : List ℕ) → AreRaised start end new old → n ≤ 128 → 2 ≤ lower → ((lower ≡ 2) ⊎ (lower + 127 ≤ start)) → IsHint old n hint → IsHint new n (min hint lower)
+hint-lowered start end n hint lower old new raised few low near is = record {
+  behind_slots = (let behind = is.behind_slots in omega (arith, behind, low));
+  none = λ q from before run. elim near [
+    | inl first ↦ absurd (omega (arith, first, from, before))
+    | inr away ↦ is.none q from (omega (arith, before)) (λ k low_k high_k.
+        let same = raised k in
+        let none = run k low_k high_k in
+        let out = once_no start end k (λ l h. absurd (omega (arith, l, high_k, before, away, few))) in
+        omega (arith, same, none, out))
+  ];
+}
+
+pub raised_from : (start end behind : ℕ) (old roomy view new : List ℕ) → ((page : ℕ) → get_or roomy page 0 ≡ get_or old page 0) → view ≡ roomy → behind ≡ end → AreRaised start behind view new → AreRaised start end old new
+raised_from start end behind old roomy view new same is at raised page = (let to = raised page in let was = same page in subst (λ b. get_or new page 0 ≡ once start b page + get_or old page 0) at (to ∙ ap (λ n. once start behind page + n) (ap (λ xs. get_or xs page 0) is ∙ was)))
+
+pub lowered_from : (start end behind : ℕ) (old view new : List ℕ) → view ≡ old → behind ≡ end → AreRaised start behind new view → AreRaised start end new old
+lowered_from start end behind old view new is at raised page = subst (λ b. get_or old page 0 ≡ once start b page + get_or new page 0) at (sym (ap (λ xs. get_or xs page 0) is) ∙ raised page)
+
+pub sound-more : (old new hints : List ℕ) (count : ℕ) (e : Extent) → IsSound old hints count → 2 ≤ e.page → IsLength e.length → AreRaised e.page (end_page e) old new → IsSound new hints (count + 1)
+sound-more old new hints count e sound behind is_length raised = record {
+  taken = e ∷ sound.taken;
+  are = taken-more sound.taken e old new count behind is_length sound.are raised;
+  hint_count = sound.hint_count;
+  hint = λ n l. hint-raised e.page (end_page e) n (get_or hints n 0) old new raised (sound.hint n l);
+}
+
+pub first_near : (page first : ℕ) → first ≡ max (page - 127) 2 → (first ≡ 2) ⊎ (first + 127 ≤ page)
+first_near page first is = elim (cases_lt 2 first) [
+  | inl past ↦ inr (omega (arith, is, past))
+  | inr low ↦ inl (omega (arith, is, low))
+]
+
+pub sound-less : (old new hints lowered : List ℕ) (count first : ℕ) (e : Extent) (rest : List Extent) → IsSound old hints count → AreTaken (e ∷ rest) (record { counts = old; count = count }) → AreRaised e.page (end_page e) new old → first ≡ max (e.page - 127) 2 → length lowered ≡ 129 → ((n : ℕ) → get_or lowered n 0 ≡ min (get_or hints n 0) first) → IsSound new lowered (count - 1)
+sound-less old new hints lowered count first e rest sound are raised is long lower = record {
+  taken = rest;
+  are = taken-less rest e old new count (count - 1) are raised (let some = are.count in omega (arith, some));
+  hint_count = long;
+  hint = λ n l. subst (λ h. IsHint new n h) (sym (lower n)) (hint-lowered e.page (end_page e) n (get_or hints n 0) first old new raised (omega (arith, l)) (omega (arith, is)) (first_near e.page first is) (sound.hint n l));
+}
+
+-- a hint that was found
+pub sound-hinted : (old new hints : List ℕ) (start end from pages page count : ℕ) → IsSound new hints count → AreRaised start end old new → IsHint old pages from → IsFirstRun old from pages page → pages < 129 → IsSound new (set hints pages page) count
+sound-hinted old new hints start end from pages page count sound raised hint is l = record {
+  taken = sound.taken;
+  are = sound.are;
+  hint_count = length-set hints pages page ∙ sound.hint_count;
+  hint = λ n below. elim (cases_eq n pages) [
+    | inl at ↦ subst (λ h. IsHint new n h) (sym (ap (λ i. get_or (set hints pages page) i 0) at ∙ get_or-set_same hints pages page 0 (omega (arith, l, sound.hint_count)))) (subst (λ i. IsHint new i page) (sym at) found)
+    | inr other ↦ subst (λ h. IsHint new n h) (sym (get_or-set_other hints pages n page 0 other)) (sound.hint n below)
+  ];
+}
+  where
+    found : IsHint new pages page
+    found = record {
+      behind_slots = (let low = hint.behind_slots in let on = is.from_on in omega (arith, low, on));
+      none = λ q low before run. (let old_run = run_less start end pages q old new raised run in elim (cases_lt q from) [
+        | inl below ↦ hint.none q low below old_run
+        | inr past ↦ is.first q past before old_run
+      ]);
+    }
+
+-- At first nothing is taken.
+pub sound-none : IsSound [] (replicate 129 2) 0
+sound-none = record {
+  taken = [];
+  are = record { extents = λ k d l. absurd (omega (arith, l)); count = refl; pages = λ page. refl };
+  hint_count = length-replicate {A = ℕ} 129 2;
+  hint = λ n l. (let is = get_or-replicate {A = ℕ} 129 n 2 0 l in record { behind_slots = omega (arith, is); none = λ q low before run. absurd (omega (arith, is, low, before)) });
+}
+
+-- what is taken before and behind one more says how the counts were raised
+pub taken-raised : (taken : List Extent) (e : Extent) (old new : List ℕ) (count more : ℕ) → AreTaken taken (record { counts = old; count = count }) → AreTaken (e ∷ taken) (record { counts = new; count = more }) → AreRaised e.page (end_page e) old new
+taken-raised taken e old new count more before behind page = behind.pages page ∙ count_cons (is_on page) e taken ∙ ap (λ n. once e.page (end_page e) page + n) (sym (before.pages page))
+
+-- What a search from the hint for so many bytes found.
+pub found_from : (counts view hints : List ℕ) (len pages page : ℕ) → view ≡ counts → pages ≡ pages_of len → IsFirstRun view (get_or hints pages 0) pages page → IsFirstRun counts (get_or hints (pages_of len) 0) (pages_of len) page
+found_from counts view hints len pages page is many found = subst (λ xs. IsFirstRun xs (get_or hints (pages_of len) 0) (pages_of len) page) is (subst (λ n. IsFirstRun view (get_or hints n 0) n page) many found)
+
+pub hint_for : (counts hints : List ℕ) (count len : ℕ) → IsSound counts hints count → IsLength len → IsHint counts (pages_of len) (get_or hints (pages_of len) 0)
+hint_for counts hints count len sound is_length = (let wanted = pages_few len is_length in sound.hint (pages_of len) (omega (arith, wanted)))
