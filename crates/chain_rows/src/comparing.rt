@@ -1,100 +1,97 @@
 // Chains that are equal, and chains that aren't.
-use crate::documents::{Blocks, document, put_heap, tree};
-use geos_model::{Fault, VmHandle};
-use std::alloc::Global;
-use std::test::Fail;
-use vm_chains::equal;
-
-fn same(alloc: Global, blocks: &mut Blocks, first: u16, second: u16) -> Result<bool, Fault> {
-    equal(alloc, blocks, VmHandle(first), VmHandle(second))
-}
+use crate::dialogue::{TREE, hold_on};
+use dialogues::Departure;
 
 #[test]
-fn links_are_compared_by_place(rt: HostRuntime) -> Result<(), Fail> {
+fn links_are_compared_by_place(rt: HostRuntime) -> Result<(), Departure> {
     // A tree of blocks 1, 2, 3 and one of blocks 6, 4, 5; in block 7 the branches are the other way round.
-    let mut blocks = document(
+    hold_on(
         rt.alloc(),
         &[
-            b"\xff\xff\x06\0\x02\0\0\0\x02\0\0\0\x03\0",
-            b"\0\0a",
-            b"\0\0b",
-            b"\0\0a",
-            b"\0\0b",
-            b"\xff\xff\x06\0\x02\0\0\0\x04\0\0\0\x05\0",
-            b"\xff\xff\x06\0\x02\0\0\0\x05\0\0\0\x04\0",
+            "ffff060002000000020000000300",
+            "000061",
+            "000062",
+            "000061",
+            "000062",
+            "ffff060002000000040000000500",
+            "ffff060002000000050000000400",
         ],
-    )?;
-    assert!(rt; same(rt.alloc(), &mut blocks, 1, 6)?);
-    assert!(rt; same(rt.alloc(), &mut blocks, 2, 4)?);
-    assert!(rt; same(rt.alloc(), &mut blocks, 7, 7)?);
-    assert!(rt; !same(rt.alloc(), &mut blocks, 6, 7)?);
-    assert!(rt; !same(rt.alloc(), &mut blocks, 2, 3)?);
-    Ok(())
+        "
+        chequal 0001 0006 = same
+        chequal 0002 0004 = same
+        chequal 0007 0007 = same
+        chequal 0006 0007 = differ
+        chequal 0002 0003 = differ
+        ",
+    )
 }
 
 #[test]
-fn trees_differ_in_a_link(rt: HostRuntime) -> Result<(), Fail> {
+fn trees_differ_in_a_link(rt: HostRuntime) -> Result<(), Departure> {
     // The same three bodies but for links: the third block is a branch of the first, or comes behind the second.
-    let mut blocks = document(
+    hold_on(
         rt.alloc(),
         &[
-            b"\xff\xff\x06\0\x02\0\0\0\x02\0\0\0\x03\0",
-            b"\0\0",
-            b"\0\0",
-            b"\xff\xff\x06\0\x02\0\0\0\x05\0\0\0\0\0",
-            b"\x06\0",
-            b"\0\0",
-            b"\xff\xff\x06\0\x02\0\0\0\0\0\0\0\x05\0",
+            "ffff060002000000020000000300",
+            "0000",
+            "0000",
+            "ffff060002000000050000000000",
+            "0600",
+            "0000",
+            "ffff060002000000000000000500",
         ],
-    )?;
-    assert!(rt; !same(rt.alloc(), &mut blocks, 1, 4)?);
-    assert!(rt; !same(rt.alloc(), &mut blocks, 4, 7)?);
-    assert!(rt; same(rt.alloc(), &mut blocks, 4, 4)?);
-    Ok(())
+        "
+        chequal 0001 0004 = differ
+        chequal 0004 0007 = differ
+        chequal 0004 0004 = same
+        ",
+    )
 }
 
 #[test]
-fn a_front_of_a_chain_differs_from_it(rt: HostRuntime) -> Result<(), Fail> {
-    let mut blocks = document(
+fn a_front_of_a_chain_differs_from_it(rt: HostRuntime) -> Result<(), Departure> {
+    hold_on(
         rt.alloc(),
-        &[b"\x02\0", b"\x03\0", b"\0\0", b"\x05\0", b"\0\0", b"\0\0\0"],
-    )?;
-    assert!(rt; !same(rt.alloc(), &mut blocks, 1, 4)?);
-    assert!(rt; !same(rt.alloc(), &mut blocks, 4, 1)?);
-    assert!(rt; same(rt.alloc(), &mut blocks, 2, 4)?);
-    assert!(rt; !same(rt.alloc(), &mut blocks, 5, 6)?);
-    Ok(())
+        &["0200", "0300", "0000", "0500", "0000", "000000"],
+        "
+        chequal 0001 0004 = differ
+        chequal 0004 0001 = differ
+        chequal 0002 0004 = same
+        chequal 0005 0006 = differ
+        ",
+    )
 }
 
 #[test]
-fn both_roots_are_tested_before_either_chain(rt: HostRuntime) -> Result<(), Fail> {
-    let mut blocks = document(rt.alloc(), &[b"\0", b"\0\0"])?;
-    put_heap(rt.alloc(), &mut blocks, 3)?;
-    for (first, second) in [(1, 4), (4, 1), (3, 4), (4, 3)] {
-        assert_eq!(rt;
-            same(rt.alloc(), &mut blocks, first, second),
-            Err(Fault::NoBlock)
-        );
-    }
-    for (first, second) in [(1, 3), (3, 1), (2, 3), (3, 3)] {
-        assert_eq!(rt;
-            same(rt.alloc(), &mut blocks, first, second),
-            Err(Fault::WrongKind)
-        );
-    }
-    for (first, second) in [(1, 2), (2, 1), (1, 1)] {
-        assert_eq!(rt;
-            same(rt.alloc(), &mut blocks, first, second),
-            Err(Fault::BadChain)
-        );
-    }
-    Ok(())
+fn both_roots_are_tested_before_either_chain(rt: HostRuntime) -> Result<(), Departure> {
+    hold_on(
+        rt.alloc(),
+        &["00", "0000"],
+        "
+        newheap 0         = block 0003
+        chequal 0001 0004 = no 5 NoBlock
+        chequal 0004 0001 = no 5 NoBlock
+        chequal 0003 0004 = no 5 NoBlock
+        chequal 0004 0003 = no 5 NoBlock
+        chequal 0001 0003 = no 7 WrongKind
+        chequal 0003 0001 = no 7 WrongKind
+        chequal 0002 0003 = no 7 WrongKind
+        chequal 0003 0003 = no 7 WrongKind
+        chequal 0001 0002 = no 17 BadChain
+        chequal 0002 0001 = no 17 BadChain
+        chequal 0001 0001 = no 17 BadChain
+        ",
+    )
 }
 
 #[test]
-fn a_tree_is_equal_to_itself(rt: HostRuntime) -> Result<(), Fail> {
-    let mut blocks = tree(rt.alloc())?;
-    assert!(rt; same(rt.alloc(), &mut blocks, 3, 3)?);
-    assert!(rt; !same(rt.alloc(), &mut blocks, 3, 1)?);
-    Ok(())
+fn a_tree_is_equal_to_itself(rt: HostRuntime) -> Result<(), Departure> {
+    hold_on(
+        rt.alloc(),
+        &TREE,
+        "
+        chequal 0003 0003 = same
+        chequal 0003 0001 = differ
+        ",
+    )
 }

@@ -1,131 +1,98 @@
-// The longest chains.
-use crate::documents::{Blocks, carry_in, empty, is_refused, put, row, walked};
-use geos_model::{Fault, VmHandle};
+// As many blocks and branches as there can be. `limit_rows` has the longest chains.
+use crate::dialogue::{say_block, say_blocks};
+use dialogues::{Departure, Dialogue};
 use std::alloc::Global;
-use std::test::Fail;
-use vm_chains::{copy_plan, equal, free_plan, size, walk};
 
-// All blocks that a document can have.
-const MOST_BLOCKS: u16 = 2_048;
-
-#[test]
-fn a_chain_has_up_to_2048_blocks(rt: HostRuntime) -> Result<(), Fail> {
-    let mut blocks = row(rt.alloc(), MOST_BLOCKS, 0)?;
-    assert_eq!(rt; size(rt.alloc(), &mut blocks, VmHandle(1))?, 4_096);
-    let handles = walked(rt.alloc(), &mut blocks, 1)?;
-    assert_eq!(rt; handles.len(), 2_048);
-    assert!(rt; handles[2_047] == 2_048);
-    Ok(())
+// A number as two bytes.
+fn word(alloc: Global, value: usize) -> Result<String, Departure> {
+    let (low, high) = (value % 256, value / 256);
+    Ok(format!(in alloc; "{low:02x}{high:02x}")?)
 }
 
-// The body of a tree block with branches to these blocks.
-fn branching(alloc: Global, links: &[u16]) -> Result<Vec<u8>, Fault> {
-    let Ok(count) = u16::try_from(links.len()) else {
-        return Err(Fault::TooBig);
-    };
-    let mut body = Vec::new(alloc);
-    body.extend_from_slice(b"\xff\xff\x06\0")?;
-    body.extend_from_slice(&count.to_le_bytes())?;
-    for link in links {
-        body.extend_from_slice(b"\0\0")?;
-        body.extend_from_slice(&link.to_le_bytes())?;
+// So many blocks, each of which links to the next, and the last one to `end`.
+fn say_row(
+    alloc: Global,
+    dialogue: &mut Dialogue,
+    count: usize,
+    end: usize,
+) -> Result<(), Departure> {
+    for handle in 1..count {
+        let link = word(alloc, handle + 1)?;
+        say_block(alloc, dialogue, handle, &link)?;
     }
-    Ok(body)
+    let link = word(alloc, end)?;
+    say_block(alloc, dialogue, count, &link)
 }
 
-// A tree block under the handle 1 with a branch to each other block and then to these, and all of the others link to none.
-fn star(alloc: Global, more: &[u16]) -> Result<Blocks, Fault> {
-    let mut blocks = empty(alloc)?;
-    let mut links = Vec::new(alloc);
-    for handle in 2..=MOST_BLOCKS {
-        put(alloc, &mut blocks, handle, b"\0\0")?;
-        links.push(handle)?;
+#[test]
+fn a_ring_has_no_end(rt: HostRuntime) -> Result<(), Departure> {
+    let mut dialogue = Dialogue::new(rt.alloc());
+    say_row(rt.alloc(), &mut dialogue, 2_048, 1)?;
+    dialogue.say("walk 0001", "no 17 BadChain")?;
+    dialogue.say("walk 0009", "no 17 BadChain")?;
+    dialogue.hold()
+}
+
+// The first 64 blocks of a row become tree blocks, each with all the branches that it has room for, to the next block.
+fn say_thicket(alloc: Global, dialogue: &mut Dialogue) -> Result<(), Departure> {
+    for handle in 1..65 {
+        let link = word(alloc, handle + 1)?;
+        let line = format!(in alloc; "attach {handle:04x} ffff0600fa3f+0000{link}*16378 = ok")?;
+        dialogue.tell(&line)?;
     }
-    links.extend_from_slice(more)?;
-    put(alloc, &mut blocks, 1, &branching(alloc, &links)?)?;
-    Ok(blocks)
-}
-
-#[test]
-fn a_root_has_branches_to_up_to_2047_blocks(rt: HostRuntime) -> Result<(), Fail> {
-    let mut blocks = star(rt.alloc(), &[])?;
-    let handles = walked(rt.alloc(), &mut blocks, 1)?;
-    assert_eq!(rt; handles.len(), 2_048);
-    assert!(rt; handles[2_047] == 2_048);
     Ok(())
 }
 
 #[test]
-fn a_branch_more_is_to_a_block_again(rt: HostRuntime) -> Result<(), Fail> {
-    let mut blocks = star(rt.alloc(), &[2])?;
-    assert!(rt; is_refused(walk(rt.alloc(), &mut blocks, VmHandle(1)), Fault::BadChain));
-    Ok(())
+fn more_branches_than_blocks_are_no_chain(rt: HostRuntime) -> Result<(), Departure> {
+    let mut dialogue = Dialogue::new(rt.alloc());
+    say_row(rt.alloc(), &mut dialogue, 2_048, 0)?;
+    say_thicket(rt.alloc(), &mut dialogue)?;
+    dialogue.say("walk 0001", "no 17 BadChain")?;
+    dialogue.say("chsize 0041", "number 3968")?;
+    dialogue.hold()
 }
 
-// So many tree blocks under the handles from 1 on, each with all the branches that it has room for, to the next block.
-fn thicket(alloc: Global, count: u16) -> Result<Blocks, Fault> {
-    let mut blocks = row(alloc, MOST_BLOCKS, 0)?;
-    for handle in 1..=count.min(MOST_BLOCKS - 1) {
-        let links = vec![in alloc; handle + 1; 16_378]?;
-        put(alloc, &mut blocks, handle, &branching(alloc, &links)?)?;
+// A tree block under the handle 1 with a branch to each other block that there can be and then to block 2 so often, and all of the
+// others link to none.
+fn say_star(alloc: Global, dialogue: &mut Dialogue, more: u16) -> Result<(), Departure> {
+    say_blocks(alloc, dialogue, &["-"])?;
+    let count = word(alloc, 2_047 + usize::from(more))?;
+    let mut line = format!(in alloc; "attach 0001 ffff0600{count}")?;
+    for handle in 2..2_049 {
+        say_block(alloc, dialogue, handle, "0000")?;
+        let link = word(alloc, handle)?;
+        line.push_str("0000")?;
+        line.push_str(&link)?;
     }
-    Ok(blocks)
-}
-
-#[test]
-fn more_branches_than_blocks_are_no_chain(rt: HostRuntime) -> Result<(), Fail> {
-    let mut blocks = thicket(rt.alloc(), 64)?;
-    assert!(rt; is_refused(walk(rt.alloc(), &mut blocks, VmHandle(1)), Fault::BadChain));
-    assert_eq!(rt; size(rt.alloc(), &mut blocks, VmHandle(65))?, 3_968);
+    let end = "00000200".repeat(alloc, usize::from(more))?;
+    line.push_str(&end)?;
+    dialogue.say(&line, "ok")?;
     Ok(())
 }
 
-#[test]
-fn a_ring_has_no_end(rt: HostRuntime) -> Result<(), Fail> {
-    let mut blocks = row(rt.alloc(), MOST_BLOCKS, 1)?;
-    assert!(rt; is_refused(walk(rt.alloc(), &mut blocks, VmHandle(1)), Fault::BadChain));
-    assert!(rt; is_refused(walk(rt.alloc(), &mut blocks, VmHandle(9)), Fault::BadChain));
-    Ok(())
+// The reply that names all blocks that there can be.
+fn all_blocks(alloc: Global) -> Result<String, Departure> {
+    let mut line = String::from_str(alloc, "blocks")?;
+    for i in 1..2_049 {
+        let handle = format!(in alloc; " {i:04x}")?;
+        line.push_str(&handle)?;
+    }
+    Ok(line)
 }
 
 #[test]
-fn the_longest_chain_is_equal_to_itself(rt: HostRuntime) -> Result<(), Fail> {
-    let mut blocks = row(rt.alloc(), MOST_BLOCKS, 0)?;
-    assert!(rt; equal(rt.alloc(), &mut blocks, VmHandle(1), VmHandle(1))?);
-    assert!(rt; !equal(rt.alloc(), &mut blocks, VmHandle(1), VmHandle(2))?);
-    Ok(())
+fn a_root_has_branches_to_up_to_2047_blocks(rt: HostRuntime) -> Result<(), Departure> {
+    let mut dialogue = Dialogue::new(rt.alloc());
+    say_star(rt.alloc(), &mut dialogue, 0)?;
+    dialogue.say("walk 0001", &all_blocks(rt.alloc())?)?;
+    dialogue.hold()
 }
 
 #[test]
-fn all_blocks_are_freed_and_none_can_be_copied(rt: HostRuntime) -> Result<(), Fail> {
-    let mut blocks = row(rt.alloc(), MOST_BLOCKS, 0)?;
-    assert_eq!(rt;
-        free_plan(rt.alloc(), &mut blocks, VmHandle(1))?.list.len(),
-        2_048
-    );
-    assert!(rt;
-        is_refused(
-            copy_plan(rt.alloc(), &mut blocks, VmHandle(1)),
-            Fault::NoHandles
-        )
-    );
-    Ok(())
-}
-
-// A chain of half of all blocks, and its copy under the other handles.
-fn copied(alloc: Global) -> Result<Blocks, Fault> {
-    let mut blocks = row(alloc, MOST_BLOCKS / 2, 0)?;
-    let plan = copy_plan(alloc, &mut blocks, VmHandle(1))?;
-    carry_in(alloc, &mut blocks, &plan)?;
-    Ok(blocks)
-}
-
-#[test]
-fn a_copy_has_up_to_1024_blocks(rt: HostRuntime) -> Result<(), Fail> {
-    let mut blocks = copied(rt.alloc())?;
-    assert!(rt; equal(rt.alloc(), &mut blocks, VmHandle(1), VmHandle(1_025))?);
-    let handles = walked(rt.alloc(), &mut blocks, 1_025)?;
-    assert_eq!(rt; handles.len(), 1_024);
-    assert!(rt; handles[1_023] == 2_048);
-    Ok(())
+fn a_branch_more_is_to_a_block_again(rt: HostRuntime) -> Result<(), Departure> {
+    let mut dialogue = Dialogue::new(rt.alloc());
+    say_star(rt.alloc(), &mut dialogue, 1)?;
+    dialogue.say("walk 0001", "no 17 BadChain")?;
+    dialogue.hold()
 }
