@@ -29,7 +29,7 @@ fn put(alloc: Global, blocks: &mut Blocks, bytes: &[u8]) -> Result<(), Fault> {
     if bytes.len() > SIZE {
         return Err(Fault::TooBig);
     }
-    let block = SavedBlock::raw(0, bytes.to_vec(alloc)?).restore(alloc)?;
+    let block = SavedBlock::raw(0, bytes.to_vec(alloc)?)?.restore(alloc)?;
     match blocks.next_handle() {
         None => Err(Fault::NoHandles),
         Some(handle) => {
