@@ -78,7 +78,7 @@ fn a_plan_has_its_blocks_in_the_order_of_the_chain(rt: HostRuntime) -> Result<()
 #[test]
 fn a_change_weighs_what_it_holds_of_its_blocks(rt: HostRuntime) -> Result<(), Fail> {
     let change = Change::BlocksOut(freed(rt.alloc())?);
-    // The bytes of the four raw bodies, and nothing beside them.
-    assert_eq!(rt; change.weight(), 21);
+    // The bytes of the four raw bodies, each with the byte for its kind, and nothing beside them.
+    assert_eq!(rt; change.weight(), 25);
     Ok(())
 }
