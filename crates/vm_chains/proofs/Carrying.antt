@@ -23,7 +23,7 @@ use Rattle.vm_blocks.specs.declared.member.Members.{Members}
 use Rattle.geos_model.specs.declared.handle.VmHandle.{VmHandle}
 use Rattle.vm_chains.specs.Numbers.{numbers}
 use Rattle.vm_chains.specs.Answers.{Answers}
-use Rattle.vm_chains.specs.Planning.{CanLeave}
+use Rattle.vm_blocks.specs.Preparing.{CanLeave}
 use Rattle.vm_chains.specs.Walking.{AreBlocks}
 use Rattle.vm_file.specs.Disk.{Drifts}
 
@@ -74,14 +74,14 @@ leaving : (d : Document) (hs : List VmHandle) → AreBlocks d hs → list_any (�
 leaving d hs are other = record {
   live = All-map (λ h. is_live d h ≡ true) (λ (h : VmHandle). h.0) hs are.live;
   distinct = are.distinct;
-  other = All-map (λ h. d.map_block ≢ h) (λ (h : VmHandle). h.0) hs (λ i h within same. true≢false (sym (list_any_at (λ (x : VmHandle). x.0 == d.map_block) hs i h within (eq-eqb (get_or hs i h).0 d.map_block (sym same))) ∙ other));
+  others = All-map (λ h. d.map_block ≢ h) (λ (h : VmHandle). h.0) hs (λ i h within same. true≢false (sym (list_any_at (λ (x : VmHandle). x.0 == d.map_block) hs i h within (eq-eqb (get_or hs i h).0 d.map_block (sym same))) ∙ other));
 }
 
 leaving_stays : (honest : Bool) (d now : Document) (hs : List ℕ) → Drifts honest d now → CanLeave d hs → CanLeave now hs
 leaving_stays honest d now hs drifts are = record {
   live = λ i h within. drifts.live (get_or hs i h) ∙ are.live i h within;
   distinct = are.distinct;
-  other = λ i h within same. are.other i h within (sym drifts.map_block ∙ same);
+  others = λ i h within same. are.others i h within (sym drifts.map_block ∙ same);
 }
 
 -- So plans apply.

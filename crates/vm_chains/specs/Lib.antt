@@ -3,4 +3,3 @@ pub mod Numbers
 pub mod Linking
 pub mod Naming
 pub mod Walking
-pub mod Planning

@@ -6,10 +6,10 @@ ghost use Rattle.geos_model.specs.declared.fault.Fault.TheVariants.{NoHandles, I
 ghost use Rattle.vm_blocks.specs.Changes.{Applies};
 ghost use Rattle.vm_blocks.specs.Keeping.{Keeps, IsSteady, Lacks};
 ghost use Rattle.vm_blocks.specs.Members.{saved_blocks};
+ghost use Rattle.vm_blocks.specs.Preparing.{CanLeave};
 ghost use Rattle.vm_blocks.specs.declared.change.Change.TheVariants as changes;
 ghost use Rattle.vm_chains.specs.Answers.{Answers, IsChainFault};
 ghost use Rattle.vm_chains.specs.Numbers.{numbers};
-ghost use Rattle.vm_chains.specs.Planning.{CanLeave};
 ghost use Rattle.vm_chains.specs.Walking.{AreBlocks, AreMembers};
 
 use crate::names::Names;

@@ -57,6 +57,13 @@ user_id-requires g c =
     let keeps = keeps-trans g.S.Store.facts c.args.blocks.now c.loop-i.blocks c.relinked_at.new.blocks c.loop-i.invariant.keeps c.relinked_at.ensures.keeps in
     still_live g.S.Store.facts c.args.blocks.now c.relinked_at.new.blocks keeps (get_or c.args.handles.now c.loop-i.i no_handle).0 (c.requires.live.live c.loop-i.i no_handle (omega arith))
 
+pub returns-in_err-block-clause-keeps : goal.returns-in_err-block-clause-keeps
+returns-in_err-block-clause-keeps g c = keeps-trans g.S.Store.facts c.args.blocks.now c.loop-i.blocks c.relinked_at.new.blocks c.loop-i.invariant.keeps c.relinked_at.ensures.keeps
+
+pub returns-in_err-block-clause-refusals : goal.returns-in_err-block-clause-refusals
+returns-in_err-block-clause-refusals g c =
+    carried_so c.from_residual-in_err-block.result Memory _ c.from_residual-in_err-block.ensures.1 (lacks-memory g.S.Store.facts c.args.blocks.now.disk.store c.relinked_at.new.blocks.disk.store)
+
 pub returns-in_err-push-clause-keeps : goal.returns-in_err-push-clause-keeps
 returns-in_err-push-clause-keeps g c = keeps-trans g.S.Store.facts c.args.blocks.now c.loop-i.blocks c.relinked_at.new.blocks c.loop-i.invariant.keeps c.relinked_at.ensures.keeps
 
@@ -69,7 +76,7 @@ loop-i-preserved g c =
     let a = c.args.blocks.now in let e = c.relinked_at.new.blocks in
     let d = a.document in let hs = c.args.handles.now in let new = c.args.new.now in let i = c.loop-i.i in
     let h = (get_or hs i no_handle).0 in
-    let m : Member = record { handle = get_or new i no_handle; block = c.raw-block.result } in
+    let m : Member = record { handle = get_or new i no_handle; block = c.in_ok-block.block } in
     let keeps = keeps-trans g.S.Store.facts a c.loop-i.blocks e c.loop-i.invariant.keeps c.relinked_at.ensures.keeps in
     let within : i < length hs = omega arith in let there : i < length new = omega arith in
     let pushed : c.push.new.self.items ≡ c.loop-i.plan.items ++ m ∷ [] = c.in_ok-push.ensures.items in
@@ -78,7 +85,7 @@ loop-i-preserved g c =
           let same : e.document ≡ d = keeps-same g.S.Store.facts a e keeps steady in
           let uid : c.user_id.result ≡ user_id_of d h = c.user_id.ensures ∙ ap (λ (x : Document). user_id_of x h) same in
           let read : c.in_ok-bytes.bytes.items ≡ relinked (name_in c.in_ok-names.names) (raw_bytes_of d h) = c.in_ok-bytes.ensures.value ∙ ap (λ (x : Document). relinked (name_in c.in_ok-names.names) (raw_bytes_of x h)) same in
-          let block = c.raw-block.ensures ∙ renamed_block d h c.user_id.result c.in_ok-bytes.bytes.items (name_in c.in_ok-names.names) (name_of (zip (numbers hs) (numbers new))) uid read (c.in_ok-names.ensures {u = tt}) in
+          let block = c.in_ok-block.ensures ∙ renamed_block d h c.user_id.result c.in_ok-bytes.bytes.items (name_in c.in_ok-names.names) (name_of (zip (numbers hs) (numbers new))) uid read (c.in_ok-names.ensures {u = tt}) in
           ap (λ (ms : List Member). saved_blocks ms ++ copies_from d hs new (drop (i + 1) hs) (drop (i + 1) new)) pushed
           ∙ copies_more d hs new c.loop-i.plan.items m i no_handle no_handle _ within there refl block (c.loop-i.invariant.plan steady);
       handles = ap (λ (ms : List Member). handles_of (saved_blocks ms)) pushed ∙ handles_more c.loop-i.plan.items m i new no_handle there refl c.loop-i.invariant.handles;
