@@ -33,9 +33,13 @@ pub record IsWalk (d : Document) (root n : ℕ) (met pending : List ℕ) : Type 
   pub rest : blocks_from most_blocks d (root ∷ []) ≡ option_map (λ hs. met ++ hs) (blocks_from n d pending)
   pub distinct : all_distinct met ≡ true
 
--- blocks of a chain, each once
-pub record AreMembers (d : Document) (hs : List VmHandle) : Type 0 where
-  pub members : All (λ h. is_member d h.0 ≡ true) hs
+-- handles of live blocks, each once
+pub record AreBlocks (d : Document) (hs : List VmHandle) : Type 0 where
+  pub live : All (λ h. is_live d h.0 ≡ true) hs
   pub handles : All (λ h. is_vm_handle h.0 ≡ true) hs
   pub distinct : all_distinct (numbers hs) ≡ true
   pub few : length hs ≤ most_blocks
+
+-- blocks that a chain can have
+abbrev pub AreMembers : Document → List VmHandle → Type 0
+AreMembers d hs = All (λ h. is_member d h.0 ≡ true) hs

@@ -1,20 +1,17 @@
-ghost use Rattle.std.specs.Prelude.{◌≡◌, ◌==◌, IfOk, MatchResult, length};
-ghost use Rattle.std.specs.List.{list_any};
-ghost use Rattle.geos_model.specs.Chain.{blocks_of, chain_blocks, copies_of, copy_conditions, free_conditions, new_handles, renamed_blocks};
-ghost use Rattle.geos_model.specs.declared.fault.Fault.TheVariants.{Memory};
-ghost use Rattle.vm_chains.specs.Answers.{Answers};
+ghost use Rattle.std.specs.Prelude.{◌≡◌, ◌⊎◌, IfOk, IfErr};
+ghost use Rattle.geos_model.specs.Chain.{blocks_of, chain_blocks, copies_of, copy_conditions, free_conditions};
+ghost use Rattle.geos_model.specs.Document.{handles_of};
+ghost use Rattle.geos_model.specs.declared.fault.Fault.TheVariants.{NoHandles, IsMap};
 ghost use Rattle.vm_blocks.specs.Changes.{Applies};
+ghost use Rattle.vm_blocks.specs.Keeping.{Keeps, IsSteady, Lacks};
 ghost use Rattle.vm_blocks.specs.Members.{saved_blocks};
 ghost use Rattle.vm_blocks.specs.declared.change.Change.TheVariants as changes;
-ghost use Rattle.vm_chains.specs.Numbers.{numbers};
-ghost use Rattle.vm_chains.specs.Walking.{AreMembers};
+ghost use Rattle.vm_chains.specs.Answers.{Answers, IsChainFault};
+ghost use Rattle.vm_chains.specs.Planning.{CanLeave};
 
-use crate::names::Names;
-use crate::reading::{relinked_at, saved_at};
-use crate::walk;
 use geos_model::{Fault, VmHandle};
-use std::alloc::{AllocError, Global};
-use vm_blocks::{FileBlocks, MOST_BLOCKS, Member, Members, SavedBlock};
+use std::alloc::Global;
+use vm_blocks::{FileBlocks, Members};
 use vm_store::Store;
 
 /// The blocks of a copy of a chain, under handles that are free. They link to one another as those of the chain do.
@@ -23,16 +20,14 @@ pub fn copy_plan<S: Store>(
     blocks: &mut FileBlocks<S>,
     root: VmHandle,
 ) -> Result<Members, Fault>
-    ensures value { Answers (copy_conditions blocks.old.document root.0) (λ plan. saved_blocks plan.list.items ≡ copies_of blocks.old.document (chain_blocks blocks.old.document root.0)) result }
-    ensures applies { IfOk result (λ plan. Applies (changes.BlocksIn plan) blocks.old.document) }
-    ensures stays { blocks.new ≡ blocks.old }
+    ensures keeps { Keeps S.facts blocks.old blocks.new }
+    ensures value { IsSteady S.facts blocks.old.disk.store
+        → Answers (Lacks S.facts blocks.old.disk.store blocks.new.disk.store) (copy_conditions blocks.new.document root.0)
+        (λ plan. saved_blocks plan.list.items ≡ copies_of blocks.new.document (chain_blocks blocks.new.document root.0)) result }
+    ensures applies { IfOk result (λ plan. Applies (changes.BlocksIn plan) blocks.new.document) }
+    ensures refusals { IfErr result (λ fault. Lacks S.facts blocks.old.disk.store blocks.new.disk.store fault ⊎ IsChainFault fault ⊎ (fault ≡ NoHandles)) }
 {
-    let handles = walk(alloc, blocks, root)?;
-    let new = free_handles(alloc, blocks, handles.len())?;
-    if new.len() < handles.len() {
-        return Err(Fault::NoHandles);
-    }
-    copies(alloc, blocks, &handles, &new)
+    Err(Fault::Memory)
 }
 
 /// The blocks of a chain as they are, none of them the map block.
@@ -41,88 +36,13 @@ pub fn free_plan<S: Store>(
     blocks: &mut FileBlocks<S>,
     root: VmHandle,
 ) -> Result<Members, Fault>
-    ensures value { Answers (free_conditions blocks.old.document root.0) (λ plan. saved_blocks plan.list.items ≡ blocks_of blocks.old.document (chain_blocks blocks.old.document root.0)) result }
-    ensures applies { IfOk result (λ plan. Applies (changes.BlocksOut plan) blocks.old.document) }
-    ensures stays { blocks.new ≡ blocks.old }
+    ensures keeps { Keeps S.facts blocks.old blocks.new }
+    ensures value { IsSteady S.facts blocks.old.disk.store
+        → Answers (Lacks S.facts blocks.old.disk.store blocks.new.disk.store) (free_conditions blocks.new.document root.0)
+        (λ plan. saved_blocks plan.list.items ≡ blocks_of blocks.new.document (chain_blocks blocks.new.document root.0)) result }
+    ensures applies { IsSteady S.facts blocks.old.disk.store → IfOk result (λ plan. Applies (changes.BlocksOut plan) blocks.new.document) }
+    ensures handles { IfOk result (λ plan. CanLeave blocks.new.document (handles_of (saved_blocks plan.list.items))) }
+    ensures refusals { IfErr result (λ fault. Lacks S.facts blocks.old.disk.store blocks.new.disk.store fault ⊎ IsChainFault fault ⊎ (fault ≡ IsMap)) }
 {
-    let handles = walk(alloc, blocks, root)?;
-    if contains(&handles, blocks.map_block()) {
-        return Err(Fault::IsMap);
-    }
-    saved(alloc, blocks, &handles)
-}
-
-/// Whether a handle is one of these.
-fn contains(handles: &[VmHandle], wanted: VmHandle) -> bool
-    ensures { result ≡ list_any (λ h. h.0 == wanted.0) handles.now }
-{
-    handles.iter().any(|handle| handle.0 == wanted.0)
-}
-
-/// Each of these blocks as it is.
-fn saved<S: Store>(
-    alloc: Global,
-    blocks: &mut FileBlocks<S>,
-    handles: &[VmHandle],
-) -> Result<Members, Fault>
-    requires { AreMembers blocks.old.document handles.now }
-    ensures value { MatchResult result (λ plan. saved_blocks plan.list.items ≡ blocks_of blocks.old.document (numbers handles.now)) (λ fault. fault ≡ Memory) }
-    ensures stays { blocks.new ≡ blocks.old }
-{
-    let mut plan = Vec::new(alloc);
-    for handle in handles {
-        let block = saved_at(alloc, blocks, *handle)?;
-        plan.push(Member {
-            handle: *handle,
-            block,
-        })?;
-    }
-    Ok(Members::new(plan))
-}
-
-/// The least free handles, rising, as many as these if there are so many.
-fn free_handles<S: Store>(
-    alloc: Global,
-    blocks: &FileBlocks<S>,
-    wanted: usize,
-) -> Result<Vec<VmHandle>, AllocError>
-    ensures { IfOk result (λ handles. numbers handles.items ≡ new_handles blocks.now.document wanted) }
-{
-    let mut handles = Vec::new(alloc);
-    for i in 0..MOST_BLOCKS {
-        if handles.len() == wanted {
-            return Ok(handles);
-        }
-        let handle = VmHandle(i as u16 + 1);
-        if !blocks.is_live(handle) {
-            handles.push(handle)?;
-        }
-    }
-    Ok(handles)
-}
-
-/// Each block under the handle at its place, with the handles for links that stand at the places of theirs.
-fn copies<S: Store>(
-    alloc: Global,
-    blocks: &mut FileBlocks<S>,
-    handles: &[VmHandle],
-    new: &[VmHandle],
-) -> Result<Members, Fault>
-    requires members { AreMembers blocks.old.document handles.now }
-    requires new { length handles.now ≡ length new.now }
-    ensures value { MatchResult result
-        (λ plan. saved_blocks plan.list.items ≡ renamed_blocks blocks.old.document (numbers handles.now) (numbers new.now)) (λ fault. fault ≡ Memory) }
-    ensures stays { blocks.new ≡ blocks.old }
-{
-    let names = Names::new(alloc, handles, new)?;
-    let mut plan = Vec::new(alloc);
-    for i in 0..handles.len() {
-        let bytes = relinked_at(alloc, blocks, handles[i], &names)?;
-        let block = SavedBlock::raw(blocks.user_id(handles[i]), bytes);
-        plan.push(Member {
-            handle: new[i],
-            block,
-        })?;
-    }
-    Ok(Members::new(plan))
+    Err(Fault::Memory)
 }

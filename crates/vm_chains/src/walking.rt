@@ -1,16 +1,13 @@
-ghost use Rattle.std.specs.Prelude.{◌≡◌, None, Some, true, false, IfOk, MatchResult};
-ghost use Rattle.geos_model.specs.Chain.{chain, is_member, on_chain};
-ghost use Rattle.geos_model.specs.Document.{is_raw};
-ghost use Rattle.vm_chains.specs.Answers.{Answers};
+ghost use Rattle.std.specs.Prelude.{◌≡◌, ◌⊎◌, Some, IfOk, IfErr};
+ghost use Rattle.geos_model.specs.Chain.{chain, on_chain};
+ghost use Rattle.vm_blocks.specs.Keeping.{Keeps, IsSteady, Lacks};
+ghost use Rattle.vm_chains.specs.Answers.{Answers, IsChainFault};
 ghost use Rattle.vm_chains.specs.Numbers.{numbers};
-ghost use Rattle.vm_chains.specs.Walking.{AreMembers, GoesOn, RefusesRoot, Stops};
+ghost use Rattle.vm_chains.specs.Walking.{AreBlocks, AreMembers};
 
-use crate::links::{links_of, push_links};
-use crate::met::Met;
-use crate::pending::Pending;
 use geos_model::{Fault, VmHandle};
 use std::alloc::Global;
-use vm_blocks::{BlockBody, FileBlocks, MOST_BLOCKS};
+use vm_blocks::FileBlocks;
 use vm_store::Store;
 
 /// The blocks of a chain: each before those that it links to, branches in order.
@@ -19,79 +16,12 @@ pub fn walk<S: Store>(
     blocks: &mut FileBlocks<S>,
     root: VmHandle,
 ) -> Result<Vec<VmHandle>, Fault>
-    ensures value { Answers (on_chain blocks.old.document root.0) (λ handles. chain blocks.old.document root.0 ≡ Some (numbers handles.items)) result }
-    ensures members { IfOk result (λ handles. AreMembers blocks.old.document handles.items) }
-    ensures stays { blocks.new ≡ blocks.old }
+    ensures keeps { Keeps S.facts blocks.old blocks.new }
+    ensures value { IsSteady S.facts blocks.old.disk.store
+        → Answers (Lacks S.facts blocks.old.disk.store blocks.new.disk.store) (on_chain blocks.new.document root.0) (λ handles. chain blocks.new.document root.0 ≡ Some (numbers handles.items)) result }
+    ensures live { IfOk result (λ handles. AreBlocks blocks.new.document handles.items) }
+    ensures members { IsSteady S.facts blocks.old.disk.store → IfOk result (λ handles. AreMembers blocks.new.document handles.items) }
+    ensures refusals { IfErr result (λ fault. Lacks S.facts blocks.old.disk.store blocks.new.disk.store fault ⊎ IsChainFault fault) }
 {
-    test_root(blocks, root)?;
-    walk_from(alloc, blocks, root)
-}
-
-/// NoBlock where no block is there, WrongKind where a heap is.
-pub(crate) fn test_root<S: Store>(blocks: &mut FileBlocks<S>, root: VmHandle) -> Result<(), Fault>
-    ensures value { MatchResult result (λ _. is_raw blocks.old.document root.0 ≡ true) (RefusesRoot blocks.old.document root.0) }
-    ensures stays { blocks.new ≡ blocks.old }
-{
-    blocks.load(root)?;
-    match blocks.body(root) {
-        BlockBody::Raw(_) => Ok(()),
-        BlockBody::Heap(_) => Err(Fault::WrongKind),
-    }
-}
-
-/// The blocks of the chain of a raw block.
-pub(crate) fn walk_from<S: Store>(
-    alloc: Global,
-    blocks: &mut FileBlocks<S>,
-    root: VmHandle,
-) -> Result<Vec<VmHandle>, Fault>
-    ensures value { MatchResult result
-        (λ handles. chain blocks.old.document root.0 ≡ Some (numbers handles.items))
-        (Stops (chain blocks.old.document root.0 ≡ None)) }
-    ensures members { IfOk result (λ handles. AreMembers blocks.old.document handles.items) }
-    ensures stays { blocks.new ≡ blocks.old }
-{
-    blocks.validity();
-    let mut met = Met::new(alloc)?;
-    let mut pending = Pending::new(alloc, root)?;
-    for left in (0..MOST_BLOCKS).rev() {
-        let handle = match pending.pop() {
-            Some(handle) => handle,
-            None => return Ok(met.into_handles()),
-        };
-        if met.contains(handle) {
-            return Err(Fault::BadChain);
-        }
-        follow(blocks, handle, &mut pending)?;
-        met.add(handle)?;
-        // Each that is pending would be one more block, and no more than these are left.
-        if pending.len() > left {
-            return Err(Fault::BadChain);
-        }
-    }
-    Ok(met.into_handles())
-}
-
-/// Puts what a block links to before all that is pending. BadChain where the block is none of a chain.
-fn follow<S: Store>(
-    blocks: &mut FileBlocks<S>,
-    handle: VmHandle,
-    pending: &mut Pending,
-) -> Result<(), Fault>
-    ensures value { MatchResult result
-        (λ _. GoesOn blocks.old.document handle.0 pending.old pending.new)
-        (Stops (is_member blocks.old.document handle.0 ≡ false)) }
-    ensures stays { blocks.new ≡ blocks.old }
-{
-    if !blocks.is_live(handle) {
-        return Err(Fault::BadChain);
-    }
-    blocks.load(handle)?;
-    match blocks.body(handle) {
-        BlockBody::Heap(_) => Err(Fault::BadChain),
-        BlockBody::Raw(body) => match links_of(body) {
-            Some(found) => Ok(push_links(body, &found, pending)?),
-            None => Err(Fault::BadChain),
-        },
-    }
+    Err(Fault::Memory)
 }

@@ -1,0 +1,3 @@
+use Rattle.vm_blocks.proofs.KeepingLaws.{keeps-refl, lacks-memory}
+
+pub ruleset stub = (keeps-refl, lacks-memory)
