@@ -1,5 +1,5 @@
 -- Which refusal is the first.
-use Rattle.std.proofs.Common.{◌≡◌, ℕ, Result, Ok, Err, MatchResult, subst, ◌++◌, true, false, Some, refl, sym}
+use Rattle.std.proofs.Common.{◌≡◌, ℕ, Result, Ok, Err, MatchResult, subst, ◌++◌, true, false, Some, refl, sym, inl, inr}
 use Rattle.std.specs.Result.{IsErrAnd}
 use Rattle.std.specs.FinMap.{get, contains_key}
 use Rattle.geos_model.specs.Refusal.{Conditions, applies, first_refusal}
@@ -7,8 +7,10 @@ use Rattle.geos_model.specs.Heap.{ChunkMap}
 use Rattle.geos_model.specs.Document.{Block, Document, is_heap_body, is_live}
 use Rattle.geos_model.specs.Meaning.{on_raw, on_heap, on_chunk}
 use Rattle.geos_model.specs.declared.fault.Fault.{Fault}
-use Rattle.geos_model.specs.declared.fault.Fault.TheVariants.{BadCommand, Locked, NothingToUndo, NothingToRedo, NoTarget, NoBlock, WrongKind, NotLocked, LockLimit, CacheFull, NoChunk}
+use Rattle.geos_model.specs.declared.command.Edit.{Edit}
+use Rattle.geos_model.specs.declared.fault.Fault.TheVariants.{Memory, BadCommand, Locked, NothingToUndo, NothingToRedo, NoTarget, NoBlock, WrongKind, NotLocked, LockLimit, CacheFull, NoChunk}
 use Rattle.doc_edits.specs.Found.{is_among, late_faults, AreLate, IsHeapAt}
+use Rattle.doc_edits.specs.Planning.{IsMemory, Refuses}
 use Rattle.doc_edits.proofs.Order.{not_among}
 
 not_late : (rest : Conditions) (f : Fault) → AreLate rest → is_among late_faults f ≡ false → applies rest f ≡ false
@@ -41,3 +43,11 @@ past_chunk d h c m rest live there = rw (live, there) refl
 pub carried : {T : Type 0} (r : Result T Fault) (P : T → Type 0) (Q : Fault → Type 0) (fault : Fault) → IsErrAnd r (λ e. e ≡ fault) → Q fault → MatchResult r P Q
 carried (Ok x) P Q fault is q = absurd is
 carried (Err e) P Q fault is q = subst Q (sym is) q
+
+-- of blocks in memory it can be said that nothing was lacking but memory
+pub may_lack : {T : Type 0} (lacks : Fault → Type 0) (edit : Edit) (d : Document) (P : T → Type 0) (r : Result T Fault) → lacks Memory → MatchResult r P (Refuses IsMemory edit d) → MatchResult r P (Refuses lacks edit d)
+may_lack lacks edit d P (Ok x) memory planned = planned
+may_lack lacks edit d P (Err fault) memory refused = elim refused [
+  | inl is ↦ inl (subst lacks (sym is) memory)
+  | inr first ↦ inr first
+]

@@ -1,4 +1,4 @@
--- What a look-up may answer of a document, which stays as it is.
+-- What a look-up may answer of a document, and what it leaves of it.
 use Rattle.std.specs.Prelude.{◌≡◌, ◌⊎◌, ⊤, Option, None, Some}
 use Rattle.std.specs.Option.{option_map_or}
 use Rattle.std.specs.Borrow.{follows_so, Fml, RattleType, MutBor}
@@ -6,20 +6,22 @@ use Rattle.geos_model.specs.Refusal.{first_refusal}
 use Rattle.geos_model.specs.Document.{Document}
 use Rattle.geos_model.specs.Reply.{Reply, Refused, look_up_conditions, look_up}
 use Rattle.geos_model.specs.declared.fault.Fault.{Fault}
-use Rattle.geos_model.specs.declared.fault.Fault.TheVariants.{Memory}
 use Rattle.geos_model.specs.declared.command.Command.{Command}
 use Rattle.geos_model.specs.declared.command.Command.TheVariants as commands
 use Rattle.geos_model.specs.declared.handle.ChunkHandle.{ChunkHandle}
 use Rattle.geos_model.specs.declared.handle.VmHandle.{VmHandle}
+use Rattle.vm_store.specs.Facts.{StoreFacts}
+use Rattle.vm_file.specs.Disk.{FileState}
+use Rattle.vm_blocks.specs.Keeping.{Keeps, Lacks}
 use mathlib.Core.Option.{none}
 
 -- the first refusal of a look-up, or what it answers where nothing refuses it
 abbrev pub answer_of : Command → Document → Option Reply
 answer_of command d = option_map_or (λ fault. Some (Refused fault)) (first_refusal (look_up_conditions command d)) (look_up command d)
 
--- it answers so, or that memory is wanting
-abbrev pub LooksUp : Command → Document → Reply → Type 0
-LooksUp command d reply = (reply ≡ Refused Memory) ⊎ (answer_of command d ≡ Some reply)
+-- it answers so, or a fault of what the call may lack
+abbrev pub LooksUp : (Fault → Type 0) → Command → Document → Reply → Type 0
+LooksUp lacks command d reply = ((fault : Fault) × lacks fault × (reply ≡ Refused fault)) ⊎ (answer_of command d ≡ Some reply)
 
 -- the block and the chunk into which a look-up looks
 abbrev pub chunk_asked : Command → Option (VmHandle × ChunkHandle)
@@ -38,9 +40,17 @@ chunk_asked (commands.NamePart b c t) = Some (b, c)
 chunk_asked command = None
 
 -- So is each look-up into the chunk refused.
-abbrev pub RefusesChunk : Document → VmHandle → ChunkHandle → Fault → Type 0
-RefusesChunk d b c fault = (command : Command) → chunk_asked command ≡ Some (b, c) → LooksUp command d (Refused fault)
+abbrev pub RefusesChunk : (Fault → Type 0) → Document → VmHandle → ChunkHandle → Fault → Type 0
+RefusesChunk lacks d b c fault = (command : Command) → chunk_asked command ≡ Some (b, c) → LooksUp lacks command d (Refused fault)
+
+-- What a look-up into one block comes to: the file is kept, and the document as it is held from then on is looked up.
+abbrev pub Sees : {S : Type 0} → (S → StoreFacts) → FileState S → FileState S → Command → Reply → Type 0
+Sees facts old new command reply = Keeps facts old new × LooksUp (Lacks facts old.disk.store new.disk.store) command new.document reply
+
+-- What is behind a `&mut` is again what the call left there, once what was lent of it is given back, and this holds of that.
+abbrev pub Leaves : (R : RattleType) → MutBor R.Denot → (R.Denot → Type 0) → Fml
+Leaves R s P = follows_so R R s.ghost_name none (λ _ _. ⊤) P
 
 -- What is behind a `&mut` is the same again once what was lent of it is given back.
 abbrev pub Stays : (R : RattleType) → MutBor R.Denot → Fml
-Stays R s = follows_so R R s.ghost_name none (λ _ _. ⊤) (λ new. new ≡ s.now)
+Stays R s = Leaves R s (λ new. new ≡ s.now)

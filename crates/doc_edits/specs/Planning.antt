@@ -50,6 +50,10 @@ pub record Plans (edit : Edit) (d : Document) (change : Change) (done : Done) : 
   pub kind : kind_of_change change ≡ kind_of edit
   pub cost : change_cost change ≡ cost edit d (effect edit d).0
 
--- want of memory, or the first refusal
-abbrev pub Refuses : Edit → Document → Fault → Type 0
-Refuses edit d fault = (fault ≡ Memory) ⊎ (first_refusal (conditions edit d) ≡ Some fault)
+-- what a call may lack that looks at blocks in memory alone
+abbrev pub IsMemory : Fault → Type 0
+IsMemory fault = fault ≡ Memory
+
+-- a fault of what the call may lack, or the first refusal
+abbrev pub Refuses : (Fault → Type 0) → Edit → Document → Fault → Type 0
+Refuses lacks edit d fault = lacks fault ⊎ (first_refusal (conditions edit d) ≡ Some fault)

@@ -1,6 +1,6 @@
 ghost use Rattle.std.specs.Prelude.{MatchResult};
 ghost use Rattle.geos_model.specs.declared.command.Edit.TheVariants as edits;
-ghost use Rattle.doc_edits.specs.Planning.{Plans, Refuses};
+ghost use Rattle.doc_edits.specs.Planning.{IsMemory, Plans, Refuses};
 
 use geos_model::{Done, Fault, VmHandle};
 use raw_region::SIZE;
@@ -16,7 +16,7 @@ pub fn plan_new_raw<S: Store>(
     user_id: u16,
     size: u32,
 ) -> Result<(Change, Done), Fault>
-    ensures { MatchResult result (λ p. Plans (edits.NewRaw user_id size) blocks.now.document p.0 p.1) (Refuses (edits.NewRaw user_id size) blocks.now.document) }
+    ensures { MatchResult result (λ p. Plans (edits.NewRaw user_id size) blocks.now.document p.0 p.1) (Refuses IsMemory (edits.NewRaw user_id size) blocks.now.document) }
 {
     if size as usize > SIZE {
         return Err(Fault::TooBig);
@@ -37,7 +37,7 @@ pub fn plan_new_heap<S: Store>(
     blocks: &FileBlocks<S>,
     user_id: u16,
 ) -> Result<(Change, Done), Fault>
-    ensures { MatchResult result (λ p. Plans (edits.NewHeap user_id) blocks.now.document p.0 p.1) (Refuses (edits.NewHeap user_id) blocks.now.document) }
+    ensures { MatchResult result (λ p. Plans (edits.NewHeap user_id) blocks.now.document p.0 p.1) (Refuses IsMemory (edits.NewHeap user_id) blocks.now.document) }
 {
     let handle = match blocks.next_handle() {
         Some(handle) => handle,
@@ -55,7 +55,7 @@ pub fn plan_free_block<S: Store>(
     blocks: &FileBlocks<S>,
     handle: VmHandle,
 ) -> Result<(Change, Done), Fault>
-    ensures { MatchResult result (λ p. Plans (edits.FreeBlock handle) blocks.now.document p.0 p.1) (Refuses (edits.FreeBlock handle) blocks.now.document) }
+    ensures { MatchResult result (λ p. Plans (edits.FreeBlock handle) blocks.now.document p.0 p.1) (Refuses IsMemory (edits.FreeBlock handle) blocks.now.document) }
 {
     let block = match blocks.block(handle) {
         Some(block) => block,
@@ -76,7 +76,7 @@ pub fn plan_copy_block<S: Store>(
     blocks: &FileBlocks<S>,
     from: VmHandle,
 ) -> Result<(Change, Done), Fault>
-    ensures { MatchResult result (λ p. Plans (edits.CopyBlock from) blocks.now.document p.0 p.1) (Refuses (edits.CopyBlock from) blocks.now.document) }
+    ensures { MatchResult result (λ p. Plans (edits.CopyBlock from) blocks.now.document p.0 p.1) (Refuses IsMemory (edits.CopyBlock from) blocks.now.document) }
 {
     let block = match blocks.block(from) {
         Some(block) => block,
@@ -97,7 +97,7 @@ pub fn plan_set_user_id<S: Store>(
     handle: VmHandle,
     user_id: u16,
 ) -> Result<(Change, Done), Fault>
-    ensures { MatchResult result (λ p. Plans (edits.SetUserId handle user_id) blocks.now.document p.0 p.1) (Refuses (edits.SetUserId handle user_id) blocks.now.document) }
+    ensures { MatchResult result (λ p. Plans (edits.SetUserId handle user_id) blocks.now.document p.0 p.1) (Refuses IsMemory (edits.SetUserId handle user_id) blocks.now.document) }
 {
     if !blocks.is_live(handle) {
         return Err(Fault::NoBlock);
@@ -115,7 +115,7 @@ pub fn plan_set_map<S: Store>(
     blocks: &FileBlocks<S>,
     handle: VmHandle,
 ) -> Result<(Change, Done), Fault>
-    ensures { MatchResult result (λ p. Plans (edits.SetMap handle) blocks.now.document p.0 p.1) (Refuses (edits.SetMap handle) blocks.now.document) }
+    ensures { MatchResult result (λ p. Plans (edits.SetMap handle) blocks.now.document p.0 p.1) (Refuses IsMemory (edits.SetMap handle) blocks.now.document) }
 {
     if handle.0 != 0 && !blocks.is_live(handle) {
         return Err(Fault::NoBlock);

@@ -1,5 +1,6 @@
-ghost use Rattle.std.specs.Prelude.{◌≡◌, MatchResult};
+ghost use Rattle.std.specs.Prelude.{MatchResult};
 ghost use Rattle.geos_model.specs.declared.command.Edit.TheVariants as edits;
+ghost use Rattle.vm_blocks.specs.Keeping.{Keeps, IsSteady, Lacks};
 ghost use Rattle.doc_edits.specs.Planning.{Plans, Refuses};
 
 use geos_model::{Done, Fault, VmHandle};
@@ -14,10 +15,14 @@ pub fn plan_copy_chain<S: Store>(
     blocks: &mut FileBlocks<S>,
     root: VmHandle,
 ) -> Result<(Change, Done), Fault>
-    ensures planned { MatchResult result (λ p. Plans (edits.CopyChain root) blocks.old.document p.0 p.1) (Refuses (edits.CopyChain root) blocks.old.document) }
-    ensures stays { blocks.new ≡ blocks.old }
+    ensures keeps { Keeps S.facts blocks.old blocks.new }
+    ensures planned { IsSteady S.facts blocks.old.disk.store
+        → MatchResult result (λ p. Plans (edits.CopyChain root) blocks.new.document p.0 p.1) (Refuses (Lacks S.facts blocks.old.disk.store blocks.new.disk.store) (edits.CopyChain root) blocks.new.document) }
 {
     let copies = copy_plan(alloc, blocks, root)?;
+    if copies.list.is_empty() {
+        return Err(Fault::BadChain);
+    }
     // The first is the root's, which every chain has.
     let copy = copies.list[0].handle;
     Ok((Change::BlocksIn(copies), Done::Block(copy)))
@@ -29,8 +34,9 @@ pub fn plan_free_chain<S: Store>(
     blocks: &mut FileBlocks<S>,
     root: VmHandle,
 ) -> Result<(Change, Done), Fault>
-    ensures planned { MatchResult result (λ p. Plans (edits.FreeChain root) blocks.old.document p.0 p.1) (Refuses (edits.FreeChain root) blocks.old.document) }
-    ensures stays { blocks.new ≡ blocks.old }
+    ensures keeps { Keeps S.facts blocks.old blocks.new }
+    ensures planned { IsSteady S.facts blocks.old.disk.store
+        → MatchResult result (λ p. Plans (edits.FreeChain root) blocks.new.document p.0 p.1) (Refuses (Lacks S.facts blocks.old.disk.store blocks.new.disk.store) (edits.FreeChain root) blocks.new.document) }
 {
     let chain = free_plan(alloc, blocks, root)?;
     Ok((Change::BlocksOut(chain), Done::Nothing))

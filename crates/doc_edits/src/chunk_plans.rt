@@ -3,11 +3,11 @@ ghost use Rattle.std.specs.FinMap.{contains_key, get};
 ghost use Rattle.geos_model.specs.Heap.{chunk_bytes, fits_with, fits_new, is_chunk_handle, next_chunk};
 ghost use Rattle.geos_model.specs.declared.command.Edit.TheVariants as edits;
 ghost use Rattle.chunk_edits.specs.Splicing.{forwards};
-ghost use Rattle.vm_blocks.specs.Blocks.{is_resident};
+ghost use Rattle.vm_blocks.specs.Keeping.{is_loaded};
 ghost use Rattle.vm_blocks.specs.Allowing.{AllowsNewChunk};
 ghost use Rattle.vm_blocks.specs.Changes.{bytes_of};
 ghost use Rattle.doc_edits.specs.Building.{place_of, new_in, IsBuilt};
-ghost use Rattle.doc_edits.specs.Planning.{Plans, Refuses};
+ghost use Rattle.doc_edits.specs.Planning.{IsMemory, Plans, Refuses};
 
 use crate::building::{build, build_chunk};
 use crate::found::{bytes_in, heap_at};
@@ -26,9 +26,9 @@ pub fn plan_in_chunk<S: Store>(
     chunk: ChunkHandle,
     edit: &Edit,
 ) -> Result<(Change, Done), Fault>
-    requires resident { is_resident blocks.now.document handle.0 ≡ true }
+    requires resident { is_loaded blocks.now handle.0 ≡ true }
     requires place { place_of edit.now ≡ Some (handle, chunk) }
-    ensures { MatchResult result (λ p. Plans edit.now blocks.now.document p.0 p.1) (Refuses edit.now blocks.now.document) }
+    ensures { MatchResult result (λ p. Plans edit.now blocks.now.document p.0 p.1) (Refuses IsMemory edit.now blocks.now.document) }
 {
     let heap = heap_at(blocks, handle)?;
     let bytes = bytes_in(heap, chunk)?;
@@ -60,9 +60,9 @@ pub fn plan_new_chunk<S: Store>(
     handle: VmHandle,
     edit: &Edit,
 ) -> Result<(Change, Done), Fault>
-    requires resident { is_resident blocks.now.document handle.0 ≡ true }
+    requires resident { is_loaded blocks.now handle.0 ≡ true }
     requires new { new_in edit.now ≡ Some handle }
-    ensures { MatchResult result (λ p. Plans edit.now blocks.now.document p.0 p.1) (Refuses edit.now blocks.now.document) }
+    ensures { MatchResult result (λ p. Plans edit.now blocks.now.document p.0 p.1) (Refuses IsMemory edit.now blocks.now.document) }
 {
     let heap = heap_at(blocks, handle)?;
     let content = build_chunk(alloc, edit)?;
@@ -109,8 +109,8 @@ pub fn plan_free_chunk<S: Store>(
     handle: VmHandle,
     chunk: ChunkHandle,
 ) -> Result<(Change, Done), Fault>
-    requires { is_resident blocks.now.document handle.0 ≡ true }
-    ensures { MatchResult result (λ p. Plans (edits.Free handle chunk) blocks.now.document p.0 p.1) (Refuses (edits.Free handle chunk) blocks.now.document) }
+    requires { is_loaded blocks.now handle.0 ≡ true }
+    ensures { MatchResult result (λ p. Plans (edits.Free handle chunk) blocks.now.document p.0 p.1) (Refuses IsMemory (edits.Free handle chunk) blocks.now.document) }
 {
     let heap = heap_at(blocks, handle)?;
     let bytes = bytes_in(heap, chunk)?;

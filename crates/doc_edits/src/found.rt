@@ -2,7 +2,7 @@ ghost use Rattle.std.specs.Prelude.{◌≡◌, ◌++◌, ℕ, true, MatchResult,
 ghost use Rattle.geos_model.specs.Document.{Document};
 ghost use Rattle.geos_model.specs.Refusal.{Conditions, first_refusal};
 ghost use Rattle.geos_model.specs.Meaning.{on_raw, on_heap, on_chunk};
-ghost use Rattle.vm_blocks.specs.Blocks.{is_resident};
+ghost use Rattle.vm_blocks.specs.Keeping.{is_loaded};
 ghost use Rattle.doc_edits.specs.Found.{AreLate, IsRawAt, IsHeapAt, IsChunkAt};
 
 use geos_model::{ChunkHandle, Fault, VmHandle};
@@ -13,7 +13,7 @@ use vm_store::Store;
 
 /// The raw body of a block in memory: WrongKind where it is a heap.
 pub fn raw_at<S: Store>(blocks: &FileBlocks<S>, handle: VmHandle) -> Result<&RawBody, Fault>
-    requires { is_resident blocks.now.document handle.0 ≡ true }
+    requires { is_loaded blocks.now handle.0 ≡ true }
     ensures { MatchResult result
         (λ body. IsRawAt blocks.now.document handle.0 body.now)
         (λ fault. (rest : Conditions) → AreLate rest → first_refusal (on_raw blocks.now.document handle.0 ++ rest) ≡ Some fault) }
@@ -26,7 +26,7 @@ pub fn raw_at<S: Store>(blocks: &FileBlocks<S>, handle: VmHandle) -> Result<&Raw
 
 /// The heap of a block in memory: WrongKind where it is raw.
 pub fn heap_at<S: Store>(blocks: &FileBlocks<S>, handle: VmHandle) -> Result<&Heap, Fault>
-    requires { is_resident blocks.now.document handle.0 ≡ true }
+    requires { is_loaded blocks.now handle.0 ≡ true }
     ensures { MatchResult result
         (λ heap. IsHeapAt blocks.now.document handle.0 heap.now.chunks)
         (λ fault. (rest : Conditions) → AreLate rest → first_refusal (on_heap blocks.now.document handle.0 ++ rest) ≡ Some fault) }

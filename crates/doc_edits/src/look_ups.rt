@@ -1,12 +1,16 @@
-//! What is looked up of a document. A block that is looked into is brought into memory first, which may be refused; the
-//! document stays as it is.
-ghost use Rattle.std.specs.Prelude.{◌≡◌, MatchResult};
+//! What is looked up of a document. A block that is looked into is brought into memory first, which may be refused; the answer
+//! is that of the document as it is held from then on. Of a chain each block is, one after another.
+ghost use Rattle.std.specs.Prelude.{◌⊎◌, [], IfErr, MatchResult, get_or, length};
 ghost use Rattle.std.specs.Borrow.{sem};
+ghost use Rattle.geos_model.specs.ArrayEdits.{array_in, on_array, on_element};
 ghost use Rattle.geos_model.specs.Reply.{AreEqual, BytesAre, NumberIs, TokenIs, reply_by, info_is, blocks_are, chunks_are};
 ghost use Rattle.geos_model.specs.declared.command.Command.TheVariants as commands;
 ghost use Rattle.vm_blocks.specs.contracts.file_blocks.FileBlocks.{the_row};
+ghost use Rattle.vm_blocks.specs.Keeping.{Keeps, IsSteady, Lacks};
+ghost use Rattle.vm_chains.specs.Answers.{IsChainFault};
+ghost use Rattle.element_arrays.specs.Answering.{IsAnswered, IsRefused};
 ghost use Rattle.doc_edits.specs.Found.{IsChunkAt};
-ghost use Rattle.doc_edits.specs.LookUps.{LooksUp, RefusesChunk, Stays};
+ghost use Rattle.doc_edits.specs.LookUps.{Leaves, LooksUp, RefusesChunk, Sees};
 
 use crate::found::{bytes_in, heap_at, raw_at};
 use geos_model::{Bytes, ChunkHandle, Fault, Info, Token, VmHandle};
@@ -16,8 +20,8 @@ use vm_store::Store;
 
 /// A block's user ID and size.
 pub fn info<S: Store>(blocks: &mut FileBlocks<S>, block: VmHandle) -> Result<Info, Fault>
-    ensures value { LooksUp (commands.Info block) blocks.old.document (reply_by info_is result) }
-    ensures stays { blocks.new ≡ blocks.old }
+    ensures keeps { Keeps S.facts blocks.old blocks.new }
+    ensures value { LooksUp (Lacks S.facts blocks.old.disk.store blocks.new.disk.store) (commands.Info block) blocks.new.document (reply_by info_is result) }
 {
     blocks.load(block)?;
     let user_id = blocks.user_id(block);
@@ -29,8 +33,7 @@ pub fn info<S: Store>(blocks: &mut FileBlocks<S>, block: VmHandle) -> Result<Inf
 
 /// The bytes of a raw block.
 pub fn read_raw<S: Store>(blocks: &mut FileBlocks<S>, block: VmHandle) -> Result<&[u8], Fault>
-    ensures value { LooksUp (commands.ReadRaw block) blocks.old.document (reply_by (λ bytes. BytesAre bytes.now) result) }
-    ensures* stays { sem 𝓛 (Stays (the_row S.row S.Store) blocks.entry) }
+    ensures* leaves { sem 𝓛 (Leaves (the_row S.row S.Store) blocks.entry (λ loaded. Sees S.facts blocks.old loaded (commands.ReadRaw block) (reply_by (λ bytes. BytesAre bytes.now) result))) }
 {
     blocks.load(block)?;
     let body = raw_at(blocks, block)?;
@@ -42,8 +45,8 @@ pub fn chunks<S: Store>(
     blocks: &mut FileBlocks<S>,
     block: VmHandle,
 ) -> Result<Vec<ChunkHandle>, Fault>
-    ensures value { LooksUp (commands.Chunks block) blocks.old.document (reply_by (λ handles. chunks_are handles.items) result) }
-    ensures stays { blocks.new ≡ blocks.old }
+    ensures keeps { Keeps S.facts blocks.old blocks.new }
+    ensures value { LooksUp (Lacks S.facts blocks.old.disk.store blocks.new.disk.store) (commands.Chunks block) blocks.new.document (reply_by (λ handles. chunks_are handles.items) result) }
 {
     blocks.load(block)?;
     let heap = heap_at(blocks, block)?;
@@ -56,8 +59,8 @@ fn chunk_at<S: Store>(
     block: VmHandle,
     chunk: ChunkHandle,
 ) -> Result<&[u8], Fault>
-    ensures value { MatchResult result (λ bytes. IsChunkAt blocks.old.document block.0 chunk.0 bytes.now) (RefusesChunk blocks.old.document block chunk) }
-    ensures* stays { sem 𝓛 (Stays (the_row S.row S.Store) blocks.entry) }
+    ensures* leaves { sem 𝓛 (Leaves (the_row S.row S.Store) blocks.entry (λ loaded. Keeps S.facts blocks.old loaded
+        × MatchResult result (λ bytes. IsChunkAt loaded.document block.0 chunk.0 bytes.now) (RefusesChunk (Lacks S.facts blocks.old.disk.store loaded.disk.store) loaded.document block chunk))) }
 {
     blocks.load(block)?;
     let heap = heap_at(blocks, block)?;
@@ -70,8 +73,7 @@ pub fn read_chunk<S: Store>(
     block: VmHandle,
     chunk: ChunkHandle,
 ) -> Result<&[u8], Fault>
-    ensures value { LooksUp (commands.Read block chunk) blocks.old.document (reply_by (λ bytes. BytesAre bytes.now) result) }
-    ensures* stays { sem 𝓛 (Stays (the_row S.row S.Store) blocks.entry) }
+    ensures* leaves { sem 𝓛 (Leaves (the_row S.row S.Store) blocks.entry (λ loaded. Sees S.facts blocks.old loaded (commands.Read block chunk) (reply_by (λ bytes. BytesAre bytes.now) result))) }
 {
     chunk_at(blocks, block, chunk)
 }
@@ -82,10 +84,17 @@ pub fn array_count<S: Store>(
     block: VmHandle,
     chunk: ChunkHandle,
 ) -> Result<usize, Fault>
-    ensures value { LooksUp (commands.ArrayCount block chunk) blocks.old.document (reply_by NumberIs result) }
-    ensures stays { blocks.new ≡ blocks.old }
+    ensures keeps { Keeps S.facts blocks.old blocks.new }
+    ensures value { LooksUp (Lacks S.facts blocks.old.disk.store blocks.new.disk.store) (commands.ArrayCount block chunk) blocks.new.document (reply_by NumberIs result) }
 {
     let bytes = chunk_at(blocks, block, chunk)?;
+    count_in(bytes)
+}
+
+// How many elements the array has that these bytes are. NotArray.
+fn count_in(bytes: &[u8]) -> Result<usize, Fault>
+    ensures { MatchResult result (λ n. IsAnswered (on_array bytes.now) (length (array_in bytes.now).elements) n) (IsRefused (on_array bytes.now)) }
+{
     let view = chunk_arrays::check(bytes)?;
     Ok(view.count())
 }
@@ -97,10 +106,16 @@ pub fn array_element<S: Store>(
     chunk: ChunkHandle,
     i: u32,
 ) -> Result<&[u8], Fault>
-    ensures value { LooksUp (commands.ArrayElement block chunk i) blocks.old.document (reply_by (λ bytes. BytesAre bytes.now) result) }
-    ensures* stays { sem 𝓛 (Stays (the_row S.row S.Store) blocks.entry) }
+    ensures* leaves { sem 𝓛 (Leaves (the_row S.row S.Store) blocks.entry (λ loaded. Sees S.facts blocks.old loaded (commands.ArrayElement block chunk i) (reply_by (λ bytes. BytesAre bytes.now) result))) }
 {
     let bytes = chunk_at(blocks, block, chunk)?;
+    element_in(bytes, i)
+}
+
+// The bytes of an element of the array that these bytes are. NotArray, NoElement.
+fn element_in(bytes: &[u8], i: u32) -> Result<&[u8], Fault>
+    ensures { MatchResult result (λ element. IsAnswered (on_element bytes.now i) (get_or (array_in bytes.now).elements i []) element.now) (IsRefused (on_element bytes.now i)) }
+{
     let view = chunk_arrays::check(bytes)?;
     let i = i as usize;
     if i >= view.count() {
@@ -116,8 +131,8 @@ pub fn element_refs<S: Store>(
     chunk: ChunkHandle,
     token: Token,
 ) -> Result<u32, Fault>
-    ensures value { LooksUp (commands.ElementReferences block chunk token) blocks.old.document (reply_by NumberIs result) }
-    ensures stays { blocks.new ≡ blocks.old }
+    ensures keeps { Keeps S.facts blocks.old blocks.new }
+    ensures value { LooksUp (Lacks S.facts blocks.old.disk.store blocks.new.disk.store) (commands.ElementReferences block chunk token) blocks.new.document (reply_by NumberIs result) }
 {
     let bytes = chunk_at(blocks, block, chunk)?;
     element_arrays::count_of(bytes, token)
@@ -130,8 +145,7 @@ pub fn element_bytes<S: Store>(
     chunk: ChunkHandle,
     token: Token,
 ) -> Result<&[u8], Fault>
-    ensures value { LooksUp (commands.ElementBytes block chunk token) blocks.old.document (reply_by (λ bytes. BytesAre bytes.now) result) }
-    ensures* stays { sem 𝓛 (Stays (the_row S.row S.Store) blocks.entry) }
+    ensures* leaves { sem 𝓛 (Leaves (the_row S.row S.Store) blocks.entry (λ loaded. Sees S.facts blocks.old loaded (commands.ElementBytes block chunk token) (reply_by (λ bytes. BytesAre bytes.now) result))) }
 {
     let bytes = chunk_at(blocks, block, chunk)?;
     element_arrays::data_of(bytes, token)
@@ -143,8 +157,8 @@ pub fn elements_used<S: Store>(
     block: VmHandle,
     chunk: ChunkHandle,
 ) -> Result<usize, Fault>
-    ensures value { LooksUp (commands.ElementsUsed block chunk) blocks.old.document (reply_by NumberIs result) }
-    ensures stays { blocks.new ≡ blocks.old }
+    ensures keeps { Keeps S.facts blocks.old blocks.new }
+    ensures value { LooksUp (Lacks S.facts blocks.old.disk.store blocks.new.disk.store) (commands.ElementsUsed block chunk) blocks.new.document (reply_by NumberIs result) }
 {
     let bytes = chunk_at(blocks, block, chunk)?;
     element_arrays::used_count(bytes)
@@ -157,8 +171,8 @@ pub fn token_of_used<S: Store>(
     chunk: ChunkHandle,
     k: u32,
 ) -> Result<Token, Fault>
-    ensures value { LooksUp (commands.TokenOfUsed block chunk k) blocks.old.document (reply_by (λ token. TokenIs token.0) result) }
-    ensures stays { blocks.new ≡ blocks.old }
+    ensures keeps { Keeps S.facts blocks.old blocks.new }
+    ensures value { LooksUp (Lacks S.facts blocks.old.disk.store blocks.new.disk.store) (commands.TokenOfUsed block chunk k) blocks.new.document (reply_by (λ token. TokenIs token.0) result) }
 {
     let bytes = chunk_at(blocks, block, chunk)?;
     element_arrays::token_of_used(bytes, k)
@@ -171,8 +185,8 @@ pub fn used_of_token<S: Store>(
     chunk: ChunkHandle,
     token: Token,
 ) -> Result<usize, Fault>
-    ensures value { LooksUp (commands.UsedOfToken block chunk token) blocks.old.document (reply_by NumberIs result) }
-    ensures stays { blocks.new ≡ blocks.old }
+    ensures keeps { Keeps S.facts blocks.old blocks.new }
+    ensures value { LooksUp (Lacks S.facts blocks.old.disk.store blocks.new.disk.store) (commands.UsedOfToken block chunk token) blocks.new.document (reply_by NumberIs result) }
 {
     let bytes = chunk_at(blocks, block, chunk)?;
     element_arrays::used_of_token(bytes, token)
@@ -185,8 +199,8 @@ pub fn name_find<S: Store>(
     chunk: ChunkHandle,
     name: &Bytes,
 ) -> Result<Token, Fault>
-    ensures value { LooksUp (commands.NameFind block chunk name.now) blocks.old.document (reply_by (λ token. TokenIs token.0) result) }
-    ensures stays { blocks.new ≡ blocks.old }
+    ensures keeps { Keeps S.facts blocks.old blocks.new }
+    ensures value { LooksUp (Lacks S.facts blocks.old.disk.store blocks.new.disk.store) (commands.NameFind block chunk name.now) blocks.new.document (reply_by (λ token. TokenIs token.0) result) }
 {
     let bytes = chunk_at(blocks, block, chunk)?;
     name_arrays::find(bytes, name.as_slice())
@@ -199,8 +213,8 @@ pub fn name_refs<S: Store>(
     chunk: ChunkHandle,
     token: Token,
 ) -> Result<u32, Fault>
-    ensures value { LooksUp (commands.NameReferences block chunk token) blocks.old.document (reply_by NumberIs result) }
-    ensures stays { blocks.new ≡ blocks.old }
+    ensures keeps { Keeps S.facts blocks.old blocks.new }
+    ensures value { LooksUp (Lacks S.facts blocks.old.disk.store blocks.new.disk.store) (commands.NameReferences block chunk token) blocks.new.document (reply_by NumberIs result) }
 {
     let bytes = chunk_at(blocks, block, chunk)?;
     name_arrays::count_of(bytes, token)
@@ -213,8 +227,7 @@ pub fn name_text<S: Store>(
     chunk: ChunkHandle,
     token: Token,
 ) -> Result<&[u8], Fault>
-    ensures value { LooksUp (commands.NameText block chunk token) blocks.old.document (reply_by (λ bytes. BytesAre bytes.now) result) }
-    ensures* stays { sem 𝓛 (Stays (the_row S.row S.Store) blocks.entry) }
+    ensures* leaves { sem 𝓛 (Leaves (the_row S.row S.Store) blocks.entry (λ loaded. Sees S.facts blocks.old loaded (commands.NameText block chunk token) (reply_by (λ bytes. BytesAre bytes.now) result))) }
 {
     let bytes = chunk_at(blocks, block, chunk)?;
     name_arrays::name_of(bytes, token)
@@ -227,8 +240,7 @@ pub fn name_part<S: Store>(
     chunk: ChunkHandle,
     token: Token,
 ) -> Result<&[u8], Fault>
-    ensures value { LooksUp (commands.NamePart block chunk token) blocks.old.document (reply_by (λ bytes. BytesAre bytes.now) result) }
-    ensures* stays { sem 𝓛 (Stays (the_row S.row S.Store) blocks.entry) }
+    ensures* leaves { sem 𝓛 (Leaves (the_row S.row S.Store) blocks.entry (λ loaded. Sees S.facts blocks.old loaded (commands.NamePart block chunk token) (reply_by (λ bytes. BytesAre bytes.now) result))) }
 {
     let bytes = chunk_at(blocks, block, chunk)?;
     name_arrays::data_of(bytes, token)
@@ -240,8 +252,9 @@ pub fn walk<S: Store>(
     blocks: &mut FileBlocks<S>,
     root: VmHandle,
 ) -> Result<Vec<VmHandle>, Fault>
-    ensures value { LooksUp (commands.Walk root) blocks.old.document (reply_by (λ handles. blocks_are handles.items) result) }
-    ensures stays { blocks.new ≡ blocks.old }
+    ensures keeps { Keeps S.facts blocks.old blocks.new }
+    ensures value { IsSteady S.facts blocks.old.disk.store → LooksUp (Lacks S.facts blocks.old.disk.store blocks.new.disk.store) (commands.Walk root) blocks.new.document (reply_by (λ handles. blocks_are handles.items) result) }
+    ensures refusals { IfErr result (λ fault. Lacks S.facts blocks.old.disk.store blocks.new.disk.store fault ⊎ IsChainFault fault) }
 {
     vm_chains::walk(alloc, blocks, root)
 }
@@ -252,8 +265,9 @@ pub fn chain_size<S: Store>(
     blocks: &mut FileBlocks<S>,
     root: VmHandle,
 ) -> Result<u32, Fault>
-    ensures value { LooksUp (commands.ChainSize root) blocks.old.document (reply_by NumberIs result) }
-    ensures stays { blocks.new ≡ blocks.old }
+    ensures keeps { Keeps S.facts blocks.old blocks.new }
+    ensures value { IsSteady S.facts blocks.old.disk.store → LooksUp (Lacks S.facts blocks.old.disk.store blocks.new.disk.store) (commands.ChainSize root) blocks.new.document (reply_by NumberIs result) }
+    ensures refusals { IfErr result (λ fault. Lacks S.facts blocks.old.disk.store blocks.new.disk.store fault ⊎ IsChainFault fault) }
 {
     vm_chains::size(alloc, blocks, root)
 }
@@ -265,8 +279,9 @@ pub fn chain_equal<S: Store>(
     first: VmHandle,
     second: VmHandle,
 ) -> Result<bool, Fault>
-    ensures value { LooksUp (commands.ChainEqual first second) blocks.old.document (reply_by AreEqual result) }
-    ensures stays { blocks.new ≡ blocks.old }
+    ensures keeps { Keeps S.facts blocks.old blocks.new }
+    ensures value { IsSteady S.facts blocks.old.disk.store → LooksUp (Lacks S.facts blocks.old.disk.store blocks.new.disk.store) (commands.ChainEqual first second) blocks.new.document (reply_by AreEqual result) }
+    ensures refusals { IfErr result (λ fault. Lacks S.facts blocks.old.disk.store blocks.new.disk.store fault ⊎ IsChainFault fault) }
 {
     vm_chains::equal(alloc, blocks, first, second)
 }

@@ -1,7 +1,7 @@
-ghost use Rattle.std.specs.Prelude.{◌≡◌, true, false, MatchResult, MatchOption};
-ghost use Rattle.vm_blocks.specs.Blocks.{is_resident};
+ghost use Rattle.std.specs.Prelude.{◌≡◌, true, false, IfErr, IfOk, MatchResult, MatchOption};
+ghost use Rattle.vm_blocks.specs.Keeping.{Keeps, IsSteady, Lacks, is_loaded};
 ghost use Rattle.doc_edits.specs.Building.{block_read, is_of_chain};
-ghost use Rattle.doc_edits.specs.Planning.{Plans, Refuses};
+ghost use Rattle.doc_edits.specs.Planning.{IsMemory, Plans, Refuses};
 
 use crate::block_plans::{
     plan_copy_block, plan_free_block, plan_new_heap, plan_new_raw, plan_set_map, plan_set_user_id,
@@ -14,15 +14,16 @@ use std::alloc::Global;
 use vm_blocks::{Change, FileBlocks};
 use vm_store::Store;
 
-/// The change that an edit means in this document, and what it answers; or its first refusal, or want of memory. Nothing
-/// changes.
+/// The change that an edit means in the document as it is after the call, and what it answers; or its first refusal there, or
+/// what the call lacked. Blocks may be brought into memory, and nothing else changes.
 pub fn plan<S: Store>(
     alloc: Global,
     blocks: &mut FileBlocks<S>,
     edit: &Edit,
 ) -> Result<(Change, Done), Fault>
-    ensures planned { MatchResult result (λ p. Plans edit.now blocks.old.document p.0 p.1) (Refuses edit.now blocks.old.document) }
-    ensures stays { blocks.new ≡ blocks.old }
+    ensures keeps { Keeps S.facts blocks.old blocks.new }
+    ensures planned { (is_of_chain edit.now ≡ true → IsSteady S.facts blocks.old.disk.store)
+        → MatchResult result (λ p. Plans edit.now blocks.new.document p.0 p.1) (Refuses (Lacks S.facts blocks.old.disk.store blocks.new.disk.store) edit.now blocks.new.document) }
 {
     match edit {
         Edit::CopyChain(root) => plan_copy_chain(alloc, blocks, *root),
@@ -38,13 +39,23 @@ fn plan_of_block<S: Store>(
     edit: &Edit,
 ) -> Result<(Change, Done), Fault>
     requires { is_of_chain edit.now ≡ false }
-    ensures planned { MatchResult result (λ p. Plans edit.now blocks.old.document p.0 p.1) (Refuses edit.now blocks.old.document) }
-    ensures stays { blocks.new ≡ blocks.old }
+    ensures keeps { Keeps S.facts blocks.old blocks.new }
+    ensures planned { MatchResult result (λ p. Plans edit.now blocks.new.document p.0 p.1) (Refuses (Lacks S.facts blocks.old.disk.store blocks.new.disk.store) edit.now blocks.new.document) }
 {
-    if let Some(handle) = block_read(edit) {
-        blocks.load(handle)?;
-    }
+    load_read(blocks, edit)?;
     plan_loaded(alloc, blocks, edit)
+}
+
+/// Brings the block into memory into whose body the edit looks, if there is one. NoBlock where it isn't live.
+fn load_read<S: Store>(blocks: &mut FileBlocks<S>, edit: &Edit) -> Result<(), Fault>
+    ensures keeps { Keeps S.facts blocks.old blocks.new }
+    ensures ok { IfOk result (λ _. MatchOption (block_read edit.now) (Unit {0}) (λ b. is_loaded blocks.new b.0 ≡ true)) }
+    ensures err { IfErr result (Refuses (Lacks S.facts blocks.old.disk.store blocks.new.disk.store) edit.now blocks.new.document) }
+{
+    match block_read(edit) {
+        Some(handle) => blocks.load(handle),
+        None => Ok(()),
+    }
 }
 
 /// The block into whose body an edit looks; none of an edit of a chain, which looks into many.
@@ -94,8 +105,8 @@ fn plan_loaded<S: Store>(
     edit: &Edit,
 ) -> Result<(Change, Done), Fault>
     requires of_block { is_of_chain edit.now ≡ false }
-    requires loaded { MatchOption (block_read edit.now) (Unit {0}) (λ b. is_resident blocks.now.document b.0 ≡ true) }
-    ensures { MatchResult result (λ p. Plans edit.now blocks.now.document p.0 p.1) (Refuses edit.now blocks.now.document) }
+    requires loaded { MatchOption (block_read edit.now) (Unit {0}) (λ b. is_loaded blocks.now b.0 ≡ true) }
+    ensures { MatchResult result (λ p. Plans edit.now blocks.now.document p.0 p.1) (Refuses IsMemory edit.now blocks.now.document) }
 {
     match edit {
         Edit::NewRaw(user_id, size) => plan_new_raw(alloc, blocks, *user_id, *size),

@@ -1,7 +1,7 @@
 ghost use Rattle.std.specs.Prelude.{◌≡◌, true, MatchResult};
 ghost use Rattle.geos_model.specs.declared.command.Edit.TheVariants as edits;
-ghost use Rattle.vm_blocks.specs.Blocks.{is_resident};
-ghost use Rattle.doc_edits.specs.Planning.{Plans, Refuses};
+ghost use Rattle.vm_blocks.specs.Keeping.{is_loaded};
+ghost use Rattle.doc_edits.specs.Planning.{IsMemory, Plans, Refuses};
 
 use crate::found::raw_at;
 use chunk_edits::{raw_replace, raw_write};
@@ -18,8 +18,8 @@ pub fn plan_write_raw<S: Store>(
     at: u32,
     bytes: &Bytes,
 ) -> Result<(Change, Done), Fault>
-    requires { is_resident blocks.now.document handle.0 ≡ true }
-    ensures { MatchResult result (λ p. Plans (edits.WriteRaw handle at bytes.now) blocks.now.document p.0 p.1) (Refuses (edits.WriteRaw handle at bytes.now) blocks.now.document) }
+    requires { is_loaded blocks.now handle.0 ≡ true }
+    ensures { MatchResult result (λ p. Plans (edits.WriteRaw handle at bytes.now) blocks.now.document p.0 p.1) (Refuses IsMemory (edits.WriteRaw handle at bytes.now) blocks.now.document) }
 {
     let body = raw_at(blocks, handle)?;
     let splice = raw_write(alloc, body, at, bytes.as_slice())?;
@@ -33,8 +33,8 @@ pub fn plan_attach<S: Store>(
     handle: VmHandle,
     bytes: &Bytes,
 ) -> Result<(Change, Done), Fault>
-    requires { is_resident blocks.now.document handle.0 ≡ true }
-    ensures { MatchResult result (λ p. Plans (edits.Attach handle bytes.now) blocks.now.document p.0 p.1) (Refuses (edits.Attach handle bytes.now) blocks.now.document) }
+    requires { is_loaded blocks.now handle.0 ≡ true }
+    ensures { MatchResult result (λ p. Plans (edits.Attach handle bytes.now) blocks.now.document p.0 p.1) (Refuses IsMemory (edits.Attach handle bytes.now) blocks.now.document) }
 {
     let body = raw_at(blocks, handle)?;
     let splice = raw_replace(alloc, body, bytes.as_slice())?;

@@ -16,6 +16,7 @@ ghost use Rattle.vm_file.specs.Effects.{IsNewFile, Follows, IsCommit, Fails, IsW
 ghost use Rattle.vm_blocks.specs.Blocks.{is_resident};
 ghost use Rattle.vm_blocks.specs.declared.change.Direction.TheVariants.{Backwards, Forwards};
 ghost use Rattle.doc_edits.specs.LookUps.{Stays};
+ghost use Rattle.doc_edits.specs.Planning.{IsMemory, Plans, Refuses};
 ghost use Rattle.vm_blocks.specs.Committing.{IsRevertFault, IsSavedAs, IsNotSavedAs};
 ghost use Rattle.vm_blocks.specs.Opening.{IsOpenedFrom, IsNotOpened, IsMadeIn, IsNotMade};
 ghost use Rattle.undo_log.specs.Records.{file_of, machine_of, has_failed, total_cost, total_weight, Records};
@@ -63,6 +64,18 @@ impl<S: Store> Model for Session<S> {
     ghost invariant = { λ s. (vec_len s.undo + vec_len s.redo ≤ vec_capacity s.undo)
         × (vec_len s.undo + vec_len s.redo ≤ vec_capacity s.redo)
         × AreSteps Backwards s.blocks.document (reverse s.undo.items) (reverse s.redo.items) };
+}
+
+// The change that an edit means, where all blocks are in memory: the file stays as it is.
+fn planned<S: Store>(
+    alloc: Global,
+    blocks: &mut FileBlocks<S>,
+    edit: &Edit,
+) -> Result<(Change, Done), Fault>
+    ensures planned { MatchResult result (λ p. Plans edit.now blocks.old.document p.0 p.1) (Refuses IsMemory edit.now blocks.old.document) }
+    ensures stays { blocks.new ≡ blocks.old }
+{
+    plan(alloc, blocks, edit)
 }
 
 impl<S: Store> Session<S> {
@@ -192,7 +205,7 @@ impl<S: Store> Session<S> {
     {
         self.undo.reserve(self.redo.len() + 1)?;
         self.redo.reserve(self.undo.len() + 1)?;
-        let (change, done) = plan(self.alloc, &mut self.blocks, edit)?;
+        let (change, done) = planned(self.alloc, &mut self.blocks, edit)?;
         take(&mut self.blocks, &change, Direction::Forwards)?;
         self.redo.clear();
         self.undo.push_reserved(change);

@@ -2,6 +2,6 @@ use Rattle.doc_edits.proofs.ChainPlans.{free_planned}
 use Rattle.doc_edits.proofs.chain_plans.plan_free_chain.Goals as goal
 
 pub returns-clause-planned : goal.returns-clause-planned
-returns-clause-planned g c =
-    let planned = c.in_ok-chain.ensures.value in
-    free_planned c.args.blocks.now.document c.args.root c.in_ok-chain.chain planned.0 planned.1 c.in_ok-chain.ensures.applies
+returns-clause-planned g c = λ steady.
+    let planned = c.in_ok-chain.ensures.value steady in
+    free_planned c.free_plan.new.blocks.document c.args.root c.in_ok-chain.chain planned.0 planned.1 (c.in_ok-chain.ensures.applies steady)
