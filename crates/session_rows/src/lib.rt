@@ -1,11 +1,13 @@
-//! Tests of sessions over document files: what a crash and a store that fails leave, undo over commits, files of their own, limits,
-//! and stores that lie.
+//! Tests of sessions over document files: what a crash and a store that fails leave, how often a store is called, undo over commits, files of
+//! their own, limits, and stores that lie.
 #![tactic(auto)]
 
 #[cfg(test)]
 mod calls;
 #[cfg(test)]
 mod copying;
+#[cfg(test)]
+mod counting;
 #[cfg(test)]
 mod crashing;
 #[cfg(test)]
