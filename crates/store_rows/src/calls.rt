@@ -6,48 +6,103 @@ pub(crate) fn has_failed<T>(answer: &Result<T, StoreFault>) -> bool {
     answer.is_err()
 }
 
-fn check(holds: bool, what: &'static str) -> Result<(), Fail> {
-    if holds { Ok(()) } else { Err(Fail::new(what)) }
+/// A call of a store.
+#[derive(Clone, Copy)]
+pub(crate) enum Call {
+    /// It has so many bytes.
+    Len(u64),
+    /// These bytes are read, sixteen at most.
+    Read(u64, &'static [u8]),
+    Write(u64, &'static [u8]),
+    SetLen(u64),
+    Sync,
 }
 
-// Leaves 0 4 0 0 1 2 3: zeros, a gap and a byte over them, a cut, and bytes across the end.
-pub(crate) fn play<S: Store>(store: &mut S) -> Result<(), Fail> {
-    store.set_len(2)?;
-    store.write_at(5, &[1, 2, 3])?;
-    store.write_at(1, &[4])?;
-    store.sync()?;
-    check(store.len()? == 8, "eight bytes")?;
-    let mut three = [9; 3];
-    store.read_at(5, &mut three)?;
-    check(three == [1, 2, 3], "what was written is read")?;
-    store.set_len(6)?;
-    store.write_at(4, &three)?;
-    check(store.len()? == 7, "seven bytes")
+// Whether these bytes are read.
+fn is_read<S: Store>(store: &mut S, at: u64, bytes: &[u8]) -> Result<bool, StoreFault> {
+    let mut buffer = [9; 16];
+    let part = &mut buffer[..bytes.len().min(16)];
+    store.read_at(at, part)?;
+    Ok(&*part == bytes)
 }
 
-// In a store of seven bytes: ranges of no bytes, and those that end at the end, past it and nowhere. Leaves nine.
+// Makes a call. Returns whether the answer is as it says.
+fn is_answered<S: Store>(store: &mut S, call: Call) -> Result<bool, StoreFault> {
+    match call {
+        Call::Len(n) => Ok(store.len()? == n),
+        Call::Read(at, bytes) => is_read(store, at, bytes),
+        Call::Write(at, bytes) => {
+            store.write_at(at, bytes)?;
+            Ok(true)
+        }
+        Call::SetLen(n) => {
+            store.set_len(n)?;
+            Ok(true)
+        }
+        Call::Sync => {
+            store.sync()?;
+            Ok(true)
+        }
+    }
+}
+
+/// Makes calls that serve.
+pub(crate) fn serve<S: Store>(store: &mut S, calls: &[Call]) -> Result<(), Fail> {
+    for call in calls {
+        if !is_answered(store, *call)? {
+            return Err(Fail::new("another answer"));
+        }
+    }
+    Ok(())
+}
+
+/// Makes calls that fail.
+pub(crate) fn refuse<S: Store>(store: &mut S, calls: &[Call]) -> Result<(), Fail> {
+    for call in calls {
+        if !has_failed(&is_answered(store, *call)) {
+            return Err(Fail::new("a call serves"));
+        }
+    }
+    Ok(())
+}
+
+/// Leaves 0 4 0 0 1 2 3: zeros, a gap and a byte over them, a cut, and bytes across the end.
+pub(crate) const PLAY: [Call; 9] = [
+    Call::SetLen(2),
+    Call::Write(5, &[1, 2, 3]),
+    Call::Write(1, &[4]),
+    Call::Sync,
+    Call::Len(8),
+    Call::Read(5, &[1, 2, 3]),
+    Call::SetLen(6),
+    Call::Write(4, &[1, 2, 3]),
+    Call::Len(7),
+];
+
+const AT_THE_END: [Call; 3] = [
+    Call::Read(5, &[2, 3]),
+    Call::Read(7, &[]),
+    Call::Write(7, &[]),
+];
+
+const PAST_THE_END: [Call; 5] = [
+    Call::Read(6, &[3, 0]),
+    Call::Read(8, &[]),
+    Call::Read(u64::MAX, &[0, 0]),
+    Call::Write(u64::MAX, &[0, 0]),
+    Call::SetLen(u64::MAX),
+];
+
+const GROWN: [Call; 4] = [
+    Call::Len(7),
+    Call::Write(9, &[]),
+    Call::Len(9),
+    Call::Read(7, &[0, 0]),
+];
+
+/// In a store of those seven bytes: ranges of no bytes, and those that end at the end, past it and nowhere. Leaves nine.
 pub(crate) fn touch_the_end<S: Store>(store: &mut S) -> Result<(), Fail> {
-    let mut two = [9; 2];
-    store.read_at(5, &mut two)?;
-    store.read_at(7, &mut [])?;
-    store.write_at(7, &[])?;
-    check(
-        has_failed(&store.read_at(6, &mut two)),
-        "one byte is missing",
-    )?;
-    check(has_failed(&store.read_at(8, &mut [])), "past the end")?;
-    check(
-        has_failed(&store.read_at(u64::MAX, &mut two)),
-        "read nowhere",
-    )?;
-    check(
-        has_failed(&store.write_at(u64::MAX, &two)),
-        "written nowhere",
-    )?;
-    check(has_failed(&store.set_len(u64::MAX)), "no such length")?;
-    check(store.len()? == 7, "still seven bytes")?;
-    store.write_at(9, &[])?;
-    check(store.len()? == 9, "nine bytes")?;
-    store.read_at(7, &mut two)?;
-    check(two == [0, 0], "the gap is zeros")
+    serve(store, &AT_THE_END)?;
+    refuse(store, &PAST_THE_END)?;
+    serve(store, &GROWN)
 }

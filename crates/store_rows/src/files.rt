@@ -1,8 +1,22 @@
 // Real files, in the folder where the tests run.
-use crate::calls::{has_failed, play, touch_the_end};
+use crate::calls::{Call, PLAY, refuse, serve, touch_the_end};
 use std::fs;
 use std::test::Fail;
 use vm_store::{HostStore, HostSystem, Store};
+
+// Whether a file has these bytes.
+fn is_held(rt: &HostRuntime, path: &str, bytes: &[u8]) -> Result<bool, Fail> {
+    Ok(fs::read(rt, path)?.as_slice() == bytes)
+}
+
+fn is_open(system: &mut HostSystem, path: &str, make: bool) -> bool {
+    HostStore::open(system, path, make).is_ok()
+}
+
+// Opens a file and makes calls of it.
+fn serve_at(system: &mut HostSystem, path: &str, make: bool, calls: &[Call]) -> Result<(), Fail> {
+    serve(&mut HostStore::open(system, path, make)?, calls)
+}
 
 #[test]
 fn a_file_serves_each_call(rt: HostRuntime) -> Result<(), Fail> {
@@ -10,37 +24,37 @@ fn a_file_serves_each_call(rt: HostRuntime) -> Result<(), Fail> {
     let path = "store_rows_served";
     let _ = fs::remove_file(&rt, path);
     let mut file = HostStore::open(&mut system, path, true)?;
-    assert_eq!(rt; file.len()?, 0);
-    play(&mut file)?;
-    assert_eq!(rt;
-        fs::read(&rt, path)?.as_slice(),
-        [0, 4, 0, 0, 1, 2, 3].as_slice()
-    );
+    serve(&mut file, &[Call::Len(0)])?;
+    serve(&mut file, &PLAY)?;
+    assert!(rt; is_held(&rt, path, &[0, 4, 0, 0, 1, 2, 3])?);
     touch_the_end(&mut file)?;
-    assert_eq!(rt;
-        fs::read(&rt, path)?.as_slice(),
-        [0, 4, 0, 0, 1, 2, 3, 0, 0].as_slice()
-    );
+    assert!(rt; is_held(&rt, path, &[0, 4, 0, 0, 1, 2, 3, 0, 0])?);
     fs::remove_file(&rt, path)?;
     Ok(())
 }
 
+const FOLDER: &str = "store_rows_folder";
+
+const IN_FOLDER: &str = "store_rows_folder/file";
+
 #[test]
 fn a_missing_file_is_made_on_demand(rt: HostRuntime) -> Result<(), Fail> {
     let mut system = HostSystem::new(rt);
-    let folder = "store_rows_folder";
-    let path = "store_rows_folder/file";
-    let _ = fs::remove_dir_all(&rt, folder);
-    assert!(rt; HostStore::open(&mut system, path, true).is_err());
-    fs::create_dir(&rt, folder)?;
-    assert!(rt; HostStore::open(&mut system, path, false).is_err());
-    HostStore::open(&mut system, path, true)?.write_at(1, &[7])?;
-    assert_eq!(rt; HostStore::open(&mut system, path, false)?.len()?, 2);
-    // What is there stays.
-    assert_eq!(rt; HostStore::open(&mut system, path, true)?.len()?, 2);
-    assert!(rt; HostStore::open(&mut system, folder, false).is_err());
-    fs::remove_dir_all(&rt, folder)?;
+    let _ = fs::remove_dir_all(&rt, FOLDER);
+    assert!(rt; !is_open(&mut system, IN_FOLDER, true));
+    fs::create_dir(&rt, FOLDER)?;
+    assert!(rt; !is_open(&mut system, IN_FOLDER, false));
+    make_and_keep(&mut system)?;
+    assert!(rt; !is_open(&mut system, FOLDER, false));
+    fs::remove_dir_all(&rt, FOLDER)?;
     Ok(())
+}
+
+// Makes the file. What is there stays.
+fn make_and_keep(system: &mut HostSystem) -> Result<(), Fail> {
+    serve_at(system, IN_FOLDER, true, &[Call::Write(1, &[7])])?;
+    serve_at(system, IN_FOLDER, false, &[Call::Len(2)])?;
+    serve_at(system, IN_FOLDER, true, &[Call::Len(2)])
 }
 
 // A device that is always full, and can't be synced.
@@ -49,12 +63,12 @@ fn a_file_that_fails_goes_on_failing(rt: HostRuntime) -> Result<(), Fail> {
     let mut system = HostSystem::new(rt);
     let mut full = HostStore::open(&mut system, "/dev/full", false)?;
     for _ in 0..3 {
-        assert!(rt; has_failed(&full.write_at(0, &[1])));
-        assert!(rt; has_failed(&full.sync()));
-        assert!(rt; has_failed(&full.set_len(0)));
+        refuse(
+            &mut full,
+            &[Call::Write(0, &[1]), Call::Sync, Call::SetLen(0)],
+        )?;
     }
-    full.read_at(0, &mut [])?;
-    Ok(())
+    serve(&mut full, &[Call::Read(0, &[])])
 }
 
 #[test]
@@ -75,28 +89,44 @@ fn open_files(rt: &HostRuntime) -> Result<usize, Fail> {
     Ok(fs::read_dir(rt, "/proc/self/fd")?.count())
 }
 
+const LOCKED: &str = "store_rows_locked";
+
+const LINKED: &str = "store_rows_linked";
+
 #[test]
 fn a_file_in_use_is_refused(rt: HostRuntime) -> Result<(), Fail> {
     let mut system = HostSystem::new(rt);
-    let path = "store_rows_locked";
-    let link = "store_rows_linked";
-    let _ = fs::remove_file(&rt, path);
-    let _ = fs::remove_file(&rt, link);
-    let mut first = HostStore::open(&mut system, path, true)?;
-    first.write_at(0, &[1, 2, 3])?;
-    fs::hard_link(&rt, path, link)?;
-    for name in [path, "./store_rows_locked", link] {
-        assert!(rt; HostStore::open(&mut system, name, false).is_err());
-        assert!(rt; HostStore::open(&mut system, name, true).is_err());
-    }
+    let _ = fs::remove_file(&rt, LOCKED);
+    let _ = fs::remove_file(&rt, LINKED);
+    let mut first = HostStore::open(&mut system, LOCKED, true)?;
+    serve(&mut first, &[Call::Write(0, &[1, 2, 3])])?;
+    fs::hard_link(&rt, LOCKED, LINKED)?;
+    assert!(rt; is_in_use(&mut system));
     // What is there stays, and the first goes on.
-    assert_eq!(rt; fs::read(&rt, path)?.as_slice(), [1, 2, 3].as_slice());
-    first.write_at(3, &[4])?;
+    assert!(rt; is_held(&rt, LOCKED, &[1, 2, 3])?);
+    serve(&mut first, &[Call::Write(3, &[4])])?;
     drop(first);
-    let mut second = HostStore::open(&mut system, link, true)?;
-    assert_eq!(rt; second.len()?, 4);
-    assert!(rt; HostStore::open(&mut system, path, false).is_err());
-    fs::remove_file(&rt, path)?;
-    fs::remove_file(&rt, link)?;
+    open_again(&mut system)?;
+    fs::remove_file(&rt, LOCKED)?;
+    fs::remove_file(&rt, LINKED)?;
+    Ok(())
+}
+
+// Whether no name of the file opens it.
+fn is_in_use(system: &mut HostSystem) -> bool {
+    for name in [LOCKED, "./store_rows_locked", LINKED] {
+        if is_open(system, name, false) || is_open(system, name, true) {
+            return false;
+        }
+    }
+    true
+}
+
+fn open_again(system: &mut HostSystem) -> Result<(), Fail> {
+    let mut second = HostStore::open(system, LINKED, true)?;
+    serve(&mut second, &[Call::Len(4)])?;
+    if is_open(system, LOCKED, false) {
+        return Err(Fail::new("a locked file opens"));
+    }
     Ok(())
 }

@@ -1,5 +1,5 @@
 // Stores in memory.
-use crate::calls::{has_failed, play, touch_the_end};
+use crate::calls::{Call, PLAY, has_failed, serve, touch_the_end};
 use std::test::Fail;
 use vm_store::{MemStore, Store};
 
@@ -7,12 +7,11 @@ use vm_store::{MemStore, Store};
 fn a_gap_is_zeros_and_a_cut_loses_bytes(rt: HostRuntime) -> Result<(), Fail> {
     let mut store = MemStore::new(rt.alloc());
     assert!(rt; store.bytes().is_empty());
-    store.write_at(2, &[7, 8])?;
+    serve(&mut store, &[Call::Write(2, &[7, 8])])?;
     assert_eq!(rt; store.bytes(), [0, 0, 7, 8].as_slice());
-    store.write_at(1, &[5])?;
-    store.set_len(3)?;
+    serve(&mut store, &[Call::Write(1, &[5]), Call::SetLen(3)])?;
     assert_eq!(rt; store.bytes(), [0, 5, 7].as_slice());
-    store.set_len(4)?;
+    serve(&mut store, &[Call::SetLen(4)])?;
     assert_eq!(rt; store.bytes(), [0, 5, 7, 0].as_slice());
     Ok(())
 }
@@ -20,10 +19,22 @@ fn a_gap_is_zeros_and_a_cut_loses_bytes(rt: HostRuntime) -> Result<(), Fail> {
 #[test]
 fn a_store_in_memory_serves_each_call(rt: HostRuntime) -> Result<(), Fail> {
     let mut store = MemStore::new(rt.alloc());
-    play(&mut store)?;
+    serve(&mut store, &PLAY)?;
     assert_eq!(rt; store.bytes(), [0, 4, 0, 0, 1, 2, 3].as_slice());
     touch_the_end(&mut store)?;
     assert_eq!(rt; store.bytes(), [0, 4, 0, 0, 1, 2, 3, 0, 0].as_slice());
+    Ok(())
+}
+
+// Puts a byte behind those that are there, and where that fails, again.
+fn put_again(store: &mut MemStore, at: u8) -> Result<(), Fail> {
+    if !has_failed(&store.write_at(u64::from(at), &[at])) {
+        return Ok(());
+    }
+    if store.bytes().len() != usize::from(at) || store.len()? != u64::from(at) {
+        return Err(Fail::new("a refused write changes something"));
+    }
+    store.write_at(u64::from(at), &[at])?;
     Ok(())
 }
 
@@ -32,11 +43,7 @@ fn a_store_in_memory_serves_each_call(rt: HostRuntime) -> Result<(), Fail> {
 fn a_growth_that_is_refused_changes_nothing(rt: HostRuntime) -> Result<(), Fail> {
     let mut store = MemStore::new(rt.alloc());
     for at in 0..40 {
-        if has_failed(&store.write_at(at, &[at as u8])) {
-            assert_eq!(rt; store.bytes().len(), at as usize);
-            assert_eq!(rt; store.len()?, at);
-            store.write_at(at, &[at as u8])?;
-        }
+        put_again(&mut store, at as u8)?;
         if has_failed(&store.sync()) {
             store.sync()?;
         }

@@ -1,8 +1,8 @@
 // Stores on files whose calls are cut short, interrupted and refused.
-use crate::calls::{has_failed, play, touch_the_end};
+use crate::calls::{Call, PLAY, refuse, serve, touch_the_end};
 use std::alloc::Global;
 use std::test::Fail;
-use vm_store::{HostStore, MemStore, Pace, PiecewiseFile, PiecewiseSystem, Store};
+use vm_store::{HostStore, MemStore, Pace, PiecewiseFile, PiecewiseSystem};
 
 const PACES: [Pace; 5] = [
     Pace {
@@ -42,15 +42,13 @@ fn open(alloc: Global, bytes: &[u8], pace: Pace) -> Result<HostStore<PiecewiseFi
 fn short_and_interrupted_calls_serve_as_whole_ones(rt: HostRuntime) -> Result<(), Fail> {
     for pace in PACES {
         let mut store = open(rt.alloc(), &[], pace)?;
-        play(&mut store)?;
-        let mut seven = [9; 7];
-        store.read_at(0, &mut seven)?;
-        assert_eq!(rt; seven, [0, 4, 0, 0, 1, 2, 3]);
+        serve(&mut store, &PLAY)?;
+        serve(&mut store, &[Call::Read(0, &[0, 4, 0, 0, 1, 2, 3])])?;
         touch_the_end(&mut store)?;
-        let mut nine = [9; 9];
-        store.read_at(0, &mut nine)?;
-        assert_eq!(rt; nine, [0, 4, 0, 0, 1, 2, 3, 0, 0]);
-        store.sync()?;
+        serve(
+            &mut store,
+            &[Call::Read(0, &[0, 4, 0, 0, 1, 2, 3, 0, 0]), Call::Sync],
+        )?;
     }
     Ok(())
 }
@@ -64,16 +62,12 @@ fn a_sync_that_failed_is_never_trusted_again(rt: HostRuntime) -> Result<(), Fail
         syncs: 1,
     };
     let mut store = open(rt.alloc(), &[1, 2, 3], pace)?;
-    store.sync()?;
-    store.write_at(1, &[4])?;
+    serve(&mut store, &[Call::Sync, Call::Write(1, &[4])])?;
     for _ in 0..3 {
-        assert!(rt; has_failed(&store.sync()));
-        assert_eq!(rt; store.len()?, 3);
+        refuse(&mut store, &[Call::Sync])?;
+        serve(&mut store, &[Call::Len(3)])?;
     }
-    let mut three = [0; 3];
-    store.read_at(0, &mut three)?;
-    assert_eq!(rt; three, [1, 4, 3]);
-    Ok(())
+    serve(&mut store, &[Call::Read(0, &[1, 4, 3])])
 }
 
 // Opening makes three calls where the file may be made, and two where it may not.
