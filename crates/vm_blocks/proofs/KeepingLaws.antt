@@ -3,7 +3,7 @@ use Rattle.std.proofs.Common.{◌≡◌, ℕ, IsTrue, true, refl, sym, subst, �
 use Rattle.vm_store.specs.Facts.{StoreFacts}
 use Rattle.geos_model.specs.Document.{is_live}
 use Rattle.geos_model.specs.declared.fault.Fault.{Fault}
-use Rattle.geos_model.specs.declared.fault.Fault.TheVariants.{Memory}
+use Rattle.geos_model.specs.declared.fault.Fault.TheVariants.{Damaged, Memory}
 use Rattle.vm_file.specs.Disk.{FileState, Passes, Drifts}
 use Rattle.vm_file.proofs.Passing.{Passes-refl, Drifts-refl}
 use Rattle.vm_blocks.specs.Keeping.{Keeps, IsSteady, Lacks, is_loaded}
@@ -34,6 +34,11 @@ module _ {S : Type 0} (facts : S → StoreFacts) where
   unfolding IsSteady
   keeps-steady a b p steady = tt
 
+  -- and it was so before
+  pub keeps-was_steady : (a b : FileState S) → Keeps facts a b → IsSteady facts b.disk.store → IsSteady facts a.disk.store
+  unfolding IsSteady
+  keeps-was_steady a b p steady = tt
+
   -- as an honest one does
   pub honest-steady : (a : S) → IsTrue (facts a).honest → IsSteady facts a
   unfolding IsSteady
@@ -42,6 +47,11 @@ module _ {S : Type 0} (facts : S → StoreFacts) where
   pub lacks-memory : (a b : S) → Lacks facts a b Memory
   unfolding Lacks
   lacks-memory a b = refl
+
+  -- what is read and can't be, over a store that isn't steady
+  pub lacks-damaged : (a b : S) → (IsSteady facts a → ⊥) → Lacks facts a b Damaged
+  unfolding IsSteady Lacks
+  lacks-damaged a b drifts = absurd (drifts tt)
 
   -- a call that was refused after others that were not
   pub lacks-later : (a b : FileState S) (c : S) (fault : Fault) → Keeps facts a b → Lacks facts b.disk.store c fault → Lacks facts a.disk.store c fault

@@ -1,14 +1,14 @@
 -- Blocks of a plan can come in or go.
-use Rattle.std.proofs.Common.{◌≡◌, ◌≢◌, ℕ, ◌≤◌, true, false, ◌==◌, List, [], length, get_or, Option, None, Some, is_none, is_some, unwrap_or, Result, Ok, Err, IfOk, MatchResult, length-take, refl, sym, ap, subst, ◌∙◌, arith}
+use Rattle.std.proofs.Common.{◌≡◌, ◌≢◌, Bool, ℕ, ◌≤◌, true, false, ◌==◌, List, [], length, get_or, Option, None, Some, is_none, is_some, unwrap_or, Result, Ok, Err, IfOk, MatchResult, length-take, refl, sym, ap, subst, ◌∙◌, arith}
 use Rattle.std.proofs.lemmas.Bool.{eq-eqb, true≢false}
 use Rattle.std.proofs.lemmas.List.{length-map}
 use Rattle.std.proofs.lemmas.List.Elements.{All-map, Contains-get_or}
 use Rattle.std.proofs.lemmas.List.Folds.{list_any_at}
-use Rattle.std.specs.List.{Contains, zip}
+use Rattle.std.specs.List.{Contains, list_any, zip}
 use Rattle.std.specs.FinMap.{get}
 use Rattle.geos_model.specs.Chain.{blocks_of, chain, chain_blocks, free_conditions, free_handles, name_of, new_handles, relinked_block, renamed_blocks}
 use Rattle.geos_model.specs.ElementArray.{all_distinct}
-use Rattle.geos_model.specs.Document.{Block, Document, block_at, handles_of}
+use Rattle.geos_model.specs.Document.{Block, Document, block_at, handles_of, is_live}
 use Rattle.geos_model.specs.Refusal.{Conditions, first_refusal}
 use Rattle.geos_model.specs.declared.fault.Fault.{Fault}
 use Rattle.geos_model.specs.declared.fault.Fault.TheVariants.{BadChain, IsMap, Memory}
@@ -23,6 +23,9 @@ use Rattle.vm_blocks.specs.declared.member.Members.{Members}
 use Rattle.geos_model.specs.declared.handle.VmHandle.{VmHandle}
 use Rattle.vm_chains.specs.Numbers.{numbers}
 use Rattle.vm_chains.specs.Answers.{Answers}
+use Rattle.vm_chains.specs.Planning.{CanLeave}
+use Rattle.vm_chains.specs.Walking.{AreBlocks}
+use Rattle.vm_file.specs.Disk.{Drifts}
 
 none_there : (o : Option Block) → is_some o ≡ false → o ≡ None
 none_there None no_ = refl
@@ -59,18 +62,42 @@ blocks_go d h none =
       distinct = subst (λ (xs : List ℕ). all_distinct xs ≡ true) (sym (blocks_of-handles d hs)) are.once;
     }
 
+-- What is free or can go is known by handle, so that it stays.
+
+free_stays : (honest : Bool) (d now : Document) (hs : List ℕ) → Drifts honest d now → AreFree d hs → AreFree now hs
+free_stays honest d now hs drifts are = record {
+  free = λ i x within. let was = are.free i x within in record { handle = was.handle; free = none_there (get now.blocks (get_or hs i x)) (drifts.live (get_or hs i x) ∙ ap (λ (o : Option Block). is_some o) was.free) };
+  distinct = are.distinct;
+}
+
+leaving : (d : Document) (hs : List VmHandle) → AreBlocks d hs → list_any (λ h. h.0 == d.map_block) hs ≡ false → CanLeave d (numbers hs)
+leaving d hs are other = record {
+  live = All-map (λ h. is_live d h ≡ true) (λ (h : VmHandle). h.0) hs are.live;
+  distinct = are.distinct;
+  other = All-map (λ h. d.map_block ≢ h) (λ (h : VmHandle). h.0) hs (λ i h within same. true≢false (sym (list_any_at (λ (x : VmHandle). x.0 == d.map_block) hs i h within (eq-eqb (get_or hs i h).0 d.map_block (sym same))) ∙ other));
+}
+
+leaving_stays : (honest : Bool) (d now : Document) (hs : List ℕ) → Drifts honest d now → CanLeave d hs → CanLeave now hs
+leaving_stays honest d now hs drifts are = record {
+  live = λ i h within. drifts.live (get_or hs i h) ∙ are.live i h within;
+  distinct = are.distinct;
+  other = λ i h within same. are.other i h within (sym drifts.map_block ∙ same);
+}
+
 -- So plans apply.
 
-pub copy_applies : (d now : Document) (hs new : List VmHandle) (result : Result Members Fault) → now ≡ d → numbers new ≡ new_handles d (length hs) → length hs ≤ length new
-    → MatchResult result (λ plan. saved_blocks plan.list.items ≡ renamed_blocks now (numbers hs) (numbers new)) (λ fault. fault ≡ Memory) → IfOk result (λ plan. AreFree d (handles_of (saved_blocks plan.list.items)))
-copy_applies d now hs new (Err fault) same is enough value = tt
-copy_applies d now hs new (Ok plan) same is enough value =
-    let many : length (new_handles d (length hs)) ≡ length new = ap length (sym is) ∙ length-map new (λ h. h.0) in
-    let few = length-take (length hs) (free_handles d) in
-    let long : length (numbers hs) ≡ length (numbers new) = omega (arith, length-map hs (λ h. h.0), length-map new (λ h. h.0), many, few, enough) in
-    let handles : handles_of (saved_blocks plan.list.items) ≡ new_handles d (length hs) = ap handles_of value ∙ named-handles (λ h. relinked_block (name_of (zip (numbers hs) (numbers new))) (block_at now h)) (numbers hs) (numbers new) long ∙ is in
-    subst (AreFree d) (sym handles) (new_free d (length hs) (omega (arith, many, enough)))
+pub copy_applies : (honest : Bool) (d now : Document) (n : ℕ) (new : List VmHandle) (result : Result Members Fault) → Drifts honest d now → numbers new ≡ new_handles d n → n ≤ length new
+    → IfOk result (λ plan. handles_of (saved_blocks plan.list.items) ≡ numbers new) → IfOk result (λ plan. AreFree now (handles_of (saved_blocks plan.list.items)))
+copy_applies honest d now n new (Err fault) drifts is enough handles = tt
+copy_applies honest d now n new (Ok plan) drifts is enough handles =
+    let many : length (new_handles d n) ≡ length new = ap length (sym is) ∙ length-map new (λ h. h.0) in
+    subst (AreFree now) (sym (handles ∙ is)) (free_stays honest d now (new_handles d n) drifts (new_free d n (omega (arith, many, enough))))
 
-pub free_applies : (d : Document) (h : ℕ) (result : Result Members Fault) → Answers (free_conditions d h) (λ plan. saved_blocks plan.list.items ≡ blocks_of d (chain_blocks d h)) result → IfOk result (λ plan. CanAllGo d (saved_blocks plan.list.items))
-free_applies d h (Ok plan) is = subst (CanAllGo d) (sym is.1) (blocks_go d h is.0)
-free_applies d h (Err fault) is = tt
+pub free_leaves : (honest : Bool) (d now : Document) (hs : List VmHandle) (result : Result Members Fault) → Drifts honest d now → AreBlocks d hs → list_any (λ h. h.0 == d.map_block) hs ≡ false
+    → IfOk result (λ plan. handles_of (saved_blocks plan.list.items) ≡ numbers hs) → IfOk result (λ plan. CanLeave now (handles_of (saved_blocks plan.list.items)))
+free_leaves honest d now hs (Err fault) drifts are other handles = tt
+free_leaves honest d now hs (Ok plan) drifts are other handles = subst (CanLeave now) (sym handles) (leaving_stays honest d now (numbers hs) drifts (leaving d hs are other))
+
+pub free_applies : (lacks : Fault → Type 0) (d : Document) (h : ℕ) (result : Result Members Fault) → Answers lacks (free_conditions d h) (λ plan. saved_blocks plan.list.items ≡ blocks_of d (chain_blocks d h)) result → IfOk result (λ plan. CanAllGo d (saved_blocks plan.list.items))
+free_applies lacks d h (Ok plan) is = subst (CanAllGo d) (sym is.1) (blocks_go d h is.0)
+free_applies lacks d h (Err fault) is = tt

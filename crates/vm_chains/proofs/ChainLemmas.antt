@@ -7,13 +7,13 @@ use Rattle.std.specs.List.{All}
 use Rattle.std.specs.FinMap.{get}
 use Rattle.std.specs.Option.{option_map, option_map_or, option_and_then}
 use Rattle.geos_model.specs.Chain.{blocks_from, chain, chain_blocks, if_distinct, is_member, links, relinked, relinked_block}
-use Rattle.geos_model.specs.Document.{Block, Document, IsValid, most_blocks, raw_bytes_of, bytes_of_body, user_id_of, block_at}
+use Rattle.geos_model.specs.Document.{Block, Document, most_blocks, raw_bytes_of, bytes_of_body, user_id_of, block_at}
 use Rattle.geos_model.specs.declared.command.Body.TheVariants.{Raw}
 use Rattle.geos_model.specs.ElementArray.{all_distinct}
 use Rattle.geos_model.specs.declared.handle.VmHandle.{VmHandle}
 use Rattle.vm_chains.specs.Numbers.{numbers}
 use Rattle.vm_chains.specs.Walking.{AreMembers}
-use Rattle.vm_chains.proofs.WalkLemmas.{blocks_from-nil, blocks_from-member, blocks_from-other, blocks_from-full, member_handle}
+use Rattle.vm_chains.proofs.WalkLemmas.{blocks_from-nil, blocks_from-member, blocks_from-other, blocks_from-full}
 
 -- distinct blocks of a chain, at most so many
 pub record ArePreorder (d : Document) (n : ℕ) (hs : List ℕ) : Type 0 where
@@ -57,16 +57,10 @@ pub blocks_are : (d : Document) (root : ℕ) (hs : List ℕ) → chain d root �
 blocks_are d root hs e = ap (λ (o : Option (List ℕ)). unwrap_or o []) e
 
 -- The same of the handles of a walk.
-pub are_members : (d : Document) (root : ℕ) (hs : List VmHandle) → IsValid d → chain d root ≡ Some (numbers hs) → AreMembers d hs
-are_members d root hs valid is =
+pub are_members : (d : Document) (root : ℕ) (hs : List VmHandle) → chain d root ≡ Some (numbers hs) → AreMembers d hs
+are_members d root hs is =
     let all = chain_members d root (numbers hs) is in
-    let member : All (λ (h : VmHandle). is_member d h.0 ≡ true) hs = λ i h within. subst (λ (n : ℕ). is_member d n ≡ true) (get_or-map (λ (h : VmHandle). h.0) hs i h h.0 within) (all.0.members i h.0 (omega (arith, length-map hs (λ (h : VmHandle). h.0)))) in
-    record {
-      members = member;
-      handles = λ i h within. member_handle d (get_or hs i h).0 valid (member i h within);
-      distinct = all.1;
-      few = omega (arith, length-map hs (λ (h : VmHandle). h.0), all.0.few);
-    }
+    λ i h within. subst (λ (n : ℕ). is_member d n ≡ true) (get_or-map (λ (h : VmHandle). h.0) hs i h h.0 within) (all.0.members i h.0 (omega (arith, length-map hs (λ (h : VmHandle). h.0))))
 
 -- a block of a copy
 pub renamed_block : (d : Document) (h user_id : ℕ) (bytes : List ℕ) (rename given : ℕ → ℕ) → user_id ≡ user_id_of d h → bytes ≡ relinked rename (raw_bytes_of d h) → ((k : ℕ) → rename k ≡ given k) → ◌≡◌ {A = Block} (record { user_id = user_id; body = Raw bytes }) (relinked_block given (block_at d h))

@@ -3,6 +3,9 @@ pub mod LinkLemmas
 pub mod WalkLemmas
 pub mod ChainLemmas
 pub mod CopyLemmas
+pub mod Planned
 pub mod ShapeLemmas
+pub mod Loading
 pub mod Refusals
 pub mod Carrying
+pub mod Walked

@@ -1,15 +1,18 @@
 -- Steps of a walk along a chain.
-use Rattle.std.proofs.Common.{◌≡◌, ◌<◌, ◌≤◌, ◌-◌, ℕ, zero, suc, List, [], ◌∷◌, ◌++◌, Bool, true, false, not, ◌==◌, ◌&&◌, ◌||◌, Option, Some, None, refl, sym, ap, subst, ◌∙◌, inl, inr, append_assoc, length, arith}
+use Rattle.std.proofs.Common.{◌≡◌, ◌<◌, ◌≤◌, ◌+◌, ◌-◌, get_or, is_some, ℕ, zero, suc, List, [], ◌∷◌, ◌++◌, Bool, true, false, not, ◌==◌, ◌&&◌, ◌||◌, Option, Some, None, refl, sym, ap, subst, ◌∙◌, inl, inr, append_assoc, length, arith}
 use Rattle.std.proofs.lemmas.Bool.{cases_Bool, cond-true, cond-false, true≢false, and_parts, or_parts, or_from, or_left, or_right, not-true}
-use Rattle.std.proofs.lemmas.List.{append-nil, length-append}
+use Rattle.std.proofs.lemmas.List.{append-nil, get_or-map, length-append, length-map, length_push}
+use Rattle.std.proofs.lemmas.List.Elements.{All-nil, All-push}
 use Rattle.std.proofs.lemmas.List.Folds.{list_any-append}
-use Rattle.std.specs.List.{list_any}
+use Rattle.std.specs.List.{All, list_any}
 use Rattle.std.specs.FinMap.{get}
 use Rattle.std.specs.Option.{option_map, option_map_or, option_and_then}
 use Rattle.geos_model.specs.Chain.{blocks_from, chain, if_distinct, is_linked, is_member, links}
-use Rattle.geos_model.specs.Document.{Block, Document, IsValid, is_heap_body, is_raw, is_vm_handle, most_blocks, raw_bytes_of}
+use Rattle.geos_model.specs.Document.{Block, Document, IsValid, is_heap_body, is_live, is_raw, is_vm_handle, most_blocks, raw_bytes_of}
 use Rattle.geos_model.specs.ElementArray.{all_distinct}
-use Rattle.vm_chains.specs.Walking.{GoesOn, IsWalk}
+use Rattle.geos_model.specs.declared.handle.VmHandle.{VmHandle}
+use Rattle.vm_chains.specs.Numbers.{numbers}
+use Rattle.vm_chains.specs.Walking.{AreBlocks, GoesOn, IsWalk}
 
 -- What the definition says of the next block that is pending.
 
@@ -49,7 +52,7 @@ chain_is d root o e = ap (λ (x : Option (List ℕ)). option_and_then if_distinc
 
 -- Whether handles are distinct.
 
-and_false : (b : Bool) → (b && false) ≡ false
+pub and_false : (b : Bool) → (b && false) ≡ false
 and_false true = refl
 and_false false = refl
 
@@ -131,10 +134,64 @@ walk_turns d root n met h hs w twice = elim (cases_Bool (is_member d h)) [
 pub walk_is_full : (d : Document) (root n : ℕ) (met hs : List ℕ) → IsWalk d root n met hs → n < length hs → chain d root ≡ None
 walk_is_full d root n met hs w more = chain_is d root None (w.rest ∙ ap (λ (o : Option (List ℕ)). option_map (λ xs. met ++ xs) o) (blocks_from-more n d hs more))
 
--- A block of a chain has a handle that a block can have.
-pub member_handle : (d : Document) (h : ℕ) → IsValid d → is_member d h ≡ true → is_vm_handle h ≡ true
-member_handle d h valid member = by_block (get d.blocks h) refl (and_parts (is_raw d h) (is_linked (raw_bytes_of d h)) member).0
+-- A block of a chain is live.
+
+raw_is_live : (o : Option Block) → option_map_or (λ b. not (is_heap_body b.body)) o false ≡ true → is_some o ≡ true
+raw_is_live None e = absurd (cc e)
+raw_is_live (Some b) e = refl
+
+pub raw_live : (d : Document) (h : ℕ) → is_raw d h ≡ true → is_live d h ≡ true
+raw_live d h raw = raw_is_live (get d.blocks h) raw
+
+pub member_raw : (d : Document) (h : ℕ) → is_member d h ≡ true → is_raw d h ≡ true
+member_raw d h member = (and_parts (is_raw d h) (is_linked (raw_bytes_of d h)) member).0
+
+pub member_live : (d : Document) (h : ℕ) → is_member d h ≡ true → is_live d h ≡ true
+member_live d h member = raw_live d h (member_raw d h member)
+
+-- and has a handle that a block can have
+pub live_handle : (d : Document) (h : ℕ) → IsValid d → is_live d h ≡ true → is_vm_handle h ≡ true
+live_handle d h valid live = by_block (get d.blocks h) refl live
   where
-    by_block : (o : Option Block) → get d.blocks h ≡ o → option_map_or (λ b. not (is_heap_body b.body)) o false ≡ true → is_vm_handle h ≡ true
-    by_block None live e = absurd (cc e)
-    by_block (Some b) live e = (valid.blocks h b live).handle
+    by_block : (o : Option Block) → get d.blocks h ≡ o → is_some o ≡ true → is_vm_handle h ≡ true
+    by_block None is e = absurd (cc e)
+    by_block (Some b) is e = (valid.blocks h b is).handle
+
+-- What is known of a walk over any store.
+
+-- live blocks, each once, where at most so many may still be met
+pub record AreMet (d : Document) (n : ℕ) (met : List ℕ) : Type 0 where
+  pub live : All (λ h. is_live d h ≡ true) met
+  pub distinct : all_distinct met ≡ true
+  pub few : length met + n ≤ most_blocks
+
+none_before : (o : Option (List ℕ)) → o ≡ option_map (λ hs. [] ++ hs) o
+none_before None = refl
+none_before (Some hs) = refl
+
+pub walk_begins : (d : Document) (root : ℕ) (met pending : List ℕ) → met ≡ [] → pending ≡ root ∷ [] → IsWalk d root most_blocks met pending
+walk_begins d root met pending none one = subst (λ (ps : List ℕ). IsWalk d root most_blocks met ps) (sym one) (subst (λ (hs : List ℕ). IsWalk d root most_blocks hs (root ∷ [])) (sym none) (record {
+  rest = none_before (blocks_from most_blocks d (root ∷ []));
+  distinct = refl;
+}))
+
+pub none_met : (d : Document) (met : List ℕ) → met ≡ [] → AreMet d most_blocks met
+none_met d met none = subst (AreMet d most_blocks) (sym none) (record { live = All-nil (λ h. is_live d h ≡ true); distinct = refl; few = omega arith })
+
+pub one_met : (d : Document) (n h : ℕ) (met new : List ℕ) → AreMet d n met → 1 ≤ n → is_live d h ≡ true → list_any (λ x. x == h) met ≡ false → new ≡ met ++ h ∷ [] → AreMet d (n - 1) new
+one_met d n h met new are left live other is = subst (AreMet d (n - 1)) (sym is) (record {
+  live = All-push (λ x. is_live d x ≡ true) met h are.live live;
+  distinct = distinct_push met h are.distinct other;
+  few = omega (arith, left, are.few, length_push met h);
+})
+
+pub met_blocks : (d : Document) (n : ℕ) (hs : List VmHandle) → IsValid d → AreMet d n (numbers hs) → AreBlocks d hs
+met_blocks d n hs valid are =
+    let many : length (numbers hs) ≡ length hs = length-map hs (λ (h : VmHandle). h.0) in
+    let live : All (λ (h : VmHandle). is_live d h.0 ≡ true) hs = λ i h within. subst (λ (k : ℕ). is_live d k ≡ true) (get_or-map (λ (h : VmHandle). h.0) hs i h h.0 within) (are.live i h.0 (omega (arith, many, within))) in
+    record {
+      live = live;
+      handles = λ i h within. live_handle d (get_or hs i h).0 valid (live i h within);
+      distinct = are.distinct;
+      few = omega (arith, many, are.few);
+    }

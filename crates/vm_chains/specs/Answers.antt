@@ -2,12 +2,16 @@
 use Rattle.std.specs.Prelude.{◌≡◌, ◌⊎◌, None, Some, Result, MatchResult}
 use Rattle.geos_model.specs.Refusal.{Conditions, first_refusal}
 use Rattle.geos_model.specs.declared.fault.Fault.{Fault}
-use Rattle.geos_model.specs.declared.fault.Fault.TheVariants.{Memory}
+use Rattle.geos_model.specs.declared.fault.Fault.TheVariants.{NoBlock, WrongKind, BadChain}
 
--- want of memory, or the first refusal
-abbrev pub Refuses : Conditions → Fault → Type 0
-Refuses conditions fault = (fault ≡ Memory) ⊎ (first_refusal conditions ≡ Some fault)
+-- what no rule of the document decides, or the first refusal
+abbrev pub Refuses : (Fault → Type 0) → Conditions → Fault → Type 0
+Refuses lacks conditions fault = lacks fault ⊎ (first_refusal conditions ≡ Some fault)
 
 -- It is refused so, or nothing refuses it and this holds of what it gives.
-abbrev pub Answers : {A : Type 0} → Conditions → (A → Type 0) → Result A Fault → Type 0
-Answers conditions P result = MatchResult result (λ a. (first_refusal conditions ≡ None) × P a) (Refuses conditions)
+abbrev pub Answers : {A : Type 0} → (Fault → Type 0) → Conditions → (A → Type 0) → Result A Fault → Type 0
+Answers lacks conditions P result = MatchResult result (λ a. (first_refusal conditions ≡ None) × P a) (Refuses lacks conditions)
+
+-- a refusal of any call on a chain
+abbrev pub IsChainFault : Fault → Type 0
+IsChainFault fault = (fault ≡ NoBlock) ⊎ (fault ≡ WrongKind) ⊎ (fault ≡ BadChain)

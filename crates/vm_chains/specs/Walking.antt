@@ -6,7 +6,7 @@ use Rattle.geos_model.specs.Chain.{blocks_from, is_member, links}
 use Rattle.geos_model.specs.Document.{Document, is_live, is_raw, is_vm_handle, most_blocks, raw_bytes_of}
 use Rattle.geos_model.specs.ElementArray.{all_distinct}
 use Rattle.geos_model.specs.declared.fault.Fault.{Fault}
-use Rattle.geos_model.specs.declared.fault.Fault.TheVariants.{Memory, NoBlock, WrongKind, BadChain}
+use Rattle.geos_model.specs.declared.fault.Fault.TheVariants.{NoBlock, WrongKind, BadChain}
 use Rattle.geos_model.specs.declared.handle.VmHandle.{VmHandle}
 use Rattle.vm_chains.specs.Numbers.{numbers}
 
@@ -14,9 +14,9 @@ use Rattle.vm_chains.specs.Numbers.{numbers}
 abbrev pub RefusesRoot : Document → ℕ → Fault → Type 0
 RefusesRoot d h fault = ((fault ≡ NoBlock) × (is_live d h ≡ false)) ⊎ ((fault ≡ WrongKind) × (is_live d h ≡ true) × (is_raw d h ≡ false))
 
--- want of memory, or BadChain with its cause
-abbrev pub Stops : Type 0 → Fault → Type 0
-Stops cause fault = (fault ≡ Memory) ⊎ ((fault ≡ BadChain) × cause)
+-- what no rule of the document decides, or BadChain with its cause
+abbrev pub Stops : (Fault → Type 0) → Type 0 → Fault → Type 0
+Stops lacks cause fault = lacks fault ⊎ ((fault ≡ BadChain) × cause)
 
 -- the block is one of a chain, and what it links to is pending before all else
 pub record GoesOn (d : Document) (h : ℕ) (old new : List ℕ) : Type 0 where
@@ -33,9 +33,13 @@ pub record IsWalk (d : Document) (root n : ℕ) (met pending : List ℕ) : Type 
   pub rest : blocks_from most_blocks d (root ∷ []) ≡ option_map (λ hs. met ++ hs) (blocks_from n d pending)
   pub distinct : all_distinct met ≡ true
 
--- blocks of a chain, each once
-pub record AreMembers (d : Document) (hs : List VmHandle) : Type 0 where
-  pub members : All (λ h. is_member d h.0 ≡ true) hs
+-- handles of live blocks, each once
+pub record AreBlocks (d : Document) (hs : List VmHandle) : Type 0 where
+  pub live : All (λ h. is_live d h.0 ≡ true) hs
   pub handles : All (λ h. is_vm_handle h.0 ≡ true) hs
   pub distinct : all_distinct (numbers hs) ≡ true
   pub few : length hs ≤ most_blocks
+
+-- blocks that a chain can have
+abbrev pub AreMembers : Document → List VmHandle → Type 0
+AreMembers d hs = All (λ h. is_member d h.0 ≡ true) hs

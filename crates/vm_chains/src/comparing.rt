@@ -1,14 +1,13 @@
-ghost use Rattle.std.specs.Prelude.{◌≡◌, ◌≤◌, ℕ, true, Some, IfOk, MatchResult, length};
+ghost use Rattle.std.specs.Prelude.{◌≡◌, ◌⊎◌, ◌≤◌, ℕ, true, IfOk, IfErr, MatchResult, length};
 ghost use Rattle.std.specs.List.{All};
 ghost use Rattle.geos_model.specs.Bytes.{same_bytes};
 ghost use Rattle.geos_model.specs.Chain.{chain_blocks, on_chains, same_shape};
 ghost use Rattle.geos_model.specs.Document.{is_raw, is_vm_handle, most_blocks};
-ghost use Rattle.geos_model.specs.Refusal.{first_refusal};
-ghost use Rattle.geos_model.specs.declared.fault.Fault.TheVariants.{Memory};
-ghost use Rattle.vm_chains.specs.Answers.{Answers};
+ghost use Rattle.vm_blocks.specs.Keeping.{Keeps, IsSteady, Lacks};
+ghost use Rattle.vm_chains.specs.Answers.{Answers, IsChainFault, Refuses};
 ghost use Rattle.vm_chains.specs.Naming.{name_in, place_in};
 ghost use Rattle.vm_chains.specs.Numbers.{numbers};
-ghost use Rattle.vm_chains.specs.Walking.{AreMembers};
+ghost use Rattle.vm_chains.specs.Walking.{AreBlocks, AreMembers};
 
 use crate::names::Names;
 use crate::reading::relinked_at;
@@ -25,9 +24,11 @@ pub fn equal<S: Store>(
     first: VmHandle,
     second: VmHandle,
 ) -> Result<bool, Fault>
-    ensures value { Answers (on_chains blocks.old.document first.0 second.0)
-        (λ same. same ≡ same_shape blocks.old.document (chain_blocks blocks.old.document first.0) (chain_blocks blocks.old.document second.0)) result }
-    ensures stays { blocks.new ≡ blocks.old }
+    ensures keeps { Keeps S.facts blocks.old blocks.new }
+    ensures value { IsSteady S.facts blocks.old.disk.store
+        → Answers (Lacks S.facts blocks.old.disk.store blocks.new.disk.store) (on_chains blocks.new.document first.0 second.0)
+        (λ same. same ≡ same_shape blocks.new.document (chain_blocks blocks.new.document first.0) (chain_blocks blocks.new.document second.0)) result }
+    ensures refusals { IfErr result (λ fault. Lacks S.facts blocks.old.disk.store blocks.new.disk.store fault ⊎ IsChainFault fault) }
 {
     test_roots(blocks, first, second)?;
     let first = walk_from(alloc, blocks, first)?;
@@ -41,10 +42,11 @@ fn test_roots<S: Store>(
     first: VmHandle,
     second: VmHandle,
 ) -> Result<(), Fault>
-    ensures value { MatchResult result
-        (λ _. (is_raw blocks.old.document first.0 ≡ true) × (is_raw blocks.old.document second.0 ≡ true))
-        (λ fault. first_refusal (on_chains blocks.old.document first.0 second.0) ≡ Some fault) }
-    ensures stays { blocks.new ≡ blocks.old }
+    ensures keeps { Keeps S.facts blocks.old blocks.new }
+    ensures value { IsSteady S.facts blocks.old.disk.store → MatchResult result
+        (λ _. (is_raw blocks.new.document first.0 ≡ true) × (is_raw blocks.new.document second.0 ≡ true))
+        (Refuses (Lacks S.facts blocks.old.disk.store blocks.new.disk.store) (on_chains blocks.new.document first.0 second.0)) }
+    ensures refusals { IfErr result (λ fault. Lacks S.facts blocks.old.disk.store blocks.new.disk.store fault ⊎ IsChainFault fault) }
 {
     if !blocks.is_live(first) || !blocks.is_live(second) {
         return Err(Fault::NoBlock);
@@ -60,10 +62,12 @@ fn same_shape<S: Store>(
     first: &[VmHandle],
     second: &[VmHandle],
 ) -> Result<bool, Fault>
-    requires first { AreMembers blocks.old.document first.now }
-    requires second { AreMembers blocks.old.document second.now }
-    ensures value { MatchResult result (λ same. same ≡ same_shape blocks.old.document (numbers first.now) (numbers second.now)) (λ fault. fault ≡ Memory) }
-    ensures stays { blocks.new ≡ blocks.old }
+    requires first { AreBlocks blocks.old.document first.now }
+    requires second { AreBlocks blocks.old.document second.now }
+    requires members { IsSteady S.facts blocks.old.disk.store → AreMembers blocks.old.document first.now × AreMembers blocks.old.document second.now }
+    ensures keeps { Keeps S.facts blocks.old blocks.new }
+    ensures value { IsSteady S.facts blocks.old.disk.store → IfOk result (λ same. same ≡ same_shape blocks.new.document (numbers first.now) (numbers second.now)) }
+    ensures refusals { IfErr result (Lacks S.facts blocks.old.disk.store blocks.new.disk.store) }
 {
     if first.len() != second.len() {
         return Ok(false);

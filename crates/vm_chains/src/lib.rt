@@ -1,4 +1,5 @@
-//! Chains and trees of raw blocks: walked, measured and compared, and planned to be copied or freed. No call changes the document.
+//! Chains and trees of raw blocks: walked, measured and compared, and planned to be copied or freed. A call may bring
+//! blocks into memory, and changes nothing else.
 #![tactic(auto)]
 
 mod comparing;

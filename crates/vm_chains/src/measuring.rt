@@ -1,9 +1,9 @@
-ghost use Rattle.std.specs.Prelude.{◌≡◌, MatchResult};
+ghost use Rattle.std.specs.Prelude.{◌≡◌, ◌⊎◌, IfOk, IfErr};
 ghost use Rattle.geos_model.specs.Chain.{bytes_in, chain_blocks, on_chain};
-ghost use Rattle.geos_model.specs.declared.fault.Fault.TheVariants.{Memory};
-ghost use Rattle.vm_chains.specs.Answers.{Answers};
+ghost use Rattle.vm_blocks.specs.Keeping.{Keeps, IsSteady, Lacks};
+ghost use Rattle.vm_chains.specs.Answers.{Answers, IsChainFault};
 ghost use Rattle.vm_chains.specs.Numbers.{numbers};
-ghost use Rattle.vm_chains.specs.Walking.{AreMembers};
+ghost use Rattle.vm_chains.specs.Walking.{AreBlocks, AreMembers};
 
 use crate::reading::len_at;
 use crate::walk;
@@ -18,8 +18,11 @@ pub fn size<S: Store>(
     blocks: &mut FileBlocks<S>,
     root: VmHandle,
 ) -> Result<u32, Fault>
-    ensures value { Answers (on_chain blocks.old.document root.0) (λ n. n ≡ bytes_in blocks.old.document (chain_blocks blocks.old.document root.0)) result }
-    ensures stays { blocks.new ≡ blocks.old }
+    ensures keeps { Keeps S.facts blocks.old blocks.new }
+    ensures value { IsSteady S.facts blocks.old.disk.store
+        → Answers (Lacks S.facts blocks.old.disk.store blocks.new.disk.store) (on_chain blocks.new.document root.0)
+        (λ n. n ≡ bytes_in blocks.new.document (chain_blocks blocks.new.document root.0)) result }
+    ensures refusals { IfErr result (λ fault. Lacks S.facts blocks.old.disk.store blocks.new.disk.store fault ⊎ IsChainFault fault) }
 {
     let handles = walk(alloc, blocks, root)?;
     total_len(blocks, &handles)
@@ -27,9 +30,11 @@ pub fn size<S: Store>(
 
 /// How many bytes these blocks have.
 fn total_len<S: Store>(blocks: &mut FileBlocks<S>, handles: &[VmHandle]) -> Result<u32, Fault>
-    requires { AreMembers blocks.old.document handles.now }
-    ensures value { MatchResult result (λ n. n ≡ bytes_in blocks.old.document (numbers handles.now)) (λ fault. fault ≡ Memory) }
-    ensures stays { blocks.new ≡ blocks.old }
+    requires live { AreBlocks blocks.old.document handles.now }
+    requires members { IsSteady S.facts blocks.old.disk.store → AreMembers blocks.old.document handles.now }
+    ensures keeps { Keeps S.facts blocks.old blocks.new }
+    ensures value { IsSteady S.facts blocks.old.disk.store → IfOk result (λ n. n ≡ bytes_in blocks.new.document (numbers handles.now)) }
+    ensures refusals { IfErr result (Lacks S.facts blocks.old.disk.store blocks.new.disk.store) }
 {
     let mut total = 0;
     for handle in handles {

@@ -1,6 +1,6 @@
 ghost use Rattle.std.specs.Prelude.{◌≡◌, ◌≤◌, ◌+◌, ℕ, true, IfOk, length};
 ghost use Rattle.std.specs.List.{All, zip};
-ghost use Rattle.geos_model.specs.Chain.{is_linked, name_of, relinked};
+ghost use Rattle.geos_model.specs.Chain.{name_of, relinked};
 ghost use Rattle.geos_model.specs.Bytes.{written};
 ghost use Rattle.geos_model.specs.Document.{is_vm_handle};
 ghost use Rattle.geos_model.specs.Heap.{capacity};
@@ -9,7 +9,7 @@ ghost use Rattle.vm_chains.specs.Linking.{AreLinks};
 ghost use Rattle.vm_chains.specs.Numbers.{numbers};
 ghost use Rattle.vm_chains.specs.Naming.{name_in};
 
-use crate::links::{Links, links_of};
+use crate::links::Links;
 use byteorder::{ByteOrder, LittleEndian};
 use geos_model::VmHandle;
 use raw_region::RawBody;
@@ -54,15 +54,18 @@ impl Names {
 }
 
 /// The bytes of a body with each of its links renamed.
-pub(crate) fn relinked(alloc: Global, body: &RawBody, names: &Names) -> Result<Vec<u8>, AllocError>
-    requires { is_linked body.now ≡ true }
+pub(crate) fn relinked(
+    alloc: Global,
+    body: &RawBody,
+    links: Links,
+    names: &Names,
+) -> Result<Vec<u8>, AllocError>
+    requires { AreLinks body.now links }
     ensures value { IfOk result (λ bytes. bytes.items ≡ relinked (name_in names.now) body.now) }
     ensures small { IfOk result (λ bytes. length bytes.items ≤ capacity) }
 {
     let mut bytes = body.bytes().to_vec(alloc)?;
-    if let Some(links) = links_of(body) {
-        rename_links(body, links, names, &mut bytes);
-    }
+    rename_links(body, links, names, &mut bytes);
     Ok(bytes)
 }
 

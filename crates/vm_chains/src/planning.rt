@@ -1,13 +1,16 @@
-ghost use Rattle.std.specs.Prelude.{◌≡◌, ◌==◌, IfOk, MatchResult, length};
+ghost use Rattle.std.specs.Prelude.{◌≡◌, ◌⊎◌, ◌==◌, IfOk, IfErr, length};
 ghost use Rattle.std.specs.List.{list_any};
 ghost use Rattle.geos_model.specs.Chain.{blocks_of, chain_blocks, copies_of, copy_conditions, free_conditions, new_handles, renamed_blocks};
-ghost use Rattle.geos_model.specs.declared.fault.Fault.TheVariants.{Memory};
-ghost use Rattle.vm_chains.specs.Answers.{Answers};
+ghost use Rattle.geos_model.specs.Document.{handles_of};
+ghost use Rattle.geos_model.specs.declared.fault.Fault.TheVariants.{NoHandles, IsMap};
 ghost use Rattle.vm_blocks.specs.Changes.{Applies};
+ghost use Rattle.vm_blocks.specs.Keeping.{Keeps, IsSteady, Lacks};
 ghost use Rattle.vm_blocks.specs.Members.{saved_blocks};
 ghost use Rattle.vm_blocks.specs.declared.change.Change.TheVariants as changes;
+ghost use Rattle.vm_chains.specs.Answers.{Answers, IsChainFault};
 ghost use Rattle.vm_chains.specs.Numbers.{numbers};
-ghost use Rattle.vm_chains.specs.Walking.{AreMembers};
+ghost use Rattle.vm_chains.specs.Planning.{CanLeave};
+ghost use Rattle.vm_chains.specs.Walking.{AreBlocks, AreMembers};
 
 use crate::names::Names;
 use crate::reading::{relinked_at, saved_at};
@@ -23,9 +26,12 @@ pub fn copy_plan<S: Store>(
     blocks: &mut FileBlocks<S>,
     root: VmHandle,
 ) -> Result<Members, Fault>
-    ensures value { Answers (copy_conditions blocks.old.document root.0) (λ plan. saved_blocks plan.list.items ≡ copies_of blocks.old.document (chain_blocks blocks.old.document root.0)) result }
-    ensures applies { IfOk result (λ plan. Applies (changes.BlocksIn plan) blocks.old.document) }
-    ensures stays { blocks.new ≡ blocks.old }
+    ensures keeps { Keeps S.facts blocks.old blocks.new }
+    ensures value { IsSteady S.facts blocks.old.disk.store
+        → Answers (Lacks S.facts blocks.old.disk.store blocks.new.disk.store) (copy_conditions blocks.new.document root.0)
+        (λ plan. saved_blocks plan.list.items ≡ copies_of blocks.new.document (chain_blocks blocks.new.document root.0)) result }
+    ensures applies { IfOk result (λ plan. Applies (changes.BlocksIn plan) blocks.new.document) }
+    ensures refusals { IfErr result (λ fault. Lacks S.facts blocks.old.disk.store blocks.new.disk.store fault ⊎ IsChainFault fault ⊎ (fault ≡ NoHandles)) }
 {
     let handles = walk(alloc, blocks, root)?;
     let new = free_handles(alloc, blocks, handles.len())?;
@@ -41,9 +47,13 @@ pub fn free_plan<S: Store>(
     blocks: &mut FileBlocks<S>,
     root: VmHandle,
 ) -> Result<Members, Fault>
-    ensures value { Answers (free_conditions blocks.old.document root.0) (λ plan. saved_blocks plan.list.items ≡ blocks_of blocks.old.document (chain_blocks blocks.old.document root.0)) result }
-    ensures applies { IfOk result (λ plan. Applies (changes.BlocksOut plan) blocks.old.document) }
-    ensures stays { blocks.new ≡ blocks.old }
+    ensures keeps { Keeps S.facts blocks.old blocks.new }
+    ensures value { IsSteady S.facts blocks.old.disk.store
+        → Answers (Lacks S.facts blocks.old.disk.store blocks.new.disk.store) (free_conditions blocks.new.document root.0)
+        (λ plan. saved_blocks plan.list.items ≡ blocks_of blocks.new.document (chain_blocks blocks.new.document root.0)) result }
+    ensures applies { IsSteady S.facts blocks.old.disk.store → IfOk result (λ plan. Applies (changes.BlocksOut plan) blocks.new.document) }
+    ensures handles { IfOk result (λ plan. CanLeave blocks.new.document (handles_of (saved_blocks plan.list.items))) }
+    ensures refusals { IfErr result (λ fault. Lacks S.facts blocks.old.disk.store blocks.new.disk.store fault ⊎ IsChainFault fault ⊎ (fault ≡ IsMap)) }
 {
     let handles = walk(alloc, blocks, root)?;
     if contains(&handles, blocks.map_block()) {
@@ -65,9 +75,11 @@ fn saved<S: Store>(
     blocks: &mut FileBlocks<S>,
     handles: &[VmHandle],
 ) -> Result<Members, Fault>
-    requires { AreMembers blocks.old.document handles.now }
-    ensures value { MatchResult result (λ plan. saved_blocks plan.list.items ≡ blocks_of blocks.old.document (numbers handles.now)) (λ fault. fault ≡ Memory) }
-    ensures stays { blocks.new ≡ blocks.old }
+    requires { AreBlocks blocks.old.document handles.now }
+    ensures keeps { Keeps S.facts blocks.old blocks.new }
+    ensures value { IsSteady S.facts blocks.old.disk.store → IfOk result (λ plan. saved_blocks plan.list.items ≡ blocks_of blocks.new.document (numbers handles.now)) }
+    ensures handles { IfOk result (λ plan. handles_of (saved_blocks plan.list.items) ≡ numbers handles.now) }
+    ensures refusals { IfErr result (Lacks S.facts blocks.old.disk.store blocks.new.disk.store) }
 {
     let mut plan = Vec::new(alloc);
     for handle in handles {
@@ -108,11 +120,13 @@ fn copies<S: Store>(
     handles: &[VmHandle],
     new: &[VmHandle],
 ) -> Result<Members, Fault>
-    requires members { AreMembers blocks.old.document handles.now }
+    requires live { AreBlocks blocks.old.document handles.now }
+    requires members { IsSteady S.facts blocks.old.disk.store → AreMembers blocks.old.document handles.now }
     requires new { length handles.now ≡ length new.now }
-    ensures value { MatchResult result
-        (λ plan. saved_blocks plan.list.items ≡ renamed_blocks blocks.old.document (numbers handles.now) (numbers new.now)) (λ fault. fault ≡ Memory) }
-    ensures stays { blocks.new ≡ blocks.old }
+    ensures keeps { Keeps S.facts blocks.old blocks.new }
+    ensures value { IsSteady S.facts blocks.old.disk.store → IfOk result (λ plan. saved_blocks plan.list.items ≡ renamed_blocks blocks.new.document (numbers handles.now) (numbers new.now)) }
+    ensures handles { IfOk result (λ plan. handles_of (saved_blocks plan.list.items) ≡ numbers new.now) }
+    ensures refusals { IfErr result (Lacks S.facts blocks.old.disk.store blocks.new.disk.store) }
 {
     let names = Names::new(alloc, handles, new)?;
     let mut plan = Vec::new(alloc);

@@ -1,9 +1,11 @@
-ghost use Rattle.std.specs.Prelude.{◌≡◌, None, Some, true, false, IfOk, MatchResult};
+ghost use Rattle.std.specs.Prelude.{◌≡◌, ◌⊎◌, None, Some, true, false, IfOk, IfErr, MatchResult};
 ghost use Rattle.geos_model.specs.Chain.{chain, is_member, on_chain};
 ghost use Rattle.geos_model.specs.Document.{is_raw};
-ghost use Rattle.vm_chains.specs.Answers.{Answers};
+ghost use Rattle.geos_model.specs.declared.fault.Fault.TheVariants.{BadChain};
+ghost use Rattle.vm_blocks.specs.Keeping.{Keeps, IsSteady, Lacks};
+ghost use Rattle.vm_chains.specs.Answers.{Answers, IsChainFault};
 ghost use Rattle.vm_chains.specs.Numbers.{numbers};
-ghost use Rattle.vm_chains.specs.Walking.{AreMembers, GoesOn, RefusesRoot, Stops};
+ghost use Rattle.vm_chains.specs.Walking.{AreBlocks, AreMembers, GoesOn, RefusesRoot, Stops};
 
 use crate::links::{links_of, push_links};
 use crate::met::Met;
@@ -19,9 +21,12 @@ pub fn walk<S: Store>(
     blocks: &mut FileBlocks<S>,
     root: VmHandle,
 ) -> Result<Vec<VmHandle>, Fault>
-    ensures value { Answers (on_chain blocks.old.document root.0) (λ handles. chain blocks.old.document root.0 ≡ Some (numbers handles.items)) result }
-    ensures members { IfOk result (λ handles. AreMembers blocks.old.document handles.items) }
-    ensures stays { blocks.new ≡ blocks.old }
+    ensures keeps { Keeps S.facts blocks.old blocks.new }
+    ensures value { IsSteady S.facts blocks.old.disk.store
+        → Answers (Lacks S.facts blocks.old.disk.store blocks.new.disk.store) (on_chain blocks.new.document root.0) (λ handles. chain blocks.new.document root.0 ≡ Some (numbers handles.items)) result }
+    ensures live { IfOk result (λ handles. AreBlocks blocks.new.document handles.items) }
+    ensures members { IsSteady S.facts blocks.old.disk.store → IfOk result (λ handles. AreMembers blocks.new.document handles.items) }
+    ensures refusals { IfErr result (λ fault. Lacks S.facts blocks.old.disk.store blocks.new.disk.store fault ⊎ IsChainFault fault) }
 {
     test_root(blocks, root)?;
     walk_from(alloc, blocks, root)
@@ -29,8 +34,10 @@ pub fn walk<S: Store>(
 
 /// NoBlock where no block is there, WrongKind where a heap is.
 pub(crate) fn test_root<S: Store>(blocks: &mut FileBlocks<S>, root: VmHandle) -> Result<(), Fault>
-    ensures value { MatchResult result (λ _. is_raw blocks.old.document root.0 ≡ true) (RefusesRoot blocks.old.document root.0) }
-    ensures stays { blocks.new ≡ blocks.old }
+    ensures keeps { Keeps S.facts blocks.old blocks.new }
+    ensures value { MatchResult result
+        (λ _. is_raw blocks.new.document root.0 ≡ true)
+        (λ fault. Lacks S.facts blocks.old.disk.store blocks.new.disk.store fault ⊎ RefusesRoot blocks.new.document root.0 fault) }
 {
     blocks.load(root)?;
     match blocks.body(root) {
@@ -45,11 +52,13 @@ pub(crate) fn walk_from<S: Store>(
     blocks: &mut FileBlocks<S>,
     root: VmHandle,
 ) -> Result<Vec<VmHandle>, Fault>
-    ensures value { MatchResult result
-        (λ handles. chain blocks.old.document root.0 ≡ Some (numbers handles.items))
-        (Stops (chain blocks.old.document root.0 ≡ None)) }
-    ensures members { IfOk result (λ handles. AreMembers blocks.old.document handles.items) }
-    ensures stays { blocks.new ≡ blocks.old }
+    ensures keeps { Keeps S.facts blocks.old blocks.new }
+    ensures value { IsSteady S.facts blocks.old.disk.store → MatchResult result
+        (λ handles. chain blocks.new.document root.0 ≡ Some (numbers handles.items))
+        (Stops (Lacks S.facts blocks.old.disk.store blocks.new.disk.store) (chain blocks.new.document root.0 ≡ None)) }
+    ensures live { IfOk result (λ handles. AreBlocks blocks.new.document handles.items) }
+    ensures members { IsSteady S.facts blocks.old.disk.store → IfOk result (λ handles. AreMembers blocks.new.document handles.items) }
+    ensures refusals { IfErr result (λ fault. Lacks S.facts blocks.old.disk.store blocks.new.disk.store fault ⊎ (fault ≡ BadChain)) }
 {
     blocks.validity();
     let mut met = Met::new(alloc)?;
@@ -78,10 +87,10 @@ fn follow<S: Store>(
     handle: VmHandle,
     pending: &mut Pending,
 ) -> Result<(), Fault>
+    ensures keeps { Keeps S.facts blocks.old blocks.new }
     ensures value { MatchResult result
-        (λ _. GoesOn blocks.old.document handle.0 pending.old pending.new)
-        (Stops (is_member blocks.old.document handle.0 ≡ false)) }
-    ensures stays { blocks.new ≡ blocks.old }
+        (λ _. GoesOn blocks.new.document handle.0 pending.old pending.new)
+        (Stops (Lacks S.facts blocks.old.disk.store blocks.new.disk.store) (is_member blocks.new.document handle.0 ≡ false)) }
 {
     if !blocks.is_live(handle) {
         return Err(Fault::BadChain);

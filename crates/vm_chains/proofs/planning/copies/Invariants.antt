@@ -1,12 +1,16 @@
-use Rattle.std.proofs.Common.{◌≡◌, ◌++◌, length, drop}
+use Rattle.std.proofs.Common.{◌≡◌, ◌++◌, length, drop, take}
+use Rattle.geos_model.specs.Document.{handles_of}
+use Rattle.vm_blocks.specs.Keeping.{Keeps, IsSteady}
 use Rattle.vm_blocks.specs.Members.{saved_blocks}
+use Rattle.vm_chains.specs.Numbers.{numbers}
 use Rattle.vm_chains.proofs.CopyLemmas.{copies_from}
 use Rattle.vm_chains.proofs.planning.copies.Given as goal
 
 -- the plan has the blocks before this one
 abbrev pub invariant-loop-i : goal.invariant-loop-i
 invariant-loop-i g l = record {
-  plan : saved_blocks l.plan.items ++ copies_from l.fn.blocks.document l.handles l.new (drop l.i l.handles) (drop l.i l.new) ≡ copies_from l.fn.blocks.document l.handles l.new l.handles l.new;
+  plan : IsSteady g.S.Store.facts l.fn.blocks.disk.store → saved_blocks l.plan.items ++ copies_from l.fn.blocks.document l.handles l.new (drop l.i l.handles) (drop l.i l.new) ≡ copies_from l.fn.blocks.document l.handles l.new l.handles l.new;
+  handles : handles_of (saved_blocks l.plan.items) ≡ numbers (take l.i l.new);
   many : length l.plan.items ≡ l.i;
-  same : l.blocks ≡ l.fn.blocks;
+  keeps : Keeps g.S.Store.facts l.fn.blocks l.blocks;
 }

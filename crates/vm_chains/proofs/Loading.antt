@@ -1,0 +1,75 @@
+-- Calls that load blocks, in turn.
+use Rattle.std.proofs.Common.{◌≡◌, ◌⊎◌, ℕ, Bool, true, false, not, ◌&&◌, List, [], get_or, Option, Some, None, Result, Ok, Err, IfErr, IsErrAnd, MatchResult, refl, sym, ap, subst, ◌∙◌, inl, inr}
+use Rattle.std.specs.Option.{option_map, option_map_or}
+use Rattle.std.proofs.lemmas.Bool.{true≢false}
+use Rattle.vm_store.specs.Facts.{StoreFacts}
+use Rattle.geos_model.specs.Chain.{is_linked}
+use Rattle.geos_model.specs.declared.command.Body.{Body}
+use Rattle.vm_chains.proofs.WalkLemmas.{and_false}
+use Rattle.geos_model.specs.Document.{Block, Document, bytes_of_body, is_heap_body, is_live}
+use Rattle.geos_model.specs.declared.fault.Fault.{Fault}
+use Rattle.geos_model.specs.declared.fault.Fault.TheVariants.{Damaged, NoBlock}
+use Rattle.geos_model.specs.declared.handle.VmHandle.{VmHandle}
+use Rattle.vm_file.specs.Disk.{FileState}
+use Rattle.vm_blocks.specs.Keeping.{Keeps, IsSteady, Lacks}
+use Rattle.vm_blocks.proofs.KeepingLaws.{keeps-drifts, keeps-same, keeps-was_steady, lacks-damaged}
+use Rattle.vm_chains.specs.Walking.{AreBlocks, AreMembers}
+
+-- the fault that `?` hands on
+pub carried : {A : Type 0} (result : Result A Fault) (fault : Fault) (P : A → Type 0) (Q : Fault → Type 0) → IsErrAnd result (λ e. e ≡ fault) → Q fault → MatchResult result P Q
+carried (Ok x) fault P Q is refused = absurd is
+carried (Err e) fault P Q is refused = subst Q (sym is) refused
+
+pub carried_so : {A : Type 0} (result : Result A Fault) (fault : Fault) (Q : Fault → Type 0) → IsErrAnd result (λ e. e ≡ fault) → Q fault → IfErr result Q
+carried_so (Ok x) fault Q is refused = absurd is
+carried_so (Err e) fault Q is refused = subst Q (sym is) refused
+
+pub refused_later : {A : Type 0} (result : Result A Fault) (P : A → Type 0) (Q R : Fault → Type 0) → MatchResult result P Q → ((fault : Fault) → Q fault → R fault) → IfErr result R
+refused_later (Ok x) P Q R is turn = tt
+refused_later (Err fault) P Q R is turn = turn fault is
+
+-- The body of a block.
+
+pub heap_there : (o : Option Block) (body : Body) → option_map (λ b. b.body) o ≡ Some body → is_heap_body body ≡ true → option_map_or (λ b. not (is_heap_body b.body)) o false ≡ false
+heap_there None body e heap = refl
+heap_there (Some b) body e heap = let same : b.body ≡ body = cc e in ap (λ (x : Body). not (is_heap_body x)) same ∙ ap not heap
+
+pub unlinked_there : (o : Option Block) (body : Body) → option_map (λ b. b.body) o ≡ Some body → is_linked (bytes_of_body body) ≡ false
+    → (option_map_or (λ b. not (is_heap_body b.body)) o false && is_linked (option_map_or (λ b. bytes_of_body b.body) o [])) ≡ false
+unlinked_there None body e none = refl
+unlinked_there (Some b) body e none =
+    let same : b.body ≡ body = cc e in
+    ap (λ (x : Body). not (is_heap_body x) && is_linked (bytes_of_body x)) same ∙ ap (λ (l : Bool). not (is_heap_body body) && l) none ∙ and_false (not (is_heap_body body))
+
+module _ {S : Type 0} (facts : S → StoreFacts) (a b : FileState S) (keeps : Keeps facts a b) where
+  -- What is known by handle stays.
+
+  pub still_live : (h : ℕ) → is_live a.document h ≡ true → is_live b.document h ≡ true
+  still_live h live = (keeps-drifts facts a b keeps).live h ∙ live
+
+  pub still_blocks : (hs : List VmHandle) → AreBlocks a.document hs → AreBlocks b.document hs
+  still_blocks hs are = record {
+    live = λ i h within. still_live (get_or hs i h).0 (are.live i h within);
+    handles = are.handles;
+    distinct = are.distinct;
+    few = are.few;
+  }
+
+  -- What is known of bodies stays over a steady store.
+
+  pub still : (P : Document → Type 0) → (IsSteady facts a.disk.store → P a.document) → IsSteady facts a.disk.store → P b.document
+  still P was steady = subst P (sym (keeps-same facts a b keeps steady)) (was steady)
+
+  pub still_then : (P : Document → Type 0) → (IsSteady facts a.disk.store → P a.document) → IsSteady facts b.disk.store → P b.document
+  still_then P was steady = still P was (keeps-was_steady facts a b keeps steady)
+
+  -- a live block is loaded, or what a load needs is lacking
+  pub load_lacks : (h : ℕ) (fault : Fault) → is_live a.document h ≡ true → Lacks facts a.disk.store b.disk.store fault ⊎ ((fault ≡ NoBlock) × (is_live b.document h ≡ false)) → Lacks facts a.disk.store b.disk.store fault
+  load_lacks h fault live refused = elim refused as (λ _. Lacks facts a.disk.store b.disk.store fault) [
+    | inl lacks ↦ lacks
+    | inr none ↦ absurd (true≢false (sym (still_live h live) ∙ none.1))
+  ]
+
+  -- a block that isn't what it was comes from a store that isn't steady
+  pub other_now : (test : Document → Bool) → (IsSteady facts a.disk.store → test a.document ≡ true) → test b.document ≡ false → Lacks facts a.disk.store b.disk.store Damaged
+  other_now test was is = lacks-damaged facts a.disk.store b.disk.store (λ steady. true≢false (sym (still (λ d. test d ≡ true) was steady) ∙ is))

@@ -1,0 +1,135 @@
+use Rattle.std.proofs.Common.{◌≡◌, ◌⊎◌, ℕ, List, None, Some, true, Result, IfOk, IfErr, sym, ap, subst, ◌∙◌, inl, inr}
+use Rattle.std.proofs.lemmas.Result.{IfErr-weaker}
+use Rattle.vm_store.specs.Facts.{StoreFacts}
+use Rattle.vm_file.specs.Disk.{FileState}
+use Rattle.geos_model.specs.Chain.{chain, chain_blocks, on_chains, same_shape}
+use Rattle.geos_model.specs.Document.{Document, is_raw}
+use Rattle.geos_model.specs.Refusal.{first_refusal}
+use Rattle.geos_model.specs.declared.fault.Fault.{Fault}
+use Rattle.geos_model.specs.declared.fault.Fault.TheVariants.{BadChain}
+use Rattle.geos_model.specs.declared.handle.VmHandle.{VmHandle}
+use Rattle.vm_blocks.specs.Keeping.{Keeps, IsSteady, Lacks}
+use Rattle.vm_blocks.proofs.KeepingLaws.{keeps-same, keeps-steady, keeps-trans, keeps-was_steady, lacks-later}
+use Rattle.vm_chains.specs.Answers.{IsChainFault, Refuses}
+use Rattle.vm_chains.specs.Numbers.{numbers}
+use Rattle.vm_chains.specs.Walking.{AreBlocks, AreMembers, Stops}
+use Rattle.vm_chains.proofs.ChainLemmas.{blocks_are}
+use Rattle.vm_chains.proofs.Loading.{carried, carried_so, still, still_blocks}
+use Rattle.vm_chains.proofs.Refusals.{answers, two_stop, two_whole}
+use Rattle.vm_chains.proofs.comparing.equal.Goals as goal
+
+abbrev AreRaw : ℕ → ℕ → Document → Type 0
+AreRaw f s d = (is_raw d f ≡ true) × (is_raw d s ≡ true)
+
+-- a walk of either chain is refused
+walk_refused : {S : Type 0} (facts : S → StoreFacts) (a r u : FileState S) (f s : ℕ) (fault : Fault) → Keeps facts a r → Keeps facts r u → IsSteady facts a.disk.store → AreRaw f s r.document
+    → Stops (Lacks facts r.disk.store u.disk.store) ((chain u.document f ≡ None) ⊎ (chain u.document s ≡ None)) fault → Refuses (Lacks facts a.disk.store u.disk.store) (on_chains u.document f s) fault
+walk_refused facts a r u f s fault begins walks steady raw stops =
+    let now : AreRaw f s u.document = subst (AreRaw f s) (sym (keeps-same facts r u walks (keeps-steady facts a r begins steady))) raw in
+    two_stop u.document f s (Lacks facts a.disk.store u.disk.store) fault now.0 now.1
+    (elim stops as (λ _. Stops (Lacks facts a.disk.store u.disk.store) ((chain u.document f ≡ None) ⊎ (chain u.document s ≡ None)) fault) [
+      | inl lacks ↦ inl (lacks-later facts a r u.disk.store fault begins lacks)
+      | inr bad ↦ inr bad
+    ])
+
+stop_fault : {S : Type 0} (facts : S → StoreFacts) (a r u : FileState S) (fault : Fault) → Keeps facts a r → Lacks facts r.disk.store u.disk.store fault ⊎ (fault ≡ BadChain) → Lacks facts a.disk.store u.disk.store fault ⊎ IsChainFault fault
+stop_fault facts a r u fault begins stops = elim stops as (λ _. Lacks facts a.disk.store u.disk.store fault ⊎ IsChainFault fault) [
+  | inl lacks ↦ inl (lacks-later facts a r u.disk.store fault begins lacks)
+  | inr bad ↦ inr (inr (inr bad))
+]
+
+pub returns-in_err-test_roots-clause-value : goal.returns-in_err-test_roots-clause-value
+returns-in_err-test_roots-clause-value g c = λ steady. carried c.from_residual.result c.in_err-test_roots.field-0.0 _ _ c.from_residual.ensures.1 (c.in_err-test_roots.ensures.value steady)
+
+pub returns-in_err-test_roots-clause-refusals : goal.returns-in_err-test_roots-clause-refusals
+returns-in_err-test_roots-clause-refusals g c = carried_so c.from_residual.result c.in_err-test_roots.field-0.0 _ c.from_residual.ensures.1 c.in_err-test_roots.ensures.refusals
+
+pub returns-in_err-first-clause-keeps : goal.returns-in_err-first-clause-keeps
+returns-in_err-first-clause-keeps g c = keeps-trans g.S.Store.facts c.args.blocks.now c.test_roots.new.blocks c.walk_from.new.blocks c.test_roots.ensures.keeps c.walk_from.ensures.keeps
+
+pub returns-in_err-first-clause-value : goal.returns-in_err-first-clause-value
+returns-in_err-first-clause-value g c = λ steady.
+    let a = c.args.blocks.now in let r = c.test_roots.new.blocks in let u = c.walk_from.new.blocks in let f = c.args.first.0 in let s = c.args.second.0 in let fault = c.in_err-first.field-0.0 in
+    carried c.from_residual-in_err-first.result fault _ _ c.from_residual-in_err-first.ensures.1
+    (walk_refused g.S.Store.facts a r u f s fault c.test_roots.ensures.keeps c.walk_from.ensures.keeps steady (c.in_ok-test_roots.ensures.value steady)
+    (elim (c.in_err-first.ensures.value (keeps-steady g.S.Store.facts a r c.test_roots.ensures.keeps steady)) as (λ _. Stops (Lacks g.S.Store.facts r.disk.store u.disk.store) ((chain u.document f ≡ None) ⊎ (chain u.document s ≡ None)) fault) [
+      | inl lacks ↦ inl lacks
+      | inr bad ↦ inr (bad.0, inl bad.1)
+    ]))
+
+pub returns-in_err-first-clause-refusals : goal.returns-in_err-first-clause-refusals
+returns-in_err-first-clause-refusals g c =
+    carried_so c.from_residual-in_err-first.result c.in_err-first.field-0.0 _ c.from_residual-in_err-first.ensures.1
+    (stop_fault g.S.Store.facts c.args.blocks.now c.test_roots.new.blocks c.walk_from.new.blocks c.in_err-first.field-0.0 c.test_roots.ensures.keeps c.in_err-first.ensures.refusals)
+
+pub returns-in_err-second-clause-keeps : goal.returns-in_err-second-clause-keeps
+returns-in_err-second-clause-keeps g c =
+    let a = c.args.blocks.now in let r = c.test_roots.new.blocks in let u = c.walk_from.new.blocks in
+    keeps-trans g.S.Store.facts a u c.walk_from-2.new.blocks (keeps-trans g.S.Store.facts a r u c.test_roots.ensures.keeps c.walk_from.ensures.keeps) c.walk_from-2.ensures.keeps
+
+pub returns-in_err-second-clause-value : goal.returns-in_err-second-clause-value
+returns-in_err-second-clause-value g c = λ steady.
+    let a = c.args.blocks.now in let r = c.test_roots.new.blocks in let u = c.walk_from.new.blocks in let v = c.walk_from-2.new.blocks in
+    let f = c.args.first.0 in let s = c.args.second.0 in let fault = c.in_err-second.field-0.0 in
+    let begins = keeps-trans g.S.Store.facts a r u c.test_roots.ensures.keeps c.walk_from.ensures.keeps in
+    let raw : AreRaw f s u.document = subst (AreRaw f s) (sym (keeps-same g.S.Store.facts r u c.walk_from.ensures.keeps (keeps-steady g.S.Store.facts a r c.test_roots.ensures.keeps steady))) (c.in_ok-test_roots.ensures.value steady) in
+    carried c.from_residual-in_err-second.result fault _ _ c.from_residual-in_err-second.ensures.1
+    (walk_refused g.S.Store.facts a u v f s fault begins c.walk_from-2.ensures.keeps steady raw
+    (elim (c.in_err-second.ensures.value (keeps-steady g.S.Store.facts a u begins steady)) as (λ _. Stops (Lacks g.S.Store.facts u.disk.store v.disk.store) ((chain v.document f ≡ None) ⊎ (chain v.document s ≡ None)) fault) [
+      | inl lacks ↦ inl lacks
+      | inr bad ↦ inr (bad.0, inr bad.1)
+    ]))
+
+pub returns-in_err-second-clause-refusals : goal.returns-in_err-second-clause-refusals
+returns-in_err-second-clause-refusals g c =
+    let a = c.args.blocks.now in let r = c.test_roots.new.blocks in let u = c.walk_from.new.blocks in
+    carried_so c.from_residual-in_err-second.result c.in_err-second.field-0.0 _ c.from_residual-in_err-second.ensures.1
+    (stop_fault g.S.Store.facts a u c.walk_from-2.new.blocks c.in_err-second.field-0.0 (keeps-trans g.S.Store.facts a r u c.test_roots.ensures.keeps c.walk_from.ensures.keeps) c.in_err-second.ensures.refusals)
+
+pub same_shape-requires-clause-first : goal.same_shape-requires-clause-first
+same_shape-requires-clause-first g c =
+    let u = c.walk_from.new.blocks in let v = c.walk_from-2.new.blocks in
+    subst (AreBlocks v.document) (sym c.deref.ensures.value) (still_blocks g.S.Store.facts u v c.walk_from-2.ensures.keeps c.in_ok-first.first.items c.in_ok-first.ensures.live)
+
+pub same_shape-requires-clause-second : goal.same_shape-requires-clause-second
+same_shape-requires-clause-second g c = subst (AreBlocks c.walk_from-2.new.blocks.document) (sym c.deref-2.ensures.value) c.in_ok-second.ensures.live
+
+pub same_shape-requires-clause-members : goal.same_shape-requires-clause-members
+same_shape-requires-clause-members g c = λ steady.
+    let r = c.test_roots.new.blocks in let u = c.walk_from.new.blocks in let v = c.walk_from-2.new.blocks in
+    let before = keeps-was_steady g.S.Store.facts u v c.walk_from-2.ensures.keeps steady in
+    let first = still g.S.Store.facts u v c.walk_from-2.ensures.keeps (λ d. AreMembers d c.in_ok-first.first.items) (λ s. c.in_ok-first.ensures.members (keeps-was_steady g.S.Store.facts r u c.walk_from.ensures.keeps s)) before in
+    (subst (AreMembers v.document) (sym c.deref.ensures.value) first, subst (AreMembers v.document) (sym c.deref-2.ensures.value) (c.in_ok-second.ensures.members before))
+
+pub returns-clause-keeps : goal.returns-clause-keeps
+returns-clause-keeps g c =
+    let a = c.args.blocks.now in let r = c.test_roots.new.blocks in let u = c.walk_from.new.blocks in let v = c.walk_from-2.new.blocks in
+    keeps-trans g.S.Store.facts a v c.same_shape.new.blocks
+    (keeps-trans g.S.Store.facts a u v (keeps-trans g.S.Store.facts a r u c.test_roots.ensures.keeps c.walk_from.ensures.keeps) c.walk_from-2.ensures.keeps) c.same_shape.ensures.keeps
+
+pub returns-clause-value : goal.returns-clause-value
+returns-clause-value g c = λ steady.
+    let a = c.args.blocks.now in let r = c.test_roots.new.blocks in let u = c.walk_from.new.blocks in let v = c.walk_from-2.new.blocks in let e = c.same_shape.new.blocks in
+    let f = c.args.first.0 in let s = c.args.second.0 in
+    let facts = g.S.Store.facts in
+    let k1 = c.test_roots.ensures.keeps in let k2 = keeps-trans facts a r u k1 c.walk_from.ensures.keeps in let k3 = keeps-trans facts a u v k2 c.walk_from-2.ensures.keeps in
+    let at_r = keeps-steady facts a r k1 steady in let at_u = keeps-steady facts a u k2 steady in let at_v = keeps-steady facts a v k3 steady in
+    let last = keeps-same facts v e c.same_shape.ensures.keeps at_v in
+    let later = keeps-same facts u v c.walk_from-2.ensures.keeps at_u in
+    let raw : AreRaw f s e.document = subst (AreRaw f s) (sym (last ∙ later ∙ keeps-same facts r u c.walk_from.ensures.keeps at_r)) (c.in_ok-test_roots.ensures.value steady) in
+    let first : chain e.document f ≡ Some (numbers c.in_ok-first.first.items) = ap (λ (d : Document). chain d f) (last ∙ later) ∙ c.in_ok-first.ensures.value at_r in
+    let second : chain e.document s ≡ Some (numbers c.in_ok-second.second.items) = ap (λ (d : Document). chain d s) last ∙ c.in_ok-second.ensures.value at_u in
+    let xs = ap numbers c.deref.ensures.value ∙ sym (blocks_are e.document f (numbers c.in_ok-first.first.items) first) in
+    let ys = ap numbers c.deref-2.ensures.value ∙ sym (blocks_are e.document s (numbers c.in_ok-second.second.items) second) in
+    answers (Lacks facts a.disk.store e.disk.store) (on_chains e.document f s) (λ same. same ≡ same_shape e.document (numbers c.deref.result.now) (numbers c.deref-2.result.now)) (λ same. same ≡ same_shape e.document (chain_blocks e.document f) (chain_blocks e.document s)) c.same_shape.result
+    (two_whole e.document f s (numbers c.in_ok-first.first.items) (numbers c.in_ok-second.second.items) raw.0 raw.1 first second)
+    (c.same_shape.ensures.value at_v)
+    (IfErr-weaker c.same_shape.result (Lacks facts v.disk.store e.disk.store) (Lacks facts a.disk.store e.disk.store) (λ fault lacks. lacks-later facts a v e.disk.store fault k3 lacks) c.same_shape.ensures.refusals)
+    (λ same is. is ∙ (λ j. same_shape e.document (xs j) (ys j)))
+
+pub returns-clause-refusals : goal.returns-clause-refusals
+returns-clause-refusals g c =
+    let a = c.args.blocks.now in let r = c.test_roots.new.blocks in let u = c.walk_from.new.blocks in let v = c.walk_from-2.new.blocks in let e = c.same_shape.new.blocks in
+    let k3 = keeps-trans g.S.Store.facts a u v (keeps-trans g.S.Store.facts a r u c.test_roots.ensures.keeps c.walk_from.ensures.keeps) c.walk_from-2.ensures.keeps in
+    IfErr-weaker c.same_shape.result (Lacks g.S.Store.facts v.disk.store e.disk.store) (λ fault. Lacks g.S.Store.facts a.disk.store e.disk.store fault ⊎ IsChainFault fault)
+    (λ fault lacks. inl (lacks-later g.S.Store.facts a v e.disk.store fault k3 lacks)) c.same_shape.ensures.refusals
