@@ -1,10 +1,10 @@
 -- Blocks of a plan can come in or go.
-use Rattle.std.proofs.Common.{◌≡◌, ◌≢◌, ℕ, ◌≤◌, true, false, ◌==◌, List, [], length, get_or, Option, None, Some, is_none, is_some, unwrap_or, Result, Ok, Err, IfOk, MatchResult, length-take, refl, sym, ap, subst, ◌∙◌, arith}
+use Rattle.std.proofs.Common.{◌≡◌, ◌≢◌, Bool, ℕ, ◌≤◌, true, false, ◌==◌, List, [], length, get_or, Option, None, Some, is_none, is_some, unwrap_or, Result, Ok, Err, IfOk, MatchResult, length-take, refl, sym, ap, subst, ◌∙◌, arith}
 use Rattle.std.proofs.lemmas.Bool.{eq-eqb, true≢false}
 use Rattle.std.proofs.lemmas.List.{length-map}
 use Rattle.std.proofs.lemmas.List.Elements.{All-map, Contains-get_or}
 use Rattle.std.proofs.lemmas.List.Folds.{list_any_at}
-use Rattle.std.specs.List.{Contains, zip}
+use Rattle.std.specs.List.{Contains, list_any, zip}
 use Rattle.std.specs.FinMap.{get}
 use Rattle.geos_model.specs.Chain.{blocks_of, chain, chain_blocks, free_conditions, free_handles, name_of, new_handles, relinked_block, renamed_blocks}
 use Rattle.geos_model.specs.ElementArray.{all_distinct}

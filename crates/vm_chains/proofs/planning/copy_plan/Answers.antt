@@ -57,14 +57,6 @@ returns-in_err-new-clause-value g c = λ steady. carried c.from_residual-in_err-
 pub returns-in_err-new-clause-refusals : goal.returns-in_err-new-clause-refusals
 returns-in_err-new-clause-refusals g c = carried_so c.from_residual-in_err-new.result Memory _ c.from_residual-in_err-new.ensures.1 (inl (lacks-memory g.S.Store.facts c.args.blocks.now.disk.store c.walk.new.blocks.disk.store))
 
-pub returns-then-len-len-clause-value : goal.returns-then-len-len-clause-value
-returns-then-len-len-clause-value g c = λ steady.
-    let d = c.walk.new.blocks.document in let root = c.args.root.0 in let hs = c.in_ok-handles.handles.items in let new = c.in_ok-new.new.items in
-    let walked = c.in_ok-handles.ensures.value steady in
-    let wanted : c.len.result ≡ length hs = omega (arith, c.len.ensures, c.in_ok-handles.handles.ok.0) in
-    let few : length new < length hs = omega (arith, wanted, c.in_ok-new.new.ok.0) in
-    inr (by_handles d root true (too_few d root c.len.result hs new walked.1 c.in_ok-new.ensures wanted few) walked.0)
-
 pub copies-requires-clause-live : goal.copies-requires-clause-live
 copies-requires-clause-live g c = subst (AreBlocks c.walk.new.blocks.document) (sym c.deref.ensures.value) c.in_ok-handles.ensures.live
 
@@ -88,7 +80,7 @@ returns-clause-value g c =
     (λ steady. (c.in_ok-handles.ensures.value steady).1)
     (λ steady. IfOk-weaker c.copies.result (λ plan. saved_blocks plan.list.items ≡ renamed_blocks e.document (numbers c.deref.result.now) (numbers c.deref-2.result.now)) (λ plan. saved_blocks plan.list.items ≡ copies_of e.document (numbers c.deref.result.now))
     (λ plan is. is ∙ ap (λ (xs : List ℕ). renamed_blocks e.document (numbers c.deref.result.now) xs)
-    (ap numbers c.deref-2.ensures.value ∙ c.in_ok-new.ensures ∙ (λ j. new_handles (keeps-same g.S.Store.facts b e c.copies.ensures.keeps steady j) (here j))))
+    (ap numbers c.deref-2.ensures.value ∙ c.in_ok-new.ensures ∙ (λ j. let back = sym (keeps-same g.S.Store.facts b e c.copies.ensures.keeps steady) in new_handles (back j) (here j))))
     (c.copies.ensures.value steady))
     c.copies.ensures.refusals
 
