@@ -1,9 +1,14 @@
 // Extents are placed at the first pages that are free.
+ghost use Rattle.std.specs.Prelude.{◌≡◌, IfOk};
+
 use geos_model::Extent;
+use std::alloc::{AllocError, Global};
 use std::test::Fail;
 use vm_space::{FreeSpace, place};
 
-fn extent(page: u32, length: u32) -> Extent {
+fn extent(page: u32, length: u32) -> Extent
+    ensures { result ≡ record { page = page; length = length } }
+{
     Extent { page, length }
 }
 
@@ -29,30 +34,68 @@ fn the_first_gap_that_is_long_enough_is_taken(rt: HostRuntime) -> Result<(), Fai
 
 #[test]
 fn extents_are_placed_behind_each_other(rt: HostRuntime) -> Result<(), Fail> {
-    let mut space = FreeSpace::new(rt.alloc(), &[])?;
+    let mut space = FreeSpace::new(rt.alloc());
     for i in 0..12_292u32 {
-        assert!(rt; space.take(65_536) == extent(2 + 128 * i, 65_536));
+        let at = space.take(65_536)?;
+        assert!(rt; at == extent(2 + 128 * i, 65_536));
     }
     Ok(())
 }
 
+// Free are pages 2 and 3, 5 to 7, and those from 9 on.
+fn between_two(alloc: Global) -> Result<FreeSpace, AllocError>
+    ensures { IfOk result (λ space. space.count ≡ 2) }
+{
+    let mut space = FreeSpace::new(alloc);
+    space.hold(extent(8, 512))?;
+    space.hold(extent(4, 512))?;
+    Ok(space)
+}
+
 #[test]
 fn gaps_between_extents_are_filled(rt: HostRuntime) -> Result<(), Fail> {
-    let taken = [
-        Extent {
-            page: 4,
-            length: 512,
-        },
-        Extent {
-            page: 8,
-            length: 512,
-        },
-    ];
-    let mut space = FreeSpace::new(rt.alloc(), &taken)?;
-    assert!(rt; space.take(1_024) == extent(2, 1_024));
-    assert!(rt; space.take(2_048) == extent(9, 2_048));
-    assert!(rt; space.take(512) == extent(5, 512));
-    assert!(rt; space.take(1_024) == extent(6, 1_024));
-    assert!(rt; space.take(1) == extent(13, 1));
+    let mut space = between_two(rt.alloc())?;
+    let first = space.take(1_024)?;
+    assert!(rt; first == extent(2, 1_024));
+    let second = space.take(2_048)?;
+    assert!(rt; second == extent(9, 2_048));
+    let third = space.take(512)?;
+    assert!(rt; third == extent(5, 512));
+    let fourth = space.take(1_024)?;
+    assert!(rt; fourth == extent(6, 1_024));
+    let fifth = space.take(1)?;
+    assert!(rt; fifth == extent(13, 1));
+    Ok(())
+}
+
+#[test]
+fn what_is_given_back_is_placed_again(rt: HostRuntime) -> Result<(), Fail> {
+    let mut space = FreeSpace::new(rt.alloc());
+    let first = space.take(512)?;
+    let second = space.take(1_024)?;
+    let third = space.take(512)?;
+    assert!(rt; third == extent(5, 512));
+    space.release(second);
+    space.release(first);
+    let at = space.take(1_536)?;
+    assert!(rt; at == extent(2, 1_536));
+    let last = space.take(512)?;
+    assert!(rt; last == extent(6, 512));
+    Ok(())
+}
+
+#[test]
+fn extents_that_overlap_are_given_back_one_by_one(rt: HostRuntime) -> Result<(), Fail> {
+    let mut space = FreeSpace::new(rt.alloc());
+    let low = extent(2, 1_024);
+    let high = extent(3, 1_024);
+    space.hold(low)?;
+    space.hold(high)?;
+    space.release(low);
+    let first = space.take(512)?;
+    assert!(rt; first == extent(2, 512));
+    space.release(high);
+    let second = space.take(512)?;
+    assert!(rt; second == extent(3, 512));
     Ok(())
 }

@@ -1,4 +1,4 @@
-use Rattle.std.proofs.Common.{◌≡◌, ◌+◌, ◌<◌, ◌≤◌, ap, length, take, subst, sym, ◌∙◌, arith, None, Some}
+use Rattle.std.proofs.Common.{◌+◌, take, subst, sym, arith}
 use Rattle.vm_space.specs.Space.{Space}
 use Rattle.vm_file.specs.Known.{Takes}
 use Rattle.vm_file.specs.Ranges.{IsPlaced}

@@ -1,4 +1,4 @@
-use Rattle.std.proofs.Common.{◌≡◌, ◌+◌, ◌≤◌, ap, length, All, sym, subst, arith}
+use Rattle.std.proofs.Common.{ap, length, All, sym, subst, arith}
 use Rattle.std.proofs.lemmas.List.Elements.{All-head, All-tail}
 use Rattle.vm_file.specs.Known.{Takes}
 use Rattle.vm_file.specs.Ranges.{IsPlaced}

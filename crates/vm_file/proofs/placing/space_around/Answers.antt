@@ -1,4 +1,4 @@
-use Rattle.std.proofs.Common.{◌≡◌, ◌+◌, ◌≤◌, ◌++◌, [], length, length-append, subst, arith}
+use Rattle.std.proofs.Common.{[], length-append, subst, arith}
 use Rattle.std.proofs.lemmas.List.{append-nil}
 use Rattle.vm_space.specs.Space.{AreTaken}
 use Rattle.vm_file.specs.Slots.{block_extents, kept_extents}

@@ -1,4 +1,4 @@
-use Rattle.std.proofs.Common.{◌++◌, All, length, sym, ap, subst, arith}
+use Rattle.std.proofs.Common.{◌++◌, length, sym, subst, arith}
 use Rattle.vm_file.specs.Slots.{block_extents, kept_extents}
 use Rattle.vm_file.specs.Writing.{AreFor, Fills}
 use Rattle.vm_file.proofs.KeptBytes.{all_right}

@@ -1,13 +1,11 @@
-use Rattle.std.proofs.Common.{IsTrue, false, refl, sym, subst}
+use Rattle.std.proofs.Common.{false, refl, sym, subst}
 use Rattle.vm_file.specs.Documents.{document_in}
 use Rattle.std.specs.Prelude.{IfOk}
 use Rattle.vm_file.specs.Disk.{Drifts}
 use Rattle.vm_file.specs.Effects.{IsNewFile, OnlyReads}
 use Rattle.vm_file.specs.Sound.{disk_of}
 use Rattle.vm_file.proofs.Effects.{rested, made_file}
-use Rattle.vm_file.proofs.Content.{settled_content}
 use Rattle.vm_file.proofs.LaidOut.{laid_drifts}
-use Rattle.vm_file.proofs.Stands.{sound_settled, sound_numbered}
 use Rattle.vm_file.proofs.file.VmFile.copy_to.Goals.{in-Ok, in-Err}
 use Rattle.vm_file.proofs.file.VmFile.copy_to.Goals as goal
 

@@ -1,2 +1,0 @@
-use Rattle.std.proofs.Common.{subst, ◌∙◌}
-use Rattle.vm_file.proofs.placing.known_space.Goals as goal
