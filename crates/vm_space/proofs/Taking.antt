@@ -204,3 +204,27 @@ found_from counts view hints len pages page is many found = subst (λ xs. IsFirs
 
 pub hint_for : (counts hints : List ℕ) (count len : ℕ) → IsSound counts hints count → IsLength len → IsHint counts (pages_of len) (get_or hints (pages_of len) 0)
 hint_for counts hints count len sound is_length = (let wanted = pages_few len is_length in sound.hint (pages_of len) (omega (arith, wanted)))
+
+-- Where no page is free that wasn't, the hints stay.
+pub hint-kept : (start end n hint : ℕ) (old new : List ℕ) → AreRaised start end new old → ((page : ℕ) → start ≤ page → page < end → 1 ≤ get_or new page 0) → IsHint old n hint → IsHint new n hint
+hint-kept start end n hint old new raised held is = record {
+  behind_slots = is.behind_slots;
+  none = λ q low before run. is.none q low before (λ k from high. elim (cases_lt k start) [
+    | inl below ↦ still k (run k from high) (λ l h. absurd (omega (arith, below, l)))
+    | inr on ↦ elim (cases_lt k end) [
+      | inl within ↦ (let one = held k on within in let none = run k from high in absurd (omega (arith, one, none)))
+      | inr past ↦ still k (run k from high) (λ l h. absurd (omega (arith, past, h)))
+    ]
+  ]);
+}
+  where
+    still : (k : ℕ) → get_or new k 0 ≡ 0 → (start ≤ k → k < end → ⊥) → get_or old k 0 ≡ 0
+    still k none out = (let same = raised k in let no_more = once_no start end k out in omega (arith, none, same, no_more))
+
+pub sound-fewer : (old new hints : List ℕ) (count : ℕ) (e : Extent) (rest : List Extent) → IsSound old hints count → AreTaken (e ∷ rest) (record { counts = old; count = count }) → AreRaised e.page (end_page e) new old → ((page : ℕ) → e.page ≤ page → page < end_page e → 1 ≤ get_or new page 0) → IsSound new hints (count - 1)
+sound-fewer old new hints count e rest sound are raised held = record {
+  taken = rest;
+  are = taken-less rest e old new count (count - 1) are raised (let some = are.count in omega (arith, some));
+  hint_count = sound.hint_count;
+  hint = λ n l. hint-kept e.page (end_page e) n (get_or hints n 0) old new raised held (sound.hint n l);
+}

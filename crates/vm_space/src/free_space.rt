@@ -1,4 +1,4 @@
-ghost use Rattle.std.specs.Prelude.{◌≡◌, ◌∷◌, [], ◌+◌, ◌^◌, ◌<◌, ◌≤◌, List, All, ℕ, length, min, replicate, IfOk, OnOk, OnErr, slice_index};
+ghost use Rattle.std.specs.Prelude.{◌≡◌, ◌∷◌, [], ◌+◌, ◌^◌, ◌<◌, ◌≤◌, List, All, ℕ, length, min, replicate, false, IfOk, OnOk, OnErr, slice_index};
 ghost use Rattle.geos_model.specs.declared.file.Extent.{Extent};
 ghost use Rattle.vm_space.specs.Placing.{IsFirstFit, IsLength};
 ghost use Rattle.vm_space.specs.Space.{AreRaised, AreTaken, IsFirstRun, IsTaken};
@@ -88,15 +88,15 @@ impl FreeSpace {
         ensures left { (rest : List Extent) → AreTaken (extent ∷ rest) self.old → AreTaken rest self.new }
         ensures count { self.old.count ≡ self.new.count + 1 }
     {
-        count_down(
-            &mut self.counts,
-            extent.page as usize,
-            page_behind(extent) as usize,
-        );
+        let start = extent.page as usize;
+        let end = page_behind(extent) as usize;
+        count_down(&mut self.counts, start, end);
         self.count -= 1;
         // Pages that are free now may go with as many before them as an extent has.
-        let first = extent.page.saturating_sub(MOST_PAGES - 1).max(FIRST_PAGE);
-        lower(&mut self.hints, first);
+        if has_free(&self.counts, start, end) {
+            let first = extent.page.saturating_sub(MOST_PAGES - 1).max(FIRST_PAGE);
+            lower(&mut self.hints, first);
+        }
     }
 }
 
@@ -138,6 +138,18 @@ fn count_down(counts: &mut [u16], start: usize, end: usize)
     for page in start..end {
         counts[page] -= 1;
     }
+}
+
+// Whether one of these pages is free.
+fn has_free(counts: &[u16], start: usize, end: usize) -> bool
+    ensures { result ≡ false → (page : ℕ) → start ≤ page → page < end → 1 ≤ slice_index counts.now page }
+{
+    for page in start..end {
+        if page >= counts.len() || counts[page] == 0 {
+            return true;
+        }
+    }
+    false
 }
 
 fn lower(hints: &mut [u32], page: u32)

@@ -1,15 +1,15 @@
-use Rattle.std.proofs.Common.{◌≡◌, ℕ, ◌-◌, ◌≤◌, max, List, ◌∷◌, get_or, sym, subst, ap, ◌∙◌, arith}
+use Rattle.std.proofs.Common.{◌≡◌, ℕ, ◌-◌, ◌<◌, ◌≤◌, max, List, ◌∷◌, get_or, sym, subst, ap, ◌∙◌, arith}
 use Rattle.std.proofs.lemmas.List.{with_items_is}
 use Rattle.geos_model.specs.File.{end_page}
 use Rattle.geos_model.specs.declared.file.Extent.{Extent}
 use Rattle.vm_space.specs.Space.{Space, AreRaised, AreTaken, IsSound}
-use Rattle.vm_space.proofs.Taking.{lowered_from, taken-less, sound-less, taken_there}
+use Rattle.vm_space.proofs.Taking.{lowered_from, taken-less, sound-less, sound-fewer, taken_there}
 use Rattle.vm_space.proofs.free_space.FreeSpace.release.Goals as goal
 
 pub count_down-requires-clause-some : goal.count_down-requires-clause-some
 count_down-requires-clause-some c = λ page low high.
     let e : Extent = c.args.extent in
-    let there = taken_there c.requires.0 e c.args.self.now c.requires.1 page low (omega (arith, high, c.page_behind.ensures)) in
+    let there = taken_there c.requires.0 e c.args.self.now c.requires.1 page low (omega (arith, high, c.page_behind-end.ensures)) in
     let is : c.deref_mut.result.now ≡ c.args.self.now.counts = c.deref_mut.ensures.value ∙ ap (λ (s : Space). s.counts) c.self.view_is in
     subst (λ (counts : List ℕ). 1 ≤ get_or counts page 0) (sym is) there
 
@@ -18,18 +18,43 @@ invariant_of-self c =
     let e : Extent = c.args.extent in
     let old : List ℕ = c.self.inside.counts.items in
     let new : List ℕ = c.count_down.new.counts in
-    let raised : AreRaised e.page (end_page e) new old = lowered_from e.page (end_page e) c.page_behind.result old c.deref_mut.result.now new c.deref_mut.ensures.value c.page_behind.ensures c.count_down.ensures in
+    let raised : AreRaised e.page (end_page e) new old = lowered_from e.page (end_page e) c.page_behind-end.result old c.deref_mut.result.now new c.deref_mut.ensures.value c.page_behind-end.ensures c.count_down.ensures in
     let before : AreTaken (e ∷ c.requires.0) (record { counts = old; count = c.self.inside.count }) = subst (λ (s : Space). AreTaken (e ∷ c.requires.0) s) (sym c.self.view_is) c.requires.1 in
     let is : c.max-first.result ≡ max (e.page - 127) 2 = omega (arith, c.max-first.ensures, c.saturating_sub.ensures) in
     subst (λ (counts : List ℕ). IsSound counts c.lower.new.hints (c.self.inside.count - 1)) (sym (with_items_is c.self.inside.counts new (c.count_down.auto.counts ∙ c.deref_mut.ensures.len)))
     (sound-less old new c.self.inside.hints c.lower.new.hints c.self.inside.count c.max-first.result e c.requires.0 c.self.invariant before raised is (c.lower.auto.hints ∙ c.self.invariant.hint_count) c.lower.ensures)
 
-pub returns-clause-left : goal.returns-clause-left
-returns-clause-left c = λ rest are.
+pub invariant_of-self-else-has_free : goal.invariant_of-self-else-has_free
+invariant_of-self-else-has_free c =
     let e : Extent = c.args.extent in
     let old : List ℕ = c.self.inside.counts.items in
     let new : List ℕ = c.count_down.new.counts in
-    let raised : AreRaised e.page (end_page e) new old = lowered_from e.page (end_page e) c.page_behind.result old c.deref_mut.result.now new c.deref_mut.ensures.value c.page_behind.ensures c.count_down.ensures in
+    let items = with_items_is c.self.inside.counts new (c.count_down.auto.counts ∙ c.deref_mut.ensures.len) in
+    let raised : AreRaised e.page (end_page e) new old = lowered_from e.page (end_page e) c.page_behind-end.result old c.deref_mut.result.now new c.deref_mut.ensures.value c.page_behind-end.ensures c.count_down.ensures in
+    let before : AreTaken (e ∷ c.requires.0) (record { counts = old; count = c.self.inside.count }) = subst (λ (s : Space). AreTaken (e ∷ c.requires.0) s) (sym c.self.view_is) c.requires.1 in
+    let seen : c.deref.result.now ≡ new = c.deref.ensures.value ∙ items in
+    let held : (page : ℕ) → e.page ≤ page → page < end_page e → 1 ≤ get_or new page 0 = λ page low high.
+    subst (λ (counts : List ℕ). 1 ≤ get_or counts page 0) seen (c.has_free.ensures c.if-has_free.false page low (omega (arith, high, c.page_behind-end.ensures))) in
+    subst (λ (counts : List ℕ). IsSound counts c.self.inside.hints (c.self.inside.count - 1)) (sym items)
+    (sound-fewer old new c.self.inside.hints c.self.inside.count e c.requires.0 c.self.invariant before raised held)
+
+pub returns-then-has_free-clause-left : goal.returns-then-has_free-clause-left
+returns-then-has_free-clause-left c = λ rest are.
+    let e : Extent = c.args.extent in
+    let old : List ℕ = c.self.inside.counts.items in
+    let new : List ℕ = c.count_down.new.counts in
+    let raised : AreRaised e.page (end_page e) new old = lowered_from e.page (end_page e) c.page_behind-end.result old c.deref_mut.result.now new c.deref_mut.ensures.value c.page_behind-end.ensures c.count_down.ensures in
+    let before : AreTaken (e ∷ rest) (record { counts = old; count = c.self.inside.count }) = subst (λ (s : Space). AreTaken (e ∷ rest) s) (sym c.self.view_is) are in
+    let some = before.count in
+    subst (λ (counts : List ℕ). AreTaken rest (record { counts = counts; count = c.self.inside.count - 1 })) (sym (with_items_is c.self.inside.counts new (c.count_down.auto.counts ∙ c.deref_mut.ensures.len)))
+    (taken-less rest e old new c.self.inside.count (c.self.inside.count - 1) before raised (omega (arith, some)))
+
+pub returns-else-has_free-clause-left : goal.returns-else-has_free-clause-left
+returns-else-has_free-clause-left c = λ rest are.
+    let e : Extent = c.args.extent in
+    let old : List ℕ = c.self.inside.counts.items in
+    let new : List ℕ = c.count_down.new.counts in
+    let raised : AreRaised e.page (end_page e) new old = lowered_from e.page (end_page e) c.page_behind-end.result old c.deref_mut.result.now new c.deref_mut.ensures.value c.page_behind-end.ensures c.count_down.ensures in
     let before : AreTaken (e ∷ rest) (record { counts = old; count = c.self.inside.count }) = subst (λ (s : Space). AreTaken (e ∷ rest) s) (sym c.self.view_is) are in
     let some = before.count in
     subst (λ (counts : List ℕ). AreTaken rest (record { counts = counts; count = c.self.inside.count - 1 })) (sym (with_items_is c.self.inside.counts new (c.count_down.auto.counts ∙ c.deref_mut.ensures.len)))
