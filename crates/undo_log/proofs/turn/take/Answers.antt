@@ -1,5 +1,6 @@
-use Rattle.std.proofs.Common.{◌≡◌, true, [], Bool, refl, ◌∙◌}
+use Rattle.std.proofs.Common.{◌≡◌, true, [], refl, sym, ◌∙◌}
 use Rattle.std.specs.Prelude.{Result, Ok, Err, OnErr}
+use Rattle.std.proofs.lemmas.Bool.{true≢false}
 use Rattle.std.proofs.lemmas.Result.{err_from_is_err_and}
 use Rattle.geos_model.specs.declared.fault.Fault.{Fault}
 use Rattle.geos_model.specs.declared.fault.Fault.TheVariants.{Memory}
@@ -33,14 +34,16 @@ refused (Ok x) p = tt
 refused (Err fault) p = p
 
 pub prepare-requires : goal.prepare-requires
-prepare-requires g c = applies_listed (turned c.args.direction c.args.change.now) c.args.blocks.now.document c.requires
+prepare-requires g c = applies_listed (turned c.args.direction c.args.change.now) c.args.blocks.now.document c.requires.applies
 
 pub returns-in_err-prepared-clause-err : goal.returns-in_err-prepared-clause-err
 returns-in_err-prepared-clause-err g c =
     let change = turned c.args.direction c.args.change.now in
     let p = err_from_is_err_and c.from_residual.result c.from_residual.ensures.1 in
-    rw (p.1, p.2) (unready_for_memory g.S.Store.facts change c.args.blocks.now c.prepare.new.self c.in_err-prepared.field-0.0 c.requires c.in_err-prepared.ensures.err,
-      brings_in c.args.direction c.args.change.now (λ none. (c.in_err-prepared.ensures.sure none (at_hand_now change c.args.blocks.now c.requires) c.requires).0))
+    rw (p.1, p.2) (
+      unready_for_memory g.S.Store.facts change c.args.blocks.now c.prepare.new.self c.in_err-prepared.field-0.0 c.requires.applies c.in_err-prepared.ensures.err,
+      brings_in c.args.direction c.args.change.now (λ none. true≢false (sym (c.in_err-prepared.ensures.sure none (at_hand_now change c.args.blocks.now c.requires.applies) c.requires.applies).0)),
+    )
 
 pub returns-in_err-prepared-clause-stays : goal.returns-in_err-prepared-clause-stays
 returns-in_err-prepared-clause-stays g c = refused c.from_residual.result (keeps_all g.S.Store.facts c.args.blocks.now c.prepare.new.self c.prepare.ensures.keeps)
