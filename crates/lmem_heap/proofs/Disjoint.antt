@@ -1,5 +1,5 @@
--- Chunks lie apart from each other, and behind the table.
-use Rattle.std.proofs.Common.{◌≡◌, ◌≢◌, ◌⊎◌, ℕ, true, false, is_some, ◌+◌, ◌*◌, ◌/◌, ◌-◌, ◌<◌, ◌≤◌, List, [], ◌∷◌, ◌++◌, length, get_or, Option, Some, None, IfSome, unwrap_or, ◌==◌, refl, sym, ap, subst, ◌∙◌, inl, inr, arith}
+-- Chunks lie apart from each other and behind the table, and the region has their bytes where they lie.
+use Rattle.std.proofs.Common.{◌≡◌, ◌≢◌, ◌⊎◌, ℕ, true, false, is_some, ◌+◌, ◌*◌, ◌/◌, ◌-◌, ◌<◌, ◌≤◌, List, [], ◌∷◌, ◌++◌, length, get_or, Option, Some, None, IfSome, unwrap_or, slice_range, ◌==◌, refl, sym, ap, subst, ◌∙◌, inl, inr, arith}
 use Rattle.std.proofs.lemmas.Bool.{cases_lt, cases_eq, cond-false, ne_eqb}
 use Rattle.std.proofs.lemmas.List.{get_or_past}
 use Rattle.std.specs.FinMap.{get, contains_key}
@@ -8,11 +8,11 @@ use Rattle.geos_model.proofs.Table.{table_map}
 use Rattle.geos_model.proofs.Tables.{get-table_map_at, get-table_map_off, slot_at_within}
 use Rattle.lmem_heap.specs.Pieces.{entry, word_in, piece_space, space, spaces, Piece, Used}
 use Rattle.lmem_heap.specs.Tiled.{chunks_in}
-use Rattle.lmem_heap.specs.Stored.{Stored, offsets_in, store_of, IsStored, IsApart, AreDisjoint, AreBehind}
+use Rattle.lmem_heap.specs.Stored.{Stored, offsets_in, store_of, IsStored, IsApart, AreDisjoint, AreBehind, HoldsChunks}
 use Rattle.lmem_heap.specs.Placed.{Placed, placed_in}
 use Rattle.lmem_heap.specs.Placed as placed
 use Rattle.lmem_heap.specs.declared.space.Space.{Space}
-use Rattle.lmem_heap.proofs.Chunks.{chunk_in, length-chunks_in}
+use Rattle.lmem_heap.proofs.Chunks.{chunk_in, length-chunks_in, under_piece}
 use Rattle.lmem_heap.proofs.Filling.{live_piece}
 use Rattle.lmem_heap.proofs.Shown.{offset_in, length-offsets_in, size_is}
 use Rattle.lmem_heap.proofs.Writing.{offset_some, offset_none}
@@ -73,11 +73,22 @@ module _ (s : Space) (stored : IsStored s) where
       each_slot (λ o. IfSome o (λ at. 18 + 2 * length (chunks_in s.region s.slots) ≤ at)) i tt
       (λ l live. let f = live_piece s stored.kept i (entry s.region i) (word_in s.region (entry s.region i)) l live refl refl in omega (arith, f.table, length-chunks_in s.region s.slots))
 
+  holding : HoldsChunks s.region (store_of s.region s.slots)
+  holding i =
+      each_slot (λ o. IfSome o (λ at. slice_range s.region at (at + length (chunk_of i)) ≡ chunk_of i)) i tt
+      (λ l live.
+      let e = entry s.region i in let here = chunk_in s.region s.slots i l in
+      ap (λ (n : ℕ). slice_range s.region (e + 2) (e + 2 + n)) (ap (λ (o : Option (List ℕ)). length (unwrap_or o [])) here ∙ size_is s i stored.kept l live)
+      ∙ sym (ap (λ (o : Option (List ℕ)). unwrap_or o []) (here ∙ under_piece s.region e live)))
+
 pub shown_disjoint : (s : Space) (m : Stored) → IsStored s → store_of s.region s.slots ≡ m → AreDisjoint m
 shown_disjoint s m stored is = subst AreDisjoint is (disjoint s stored)
 
 pub shown_behind : (s : Space) (m : Stored) → IsStored s → store_of s.region s.slots ≡ m → AreBehind m
 shown_behind s m stored is = subst AreBehind is (behind s stored)
+
+pub shown_holding : (s : Space) (m : Stored) → IsStored s → store_of s.region s.slots ≡ m → HoldsChunks s.region m
+shown_holding s m stored is = subst (HoldsChunks s.region) is (holding s stored)
 
 -- ---- under handles
 
@@ -137,8 +148,23 @@ module _ (m : Stored) where
     weaker None none = tt
     weaker (Some a) le = let at = slot_live k live in omega (arith, at.1, at.2, le)
 
+  -- a region with the bytes at a place, if there is one
+  abbrev HasThere : List ℕ → Option ℕ → List ℕ → Type 0
+  HasThere xs o bytes = IfSome o (λ at. slice_range xs at (at + length bytes) ≡ bytes)
+
+  placed_holding : (xs : List ℕ) → HoldsChunks xs m → placed.HoldsChunks xs (placed_in m)
+  placed_holding xs holds h = elim (slot_or_none h (length m.offsets)) [
+    | inl at ↦
+        subst (λ (o : Option ℕ). HasThere xs o (chunk_bytes (table_map 2 16 m.chunks) h)) (sym (place_of h at.0 at.1))
+        (subst (λ (b : List ℕ). HasThere xs (get_or m.offsets at.0 None) b) (sym (bytes_of h at.0 at.1)) (holds at.0))
+    | inr off ↦ subst (λ (o : Option ℕ). HasThere xs o (chunk_bytes (table_map 2 16 m.chunks) h)) (sym (get-table_map_off (omega arith) 16 m.offsets h off)) tt
+  ]
+
 pub heap_disjoint : (m : Stored) (p : Placed) → placed_in m ≡ p → AreDisjoint m → placed.AreDisjoint p
 heap_disjoint m p is apart = subst placed.AreDisjoint is (placed_apart m apart)
 
 pub heap_behind : (m : Stored) (p : Placed) → placed_in m ≡ p → AreBehind m → placed.AreBehindTable p
 heap_behind m p is behind = subst placed.AreBehindTable is (placed_behind m behind)
+
+pub heap_holding : (xs : List ℕ) (m : Stored) (p : Placed) → placed_in m ≡ p → HoldsChunks xs m → placed.HoldsChunks xs p
+heap_holding xs m p is holds = subst (placed.HoldsChunks xs) is (placed_holding m xs holds)

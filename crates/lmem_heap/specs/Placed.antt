@@ -1,5 +1,5 @@
 -- What a heap is to its callers: its chunks, and where in the region the bytes of each lie that has some.
-use Rattle.std.specs.Prelude.{◌≢◌, ℕ, ◌+◌, ◌≤◌, length, IfSome, IsTrue, sum_by, refl}
+use Rattle.std.specs.Prelude.{◌≡◌, ◌≢◌, ℕ, ◌+◌, ◌≤◌, List, length, slice_range, IfSome, IsTrue, sum_by, refl}
 use Rattle.std.specs.Ordering.{nat_cmp}
 use Rattle.std.specs.Coded.{Coded, code_by, coded×, coded_ℕ, coded_list}
 use Rattle.std.specs.FinMap.{FinMap, code, entries, get, contains_key}
@@ -34,3 +34,7 @@ AreBehindTable p = (h k : ℕ) → IsTrue (contains_key p.chunks k) → IfSome (
 -- The chunks lie at the end of the region: none begins before its last bytes, as many as the chunks take. Since they lie apart, all that is free is in one piece before them.
 abbrev pub AreAllLast : Placed → Type 0
 AreAllLast p = (h : ℕ) → IfSome (get p.places h) (λ at. capacity + 2 ≤ at + space_taken p.chunks)
+
+-- A region has the bytes of each chunk where they lie.
+abbrev pub HoldsChunks : List ℕ → Placed → Type 0
+HoldsChunks xs p = (h : ℕ) → IfSome (get p.places h) (λ at. let bytes = chunk_bytes p.chunks h in slice_range xs at (at + length bytes) ≡ bytes)

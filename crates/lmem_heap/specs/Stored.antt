@@ -1,5 +1,5 @@
 -- What a table of chunks is to its callers.
-use Rattle.std.specs.Prelude.{◌≡◌, ◌≢◌, ℕ, ◌+◌, ◌*◌, ◌≤◌, ◌⊎◌, List, [], Option, None, IfSome, map, length, get_or, unwrap_or}
+use Rattle.std.specs.Prelude.{◌≡◌, ◌≢◌, ℕ, ◌+◌, ◌*◌, ◌≤◌, ◌⊎◌, List, [], Option, None, IfSome, map, length, get_or, unwrap_or, slice_range}
 use Rattle.std.specs.List.{range_with_len}
 use Rattle.geos_model.specs.Heap.{space_of}
 use Rattle.lmem_heap.specs.Pieces.{entry}
@@ -42,3 +42,7 @@ AreDisjoint m =
 -- and behind the words of all slots
 abbrev pub AreBehind : Stored → Type 0
 AreBehind m = (i : ℕ) → IfSome (get_or m.offsets i None) (λ at. 18 + 2 * length m.chunks ≤ at)
+
+-- the region has each chunk's bytes where they lie
+abbrev pub HoldsChunks : List ℕ → Stored → Type 0
+HoldsChunks xs m = (i : ℕ) → IfSome (get_or m.offsets i None) (λ at. let bytes = unwrap_or (get_or m.chunks i None) [] in slice_range xs at (at + length bytes) ≡ bytes)

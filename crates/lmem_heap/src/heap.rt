@@ -7,9 +7,8 @@ ghost use Rattle.geos_model.specs.Heap.{ChunkMap, need, capacity, most_chunks, c
 ghost use Rattle.geos_model.specs.Bytes.{resized};
 ghost use Rattle.geos_model.specs.Image.{image};
 ghost use Rattle.geos_model.specs.declared.command.Body.TheVariants as bodies;
-ghost use Rattle.geos_model.proofs.Table.{table_map, first_gap, IsTrimmed};
-ghost use Rattle.lmem_heap.specs.Slots.{need_in};
-ghost use Rattle.lmem_heap.specs.HeapImage.{IsHeapImage};
+ghost use Rattle.geos_model.proofs.Table.{first_gap};
+ghost use Rattle.lmem_heap.specs.HeapImage.{IsHeapImage, HasHeapTable};
 
 use crate::image::{HEAP_KIND, PREFIX, heap_slots, image_len, push_chunks, push_sizes, unpack};
 use crate::sizes::{need_of, space_of};
@@ -17,6 +16,7 @@ use crate::space::NO_CHUNK;
 use crate::table::Table;
 use crate::words::{HEADER, SIZE};
 use geos_model::{ChunkHandle, Fault};
+use raw_region::Region;
 use std::alloc::{AllocError, Global};
 use std::marker::Model;
 
@@ -47,18 +47,37 @@ impl Model for Heap {
 
 impl Heap {
     ghost use Rattle.lmem_heap.specs.LendsHeapChunk.{lends_chunk};
-    ghost use Rattle.lmem_heap.specs.Placed.{AreAllLast, AreDisjoint, AreBehindTable};
+    ghost use Rattle.lmem_heap.specs.Placed.{AreAllLast, AreDisjoint, AreBehindTable, HoldsChunks};
 
     /// An empty heap.
     pub fn new(alloc: Global) -> Result<Heap, AllocError>
         ensures { IfOk result (λ h. h.chunks ≡ empty) }
     {
-        let table = Table::new(alloc)?;
-        Ok(Heap {
-            table,
+        Ok(Heap::of_region(Region::new(alloc)?))
+    }
+
+    /// An empty heap, in a region that may have any bytes: none is read before it is written.
+    pub fn of_region(region: Region) -> Heap
+        ensures { result.chunks ≡ empty }
+    {
+        let alloc = region.alloc();
+        Heap {
+            table: Table::of_region(region),
             gap: 0,
             alloc,
-        })
+        }
+    }
+
+    /// The region, with the bytes of each chunk where `offset` said that they lie.
+    pub fn into_region(self) -> Region
+        ensures { HoldsChunks result self }
+    {
+        let Heap {
+            table,
+            gap: _,
+            alloc: _,
+        } = self;
+        table.into_region()
     }
 
     /// How many bytes the heap needs: a header of 16 bytes, two for each table entry up to the greatest live handle,
@@ -273,18 +292,32 @@ impl Heap {
             Some(slots) => slots,
             None => return Err(Fault::Damaged),
         };
-        match unpack(alloc, &bytes[PREFIX..], slots) {
-            Ok(table) => Ok(Heap::of_table(table, alloc)),
+        match Region::new(alloc) {
+            Ok(region) => Ok(Heap::unpacked(region, bytes, slots)),
             Err(_) => Err(Fault::Memory),
         }
     }
 
-    /// The heap of a table that ends with a chunk and fits.
-    fn of_table(table: Table, alloc: Global) -> Heap
-        requires trimmed { IsTrimmed table.chunks }
-        requires fits { need_in table.chunks ≤ 65520 }
-        ensures { result.chunks ≡ table_map 2 16 table.chunks }
+    /// The same, in a region that may have any bytes, which is given back where they are the image of no heap that fits. No
+    /// memory is taken.
+    pub fn of_image(region: Region, bytes: &[u8]) -> Result<Heap, Region>
+        ensures ok { IfOk result (λ h. (image (bodies.Heap h.chunks) ≡ bytes.now) × (is_heap_map h.chunks ≡ true)) }
+        ensures err { IfErr result (λ r. (r ≡ region) × ((m : ChunkMap) → is_heap_map m ≡ true → image (bodies.Heap m) ≡ bytes.now → ⊥)) }
     {
+        match heap_slots(bytes) {
+            Some(slots) => Ok(Heap::unpacked(region, bytes, slots)),
+            None => Err(region),
+        }
+    }
+
+    /// The heap of which the bytes are the image, with so long a table.
+    fn unpacked(region: Region, bytes: &[u8], slots: usize) -> Heap
+        requires { HasHeapTable slots bytes.now }
+        ensures image { image (bodies.Heap result.chunks) ≡ bytes.now }
+        ensures valid { is_heap_map result.chunks ≡ true }
+    {
+        let alloc = region.alloc();
+        let table = unpack(region, &bytes[PREFIX..], slots);
         let gap = gap_from(&table, 0);
         Heap { table, gap, alloc }
     }

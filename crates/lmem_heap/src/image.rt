@@ -10,7 +10,8 @@ ghost use Rattle.lmem_heap.specs.HeapImage.{IsHeapImage, HasHeapTable};
 use crate::sizes::{need_of, space_of};
 use crate::table::Table;
 use crate::words::SIZE;
-use std::alloc::{AllocError, Global};
+use raw_region::Region;
+use std::alloc::AllocError;
 
 /// The first byte of a heap's image. The table's length stands behind it.
 pub(crate) const HEAP_KIND: u8 = 1;
@@ -162,19 +163,19 @@ pub(crate) fn heap_slots(bytes: &[u8]) -> Option<usize>
     Some(slots)
 }
 
-/// The chunks, in a region.
-pub(crate) fn unpack(alloc: Global, rest: &[u8], slots: usize) -> Result<Table, AllocError>
+/// The chunks, in a region that may have any bytes.
+pub(crate) fn unpack(region: Region, rest: &[u8], slots: usize) -> Table
     requires table { IsTable slots rest.now }
     requires fits { need_in (slots_in slots rest.now) ≤ 65520 }
-    ensures { IfOk result (λ t. t.chunks ≡ slots_in slots rest.now) }
+    ensures { result.chunks ≡ slots_in slots rest.now }
 {
-    let mut table = Table::new(alloc)?;
+    let mut table = Table::of_region(region);
     table.grow(slots);
     let mut at = 2 * slots;
     for i in 0..slots {
         at = unpack_slot(&mut table, rest, slots, i, at);
     }
-    Ok(table)
+    table
 }
 
 /// The chunk of a slot, if it has one, whose bytes begin at `at`. Says where they end.

@@ -11,7 +11,6 @@ use crate::lowering::lower_entries;
 use crate::sizes::piece_space;
 use crate::words::{HEADER, SIZE, set_word, slide, word_in, zero};
 use raw_region::Region;
-use std::alloc::{AllocError, Global};
 
 /// A region with its table, its pieces and the list of the free ones.
 #[derive(Drop)]
@@ -28,18 +27,20 @@ pub(crate) struct Space {
 }
 
 impl Space {
-    pub(crate) fn new(alloc: Global) -> Result<Space, AllocError>
-        ensures kept { IfOk result IsKept }
-        ensures slots { IfOk result (λ s. (s.slots ≡ 0) × (s.total ≡ 0)) }
+    /// No slots and no pieces, in a region that may have any bytes: none is read before it is written.
+    pub(crate) fn of_region(region: Region) -> Space
+        ensures kept { IsKept result }
+        ensures slots { result.slots ≡ 0 }
+        ensures total { result.total ≡ 0 }
     {
-        let region = Region::new(alloc)?;
-        Ok(Space {
+        let low = region.len();
+        Space {
             region,
             slots: 0,
-            low: SIZE,
+            low,
             head: 0,
             total: 0,
-        })
+        }
     }
 
     /// Packs the chunks at the end; what is free lies below them. Takes no time where they lie so.

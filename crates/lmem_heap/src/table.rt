@@ -8,7 +8,7 @@ ghost use Rattle.raw_region.specs.Bytes.{put};
 ghost use Rattle.lmem_heap.specs.Slots.{space_in, need_in, need_of};
 
 use crate::space::{EMPTY, Space};
-use std::alloc::{AllocError, Global};
+use raw_region::Region;
 use std::marker::Model;
 
 /// Chunks in a region, each under a slot.
@@ -29,13 +29,24 @@ impl Model for Table {
 
 impl Table {
     ghost use Rattle.lmem_heap.specs.LendsChunk.{lends_chunk};
-    ghost use Rattle.lmem_heap.specs.Stored.{AreLast, AreDisjoint, AreBehind};
+    ghost use Rattle.lmem_heap.specs.Stored.{AreLast, AreDisjoint, AreBehind, HoldsChunks};
 
-    pub(crate) fn new(alloc: Global) -> Result<Table, AllocError>
-        ensures { IfOk result (λ t. (t.chunks ≡ []) × (t.offsets ≡ [])) }
+    /// No slots, in a region that may have any bytes.
+    pub(crate) fn of_region(region: Region) -> Table
+        ensures chunks { result.chunks ≡ [] }
+        ensures offsets { result.offsets ≡ [] }
     {
-        let space = Space::new(alloc)?;
-        Ok(Table { space })
+        Table {
+            space: Space::of_region(region),
+        }
+    }
+
+    /// The region, with the chunks' bytes where they lie.
+    pub(crate) fn into_region(self) -> Region
+        ensures { HoldsChunks result self }
+    {
+        let Table { space } = self;
+        space.region
     }
 
     /// How many slots there are.

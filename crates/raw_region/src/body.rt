@@ -33,8 +33,37 @@ impl RawBody {
     pub fn new(alloc: Global) -> Result<RawBody, AllocError>
         ensures { IfOk result (λ b. b ≡ []) }
     {
-        let region = Region::new(alloc)?;
-        Ok(RawBody { region, len: 0 })
+        Ok(RawBody::of_region(Region::new(alloc)?))
+    }
+
+    /// No bytes yet, in a region that may have others: these are never read.
+    pub fn of_region(region: Region) -> RawBody
+        ensures { result ≡ [] }
+    {
+        RawBody::fill(region, [].as_slice())
+    }
+
+    /// These bytes, in a region that may have others.
+    pub fn fill(region: Region, bytes: &[u8]) -> RawBody
+        requires { length bytes.now ≤ SIZE }
+        ensures { result ≡ bytes.now }
+    {
+        let mut region = region;
+        // How long a region is, is known where a call says it.
+        let _ = region.len();
+        region.copy_in(0, bytes);
+        RawBody {
+            region,
+            len: bytes.len(),
+        }
+    }
+
+    /// The region, which begins with the body's bytes.
+    pub fn into_region(self) -> Region
+        ensures { take (length self) result ≡ self }
+    {
+        let RawBody { region, len: _ } = self;
+        region
     }
 
     /// The bytes in use.

@@ -10,7 +10,8 @@ use byteorder::{ByteOrder, LittleEndian};
 use std::alloc::{AllocError, Global};
 use std::marker::Model;
 
-/// `SIZE` bytes from the allocator, which go back to it once, at the drop. Contracts see the list of the bytes.
+/// `SIZE` bytes from the allocator, which go back to it once, at the drop. Contracts see the list of the bytes. A body or a
+/// heap whose bytes lie in a region gives it back, and another can be made in it.
 pub struct Region {
     raw: Raw,
     alloc: Global,
@@ -39,6 +40,19 @@ impl Region {
     {
         let raw = Raw::new(&alloc)?;
         Ok(Region { raw, alloc })
+    }
+
+    /// How many bytes the region has.
+    pub fn len(&self) -> usize
+        ensures all { result ≡ length self.now }
+        ensures size { result ≡ SIZE }
+    {
+        self.raw.view().len()
+    }
+
+    /// The allocator that the region goes back to.
+    pub fn alloc(&self) -> Global {
+        self.alloc
     }
 
     /// The word at `at`, its low byte first.

@@ -6,7 +6,7 @@ use Rattle.lmem_heap.proofs.Images.{so_far_none, so_far_more, so_far_all, length
 use Rattle.lmem_heap.proofs.image.unpack.Goals as goal
 
 pub grow-requires-clause-room : goal.grow-requires-clause-room
-grow-requires-clause-room c = omega (arith, c.requires.fits, length-slots_in c.args.slots c.args.rest.now, ap space_in c.in_ok-table.ensures.0)
+grow-requires-clause-room c = omega (arith, c.requires.fits, length-slots_in c.args.slots c.args.rest.now, ap space_in c.of_region-table.ensures.chunks)
 
 pub overflow_mul-at : goal.overflow_mul-at
 overflow_mul-at c = record { fits = omega (arith, c.requires.fits, length-slots_in c.args.slots c.args.rest.now) }
@@ -14,9 +14,9 @@ overflow_mul-at c = record { fits = omega (arith, c.requires.fits, length-slots_
 pub loop-i-init : goal.loop-i-init
 loop-i-init c =
     let t = slots_in c.args.slots c.args.rest.now in let n = c.args.slots in
-    let count : n - length c.in_ok-table.table.chunks ≡ length t - 0 = omega (arith, ap length c.in_ok-table.ensures.0, length-slots_in n c.args.rest.now) in
+    let count : n - length c.of_region-table.result.chunks ≡ length t - 0 = omega (arith, ap length c.of_region-table.ensures.chunks, length-slots_in n c.args.rest.now) in
     record {
-      filled = c.grow.ensures ∙ (ap (λ (cs : List (Option (List ℕ))). cs ++ replicate (n - length c.in_ok-table.table.chunks) None) c.in_ok-table.ensures.0 ∙ ap (λ (k : ℕ). replicate k None) count);
+      filled = c.grow.ensures ∙ (ap (λ (cs : List (Option (List ℕ))). cs ++ replicate (n - length c.of_region-table.result.chunks) None) c.of_region-table.ensures.chunks ∙ ap (λ (k : ℕ). replicate k None) count);
       at = omega arith;
     }
 
