@@ -166,6 +166,29 @@ pub(crate) fn live_blocks<S: Store>(alloc: Global, file: &VmFile<S>) -> Result<V
     Ok(live)
 }
 
+/// The handles that the document tells.
+pub(crate) fn listed<S: Store>(alloc: Global, file: &VmFile<S>) -> Result<Vec<u16>, Fault> {
+    let mut handles = Vec::new(alloc);
+    for block in file.list()? {
+        handles.push(block.0)?;
+    }
+    Ok(handles)
+}
+
+pub(crate) fn next_handle<S: Store>(file: &VmFile<S>) -> Option<u16> {
+    match file.next_handle() {
+        Some(block) => Some(block.0),
+        None => None,
+    }
+}
+
+pub(crate) fn found<S: Store>(file: &VmFile<S>, user_id: u16, start: u16) -> Option<u16> {
+    match file.find(user_id, VmHandle(start)) {
+        Some(block) => Some(block.0),
+        None => None,
+    }
+}
+
 pub(crate) fn has_no_block<S: Store>(file: &VmFile<S>) -> bool {
     for handle in 1..=MOST_BLOCKS {
         if file.entry(VmHandle(handle)).is_some() {

@@ -3,8 +3,8 @@ ghost use Rattle.std.specs.Prelude.{◌≡◌, ◌≤◌, All, IfOk, length};
 ghost use Rattle.vm_file.specs.Calls.{IsPut};
 
 use crate::calls::{
-    MOST_BLOCKS, create, has, heap_block, live_blocks, open, put, raw_block, remove, revert, save,
-    set_map_block, update, user_id_of,
+    MOST_BLOCKS, create, found, has, heap_block, listed, live_blocks, next_handle, open, put,
+    raw_block, remove, revert, save, set_map_block, update, user_id_of,
 };
 use geos_model::Fault;
 use lmem_heap::Heap;
@@ -57,6 +57,25 @@ fn each_handle_has_a_block(rt: HostRuntime) -> Result<(), Fail> {
     assert!(rt; is_full(alloc, &file)?);
     assert!(rt; has(&mut file, 1, b"\0a")?);
     assert!(rt; has(&mut file, 2_048, b"\0a")?);
+    Ok(())
+}
+
+#[test]
+fn all_handles_are_listed(rt: HostRuntime) -> Result<(), Fail> {
+    let alloc = rt.alloc();
+    let mut file = open(alloc, full_store(alloc)?.bytes())?;
+    assert_eq!(rt;
+        listed(alloc, &file)?.as_slice(),
+        live_blocks(alloc, &file)?.as_slice()
+    );
+    assert_eq!(rt; next_handle(&file), None);
+    assert_eq!(rt; found(&file, 2_048, 0), Some(2_048));
+    remove(&mut file, 1_024)?;
+    assert_eq!(rt; next_handle(&file), Some(1_024));
+    assert_eq!(rt;
+        listed(alloc, &file)?.as_slice(),
+        live_blocks(alloc, &file)?.as_slice()
+    );
     Ok(())
 }
 

@@ -14,6 +14,7 @@ pub mod Filled
 pub mod First
 pub mod FirstFile
 pub mod Found
+pub mod Handles
 pub mod ImageLemmas
 pub mod Imaged
 pub mod KeptBytes

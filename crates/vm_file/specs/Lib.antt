@@ -6,6 +6,7 @@ pub mod Documents
 pub mod Drafts
 pub mod Effects
 pub mod Images
+pub mod Listing
 pub mod Making
 pub mod Opened
 pub mod Passing

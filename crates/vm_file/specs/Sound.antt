@@ -7,8 +7,10 @@ use Rattle.vm_file.specs.Slots.{block_extents, kept_extents, AreKept, Leaves}
 use Rattle.vm_file.specs.Documents.{document_in, attempted_in, AreImaged, AreStored, IsHeldStored}
 use Rattle.vm_file.specs.Disk.{Disk}
 use Rattle.vm_file.specs.Known.{IsKnown}
+use Rattle.vm_file.specs.Listing.{AreBounds}
 use Rattle.vm_space.specs.Space.{Space}
 use Rattle.vm_file.specs.declared.table.Table.{Table}
+use Rattle.vm_file.specs.declared.listing.Bounds.{Bounds}
 use Rattle.vm_file.specs.declared.slots.Pair.{Pair}
 use Rattle.vm_file.specs.declared.slots.Other.{Other}
 use Rattle.vm_file.specs.declared.slots.Other.TheVariants.{Shut, Stale, Held}
@@ -52,9 +54,10 @@ pub record IsSound (store : StoreFacts) (live : Table) (slots : Slots) : Type 0 
   pub formed : IsFormed live slots
   pub whole : IsTrue store.honest → IsWhole store live slots
 
--- with the free space: taken is all that lies in the file and stays
-pub record IsSoundFile (store : StoreFacts) (live : Table) (slots : Slots) (space : Option Space) : Type 0 where
+-- with the free space: taken is all that lies in the file and stays; and with bounds of the live table
+pub record IsSoundFile (store : StoreFacts) (live : Table) (slots : Slots) (space : Option Space) (bounds : Bounds) : Type 0 where
   pub sound : IsSound store live slots
+  pub bounded : AreBounds live.places.items bounds
   pub known : IsKnown (block_extents live.places.items ++ kept_extents slots) space
 
 -- what callers see of it

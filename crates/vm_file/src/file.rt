@@ -1,7 +1,10 @@
-ghost use Rattle.std.specs.Prelude.{◌≡◌, ◌≢◌, ◌⊎◌, ◌↔◌, ◌≤◌, ◌<◌, ◌+◌, ℕ, List, [], ◌∷◌, All, IsTrue, IfOk, IfErr, IfSome, OnOk, OnErr, IsErrOf, IsOk, MatchResult, Ok, Err, None, Some, true, false, is_some, length};
+ghost use Rattle.std.specs.Prelude.{◌≡◌, ◌≢◌, ◌⊎◌, ◌↔◌, ◌≤◌, ◌<◌, ◌+◌, ℕ, List, [], ◌∷◌, All, IsTrue, IfOk, IfErr, IfSome, OnOk, OnErr, IsErrOf, IsOk, MatchResult, Ok, Err, None, Some, true, false, is_some, length, map};
+ghost use Rattle.std.specs.Option.{option_map};
+ghost use Rattle.std.specs.FinMap.{get, keys};
 ghost use Rattle.vm_store.specs.Facts.{Raised, Rests};
-ghost use Rattle.geos_model.specs.Document.{empty_document, is_live, is_vm_handle, user_id_of, with_user_id, block_at, is_heap_body};
+ghost use Rattle.geos_model.specs.Document.{empty_document, is_live, is_vm_handle, next_handle, user_id_of, with_user_id, block_at, is_heap_body};
 ghost use Rattle.geos_model.specs.Image.{image};
+ghost use Rattle.geos_model.specs.Reply.{found};
 ghost use Rattle.geos_model.specs.File.{bytes_in, directory_text, open_slot, stands};
 ghost use Rattle.vm_file.specs.Disk.{FileState, ContentStands, Drifts, Passes, IsSettled, Numbered};
 ghost use Rattle.vm_file.specs.Effects.{IsFile, IsNewFile, Follows, OnlyReads, KeepsFile, IsCommit, Fails, NoFault, IsWorn};
@@ -12,6 +15,7 @@ ghost use Rattle.vm_file.specs.Calls.{IsPut, put_all, remove_all, IsImageLength,
 use crate::copies::{copy_stored, copy_table, twice};
 use crate::copying::copy_document;
 use crate::directory::{commit_draft, draft_of};
+use crate::listing::{Bounds, bounds_of, find_from, first_free, live_handles, tightened, widened};
 use crate::making::make_empty;
 use crate::put::PutBlock;
 use crate::reading::{open_slots, read_extent};
@@ -21,7 +25,7 @@ use crate::slots::Slots;
 use crate::table::{Place, Table, place_of, put_places, remove_places, set_user_id};
 use crate::writing::write_puts;
 use geos_model::{Fault, VmHandle};
-use std::alloc::Global;
+use std::alloc::{AllocError, Global};
 use std::marker::Model;
 use vm_space::FreeSpace;
 use vm_store::Store;
@@ -38,6 +42,8 @@ pub struct VmFile<S: Store> {
     // What is free around all that lies in the file and stays, where it is known. The first image that is placed finds it
     // out, and a commit forgets it.
     space: Option<FreeSpace>,
+    // Where the live table has blocks.
+    bounds: Bounds,
 }
 
 impl<S: Store> Model for VmFile<S> {
@@ -54,7 +60,7 @@ impl<S: Store> Model for VmFile<S> {
       document = document_in (S.facts f.store).content f.live;
     } };
 
-    ghost invariant = { λ f. IsSoundFile (S.facts f.store) f.live f.slots f.space };
+    ghost invariant = { λ f. IsSoundFile (S.facts f.store) f.live f.slots f.space f.bounds };
 }
 
 impl<S: Store> VmFile<S> {
@@ -79,6 +85,7 @@ impl<S: Store> VmFile<S> {
             Ok(made) => Ok(VmFile {
                 alloc,
                 store,
+                bounds: bounds_of(&made.live.places),
                 live: made.live,
                 slots: made.slots,
                 space: None,
@@ -110,6 +117,7 @@ impl<S: Store> VmFile<S> {
             Ok((slots, live)) => Ok(VmFile {
                 alloc,
                 store,
+                bounds: bounds_of(&live.places),
                 live,
                 slots,
                 space: None,
@@ -176,6 +184,34 @@ impl<S: Store> VmFile<S> {
         VmHandle(self.live.map_block)
     }
 
+    /// The live handles, rising.
+    pub fn list(&self) -> Result<Vec<VmHandle>, AllocError>
+        ensures { IfOk result (λ handles. map (λ h. h.0) handles.items ≡ keys self.now.document.blocks) }
+    {
+        live_handles(self.alloc, &self.live.places[..self.bounds.end])
+    }
+
+    /// The least handle above `start` whose block has this user ID.
+    pub fn find(&self, user_id: u16, start: VmHandle) -> Option<VmHandle>
+        ensures { option_map (λ h. h.0) result ≡ found self.now.document user_id start.0 }
+    {
+        find_from(&self.live.places[..self.bounds.end], user_id, start.0)
+    }
+
+    /// The least handle that isn't live.
+    pub fn next_handle(&self) -> Option<VmHandle>
+        ensures value { option_map (λ h. h.0) result ≡ next_handle self.now.document }
+        ensures within { IfSome result (λ h. is_vm_handle h.0 ≡ true) }
+        ensures free { IfSome result (λ h. get self.now.document.blocks h.0 ≡ None) }
+    {
+        let gap = first_free(&self.live.places, self.bounds.gap);
+        if gap < self.live.places.len() {
+            Some(VmHandle(gap as u16 + 1))
+        } else {
+            None
+        }
+    }
+
     /// The image of a block. Memory, File.
     pub fn read_block(&mut self, block: VmHandle) -> Result<Vec<u8>, Fault>
         requires { is_live self.old.document block.0 ≡ true }
@@ -238,6 +274,7 @@ impl<S: Store> VmFile<S> {
         );
         remove_places(&mut self.live.places, removals, &self.slots, &mut space);
         self.space = space;
+        self.bounds = tightened(&self.live.places, widened(self.bounds, puts, removals));
         Ok(())
     }
 
@@ -285,6 +322,7 @@ impl<S: Store> VmFile<S> {
         self.space = None;
         settle(&mut self.store, &mut self.slots, pair, &self.live)?;
         self.live = live;
+        self.bounds = bounds_of(&self.live.places);
         Ok(())
     }
 
@@ -310,6 +348,7 @@ impl<S: Store> VmFile<S> {
             Ok(made) => Ok(VmFile {
                 alloc: self.alloc,
                 store: target,
+                bounds: bounds_of(&made.live.places),
                 live: made.live,
                 slots: made.slots,
                 space: None,

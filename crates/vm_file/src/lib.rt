@@ -8,6 +8,7 @@ mod directory;
 mod file;
 mod image;
 mod law;
+mod listing;
 mod making;
 mod placing;
 mod put;

@@ -6,6 +6,7 @@ use Rattle.vm_file.specs.Calls.{last_sequence}
 use Rattle.vm_file.specs.Copies.{IsCopy}
 use Rattle.vm_file.specs.Disk.{FileState, IsSettled, Commits}
 use Rattle.vm_file.specs.Documents.{Documents, document_in}
+use Rattle.vm_file.specs.Listing.{AreBounds}
 use Rattle.vm_file.specs.Effects.{IsCommit}
 use Rattle.vm_file.specs.Ranges.{IsPlaced}
 use Rattle.vm_file.specs.Slots.{stored_extents, pair_extents, held_extents}
@@ -69,7 +70,7 @@ invariant_of-self-2 g c =
     let saved = c.self.inside.slots.committed.saved in
     let now = c.settle.new.slots in
     let alike = copies_alike c.in_ok-live.live c.in_ok-pair.pair.saved.table saved.table c.in_ok-live.ensures c.in_ok-pair.ensures.saved.table in
-    record { sound = sound_saved (g.S.Store.facts c.settle.new.store) c.self.inside.live c.in_ok-live.live now (subst (λ (p : Pair). IsCopy c.in_ok-live.live p.saved.table) (sym c.in_ok-settle.ensures.committed) alike) c.settle.ensures.sound; known = tt }
+    record { sound = sound_saved (g.S.Store.facts c.settle.new.store) c.self.inside.live c.in_ok-live.live now (subst (λ (p : Pair). IsCopy c.in_ok-live.live p.saved.table) (sym c.in_ok-settle.ensures.committed) alike) c.settle.ensures.sound; bounded = subst (λ ps. AreBounds ps c.bounds_of-self-inside.result) c.deref.ensures.value c.bounds_of-self-inside.ensures; known = tt }
 
 pub returns-clause-commit : goal.returns-clause-commit
 returns-clause-commit g c =

@@ -11,6 +11,8 @@ use Rattle.vm_file.specs.Sound.{disk_of}
 use Rattle.vm_file.specs.Writing.{IsSpared, with_places, without_places}
 use Rattle.vm_file.specs.declared.table.Table.{Table}
 use Rattle.vm_file.specs.Known.{IsKnown}
+use Rattle.vm_file.specs.Listing.{AreBounds}
+use Rattle.vm_file.proofs.Handles.{bounds_changed}
 use Rattle.vm_file.proofs.Filled.{shown_without_all, length-with_places, length-without_places}
 use Rattle.vm_file.proofs.Tables.{shown, items_kept}
 use Rattle.vm_file.proofs.Puts.{few_extents, kept_twice, changed_twice, spared_passes, spared_drifts, spared_sound, put_drifts, put_sound}
@@ -52,6 +54,7 @@ invariant_of-self g c =
     record {
       sound = spared_sound g.S.Store.facts i.store b i.live i.slots c.self.invariant.sound c.write_puts.ensures.honest (λ so. (g.met.S.Store.timely b so).now)
           (λ so. subst (λ ps. IsSpared (block_extents ps) i.slots (g.S.Store.facts i.store) (g.S.Store.facts b)) c.deref.ensures.value (c.write_puts.ensures.spared so));
+      bounded = c.self.invariant.bounded;
       known = subst (λ space. IsKnown (block_extents i.live.places.items ++ kept_extents i.slots) space) (sym c.take.ensures.after) tt;
     }
 
@@ -97,6 +100,7 @@ invariant_of-self-2 g c =
           (λ so. subst (λ ps. IsSpared (block_extents ps) i.slots (g.S.Store.facts i.store) (g.S.Store.facts b)) c.deref.ensures.value (c.write_puts.ensures.spared so))
           c.args.puts.now es c.args.removals.now new c.requires.puts _ c.in_ok-written.ensures.found c.in_ok-written.ensures.written refl changed
           (subst (λ s. All (λ h. h.0 ≢ s.document.map_block) c.args.removals.now) (sym c.self.view_is) c.requires.removals);
+      bounded = subst (λ ps. AreBounds ps c.tightened-self-inside.result) c.deref-3.ensures.value c.tightened-self-inside.ensures;
       known = subst (λ ps. IsKnown (block_extents ps ++ kept_extents i.slots) c.remove_places.new.space) (sym kept) c.remove_places.ensures.known;
     }
 
@@ -137,3 +141,15 @@ returns-clause-removals_alone g c none =
     ∙ ap (λ ps. shown (facts i.store).content (without_places c.args.removals.now (with_places ps es i.live.places.items)) m) none
     ∙ shown_without_all (facts i.store).content c.args.removals.now i.live.places.items m ∙ ap (λ s. remove_all c.args.removals.now s.document) c.self.view_is in
     (refl, λ j. record { disk = disk j; document = document j })
+
+pub tightened-self-inside-requires : goal.tightened-self-inside-requires
+tightened-self-inside-requires g c =
+    let i = c.self.inside in
+    let puts = c.args.puts.now in
+    let removals = c.args.removals.now in
+    let es = c.in_ok-written.written.extents.items in
+    let filled = c.put_places.ensures.places ∙ ap₂ (λ xs ps. with_places puts xs ps) c.deref-2.ensures.value c.deref_mut.ensures.value in
+    let left = c.remove_places.ensures.places ∙ ap (without_places removals) c.deref_mut-2.ensures.value in
+    let changed = changed_twice i.live.places.len i.live.places.items c.put_places.new.places c.remove_places.new.places puts es removals i.live.places.ok.0 filled left in
+    subst (λ ps. AreBounds ps c.widened.result) (sym (c.deref-3.ensures.value ∙ changed))
+    (bounds_changed puts es removals i.live.places.items i.bounds c.widened.result c.self.invariant.sound.formed.table.size c.requires.puts c.self.invariant.bounded c.widened.ensures)

@@ -14,5 +14,6 @@ invariant_of-self g c =
         | inl none ↦ inl none
         | inr one ↦ inr (lies facts.content live.places.items live.map_block h (subst (λ s. is_live s.document h ≡ true) (sym c.self.view_is) one))
       ]);
+      bounded = c.self.invariant.bounded;
       known = c.self.invariant.known;
     }

@@ -1,9 +1,11 @@
-use Rattle.std.proofs.Common.{◌≡◌, ◌-◌, ◌++◌, List, true, Some, length, set, refl, sym, ap, subst, ◌∙◌, length-set}
+use Rattle.std.proofs.Common.{◌≡◌, ◌-◌, ◌++◌, List, true, Some, is_some, length, set, refl, sym, ap, subst, ◌∙◌, length-set}
 use Rattle.geos_model.specs.Document.{is_live, with_user_id}
 use Rattle.geos_model.proofs.Tables.{slot_at}
 use Rattle.geos_model.specs.declared.file.Extent.{Extent}
 use Rattle.vm_file.specs.Known.{IsKnown}
+use Rattle.vm_file.specs.Listing.{AreBounds}
 use Rattle.vm_file.specs.Slots.{block_extents, kept_extents}
+use Rattle.vm_file.proofs.Handles.{bounds_set}
 use Rattle.vm_file.proofs.Live.{sound_user_id}
 use Rattle.vm_file.proofs.Spaces.{same_extents}
 use Rattle.vm_file.proofs.Tables.{lies, shown, shown_user_id, items_kept}
@@ -20,6 +22,7 @@ invariant_of-self g c =
     let kept = items_kept live.places.len c.set_user_id.new.places live.places.items live.places.ok.0 long ∙ is in
     record {
       sound = sound_user_id (g.S.Store.facts c.self.inside.store) live _ c.self.inside.slots h c.args.user_id l.place c.self.invariant.sound l.at refl kept;
+      bounded = subst (λ ps. AreBounds ps c.self.inside.bounds) (sym kept) (bounds_set live.places.items (h - 1) (record l.place { user_id = c.args.user_id }) c.self.inside.bounds (ap is_some l.at) c.self.invariant.bounded);
       known = subst (λ (es : List Extent). IsKnown (es ++ kept_extents c.self.inside.slots) c.self.inside.space) (sym (ap block_extents kept ∙ same_extents live.places.items (h - 1) l.place (record l.place { user_id = c.args.user_id }) l.at refl)) c.self.invariant.known;
     }
 
