@@ -19,22 +19,6 @@ is_lent None is = absurd (cc is)
 is_lent (Some r) is = refl
 
 module _ (es : List (ℕ × Frame)) (h : ℕ) (f : Frame) (here : held es h ≡ Some f) (d : Document) where
-  -- what the document has of it
-  shown : get (overlay es d).blocks h ≡ Some (record { user_id = user_id_of d h; body = body_of f.body })
-  shown = get-overlay es d h ∙ ap (λ o. cover o d h) here
-
-  pub heap_shown : is_heap (overlay es d) h ≡ is_heap_body (body_of f.body)
-  heap_shown = ap (λ o. option_map_or (λ (b : Block). is_heap_body b.body) o false) shown
-
-  pub raw_shown : is_raw (overlay es d) h ≡ not (is_heap_body (body_of f.body))
-  raw_shown = ap (λ o. option_map_or (λ (b : Block). not (is_heap_body b.body)) o false) shown
-
-  pub chunks_shown : chunks_of (overlay es d) h ≡ chunks_of_body (body_of f.body)
-  chunks_shown = ap (λ o. option_map_or (λ (b : Block). chunks_of_body b.body) o empty) shown
-
-  pub bytes_shown : raw_bytes_of (overlay es d) h ≡ bytes_of_body (body_of f.body)
-  bytes_shown = ap (λ o. option_map_or (λ (b : Block). bytes_of_body b.body) o []) shown
-
   module _ (g : Frame) where
     abbrev lent : List (ℕ × Frame)
     lent = set_value (nat_eq h) es g

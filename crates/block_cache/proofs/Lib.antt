@@ -1,9 +1,13 @@
+pub mod Blocks
 pub mod Commits
 pub mod FileImages
 pub mod Lent
+pub mod Listing
 pub mod Loaded
 pub mod Locks
 pub mod Overlay
+pub mod PutUnder
+pub mod SavedAs
 pub mod Seats
 pub mod Steps
 pub mod Tables

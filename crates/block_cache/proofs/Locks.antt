@@ -1,6 +1,7 @@
 -- What stays locked, where blocks come into memory and go out of it.
-use Rattle.std.proofs.Common.{◌≡◌, ◌⊎◌, ℕ, ◌+◌, ◌==◌, Bool, true, false, not, cond, nat_eq, List, [], ◌∷◌, Option, None, Some, unwrap_or, Result, Ok, Err, OnOk, OnErr, inl, inr, refl, sym, ap, subst, ◌∙◌, arith, eq-eqb, eqb-true}
+use Rattle.std.proofs.Common.{◌≡◌, ◌≢◌, ◌⊎◌, ℕ, ◌+◌, ◌≤◌, ◌==◌, Bool, true, false, not, cond, nat_eq, List, [], ◌∷◌, Option, None, Some, unwrap_or, Result, Ok, Err, OnOk, OnErr, All, inl, inr, refl, sym, ap, subst, ◌∙◌, arith, eq-eqb, eqb-true}
 use Rattle.std.proofs.lemmas.Bool.{cases_eq, ne_eqb}
+use Rattle.std.proofs.lemmas.List.Elements.{All-head, All-tail}
 use Rattle.std.proofs.lemmas.List.Sums.{sum_by-cons}
 use Rattle.std.proofs.lemmas.Map.{lookup-none, lookup-remove_entry}
 use Rattle.std.proofs.lemmas.Map.Entries.{none_past_head}
@@ -10,8 +11,9 @@ use Rattle.std.specs.List.{IsDistinct}
 use Rattle.std.specs.Map.{lookup, lookup_entry, remove_entry, keys_of}
 use Rattle.std.specs.Option.{option_map_or}
 use Rattle.geos_model.specs.declared.fault.Fault.{Fault}
+use Rattle.geos_model.specs.declared.handle.VmHandle.{VmHandle}
 use Rattle.lru.specs.LruCache.{promoted}
-use Rattle.block_cache.specs.State.{Seat, is_locked, locks_of, locked_count, victim, evicted, KeepsLocks}
+use Rattle.block_cache.specs.State.{Seat, is_locked, locks_of, locked_count, victim, evicted, seats_without, KeepsLocks}
 use Rattle.block_cache.specs.Frames.{seats}
 use Rattle.block_cache.specs.declared.frame.Frame.{Frame}
 
@@ -139,3 +141,37 @@ keeps_either (Err x) h b ss ts distinct absent ok err = elim err as (λ _. Keeps
   | inl same ↦ subst (KeepsLocks ss) (sym same) (keeps_refl ss)
   | inr less ↦ subst (KeepsLocks ss) (sym less) (keeps_evicted ss distinct)
 ]
+
+-- blocks that go from the document
+
+fewer_by : (test : ℕ → Bool) (ss : List Seat) → locked_count (remove_entry test ss) ≤ locked_count ss
+fewer_by test [] = omega arith
+fewer_by test (s ∷ ss) =
+    let all = counts s ss in
+    let rest = fewer_by test ss in
+    elim (test s.0) as (λ b. locked_count (cond b ss (s ∷ remove_entry test ss)) ≤ locked_count (s ∷ ss)) [
+      | true ↦ omega (arith, all)
+      | false ↦ let left = counts s (remove_entry test ss) in omega (arith, all, left, rest)
+    ]
+
+-- no more are locked
+pub fewer_locked_without : (handles : List VmHandle) (ss : List Seat) → locked_count (seats_without handles ss) ≤ locked_count ss
+fewer_locked_without [] ss = omega arith
+fewer_locked_without (h ∷ handles) ss =
+    let one = fewer_by (nat_eq h.0) ss in
+    let rest = fewer_locked_without handles (remove_entry (nat_eq h.0) ss) in
+    omega (arith, one, rest)
+
+stays_by : (h k : ℕ) (ss : List Seat) → h ≢ k → lookup (nat_eq h) (remove_entry (nat_eq k) ss) ≡ lookup (nat_eq h) ss
+stays_by h k [] other = refl
+stays_by h k (s ∷ ss) other = (elim (nat_eq k s.0) as (λ b. nat_eq k s.0 ≡ b → lookup (nat_eq h) (cond b ss (s ∷ remove_entry (nat_eq k) ss)) ≡ lookup (nat_eq h) (s ∷ ss)) [
+  | true ↦ λ at. sym (ap (λ b. cond b (Some s.1) (lookup (nat_eq h) ss)) (ne_eqb h s.0 (λ is. other (is ∙ sym (eqb-true k s.0 at)))))
+  | false ↦ λ at. ap (λ o. cond (nat_eq h s.0) (Some s.1) o) (stays_by h k ss other)
+]) refl
+
+-- another block stays in memory
+pub stays_without : (h : ℕ) (handles : List VmHandle) (ss : List Seat) → All (λ k. k.0 ≢ h) handles → lookup (nat_eq h) (seats_without handles ss) ≡ lookup (nat_eq h) ss
+stays_without h [] ss others = refl
+stays_without h (k ∷ handles) ss others =
+    stays_without h handles (remove_entry (nat_eq k.0) ss) (All-tail (λ k. k.0 ≢ h) k handles others)
+    ∙ stays_by h k.0 ss (λ is. All-head (λ k. k.0 ≢ h) k handles others (sym is))

@@ -1,16 +1,16 @@
 -- The document under frames.
-use Rattle.std.proofs.Common.{◌≡◌, ◌≢◌, ℕ, nat_eq, Bool, true, false, cond, IsTrue, List, [], ◌∷◌, map, Option, None, Some, is_some, refl, sym, ap, subst, ◌∙◌, inl, inr, unwrap_or, eq-eqb}
+use Rattle.std.proofs.Common.{◌≡◌, ◌≢◌, ◌⊎◌, ℕ, ◌<◌, nat_eq, Bool, true, false, cond, IsTrue, List, [], ◌∷◌, map, Option, None, Some, is_some, refl, sym, ap, subst, ◌∙◌, inl, inr, unwrap_or, eq-eqb}
 use Rattle.std.proofs.lemmas.Bool.{cases_eq, ne_eqb}
 use Rattle.std.specs.Option.{option_map_or, option_map}
 use Rattle.std.specs.Map.{set_value}
 use Rattle.std.specs.Cmp.{nat_cmp_total, nat_eq_equiv}
 use Rattle.std.proofs.lemmas.Map.{lookup-set_value}
 use Rattle.std.specs.FinMap.{get, same_map, nat_cmp-IsAntisymmetric}
-use Rattle.geos_model.specs.Document.{Block, Document, block_at, is_live, user_id_of, with_body}
+use Rattle.geos_model.specs.Document.{Block, Document, IsValidBlock, IsValid, block_at, is_live, is_valid_body, user_id_of, with_body}
 use Rattle.geos_model.specs.declared.command.Body.{Body}
 use Rattle.geos_model.specs.declared.command.Body.TheVariants.{Raw}
 use Rattle.geos_model.proofs.HeapEdits.{get-put_same, get-put_other}
-use Rattle.vm_file.specs.Disk.{Drifts}
+use Rattle.vm_file.specs.Disk.{Drifts, IsListed}
 use Rattle.block_cache.specs.Bodies.{body_of}
 use Rattle.block_cache.specs.Frames.{held, overlay, with_frame, is_changed_in, IsKept, AreKept}
 use Rattle.block_cache.specs.declared.frame.Frame.{Frame}
@@ -60,6 +60,20 @@ live_cover honest d h (Some f) kept = sym (kept f refl).live
 pub overlay_live : (honest : Bool) (es : List (ℕ × Frame)) (d : Document) (h : ℕ) → AreKept honest d es → is_live (overlay es d) h ≡ is_live d h
 overlay_live honest es d h kept = ap is_some (get-overlay es d h) ∙ live_cover honest d h (held es h) (kept.each h)
 
+-- its handles can be, and its map block is none or live
+pub listed_under : (honest : Bool) (es : List (ℕ × Frame)) (d : Document) → AreKept honest d es → IsListed honest d → IsListed false (overlay es d)
+listed_under honest es d kept listed =
+    let over = overlay es d in
+    let map = overlay_map es d in
+    record {
+      handles = λ h live. listed.handles h (sym (overlay_live honest es d h kept) ∙ live);
+      map_block = elim listed.map_block as (λ _. (over.map_block ≡ 0) ⊎ (is_live over over.map_block ≡ true)) [
+        | inl none ↦ inl (map ∙ none)
+        | inr live ↦ inr (ap (is_live over) map ∙ overlay_live honest es d d.map_block kept ∙ live)
+      ];
+      bodies = λ wrong. absurd (cc wrong);
+    }
+
 pub same_document : (d e : Document) → e.map_block ≡ d.map_block → ((h : ℕ) → get e.blocks h ≡ get d.blocks h) → e ≡ d
 same_document d e map same =
     let blocks : e.blocks ≡ d.blocks = same_map nat_cmp_total nat_cmp-IsAntisymmetric e.blocks d.blocks same in
@@ -75,6 +89,35 @@ agree honest es d fs e kept kept' live user map same = record {
   map_block = overlay_map fs e ∙ map ∙ sym (overlay_map es d);
   same = λ so. same_document (overlay es d) (overlay fs e) (overlay_map fs e ∙ map ∙ sym (overlay_map es d)) (λ h. get-overlay fs e h ∙ same so h ∙ sym (get-overlay es d h));
 }
+
+-- a block that is live
+
+pub block_by : (o : Option Block) → is_some o ≡ true → (b : Block) × (o ≡ Some b)
+block_by None live = absurd (cc live)
+block_by (Some b) live = (b, refl)
+
+abbrev pub body_by : Option Block → Body
+body_by o = let b : Block = unwrap_or o (record { user_id = 0; body = Raw [] }) in b.body
+
+-- valid bodies over a valid document
+module _ (es : List (ℕ × Frame)) (d : Document) (valid : IsValid d) (kept : AreKept false d es) (bodies : (h : ℕ) (f : Frame) → held es h ≡ Some f → is_valid_body (body_of f.body) ≡ true) where
+  covered_valid : (h : ℕ) (o : Option Frame) (b : Block) → held es h ≡ o → cover o d h ≡ Some b → IsValidBlock h b
+  covered_valid h None b here is = valid.blocks h b is
+  covered_valid h (Some f) b here is =
+      let under = block_by (get d.blocks h) (kept.each h f here).live in
+      let was = valid.blocks h under.0 under.1 in
+      let user : user_id_of d h ≡ under.0.user_id = ap uid under.1 in
+      let now : IsValidBlock h (record { user_id = user_id_of d h; body = body_of f.body }) = record { handle = was.handle; user_id = subst (λ n. n < 65536) (sym user) was.user_id; body = bodies h f here } in
+      subst (IsValidBlock h) (cc is) now
+
+  pub overlay_valid : IsValid (overlay es d)
+  overlay_valid =
+      let over = overlay es d in
+      let map = overlay_map es d in
+      record {
+        blocks = λ h b is. covered_valid h (held es h) b refl (sym (get-overlay es d h) ∙ is);
+        map_block = λ some. ap (is_live over) map ∙ overlay_live false es d d.map_block kept ∙ valid.map_block (λ none. some (map ∙ none));
+      }
 
 -- the file drifts under the frames
 
@@ -97,15 +140,6 @@ overlay_same es fs d same = same_document (overlay es d) (overlay fs d) (overlay
 
 pub kept_same : (honest : Bool) (es fs : List (ℕ × Frame)) (d : Document) → ((h : ℕ) → held fs h ≡ held es h) → AreKept honest d es → AreKept honest d fs
 kept_same honest es fs d same kept = record { each = λ h f is. kept.each h f (sym (same h) ∙ is) }
-
--- a block that is live
-
-pub block_by : (o : Option Block) → is_some o ≡ true → (b : Block) × (o ≡ Some b)
-block_by None live = absurd (cc live)
-block_by (Some b) live = (b, refl)
-
-abbrev pub body_by : Option Block → Body
-body_by o = let b : Block = unwrap_or o (record { user_id = 0; body = Raw [] }) in b.body
 
 -- a frame that has what the file has
 pub covers_same : (d : Document) (h : ℕ) (f : Frame) → is_live d h ≡ true → (block_at d h).body ≡ body_of f.body → cover (Some f) d h ≡ get d.blocks h

@@ -1,8 +1,9 @@
 -- The frames over the document of the file.
 use Rattle.std.specs.Prelude.{◌≡◌, ℕ, Bool, true, false, IsTrue, nat_eq, List, [], ◌∷◌, map, Option, Some, count_by}
 use Rattle.std.specs.Option.{option_map_or}
-use Rattle.std.specs.Map.{lookup, set_value}
+use Rattle.std.specs.Map.{lookup, remove_entry, set_value}
 use Rattle.vm_store.specs.Facts.{StoreFacts}
+use Rattle.geos_model.specs.declared.handle.VmHandle.{VmHandle}
 use Rattle.geos_model.specs.Document.{Document, block_at, is_live, with_body}
 use Rattle.vm_file.specs.Disk.{FileState, Passes, Drifts}
 use Rattle.block_cache.specs.Bodies.{body_of}
@@ -26,6 +27,11 @@ overlay (e ∷ es) d = with_body (overlay es d) e.0 (body_of e.1.body)
 -- with another frame of a block, if it has one
 abbrev pub with_frame : List (ℕ × Frame) → ℕ → (Frame → Frame) → List (ℕ × Frame)
 with_frame es b g = option_map_or (λ f. set_value (nat_eq b) es (g f)) (held es b) es
+
+-- without the frames of these blocks
+abbrev pub frames_without : List VmHandle → List (ℕ × Frame) → List (ℕ × Frame)
+frames_without [] es = es
+frames_without (h ∷ handles) es = frames_without handles (remove_entry (nat_eq h.0) es)
 
 abbrev pub is_changed_in : List (ℕ × Frame) → ℕ → Bool
 is_changed_in es h = option_map_or (λ f. f.changed) (held es h) false

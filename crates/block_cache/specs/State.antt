@@ -5,6 +5,7 @@ use Rattle.std.specs.Map.{lookup, remove_entry}
 use Rattle.std.specs.Coded.{Coded, code_by, coded×, coded_ℕ, coded_list}
 use Rattle.vm_store.specs.Facts.{StoreFacts}
 use Rattle.geos_model.specs.Document.{Document}
+use Rattle.geos_model.specs.declared.handle.VmHandle.{VmHandle}
 use Rattle.geos_model.proofs.Codes.{document_code}
 use Rattle.vm_file.specs.Disk.{Disk, FileState, disk_code}
 use Rattle.vm_file.specs.Effects.{KeepsFile}
@@ -51,6 +52,11 @@ victim (s ∷ ss) = option_map_or (λ h. Some h) (victim ss) (cond (is_locked s)
 -- without it
 abbrev pub evicted : List Seat → List Seat
 evicted seats = option_map_or (λ h. remove_entry (nat_eq h) seats) (victim seats) seats
+
+-- without these blocks
+abbrev pub seats_without : List VmHandle → List Seat → List Seat
+seats_without [] seats = seats
+seats_without (h ∷ handles) seats = seats_without handles (remove_entry (nat_eq h.0) seats)
 
 -- What is in memory once a block was loaded: that block first. Where it wasn't there and each frame was taken, the least recently
 -- used one that isn't locked had to go.

@@ -1,28 +1,29 @@
-ghost use Rattle.std.specs.Prelude.{◌≡◌, ◌≢◌, ◌⊎◌, ◌≤◌, ◌<◌, ◌+◌, ◌-◌, ℕ, true, false, IsTrue, MatchResult, IfOk, IfErr, OnOk, OnErr, Ok, Some, [], nat_eq, nat_lt};
+ghost use Rattle.std.specs.Prelude.{◌≡◌, ◌≢◌, ◌⊎◌, ◌↔◌, ◌≤◌, ◌<◌, ◌+◌, ◌-◌, ℕ, true, false, IsTrue, MatchResult, IfOk, IfErr, IfSome, IsOk, OnOk, OnErr, Ok, Some, None, [], All, length, map, nat_eq, nat_lt};
 ghost use Rattle.std.specs.Borrow.{sem};
-ghost use Rattle.std.specs.FinMap.{get};
+ghost use Rattle.std.specs.FinMap.{get, keys};
 ghost use Rattle.std.specs.Map.{set_value};
 ghost use Rattle.std.specs.Option.{option_map};
-ghost use Rattle.vm_store.specs.Facts.{Raised};
-ghost use Rattle.geos_model.specs.Document.{IsValid, empty_document, is_vm_handle, is_live, is_heap, is_raw, chunks_of, raw_bytes_of, user_id_of, with_user_id};
-ghost use Rattle.vm_file.specs.Calls.{IsSupply};
-ghost use Rattle.vm_file.specs.Disk.{IsSettled};
-ghost use Rattle.vm_file.specs.Making.{first_file};
-ghost use Rattle.vm_file.specs.Effects.{Follows, IsNewFile, IsCommit, Fails, NoFault, IsWorn, IsDamage};
+ghost use Rattle.std.specs.Result.{IsErrAnd};
+ghost use Rattle.geos_model.specs.Document.{IsValid, is_vm_handle, is_live, next_handle, user_id_of, with_user_id};
+ghost use Rattle.geos_model.specs.Reply.{found};
+ghost use Rattle.vm_file.specs.Calls.{IsPut, put_all, remove_all, last_sequence};
+ghost use Rattle.vm_file.specs.Disk.{IsListed, IsSettled, Numbered};
+ghost use Rattle.vm_file.specs.Effects.{IsCommit, KeepsFile, Fails, NoFault, IsWorn, IsDamage};
 ghost use Rattle.block_cache.specs.Bodies.{body_of};
-ghost use Rattle.block_cache.specs.State.{is_resident, locks_of, locked_count, all_locked, seated, evicted, seen, Stays, KeepsLocks};
+ghost use Rattle.block_cache.specs.Opening.{IsOpenedFrom, IsNotOpened, IsMadeIn, IsNotMade};
+ghost use Rattle.block_cache.specs.SavingAs.{IsSavedAs, IsNotSavedAs};
+ghost use Rattle.block_cache.specs.State.{is_resident, locks_of, locked_count, all_locked, seated, evicted, seats_without, seen, Stays, KeepsLocks};
 
+use crate::changing::drop_blocks;
 use crate::frame::{Frame, all_locked, body_in, has_locks, lock, locks_of, mark, unlock};
 use crate::loading::{bring, drop_all, flush};
-use crate::{BlockBody, committing};
+use crate::{BlockBody, committing, saving_as};
 use geos_model::{Fault, VmHandle};
-use lmem_heap::Heap;
 use lru::LruCache;
-use raw_region::RawBody;
-use std::alloc::Global;
+use std::alloc::{AllocError, Global};
 use std::marker::Model;
 use std::num::NonZeroUsize;
-use vm_file::{Refused, VmFile};
+use vm_file::{PutBlock, Refused, VmFile};
 use vm_store::Store;
 
 /// The document of a file, of which some blocks are in memory.
@@ -48,20 +49,15 @@ impl<S: Store> Model for Cache<S> {
 }
 
 impl<S: Store> Cache<S> {
-    ghost use Rattle.block_cache.specs.LendsBlock.{lends_heap, lends_raw};
+    ghost use Rattle.block_cache.specs.LendsBlock.{lends_body};
 
     /// Makes the store an empty document file with so many frames, whatever was in it. Memory, before the store is called; File.
     pub fn create(alloc: Global, store: S, frames: usize) -> Result<Cache<S>, Refused<S>>
         requires { 1 ≤ frames }
-        ensures store { MatchResult result
-            (λ cache. Follows S.facts store cache.disk.store)
-            (λ refused. Follows S.facts store refused.store) }
-        ensures made { IfOk result (λ cache. (cache.document ≡ empty_document) × IsNewFile S.facts empty_document cache.disk) }
+        ensures made { MatchResult result
+            (λ cache. IsMadeIn S.facts store (seen cache))
+            (λ refused. IsNotMade S.facts store refused.store refused.fault) }
         ensures empty { IfOk result (λ cache. (cache.resident ≡ []) × (cache.frames ≡ frames)) }
-        ensures bytes { IfOk result (λ cache. IsTrue (S.facts store).honest → (S.facts cache.disk.store).content ≡ first_file) }
-        ensures early { IfErr result (λ refused. refused.fault ≢ Fault.File → refused.store ≡ store) }
-        ensures file { IfErr result (λ refused. refused.fault ≡ Fault.File → Raised (S.facts store) (S.facts refused.store)) }
-        ensures refusals { IfErr result (λ refused. IsSupply refused.fault) }
     {
         let cap = NonZeroUsize::new(frames).unwrap();
         let Ok(frames) = LruCache::new(alloc, cap) else {
@@ -80,23 +76,30 @@ impl<S: Store> Cache<S> {
         }
     }
 
-    /// A file with so many frames, none of them taken. Memory: the store comes back.
-    pub fn open(alloc: Global, file: VmFile<S>, frames: usize) -> Result<Cache<S>, Refused<S>>
+    /// Opens the file that a store has, with so many frames, and its updated document as it is now. Where it is refused the store
+    /// comes back, and nothing was written to an honest one: NotDocument or Damaged where it has no file; Memory, File. Where a
+    /// crash left the store, what is read is on the disk from then on.
+    pub fn open(alloc: Global, store: S, frames: usize) -> Result<Cache<S>, Refused<S>>
         requires { 1 ≤ frames }
-        ensures ok { IfOk result (λ cache. cache ≡ record { disk = file.disk; document = file.document; resident = []; frames = frames }) }
-        ensures err { IfErr result (λ refused. (refused.fault ≡ Fault.Memory) × (refused.store ≡ file.disk.store)) }
+        ensures opened { MatchResult result
+            (λ cache. IsOpenedFrom S.facts store (seen cache))
+            (λ refused. IsNotOpened S.facts store refused.store refused.fault) }
+        ensures empty { IfOk result (λ cache. (cache.resident ≡ []) × (cache.frames ≡ frames)) }
     {
         let cap = NonZeroUsize::new(frames).unwrap();
-        match LruCache::new(alloc, cap) {
-            Ok(frames) => Ok(Cache {
+        let Ok(frames) = LruCache::new(alloc, cap) else {
+            return Err(Refused {
+                fault: Fault::Memory,
+                store,
+            });
+        };
+        match VmFile::open(alloc, store) {
+            Ok(file) => Ok(Cache {
                 alloc,
                 file,
                 frames,
             }),
-            Err(_) => Err(Refused {
-                fault: Fault::Memory,
-                store: file.close(),
-            }),
+            Err(refused) => Err(refused),
         }
     }
 
@@ -157,6 +160,29 @@ impl<S: Store> Cache<S> {
         self.file.map_block()
     }
 
+    /// The least handle above `start` whose block has this user ID.
+    pub fn find(&self, user_id: u16, start: VmHandle) -> Option<VmHandle>
+        ensures { option_map (λ h. h.0) result ≡ found self.now.document user_id start.0 }
+    {
+        self.file.find(user_id, start)
+    }
+
+    /// The live handles, rising.
+    pub fn list(&self) -> Result<Vec<VmHandle>, AllocError>
+        ensures { IfOk result (λ handles. map (λ h. h.0) handles.items ≡ keys self.now.document.blocks) }
+    {
+        self.file.list()
+    }
+
+    /// The least handle that isn't live.
+    pub fn next_handle(&self) -> Option<VmHandle>
+        ensures value { option_map (λ h. h.0) result ≡ next_handle self.now.document }
+        ensures within { IfSome result (λ h. is_vm_handle h.0 ≡ true) }
+        ensures free { IfSome result (λ h. get self.now.document.blocks h.0 ≡ None) }
+    {
+        self.file.next_handle()
+    }
+
     /// The body of a block in memory.
     pub fn body(&self, block: VmHandle) -> &BlockBody
         requires { is_resident self.now.resident block.0 ≡ true }
@@ -165,48 +191,13 @@ impl<S: Store> Cache<S> {
         body_in(&self.frames, block.0)
     }
 
-    /// The heap of a block in memory.
-    pub fn heap(&self, block: VmHandle) -> &Heap
-        requires resident { is_resident self.now.resident block.0 ≡ true }
-        requires heap { is_heap self.now.document block.0 ≡ true }
-        ensures { result.now.chunks ≡ chunks_of self.now.document block.0 }
+    /// The body of a block in memory, to be changed: from now on the file may have another. No memory, no store.
+    pub fn body_mut(&mut self, block: VmHandle) -> &mut BlockBody
+        requires { is_resident self.old.resident block.0 ≡ true }
+        ensures* writes_back { sem 𝓛 (lends_body S.row S.Store self.entry block.0 result) }
+        ensures value { option_map (λ b. b.body) (get self.old.document.blocks block.0) ≡ Some (body_of result.now) }
     {
-        match self.body(block) {
-            BlockBody::Heap(heap) => heap,
-            BlockBody::Raw(_) => unreachable!(),
-        }
-    }
-
-    /// The raw body of a block in memory.
-    pub fn raw(&self, block: VmHandle) -> &RawBody
-        requires resident { is_resident self.now.resident block.0 ≡ true }
-        requires raw { is_raw self.now.document block.0 ≡ true }
-        ensures { result.now ≡ raw_bytes_of self.now.document block.0 }
-    {
-        match self.body(block) {
-            BlockBody::Raw(raw) => raw,
-            BlockBody::Heap(_) => unreachable!(),
-        }
-    }
-
-    /// The heap of a block in memory, to be changed. No memory, no store.
-    pub fn heap_mut(&mut self, block: VmHandle) -> &mut Heap
-        requires resident { is_resident self.old.resident block.0 ≡ true }
-        requires heap { is_heap self.old.document block.0 ≡ true }
-        ensures* writes_back { sem 𝓛 (lends_heap S.row S.Store self.entry block.0 result) }
-        ensures value { result.now.chunks ≡ chunks_of self.old.document block.0 }
-    {
-        self.frames.peek_mut(&block.0).unwrap().heap_mut()
-    }
-
-    /// The raw bytes of a block in memory, to be changed. No memory, no store.
-    pub fn raw_mut(&mut self, block: VmHandle) -> &mut RawBody
-        requires resident { is_resident self.old.resident block.0 ≡ true }
-        requires raw { is_raw self.old.document block.0 ≡ true }
-        ensures* writes_back { sem 𝓛 (lends_raw S.row S.Store self.entry block.0 result) }
-        ensures value { result.now ≡ raw_bytes_of self.old.document block.0 }
-    {
-        self.frames.peek_mut(&block.0).unwrap().raw_mut()
+        self.frames.peek_mut(&block.0).unwrap().body_mut()
     }
 
     /// Sets the user ID of a block, in memory or not. No memory, no store.
@@ -223,6 +214,35 @@ impl<S: Store> Cache<S> {
         ensures { self.new ≡ record self.old { document = record self.old.document { map_block = block.0 } } }
     {
         self.file.set_map(block);
+    }
+
+    /// Puts blocks into the document, none of which is in memory: their images are written to the file, and their bodies don't come
+    /// into memory. Where it is refused none is put. Memory, before anything is written; File. With nothing
+    /// to put it takes no memory, calls no store and isn't refused.
+    pub fn put_blocks(&mut self, puts: &[PutBlock]) -> Result<(), Fault>
+        requires puts { All IsPut puts.now }
+        requires few { length puts.now ≤ 2048 }
+        requires away { All (λ p. is_resident self.old.resident p.handle.0 ≡ false) puts.now }
+        ensures keeps { MatchResult result
+            (λ _. KeepsFile S.facts (put_all puts.now self.old.document) (seen self.old) (seen self.new))
+            (λ _. KeepsFile S.facts self.old.document (seen self.old) (seen self.new)) }
+        ensures early { IfErr result (λ fault. fault ≢ Fault.File → self.new ≡ self.old) }
+        ensures none { puts.now ≡ [] → IsOk result × (self.new ≡ self.old) }
+        ensures resident { (self.new.resident ≡ self.old.resident) × (self.new.frames ≡ self.old.frames) }
+        ensures fails { Fails S.facts NoFault self.old.disk.store self.new.disk.store result }
+    {
+        self.file.put_blocks(puts, &[])
+    }
+
+    /// Takes blocks out of the document, and out of memory, with what was changed in them and with their locks. The map block
+    /// stays. No memory, no store.
+    pub fn remove_blocks(&mut self, handles: &[VmHandle])
+        requires { All (λ h. h.0 ≢ self.old.document.map_block) handles.now }
+        ensures { self.new ≡ record self.old { document = remove_all handles.now self.old.document; resident = seats_without handles.now self.old.resident } }
+    {
+        let _count = self.frames.len();
+        drop_blocks(&mut self.frames, handles);
+        let _removed = self.file.put_blocks(&[], handles);
     }
 
     /// Brings a block into memory, and makes it the most recently used. Where each frame is taken, the least recently used block
@@ -324,13 +344,33 @@ impl<S: Store> Cache<S> {
         committing::revert(&mut self.file, &mut self.frames)
     }
 
-    /// It does nothing: its caller learns what always holds of the disk, and of which handles are live.
+    /// Makes the target a file of its own of the document as it is now, and goes on in that, with the same blocks in memory. The
+    /// file so far goes back to its saved document, and its store comes back. Where it is refused the file stays, and the target
+    /// comes back, with any bytes; nothing is committed then, but where the store of the file so far fails. Worn, before anything
+    /// is written; Damaged where what is read is no image, which an honest store never gives; Memory, File.
+    pub fn save_as(&mut self, target: S) -> Result<S, Refused<S>>
+        ensures saved_as { MatchResult result
+            (λ store. IsSavedAs S.facts target store (seen self.old) (seen self.new))
+            (λ refused. IsNotSavedAs S.facts target refused.store (seen self.old) (seen self.new) refused.fault) }
+        ensures valid { IfOk result (λ _. IsTrue (S.facts self.new.disk.store).honest → IsValid self.new.document) }
+        ensures worn { IsErrAnd result (λ refused. refused.fault ≡ Fault.Worn) ↔ self.old.disk.sequence ≡ last_sequence }
+        ensures resident { (self.new.resident ≡ self.old.resident) × (self.new.frames ≡ self.old.frames) }
+    {
+        saving_as::save_as(self.alloc, &mut self.file, &mut self.frames, target)
+    }
+
+    /// It does nothing: its caller learns what always holds. Of an honest store the updated and the saved document are valid; the
+    /// document as it is now has what was done to it.
     pub fn validity(&self)
         ensures settled { IsSettled S.facts self.now.disk }
         ensures valid { IsTrue (S.facts self.now.disk.store).honest → IsValid self.now.disk.updated × IsValid self.now.disk.saved }
-        ensures handles { (h : ℕ) → is_live self.now.document h ≡ true → is_vm_handle h ≡ true }
-        ensures map_block { (self.now.document.map_block ≡ 0) ⊎ (is_live self.now.document self.now.document.map_block ≡ true) }
+        ensures listed { IsListed false self.now.document }
+        ensures numbered { IsTrue (S.facts self.now.disk.store).honest → self.now.disk.attempted ≡ [] → Numbered (S.facts self.now.disk.store) self.now.disk.sequence }
+        ensures sequence { (1 ≤ self.now.disk.sequence) × (self.now.disk.sequence ≤ last_sequence) }
+        ensures resident { (h : ℕ) → is_resident self.now.resident h ≡ true → is_live self.now.document h ≡ true }
+        ensures room { length self.now.resident ≤ self.now.frames }
     {
+        let _count = self.frames.len();
         self.file.validity();
     }
 

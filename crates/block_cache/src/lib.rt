@@ -3,9 +3,11 @@
 
 mod body;
 mod cache;
+mod changing;
 mod committing;
 mod frame;
 mod loading;
+mod saving_as;
 
 pub use body::BlockBody;
 pub use cache::Cache;

@@ -5,8 +5,8 @@ ghost use Rattle.vm_file.specs.Calls.{IsPut};
 use block_cache::{BlockBody, Cache};
 use geos_model::{Bytes, Fault, VmHandle};
 use std::alloc::Global;
-use vm_file::{PutBlock, Refused, VmFile};
-use vm_store::{MemStore, Store};
+use vm_file::{PutBlock, Refused};
+use vm_store::Store;
 
 pub(crate) fn why<S: Store>(refused: Refused<S>) -> Fault {
     refused.fault
@@ -29,37 +29,51 @@ pub(crate) fn raw_block(alloc: Global, handle: u16, body: &[u8]) -> Result<PutBl
     })
 }
 
-/// Puts a raw block into the document of a file.
+// Puts a block into the document. Range where it is in memory.
+fn put_block<S: Store>(cache: &mut Cache<S>, block: PutBlock) -> Result<(), Fault>
+    requires { IsPut block }
+{
+    if cache.is_resident(block.handle) {
+        return Err(Fault::Range);
+    }
+    cache.put_blocks(&[block])
+}
+
+/// Puts a raw block into the document. Range where it is in memory, or there can be none like it.
 pub(crate) fn put<S: Store>(
     alloc: Global,
-    file: &mut VmFile<S>,
+    cache: &mut Cache<S>,
     handle: u16,
     body: &[u8],
 ) -> Result<(), Fault> {
     let block = raw_block(alloc, handle, body)?;
-    file.put_blocks(&[block], &[])
+    put_block(cache, block)
 }
 
-/// A cache over a file with so many frames, of which there is one at least. Range where there is none.
-pub(crate) fn cached<S: Store>(
-    alloc: Global,
-    file: VmFile<S>,
-    frames: usize,
-) -> Result<Cache<S>, Fault> {
+/// Takes a block out of the document. Range where it is the map block.
+pub(crate) fn remove<S: Store>(cache: &mut Cache<S>, handle: u16) -> Result<(), Fault> {
+    let block = VmHandle(handle);
+    if block == cache.map_block() {
+        return Err(Fault::Range);
+    }
+    cache.remove_blocks(&[block]);
+    Ok(())
+}
+
+/// The cache of a new document with so many frames. Range where there is none.
+pub(crate) fn created<S: Store>(alloc: Global, store: S, frames: usize) -> Result<Cache<S>, Fault> {
     if frames == 0 {
         return Err(Fault::Range);
     }
-    Cache::open(alloc, file, frames).map_err(why)
+    Cache::create(alloc, store, frames).map_err(why)
 }
 
-/// The cache of a store in memory.
-pub(crate) fn opened(
-    alloc: Global,
-    store: MemStore,
-    frames: usize,
-) -> Result<Cache<MemStore>, Fault> {
-    let file = VmFile::open(alloc, store).map_err(why)?;
-    cached(alloc, file, frames)
+/// The cache of the document that a store has, with so many frames. Range where there is none.
+pub(crate) fn opened<S: Store>(alloc: Global, store: S, frames: usize) -> Result<Cache<S>, Fault> {
+    if frames == 0 {
+        return Err(Fault::Range);
+    }
+    Cache::open(alloc, store, frames).map_err(why)
 }
 
 /// Brings a block into memory. NoBlock where it isn't live; Range where each frame has a locked block.
@@ -110,14 +124,14 @@ pub(crate) fn set<S: Store>(cache: &mut Cache<S>, handle: u16, bytes: &[u8]) -> 
     if !cache.is_resident(block) || bytes.len() > 65_520 {
         return Err(Fault::Range);
     }
-    match cache.body(block) {
-        BlockBody::Raw(_) => {}
-        BlockBody::Heap(_) => return Err(Fault::Range),
+    match cache.body_mut(block) {
+        BlockBody::Raw(raw) => {
+            let length = raw.bytes().len();
+            raw.replace(0, length, bytes);
+            Ok(())
+        }
+        BlockBody::Heap(_) => Err(Fault::Range),
     }
-    let raw = cache.raw_mut(block);
-    let length = raw.bytes().len();
-    raw.replace(0, length, bytes);
-    Ok(())
 }
 
 // The commits, without what their contracts say: a test that calls them is proved to be safe, no more.
@@ -131,4 +145,9 @@ pub(crate) fn save<S: Store>(cache: &mut Cache<S>) -> Result<(), Fault> {
 
 pub(crate) fn revert<S: Store>(cache: &mut Cache<S>) -> Result<(), Fault> {
     cache.commit_revert()
+}
+
+/// The store of the file so far.
+pub(crate) fn save_as<S: Store>(cache: &mut Cache<S>, target: S) -> Result<S, Fault> {
+    cache.save_as(target).map_err(why)
 }

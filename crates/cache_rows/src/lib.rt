@@ -4,4 +4,10 @@
 #[cfg(test)]
 mod calls;
 #[cfg(test)]
+mod changing;
+#[cfg(test)]
+mod counting;
+#[cfg(test)]
+mod sizes;
+#[cfg(test)]
 mod using;

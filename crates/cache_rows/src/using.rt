@@ -1,21 +1,17 @@
 // Caches with few frames over files in memory.
-use crate::calls::{
-    cached, has, is_there, load, lock, opened, put, revert, save, set, update, why,
-};
+use crate::calls::{created, has, is_there, load, lock, opened, put, revert, save, set, update};
 use block_cache::Cache;
 use geos_model::Fault;
 use std::alloc::Global;
 use std::test::Fail;
-use vm_file::VmFile;
 use vm_store::MemStore;
 
-// A saved file of three raw blocks, seen through so many frames.
+// A saved document of three raw blocks, seen through so many frames.
 fn three(alloc: Global, frames: usize) -> Result<Cache<MemStore>, Fault> {
-    let mut file = VmFile::create(alloc, MemStore::new(alloc)).map_err(why)?;
-    put(alloc, &mut file, 1, b"one")?;
-    put(alloc, &mut file, 2, b"two")?;
-    put(alloc, &mut file, 3, b"three")?;
-    let mut cache = cached(alloc, file, frames)?;
+    let mut cache = created(alloc, MemStore::new(alloc), frames)?;
+    put(alloc, &mut cache, 1, b"one")?;
+    put(alloc, &mut cache, 2, b"two")?;
+    put(alloc, &mut cache, 3, b"three")?;
     save(&mut cache)?;
     Ok(cache)
 }

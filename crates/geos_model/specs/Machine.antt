@@ -170,17 +170,18 @@ abbrev pub next : Request → Machine → Option (Reply × Machine)
 next None m = Some (Refused BadCommand, m)
 next (Some c) m = option_map_or (λ fault. Some (Refused fault, m)) (first_refusal (command_conditions c m)) (done_by c m)
 
--- Whether taking a step of this kind back may take memory, and bringing it back: only a block that comes in takes any.
+-- Whether taking a step of this kind back may take memory and call the store, and bringing it back: a block that comes in is
+-- written, and one in whose body the step was made may have to be brought into memory. Where it is there, a session says more.
 
 abbrev pub undo_takes : Kind → Bool
 undo_takes Plain = false
-undo_takes (In b) = false
+undo_takes (In b) = true
 undo_takes Made = false
 undo_takes Freed = true
 
 abbrev pub redo_takes : Kind → Bool
 redo_takes Plain = false
-redo_takes (In b) = false
+redo_takes (In b) = true
 redo_takes Made = true
 redo_takes Freed = false
 
@@ -223,13 +224,17 @@ takes_memory (commands.ChainEqual b other) m = true
 takes_memory commands.Undos m = false
 takes_memory commands.Redos m = false
 
--- What calls the store, or the target of a save-as: the commits. Where no target is left, a save-as calls nothing.
+-- whether a step is of a user ID or of the map block, so that no body is looked into
+abbrev pub is_of_no_body : Kind → Bool
+is_of_no_body Plain = true
+is_of_no_body kind = false
+
+-- What calls the store, or the target of a save-as: the commits, and all that may have to bring a block into memory, or another one out
+-- of it. The list of blocks is known without, and so is what an edit of a user ID or of the map block changes.
 abbrev pub calls_store : Command → Machine → Bool
-calls_store commands.Update m = true
-calls_store commands.Save m = true
-calls_store commands.Revert m = true
-calls_store commands.SaveAs m = m.target
-calls_store c m = false
+calls_store commands.List m = false
+calls_store (commands.Edit e) m = not (is_of_no_body (kind_of e))
+calls_store c m = takes_memory c m
 
 -- The faults that no rule decides, of a call in which the store, or the target of a save-as, failed or didn't: want of memory where
 -- some may be taken, and a file fault where the store is called and failed.

@@ -1,9 +1,11 @@
-use Rattle.std.proofs.Common.{◌≡◌, ◌⊎◌, true, inl, inr, IsTrue, sym, ap, subst, ◌∙◌}
+use Rattle.std.proofs.Common.{◌≡◌, ◌⊎◌, true, false, inl, inr, IsTrue, sym, ap, subst, ◌∙◌}
 use Rattle.geos_model.specs.Document.{IsValid, is_live}
-use Rattle.vm_file.specs.Disk.{IsSettled}
+use Rattle.vm_file.specs.Disk.{IsListed, IsSettled, Numbered}
+use Rattle.vm_file.specs.Calls.{last_sequence}
 use Rattle.block_cache.specs.Frames.{overlay}
-use Rattle.block_cache.specs.State.{CacheState}
-use Rattle.block_cache.proofs.Overlay.{overlay_live, overlay_map}
+use Rattle.block_cache.specs.State.{CacheState, is_resident}
+use Rattle.block_cache.proofs.Overlay.{overlay_live, listed_under}
+use Rattle.block_cache.proofs.Seats.{frame_by, resident_is}
 use Rattle.block_cache.proofs.cache.Cache.validity.Goals as goal
 
 pub returns-clause-settled : goal.returns-clause-settled
@@ -13,20 +15,14 @@ pub returns-clause-valid : goal.returns-clause-valid
 returns-clause-valid g c =
     subst (λ (s : CacheState g.row.S.Denot). IsTrue (g.S.Store.facts s.disk.store).honest → IsValid s.disk.updated × IsValid s.disk.saved) c.self.view_is c.validity.ensures.valid
 
-pub returns-clause-handles : goal.returns-clause-handles
-returns-clause-handles g c = λ h live.
-    let es = c.self.inside.frames.entries in
-    let d = c.self.inside.file.document in
-    c.validity.ensures.document.handles h (sym (overlay_live _ es d h c.self.invariant) ∙ ap (λ s. is_live s.document h) c.self.view_is ∙ live)
+pub returns-clause-listed : goal.returns-clause-listed
+returns-clause-listed g c =
+    subst (λ (s : CacheState g.row.S.Denot). IsListed false s.document) c.self.view_is
+    (listed_under (g.S.Store.facts c.self.inside.file.disk.store).honest c.self.inside.frames.entries c.self.inside.file.document c.self.invariant c.validity.ensures.document)
 
-pub returns-clause-map_block : goal.returns-clause-map_block
-returns-clause-map_block g c =
+pub returns-clause-resident : goal.returns-clause-resident
+returns-clause-resident g c = λ h there.
     let es = c.self.inside.frames.entries in
     let d = c.self.inside.file.document in
-    let over = overlay es d in
-    let map = overlay_map es d in
-    let shown : (over.map_block ≡ 0) ⊎ (is_live over over.map_block ≡ true) = elim c.validity.ensures.document.map_block as (λ _. (over.map_block ≡ 0) ⊎ (is_live over over.map_block ≡ true)) [
-      | inl none ↦ inl (map ∙ none)
-      | inr live ↦ inr (ap (is_live over) map ∙ overlay_live _ es d d.map_block c.self.invariant ∙ live)
-    ] in
-    subst (λ (s : CacheState g.row.S.Denot). (s.document.map_block ≡ 0) ⊎ (is_live s.document s.document.map_block ≡ true)) c.self.view_is shown
+    let f = frame_by _ (sym (resident_is h es) ∙ ap (λ s. is_resident s.resident h) c.self.view_is ∙ there) in
+    sym (ap (λ s. is_live s.document h) c.self.view_is) ∙ overlay_live _ es d h c.self.invariant ∙ (c.self.invariant.each h f.0 f.1).live

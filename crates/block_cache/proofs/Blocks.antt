@@ -1,0 +1,126 @@
+-- Blocks that come into the file under the frames, and blocks that go from both.
+use Rattle.std.proofs.Common.{◌≡◌, ◌≢◌, ℕ, Bool, true, false, cond, nat_eq, List, [], ◌∷◌, Option, None, Some, is_some, All, refl, sym, ap, subst, ◌∙◌, inl, inr, eq-eqb}
+use Rattle.std.proofs.lemmas.Bool.{cases_eq, ne_eqb}
+use Rattle.std.proofs.lemmas.List.Elements.{All-head, All-tail}
+use Rattle.std.proofs.lemmas.Map.{lookup-remove_entry}
+use Rattle.std.proofs.lemmas.Map.Keys.{IsDistinct-head, IsDistinct-tail, IsDistinct-cons}
+use Rattle.std.specs.Cmp.{nat_eq_equiv}
+use Rattle.std.specs.List.{AllByRecursion, IsDistinct}
+use Rattle.std.specs.Map.{remove_entry, keys_of}
+use Rattle.std.specs.FinMap.{get}
+use Rattle.geos_model.specs.Document.{Block, Document, is_live, with_block, without_block}
+use Rattle.geos_model.specs.Image.{body_read}
+use Rattle.geos_model.specs.declared.handle.VmHandle.{VmHandle}
+use Rattle.geos_model.proofs.HeapEdits.{get-put_same, get-put_other, get-taken_same, get-taken_other}
+use Rattle.vm_file.specs.Calls.{put_all, remove_all}
+use Rattle.vm_file.specs.declared.put.PutBlock.{PutBlock}
+use Rattle.block_cache.specs.State.{seats_without}
+use Rattle.block_cache.specs.Frames.{held, seats, overlay, frames_without, IsKept, AreKept}
+use Rattle.block_cache.specs.declared.frame.Frame.{Frame}
+use Rattle.block_cache.proofs.Overlay.{cover, get-overlay, overlay_map, same_document, cover_by, body_by}
+use Rattle.block_cache.proofs.Seats.{seats-remove}
+
+-- a block that isn't in memory is put into the file
+module _ (es : List (ℕ × Frame)) (d : Document) (h : ℕ) (b : Block) (away : held es h ≡ None) where
+  overlay_put : with_block (overlay es d) h b ≡ overlay es (with_block d h b)
+  overlay_put =
+      let over = overlay es d in
+      let e = with_block d h b in
+      same_document (overlay es e) (with_block over h b) (overlay_map es d ∙ sym (overlay_map es e))
+      (λ q. elim (cases_eq q h) as (λ _. get (with_block over h b).blocks q ≡ get (overlay es e).blocks q) [
+        | inl here ↦ get-put_same over.blocks h b q here ∙ sym (get-overlay es e q ∙ ap (λ o. cover o e q) (ap (held es) here ∙ away) ∙ get-put_same d.blocks h b q here)
+        | inr other ↦ get-put_other over.blocks h b q other ∙ get-overlay es d q ∙ sym (cover_by (held es q) d e q (get-put_other d.blocks h b q other)) ∙ sym (get-overlay es e q)
+      ])
+
+  kept_put : (honest : Bool) → AreKept honest d es → AreKept honest (with_block d h b) es
+  kept_put honest kept = record {
+    each = λ q f is. elim (cases_eq q h) as (λ _. IsKept honest (with_block d h b) q f) [
+      | inl here ↦ let wrong : None ≡ Some f = sym (ap (held es) here ∙ away) ∙ is in absurd (cc wrong)
+      | inr other ↦ let same : get (with_block d h b).blocks q ≡ get d.blocks q = get-put_other d.blocks h b q other in
+          record { live = ap is_some same ∙ (kept.each q f is).live; clean = λ so clean. ap body_by same ∙ (kept.each q f is).clean so clean }
+    ];
+  }
+
+-- so are many
+module _ (es : List (ℕ × Frame)) where
+  abbrev pub IsAway : PutBlock → Type 0
+  IsAway p = held es p.handle.0 ≡ None
+
+  pub overlay_puts : (puts : List PutBlock) (d : Document) → All IsAway puts → put_all puts (overlay es d) ≡ overlay es (put_all puts d)
+  overlay_puts [] d away = refl
+  overlay_puts (p ∷ puts) d away =
+      let b : Block = record { user_id = p.user_id; body = body_read p.image } in
+      ap (put_all puts) (overlay_put es d p.handle.0 b (All-head IsAway p puts away)) ∙ overlay_puts puts (with_block d p.handle.0 b) (All-tail IsAway p puts away)
+
+  pub kept_puts : (honest : Bool) (puts : List PutBlock) (d : Document) → All IsAway puts → AreKept honest d es → AreKept honest (put_all puts d) es
+  kept_puts honest [] d away kept = kept
+  kept_puts honest (p ∷ puts) d away kept =
+      let b : Block = record { user_id = p.user_id; body = body_read p.image } in
+      kept_puts honest puts (with_block d p.handle.0 b) (All-tail IsAway p puts away) (kept_put es d p.handle.0 b (All-head IsAway p puts away) honest kept)
+
+-- a block goes from memory and from the file
+module _ (es : List (ℕ × Frame)) (d : Document) (h : ℕ) (distinct : IsDistinct nat_eq (keys_of es)) where
+  abbrev left : List (ℕ × Frame)
+  left = remove_entry (nat_eq h) es
+
+  now : (q : ℕ) → held left q ≡ cond (nat_eq h q) None (held es q)
+  now q = lookup-remove_entry nat_eq_equiv (nat_eq h) (nat_eq_equiv.congr h) q es distinct
+
+  left_here : (q : ℕ) → q ≡ h → held left q ≡ None
+  left_here q here = now q ∙ ap (λ b. cond b None (held es q)) (eq-eqb h q (sym here))
+
+  left_other : (q : ℕ) → q ≢ h → held left q ≡ held es q
+  left_other q other = now q ∙ ap (λ b. cond b None (held es q)) (ne_eqb h q (λ is. other (sym is)))
+
+  overlay_gone : overlay left (without_block d h) ≡ without_block (overlay es d) h
+  overlay_gone =
+      let over = overlay es d in
+      let e = without_block d h in
+      same_document (without_block over h) (overlay left e) (overlay_map left e ∙ sym (overlay_map es d))
+      (λ q. get-overlay left e q ∙ elim (cases_eq q h) as (λ _. cover (held left q) e q ≡ get (without_block over h).blocks q) [
+        | inl here ↦ ap (λ o. cover o e q) (left_here q here) ∙ get-taken_same d.blocks h q here ∙ sym (get-taken_same over.blocks h q here)
+        | inr other ↦ ap (λ o. cover o e q) (left_other q other) ∙ cover_by (held es q) d e q (get-taken_other d.blocks h q other) ∙ sym (get-overlay es d q) ∙ sym (get-taken_other over.blocks h q other)
+      ])
+
+  kept_gone : (honest : Bool) → AreKept honest d es → AreKept honest (without_block d h) left
+  kept_gone honest kept = record {
+    each = λ q f is. elim (cases_eq q h) as (λ _. IsKept honest (without_block d h) q f) [
+      | inl here ↦ let wrong : None ≡ Some f = sym (left_here q here) ∙ is in absurd (cc wrong)
+      | inr other ↦
+          let same : get (without_block d h).blocks q ≡ get d.blocks q = get-taken_other d.blocks h q other in
+          let was = kept.each q f (sym (left_other q other) ∙ is) in
+          record { live = ap is_some same ∙ was.live; clean = λ so clean. ap body_by same ∙ was.clean so clean }
+    ];
+  }
+
+-- so do many
+
+all_left : (P : ℕ → Type 0) (test : ℕ → Bool) (es : List (ℕ × Frame)) → AllByRecursion P (keys_of es) → AllByRecursion P (keys_of (remove_entry test es))
+all_left P test [] all = tt
+all_left P test (e ∷ es) all = elim (test e.0) as (λ b. AllByRecursion P (keys_of (cond b es (e ∷ remove_entry test es)))) [
+  | true ↦ all.1
+  | false ↦ (all.0, all_left P test es all.1)
+]
+
+distinct_left : (test : ℕ → Bool) (es : List (ℕ × Frame)) → IsDistinct nat_eq (keys_of es) → IsDistinct nat_eq (keys_of (remove_entry test es))
+distinct_left test [] distinct = distinct
+distinct_left test (e ∷ es) distinct =
+    let rest = IsDistinct-tail nat_eq e.0 (keys_of es) distinct in
+    elim (test e.0) as (λ b. IsDistinct nat_eq (keys_of (cond b es (e ∷ remove_entry test es)))) [
+      | true ↦ rest
+      | false ↦ IsDistinct-cons nat_eq e.0 (keys_of (remove_entry test es)) (all_left (λ y. nat_eq e.0 y ≡ false) test es (IsDistinct-head nat_eq e.0 (keys_of es) distinct)) (distinct_left test es rest)
+    ]
+
+pub overlay_without : (handles : List VmHandle) (es : List (ℕ × Frame)) (d : Document) → IsDistinct nat_eq (keys_of es) → overlay (frames_without handles es) (remove_all handles d) ≡ remove_all handles (overlay es d)
+overlay_without [] es d distinct = refl
+overlay_without (h ∷ handles) es d distinct =
+    overlay_without handles (remove_entry (nat_eq h.0) es) (without_block d h.0) (distinct_left (nat_eq h.0) es distinct) ∙ ap (remove_all handles) (overlay_gone es d h.0 distinct)
+
+pub kept_without : (honest : Bool) (handles : List VmHandle) (es : List (ℕ × Frame)) (d : Document) → IsDistinct nat_eq (keys_of es) → AreKept honest d es → AreKept honest (remove_all handles d) (frames_without handles es)
+kept_without honest [] es d distinct kept = kept
+kept_without honest (h ∷ handles) es d distinct kept =
+    kept_without honest handles (remove_entry (nat_eq h.0) es) (without_block d h.0) (distinct_left (nat_eq h.0) es distinct) (kept_gone es d h.0 distinct honest kept)
+
+pub seats-without : (handles : List VmHandle) (es : List (ℕ × Frame)) → seats (frames_without handles es) ≡ seats_without handles (seats es)
+seats-without [] es = refl
+seats-without (h ∷ handles) es = seats-without handles (remove_entry (nat_eq h.0) es) ∙ ap (seats_without handles) (seats-remove h.0 es)

@@ -1,0 +1,19 @@
+use Rattle.std.proofs.Common.{ℕ, sym, subst}
+use Rattle.lru.specs.LruCache.{LruCache}
+use Rattle.block_cache.specs.Frames.{covered}
+use Rattle.block_cache.specs.Opening.{IsOpenedFrom}
+use Rattle.block_cache.specs.declared.frame.Frame.{Frame}
+use Rattle.block_cache.proofs.cache.Cache.open.Goals as goal
+
+pub returns-in-Ok-open-clause-opened : goal.returns-in-Ok-open-clause-opened
+returns-in-Ok-open-clause-opened g c =
+    let found = c.in-Ok-open.ensures in
+    subst (λ (x : LruCache ℕ Frame). IsOpenedFrom g.S.Store.facts c.args.store (covered c.in-Ok-open.file x.entries)) (sym c.in-Ok.ensures) (record {
+      follows = found.store;
+      rests = found.rests;
+      documents = found.stands;
+      now = λ _. found.document;
+      sequence = found.numbered;
+      numbered = found.numbered_now;
+      settled = found.settled;
+    })
