@@ -4,8 +4,10 @@ use geos_model::{
     validity_law, word_law,
 };
 use lmem_heap::Heap;
+use std::alloc::Global;
 use std::test::Fail;
-use vm_blocks::{Block, BlockBody, Blocks, SavedBlock, change_law};
+use vm_blocks::{Change, Direction, FileBlocks, Members, SavedBlock, change_law};
+use vm_store::MemStore;
 
 const BLOCK: VmHandle = VmHandle(1);
 
@@ -50,23 +52,44 @@ fn images_are_written_and_read(rt: HostRuntime) -> Result<(), Fail> {
     Ok(())
 }
 
+// The least free handle gets a block with an empty heap.
+fn put(alloc: Global, blocks: &mut FileBlocks<MemStore>) -> Result<(), Fault> {
+    let block = SavedBlock::empty_heap(alloc, 7)?;
+    match blocks.next_handle() {
+        None => Err(Fault::NoHandles),
+        Some(handle) => {
+            let members = Members::one(alloc, handle, block)?;
+            blocks.change(&Change::BlocksIn(members), Direction::Forwards)
+        }
+    }
+}
+
+// A live block becomes the map block.
+fn set_map(blocks: &mut FileBlocks<MemStore>, handle: VmHandle) -> Result<(), Fault> {
+    if !blocks.is_live(handle) {
+        return Err(Fault::NoBlock);
+    }
+    let change = Change::Map {
+        old: blocks.map_block(),
+        new: handle,
+    };
+    blocks.change(&change, Direction::Forwards)
+}
+
 #[test]
-fn blocks_are_put_changed_and_saved(rt: HostRuntime) -> Result<(), Fail> {
-    let mut blocks = Blocks::new(rt.alloc())?;
+fn blocks_come_in_and_are_saved(rt: HostRuntime) -> Result<(), Fail> {
+    let alloc = rt.alloc();
+    let mut blocks = FileBlocks::create(alloc, MemStore::new(alloc), 2).map_err(|it| it.fault)?;
     assert_eq!(rt; blocks.next_handle(), Some(BLOCK));
-    let body = BlockBody::Heap(Heap::new(rt.alloc())?);
-    blocks.put(BLOCK, Some(Block::new(7, body)));
+    put(alloc, &mut blocks)?;
     assert_eq!(rt; blocks.list()?.as_slice(), [BLOCK].as_slice());
     assert_eq!(rt; blocks.next_handle(), Some(VmHandle(2)));
-    assert!(rt; blocks.block(VmHandle(2)).is_none());
     assert_eq!(rt; blocks.find(7, VmHandle(0)), Some(BLOCK));
-    let block = blocks.block(BLOCK).ok_or("no block")?;
-    let saved = SavedBlock::of(rt.alloc(), block)?;
-    assert_eq!(rt; saved.restore(rt.alloc())?.user_id, 7);
-    assert_eq!(rt; saved.byte_count(), 3);
-    blocks.set_map(BLOCK);
-    assert_eq!(rt; blocks.map_block(), BLOCK);
     assert!(rt; blocks.is_live(BLOCK) && !blocks.is_live(VmHandle(2)));
-    assert_eq!(rt; blocks.user_id(BLOCK), 7);
+    set_map(&mut blocks, BLOCK)?;
+    assert_eq!(rt; blocks.map_block(), BLOCK);
+    blocks.load(BLOCK)?;
+    let saved = SavedBlock::of(alloc, 7, blocks.body(BLOCK))?;
+    assert_eq!(rt; saved.byte_count(), 3);
     Ok(())
 }

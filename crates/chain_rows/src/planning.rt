@@ -3,7 +3,7 @@ use geos_model::{Fault, VmHandle};
 use raw_region::SIZE;
 use std::alloc::{AllocError, Global};
 use std::test::Fail;
-use vm_blocks::{Change, FileBlocks, Members, SavedBlock};
+use vm_blocks::{Change, Direction, FileBlocks, Members, SavedBlock};
 use vm_chains::{copy_plan, free_plan};
 use vm_store::MemStore;
 
@@ -21,7 +21,7 @@ const ROOT: VmHandle = VmHandle(3);
 
 // No block yet.
 fn empty(alloc: Global) -> Result<Blocks, Fault> {
-    FileBlocks::create(alloc, MemStore::new(alloc)).map_err(|refused| refused.fault)
+    FileBlocks::create(alloc, MemStore::new(alloc), 2).map_err(|refused| refused.fault)
 }
 
 // The least free handle gets a raw block.
@@ -29,12 +29,12 @@ fn put(alloc: Global, blocks: &mut Blocks, bytes: &[u8]) -> Result<(), Fault> {
     if bytes.len() > SIZE {
         return Err(Fault::TooBig);
     }
-    let block = SavedBlock::raw(0, bytes.to_vec(alloc)?)?.restore(alloc)?;
+    let block = SavedBlock::raw(0, bytes.to_vec(alloc)?)?;
     match blocks.next_handle() {
         None => Err(Fault::NoHandles),
         Some(handle) => {
-            blocks.put(handle, Some(block));
-            Ok(())
+            let members = Members::one(alloc, handle, block)?;
+            blocks.change(&Change::BlocksIn(members), Direction::Forwards)
         }
     }
 }

@@ -29,15 +29,16 @@ abbrev pub Made : {S : Type 0} → SessionState S → Type 0
 Made session =
     (session.document ≡ empty_document) × (session.disk.updated ≡ empty_document) × (session.disk.saved ≡ empty_document) × (session.disk.sequence ≡ 1)
 
-abbrev pub New : {S : Type 0} → SessionState S → Type 0
-New session = (session.undo ≡ []) × (session.redo ≡ []) × (session.frames ≡ 8)
+abbrev pub New : {S : Type 0} → ℕ → SessionState S → Type 0
+New frames session = (session.undo ≡ []) × (session.redo ≡ []) × (session.frames ≡ frames)
 
-machine_is : {S : Type 0} (session : SessionState S) → Made session → New session → machine_of false session ≡ empty_machine 8 false
-machine_is session made new = rw (made.0, made.1, made.2, made.3, new.0, new.1, new.2) refl
+machine_is : {S : Type 0} (frames : ℕ) (session : SessionState S) → Made session → New frames session → machine_of false session ≡ empty_machine frames false
+machine_is frames session made new = rw (made.0, made.1, made.2, made.3, new.0, new.1, new.2) refl
 
-pub begins : {S : Type 0} (facts : S → StoreFacts) (session : SessionState S) (script replies : List ℕ) (after : Holding S) → Made session → New session → AnswersOf facts (held session None None) (requests (lines script)) replies after → Goes script replies
-begins facts session script replies after made new answers = record {
+pub begins : {S : Type 0} (facts : S → StoreFacts) (frames : ℕ) (session : SessionState S) (script replies : List ℕ) (after : Holding S) → Made session → New frames session
+    → AnswersOf facts (held session None None) (requests (lines script)) replies after → Goes frames script replies
+begins facts frames session script replies after made new answers = record {
   after = machine after;
   failed = answers.failed;
-  answered = subst (λ (m : Machine). Answered m (requests (lines script)) replies answers.failed (machine after)) (machine_is session made new) answers.answered;
+  answered = subst (λ (m : Machine). Answered m (requests (lines script)) replies answers.failed (machine after)) (machine_is frames session made new) answers.answered;
 }

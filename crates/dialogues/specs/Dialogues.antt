@@ -3,8 +3,8 @@ use Rattle.std.specs.Prelude.{ℕ, List, false}
 use Rattle.geos_model.specs.Machine.{Machine, empty_machine}
 use Rattle.geos_model.specs.Script.{lines, requests, Answered}
 
--- From a new document, held in 8 frames and with no target for a save-as, the lines of the script may be answered by these replies.
-pub record Goes (script replies : List ℕ) : Type 0 where
+-- From a new document, held in so many frames and with no target for a save-as, the lines of the script may be answered by these replies.
+pub record Goes (frames : ℕ) (script replies : List ℕ) : Type 0 where
   pub after : Machine
   pub failed : ℕ
-  pub answered : Answered (empty_machine 8 false) (requests (lines script)) replies failed after
+  pub answered : Answered (empty_machine frames false) (requests (lines script)) replies failed after

@@ -1,7 +1,8 @@
 //! A dialogue, and whether a run goes as it is written.
-ghost use Rattle.std.specs.Prelude.{◌≡◌, ◌++◌, ◌∷◌, [], None, Option, IsTrue, IfOk, OnOk};
+ghost use Rattle.std.specs.Prelude.{◌≡◌, ◌≤◌, ◌++◌, ◌∷◌, [], None, Option, IfOk, OnOk};
 ghost use Rattle.geos_model.specs.Script.{line_feed, lines, requests};
-ghost use Rattle.geos_shell.specs.Holdings.{AreHonest, held};
+ghost use Rattle.undo_log.specs.Records.{IsExact};
+ghost use Rattle.geos_shell.specs.Holdings.{AreExact, held};
 ghost use Rattle.geos_shell.specs.Runs.{AnswersOf};
 ghost use Rattle.dialogues.specs.Dialogues.{Goes};
 
@@ -12,9 +13,6 @@ use std::alloc::{AllocError, Global};
 use std::marker::Model;
 use undo_log::Session;
 use vm_store::{MemStore, Store};
-
-/// The frames of a session on a new document.
-const FRAMES: usize = 8;
 
 /// Why a run did not go as the dialogue is written.
 #[derive(Debug, Drop)]
@@ -123,11 +121,25 @@ impl Dialogue {
         self.replies.as_str()
     }
 
-    /// Runs the script on a new document, in a file in memory, and compares the replies.
+    /// Runs the script on a new document, in a file in memory, with 1, 2, 8 and 64 frames, and compares the replies.
     pub fn hold(&self) -> Result<(), Departure>
-        ensures { OnOk result (Goes self.now.0 self.now.1) }
+        ensures one { OnOk result (Goes 1 self.now.0 self.now.1) }
+        ensures two { OnOk result (Goes 2 self.now.0 self.now.1) }
+        ensures eight { OnOk result (Goes 8 self.now.0 self.now.1) }
+        ensures most { OnOk result (Goes 64 self.now.0 self.now.1) }
     {
-        match Session::create(self.alloc, MemStore::new(self.alloc), FRAMES) {
+        self.hold_in(1)?;
+        self.hold_in(2)?;
+        self.hold_in(8)?;
+        self.hold_in(64)
+    }
+
+    /// Runs the script on a new document that is held in so many frames, in a file in memory, and compares the replies.
+    pub fn hold_in(&self, frames: usize) -> Result<(), Departure>
+        requires { (1 ≤ frames) × (frames ≤ 64) }
+        ensures { OnOk result (Goes frames self.now.0 self.now.1) }
+    {
+        match Session::create(self.alloc, MemStore::new(self.alloc), frames) {
             Ok(session) => {
                 self.hold_on(session, None)?;
                 Ok(())
@@ -143,9 +155,9 @@ impl Dialogue {
         session: Session<S>,
         target: Option<S>,
     ) -> Result<Session<S>, Departure>
-        ensures answers { IfOk result (λ after. AreHonest S.facts (held session target None) → (left former : Option S)
+        ensures answers { IfOk result (λ after. AreExact S.facts (held session target None) → (left former : Option S)
             × AnswersOf S.facts (held session target None) (requests (lines self.now.0)) self.now.1 (held after left former)) }
-        ensures honest { IfOk result (λ after. AreHonest S.facts (held session target None) → IsTrue (S.facts after.disk.store).honest) }
+        ensures exact { IfOk result (λ after. AreExact S.facts (held session target None) → IsExact S.facts after) }
     {
         let mut written = Vec::new(self.alloc);
         let session = run(

@@ -1,20 +1,30 @@
 -- Edits of whole blocks, as changes of one block.
-use Rattle.std.proofs.Common.{◌≡◌, ℕ, [], ◌∷◌, List, None, length, refl, sym, ap, subst, ◌∙◌, arith}
+use Rattle.std.proofs.Common.{◌≡◌, ◌==◌, ℕ, [], ◌∷◌, List, Option, Some, None, true, false, length, unwrap_or, refl, sym, ap, subst, ◌∙◌, arith}
+use Rattle.std.proofs.lemmas.Bool.{eq-eqb, true≢false}
 use Rattle.std.proofs.lemmas.List.Elements.{All-nil, All-cons}
+use Rattle.std.specs.FinMap.{get}
+use Rattle.std.specs.Option.{option_map, option_map_or}
 use Rattle.geos_model.specs.Refusal.{first_refusal}
-use Rattle.geos_model.specs.Document.{Block, Document, with_block, without_block, with_blocks, handles_of, without_blocks}
+use Rattle.geos_model.specs.Document.{Block, Document, block_at, is_live, next_handle, user_id_of, with_block, without_block, with_blocks, handles_of, without_blocks}
 use Rattle.geos_model.specs.Meaning.{conditions, effect}
-use Rattle.geos_model.specs.Cost.{cost, images_length}
+use Rattle.geos_model.specs.Cost.{cost, image_length, images_length}
 use Rattle.geos_model.specs.Machine.{kind_of}
 use Rattle.geos_model.specs.Image.{image}
 use Rattle.geos_model.specs.declared.command.Done.{Done}
+use Rattle.geos_model.specs.declared.command.Body.{Body}
+use Rattle.geos_model.specs.declared.command.Body.TheVariants.{Raw}
+use Rattle.geos_model.specs.declared.command.Done.TheVariants as done
 use Rattle.geos_model.specs.declared.command.Edit.{Edit}
+use Rattle.geos_model.specs.declared.command.Edit.TheVariants as edits
+use Rattle.geos_model.specs.declared.fault.Fault.TheVariants.{IsMap, NoHandles}
+use Rattle.geos_model.specs.declared.handle.VmHandle.{VmHandle}
 use Rattle.geos_model.specs.declared.command.Kind.TheVariants.{Made, Freed}
 use Rattle.vm_blocks.specs.Changes.{IsFree, AreFree, CanGo, CanAllGo}
 use Rattle.vm_blocks.specs.Members.{saved_blocks}
 use Rattle.vm_blocks.specs.declared.change.Change.TheVariants.{BlocksIn, BlocksOut}
 use Rattle.vm_blocks.specs.declared.member.Members.{Members}
 use Rattle.doc_edits.specs.Planning.{Plans}
+use Rattle.doc_edits.proofs.Documents.{body_at}
 
 module _ (edit : Edit) (d : Document) (ms : Members) (h : ℕ) (b : Block) (done : Done) (one : saved_blocks ms.list.items ≡ (h, b) ∷ []) where
   length_one : images_length (saved_blocks ms.list.items) ≡ length (image b.body)
@@ -39,3 +49,35 @@ module _ (edit : Edit) (d : Document) (ms : Members) (h : ℕ) (b : Block) (done
     kind = kind;
     cost = length_one ∙ charged;
   }
+
+-- A live block is refused to be freed or copied.
+
+pub map_refused : (d : Document) (handle : VmHandle) → is_live d handle.0 ≡ true → (d.map_block == handle.0) ≡ true → first_refusal (conditions (edits.FreeBlock handle) d) ≡ Some IsMap
+map_refused d handle live map = rw (live, map) refl
+
+pub none_refused : (d : Document) (handle : VmHandle) → is_live d handle.0 ≡ true → next_handle d ≡ None → first_refusal (conditions (edits.CopyBlock handle) d) ≡ Some NoHandles
+none_refused d handle live none = rw (live, none) refl
+
+-- It is freed or copied, by what is read of it.
+module _ (d : Document) (handle : VmHandle) (user_id : ℕ) (body : Body) (same : user_id ≡ user_id_of d handle.0) (read : option_map (λ b. b.body) (get d.blocks handle.0) ≡ Some body) where
+  abbrev block : Block
+  block = record { user_id = user_id; body = body }
+
+  there : get d.blocks handle.0 ≡ Some block
+  there = body_at d handle.0 body read ∙ ap (λ (n : ℕ). Some (record { user_id = n; body = body })) (sym same)
+
+  how_long : length (image body) ≡ image_length d handle.0
+  how_long = sym (ap (λ (o : Option Block). option_map_or (λ (b : Block). length (image b.body)) o 0) there)
+
+  module _ (ms : Members) where
+    pub free_planned : (d.map_block == handle.0) ≡ false → saved_blocks ms.list.items ≡ (handle.0, block) ∷ [] → Plans (edits.FreeBlock handle) d (BlocksOut ms) done.Nothing
+    free_planned other one =
+        block_freed (edits.FreeBlock handle) d ms handle.0 block done.Nothing one (rw (there, other) refl)
+        (record { stands = there; other = λ is. true≢false (sym (eq-eqb d.map_block handle.0 is) ∙ other) }) refl refl refl how_long
+
+    pub copy_planned : (new : VmHandle) → next_handle d ≡ Some new.0 → IsFree d new.0 → saved_blocks ms.list.items ≡ (new.0, block) ∷ [] → Plans (edits.CopyBlock handle) d (BlocksIn ms) (done.Block new)
+    copy_planned new next free one =
+        let first : new.0 ≡ unwrap_or (next_handle d) 0 = sym (ap (λ (o : Option ℕ). unwrap_or o 0) next) in
+        let at : block ≡ block_at d handle.0 = sym (ap (λ (o : Option Block). unwrap_or o (record { user_id = 0; body = Raw [] })) there) in
+        block_made (edits.CopyBlock handle) d ms new.0 block (done.Block new) one (rw (there, next) refl) free
+        (λ i. with_block d (first i) (at i)) (ap (λ (n : ℕ). done.Block (record { 0 = n })) first) refl how_long

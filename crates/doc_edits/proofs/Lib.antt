@@ -10,3 +10,4 @@ pub mod ChunkPlans
 pub mod LookUps
 pub mod BlockPlans
 pub mod ChainPlans
+pub mod Planned

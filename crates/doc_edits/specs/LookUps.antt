@@ -11,7 +11,7 @@ use Rattle.geos_model.specs.declared.command.Command.TheVariants as commands
 use Rattle.geos_model.specs.declared.handle.ChunkHandle.{ChunkHandle}
 use Rattle.geos_model.specs.declared.handle.VmHandle.{VmHandle}
 use Rattle.vm_store.specs.Facts.{StoreFacts}
-use Rattle.vm_file.specs.Disk.{FileState}
+use Rattle.block_cache.specs.State.{CacheState}
 use Rattle.vm_blocks.specs.Keeping.{Keeps, Lacks}
 use mathlib.Core.Option.{none}
 
@@ -44,13 +44,9 @@ abbrev pub RefusesChunk : (Fault → Type 0) → Document → VmHandle → Chunk
 RefusesChunk lacks d b c fault = (command : Command) → chunk_asked command ≡ Some (b, c) → LooksUp lacks command d (Refused fault)
 
 -- What a look-up into one block comes to: the file is kept, and the document as it is held from then on is looked up.
-abbrev pub Sees : {S : Type 0} → (S → StoreFacts) → FileState S → FileState S → Command → Reply → Type 0
+abbrev pub Sees : {S : Type 0} → (S → StoreFacts) → CacheState S → CacheState S → Command → Reply → Type 0
 Sees facts old new command reply = Keeps facts old new × LooksUp (Lacks facts old.disk.store new.disk.store) command new.document reply
 
 -- What is behind a `&mut` is again what the call left there, once what was lent of it is given back, and this holds of that.
 abbrev pub Leaves : (R : RattleType) → MutBor R.Denot → (R.Denot → Type 0) → Fml
 Leaves R s P = follows_so R R s.ghost_name none (λ _ _. ⊤) P
-
--- What is behind a `&mut` is the same again once what was lent of it is given back.
-abbrev pub Stays : (R : RattleType) → MutBor R.Denot → Fml
-Stays R s = Leaves R s (λ new. new ≡ s.now)

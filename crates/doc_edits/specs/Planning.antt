@@ -6,9 +6,10 @@ use Rattle.geos_model.specs.Meaning.{conditions, effect}
 use Rattle.geos_model.specs.Cost.{cost, images_length}
 use Rattle.geos_model.specs.Machine.{kind_of}
 use Rattle.geos_model.specs.declared.fault.Fault.{Fault}
-use Rattle.geos_model.specs.declared.fault.Fault.TheVariants.{Memory}
+use Rattle.geos_model.specs.declared.fault.Fault.TheVariants.{Memory, NoHandles, IsMap}
 use Rattle.geos_model.specs.declared.command.Done.{Done}
 use Rattle.geos_model.specs.declared.command.Edit.{Edit}
+use Rattle.geos_model.specs.declared.command.Edit.TheVariants as edits
 use Rattle.geos_model.specs.declared.command.Kind.{Kind}
 use Rattle.geos_model.specs.declared.command.Kind.TheVariants.{Plain, In, Made, Freed}
 use Rattle.vm_blocks.specs.Members.{saved_blocks}
@@ -17,6 +18,7 @@ use Rattle.vm_blocks.specs.declared.change.Change.{Change}
 use Rattle.vm_blocks.specs.declared.change.Change.TheVariants as changes
 use Rattle.vm_blocks.specs.declared.change.PartChange.{PartChange}
 use Rattle.vm_blocks.specs.declared.change.PartChange.TheVariants as parts
+use Rattle.vm_chains.specs.Answers.{IsChainFault}
 
 -- what kind of step a change is
 abbrev pub kind_of_change : Change → Kind
@@ -53,6 +55,13 @@ pub record Plans (edit : Edit) (d : Document) (change : Change) (done : Done) : 
 -- what a call may lack that looks at blocks in memory alone
 abbrev pub IsMemory : Fault → Type 0
 IsMemory fault = fault ≡ Memory
+
+-- What an edit of a chain may be refused for of any document. Of each body of the chain it is said as it was when it was read, so that over a
+-- store that isn't steady no one document need have this refusal as its first.
+abbrev pub IsChainEditFault : Edit → Fault → Type 0
+IsChainEditFault (edits.CopyChain b) fault = IsChainFault fault ⊎ (fault ≡ NoHandles)
+IsChainEditFault (edits.FreeChain b) fault = IsChainFault fault ⊎ (fault ≡ IsMap)
+IsChainEditFault edit fault = ⊥
 
 -- a fault of what the call may lack, or the first refusal
 abbrev pub Refuses : (Fault → Type 0) → Edit → Document → Fault → Type 0

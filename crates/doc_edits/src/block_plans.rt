@@ -1,5 +1,6 @@
-ghost use Rattle.std.specs.Prelude.{MatchResult};
+ghost use Rattle.std.specs.Prelude.{◌≡◌, true, MatchResult};
 ghost use Rattle.geos_model.specs.declared.command.Edit.TheVariants as edits;
+ghost use Rattle.vm_blocks.specs.Keeping.{is_loaded};
 ghost use Rattle.doc_edits.specs.Planning.{IsMemory, Plans, Refuses};
 
 use geos_model::{Done, Fault, VmHandle};
@@ -48,45 +49,37 @@ pub fn plan_new_heap<S: Store>(
     Ok((Change::BlocksIn(made), Done::Block(handle)))
 }
 
-/// Of the edit that frees a block.
-#[tactic(auto, using(crate::proofs::BlockPlans::block_freed))]
+/// Of the edit that frees a block, which is in memory.
 pub fn plan_free_block<S: Store>(
     alloc: Global,
     blocks: &FileBlocks<S>,
     handle: VmHandle,
 ) -> Result<(Change, Done), Fault>
+    requires { is_loaded blocks.now handle.0 ≡ true }
     ensures { MatchResult result (λ p. Plans (edits.FreeBlock handle) blocks.now.document p.0 p.1) (Refuses IsMemory (edits.FreeBlock handle) blocks.now.document) }
 {
-    let block = match blocks.block(handle) {
-        Some(block) => block,
-        None => return Err(Fault::NoBlock),
-    };
     if blocks.map_block() == handle {
         return Err(Fault::IsMap);
     }
-    let saved = SavedBlock::of(alloc, block)?;
+    let saved = SavedBlock::of(alloc, blocks.user_id(handle), blocks.body(handle))?;
     let freed = Members::one(alloc, handle, saved)?;
     Ok((Change::BlocksOut(freed), Done::Nothing))
 }
 
-/// Of the edit that makes a block with the body and the user ID of another.
-#[tactic(auto, using(crate::proofs::BlockPlans::block_made))]
+/// Of the edit that makes a block with the body and the user ID of another, which is in memory.
 pub fn plan_copy_block<S: Store>(
     alloc: Global,
     blocks: &FileBlocks<S>,
     from: VmHandle,
 ) -> Result<(Change, Done), Fault>
+    requires { is_loaded blocks.now from.0 ≡ true }
     ensures { MatchResult result (λ p. Plans (edits.CopyBlock from) blocks.now.document p.0 p.1) (Refuses IsMemory (edits.CopyBlock from) blocks.now.document) }
 {
-    let block = match blocks.block(from) {
-        Some(block) => block,
-        None => return Err(Fault::NoBlock),
-    };
     let handle = match blocks.next_handle() {
         Some(handle) => handle,
         None => return Err(Fault::NoHandles),
     };
-    let copy = SavedBlock::of(alloc, block)?;
+    let copy = SavedBlock::of(alloc, blocks.user_id(from), blocks.body(from))?;
     let made = Members::one(alloc, handle, copy)?;
     Ok((Change::BlocksIn(made), Done::Block(handle)))
 }

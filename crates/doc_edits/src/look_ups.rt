@@ -1,13 +1,13 @@
 //! What is looked up of a document. A block that is looked into is brought into memory first, which may be refused; the answer
 //! is that of the document as it is held from then on. Of a chain each block is, one after another.
-ghost use Rattle.std.specs.Prelude.{◌⊎◌, [], IfErr, MatchResult, get_or, length};
+ghost use Rattle.std.specs.Prelude.{[], IfErr, MatchResult, get_or, length};
 ghost use Rattle.std.specs.Borrow.{sem};
 ghost use Rattle.geos_model.specs.ArrayEdits.{array_in, on_array, on_element};
 ghost use Rattle.geos_model.specs.Reply.{AreEqual, BytesAre, NumberIs, TokenIs, reply_by, info_is, blocks_are, chunks_are};
 ghost use Rattle.geos_model.specs.declared.command.Command.TheVariants as commands;
 ghost use Rattle.vm_blocks.specs.contracts.file_blocks.FileBlocks.{the_row};
 ghost use Rattle.vm_blocks.specs.Keeping.{Keeps, IsSteady, Lacks};
-ghost use Rattle.vm_chains.specs.Answers.{IsChainFault};
+ghost use Rattle.vm_chains.specs.Answers.{IsWalkRefusal};
 ghost use Rattle.element_arrays.specs.Answering.{IsAnswered, IsRefused};
 ghost use Rattle.doc_edits.specs.Found.{IsChunkAt};
 ghost use Rattle.doc_edits.specs.LookUps.{Leaves, LooksUp, RefusesChunk, Sees};
@@ -254,7 +254,7 @@ pub fn walk<S: Store>(
 ) -> Result<Vec<VmHandle>, Fault>
     ensures keeps { Keeps S.facts blocks.old blocks.new }
     ensures value { IsSteady S.facts blocks.old.disk.store → LooksUp (Lacks S.facts blocks.old.disk.store blocks.new.disk.store) (commands.Walk root) blocks.new.document (reply_by (λ handles. blocks_are handles.items) result) }
-    ensures refusals { IfErr result (λ fault. Lacks S.facts blocks.old.disk.store blocks.new.disk.store fault ⊎ IsChainFault fault) }
+    ensures refusals { IfErr result (IsWalkRefusal (Lacks S.facts blocks.old.disk.store blocks.new.disk.store)) }
 {
     vm_chains::walk(alloc, blocks, root)
 }
@@ -267,7 +267,7 @@ pub fn chain_size<S: Store>(
 ) -> Result<u32, Fault>
     ensures keeps { Keeps S.facts blocks.old blocks.new }
     ensures value { IsSteady S.facts blocks.old.disk.store → LooksUp (Lacks S.facts blocks.old.disk.store blocks.new.disk.store) (commands.ChainSize root) blocks.new.document (reply_by NumberIs result) }
-    ensures refusals { IfErr result (λ fault. Lacks S.facts blocks.old.disk.store blocks.new.disk.store fault ⊎ IsChainFault fault) }
+    ensures refusals { IfErr result (IsWalkRefusal (Lacks S.facts blocks.old.disk.store blocks.new.disk.store)) }
 {
     vm_chains::size(alloc, blocks, root)
 }
@@ -281,7 +281,7 @@ pub fn chain_equal<S: Store>(
 ) -> Result<bool, Fault>
     ensures keeps { Keeps S.facts blocks.old blocks.new }
     ensures value { IsSteady S.facts blocks.old.disk.store → LooksUp (Lacks S.facts blocks.old.disk.store blocks.new.disk.store) (commands.ChainEqual first second) blocks.new.document (reply_by AreEqual result) }
-    ensures refusals { IfErr result (λ fault. Lacks S.facts blocks.old.disk.store blocks.new.disk.store fault ⊎ IsChainFault fault) }
+    ensures refusals { IfErr result (IsWalkRefusal (Lacks S.facts blocks.old.disk.store blocks.new.disk.store)) }
 {
     vm_chains::equal(alloc, blocks, first, second)
 }

@@ -1,7 +1,10 @@
-ghost use Rattle.std.specs.Prelude.{◌≡◌, true, false, IfErr, IfOk, MatchResult, MatchOption};
+ghost use Rattle.std.specs.Prelude.{◌≡◌, ◌⊎◌, true, false, IfErr, IfOk, IsOk, MatchResult, MatchOption};
+ghost use Rattle.geos_model.specs.Machine.{kind_of};
+ghost use Rattle.geos_model.specs.declared.command.Kind.TheVariants.{Plain};
 ghost use Rattle.vm_blocks.specs.Keeping.{Keeps, IsSteady, Lacks, is_loaded};
+ghost use Rattle.vm_blocks.specs.Preparing.{IsReady};
 ghost use Rattle.doc_edits.specs.Building.{block_read, is_of_chain};
-ghost use Rattle.doc_edits.specs.Planning.{IsMemory, Plans, Refuses};
+ghost use Rattle.doc_edits.specs.Planning.{kind_of_change, IsChainEditFault, IsMemory, Plans, Refuses};
 
 use crate::block_plans::{
     plan_copy_block, plan_free_block, plan_new_heap, plan_new_raw, plan_set_map, plan_set_user_id,
@@ -24,6 +27,10 @@ pub fn plan<S: Store>(
     ensures keeps { Keeps S.facts blocks.old blocks.new }
     ensures planned { (is_of_chain edit.now ≡ true → IsSteady S.facts blocks.old.disk.store)
         → MatchResult result (λ p. Plans edit.now blocks.new.document p.0 p.1) (Refuses (Lacks S.facts blocks.old.disk.store blocks.new.disk.store) edit.now blocks.new.document) }
+    ensures ready { IfOk result (λ p. IsReady p.0 blocks.new) }
+    ensures kind { IfOk result (λ p. kind_of_change p.0 ≡ kind_of edit.now) }
+    ensures refusals { IfErr result (λ fault. Refuses (Lacks S.facts blocks.old.disk.store blocks.new.disk.store) edit.now blocks.new.document fault ⊎ IsChainEditFault edit.now fault) }
+    ensures plain { kind_of edit.now ≡ Plain → (blocks.new ≡ blocks.old) × IfErr result (Refuses IsMemory edit.now blocks.new.document) }
 {
     match edit {
         Edit::CopyChain(root) => plan_copy_chain(alloc, blocks, *root),
@@ -41,6 +48,8 @@ fn plan_of_block<S: Store>(
     requires { is_of_chain edit.now ≡ false }
     ensures keeps { Keeps S.facts blocks.old blocks.new }
     ensures planned { MatchResult result (λ p. Plans edit.now blocks.new.document p.0 p.1) (Refuses (Lacks S.facts blocks.old.disk.store blocks.new.disk.store) edit.now blocks.new.document) }
+    ensures ready { IfOk result (λ p. IsReady p.0 blocks.new) }
+    ensures plain { kind_of edit.now ≡ Plain → (blocks.new ≡ blocks.old) × IfErr result (Refuses IsMemory edit.now blocks.new.document) }
 {
     load_read(blocks, edit)?;
     plan_loaded(alloc, blocks, edit)
@@ -51,6 +60,7 @@ fn load_read<S: Store>(blocks: &mut FileBlocks<S>, edit: &Edit) -> Result<(), Fa
     ensures keeps { Keeps S.facts blocks.old blocks.new }
     ensures ok { IfOk result (λ _. MatchOption (block_read edit.now) (Unit {0}) (λ b. is_loaded blocks.new b.0 ≡ true)) }
     ensures err { IfErr result (Refuses (Lacks S.facts blocks.old.disk.store blocks.new.disk.store) edit.now blocks.new.document) }
+    ensures plain { kind_of edit.now ≡ Plain → IsOk result × (blocks.new ≡ blocks.old) }
 {
     match block_read(edit) {
         Some(handle) => blocks.load(handle),

@@ -1,5 +1,7 @@
 //! A script on a document, with the replies that it must get.
 ghost use Rattle.std.specs.Prelude.{IfOk};
+ghost use Rattle.vm_store.specs.History.{facts_of};
+ghost use Rattle.undo_log.specs.Records.{IsExact};
 ghost use Rattle.examples.specs.Playing.{IsNew, IsOpened, IsOn, Plays};
 
 use dialogues::{Departure, Dialogue};
@@ -12,7 +14,8 @@ const FRAMES: usize = 8;
 
 /// A session on a new document.
 fn create(alloc: Global) -> Result<Session<MemStore>, Departure>
-    ensures { IfOk result IsNew }
+    ensures new { IfOk result IsNew }
+    ensures exact { IfOk result (IsExact facts_of) }
 {
     match Session::create(alloc, MemStore::new(alloc), FRAMES) {
         Ok(session) => Ok(session),
@@ -22,7 +25,8 @@ fn create(alloc: Global) -> Result<Session<MemStore>, Departure>
 
 /// A session on the document in a file.
 fn open(alloc: Global, file: MemStore) -> Result<Session<MemStore>, Departure>
-    ensures { IfOk result (IsOpened file) }
+    ensures opened { IfOk result (IsOpened file) }
+    ensures exact { IfOk result (IsExact facts_of) }
 {
     match Session::open(alloc, file, FRAMES) {
         Ok(session) => Ok(session),
@@ -32,7 +36,8 @@ fn open(alloc: Global, file: MemStore) -> Result<Session<MemStore>, Departure>
 
 /// A session on the document in a file that was left, or on a new one.
 pub(crate) fn begin(alloc: Global, left: Option<MemStore>) -> Result<Session<MemStore>, Departure>
-    ensures { IfOk result (IsOn left) }
+    ensures on { IfOk result (IsOn left) }
+    ensures exact { IfOk result (IsExact facts_of) }
 {
     match left {
         Some(file) => open(alloc, file),
@@ -47,6 +52,7 @@ pub(crate) fn answer(
     script: &str,
     replies: &str,
 ) -> Result<MemStore, Departure>
+    requires { IsExact facts_of session }
     ensures { IfOk result (Plays session script.now replies.now) }
 {
     let mut dialogue = Dialogue::new(alloc);

@@ -1,5 +1,5 @@
 -- Runs compose.
-use Rattle.std.proofs.Common.{◌≡◌, ◌⊎◌, ℕ, ◌+◌, List, [], ◌∷◌, ◌++◌, Bool, true, false, None, subst, refl, sym, ◌∙◌, cond, arith, inl, inr, append-nil}
+use Rattle.std.proofs.Common.{◌≡◌, ◌⊎◌, ℕ, ◌+◌, List, [], ◌∷◌, ◌++◌, Bool, true, false, subst, refl, sym, ◌∙◌, cond, arith, inl, inr, append-nil}
 use Rattle.std.specs.Prelude.{filter, map}
 use Rattle.std.proofs.lemmas.List.{map-append}
 use Rattle.std.proofs.lemmas.List.Elements.{filter-append}
@@ -10,7 +10,7 @@ use Rattle.geos_model.specs.Reply.{Reply}
 use Rattle.geos_model.specs.Script.{Answered, gets_reply, reply_line}
 use Rattle.vm_store.specs.Facts.{StoreFacts}
 use Rattle.vm_file.specs.Documents.{Documents}
-use Rattle.geos_shell.specs.Holdings.{AreHonest, Holding, Serves, Serving, has_failed_in, machine}
+use Rattle.geos_shell.specs.Holdings.{AreExact, Holding, Serves, Serving, has_failed_in, machine}
 use Rattle.geos_shell.specs.Runs.{AddsNoPair, AfterFailures, AnswersOf, CountsFailures}
 use Rattle.geos_shell.proofs.Failures.{after_serves}
 
@@ -62,22 +62,22 @@ module _ {S : Type 0} (facts : S → StoreFacts) where
       record { counted = Counts-append old mid new m n p.counted q.counted; adds = Adds-append old mid new m n p.adds q.adds }
 
   -- where nothing that gets a reply is asked
-  pub AnswersOf-unasked : (h : Holding S) (asked : List Request) → filter gets_reply asked ≡ [] → AreHonest facts h → AnswersOf facts h asked [] h
-  AnswersOf-unasked h asked none honest =
-      record { honest = honest; failed = 0; answered = record { calls = []; asks = sym none; run = refl; text = refl; fails = refl }; serving = refl; stores = AfterFailures-none h }
+  pub AnswersOf-unasked : (h : Holding S) (asked : List Request) → filter gets_reply asked ≡ [] → AreExact facts h → AnswersOf facts h asked [] h
+  AnswersOf-unasked h asked none exact =
+      record { exact = exact; failed = 0; answered = record { calls = []; asks = sym none; run = refl; text = refl; fails = refl }; serving = refl; stores = AfterFailures-none h }
 
   -- where nothing is asked
-  pub AnswersOf-none : (h : Holding S) → AreHonest facts h → AnswersOf facts h [] [] h
-  AnswersOf-none h honest = AnswersOf-unasked h [] refl honest
+  pub AnswersOf-none : (h : Holding S) → AreExact facts h → AnswersOf facts h [] [] h
+  AnswersOf-none h exact = AnswersOf-unasked h [] refl exact
 
   -- one request that is served
-  pub AnswersOf-one : (old new : Holding S) (request : Request) (reply : Reply) → gets_reply request ≡ true → AreHonest facts old → Serves facts old request reply new
+  pub AnswersOf-one : (old new : Holding S) (request : Request) (reply : Reply) → gets_reply request ≡ true → AreExact facts old → Serves facts old request reply new
       → AnswersOf facts old (request ∷ []) (reply_line reply) new
-  AnswersOf-one old new request reply asks honest serves =
+  AnswersOf-one old new request reply asks exact serves =
       let failed = has_failed_in facts old new in
       let one : filter gets_reply (request ∷ []) ≡ request ∷ [] = rw asks refl in
       record {
-        honest = serves.honest;
+        exact = serves.exact;
         failed = cond failed 1 0;
         answered = record {
           calls = record { request = request; reply = reply; failed = failed } ∷ [];
@@ -87,14 +87,14 @@ module _ {S : Type 0} (facts : S → StoreFacts) where
           fails = once failed;
         };
         serving = (new, refl, serves, refl);
-        stores = after_serves facts old new request reply honest serves;
+        stores = after_serves facts old new request reply exact serves;
       }
 
 pub AnswersOf-append : {S : Type 0} {facts : S → StoreFacts} {old mid new : Holding S} {xs ys : List Request} {ws vs : List ℕ}
     → AnswersOf facts old xs ws mid → AnswersOf facts mid ys vs new → AnswersOf facts old (xs ++ ys) (ws ++ vs) new
 AnswersOf-append {S} {facts} {old} {mid} {new} p q =
     record {
-      honest = q.honest;
+      exact = q.exact;
       failed = p.failed + q.failed;
       answered = Answered-append p.answered q.answered;
       serving = Serving-append facts old mid new p.answered.calls q.answered.calls p.serving q.serving;

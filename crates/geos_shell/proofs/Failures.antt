@@ -1,17 +1,18 @@
 -- What a call that is served shows of the stores: how often they failed, and which pairs of a failed commit may be read.
-use Rattle.std.proofs.Common.{◌≡◌, ◌⊎◌, ℕ, ◌+◌, ◌≤◌, ◌||◌, min, Bool, true, false, cond, nat_le, [], Option, Some, None, IsTrue, Result, Ok, Err, refl, sym, ap, ◌∙◌, inl, inr, arith}
+use Rattle.std.proofs.Common.{◌≡◌, ◌⊎◌, ℕ, ◌+◌, ◌≤◌, min, Bool, true, false, cond, nat_le, [], Option, Some, None, IsTrue, Result, Ok, Err, refl, sym, subst, ◌∙◌, inl, inr, arith}
 use Rattle.std.proofs.lemmas.Bool.{leb-true, or_left}
 use Rattle.geos_model.specs.Reply.{Reply, Refused}
 use Rattle.geos_model.specs.Machine.{Request}
 use Rattle.geos_model.specs.declared.fault.Fault.{Fault}
 use Rattle.geos_model.specs.declared.command.Command.TheVariants as commands
 use Rattle.vm_store.specs.Facts.{StoreFacts, Raised, last_count, raised}
-use Rattle.vm_file.specs.Disk.{Disk}
+use Rattle.vm_file.specs.Disk.{Disk, Passes}
 use Rattle.vm_file.specs.Documents.{Documents}
+use Rattle.vm_file.proofs.Passing.{Passes-refl}
 use Rattle.undo_log.specs.Records.{has_failed}
-use Rattle.undo_log.proofs.CommitSteps.{failed_true}
-use Rattle.geos_shell.specs.Holdings.{AreHonest, CommitsAsTold, Holding, LeavesFiles, SavesAs, Serves, Stays, TriesToCommit, failed_with, has_failed_in}
-use Rattle.geos_shell.specs.Runs.{AfterFailures, AddsNoPair, CountsFailures}
+use Rattle.undo_log.proofs.Keeping.{failed_true}
+use Rattle.geos_shell.specs.Holdings.{AreExact, CommitsAsTold, CommitsNothing, Holding, LeavesFiles, SavesAs, Serves, Stays, TriesToCommit, failed_with, has_failed_in}
+use Rattle.geos_shell.specs.Runs.{AfterFailures, CountsFailures}
 
 -- where a count rose, by one at least or to the last value
 counts_if : (rose : Bool) (m n : ℕ) → nat_le (raised m) n ≡ rose → m ≤ n → min (m + cond rose 1 0) last_count ≤ n
@@ -37,12 +38,13 @@ module _ {S : Type 0} (facts : S → StoreFacts) where
   counts old new used least none =
       (used none, rw none (counts_if (has_failed (facts old.session.disk.store) (facts new.session.disk.store)) _ _ refl least))
 
-  after_stays : (old new : Holding S) → Stays old new → AfterFailures facts old (cond (has_failed_in facts old new) 1 0) new
-  after_stays old new stays =
-      record {
-        counted = counts old new (λ none. stays.target ∙ none) (omega (arith, ap (λ d. (facts d.store).failures) stays.disk));
-        adds = λ _. inl (ap (λ d. d.attempted) stays.disk);
-      }
+  after_passes : (old new : Holding S) → CommitsNothing facts old new → IsTrue (facts old.session.disk.store).honest → AfterFailures facts old (cond (has_failed_in facts old new) 1 0) new
+  after_passes old new nothing so =
+      record { counted = counts old new (λ none. nothing.target ∙ none) nothing.passes.failures; adds = λ _. inl (nothing.passes.attempted so) }
+
+  nothing_of : (old new : Holding S) → Stays old new → CommitsNothing facts old new
+  nothing_of old new stays =
+      record { passes = subst (λ (d : Disk S). Passes facts old.session.disk d) (sym stays.disk) (Passes-refl facts old.session.disk); target = stays.target; former = stays.former }
 
   -- which pairs may be read after a commit in which the store did not fail
   adds_none : (pair : Documents) (old new : Disk S) (result : Result (Unit {0}) Fault) → TriesToCommit facts pair old new result
@@ -74,7 +76,7 @@ module _ {S : Type 0} (facts : S → StoreFacts) where
 
   after_save_as : (old new : Holding S) (target : Option S) (reply : Reply) → old.target ≡ target → SavesAs facts old target reply new → IsTrue (facts old.session.disk.store).honest
       → AfterFailures facts old (cond (has_failed_in facts old new) 1 0) new
-  after_save_as old new None reply is stays so = after_stays old new stays
+  after_save_as old new None reply is stays so = after_passes old new (nothing_of old new stays) so
   after_save_as old new (Some t) (Refused fault) is back so =
       after_tries old new _ (Err fault) back.tries (λ none. absurd (not_there t old.target is none)) (λ none. absurd (not_there back.back new.target back.target none)) so
   after_save_as old new (Some t) reply is on so = after_accepted old new t is on.new_file.0
@@ -85,9 +87,15 @@ module _ {S : Type 0} (facts : S → StoreFacts) where
   after_files old new (Some commands.Save) reply files so = after_settles old new _ reply files so
   after_files old new (Some commands.Revert) reply files so = after_settles old new _ reply files so
   after_files old new (Some commands.SaveAs) reply files so = after_save_as old new old.target reply refl files so
-  after_files old new request reply files so = after_stays old new files
+  after_files old new (Some commands.List) reply files so = after_passes old new (nothing_of old new files) so
+  after_files old new (Some (commands.Find uid start)) reply files so = after_passes old new (nothing_of old new files) so
+  after_files old new (Some commands.MapBlock) reply files so = after_passes old new (nothing_of old new files) so
+  after_files old new (Some commands.Undos) reply files so = after_passes old new (nothing_of old new files) so
+  after_files old new (Some commands.Redos) reply files so = after_passes old new (nothing_of old new files) so
+  after_files old new (Some command) reply files so = after_passes old new files so
+  after_files old new None reply files so = after_passes old new (nothing_of old new files) so
 
   -- of a call that is served
-  pub after_serves : (old new : Holding S) (request : Request) (reply : Reply) → AreHonest facts old → Serves facts old request reply new
+  pub after_serves : (old new : Holding S) (request : Request) (reply : Reply) → AreExact facts old → Serves facts old request reply new
       → AfterFailures facts old (cond (has_failed_in facts old new) 1 0) new
-  after_serves old new request reply honest serves = after_files old new request reply serves.files honest.0
+  after_serves old new request reply exact serves = after_files old new request reply serves.files exact.0.honest

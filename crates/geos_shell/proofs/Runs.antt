@@ -6,7 +6,7 @@ use Rattle.std.specs.Io.KnownBytes.{Appends, Consumes, Keeps, IsAtEnd}
 use Rattle.geos_model.specs.Script.{lines}
 use Rattle.vm_store.specs.Facts.{StoreFacts}
 use Rattle.geos_shell.specs.declared.answering.Answering.{Answering}
-use Rattle.geos_shell.specs.Holdings.{AreHonest, Holding}
+use Rattle.geos_shell.specs.Holdings.{AreExact, Holding}
 use Rattle.geos_shell.specs.Progress.{AnswersPiece, AnswersRest, Ends, GoesOver, Moment, ProgressOf, StopsAtEnd, StopsIn, StopsPiece, StopsRest, Unsent, moment}
 use Rattle.geos_shell.specs.Runs.{AnswersAll, AnswersFinished, AnswersSome, AnswersUnsent, EndsBy, Stopped}
 use Rattle.geos_shell.specs.declared.runner.RunFault.{RunFault}
@@ -23,15 +23,15 @@ pub record Ran {S : Type 0} (facts : S → StoreFacts) (start : Holding S) (from
   pub none_left : now.kept.replies.items ≡ []
 
 -- nothing was read
-pub Ran-none : {S : Type 0} (facts : S → StoreFacts) (reader writer : Option (List ℕ)) (h : Holding S) (kept : Answering) → AreHonest facts h
+pub Ran-none : {S : Type 0} (facts : S → StoreFacts) (reader writer : Option (List ℕ)) (h : Holding S) (kept : Answering) → AreExact facts h
     → kept.begun.items ≡ [] → kept.replies.items ≡ [] → Ran facts h reader reader writer writer (moment h kept)
-Ran-none facts reader writer h kept honest begun replies =
+Ran-none facts reader writer h kept exact begun replies =
     record {
       read = [];
       consumed = Consumes-nil reader;
       written = [];
       appended = Appends-nil writer;
-      progress = rw (begun, replies) (Progress-none facts h honest);
+      progress = rw (begun, replies) (Progress-none facts h exact);
       none_left = replies;
     }
 

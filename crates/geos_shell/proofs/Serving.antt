@@ -1,6 +1,6 @@
 -- How what is held serves a command.
-use Rattle.std.proofs.Common.{◌≡◌, ◌≢◌, ◌≤◌, ◌||◌, ◌&&◌, Bool, true, false, [], Option, Some, None, is_some, IsTrue, Result, Ok, Err, IfErr, refl, sym, ap, subst, inl, inr}
-use Rattle.std.specs.Prelude.{IsErrOf}
+use Rattle.std.proofs.Common.{◌≡◌, ◌≢◌, ◌||◌, Bool, true, false, Option, Some, None, is_some, IsTrue, Result, Ok, Err, IfErr, refl, sym, ap, subst, inl, inr}
+use Rattle.std.specs.Prelude.{IsErrOf, IsOk}
 use Rattle.std.specs.Option.{option_map_or}
 use Rattle.geos_model.specs.Reply.{Reply, Accepted, Refused, reply_by}
 use Rattle.geos_model.specs.Machine.{Machine, Request, Step, may_give_up}
@@ -9,11 +9,11 @@ use Rattle.geos_model.specs.declared.fault.Fault.TheVariants.{File}
 use Rattle.geos_model.specs.declared.command.Command.{Command}
 use Rattle.geos_model.specs.declared.command.Command.TheVariants as commands
 use Rattle.vm_store.specs.Facts.{StoreFacts, Raised}
-use Rattle.vm_file.specs.Disk.{Disk, Commits, IsSettled, Numbered, Passes}
+use Rattle.vm_file.specs.Disk.{Disk, Commits, Passes}
 use Rattle.vm_file.specs.Effects.{IsNewFile, Follows}
 use Rattle.vm_file.specs.Documents.{Documents}
-use Rattle.undo_log.specs.Records.{SessionState, machine_of, has_failed}
-use Rattle.geos_shell.specs.Holdings.{AreHonest, CommitsAsTold, Holding, LeavesFiles, SaveAsAccepted, SaveAsRefused, Serves, Stays, TriesToCommit, failed_with, has_failed_in, held, result_told}
+use Rattle.undo_log.specs.Records.{SessionState, IsExact, IsStep, machine_of, has_failed}
+use Rattle.geos_shell.specs.Holdings.{AreExact, CommitsAsTold, CommitsNothing, IsTakenIfSure, LeavesFiles, Serves, TriesToCommit, failed_with, held, result_told}
 
 -- Where more stores may have failed, no less may be given up.
 
@@ -33,8 +33,13 @@ step_more a b old new request reply (inr gives) =
     inr (record { fault = gives.fault; may = asked_more a b request old gives.fault gives.may; says = gives.says; stays = gives.stays })
 
 -- a step in which no store failed
-step_any : (failed : Bool) (old new : Machine) (request : Request) (reply : Reply) → Step false old request reply new → Step failed old request reply new
+pub step_any : (failed : Bool) (old new : Machine) (request : Request) (reply : Reply) → Step false old request reply new → Step failed old request reply new
 step_any failed old new request reply step = step_more false failed old new request reply step
+
+-- what was done is told as accepted
+pub told_as_accepted : {A : Type 0} (result : Result A Fault) → IsOk result → reply_by (λ _. Accepted) result ≡ Accepted
+told_as_accepted (Ok x) so = refl
+told_as_accepted (Err fault) so = cc
 
 -- a step in which the target stays
 step_kept : {S : Type 0} (facts : S → StoreFacts) (target : Option S) (failed : Bool) (old new : Machine) (request : Request) (reply : Reply)
@@ -43,16 +48,18 @@ step_kept facts None failed old new request reply step = step
 step_kept facts (Some t) failed old new request reply step = step_more failed (has_failed (facts t) (facts t)) old new request reply step
 
 module _ {S : Type 0} (facts : S → StoreFacts) where
-  -- a call that leaves the disk
-  pub serves_at_rest : (old new : SessionState S) (target former : Option S) (request : Request) (reply : Reply) → new.disk ≡ old.disk
-      → Step false (machine_of (is_some target) old) request reply (machine_of (is_some target) new)
-      → (Stays (held old target former) (held new target former) → LeavesFiles facts (held old target former) request reply (held new target former))
-      → AreHonest facts (held old target former) → Serves facts (held old target former) request reply (held new target former)
-  serves_at_rest old new target former request reply rests step leaves honest =
+  -- a call that commits nothing
+  pub serves_passing : (old new : SessionState S) (target former : Option S) (c : Command) (reply : Reply) → Passes facts old.disk new.disk → IsStep facts old new c reply
+      → (CommitsNothing facts (held old target former) (held new target former) → LeavesFiles facts (held old target former) (Some c) reply (held new target former))
+      → IsTakenIfSure facts old (Some c) reply new
+      → AreExact facts (held old target former) → Serves facts (held old target former) (Some c) reply (held new target former)
+  serves_passing old new target former c reply passes step leaves sure exact =
+      let went = step exact.0 in
       record {
-        honest = (subst (λ d. IsTrue (facts d.store).honest) (sym rests) honest.0, honest.1);
-        step = step_any (has_failed_in facts (held old target former) (held new target former)) _ _ request reply step;
-        files = leaves (record { disk = rests; target = refl; former = refl });
+        exact = (went.0, exact.1);
+        step = step_kept facts target (has_failed (facts old.disk.store) (facts new.disk.store)) _ _ (Some c) reply (went.1 (is_some target));
+        files = leaves (record { passes = passes; target = refl; former = refl });
+        sure = sure;
       }
 
   -- how a commit tries a pair, in the words of its reply
@@ -67,42 +74,47 @@ module _ {S : Type 0} (facts : S → StoreFacts) where
   pub serves_commit : (old new : SessionState S) (target former : Option S) (c : Command) (pair : Documents) (result : Result (Unit {0}) Fault)
       → Commits facts pair old.disk new.disk result → IfErr result (λ fault. fault ≢ File → Passes facts old.disk new.disk)
       → (IsErrOf result File → Raised (facts old.disk.store) (facts new.disk.store))
-      → (IsTrue (facts old.disk.store).honest → (left : Bool) → Step (has_failed (facts old.disk.store) (facts new.disk.store)) (machine_of left old) (Some c) (reply_by (λ _. Accepted) result) (machine_of left new))
+      → IsStep facts old new c (reply_by (λ _. Accepted) result)
       → (CommitsAsTold facts pair (held old target former) (reply_by (λ _. Accepted) result) (held new target former)
       → LeavesFiles facts (held old target former) (Some c) (reply_by (λ _. Accepted) result) (held new target former))
-      → AreHonest facts (held old target former) → Serves facts (held old target former) (Some c) (reply_by (λ _. Accepted) result) (held new target former)
-  serves_commit old new target former c pair result commits passes file step leaves honest =
+      → IsTakenIfSure facts old (Some c) (reply_by (λ _. Accepted) result) new
+      → AreExact facts (held old target former) → Serves facts (held old target former) (Some c) (reply_by (λ _. Accepted) result) (held new target former)
+  serves_commit old new target former c pair result commits passes file step leaves sure exact =
+      let went = step exact.0 in
       record {
-        honest = (subst IsTrue (sym commits.honest) honest.0, honest.1);
-        step = step_kept facts target (has_failed (facts old.disk.store) (facts new.disk.store)) _ _ (Some c) _ (step honest.0 (is_some target));
+        exact = (went.0, exact.1);
+        step = step_kept facts target (has_failed (facts old.disk.store) (facts new.disk.store)) _ _ (Some c) _ (went.1 (is_some target));
         files = leaves (record { tries = tries pair old.disk new.disk result commits passes file; target = refl; former = refl });
+        sure = sure;
       }
 
   -- a save-as that was refused, after which the target is there again
   pub serves_refused : (old new : SessionState S) (target back : S) (former : Option S) (fault : Fault)
-      → (IsTrue (facts old.disk.store).honest → Step (has_failed (facts old.disk.store) (facts new.disk.store) || has_failed (facts target) (facts back)) (machine_of true old) (Some commands.SaveAs) (Refused fault) (machine_of true new))
+      → (IsExact facts old → IsExact facts new × Step (has_failed (facts old.disk.store) (facts new.disk.store) || has_failed (facts target) (facts back)) (machine_of true old) (Some commands.SaveAs) (Refused fault) (machine_of true new))
       → Commits facts (old.disk.saved, old.disk.saved) old.disk new.disk (Err fault)
       → ((fault ≡ File → Raised (facts old.disk.store) (facts new.disk.store) → ⊥) → Passes facts old.disk new.disk)
       → Follows facts target back
-      → AreHonest facts (held old (Some target) former) → Serves facts (held old (Some target) former) (Some commands.SaveAs) (Refused fault) (held new (Some back) former)
-  serves_refused old new target back former fault step commits passes follows honest =
+      → AreExact facts (held old (Some target) former) → Serves facts (held old (Some target) former) (Some commands.SaveAs) (Refused fault) (held new (Some back) former)
+  serves_refused old new target back former fault step commits passes follows exact =
+      let went = step exact.0 in
       record {
-        honest = (subst IsTrue (sym commits.honest) honest.0, subst IsTrue (sym follows.honest) honest.1);
-        step = step honest.0;
+        exact = (went.0, subst IsTrue (sym follows.honest) exact.1);
+        step = went.1;
         files = record { tries = record { commits = commits; passes = passes }; back = back; target = refl; failures = follows.failures; former = refl };
+        sure = tt;
       }
 
   -- a save-as that was accepted, after which the store so far is put aside
   pub serves_accepted : (old new : SessionState S) (target store : S) (former : Option S)
-      → (IsTrue (facts old.disk.store).honest → IsTrue (facts target).honest → Step false (machine_of true old) (Some commands.SaveAs) Accepted (machine_of false new))
+      → (IsExact facts old → IsTrue (facts target).honest → IsExact facts new × Step false (machine_of true old) (Some commands.SaveAs) Accepted (machine_of false new))
       → (disk : Disk S) × (disk.store ≡ store) × Commits facts (old.disk.saved, old.disk.saved) old.disk disk (Ok tt)
       → IsNewFile facts new.disk.updated new.disk → Follows facts target new.disk.store
-      → AreHonest facts (held old (Some target) former) → Serves facts (held old (Some target) former) (Some commands.SaveAs) Accepted (held new None (Some store))
-  serves_accepted old new target store former step commits new_file follows honest =
-      let still = subst IsTrue (sym follows.honest) honest.1 in
+      → AreExact facts (held old (Some target) former) → Serves facts (held old (Some target) former) (Some commands.SaveAs) Accepted (held new None (Some store))
+  serves_accepted old new target store former step commits new_file follows exact =
+      let went = step exact.0 exact.1 in
       record {
-        honest = (still, tt);
-        step = step honest.0 honest.1;
+        exact = (went.0, tt);
+        step = went.1;
         files = record {
           disk = commits.0;
           commits = commits.2;
@@ -110,7 +122,8 @@ module _ {S : Type 0} (facts : S → StoreFacts) where
           target = refl;
           failures = follows.failures;
           new_file = (new_file.attempted, new_file.sequence);
-          numbered = new_file.numbered still;
+          numbered = new_file.numbered went.0.honest;
           settled = new_file.settled;
         };
+        sure = tt;
       }

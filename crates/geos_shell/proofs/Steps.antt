@@ -4,15 +4,15 @@ use Rattle.std.proofs.lemmas.List.{append_assoc, append-nil, map-append, nil_fro
 use Rattle.std.proofs.lemmas.Bool.{cases_lt}
 use Rattle.geos_model.specs.Script.{lines, finished_lines, requests, command}
 use Rattle.vm_store.specs.Facts.{StoreFacts}
-use Rattle.geos_shell.specs.Holdings.{AreHonest, Holding, MayServe}
+use Rattle.geos_shell.specs.Holdings.{AreExact, Holding, MayServe}
 use Rattle.geos_shell.specs.Runs.{AnswersOf, MayServeNext, Stopped}
 use Rattle.geos_shell.specs.Progress.{HasNoFeed, StandsFor, Progress, GoesOver, Moment, StopsAt, StopsIn}
 use Rattle.geos_shell.proofs.Lines.{lines-at_feed, lines-one, lines-some, finished_lines-at_feed, finished_lines-none, HasNoFeed-append, StandsFor-same, StandsFor-trans}
 use Rattle.geos_shell.proofs.Composed.{AnswersOf-none, AnswersOf-append}
 
 -- nothing was read
-pub Progress-none : {S : Type 0} (facts : S → StoreFacts) (start : Holding S) → AreHonest facts start → Progress facts start [] [] start []
-Progress-none facts start honest =
+pub Progress-none : {S : Type 0} (facts : S → StoreFacts) (start : Holding S) → AreExact facts start → Progress facts start [] [] start []
+Progress-none facts start exact =
     record {
       answered = [];
       begun = [];
@@ -20,7 +20,7 @@ Progress-none facts start honest =
       in_finished = λ more. refl;
       unfinished = tt;
       stands = StandsFor-same [];
-      run = AnswersOf-none facts start honest;
+      run = AnswersOf-none facts start exact;
     }
 
 above_none : (m n : ℕ) → (m ≡ 0 → n ≡ 0) → 0 < n → 0 < m

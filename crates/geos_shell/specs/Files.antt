@@ -1,5 +1,5 @@
 -- Who opens files, and which files a run of the program opens.
-use Rattle.std.specs.Prelude.{◌≡◌, ◌⊎◌, Bool, true, false, Option, Some, None, Result, Ok, Err, if◌then◌else◌}
+use Rattle.std.specs.Prelude.{◌≡◌, ◌⊎◌, Bool, true, Option, Some, None, Result, Ok, Err}
 use Rattle.clap.specs.Words.{Text}
 use Rattle.vm_store.specs.declared.fault.StoreFault.{StoreFault}
 use Rattle.geos_shell.specs.Options.{CommandLine}

@@ -1,14 +1,16 @@
 -- What the caller of a session holds, and what a request that is served makes of it.
-use Rattle.std.specs.Prelude.{◌≡◌, ◌⊎◌, ◌≤◌, ◌||◌, Bool, false, true, IsTrue, List, [], ◌∷◌, Option, Some, None, is_some, IfSome, Result, Ok, Err, IfErr}
+use Rattle.std.specs.Prelude.{◌≡◌, ◌⊎◌, ◌≤◌, ◌||◌, Bool, false, IsTrue, List, [], ◌∷◌, Option, Some, None, is_some, IfSome, Result, Ok, Err, IfErr}
 use Rattle.geos_model.specs.Machine.{Machine, Request, Call, Step}
-use Rattle.geos_model.specs.Reply.{Reply, Refused}
+use Rattle.geos_model.specs.Reply.{Reply, Accepted, Refused}
 use Rattle.geos_model.specs.declared.fault.Fault.{Fault}
 use Rattle.geos_model.specs.declared.fault.Fault.TheVariants.{File}
 use Rattle.geos_model.specs.declared.command.Command.TheVariants as commands
 use Rattle.vm_store.specs.Facts.{StoreFacts, Raised}
 use Rattle.vm_file.specs.Disk.{Disk, Commits, IsSettled, Numbered, Passes}
 use Rattle.vm_file.specs.Documents.{Documents}
-use Rattle.undo_log.specs.Records.{SessionState, machine_of, has_failed}
+use Rattle.undo_log.specs.Records.{SessionState, IsExact, machine_of, has_failed}
+use Rattle.undo_log.specs.Turning.{IsSure}
+use Rattle.vm_blocks.specs.declared.change.Direction.TheVariants.{Forwards, Backwards}
 
 -- a session, the target of a save-as while one is left, and the store that a save-as went away from, where it was put aside
 pub record Holding (S : Type 0) : Type 0 where
@@ -23,9 +25,9 @@ held session target former = record { session = session; target = target; former
 abbrev pub machine : {S : Type 0} → Holding S → Machine
 machine h = machine_of (is_some h.target) h.session
 
--- the session's store is honest, and so is the target where there is one
-abbrev pub AreHonest : {S : Type 0} → (S → StoreFacts) → Holding S → Type 0
-AreHonest facts h = IsTrue (facts h.session.disk.store).honest × IfSome h.target (λ store. IsTrue (facts store).honest)
+-- the session is exact, so that its store is honest, and the target is honest where there is one
+abbrev pub AreExact : {S : Type 0} → (S → StoreFacts) → Holding S → Type 0
+AreExact facts h = IsExact facts h.session × IfSome h.target (λ store. IsTrue (facts store).honest)
 
 -- Whether a call of a store has failed from one holding to the next: of the session's store, or of the target where it is left in
 -- both. An accepted save-as, which uses the target up, is no call that failed.
@@ -39,6 +41,12 @@ abbrev pub has_failed_in : {S : Type 0} → (S → StoreFacts) → Holding S →
 has_failed_in facts old new = failed_with (has_failed (facts old.session.disk.store) (facts new.session.disk.store)) facts old.target new.target
 
 -- What becomes of the files.
+
+-- Nothing of them is committed.
+pub record CommitsNothing {S : Type 0} (facts : S → StoreFacts) (old new : Holding S) : Type 0 where
+  pub passes : Passes facts old.session.disk new.session.disk
+  pub target : new.target ≡ old.target
+  pub former : new.former ≡ old.former
 
 -- nothing of them changes
 pub record Stays {S : Type 0} (old new : Holding S) : Type 0 where
@@ -94,16 +102,29 @@ LeavesFiles facts old (Some commands.Update) reply new = CommitsAsTold facts (ol
 LeavesFiles facts old (Some commands.Save) reply new = CommitsAsTold facts (old.session.document, old.session.document) old reply new
 LeavesFiles facts old (Some commands.Revert) reply new = CommitsAsTold facts (old.session.disk.saved, old.session.disk.saved) old reply new
 LeavesFiles facts old (Some commands.SaveAs) reply new = SavesAs facts old old.target reply new
-LeavesFiles facts old request reply new = Stays old new
+LeavesFiles facts old (Some commands.List) reply new = Stays old new
+LeavesFiles facts old (Some (commands.Find uid start)) reply new = Stays old new
+LeavesFiles facts old (Some commands.MapBlock) reply new = Stays old new
+LeavesFiles facts old (Some commands.Undos) reply new = Stays old new
+LeavesFiles facts old (Some commands.Redos) reply new = Stays old new
+LeavesFiles facts old (Some command) reply new = CommitsNothing facts old new
+LeavesFiles facts old None reply new = Stays old new
 
 -- Requests.
 
+-- An undo or a redo that is sure, as a session says which are, is accepted and calls no store.
+abbrev pub IsTakenIfSure : {S : Type 0} → (S → StoreFacts) → SessionState S → Request → Reply → SessionState S → Type 0
+IsTakenIfSure facts old (Some commands.Undo) reply new = IsSure facts old Backwards old.undo → (reply ≡ Accepted) × (new.disk ≡ old.disk)
+IsTakenIfSure facts old (Some commands.Redo) reply new = IsSure facts old Forwards old.redo → (reply ≡ Accepted) × (new.disk ≡ old.disk)
+IsTakenIfSure facts old request reply new = Unit {0}
+
 -- The request is answered so: by the machine, with a file fault in place of its answer only where a store failed in this very call.
--- The files are as the reply tells, and the stores are honest still.
+-- The files are as the reply tells, and all is exact still.
 pub record Serves {S : Type 0} (facts : S → StoreFacts) (old : Holding S) (request : Request) (reply : Reply) (new : Holding S) : Type 0 where
-  pub honest : AreHonest facts new
+  pub exact : AreExact facts new
   pub step : Step (has_failed_in facts old new) (machine old) request reply (machine new)
   pub files : LeavesFiles facts old request reply new
+  pub sure : IsTakenIfSure facts old.session request reply new.session
 
 -- Nothing is done, or the request is served by a reply that isn't told.
 abbrev pub MayServe : {S : Type 0} → (S → StoreFacts) → Holding S → Request → Holding S → Type 0

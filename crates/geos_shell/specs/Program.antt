@@ -1,5 +1,5 @@
 -- What a run of the program comes to, and what becomes of the files that its words name.
-use Rattle.std.specs.Prelude.{◌≡◌, ◌≢◌, ◌⊎◌, ℕ, ◌≤◌, List, [], Bool, true, false, Option, Some, None, IsTrue, Result, Ok, Err}
+use Rattle.std.specs.Prelude.{◌≡◌, ◌≢◌, ◌⊎◌, ℕ, ◌≤◌, List, [], Bool, true, false, Option, Some, None, IsTrue, Ok, Err}
 use Rattle.clap.specs.Words.{Text}
 use Rattle.geos_model.specs.File.{stands}
 use Rattle.geos_model.specs.Machine.{empty_machine, opened_machine}
@@ -9,12 +9,11 @@ use Rattle.vm_store.specs.Facts.{StoreFacts, Raised, Rests}
 use Rattle.vm_file.specs.Calls.{IsSupply, IsOpenRefusal}
 use Rattle.vm_file.specs.Disk.{IsSettled, Numbered}
 use Rattle.vm_file.specs.Documents.{sequence_in}
-use Rattle.undo_log.specs.Records.{SessionState, machine_of}
+use Rattle.undo_log.specs.Records.{SessionState, IsExact, machine_of}
 use Rattle.geos_shell.specs.Files.{Opener, OpensFile, FileFails, OpensTarget, TargetFails, ClosesAny}
 use Rattle.geos_shell.specs.Options.{CommandLine, IsUsable, Refuses, command_line}
-use Rattle.geos_shell.specs.Holdings.{Holding, AreHonest, held}
+use Rattle.geos_shell.specs.Holdings.{Holding, AreExact, held}
 use Rattle.geos_shell.specs.Runs.{AnswersAll, EndsBy}
-use Rattle.geos_shell.specs.declared.runner.RunFault.{RunFault}
 use Rattle.geos_shell.specs.declared.outcome.Outcome.{Outcome}
 use Rattle.geos_shell.specs.declared.outcome.Outcome.TheVariants as outcomes
 
@@ -24,6 +23,7 @@ use Rattle.geos_shell.specs.declared.outcome.Outcome.TheVariants as outcomes
 pub record IsCreated {S : Type 0} (facts : S → StoreFacts) (frames : ℕ) (store : S) (session : SessionState S) : Type 0 where
   pub honest : (facts session.disk.store).honest ≡ (facts store).honest
   pub failures : (facts store).failures ≤ (facts session.disk.store).failures
+  pub exact : IsTrue (facts store).honest → IsExact facts session
   pub machine : (target : Bool) → machine_of target session ≡ empty_machine frames target
   pub attempted : session.disk.attempted ≡ []
   pub numbered : IsTrue (facts store).honest → Numbered (facts session.disk.store) 1
@@ -36,6 +36,7 @@ pub record IsOpened {S : Type 0} (facts : S → StoreFacts) (frames : ℕ) (stor
   pub rests : IsTrue (facts store).honest → Rests (facts store) (facts session.disk.store)
   pub stands : IsTrue (facts store).honest → stands (facts store).content ≡ Ok (session.disk.updated, session.disk.saved)
   pub sequence : IsTrue (facts store).honest → sequence_in (facts store).content ≡ Some session.disk.sequence
+  pub exact : IsTrue (facts store).honest → IsExact facts session
   pub machine : IsTrue (facts store).honest → (target : Bool) → machine_of target session ≡ opened_machine session.disk.updated session.disk.saved session.disk.sequence frames target
   pub numbered : IsTrue (facts store).honest → Numbered (facts session.disk.store) session.disk.sequence
   pub frames_are : session.frames ≡ frames
@@ -137,8 +138,8 @@ IsNotBegun calls facts line old new outcome =
 
 -- the script is answered: well, or until the run ended by a fault, which is the one that is told
 abbrev pub IsAnswered : {F S : Type 0} → Opener F S → (S → StoreFacts) → Holding S → F → F → Option (List ℕ) → Option (List ℕ) → Option (List ℕ) → Option (List ℕ) → Outcome → Type 0
-IsAnswered calls facts first old new from to before after outcomes.Done = RunsOn calls (λ left. AreHonest facts first → AnswersAll facts first from to before after left) old new
-IsAnswered calls facts first old new from to before after (outcomes.Run fault) = RunsOn calls (λ left. AreHonest facts first → EndsBy fault facts first from to before after left) old new
+IsAnswered calls facts first old new from to before after outcomes.Done = RunsOn calls (λ left. AreExact facts first → AnswersAll facts first from to before after left) old new
+IsAnswered calls facts first old new from to before after (outcomes.Run fault) = RunsOn calls (λ left. AreExact facts first → EndsBy fault facts first from to before after left) old new
 IsAnswered calls facts first old new from to before after _ = ⊥
 
 -- a session was begun on FILE, and the script is answered

@@ -1,11 +1,13 @@
 -- What a call that appends leaves, and which commands are looked up by which call.
-use Rattle.std.specs.Prelude.{ℕ, List, ◌++◌, ◌≡◌, Bool, true, false, Some, Result, MatchResult, length, take}
+use Rattle.std.specs.Prelude.{ℕ, List, ◌++◌, ◌≡◌, Bool, true, false, Some, Result, MatchResult, OnOk, length, take}
 use Rattle.geos_model.specs.Reply.{Reply}
-use Rattle.geos_model.specs.Machine.{Machine, Request, Step}
+use Rattle.geos_model.specs.Machine.{Request}
 use Rattle.geos_model.specs.Script.{reply_line, reply_text}
 use Rattle.geos_model.specs.declared.command.Command.{Command}
 use Rattle.geos_model.specs.declared.command.Command.TheVariants as commands
 use Rattle.vm_store.specs.Facts.{StoreFacts}
+use Rattle.vm_file.specs.Disk.{Passes}
+use Rattle.undo_log.specs.Records.{SessionState, IsStep}
 use Rattle.geos_shell.specs.Holdings.{Holding, MayServe, Serves}
 
 -- The bytes are still there, whatever stands behind them.
@@ -55,11 +57,22 @@ is_look_up commands.Undos = true
 is_look_up commands.Redos = true
 is_look_up command = asks_chain command
 
--- The machine may answer a command so and stay as it is, and the reply's text was put behind what was there.
-pub record Told (machine : Machine) (command : Command) (before after : List ℕ) : Type 0 where
+-- a command that asks of no block's body
+abbrev pub asks_no_body : Command → Bool
+asks_no_body commands.List = true
+asks_no_body (commands.Find uid start) = true
+asks_no_body commands.MapBlock = true
+asks_no_body commands.Undos = true
+asks_no_body commands.Redos = true
+asks_no_body _ = false
+
+-- The machine answers a command so, and nothing is committed. Where there was memory for the reply's text, that was put behind what was
+-- there.
+pub record Told {S T E : Type 0} (result : Result T E) (facts : S → StoreFacts) (old : SessionState S) (command : Command) (new : SessionState S) (before after : List ℕ) : Type 0 where
   pub reply : Reply
-  pub step : Step false machine (Some command) reply machine
-  pub text : after ≡ before ++ reply_text reply
+  pub step : IsStep facts old new command reply
+  pub passes : Passes facts old.disk new.disk
+  pub text : OnOk result (after ≡ before ++ reply_text reply)
 
 -- The command is served, and its reply's text was put behind what was there.
 pub record Tells {S : Type 0} (facts : S → StoreFacts) (old : Holding S) (command : Command) (new : Holding S) (before after : List ℕ) : Type 0 where

@@ -4,7 +4,7 @@ use Rattle.std.specs.Io.KnownBytes.{Appends, Consumes, IsAtEnd}
 use Rattle.geos_model.specs.Machine.{Request}
 use Rattle.geos_model.specs.Script.{command, lines, finished_lines, requests, Answered}
 use Rattle.vm_store.specs.Facts.{StoreFacts, last_count}
-use Rattle.geos_shell.specs.Holdings.{Holding, AreHonest, MayServe, Serving, machine}
+use Rattle.geos_shell.specs.Holdings.{Holding, AreExact, MayServe, Serving, machine}
 use Rattle.geos_shell.specs.declared.runner.RunFault.{RunFault}
 use Rattle.geos_shell.specs.declared.runner.RunFault.TheVariants as faults
 
@@ -26,7 +26,7 @@ pub record AfterFailures {S : Type 0} (facts : S → StoreFacts) (old : Holding 
 -- From one holding to another the requests are answered so: together a run of the machine, and call by call served. What the calls
 -- show together of the stores is said beside.
 pub record AnswersOf {S : Type 0} (facts : S → StoreFacts) (old : Holding S) (asked : List Request) (written : List ℕ) (new : Holding S) : Type 0 where
-  pub honest : AreHonest facts new
+  pub exact : AreExact facts new
   pub failed : ℕ
   pub answered : Answered (machine old) asked written failed (machine new)
   pub serving : Serving facts old answered.calls new

@@ -1,10 +1,9 @@
-ghost use Rattle.std.specs.Prelude.{◌≡◌, ◌≢◌, Bool, OnOk, OnErr, Some, IsTrue};
+ghost use Rattle.std.specs.Prelude.{◌≡◌, ◌≢◌, true, OnOk, OnErr, Some, IsTrue};
 ghost use Rattle.geos_model.specs.Reply.{Accepted, reply_by};
 ghost use Rattle.geos_model.specs.Script.{command};
 ghost use Rattle.geos_model.specs.declared.command.Command.TheVariants as commands;
-ghost use Rattle.undo_log.specs.Records.{machine_of};
-ghost use Rattle.geos_shell.specs.Holdings.{AreHonest, MayServe, Serves, held};
-ghost use Rattle.geos_shell.specs.Replies.{Extends, Replied, Responds, Told, asks_array, asks_chain, asks_names, asks_slots, is_look_up};
+ghost use Rattle.geos_shell.specs.Holdings.{AreExact, MayServe, Serves, held};
+ghost use Rattle.geos_shell.specs.Replies.{Extends, Replied, Responds, Told, asks_array, asks_chain, asks_names, asks_no_body, asks_slots, is_look_up};
 
 use crate::parser::parse;
 use crate::text;
@@ -21,8 +20,7 @@ fn push_name_look_up<S: Store>(
     out: &mut Vec<u8>,
 ) -> Result<(), AllocError>
     requires { IsTrue (asks_names look_up.now) }
-    ensures ok { OnOk result ((target : Bool) → Told (machine_of target session.old) look_up.now out.old.items out.new.items) }
-    ensures stays { session.new ≡ session.old }
+    ensures told { Told result S.facts session.old look_up.now session.new out.old.items out.new.items }
     ensures err { OnErr result (Extends out.old.items out.new.items) }
 {
     match look_up {
@@ -50,8 +48,7 @@ fn push_slot_look_up<S: Store>(
     out: &mut Vec<u8>,
 ) -> Result<(), AllocError>
     requires { IsTrue (asks_slots look_up.now) }
-    ensures ok { OnOk result ((target : Bool) → Told (machine_of target session.old) look_up.now out.old.items out.new.items) }
-    ensures stays { session.new ≡ session.old }
+    ensures told { Told result S.facts session.old look_up.now session.new out.old.items out.new.items }
     ensures err { OnErr result (Extends out.old.items out.new.items) }
 {
     match look_up {
@@ -82,8 +79,7 @@ fn push_array_look_up<S: Store>(
     out: &mut Vec<u8>,
 ) -> Result<(), AllocError>
     requires { IsTrue (asks_array look_up.now) }
-    ensures ok { OnOk result ((target : Bool) → Told (machine_of target session.old) look_up.now out.old.items out.new.items) }
-    ensures stays { session.new ≡ session.old }
+    ensures told { Told result S.facts session.old look_up.now session.new out.old.items out.new.items }
     ensures err { OnErr result (Extends out.old.items out.new.items) }
 {
     match look_up {
@@ -105,8 +101,7 @@ fn push_chain_look_up<S: Store>(
     out: &mut Vec<u8>,
 ) -> Result<(), AllocError>
     requires { IsTrue (asks_chain look_up.now) }
-    ensures ok { OnOk result ((target : Bool) → Told (machine_of target session.old) look_up.now out.old.items out.new.items) }
-    ensures stays { session.new ≡ session.old }
+    ensures told { Told result S.facts session.old look_up.now session.new out.old.items out.new.items }
     ensures err { OnErr result (Extends out.old.items out.new.items) }
 {
     match look_up {
@@ -127,8 +122,8 @@ fn push_look_up<S: Store>(
     out: &mut Vec<u8>,
 ) -> Result<(), AllocError>
     requires { IsTrue (is_look_up look_up.now) }
-    ensures ok { OnOk result ((target : Bool) → Told (machine_of target session.old) look_up.now out.old.items out.new.items) }
-    ensures stays { session.new ≡ session.old }
+    ensures told { Told result S.facts session.old look_up.now session.new out.old.items out.new.items }
+    ensures stays { asks_no_body look_up.now ≡ true → session.new ≡ session.old }
     ensures err { OnErr result (Extends out.old.items out.new.items) }
 {
     match look_up {
@@ -154,7 +149,7 @@ fn save_as<S: Store>(
     target: &mut Option<S>,
     former: &mut Option<S>,
 ) -> Result<(), Fault>
-    ensures { AreHonest S.facts (held session.old target.old former.old)
+    ensures { AreExact S.facts (held session.old target.old former.old)
         → Serves S.facts (held session.old target.old former.old) (Some commands.SaveAs) (reply_by (λ _. Accepted) result) (held session.new target.new former.new) }
 {
     let Some(store) = target.take() else {
@@ -183,7 +178,7 @@ fn push_reply<S: Store>(
     out: &mut Vec<u8>,
 ) -> Result<(), AllocError>
     requires { command.now ≢ Command.Blank }
-    ensures replied { AreHonest S.facts (held session.old target.old former.old)
+    ensures replied { AreExact S.facts (held session.old target.old former.old)
         → Replied result S.facts (held session.old target.old former.old) command.now (held session.new target.new former.new) out.old.items out.new.items }
     ensures ok { OnOk result (Extends out.old.items out.new.items) }
     ensures err { OnErr result (Extends out.old.items out.new.items) }
@@ -209,9 +204,9 @@ fn respond<S: Store>(
     command: &Command,
     out: &mut Vec<u8>,
 ) -> Result<(), AllocError>
-    ensures ok { OnOk result (AreHonest S.facts (held session.old target.old former.old)
+    ensures ok { OnOk result (AreExact S.facts (held session.old target.old former.old)
         → Responds S.facts (held session.old target.old former.old) (Some command.now) (held session.new target.new former.new) out.old.items out.new.items) }
-    ensures may { OnErr result (AreHonest S.facts (held session.old target.old former.old)
+    ensures may { OnErr result (AreExact S.facts (held session.old target.old former.old)
         → MayServe S.facts (held session.old target.old former.old) (Some command.now) (held session.new target.new former.new)) }
     ensures err { OnErr result (Extends out.old.items out.new.items) }
 {
@@ -233,9 +228,9 @@ fn push_answer<S: Store>(
     line: &[u8],
     out: &mut Vec<u8>,
 ) -> Result<(), AllocError>
-    ensures ok { OnOk result (AreHonest S.facts (held session.old target.old former.old)
+    ensures ok { OnOk result (AreExact S.facts (held session.old target.old former.old)
         → Responds S.facts (held session.old target.old former.old) (command line.now) (held session.new target.new former.new) out.old.items out.new.items) }
-    ensures may { OnErr result (AreHonest S.facts (held session.old target.old former.old)
+    ensures may { OnErr result (AreExact S.facts (held session.old target.old former.old)
         → MayServe S.facts (held session.old target.old former.old) (command line.now) (held session.new target.new former.new)) }
     ensures err { OnErr result (Extends out.old.items out.new.items) }
 {
@@ -253,8 +248,8 @@ fn push_answer<S: Store>(
 /// Answers a line, without its line feed, and puts its reply line behind `out`; a blank line and a note get none. A save-as goes to
 /// the target: where it goes well the target is used up, and the old store is put into `former`, whose store before is dropped.
 ///
-/// Over an honest store and target each answer is the machine's, a file fault stands in its place only where a store failed in just
-/// this call, and the files are as the reply tells.
+/// Where what is held is exact, over an honest store and target, each answer is the machine's, a file fault stands in its place only
+/// where a store failed in just this call, the files are as the reply tells, and all is exact still.
 ///
 /// An `Err` is want of memory for the line or for the text of its reply. Then `out` is as it was, and the line may be carried out all
 /// the same: what it was answered isn't told.
@@ -266,9 +261,9 @@ pub fn answer_line<S: Store>(
     line: &[u8],
     out: &mut Vec<u8>,
 ) -> Result<(), AllocError>
-    ensures ok { OnOk result (AreHonest S.facts (held session.old target.old former.old)
+    ensures ok { OnOk result (AreExact S.facts (held session.old target.old former.old)
         → Responds S.facts (held session.old target.old former.old) (command line.now) (held session.new target.new former.new) out.old.items out.new.items) }
-    ensures may { OnErr result (AreHonest S.facts (held session.old target.old former.old)
+    ensures may { OnErr result (AreExact S.facts (held session.old target.old former.old)
         → MayServe S.facts (held session.old target.old former.old) (command line.now) (held session.new target.new former.new)) }
     ensures err { OnErr result (out.new.items ≡ out.old.items) }
 {

@@ -1,6 +1,7 @@
 ghost use Rattle.std.specs.Prelude.{◌≡◌, ◌⊎◌, ◌<◌, [], IsTrue, IfOk, IfErr, OnOk, None, Option, length};
 ghost use Rattle.std.specs.Io.KnownBytes.{Appends, Keeps};
-ghost use Rattle.geos_shell.specs.Holdings.{AreHonest, Holding, held};
+ghost use Rattle.undo_log.specs.Records.{IsExact};
+ghost use Rattle.geos_shell.specs.Holdings.{AreExact, Holding, held};
 ghost use Rattle.geos_shell.specs.Runs.{AnswersAll, EndsBy};
 ghost use Rattle.geos_shell.specs.Given.{Gives};
 ghost use Rattle.geos_shell.specs.Progress.{AnswersPiece, AnswersRest, StopsPiece, StopsRest, Unsent, moment};
@@ -45,11 +46,11 @@ impl fmt::Display for RunFault {
 /// The target is where the script's first save-as goes that goes well: its store is the session's from then on, and the store
 /// before is dropped. A later save-as has no target, as the first one has none where there is none to begin with.
 ///
-/// Over an honest store and target, the session handed back is what the answers lead to, over an honest store, and each answer is the
-/// machine's, with a file fault in its place only where a store failed in just this call. A crash now leaves the documents
-/// acknowledged last or those of a commit that failed since, as a session's `validity` says; where no call of a store failed in this
-/// run, those of none that failed in it. A session that isn't handed back is dropped, with nothing more written: `run_in` leaves it
-/// with its caller.
+/// Where what is held is exact, over an honest store and target, the session handed back is what the answers lead to, and is exact, and
+/// each answer is the machine's, with a file fault in its place only where a store failed in just this call. A crash now leaves the
+/// documents acknowledged last or those of a commit that failed since, as a session's `validity` says; where no call of a store failed
+/// in this run, those of none that failed in it. A session that isn't handed back is dropped, with nothing more written: `run_in`
+/// leaves it with its caller.
 pub fn run<S: Store, R: Read, W: Write>(
     alloc: Global,
     session: Session<S>,
@@ -58,11 +59,11 @@ pub fn run<S: Store, R: Read, W: Write>(
     writer: &mut W,
 ) -> Result<Session<S>, RunFault>
     // Where the run ends well, a whole script was read and each line of it answered.
-    ensures ok { IfOk result (λ after. AreHonest S.facts (held session target None) → (left former : Option S)
+    ensures ok { IfOk result (λ after. AreExact S.facts (held session target None) → (left former : Option S)
         × AnswersAll S.facts (held session target None) (R.remaining reader.old) (R.remaining reader.new) (W.contents writer.old) (W.contents writer.new) (held after left former)) }
-    ensures honest { IfOk result (λ after. AreHonest S.facts (held session target None) → IsTrue (S.facts after.disk.store).honest) }
+    ensures exact { IfOk result (λ after. AreExact S.facts (held session target None) → IsExact S.facts after) }
     // Where reading fails, each line that had ended is answered; where memory runs out or the writer fails, the first ones.
-    ensures err { IfErr result (λ fault. AreHonest S.facts (held session target None) → (after : Holding S)
+    ensures err { IfErr result (λ fault. AreExact S.facts (held session target None) → (after : Holding S)
         × EndsBy fault S.facts (held session target None) (R.remaining reader.old) (R.remaining reader.new) (W.contents writer.old) (W.contents writer.new) after) }
 {
     let mut session = session;
@@ -82,9 +83,9 @@ pub fn run<S: Store, R: Read, W: Write>(
 /// Answers a script as `run` does, in places that its caller lends, and so keeps however it ends. An accepted save-as puts the old
 /// store into `former`, whose store before is dropped.
 ///
-/// Over an honest store and target, the session is at each end what the answered lines lead to, as `answer_line` says of each of
-/// them. Where memory ran out, the next line may be carried out too, without its reply. Where the writer failed, some of the replies
-/// may not have gone out.
+/// Where what is held is exact, over an honest store and target, the session is at each end what the answered lines lead to, as
+/// `answer_line` says of each of them. Where memory ran out, the next line may be carried out too, without its reply. Where the writer
+/// failed, some of the replies may not have gone out.
 pub fn run_in<S: Store, R: Read, W: Write>(
     alloc: Global,
     session: &mut Session<S>,
@@ -94,11 +95,11 @@ pub fn run_in<S: Store, R: Read, W: Write>(
     writer: &mut W,
 ) -> Result<(), RunFault>
     // Where the run ends well, a whole script was read and each line of it answered.
-    ensures ok { OnOk result (AreHonest S.facts (held session.old target.old former.old)
+    ensures ok { OnOk result (AreExact S.facts (held session.old target.old former.old)
         → AnswersAll S.facts (held session.old target.old former.old) (R.remaining reader.old) (R.remaining reader.new) (W.contents writer.old) (W.contents writer.new)
         (held session.new target.new former.new)) }
     // Where reading fails, each line that had ended is answered; where memory runs out or the writer fails, the first ones.
-    ensures err { IfErr result (λ fault. AreHonest S.facts (held session.old target.old former.old)
+    ensures err { IfErr result (λ fault. AreExact S.facts (held session.old target.old former.old)
         → EndsBy fault S.facts (held session.old target.old former.old) (R.remaining reader.old) (R.remaining reader.new) (W.contents writer.old) (W.contents writer.new)
         (held session.new target.new former.new)) }
 {

@@ -5,6 +5,8 @@
 #[cfg(test)]
 mod chains;
 #[cfg(test)]
+mod forgetful;
+#[cfg(test)]
 mod full_blocks;
 #[cfg(test)]
 mod handles;

@@ -1,7 +1,9 @@
 // More blocks, undos and redos come and go than there is memory for, if any were kept: in each test 400,000 rounds, in
-// each of which 65,498 bytes are let go at least, so 26 GB.
+// each of which 65,498 bytes are let go at least, so 26 GB. The store must not keep what was written either.
+use crate::forgetful::Forgetful;
 use dialogues::{Departure, Dialogue};
 use std::alloc::Global;
+use undo_log::Session;
 
 const ROUNDS: u32 = 400_000;
 
@@ -24,7 +26,13 @@ fn go_round(
         dialogue.put(script, replies)?;
     }
     dialogue.tell(end)?;
-    dialogue.hold()
+    match Session::create(alloc, Forgetful::new(alloc), 8) {
+        Ok(session) => {
+            dialogue.hold_on(session, None)?;
+            Ok(())
+        }
+        Err(refused) => Err(Departure::Refused(refused.fault)),
+    }
 }
 
 #[test]

@@ -1,6 +1,6 @@
 // Documents that are made, updated, saved and opened again.
 use crate::documents::{FIFTH, LAST, made, two_documents};
-use crate::programs::{answers, forget, has};
+use crate::programs::{answers, begins_with, forget, has};
 use std::fs;
 use std::test::Fail;
 
@@ -60,7 +60,7 @@ fn what_was_not_updated_is_gone(rt: HostRuntime) -> Result<(), Fail> {
         "newraw 1 1\n",
         "block 0001\n",
     )?;
-    has(&rt, path, &made(rt.alloc())?)?;
+    begins_with(&rt, path, &made(rt.alloc())?)?;
     answers(&rt, &["geosvm", path], "list\n", "blocks\n")?;
     fs::remove_file(&rt, path)?;
     Ok(())

@@ -69,6 +69,15 @@ pub(crate) fn has(rt: &HostRuntime, path: &str, bytes: &[u8]) -> Result<(), Fail
     Err(Fail::new("other bytes in the file"))
 }
 
+/// Compares the first bytes of a file. Behind those of its documents there may be images that were never committed.
+pub(crate) fn begins_with(rt: &HostRuntime, path: &str, bytes: &[u8]) -> Result<(), Fail> {
+    let given = fs::read(rt, path)?;
+    if given.as_slice().starts_with(bytes) {
+        return Ok(());
+    }
+    Err(Fail::new("other bytes at the start of the file"))
+}
+
 /// Opens a document with one block: its bytes must be these, in the updated and in the saved document.
 pub(crate) fn opens_to(rt: &HostRuntime, path: &str, body: &str) -> Result<(), Fail> {
     let mut replies = String::new(rt.alloc());

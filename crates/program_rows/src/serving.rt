@@ -62,9 +62,10 @@ fn a_target_that_no_save_as_wrote_is_closed_as_it_was(rt: HostRuntime) -> Result
     assert!(rt; matches!(outcome, Outcome::Done));
     assert_eq!(rt; files.closed.len(), 2);
     let (document, copy) = (files.closed[0].bytes(), files.closed[1].bytes());
-    assert!(rt; document == made(alloc)?.as_slice());
+    // The image of the new block may stand behind the document, but no commit let it in.
+    assert!(rt; document.starts_with(made(alloc)?.as_slice()));
     assert!(rt; copy.is_empty());
-    Ok(())
+    lists(alloc, &files, 0, "blocks\n")
 }
 
 #[test]

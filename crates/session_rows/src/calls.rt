@@ -14,6 +14,9 @@ pub(crate) const BLOCK: VmHandle = VmHandle(1);
 /// The byte of the one block, `None` where it isn't live.
 pub(crate) type Byte = Option<u8>;
 
+/// A session over a store that fails on order.
+pub(crate) type Fused = Session<FuseStore<MemStore>>;
+
 /// The updated and the saved document of a file.
 #[derive(Clone, Copy, Debug, PartialEq, Eq)]
 pub(crate) struct Pair {

@@ -1,9 +1,10 @@
-// How often a session calls its store: only commits do, and they write the blocks that were changed and no other.
+// How often a session calls its store, while all blocks that it looks into are in memory: blocks that come in are written, and commits
+// write those that were changed, and no other.
 use crate::calls::{create, fused, hold};
 use std::alloc::Global;
 use std::test::Fail;
 
-// A saved document of four blocks.
+// A saved document of four blocks, all of which are in memory.
 const SAVED: &str = "
     newraw 1 1   = block 0001
     newraw 2 1   = block 0002
@@ -11,24 +12,29 @@ const SAVED: &str = "
     alloc 0003 3 = chunk 0010
     newheap 4    = block 0004
     save         = ok
+    vread 0001   = bytes 00
+    vread 0002   = bytes 00
+    chunks 0003  = chunks 0010
+    chunks 0004  = chunks
     ";
 
-// Edits of it, and how many blocks a commit has to write behind them.
-const EDITS: [(&str, u64); 11] = [
-    ("vwrite 0001 0 61 = ok", 1),
-    ("vwrite 0001 0 61 = ok\nvwrite 0002 0 61 = ok", 2),
-    ("vwrite 0001 0 61 = ok\nvwrite 0001 0 62 = ok", 1),
-    ("write 0003 0010 0 61 = ok", 1),
+// Edits of it, how many blocks come in by them, and how many a commit has to write behind them.
+const EDITS: [(&str, u64, u64); 11] = [
+    ("vwrite 0001 0 61 = ok", 0, 1),
+    ("vwrite 0001 0 61 = ok\nvwrite 0002 0 61 = ok", 0, 2),
+    ("vwrite 0001 0 61 = ok\nvwrite 0001 0 62 = ok", 0, 1),
+    ("write 0003 0010 0 61 = ok", 0, 1),
     (
         "vwrite 0001 0 61 = ok\nwrite 0003 0010 0 61 = ok\nalloc 0004 1 = chunk 0010",
+        0,
         3,
     ),
-    ("vwrite 0001 0 61 = ok\nundo = ok", 1),
-    ("newraw 5 3 = block 0005\nvcopy 0003 = block 0006", 2),
-    ("newraw 5 3 = block 0005\nundo = ok", 0),
-    ("vwrite 0001 0 61 = ok\nvfree 0001 = ok", 0),
-    ("vfree 0001 = ok\nvfree 0003 = ok", 0),
-    ("map 0001 = ok", 0),
+    ("vwrite 0001 0 61 = ok\nundo = ok", 0, 1),
+    ("newraw 5 3 = block 0005\nvcopy 0003 = block 0006", 2, 0),
+    ("newraw 5 3 = block 0005\nundo = ok", 1, 0),
+    ("vwrite 0001 0 61 = ok\nvfree 0001 = ok", 0, 0),
+    ("vfree 0001 = ok\nvfree 0003 = ok", 0, 0),
+    ("map 0001 = ok", 0, 0),
 ];
 
 const LOOK_UPS: &str = "
@@ -66,10 +72,12 @@ fn are_more(
 }
 
 #[test]
-fn an_edit_an_undo_and_a_look_up_call_no_store(rt: HostRuntime) -> Result<(), Fail> {
+fn a_block_that_comes_in_is_written_and_no_other_edit_and_no_look_up_calls_the_store(
+    rt: HostRuntime,
+) -> Result<(), Fail> {
     let alloc = rt.alloc();
-    for (edits, _) in EDITS {
-        assert!(rt; are_more(alloc, edits, "", "", 0)?, "{edits}");
+    for (edits, puts, _) in EDITS {
+        assert!(rt; are_more(alloc, edits, "", "", puts)?, "{edits}");
     }
     assert!(rt; are_more(alloc, LOOK_UPS, "", "", 0)?);
     Ok(())
@@ -78,7 +86,8 @@ fn an_edit_an_undo_and_a_look_up_call_no_store(rt: HostRuntime) -> Result<(), Fa
 #[test]
 fn an_update_writes_each_changed_block_once(rt: HostRuntime) -> Result<(), Fail> {
     let alloc = rt.alloc();
-    for (edits, blocks) in EDITS {
+    for (edits, puts, changed) in EDITS {
+        let blocks = puts.saturating_add(changed);
         assert!(rt;
             are_more(alloc, edits, "", "update = ok", blocks)?,
             "{edits}"
@@ -91,7 +100,8 @@ fn an_update_writes_each_changed_block_once(rt: HostRuntime) -> Result<(), Fail>
 #[test]
 fn a_save_writes_each_changed_block_once(rt: HostRuntime) -> Result<(), Fail> {
     let alloc = rt.alloc();
-    for (edits, blocks) in EDITS {
+    for (edits, puts, changed) in EDITS {
+        let blocks = puts.saturating_add(changed);
         assert!(rt; are_more(alloc, edits, "", "save = ok", blocks)?, "{edits}");
     }
     Ok(())
@@ -100,8 +110,8 @@ fn a_save_writes_each_changed_block_once(rt: HostRuntime) -> Result<(), Fail> {
 #[test]
 fn a_revert_writes_no_changed_block(rt: HostRuntime) -> Result<(), Fail> {
     let alloc = rt.alloc();
-    for (edits, _) in EDITS {
-        assert!(rt; are_more(alloc, edits, "", "revert = ok", 0)?, "{edits}");
+    for (edits, puts, _) in EDITS {
+        assert!(rt; are_more(alloc, edits, "", "revert = ok", puts)?, "{edits}");
     }
     Ok(())
 }

@@ -8,15 +8,6 @@ use vm_store::{FuseStore, MemStore};
 const SCRIPT: &str =
     "newraw 0 1\nsave\nvwrite 0001 0 61\nupdate\nvwrite 0001 0 62\nsave\nvwrite 0001 0 63\nrevert\n";
 
-// The replies where the store fails after so many commits, and after all of them.
-const REPLIES: [&str; 5] = [
-    "block 0001\nno 2 File\nok\nno 2 File\nok\nno 2 File\nok\nno 2 File\n",
-    "block 0001\nok\nok\nno 2 File\nok\nno 2 File\nok\nno 2 File\n",
-    "block 0001\nok\nok\nok\nok\nno 2 File\nok\nno 2 File\n",
-    "block 0001\nok\nok\nok\nok\nok\nok\nno 2 File\n",
-    "block 0001\nok\nok\nok\nok\nok\nok\nok\n",
-];
-
 // What each commit of the script leads to, from the made file on: the updated and the saved document.
 const PAIRS: [(Byte, Byte); 5] = [
     (None, None),
@@ -32,21 +23,28 @@ const MAKING: u64 = 7;
 // Never are there more writes since the last sync.
 const MOST_PENDING: usize = 7;
 
-// How many commits were acknowledged, if these are the replies of a store that failed from some call on.
-fn commits_in(replies: &[u8]) -> Option<usize> {
-    for (commits, text) in REPLIES.iter().enumerate() {
-        if replies == text.as_bytes() {
-            return Some(commits);
+// How many commits were acknowledged, if these are the replies of a store that failed from some call on. Each second line is a commit.
+fn commits_in(replies: &str) -> Option<usize> {
+    let mut commits = 0_usize;
+    let mut fails = false;
+    for (i, reply) in replies.lines().enumerate() {
+        let is_done = !reply.starts_with("no ");
+        if fails && is_done && i % 2 == 1 {
+            return None;
         }
+        if is_done && i % 2 == 1 {
+            commits = commits.saturating_add(1);
+        }
+        fails = fails || !is_done;
     }
-    None
+    Some(commits)
 }
 
 // A store that fails after so many calls, when the script has been answered over it, and how many commits were acknowledged.
 fn played(alloc: Global, passes: u64) -> Result<(FuseStore<MemStore>, usize), Fail> {
     let session = create(alloc, fused(alloc, passes, true))?;
     let (session, replies) = answered(alloc, session, None, SCRIPT)?;
-    match commits_in(&replies) {
+    match commits_in(String::from_utf8_lossy(alloc, &replies)?.as_str()) {
         Some(commits) => Ok((session.close(), commits)),
         None => Err(Fail::new("a reply is another one")),
     }

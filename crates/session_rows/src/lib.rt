@@ -3,6 +3,8 @@
 #![tactic(auto)]
 
 #[cfg(test)]
+mod caching;
+#[cfg(test)]
 mod calls;
 #[cfg(test)]
 mod copying;

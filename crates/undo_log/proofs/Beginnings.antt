@@ -2,16 +2,17 @@
 use Rattle.std.proofs.Common.{◌≡◌, ℕ, Bool, IsTrue, List, [], Some, sym, ap, subst, ◌∙◌}
 use Rattle.std.specs.Prelude.{Result, Ok, Err, IfOk, MatchResult}
 use Rattle.std.specs.FinMap.{empty}
-use Rattle.geos_model.specs.Document.{Document}
+use Rattle.geos_model.specs.Document.{Document, IsValid}
 use Rattle.geos_model.specs.File.{stands}
 use Rattle.geos_model.specs.Machine.{opened_machine}
 use Rattle.vm_store.specs.Facts.{StoreFacts, IsTimely}
 use Rattle.vm_blocks.specs.declared.change.Direction.TheVariants.{Backwards, Forwards}
 use Rattle.vm_file.specs.Documents.{Documents, sequence_in}
-use Rattle.vm_file.specs.Disk.{Disk, FileState, Commits}
+use Rattle.vm_file.specs.Disk.{FileState}
 use Rattle.vm_blocks.specs.Committing.{IsSavedAs}
 use Rattle.vm_file.proofs.Content.{committed_content}
-use Rattle.undo_log.specs.Records.{SessionState, steps, machine_of}
+use Rattle.vm_blocks.specs.declared.change.Change.{Change}
+use Rattle.undo_log.specs.Records.{SessionState, file_of, steps, machine_of, AreSteps, IsExact}
 
 -- with nothing to undo or to redo
 pub begun : {S : Type 0} (s : SessionState S) (updated saved : Document) (sequence frames : ℕ) (target : Bool) → s.document ≡ updated → s.disk.updated ≡ updated → s.disk.saved ≡ saved → s.disk.sequence ≡ sequence
@@ -29,21 +30,26 @@ begun s updated saved sequence frames target document is_updated is_saved number
 }
 
 -- what a file that was opened stands for, and its number, are those of the session
-pub opened : {S : Type 0} (file : FileState S) (content : List ℕ) (frames : ℕ) (s : SessionState S) → s ≡ record { disk = file.disk; document = file.document; undo = []; redo = []; frames = frames }
+pub opened : {S : Type 0} (file : FileState S) (content : List ℕ) (frames : ℕ) (s : SessionState S) → file_of s ≡ file → s.undo ≡ [] → s.redo ≡ [] → s.frames ≡ frames
     → stands content ≡ Ok (file.disk.updated, file.disk.saved) → file.document ≡ file.disk.updated → sequence_in content ≡ Some file.disk.sequence
     → (updated saved : Document) (sequence : ℕ) (target : Bool) → stands content ≡ Ok (updated, saved) → sequence_in content ≡ Some sequence → machine_of target s ≡ opened_machine updated saved sequence frames target
-opened {S} file content frames s begins stand document number updated saved sequence target is is_number =
+opened {S} file content frames s begins undo redo allowed stand document number updated saved sequence target is is_number =
     let same : (file.disk.updated, file.disk.saved) ≡ (updated, saved) = cc (stand, is) in
     let numbers : file.disk.sequence ≡ sequence = cc (number, is_number) in
     let first : file.disk.updated ≡ updated = ap (λ (d : Documents). d.0) same in
     begun s updated saved sequence frames target
-    (ap (λ (x : SessionState S). x.document) begins ∙ document ∙ first)
-    (ap (λ (x : SessionState S). x.disk.updated) begins ∙ first)
-    (ap (λ (x : SessionState S). x.disk.saved) begins ∙ ap (λ (d : Documents). d.1) same)
-    (ap (λ (x : SessionState S). x.disk.sequence) begins ∙ numbers)
-    (ap (λ (x : SessionState S). x.undo) begins)
-    (ap (λ (x : SessionState S). x.redo) begins)
-    (ap (λ (x : SessionState S). x.frames) begins)
+    (ap (λ (x : FileState S). x.document) begins ∙ document ∙ first)
+    (ap (λ (x : FileState S). x.disk.updated) begins ∙ first)
+    (ap (λ (x : FileState S). x.disk.saved) begins ∙ ap (λ (d : Documents). d.1) same)
+    (ap (λ (x : FileState S). x.disk.sequence) begins ∙ numbers)
+    undo redo allowed
+
+-- with nothing to undo or to redo a session over an honest store is exact
+pub begun_exact : {S : Type 0} (facts : S → StoreFacts) (s : SessionState S) → (IsTrue (facts s.disk.store).honest → IsValid s.document) → s.undo ≡ [] → s.redo ≡ [] → IsTrue (facts s.disk.store).honest → IsExact facts s
+begun_exact facts s valid undo redo so = record {
+  honest = so;
+  steps = subst (λ (cs : List Change). AreSteps Backwards s.document cs s.redo) (sym undo) (subst (λ (cs : List Change). AreSteps Backwards s.document [] cs) (sym redo) (record { valid = valid so; first = tt; second = tt }));
+}
 
 -- the store that comes back from a save-as
 pub comes_back : {S E : Type 0} (facts : S → StoreFacts) (timely : (store : S) → IsTrue (facts store).honest → IsTimely (facts store)) (target : S) (old new : FileState S) (P : E → Type 0) (r : Result S E)

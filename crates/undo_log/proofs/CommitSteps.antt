@@ -1,43 +1,24 @@
 -- Over an honest store a commit is a step of the machine.
-use Rattle.std.proofs.Common.{◌≡◌, ◌↔◌, ◌+◌, ◌==◌, ℕ, Bool, true, false, IsTrue, List, [], Some, Result, Ok, Err, refl, sym, ap, ◌∙◌, inl, inr}
-use Rattle.std.specs.Prelude.{IsErrOf, MatchResult}
-use Rattle.std.specs.FinMap.{empty}
-use Rattle.std.proofs.lemmas.Bool.{le-leb, ne_eqb}
-use Rattle.geos_model.specs.Document.{Document}
+use Rattle.std.proofs.Common.{◌≡◌, ◌↔◌, ◌+◌, ◌==◌, Bool, true, false, IsTrue, List, [], Some, Result, Ok, Err, refl, sym, ap, subst, ◌∙◌, inl, inr}
+use Rattle.std.specs.Prelude.{IsErrOf, IfOk, MatchResult}
+use Rattle.std.proofs.lemmas.Bool.{ne_eqb}
+use Rattle.geos_model.specs.Document.{Document, IsValid}
 use Rattle.geos_model.specs.Reply.{Accepted, Refused, reply_by}
 use Rattle.geos_model.specs.Machine.{Machine, Step, on_commit, command_conditions, takes_memory, calls_store}
 use Rattle.geos_model.specs.declared.command.Command.{Command}
 use Rattle.geos_model.specs.declared.command.Command.TheVariants as commands
 use Rattle.geos_model.specs.declared.fault.Fault.{Fault}
 use Rattle.geos_model.specs.declared.fault.Fault.TheVariants.{Memory, File, Worn}
-use Rattle.vm_store.specs.Facts.{StoreFacts, Raised, raised}
+use Rattle.vm_store.specs.Facts.{StoreFacts}
 use Rattle.vm_file.specs.Calls.{IsCommitRefusal, last_sequence}
-use Rattle.vm_file.specs.Disk.{Commits}
+use Rattle.vm_file.specs.Disk.{Commits, Drifts}
 use Rattle.vm_file.specs.Effects.{IsCommit, Fails, IsWorn}
 use Rattle.vm_file.specs.Documents.{Documents}
 use Rattle.vm_blocks.specs.declared.change.Change.{Change}
-use Rattle.vm_blocks.specs.declared.change.Direction.TheVariants.{Forwards, Backwards}
+use Rattle.vm_blocks.specs.declared.change.Direction.TheVariants.{Backwards}
 use Rattle.vm_blocks.specs.Committing.{IsRevertFault}
-use Rattle.undo_log.specs.Records.{SessionState, file_of, machine_of, has_failed, steps}
-
--- The machine of a session, from its parts.
-pub machine_is : {S : Type 0} (target : Bool) (d updated saved : Document) (undo redo : List Change) (frames sequence : ℕ) (new : SessionState S)
-    → d ≡ new.document → undo ≡ new.undo → redo ≡ new.redo → updated ≡ new.disk.updated → saved ≡ new.disk.saved → frames ≡ new.frames → sequence ≡ new.disk.sequence
-    → ◌≡◌ {A = Machine} (record { document = d; past = steps Backwards undo d; future = steps Forwards redo d; updated = updated; saved = saved; locks = empty; frames = frames; target = target; sequence = sequence }) (machine_of target new)
-machine_is target d updated saved undo redo frames sequence new p q r u v f n = λ i. record {
-  document = p i;
-  past = steps Backwards (q i) (p i);
-  future = steps Forwards (r i) (p i);
-  updated = u i;
-  saved = v i;
-  locks = empty;
-  frames = f i;
-  target = target;
-  sequence = n i;
-}
-
-pub failed_true : (a b : StoreFacts) → Raised a b → has_failed a b ≡ true
-failed_true a b more = le-leb (raised a.failures) b.failures more
+use Rattle.undo_log.specs.Records.{SessionState, file_of, machine_of, has_failed, AreListed, AreSteps, IsStep}
+use Rattle.undo_log.proofs.Keeping.{drifted_listed, failed_true, machine_is, same_exact}
 
 -- A commit that is refused leaves the machine.
 pub refused_commit : (failed : Bool) (m new : Machine) (c : Command) (fault : Fault) → new ≡ m → command_conditions c m ≡ on_commit m → takes_memory c m ≡ true → calls_store c m ≡ true
@@ -50,7 +31,7 @@ refused_commit failed m new c fault stays refuses takes calls worn raised refusa
   | inr is ↦ inl (rw (stays, is, refuses, worn is) refl)
 ]
 
--- What is known of a session's commit over an honest store that tries a pair of documents, the document being that of a machine.
+-- What is known of a commit of an exact session that tries a pair of documents, the document being that of a machine.
 module _ {S : Type 0} (facts : S → StoreFacts) (target : Bool) (old new : SessionState S) (so : IsTrue (facts old.disk.store).honest) where
   same_numbers : (fault : Fault) (pair : Documents) → Commits facts pair old.disk new.disk (Err fault) → new.disk.sequence ≡ old.disk.sequence
   same_numbers fault pair commits = commits.sequence
@@ -102,3 +83,45 @@ module _ {S : Type 0} (facts : S → StoreFacts) (target : Bool) (old new : Sess
       let refusal : IsCommitRefusal fault = elim fails.faults [ inl supply ↦ inl supply | inr (inl worn) ↦ inr worn | inr (inr damage) ↦ absurd (damage.1 so) ] in
       refused_commit _ (machine_of target old) (machine_of target new) commands.Revert fault (stays fault _ commit.commits (commit.document.same so) lists.0 lists.1 frames) refl refl refl
       (λ is. commit.worn.0 (ap Err is)) (λ is. failed_true (facts old.disk.store) (facts new.disk.store) (fails.file (ap Err is))) refusal
+
+-- the document stays, whether it is refused or not
+kept_document : (honest : Bool) (a b : Document) (result : Result (Unit {0}) Fault) → MatchResult result (λ _. Drifts honest a b) (λ _. Drifts honest a b) → Drifts honest a b
+kept_document honest a b (Ok x) drifts = drifts
+kept_document honest a b (Err fault) drifts = drifts
+
+-- So it is of sessions, which stay exact.
+module _ {S : Type 0} (facts : S → StoreFacts) (old new : SessionState S) where
+  pub update_is : (result : Result (Unit {0}) Fault) → IsCommit facts (old.document, old.disk.saved) old.document (file_of old) (file_of new) result → Fails facts IsWorn old.disk.store new.disk.store result
+      → (new.undo ≡ old.undo) × (new.redo ≡ old.redo) × (new.frames ≡ old.frames) → IsStep facts old new commands.Update (reply_by (λ _. Accepted) result)
+  update_is result commit fails lists = λ exact. (
+    same_exact facts old new commit.commits.honest ((kept_document (facts old.disk.store).honest old.document new.document result commit.document).same exact.honest) lists.0 lists.1 exact,
+    λ target. update_step facts target old new exact.honest result commit fails lists,
+  )
+
+  pub save_is : (result : Result (Unit {0}) Fault) → IsCommit facts (old.document, old.document) old.document (file_of old) (file_of new) result → Fails facts IsWorn old.disk.store new.disk.store result
+      → (new.undo ≡ old.undo) × (new.redo ≡ old.redo) × (new.frames ≡ old.frames) → IsStep facts old new commands.Save (reply_by (λ _. Accepted) result)
+  save_is result commit fails lists = λ exact. (
+    same_exact facts old new commit.commits.honest ((kept_document (facts old.disk.store).honest old.document new.document result commit.document).same exact.honest) lists.0 lists.1 exact,
+    λ target. save_step facts target old new exact.honest result commit fails lists,
+  )
+
+  pub revert_is : (result : Result (Unit {0}) Fault) → IsCommit facts (old.disk.saved, old.disk.saved) old.disk.saved (file_of old) (file_of new) result
+      → Fails facts (IsRevertFault (facts old.disk.store).honest) old.disk.store new.disk.store result
+      → MatchResult result (λ _. (new.undo ≡ []) × (new.redo ≡ [])) (λ _. (new.undo ≡ old.undo) × (new.redo ≡ old.redo)) → new.frames ≡ old.frames
+      → IfOk result (λ _. IsTrue (facts new.disk.store).honest → IsValid new.document) → IsStep facts old new commands.Revert (reply_by (λ _. Accepted) result)
+  revert_is (Ok x) commit fails lists frames valid = λ exact.
+      let so : IsTrue (facts new.disk.store).honest = subst IsTrue (sym commit.commits.honest) exact.honest in (
+        record {
+          honest = so;
+          steps = subst (λ (cs : List Change). AreSteps Backwards new.document cs new.redo) (sym lists.0)
+              (subst (λ (cs : List Change). AreSteps Backwards new.document [] cs) (sym lists.1) (record { valid = valid so; first = tt; second = tt }));
+        },
+        λ target. revert_step facts target old new exact.honest (Ok x) commit fails lists frames,
+      )
+  revert_is (Err fault) commit fails lists frames valid = λ exact.
+      (same_exact facts old new commit.commits.honest (commit.document.same exact.honest) lists.0 lists.1 exact, λ target. revert_step facts target old new exact.honest (Err fault) commit fails lists frames)
+
+-- What is known of the records by handles stays.
+pub committed_listed : (honest : Bool) (a b : Document) (undo redo : List Change) (result : Result (Unit {0}) Fault) → MatchResult result (λ _. Drifts honest a b) (λ _. Drifts honest a b)
+    → AreListed Backwards a undo redo → AreListed Backwards b undo redo
+committed_listed honest a b undo redo result drifts are = drifted_listed honest a b undo redo (kept_document honest a b result drifts) are

@@ -1,6 +1,10 @@
+pub mod Listing
 pub mod Lists
+pub mod Keeping
 pub mod Steps
 pub mod Answers
+pub mod Edited
+pub mod Turns
 pub mod Weights
 pub mod LookUps
 pub mod CommitSteps

@@ -1,17 +1,13 @@
 -- A change that was carried out can be carried out the other way round, and documents stay valid along the records.
-use Rattle.std.proofs.Common.{◌≡◌, Bool, true, false, List, [], ◌∷◌, refl, sym, ap, subst, ◌∙◌}
+use Rattle.std.proofs.Common.{◌≡◌, List, [], ◌∷◌, sym, ap, subst, ◌∙◌}
 use Rattle.geos_model.specs.Document.{Document, IsValid}
 use Rattle.geos_model.proofs.ValidSteps.{AreValid, valid-push, valid-none}
-use Rattle.vm_blocks.specs.Changes.{made, flipped, turned, blocks_in, Applies}
+use Rattle.vm_blocks.specs.Changes.{made, flipped, turned, after, Applies}
 use Rattle.vm_blocks.specs.declared.change.Change.{Change}
-use Rattle.vm_blocks.specs.declared.change.Change.TheVariants as changes
 use Rattle.vm_blocks.specs.declared.change.Direction.{Direction}
 use Rattle.vm_blocks.specs.declared.change.Direction.TheVariants.{Forwards, Backwards}
 use Rattle.vm_blocks.proofs.ChangeLaws.{change_back, flip_twice}
-use Rattle.doc_edits.specs.Planning.{kind_of_change}
-use Rattle.vm_blocks.specs.Changes.{after}
 use Rattle.undo_log.specs.Records.{opposite, step, steps, CanTake, AreSteps}
-use Rattle.undo_log.specs.Turning.{takes, Moves, Turns}
 
 -- what holds of a change that was carried out
 pub record IsBack (direction : Direction) (c : Change) (d : Document) : Type 0 where
@@ -28,19 +24,6 @@ goes_back Backwards c d valid applies =
       applies = subst (λ (x : Change). Applies x (made (flipped c) d)) (flip_twice c) law.1;
       gives = ap (λ (x : Change). made x (made (flipped c) d)) (sym (flip_twice c)) ∙ law.2;
     }
-
--- only blocks that come in take memory
-pub takes_block : (direction : Direction) (c : Change) → (blocks_in (turned direction c) ≡ [] → ⊥) → takes direction (kind_of_change c) ≡ true
-takes_block Forwards (changes.BlocksIn ms) some = refl
-takes_block Forwards (changes.BlocksOut ms) some = absurd (some refl)
-takes_block Forwards (changes.Part b part) some = absurd (some refl)
-takes_block Forwards (changes.UserId b old new) some = absurd (some refl)
-takes_block Forwards (changes.Map old new) some = absurd (some refl)
-takes_block Backwards (changes.BlocksIn ms) some = absurd (some refl)
-takes_block Backwards (changes.BlocksOut ms) some = refl
-takes_block Backwards (changes.Part b part) some = absurd (some refl)
-takes_block Backwards (changes.UserId b old new) some = absurd (some refl)
-takes_block Backwards (changes.Map old new) some = absurd (some refl)
 
 -- each document along the changes is valid
 steps-valid : (direction : Direction) (cs : List Change) (d : Document) → IsValid d → CanTake direction cs d → AreValid (steps direction cs d)
@@ -63,34 +46,21 @@ pub swapped_back : (d : Document) (undo redo : List Change) → AreSteps Forward
 swapped_back d undo redo are = record { valid = are.valid; first = are.second; second = are.first }
 
 -- an edit puts its change before the others, and nothing is left to redo
-pub edited_steps : (old new : Document) (undo redo : List Change) (c : Change) → AreSteps Backwards old undo redo → Applies c old → new ≡ made c old → AreSteps Backwards new (c ∷ undo) []
-edited_steps old new undo redo c are applies is =
-    let back = goes_back Forwards c old are.valid applies in
-    subst (λ (d : Document). AreSteps Backwards d (c ∷ undo) []) (sym is) (record {
+pub edited_steps : (d : Document) (undo redo : List Change) (c : Change) → AreSteps Backwards d undo redo → Applies c d → AreSteps Backwards (made c d) (c ∷ undo) []
+edited_steps d undo redo c are applies =
+    let back = goes_back Forwards c d are.valid applies in
+    record {
       valid = back.valid;
       first = (back.applies, subst (CanTake Backwards undo) (sym back.gives) are.first);
       second = tt;
-    })
+    }
 
-carried_steps : (direction : Direction) (d : Document) (from to : List Change) (c : Change) → AreSteps direction d (c ∷ from) to → AreSteps direction (after direction c d) from (c ∷ to)
-carried_steps direction d from to c are =
+-- the newest change of one list is carried out, and is the newest of the other
+pub moved_steps : (direction : Direction) (d : Document) (from to : List Change) (c : Change) → AreSteps direction d (c ∷ from) to → AreSteps direction (after direction c d) from (c ∷ to)
+moved_steps direction d from to c are =
     let back = goes_back direction c d are.valid are.first.0 in
     record {
       valid = back.valid;
       first = are.first.1;
       second = (back.applies, subst (CanTake (opposite direction) to) (sym back.gives) are.second);
     }
-
-moved_steps : (direction : Direction) (old new : Document) (from to from' to' : List Change) → Moves direction old new from to from' to' → AreSteps direction old from to → AreSteps direction new from' to'
-moved_steps direction old new from to from' to' moves are =
-    subst (λ (d : Document). AreSteps direction d from' to') (sym moves.document)
-    (subst (λ (cs : List Change). AreSteps direction (after direction moves.change old) from' cs) (sym moves.to_is)
-    (carried_steps direction old from' to moves.change (subst (λ (cs : List Change). AreSteps direction old cs to) moves.from_was are)))
-
--- a step from one list to the other keeps all that
-pub kept_steps : (turned : Bool) (direction : Direction) (old new : Document) (from to from' to' : List Change) → Turns turned direction old new from to from' to' → AreSteps direction old from to → AreSteps direction new from' to'
-kept_steps true direction old new from to from' to' moves are = moved_steps direction old new from to from' to' moves are
-kept_steps false direction old new from to from' to' stays are =
-    subst (λ (d : Document). AreSteps direction d from' to') (sym stays.document)
-    (subst (λ (cs : List Change). AreSteps direction old cs to') (stays.from_was ∙ sym stays.from_is)
-    (subst (λ (cs : List Change). AreSteps direction old from cs) (sym stays.to_is) are))

@@ -1,3 +1,4 @@
 pub mod Records
+pub mod Making
 pub mod Turning
 pub mod Codes

@@ -1,16 +1,22 @@
 -- The records of a session are changes. What steps they are, and that each can be taken.
-use Rattle.std.specs.Prelude.{◌≡◌, ◌⊎◌, ℕ, Bool, nat_le, List, [], ◌∷◌}
+use Rattle.std.specs.Prelude.{◌≡◌, ℕ, Bool, IsTrue, nat_le, List, [], ◌∷◌, map, Some}
 use Rattle.std.specs.FinMap.{empty}
 use Rattle.std.specs.List.{sum_by}
 use Rattle.geos_model.specs.Document.{Document, IsValid}
-use Rattle.geos_model.specs.Machine.{Machine, UndoStep}
-use Rattle.geos_model.specs.declared.fault.Fault.{Fault}
+use Rattle.geos_model.specs.Machine.{Machine, UndoStep, Step, kind_of}
+use Rattle.geos_model.specs.Reply.{Reply}
+use Rattle.geos_model.specs.declared.command.Command.{Command}
+use Rattle.geos_model.specs.declared.command.Edit.{Edit}
 use Rattle.vm_store.specs.Facts.{StoreFacts, raised}
 use Rattle.vm_file.specs.Disk.{Disk, FileState}
+use Rattle.block_cache.specs.State.{CacheState, seen}
 use Rattle.vm_blocks.specs.Changes.{after, turned, weight, Applies}
+use Rattle.vm_blocks.specs.Keeping.{Keeps, Lacks}
+use Rattle.vm_blocks.specs.Preparing.{AllListed, Makes}
 use Rattle.vm_blocks.specs.declared.change.Change.{Change}
 use Rattle.vm_blocks.specs.declared.change.Direction.{Direction}
 use Rattle.vm_blocks.specs.declared.change.Direction.TheVariants.{Forwards, Backwards}
+use Rattle.doc_edits.specs.LookUps.{LooksUp}
 use Rattle.doc_edits.specs.Planning.{kind_of_change, change_cost}
 
 abbrev pub opposite : Direction → Direction
@@ -26,18 +32,23 @@ abbrev pub steps : Direction → List Change → Document → List UndoStep
 steps direction [] d = []
 steps direction (c ∷ cs) d = step direction c d ∷ steps direction cs (after direction c d)
 
--- A session: the disk, its document as it is now, the changes that can be taken back, and those that were taken back, of both the
--- newest first, and how many blocks may be in memory one day.
+-- A session: the disk, its document as it is now, the blocks in memory and how many may be, and the changes that can be taken back and
+-- those that were taken back, of both the newest first.
 pub record SessionState (S : Type 0) : Type 0 where
   pub disk : Disk S
   pub document : Document
+  pub resident : List (ℕ × ℕ)
+  pub frames : ℕ
   pub undo : List Change
   pub redo : List Change
-  pub frames : ℕ
 
--- the file that a session shows: its document in place of the file's own
+-- its blocks
+abbrev pub blocks_of : {S : Type 0} → SessionState S → CacheState S
+blocks_of s = record { disk = s.disk; document = s.document; resident = s.resident; frames = s.frames }
+
+-- the file that it shows: its document in place of the file's own
 abbrev pub file_of : {S : Type 0} → SessionState S → FileState S
-file_of s = record { disk = s.disk; document = s.document }
+file_of s = seen (blocks_of s)
 
 -- the machine that a session is, where a target for a save-as is left and where none is
 abbrev pub machine_of : {S : Type 0} → Bool → SessionState S → Machine
@@ -68,12 +79,42 @@ pub record AreSteps (direction : Direction) (d : Document) (from to : List Chang
   pub first : CanTake direction from d
   pub second : CanTake (opposite direction) to d
 
--- The edit's change is made, and its record is the newest; nothing is left to redo.
-pub record Records {S : Type 0} (old new : SessionState S) : Type 0 where
+-- That is so as far as handles tell, over any store.
+pub record AreListed (direction : Direction) (d : Document) (from to : List Change) : Type 0 where
+  pub first : AllListed (map (turned direction) from) d
+  pub second : AllListed (map (turned (opposite direction)) to) d
+
+-- The store is honest, and the records can be taken from the document, so that undo and redo are exact. Whoever begins with an honest
+-- store and saves into honest ones alone has it always; over another store a body may be another than the one that was edited.
+pub record IsExact {S : Type 0} (facts : S → StoreFacts) (s : SessionState S) : Type 0 where
+  pub honest : IsTrue (facts s.disk.store).honest
+  pub steps : AreSteps Backwards s.document s.undo s.redo
+
+-- A call is a step of the machine, and the session is exact still.
+abbrev pub IsStep : {S : Type 0} → (S → StoreFacts) → SessionState S → SessionState S → Command → Reply → Type 0
+IsStep facts old new command reply = IsExact facts old
+    → IsExact facts new × ((target : Bool) → Step (has_failed (facts old.disk.store) (facts new.disk.store)) (machine_of target old) (Some command) reply (machine_of target new))
+
+-- Nothing is committed, the document stays as far as the store gives back what it has, and so do both lists.
+pub record KeepsSession {S : Type 0} (facts : S → StoreFacts) (old new : SessionState S) : Type 0 where
+  pub blocks : Keeps facts (blocks_of old) (blocks_of new)
+  pub undo : new.undo ≡ old.undo
+  pub redo : new.redo ≡ old.redo
+
+-- What a look-up into one block comes to: the session is kept, and what is answered is looked up of the document as it is held from then
+-- on, or a fault of what the call may lack.
+pub record Looks {S : Type 0} (facts : S → StoreFacts) (old new : SessionState S) (command : Command) (reply : Reply) : Type 0 where
+  pub keeps : KeepsSession facts old new
+  pub step : IsStep facts old new command reply
+  pub value : LooksUp (Lacks facts old.disk.store new.disk.store) command new.document reply
+
+-- The edit's change is made, and its record is the newest, of the edit's kind; nothing is left to redo.
+pub record Records {S : Type 0} (facts : S → StoreFacts) (edit : Edit) (old new : SessionState S) : Type 0 where
   pub change : Change
+  pub kind : kind_of_change change ≡ kind_of edit
+  pub makes : Makes facts change (blocks_of old) (blocks_of new)
   pub undo : new.undo ≡ change ∷ old.undo
   pub redo : new.redo ≡ []
-  pub document : new.document ≡ after Forwards change old.document
 
 -- how many content bytes changes hold together
 abbrev pub total_weight : List Change → ℕ

@@ -1,31 +1,33 @@
 //! A document that is edited, with what undo needs.
-ghost use Rattle.std.specs.Prelude.{◌≡◌, ◌≢◌, ◌⊎◌, ◌↔◌, ◌+◌, ◌-◌, ◌^◌, ◌≤◌, ◌&&◌, ◌||◌, ℕ, Bool, true, false, List, [], Some, Ok, Err, All, IsTrue, IfOk, IfErr, OnOk, OnErr, IsErrOf, MatchResult, length, min};
+ghost use Rattle.std.specs.Prelude.{◌≡◌, ◌↔◌, ◌+◌, ◌-◌, ◌^◌, ◌≤◌, ◌||◌, ◌⊎◌, ℕ, Bool, true, false, List, [], Some, Ok, IsTrue, IsOk, IfOk, IfErr, OnOk, OnErr, MatchResult, length, min};
 ghost use Rattle.std.specs.Result.{IsErrAnd};
 ghost use Rattle.std.specs.Borrow.{sem};
 ghost use Rattle.std.specs.Option.{option_map};
-ghost use Rattle.geos_model.specs.Document.{Document, empty_document, most_blocks, IsValid};
+ghost use Rattle.geos_model.specs.Document.{Document};
 ghost use Rattle.geos_model.specs.File.{stands};
 ghost use Rattle.geos_model.specs.Reply.{Accepted, Refused as RefusedWith, AreEqual, BytesAre, NumberIs, TokenIs, reply_by, reply_of_done, info_is, blocks_are, chunks_are, found};
-ghost use Rattle.geos_model.specs.Machine.{IsValidMachine, Step, empty_machine, opened_machine};
+ghost use Rattle.geos_model.specs.Machine.{IsValidMachine, Step, empty_machine, kind_of, opened_machine};
 ghost use Rattle.geos_model.specs.declared.command.Command.TheVariants as commands;
-ghost use Rattle.vm_store.specs.Facts.{Raised, Rests};
-ghost use Rattle.vm_file.specs.Calls.{IsSupply, IsCommitRefusal, IsOpenRefusal, last_sequence};
-ghost use Rattle.vm_file.specs.Disk.{Disk, Commits, ContentStands, Drifts, IsSettled, Numbered, Passes};
+ghost use Rattle.geos_model.specs.declared.command.Kind.TheVariants.{In, Plain};
+ghost use Rattle.vm_file.specs.Calls.{last_sequence};
+ghost use Rattle.vm_file.specs.Disk.{IsListed, IsSettled, Passes};
 ghost use Rattle.vm_file.specs.Documents.{sequence_in};
-ghost use Rattle.vm_file.specs.Effects.{IsNewFile, Follows, IsCommit, Fails, IsWorn, IsDamage};
-ghost use Rattle.vm_blocks.specs.Blocks.{is_resident};
-ghost use Rattle.vm_blocks.specs.declared.change.Direction.TheVariants.{Backwards, Forwards};
-ghost use Rattle.doc_edits.specs.LookUps.{Stays};
-ghost use Rattle.doc_edits.specs.Planning.{IsMemory, Plans, Refuses};
+ghost use Rattle.vm_file.specs.Effects.{IsCommit, Fails, IsWorn};
 ghost use Rattle.vm_blocks.specs.Committing.{IsRevertFault, IsSavedAs, IsNotSavedAs};
+ghost use Rattle.vm_blocks.specs.Keeping.{IsSteady, Lacks, is_loaded};
 ghost use Rattle.vm_blocks.specs.Opening.{IsOpenedFrom, IsNotOpened, IsMadeIn, IsNotMade};
-ghost use Rattle.undo_log.specs.Records.{file_of, machine_of, has_failed, total_cost, total_weight, Records};
-ghost use Rattle.undo_log.specs.Turning.{Moves};
+ghost use Rattle.vm_blocks.specs.declared.change.Direction.TheVariants.{Backwards, Forwards};
+ghost use Rattle.vm_chains.specs.Answers.{IsWalkRefusal};
+ghost use Rattle.doc_edits.specs.LookUps.{Leaves, LooksUp};
+ghost use Rattle.doc_edits.specs.Planning.{IsChainEditFault, IsMemory, Refuses};
+ghost use Rattle.undo_log.specs.Records.{blocks_of, file_of, machine_of, has_failed, total_cost, total_weight, IsExact, IsStep, KeepsSession, Looks, Records};
+ghost use Rattle.undo_log.specs.Turning.{IsRefusedTurn, IsSure, Moves};
 ghost use Rattle.undo_log.specs.contracts.session.Session.{the_row};
 
-use crate::turn::{take, turn};
+use crate::making::make;
+use crate::turn::turn;
 use crate::weighing::total_weight;
-use doc_edits::{look_ups, plan};
+use doc_edits::look_ups;
 use geos_model::{Bytes, ChunkHandle, Done, Edit, Fault, Info, Token, VmHandle};
 use std::alloc::Global;
 use std::marker::Model;
@@ -33,7 +35,7 @@ use vm_blocks::{Change, Direction, FileBlocks};
 use vm_file::Refused;
 use vm_store::Store;
 
-/// A document of a file that is edited, with what undo needs. Contracts see it as the disk and the document with its records, of
+/// A document of a file that is edited, with what undo needs. Contracts see it as the blocks of the file with its records, of
 /// which the machine of documents is a function: each call is one step of it, refused or not.
 #[derive(Drop)]
 pub struct Session<S: Store> {
@@ -43,8 +45,6 @@ pub struct Session<S: Store> {
     undo: Vec<Change>,
     /// The next edit to make again is the last. There is room for the changes of both lists.
     redo: Vec<Change>,
-    /// How many blocks may be in memory one day; today all are.
-    frames: usize,
 }
 
 impl<S: Store> Model for Session<S> {
@@ -57,31 +57,22 @@ impl<S: Store> Model for Session<S> {
 
     ghost use Rattle.std.specs.Prelude.{◌+◌, ◌≤◌, reverse, vec_len, vec_capacity};
     ghost use Rattle.vm_blocks.specs.declared.change.Direction.TheVariants.{Backwards};
-    ghost use Rattle.undo_log.specs.Records.{AreSteps};
+    ghost use Rattle.undo_log.specs.Records.{AreListed};
 
-    ghost view = { λ s. record { disk = s.blocks.disk; document = s.blocks.document; undo = reverse s.undo.items; redo = reverse s.redo.items; frames = s.frames } };
+    ghost view = { λ s. record { disk = s.blocks.disk; document = s.blocks.document; resident = s.blocks.resident; frames = s.blocks.frames; undo = reverse s.undo.items; redo = reverse s.redo.items } };
 
     ghost invariant = { λ s. (vec_len s.undo + vec_len s.redo ≤ vec_capacity s.undo)
         × (vec_len s.undo + vec_len s.redo ≤ vec_capacity s.redo)
-        × AreSteps Backwards s.blocks.document (reverse s.undo.items) (reverse s.redo.items) };
-}
-
-// The change that an edit means, where all blocks are in memory: the file stays as it is.
-fn planned<S: Store>(
-    alloc: Global,
-    blocks: &mut FileBlocks<S>,
-    edit: &Edit,
-) -> Result<(Change, Done), Fault>
-    ensures planned { MatchResult result (λ p. Plans edit.now blocks.old.document p.0 p.1) (Refuses IsMemory edit.now blocks.old.document) }
-    ensures stays { blocks.new ≡ blocks.old }
-{
-    plan(alloc, blocks, edit)
+        × AreListed Backwards s.blocks.document (reverse s.undo.items) (reverse s.redo.items) };
 }
 
 impl<S: Store> Session<S> {
     // A session of blocks of a file, with nothing to undo.
-    fn begin(alloc: Global, blocks: FileBlocks<S>, frames: usize) -> Session<S>
-        ensures { result ≡ record { disk = blocks.disk; document = blocks.document; undo = []; redo = []; frames = frames } }
+    fn begin(alloc: Global, blocks: FileBlocks<S>) -> Session<S>
+        ensures blocks { blocks_of result ≡ blocks }
+        ensures undo { result.undo ≡ [] }
+        ensures redo { result.redo ≡ [] }
+        ensures exact { IsTrue (S.facts blocks.disk.store).honest → IsExact S.facts result }
     {
         blocks.validity();
         Session {
@@ -89,7 +80,6 @@ impl<S: Store> Session<S> {
             blocks,
             undo: Vec::new(alloc),
             redo: Vec::new(alloc),
-            frames,
         }
     }
 
@@ -100,10 +90,11 @@ impl<S: Store> Session<S> {
             (λ session. IsMadeIn S.facts store (file_of session))
             (λ refused. IsNotMade S.facts store refused.store refused.fault) }
         ensures new { IfOk result (λ session. (session.undo ≡ []) × (session.redo ≡ []) × (session.frames ≡ frames)) }
+        ensures exact { IfOk result (λ session. IsTrue (S.facts store).honest → IsExact S.facts session) }
         ensures machine { IfOk result (λ session. (target : Bool) → machine_of target session ≡ empty_machine frames target) }
     {
-        match FileBlocks::create(alloc, store) {
-            Ok(blocks) => Ok(Session::begin(alloc, blocks, frames)),
+        match FileBlocks::create(alloc, store, frames) {
+            Ok(blocks) => Ok(Session::begin(alloc, blocks)),
             Err(refused) => Err(refused),
         }
     }
@@ -117,12 +108,13 @@ impl<S: Store> Session<S> {
             (λ session. IsOpenedFrom S.facts store (file_of session))
             (λ refused. IsNotOpened S.facts store refused.store refused.fault) }
         ensures new { IfOk result (λ session. (session.undo ≡ []) × (session.redo ≡ []) × (session.frames ≡ frames)) }
+        ensures exact { IfOk result (λ session. IsTrue (S.facts store).honest → IsExact S.facts session) }
         ensures machine { IfOk result (λ session. IsTrue (S.facts store).honest → (updated saved : Document) (sequence : ℕ) (target : Bool)
             → stands (S.facts store).content ≡ Ok (updated, saved) → sequence_in (S.facts store).content ≡ Some sequence
             → machine_of target session ≡ opened_machine updated saved sequence frames target) }
     {
-        match FileBlocks::open(alloc, store) {
-            Ok(blocks) => Ok(Session::begin(alloc, blocks, frames)),
+        match FileBlocks::open(alloc, store, frames) {
+            Ok(blocks) => Ok(Session::begin(alloc, blocks)),
             Err(refused) => Err(refused),
         }
     }
@@ -137,8 +129,7 @@ impl<S: Store> Session<S> {
     /// Makes the document as it is now the updated one. Worn where the sequence number can't rise, before anything is written;
     /// Memory, where nothing is committed; File, where what was to be may be read after a crash.
     pub fn update(&mut self) -> Result<(), Fault>
-        ensures step { IsTrue (S.facts self.old.disk.store).honest → (target : Bool)
-            → Step (has_failed (S.facts self.old.disk.store) (S.facts self.new.disk.store)) (machine_of target self.old) (Some commands.Update) (reply_by (λ _. Accepted) result) (machine_of target self.new) }
+        ensures step { IsStep S.facts self.old self.new commands.Update (reply_by (λ _. Accepted) result) }
         ensures commit { IsCommit S.facts (self.old.document, self.old.disk.saved) self.old.document (file_of self.old) (file_of self.new) result }
         ensures fails { Fails S.facts IsWorn self.old.disk.store self.new.disk.store result }
         ensures lists { (self.new.undo ≡ self.old.undo) × (self.new.redo ≡ self.old.redo) × (self.new.frames ≡ self.old.frames) }
@@ -148,8 +139,7 @@ impl<S: Store> Session<S> {
 
     /// Makes the document as it is now the updated and the saved one. Refused as an update is.
     pub fn save(&mut self) -> Result<(), Fault>
-        ensures step { IsTrue (S.facts self.old.disk.store).honest → (target : Bool)
-            → Step (has_failed (S.facts self.old.disk.store) (S.facts self.new.disk.store)) (machine_of target self.old) (Some commands.Save) (reply_by (λ _. Accepted) result) (machine_of target self.new) }
+        ensures step { IsStep S.facts self.old self.new commands.Save (reply_by (λ _. Accepted) result) }
         ensures commit { IsCommit S.facts (self.old.document, self.old.document) self.old.document (file_of self.old) (file_of self.new) result }
         ensures fails { Fails S.facts IsWorn self.old.disk.store self.new.disk.store result }
         ensures lists { (self.new.undo ≡ self.old.undo) × (self.new.redo ≡ self.old.redo) × (self.new.frames ≡ self.old.frames) }
@@ -160,10 +150,10 @@ impl<S: Store> Session<S> {
     /// Makes the saved document the updated one and the document as it is now, with nothing to undo. Where it is refused the
     /// document, over an honest store, and both lists stay. Refused as an update is; over a store that isn't honest what is read may be no image, which is Damaged.
     pub fn revert(&mut self) -> Result<(), Fault>
-        ensures step { IsTrue (S.facts self.old.disk.store).honest → (target : Bool)
-            → Step (has_failed (S.facts self.old.disk.store) (S.facts self.new.disk.store)) (machine_of target self.old) (Some commands.Revert) (reply_by (λ _. Accepted) result) (machine_of target self.new) }
+        ensures step { IsStep S.facts self.old self.new commands.Revert (reply_by (λ _. Accepted) result) }
         ensures commit { IsCommit S.facts (self.old.disk.saved, self.old.disk.saved) self.old.disk.saved (file_of self.old) (file_of self.new) result }
         ensures fails { Fails S.facts (IsRevertFault (S.facts self.old.disk.store).honest) self.old.disk.store self.new.disk.store result }
+        ensures exact { OnOk result (IsTrue (S.facts self.old.disk.store).honest → IsExact S.facts self.new) }
         ensures lists { MatchResult result (λ _. (self.new.undo ≡ []) × (self.new.redo ≡ [])) (λ _. (self.new.undo ≡ self.old.undo) × (self.new.redo ≡ self.old.redo)) × (self.new.frames ≡ self.old.frames) }
     {
         self.blocks.revert()?;
@@ -179,11 +169,12 @@ impl<S: Store> Session<S> {
     /// fails. Worn where the sequence number of the file so far can't rise, before anything is written; over a store that isn't
     /// honest what is read may be no image, which is Damaged; Memory, File.
     pub fn save_as(&mut self, target: S) -> Result<S, Refused<S>>
-        // a step of the machine, over an honest file so far, and where it is accepted an honest target
-        ensures ok { IfOk result (λ _. IsTrue (S.facts self.old.disk.store).honest → IsTrue (S.facts target).honest
-            → Step false (machine_of true self.old) (Some commands.SaveAs) Accepted (machine_of false self.new)) }
-        ensures err { IfErr result (λ refused. IsTrue (S.facts self.old.disk.store).honest
-            → Step (has_failed (S.facts self.old.disk.store) (S.facts self.new.disk.store) || has_failed (S.facts target) (S.facts refused.store))
+        // a step of the machine, where it is accepted into an honest target
+        ensures ok { IfOk result (λ _. IsExact S.facts self.old → IsTrue (S.facts target).honest
+            → IsExact S.facts self.new × Step false (machine_of true self.old) (Some commands.SaveAs) Accepted (machine_of false self.new)) }
+        ensures err { IfErr result (λ refused. IsExact S.facts self.old
+            → IsExact S.facts self.new
+            × Step (has_failed (S.facts self.old.disk.store) (S.facts self.new.disk.store) || has_failed (S.facts target) (S.facts refused.store))
             (machine_of true self.old) (Some commands.SaveAs) (RefusedWith refused.fault) (machine_of true self.new)) }
         ensures saved_as { MatchResult result
             (λ store. IsSavedAs S.facts target store (file_of self.old) (file_of self.new))
@@ -198,26 +189,33 @@ impl<S: Store> Session<S> {
 
     /// Makes an edit, which can be undone from then on.
     pub fn edit(&mut self, edit: &Edit) -> Result<Done, Fault>
-        ensures step { (target : Bool) → Step false (machine_of target self.old) (Some (commands.Edit edit.now)) (reply_by reply_of_done result) (machine_of target self.new) }
-        ensures ok { OnOk result (Records self.old self.new) }
-        ensures rests { (self.new.disk ≡ self.old.disk) × (self.new.frames ≡ self.old.frames) }
-        ensures err { OnErr result (self.new ≡ self.old) }
+        ensures step { IsStep S.facts self.old self.new (commands.Edit edit.now) (reply_by reply_of_done result) }
+        ensures ok { OnOk result (Records S.facts edit.now self.old self.new) }
+        ensures err { OnErr result (KeepsSession S.facts self.old self.new) }
+        ensures refusals { IfErr result (λ fault. Refuses (Lacks S.facts self.old.disk.store self.new.disk.store) edit.now self.new.document fault ⊎ IsChainEditFault edit.now fault) }
+        ensures at_hand { OnOk result ((b : VmHandle) → kind_of edit.now ≡ In b → is_loaded (blocks_of self.new) b.0 ≡ true) }
+        ensures passes { Passes S.facts self.old.disk self.new.disk }
+        // an edit of a user ID or of the map block calls no store
+        ensures plain { kind_of edit.now ≡ Plain → (self.new.disk ≡ self.old.disk) × IfErr result (Refuses IsMemory edit.now self.new.document) }
     {
         self.undo.reserve(self.redo.len() + 1)?;
         self.redo.reserve(self.undo.len() + 1)?;
-        let (change, done) = planned(self.alloc, &mut self.blocks, edit)?;
-        take(&mut self.blocks, &change, Direction::Forwards)?;
+        self.blocks.validity();
+        let (change, done) = make(self.alloc, &mut self.blocks, edit)?;
         self.redo.clear();
         self.undo.push_reserved(change);
         Ok(done)
     }
 
-    /// Goes back to the document before the newest edit.
+    /// Goes back to the document before the newest edit. Where its block has to be brought into memory first, it is refused as
+    /// that is.
     pub fn undo(&mut self) -> Result<(), Fault>
-        ensures step { (target : Bool) → Step false (machine_of target self.old) (Some commands.Undo) (reply_by (λ _. Accepted) result) (machine_of target self.new) }
-        ensures ok { OnOk result (Moves Backwards self.old.document self.new.document self.old.undo self.old.redo self.new.undo self.new.redo) }
-        ensures rests { (self.new.disk ≡ self.old.disk) × (self.new.frames ≡ self.old.frames) }
-        ensures err { OnErr result (self.new ≡ self.old) }
+        ensures step { IsStep S.facts self.old self.new commands.Undo (reply_by (λ _. Accepted) result) }
+        ensures ok { OnOk result (Moves S.facts Backwards (blocks_of self.old) (blocks_of self.new) self.old.undo self.old.redo self.new.undo self.new.redo) }
+        ensures err { OnErr result (KeepsSession S.facts self.old self.new) }
+        ensures refusals { IfErr result (IsRefusedTurn S.facts Fault.NothingToUndo self.old.undo self.old self.new) }
+        ensures passes { Passes S.facts self.old.disk self.new.disk }
+        ensures sure { IsSure S.facts self.old Backwards self.old.undo → IsOk result × (self.new.disk ≡ self.old.disk) }
     {
         if turn(
             &mut self.blocks,
@@ -231,12 +229,14 @@ impl<S: Store> Session<S> {
         }
     }
 
-    /// Makes the edit again that the newest undo took back.
+    /// Makes the edit again that the newest undo took back. Refused as an undo is.
     pub fn redo(&mut self) -> Result<(), Fault>
-        ensures step { (target : Bool) → Step false (machine_of target self.old) (Some commands.Redo) (reply_by (λ _. Accepted) result) (machine_of target self.new) }
-        ensures ok { OnOk result (Moves Forwards self.old.document self.new.document self.old.redo self.old.undo self.new.redo self.new.undo) }
-        ensures rests { (self.new.disk ≡ self.old.disk) × (self.new.frames ≡ self.old.frames) }
-        ensures err { OnErr result (self.new ≡ self.old) }
+        ensures step { IsStep S.facts self.old self.new commands.Redo (reply_by (λ _. Accepted) result) }
+        ensures ok { OnOk result (Moves S.facts Forwards (blocks_of self.old) (blocks_of self.new) self.old.redo self.old.undo self.new.redo self.new.undo) }
+        ensures err { OnErr result (KeepsSession S.facts self.old self.new) }
+        ensures refusals { IfErr result (IsRefusedTurn S.facts Fault.NothingToRedo self.old.redo self.old self.new) }
+        ensures passes { Passes S.facts self.old.disk self.new.disk }
+        ensures sure { IsSure S.facts self.old Forwards self.old.redo → IsOk result × (self.new.disk ≡ self.old.disk) }
     {
         if turn(
             &mut self.blocks,
@@ -266,14 +266,12 @@ impl<S: Store> Session<S> {
         self.redo.len()
     }
 
-    /// It does nothing: its caller learns that each document of the machine is valid, as it always is, and what a crash now leaves.
-    /// What a store that isn't honest has of the updated and the saved one isn't known.
+    /// It does nothing: its caller learns that each document of the machine of an exact session is valid, as it always is, and what
+    /// a crash now leaves. What a store that isn't honest has isn't known, but for handles and the map block.
     pub fn validity(&self)
-        ensures document { IsValid self.now.document }
+        ensures machine { IsExact S.facts self.now → (target : Bool) → IsValidMachine (machine_of target self.now) }
+        ensures listed { IsListed (S.facts self.now.disk.store).honest self.now.document }
         ensures settled { IsSettled S.facts self.now.disk }
-        ensures past { (target : Bool) → All (λ s. IsValid s.document) (machine_of target self.now).past }
-        ensures future { (target : Bool) → All (λ s. IsValid s.document) (machine_of target self.now).future }
-        ensures machine { IsTrue (S.facts self.now.disk.store).honest → (target : Bool) → IsValidMachine (machine_of target self.now) }
     {
         self.blocks.validity();
     }
@@ -288,7 +286,7 @@ impl<S: Store> Session<S> {
 
     /// Whether a block is in memory.
     pub fn is_resident(&self, block: VmHandle) -> bool
-        ensures { result ≡ is_resident self.now.document block.0 }
+        ensures { result ≡ is_loaded (blocks_of self.now) block.0 }
     {
         self.blocks.is_resident(block)
     }
@@ -316,40 +314,35 @@ impl<S: Store> Session<S> {
 
     /// A block's user ID and size.
     pub fn info(&mut self, block: VmHandle) -> Result<Info, Fault>
-        ensures step { (target : Bool) → Step false (machine_of target self.old) (Some (commands.Info block)) (reply_by info_is result) (machine_of target self.old) }
-        ensures stays { self.new ≡ self.old }
+        ensures { Looks S.facts self.old self.new (commands.Info block) (reply_by info_is result) }
     {
         look_ups::info(&mut self.blocks, block)
     }
 
     /// The bytes of a raw block.
     pub fn read_raw(&mut self, block: VmHandle) -> Result<&[u8], Fault>
-        ensures step { (target : Bool) → Step false (machine_of target self.old) (Some (commands.ReadRaw block)) (reply_by (λ bytes. BytesAre bytes.now) result) (machine_of target self.old) }
-        ensures* stays { sem 𝓛 (Stays (the_row S.row S.Store) self.entry) }
+        ensures* leaves { sem 𝓛 (Leaves (the_row S.row S.Store) self.entry (λ new. Looks S.facts self.old new (commands.ReadRaw block) (reply_by (λ bytes. BytesAre bytes.now) result))) }
     {
         look_ups::read_raw(&mut self.blocks, block)
     }
 
     /// The live chunks of a heap, rising.
     pub fn chunks(&mut self, block: VmHandle) -> Result<Vec<ChunkHandle>, Fault>
-        ensures step { (target : Bool) → Step false (machine_of target self.old) (Some (commands.Chunks block)) (reply_by (λ handles. chunks_are handles.items) result) (machine_of target self.old) }
-        ensures stays { self.new ≡ self.old }
+        ensures { Looks S.facts self.old self.new (commands.Chunks block) (reply_by (λ handles. chunks_are handles.items) result) }
     {
         look_ups::chunks(&mut self.blocks, block)
     }
 
     /// The bytes of a chunk.
     pub fn read_chunk(&mut self, block: VmHandle, chunk: ChunkHandle) -> Result<&[u8], Fault>
-        ensures step { (target : Bool) → Step false (machine_of target self.old) (Some (commands.Read block chunk)) (reply_by (λ bytes. BytesAre bytes.now) result) (machine_of target self.old) }
-        ensures* stays { sem 𝓛 (Stays (the_row S.row S.Store) self.entry) }
+        ensures* leaves { sem 𝓛 (Leaves (the_row S.row S.Store) self.entry (λ new. Looks S.facts self.old new (commands.Read block chunk) (reply_by (λ bytes. BytesAre bytes.now) result))) }
     {
         look_ups::read_chunk(&mut self.blocks, block, chunk)
     }
 
     /// How many elements the array in a chunk has.
     pub fn array_count(&mut self, block: VmHandle, chunk: ChunkHandle) -> Result<usize, Fault>
-        ensures step { (target : Bool) → Step false (machine_of target self.old) (Some (commands.ArrayCount block chunk)) (reply_by NumberIs result) (machine_of target self.old) }
-        ensures stays { self.new ≡ self.old }
+        ensures { Looks S.facts self.old self.new (commands.ArrayCount block chunk) (reply_by NumberIs result) }
     {
         look_ups::array_count(&mut self.blocks, block, chunk)
     }
@@ -361,8 +354,7 @@ impl<S: Store> Session<S> {
         chunk: ChunkHandle,
         i: u32,
     ) -> Result<&[u8], Fault>
-        ensures step { (target : Bool) → Step false (machine_of target self.old) (Some (commands.ArrayElement block chunk i)) (reply_by (λ bytes. BytesAre bytes.now) result) (machine_of target self.old) }
-        ensures* stays { sem 𝓛 (Stays (the_row S.row S.Store) self.entry) }
+        ensures* leaves { sem 𝓛 (Leaves (the_row S.row S.Store) self.entry (λ new. Looks S.facts self.old new (commands.ArrayElement block chunk i) (reply_by (λ bytes. BytesAre bytes.now) result))) }
     {
         look_ups::array_element(&mut self.blocks, block, chunk, i)
     }
@@ -374,8 +366,7 @@ impl<S: Store> Session<S> {
         chunk: ChunkHandle,
         token: Token,
     ) -> Result<u32, Fault>
-        ensures step { (target : Bool) → Step false (machine_of target self.old) (Some (commands.ElementReferences block chunk token)) (reply_by NumberIs result) (machine_of target self.old) }
-        ensures stays { self.new ≡ self.old }
+        ensures { Looks S.facts self.old self.new (commands.ElementReferences block chunk token) (reply_by NumberIs result) }
     {
         look_ups::element_refs(&mut self.blocks, block, chunk, token)
     }
@@ -387,16 +378,14 @@ impl<S: Store> Session<S> {
         chunk: ChunkHandle,
         token: Token,
     ) -> Result<&[u8], Fault>
-        ensures step { (target : Bool) → Step false (machine_of target self.old) (Some (commands.ElementBytes block chunk token)) (reply_by (λ bytes. BytesAre bytes.now) result) (machine_of target self.old) }
-        ensures* stays { sem 𝓛 (Stays (the_row S.row S.Store) self.entry) }
+        ensures* leaves { sem 𝓛 (Leaves (the_row S.row S.Store) self.entry (λ new. Looks S.facts self.old new (commands.ElementBytes block chunk token) (reply_by (λ bytes. BytesAre bytes.now) result))) }
     {
         look_ups::element_bytes(&mut self.blocks, block, chunk, token)
     }
 
     /// How many elements of the element array in a chunk are used.
     pub fn elements_used(&mut self, block: VmHandle, chunk: ChunkHandle) -> Result<usize, Fault>
-        ensures step { (target : Bool) → Step false (machine_of target self.old) (Some (commands.ElementsUsed block chunk)) (reply_by NumberIs result) (machine_of target self.old) }
-        ensures stays { self.new ≡ self.old }
+        ensures { Looks S.facts self.old self.new (commands.ElementsUsed block chunk) (reply_by NumberIs result) }
     {
         look_ups::elements_used(&mut self.blocks, block, chunk)
     }
@@ -408,8 +397,7 @@ impl<S: Store> Session<S> {
         chunk: ChunkHandle,
         k: u32,
     ) -> Result<Token, Fault>
-        ensures step { (target : Bool) → Step false (machine_of target self.old) (Some (commands.TokenOfUsed block chunk k)) (reply_by (λ token. TokenIs token.0) result) (machine_of target self.old) }
-        ensures stays { self.new ≡ self.old }
+        ensures { Looks S.facts self.old self.new (commands.TokenOfUsed block chunk k) (reply_by (λ token. TokenIs token.0) result) }
     {
         look_ups::token_of_used(&mut self.blocks, block, chunk, k)
     }
@@ -421,8 +409,7 @@ impl<S: Store> Session<S> {
         chunk: ChunkHandle,
         token: Token,
     ) -> Result<usize, Fault>
-        ensures step { (target : Bool) → Step false (machine_of target self.old) (Some (commands.UsedOfToken block chunk token)) (reply_by NumberIs result) (machine_of target self.old) }
-        ensures stays { self.new ≡ self.old }
+        ensures { Looks S.facts self.old self.new (commands.UsedOfToken block chunk token) (reply_by NumberIs result) }
     {
         look_ups::used_of_token(&mut self.blocks, block, chunk, token)
     }
@@ -434,8 +421,7 @@ impl<S: Store> Session<S> {
         chunk: ChunkHandle,
         name: &Bytes,
     ) -> Result<Token, Fault>
-        ensures step { (target : Bool) → Step false (machine_of target self.old) (Some (commands.NameFind block chunk name.now)) (reply_by (λ token. TokenIs token.0) result) (machine_of target self.old) }
-        ensures stays { self.new ≡ self.old }
+        ensures { Looks S.facts self.old self.new (commands.NameFind block chunk name.now) (reply_by (λ token. TokenIs token.0) result) }
     {
         look_ups::name_find(&mut self.blocks, block, chunk, name)
     }
@@ -447,8 +433,7 @@ impl<S: Store> Session<S> {
         chunk: ChunkHandle,
         token: Token,
     ) -> Result<u32, Fault>
-        ensures step { (target : Bool) → Step false (machine_of target self.old) (Some (commands.NameReferences block chunk token)) (reply_by NumberIs result) (machine_of target self.old) }
-        ensures stays { self.new ≡ self.old }
+        ensures { Looks S.facts self.old self.new (commands.NameReferences block chunk token) (reply_by NumberIs result) }
     {
         look_ups::name_refs(&mut self.blocks, block, chunk, token)
     }
@@ -460,8 +445,7 @@ impl<S: Store> Session<S> {
         chunk: ChunkHandle,
         token: Token,
     ) -> Result<&[u8], Fault>
-        ensures step { (target : Bool) → Step false (machine_of target self.old) (Some (commands.NameText block chunk token)) (reply_by (λ bytes. BytesAre bytes.now) result) (machine_of target self.old) }
-        ensures* stays { sem 𝓛 (Stays (the_row S.row S.Store) self.entry) }
+        ensures* leaves { sem 𝓛 (Leaves (the_row S.row S.Store) self.entry (λ new. Looks S.facts self.old new (commands.NameText block chunk token) (reply_by (λ bytes. BytesAre bytes.now) result))) }
     {
         look_ups::name_text(&mut self.blocks, block, chunk, token)
     }
@@ -473,32 +457,37 @@ impl<S: Store> Session<S> {
         chunk: ChunkHandle,
         token: Token,
     ) -> Result<&[u8], Fault>
-        ensures step { (target : Bool) → Step false (machine_of target self.old) (Some (commands.NamePart block chunk token)) (reply_by (λ bytes. BytesAre bytes.now) result) (machine_of target self.old) }
-        ensures* stays { sem 𝓛 (Stays (the_row S.row S.Store) self.entry) }
+        ensures* leaves { sem 𝓛 (Leaves (the_row S.row S.Store) self.entry (λ new. Looks S.facts self.old new (commands.NamePart block chunk token) (reply_by (λ bytes. BytesAre bytes.now) result))) }
     {
         look_ups::name_part(&mut self.blocks, block, chunk, token)
     }
 
     /// The blocks of a chain, each before those that it links to, branches in order.
     pub fn walk(&mut self, root: VmHandle) -> Result<Vec<VmHandle>, Fault>
-        ensures step { (target : Bool) → Step false (machine_of target self.old) (Some (commands.Walk root)) (reply_by (λ handles. blocks_are handles.items) result) (machine_of target self.old) }
-        ensures stays { self.new ≡ self.old }
+        ensures keeps { KeepsSession S.facts self.old self.new }
+        ensures step { IsStep S.facts self.old self.new (commands.Walk root) (reply_by (λ handles. blocks_are handles.items) result) }
+        ensures value { IsSteady S.facts self.old.disk.store → LooksUp (Lacks S.facts self.old.disk.store self.new.disk.store) (commands.Walk root) self.new.document (reply_by (λ handles. blocks_are handles.items) result) }
+        ensures refusals { IfErr result (IsWalkRefusal (Lacks S.facts self.old.disk.store self.new.disk.store)) }
     {
         look_ups::walk(self.alloc, &mut self.blocks, root)
     }
 
     /// How many bytes the blocks of a chain have.
     pub fn chain_size(&mut self, root: VmHandle) -> Result<u32, Fault>
-        ensures step { (target : Bool) → Step false (machine_of target self.old) (Some (commands.ChainSize root)) (reply_by NumberIs result) (machine_of target self.old) }
-        ensures stays { self.new ≡ self.old }
+        ensures keeps { KeepsSession S.facts self.old self.new }
+        ensures step { IsStep S.facts self.old self.new (commands.ChainSize root) (reply_by NumberIs result) }
+        ensures value { IsSteady S.facts self.old.disk.store → LooksUp (Lacks S.facts self.old.disk.store self.new.disk.store) (commands.ChainSize root) self.new.document (reply_by NumberIs result) }
+        ensures refusals { IfErr result (IsWalkRefusal (Lacks S.facts self.old.disk.store self.new.disk.store)) }
     {
         look_ups::chain_size(self.alloc, &mut self.blocks, root)
     }
 
     /// Whether two chains are equal, but for handles and user IDs.
     pub fn chain_equal(&mut self, first: VmHandle, second: VmHandle) -> Result<bool, Fault>
-        ensures step { (target : Bool) → Step false (machine_of target self.old) (Some (commands.ChainEqual first second)) (reply_by AreEqual result) (machine_of target self.old) }
-        ensures stays { self.new ≡ self.old }
+        ensures keeps { KeepsSession S.facts self.old self.new }
+        ensures step { IsStep S.facts self.old self.new (commands.ChainEqual first second) (reply_by AreEqual result) }
+        ensures value { IsSteady S.facts self.old.disk.store → LooksUp (Lacks S.facts self.old.disk.store self.new.disk.store) (commands.ChainEqual first second) self.new.document (reply_by AreEqual result) }
+        ensures refusals { IfErr result (IsWalkRefusal (Lacks S.facts self.old.disk.store self.new.disk.store)) }
     {
         look_ups::chain_equal(self.alloc, &mut self.blocks, first, second)
     }

@@ -1,6 +1,5 @@
 -- Blocks that are put in or taken out one after another.
-use Rattle.std.proofs.Common.{◌≡◌, ◌≢◌, ℕ, List, [], ◌∷◌, true, map, get_or, Option, Some, None, is_some, nat_cmp, refl, sym, ap, subst, ◌∙◌, arith}
-use Rattle.std.proofs.lemmas.Bool.{true≢false}
+use Rattle.std.proofs.Common.{◌≡◌, ◌≢◌, ℕ, List, [], ◌∷◌, true, map, get_or, Some, None, nat_cmp, refl, sym, ap, subst, ◌∙◌, arith}
 use Rattle.std.proofs.lemmas.List.{length-map, get_or-map}
 use Rattle.std.proofs.lemmas.List.Elements.{All-nil, All-cons, All-head, All-tail}
 use Rattle.std.specs.List.{All, Contains}
@@ -12,12 +11,10 @@ use Rattle.geos_model.proofs.Chains.{contains_first, contains_later}
 use Rattle.geos_model.proofs.HeapEdits.{get-taken_same}
 use Rattle.geos_model.proofs.Validity.{without_block-valid}
 use Rattle.vm_blocks.proofs.MapLemmas.{put_taken, taken_put, put_past_taken}
-use Rattle.vm_blocks.specs.Blocks.{block_of}
 use Rattle.vm_blocks.specs.Saved.{saved_block}
-use Rattle.vm_blocks.specs.Members.{ready_blocks, saved_blocks}
+use Rattle.vm_blocks.specs.Members.{saved_blocks}
 use Rattle.vm_blocks.specs.Changes.{AreFree, CanAllGo, IsFree}
 use Rattle.vm_blocks.specs.Preparing.{CanLeave}
-use Rattle.vm_blocks.specs.declared.prepared.Incoming.{Incoming}
 use Rattle.vm_blocks.specs.declared.member.Member.{Member}
 
 -- What holds of each of a list that is made of another.
@@ -96,24 +93,16 @@ out_and_in d (p ∷ ps) there once =
 
 -- What can come in or go does so under a VM handle, and what goes isn't the map block.
 
-pub ready_handles : (d : Document) (ready : List Incoming) → AreFree d (handles_of (ready_blocks ready)) → All (λ p. is_vm_handle p.handle.0 ≡ true) ready
-ready_handles d ready are =
-    let ps : List (ℕ × Block) = ready_blocks ready in
-    All-from_map (λ p. is_vm_handle p.0 ≡ true) (λ p. (p.handle.0, block_of p.block)) ready (λ i p within. (All-from_map (IsFree d) (λ p. p.0) ps are.free i p within).handle)
+pub in_handles : (d : Document) (ms : List Member) → AreFree d (handles_of (saved_blocks ms)) → All (λ m. IsFree d m.handle.0) ms
+in_handles d ms are =
+    All-from_map (λ p. IsFree d p.0) (λ m. (m.handle.0, saved_block m.block)) ms (All-from_map (IsFree d) (λ p. p.0) (saved_blocks ms) are.free)
 
 pub out_handles : (d : Document) → IsValid d → (ps : List (ℕ × Block)) → CanAllGo d ps → All (λ p. is_vm_handle p.0 ≡ true) ps
 out_handles d valid ps can = λ i p within. (valid.blocks (get_or ps i p).0 (get_or ps i p).1 (can.go i p within).stands).handle
 
-module _ (d : Document) (valid : IsValid d) (ms : List Member) (can : CanLeave d (handles_of (saved_blocks ms))) where
+module _ (d : Document) (ms : List Member) (can : CanLeave d (handles_of (saved_blocks ms))) where
   each_leaves : (P : ℕ → Type 0) → All P (handles_of (saved_blocks ms)) → All (λ m. P m.handle.0) ms
   each_leaves P all = All-from_map (λ p. P p.0) (λ m. (m.handle.0, saved_block m.block)) ms (All-from_map P (λ p. p.0) (saved_blocks ms) all)
-
-  pub leaving_handles : All (λ m. is_vm_handle m.handle.0 ≡ true) ms
-  leaving_handles = each_leaves (λ h. is_vm_handle h ≡ true) (λ i h within. live_handle (get_or (handles_of (saved_blocks ms)) i h) (get d.blocks _) refl (can.live i h within))
-    where
-      live_handle : (h : ℕ) (o : Option Block) → get d.blocks h ≡ o → is_some o ≡ true → is_vm_handle h ≡ true
-      live_handle h None is live = absurd (true≢false (sym live))
-      live_handle h (Some block) is live = (valid.blocks h block is).handle
 
   pub leaving_others : All (λ m. d.map_block ≢ m.handle.0) ms
   leaving_others = each_leaves (λ h. d.map_block ≢ h) can.others

@@ -1,8 +1,8 @@
 -- What is known of a change by handles alone, and what its body has to have.
 use Rattle.std.proofs.Common.{◌≡◌, ◌≢◌, ◌⊎◌, ℕ, Bool, true, false, List, [], ◌∷◌, Option, Some, None, is_some, inl, inr, refl, sym, ap, subst, ◌∙◌}
-use Rattle.std.specs.Prelude.{unwrap_or, Result, Ok, Err, IfOk, IfErr}
+use Rattle.std.specs.Prelude.{unwrap_or, Result, Ok, Err, IfErr, OnOk}
 use Rattle.std.specs.Option.{option_map, option_map_or}
-use Rattle.std.proofs.lemmas.Bool.{cases_eq, true≢false}
+use Rattle.std.proofs.lemmas.Bool.{and_parts, cases_eq, true≢false}
 use Rattle.std.proofs.lemmas.List.Elements.{All-map}
 use Rattle.std.specs.FinMap.{get}
 use Rattle.geos_model.specs.Document.{Block, Document, block_at, is_live, with_block, without_block, with_blocks, without_blocks, with_user_id, handles_of}
@@ -12,18 +12,22 @@ use Rattle.geos_model.proofs.HeapEdits.{get-put_same, get-put_other, get-taken_s
 use Rattle.geos_model.specs.declared.fault.Fault.{Fault}
 use Rattle.geos_model.specs.declared.fault.Fault.TheVariants.{Memory, NoBlock}
 use Rattle.vm_store.specs.Facts.{StoreFacts}
-use Rattle.vm_file.specs.Disk.{FileState, Drifts}
+use Rattle.vm_file.specs.Disk.{Drifts}
+use Rattle.block_cache.specs.State.{CacheState, is_resident}
 use Rattle.vm_blocks.specs.Members.{saved_blocks}
-use Rattle.vm_blocks.specs.Changes.{made, part_made, Applies, PartApplies, CanAllGo, IsFor}
-use Rattle.vm_blocks.specs.Keeping.{Keeps, IsSteady, Lacks}
+use Rattle.vm_blocks.specs.Changes.{turned, turned_part, made, part_made, Applies, PartApplies, CanAllGo}
+use Rattle.vm_blocks.specs.Keeping.{Keeps, IsSteady, Lacks, is_loaded}
 use Rattle.vm_blocks.specs.Parts.{Takes}
-use Rattle.vm_blocks.specs.Preparing.{CanLeave, Listed, BodyTakes, IsAtHand, IsReady, IsUnready, AllListed, HalvesLaw, ListedLaw}
-use Rattle.vm_blocks.specs.declared.prepared.Prepared.{Prepared}
+use Rattle.vm_blocks.specs.Preparing.{CanLeave, Listed, BodyTakes, IsAtHand, IsReady, IsUnready, Makes, AllListed, HalvesLaw, ListedLaw}
 use Rattle.vm_blocks.specs.declared.change.Change.{Change}
 use Rattle.vm_blocks.specs.declared.change.Change.TheVariants as changes
+use Rattle.geos_model.specs.declared.handle.VmHandle.{VmHandle}
+use Rattle.vm_blocks.specs.declared.change.Direction.{Direction}
+use Rattle.vm_blocks.specs.declared.change.Direction.TheVariants.{Forwards, Backwards}
 use Rattle.vm_blocks.specs.declared.change.PartChange.{PartChange}
 use Rattle.vm_blocks.specs.declared.change.PartChange.TheVariants as parts
-use Rattle.vm_blocks.proofs.KeepingLaws.{keeps-drifts, keeps-same, lacks-memory}
+use Rattle.vm_blocks.proofs.KeepingLaws.{keeps-drifts, keeps-frames, keeps-passes, keeps-same, lacks-memory}
+use Rattle.vm_blocks.proofs.Residents.{both}
 use Rattle.vm_blocks.proofs.PartLemmas.{part_live, part_takes}
 
 some_block : (o : Option Block) → is_some o ≡ true → (block : Block) × (o ≡ Some block)
@@ -56,7 +60,7 @@ pub halves : HalvesLaw
 halves (changes.BlocksIn ms) d applies = (applies, tt)
 halves (changes.BlocksOut ms) d applies = (can_leave d (saved_blocks ms.list.items) applies, tt)
 halves (changes.Part b part) d applies = (part_live b.0 part d applies, part_body b.0 part d applies)
-halves (changes.UserId b old new) d applies = (applies, tt)
+halves (changes.UserId b old new) d applies = (applies.live, tt)
 halves (changes.Map old new) d applies = (applies, tt)
 
 pub applies_listed : (c : Change) (d : Document) → Applies c d → Listed c d
@@ -152,7 +156,7 @@ listed_alike (changes.BlocksOut ms) a b drifts can = record {
   distinct = can.distinct;
 }
 listed_alike (changes.Part h part) a b drifts live = drifts.live h.0 ∙ live
-listed_alike (changes.UserId h old new) a b drifts has = record { live = drifts.live h.0 ∙ has.live; stands = drifts.user_ids h.0 ∙ has.stands; word = has.word }
+listed_alike (changes.UserId h old new) a b drifts live = drifts.live h.0 ∙ live
 listed_alike (changes.Map old new) a b drifts has = record { stands = drifts.map_block ∙ has.stands; live = λ some. drifts.live new.0 ∙ has.live some }
 
 all_listed_alike : (cs : List Change) (a b : Document) → Alike a b → AllListed cs a → AllListed cs b
@@ -165,13 +169,48 @@ listed_on c honest old new drifts listed = listed_alike c old new (alike honest 
 pub all_listed_on : ListedLaw
 all_listed_on honest cs old new drifts listed = all_listed_alike cs old new (alike honest old new drifts) listed
 
--- What a call of `prepare` leaves.
+pub turned_of_part : (direction : Direction) (h : VmHandle) (p : PartChange) → turned direction (changes.Part h p) ≡ changes.Part h (turned_part direction p)
+turned_of_part Forwards h p = refl
+turned_of_part Backwards h p = refl
 
-body_of_option : (o : Option Block) (body : Body) → option_map (λ x. x.body) o ≡ Some body → (unwrap_or o (record { user_id = 0; body = Raw [] })).body ≡ body
+-- What a call that makes a change ready leaves, and one that makes it.
+
+pub body_of_option : (o : Option Block) (body : Body) → option_map (λ x. x.body) o ≡ Some body → (unwrap_or o (record { user_id = 0; body = Raw [] })).body ≡ body
 body_of_option None body is = absurd (cc is)
 body_of_option (Some block) body is = cc is
 
-module _ {S : Type 0} (facts : S → StoreFacts) (old new : FileState S) (keeps : Keeps facts old new) where
+pub takes_body : (d : Document) (h : ℕ) (p : PartChange) (body : Body) → option_map (λ x. x.body) (get d.blocks h) ≡ Some body → Takes p (block_at d h).body → Takes p body
+takes_body d h p body is takes = subst (Takes p) (body_of_option (get d.blocks h) body is) takes
+
+-- a block that was put is there
+part_live_made : (h : ℕ) (p : PartChange) (d : Document) → is_live (part_made h p d) h ≡ true
+part_live_made h (parts.Raw s) d = ap is_some (get-put_same d.blocks h _ h refl)
+part_live_made h (parts.Chunk c s) d = ap is_some (get-put_same d.blocks h _ h refl)
+part_live_made h (parts.ChunkIn c content) d = ap is_some (get-put_same d.blocks h _ h refl)
+part_live_made h (parts.ChunkOut c content) d = ap is_some (get-put_same d.blocks h _ h refl)
+
+pub made_on : (c : Change) (honest : Bool) (old new : Document) → Drifts honest old new → Drifts honest (made c old) (made c new)
+made_on c honest old new drifts = let same = made_alike c old new (alike honest old new drifts) in record {
+  live = same.live;
+  user_ids = same.user_ids;
+  map_block = same.map_block;
+  same = λ so. ap (made c) (drifts.same so);
+}
+
+abbrev pub with_document : {S : Type 0} → CacheState S → Document → CacheState S
+with_document state d = record state { document = d }
+
+-- the block whose body was changed is still in memory
+pub at_hand_made : {S : Type 0} (c : Change) (state : CacheState S) → IsAtHand c state → IsAtHand c (with_document state (made c state.document))
+unfolding is_loaded
+at_hand_made (changes.BlocksIn ms) state at_hand = tt
+at_hand_made (changes.BlocksOut ms) state at_hand = tt
+at_hand_made (changes.Part b part) state at_hand =
+    both _ _ (and_parts (is_resident state.resident b.0) (is_live state.document b.0) at_hand).0 (part_live_made b.0 part state.document)
+at_hand_made (changes.UserId b old new) state at_hand = tt
+at_hand_made (changes.Map old new) state at_hand = tt
+
+module _ {S : Type 0} (facts : S → StoreFacts) (old new : CacheState S) (keeps : Keeps facts old new) where
   -- a block that was live wasn't refused for want of one
   pub lacks_alone : {A : Type 0} (h : ℕ) (result : Result A Fault) → is_live old.document h ≡ true
       → IfErr result (λ fault. Lacks facts old.disk.store new.disk.store fault ⊎ ((fault ≡ NoBlock) × (is_live new.document h ≡ false))) → IfErr result (Lacks facts old.disk.store new.disk.store)
@@ -181,23 +220,35 @@ module _ {S : Type 0} (facts : S → StoreFacts) (old new : FileState S) (keeps 
     | inr dead ↦ absurd (true≢false (sym live ∙ (sym ((keeps-drifts facts old new keeps).live h) ∙ dead.1)))
   ]
 
-  -- a body that doesn't take a change of a part, so that the change didn't apply
-  pub unfit : (h : ℕ) (p : PartChange) (body : Body) → option_map (λ x. x.body) (get new.document.blocks h) ≡ Some body → (Takes p body → ⊥) → IsSteady facts old.disk.store → PartApplies h p old.document → ⊥
-  unfit h p body is refuses steady applies =
-      let now : PartApplies h p new.document = subst (λ (d : Document). PartApplies h p d) (sym (keeps-same facts old new keeps steady)) applies in
-      refuses (subst (Takes p) (body_of_option (get new.document.blocks h) body is) (part_body h p new.document now))
+  -- a body that doesn't take a change of a part, so that the one before didn't
+  pub unfit : (h : ℕ) (p : PartChange) (body : Body) → option_map (λ x. x.body) (get new.document.blocks h) ≡ Some body → (Takes p body → ⊥) → IsSteady facts old.disk.store → Takes p (block_at old.document h).body → ⊥
+  unfit h p body is refuses steady takes =
+      let now : Takes p (block_at new.document h).body = subst (λ (d : Document). Takes p (block_at d h).body) (sym (keeps-same facts old new keeps steady)) takes in
+      refuses (subst (Takes p) (body_of_option (get new.document.blocks h) body is) now)
+
+  -- it wasn't tested otherwise before
+  pub fit : (h : ℕ) (p : PartChange) (body : Body) → option_map (λ x. x.body) (get new.document.blocks h) ≡ Some body → Takes p body → Takes p (block_at new.document h).body
+  fit h p body is takes = subst (Takes p) (sym (body_of_option (get new.document.blocks h) body is)) takes
+
+  pub ready_part : {A : Type 0} (h : VmHandle) (p : PartChange) (result : Result A Fault) → is_live old.document h.0 ≡ true
+      → OnOk result (is_loaded new h.0 ≡ true) → OnOk result (Takes p (block_at new.document h.0).body) → OnOk result (IsReady (changes.Part h p) new)
+  ready_part h p (Ok done) live loaded takes = record { listed = (keeps-drifts facts old new keeps).live h.0 ∙ live; takes = takes; at_hand = loaded }
+  ready_part h p (Err fault) live loaded takes = tt
 
   module _ (c : Change) where
-    pub ready : (result : Result Prepared Fault) → Listed c old.document → IsAtHand c new → BodyTakes c new.document → IfOk result (λ prepared. IsFor prepared c) → IfOk result (λ prepared. IsReady prepared c new)
-    ready (Ok prepared) listed at_hand takes incoming = record {
-      listed = listed_on c (facts old.disk.store).honest old.document new.document (keeps-drifts facts old new keeps) listed;
-      takes = takes;
-      at_hand = at_hand;
-      incoming = incoming;
-    }
-    ready (Err fault) listed at_hand takes incoming = tt
+    pub listed_still : Listed c old.document → Listed c new.document
+    listed_still listed = listed_on c (facts old.disk.store).honest old.document new.document (keeps-drifts facts old new keeps) listed
 
     -- memory was wanting
-    pub unready : (result : Result Prepared Fault) → IfErr result (λ fault. fault ≡ Memory) → IfErr result (IsUnready facts c old new)
-    unready (Ok prepared) memory = tt
+    pub unready : {A : Type 0} (result : Result A Fault) → IfErr result (λ fault. fault ≡ Memory) → IfErr result (IsUnready facts c old new)
+    unready (Ok done) memory = tt
     unready (Err fault) memory = inl (subst (Lacks facts old.disk.store new.disk.store) (sym memory) (lacks-memory facts old.disk.store new.disk.store))
+
+    -- what was made ready is carried out
+    pub makes : (made_one : CacheState S) → IsAtHand c new → made_one ≡ with_document new (made c new.document) → Makes facts c old made_one
+    makes made_one at_hand is = subst (Makes facts c old) (sym is) (record {
+      passes = keeps-passes facts old new keeps;
+      document = made_on c (facts old.disk.store).honest old.document new.document (keeps-drifts facts old new keeps);
+      at_hand = at_hand_made c new at_hand;
+      frames = keeps-frames facts old new keeps;
+    })

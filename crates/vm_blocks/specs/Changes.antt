@@ -1,18 +1,16 @@
 -- What a change makes of a document, the same change the other way round, and in which documents it can be made.
 use Rattle.std.specs.Prelude.{◌≡◌, ◌≢◌, ◌≤◌, ◌<◌, ◌+◌, ℕ, List, [], true, Some, None, length, replicate}
-use Rattle.std.specs.List.{All, sum_by}
+use Rattle.std.specs.List.{All}
 use Rattle.std.specs.FinMap.{get, contains_key}
 use Rattle.geos_model.specs.Heap.{capacity, fits_with, is_chunk_handle}
 use Rattle.geos_model.specs.Document.{Block, Document, IsValid, is_vm_handle, is_live, is_heap, is_raw, chunks_of, raw_bytes_of, user_id_of, with_body, with_user_id, with_blocks, handles_of, without_blocks}
 use Rattle.geos_model.specs.ElementArray.{all_distinct}
 use Rattle.geos_model.specs.Meaning.{chunk_at, with_chunk, without_chunk}
-use Rattle.geos_model.specs.declared.command.Body.{Body}
-use Rattle.geos_model.specs.declared.command.Body.TheVariants.{Raw, Heap}
+use Rattle.geos_model.specs.declared.command.Body.TheVariants.{Raw}
 use Rattle.chunk_edits.specs.Splicing.{Stands, forwards}
 use Rattle.chunk_edits.specs.declared.splice.Splice.{Splice}
 use Rattle.geos_model.specs.Cost.{images_length}
-use Rattle.vm_blocks.specs.Members.{saved_blocks, ready_blocks}
-use Rattle.vm_blocks.specs.declared.prepared.Prepared.{Prepared}
+use Rattle.vm_blocks.specs.Members.{saved_blocks}
 use Rattle.vm_blocks.specs.declared.change.Change.{Change}
 use Rattle.vm_blocks.specs.declared.change.Change.TheVariants as changes
 use Rattle.vm_blocks.specs.declared.change.PartChange.{PartChange}
@@ -159,10 +157,6 @@ blocks_in (changes.BlocksOut ms) = []
 blocks_in (changes.Part b part) = []
 blocks_in (changes.UserId b old new) = []
 blocks_in (changes.Map old new) = []
-
--- it was prepared for this change
-abbrev pub IsFor : Prepared → Change → Type 0
-IsFor prepared change = ready_blocks prepared.incoming.items ≡ blocks_in change
 
 -- How many content bytes a change holds.
 

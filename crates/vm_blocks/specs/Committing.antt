@@ -1,41 +1,18 @@
--- What the commits of the blocks of a file are told in.
-use Rattle.std.specs.Prelude.{◌≡◌, ◌⊎◌, ◌&&◌, ℕ, Bool, IsTrue, Ok, Err}
-use Rattle.geos_model.specs.Document.{Document, is_live}
+-- What a revert and a save-as are told in, the latter as of a cache.
+use Rattle.std.specs.Prelude.{◌⊎◌, Bool}
+use Rattle.vm_store.specs.Facts.{StoreFacts}
 use Rattle.geos_model.specs.declared.fault.Fault.{Fault}
-use Rattle.geos_model.specs.declared.fault.Fault.TheVariants.{File, Damaged, Worn}
-use Rattle.vm_store.specs.Facts.{StoreFacts, Raised}
-use Rattle.vm_file.specs.Calls.{IsCommitRefusal}
-use Rattle.vm_file.specs.Disk.{Disk, FileState, Commits, Drifts, Passes}
-use Rattle.vm_file.specs.Effects.{Follows, IsNewFile, IsWorn, IsDamage}
-
--- a file with another document than its own
-abbrev pub held : {S : Type 0} → FileState S → Document → FileState S
-held file d = record { disk = file.disk; document = d }
+use Rattle.vm_file.specs.Disk.{FileState}
+use Rattle.vm_file.specs.Effects.{IsWorn, IsDamage}
+use Rattle.block_cache.specs.SavingAs as saving
 
 -- what a revert may be refused for beside want of memory and a store that failed: a number that can't rise, or bytes that are no image,
 -- which an honest store never gives
 abbrev pub IsRevertFault : Bool → Fault → Type 0
 IsRevertFault honest fault = IsWorn fault ⊎ IsDamage honest fault
 
--- A save-as that was accepted: the file so far has committed its saved document, and its store came back; the target is a new file, with
--- the handles of the document, over two honest stores of the document itself, and takes the file's place.
-pub record IsSavedAs {S : Type 0} (facts : S → StoreFacts) (target store : S) (old new : FileState S) : Type 0 where
-  pub reverted : (disk : Disk S) × (disk.store ≡ store) × Commits facts (old.disk.saved, old.disk.saved) old.disk disk (Ok tt)
-  pub new_file : IsNewFile facts new.disk.updated new.disk
-  pub made : IsTrue (facts old.disk.store).honest → IsTrue (facts target).honest → (new.disk.updated ≡ old.document) × (new.disk.saved ≡ old.document)
-  pub live : (h : ℕ) → is_live new.disk.updated h ≡ is_live old.document h
-  pub follows : Follows facts target new.disk.store
-  pub document : Drifts ((facts old.disk.store).honest && (facts target).honest) old.document new.document
+abbrev pub IsSavedAs : {S : Type 0} → (S → StoreFacts) → S → S → FileState S → FileState S → Type 0
+IsSavedAs facts target store old new = saving.IsSavedAs facts target store old new
 
--- A save-as that was refused: the file stays in its place, and the target comes back; unless the file's own store failed nothing was
--- committed in it, and where its number can't rise nothing was done at all.
-pub record IsNotSavedAs {S : Type 0} (facts : S → StoreFacts) (target store : S) (old new : FileState S) (fault : Fault) : Type 0 where
-  pub commits : Commits facts (old.disk.saved, old.disk.saved) old.disk new.disk (Err fault)
-  pub passes : (fault ≡ File → Raised (facts old.disk.store) (facts new.disk.store) → ⊥) → Passes facts old.disk new.disk
-  pub follows : Follows facts target store
-  pub document : Drifts (facts old.disk.store).honest old.document new.document
-  pub early : fault ≡ Worn → (new ≡ old) × (store ≡ target)
-  -- a store failed in this very call; bytes that are no image never come from an honest store
-  pub file : fault ≡ File → Raised (facts old.disk.store) (facts new.disk.store) ⊎ Raised (facts target) (facts store)
-  pub damaged : fault ≡ Damaged → IsTrue (facts old.disk.store).honest → ⊥
-  pub faults : IsCommitRefusal fault ⊎ (fault ≡ Damaged)
+abbrev pub IsNotSavedAs : {S : Type 0} → (S → StoreFacts) → S → S → FileState S → FileState S → Fault → Type 0
+IsNotSavedAs facts target store old new fault = saving.IsNotSavedAs facts target store old new fault

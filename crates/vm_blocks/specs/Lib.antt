@@ -1,14 +1,10 @@
-pub mod Bodies
-pub mod Blocks
 pub mod Members
 pub mod Allowing
 pub mod Changes
 pub mod Parts
 pub mod Saved
-pub mod InFile
-pub mod Reading
-pub mod Marking
 pub mod Committing
 pub mod Opening
 pub mod Keeping
 pub mod Preparing
+pub mod Sound

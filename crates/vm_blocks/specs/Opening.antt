@@ -1,47 +1,17 @@
--- What opening a document file gives, and making a new one.
-use Rattle.std.specs.Prelude.{◌≡◌, ◌≢◌, ◌⊎◌, IsTrue, [], Some, Ok, Err, length}
-use Rattle.geos_model.specs.Document.{empty_document}
-use Rattle.geos_model.specs.File.{stands}
+-- What opening a document file is told in, and making a new one, as of a cache.
+use Rattle.vm_store.specs.Facts.{StoreFacts}
 use Rattle.geos_model.specs.declared.fault.Fault.{Fault}
-use Rattle.geos_model.specs.declared.fault.Fault.TheVariants.{File}
-use Rattle.vm_store.specs.Facts.{StoreFacts, Raised, Rests}
-use Rattle.vm_file.specs.Calls.{IsSupply, IsOpenRefusal}
-use Rattle.vm_file.specs.Disk.{FileState, IsSettled, Numbered}
-use Rattle.vm_file.specs.Documents.{sequence_in}
-use Rattle.vm_file.specs.Effects.{Follows, IsNewFile}
-use Rattle.vm_file.specs.Making.{first_file}
+use Rattle.vm_file.specs.Disk.{FileState}
+use Rattle.block_cache.specs.Opening as opening
 
--- A file that was opened. Over an honest store nothing was written, and it has the documents that the bytes stand for, the updated one as
--- it is now, under the number of the slot that counts, all of which is on the disk from then on; over another nothing is said of them.
-pub record IsOpenedFrom {S : Type 0} (facts : S → StoreFacts) (store : S) (file : FileState S) : Type 0 where
-  pub follows : Follows facts store file.disk.store
-  pub rests : IsTrue (facts store).honest → Rests (facts store) (facts file.disk.store)
-  pub documents : IsTrue (facts store).honest → stands (facts store).content ≡ Ok (file.disk.updated, file.disk.saved)
-  pub now : IsTrue (facts store).honest → (file.document ≡ file.disk.updated) × (file.disk.attempted ≡ [])
-  pub sequence : IsTrue (facts store).honest → sequence_in (facts store).content ≡ Some file.disk.sequence
-  pub numbered : IsTrue (facts store).honest → Numbered (facts file.disk.store) file.disk.sequence
-  pub settled : IsSettled facts file.disk
+abbrev pub IsOpenedFrom : {S : Type 0} → (S → StoreFacts) → S → FileState S → Type 0
+IsOpenedFrom facts store file = opening.IsOpenedFrom facts store file
 
--- None was opened, and the store comes back. Over an honest one nothing was written, and the refusal is the one that the bytes stand for,
--- or memory or the store failed.
-pub record IsNotOpened {S : Type 0} (facts : S → StoreFacts) (store back : S) (fault : Fault) : Type 0 where
-  pub follows : Follows facts store back
-  pub rests : IsTrue (facts store).honest → Rests (facts store) (facts back)
-  pub refused : IsTrue (facts store).honest → IsSupply fault ⊎ (stands (facts store).content ≡ Err fault)
-  pub file : fault ≡ File → Raised (facts store) (facts back)
-  pub faults : IsOpenRefusal fault
+abbrev pub IsNotOpened : {S : Type 0} → (S → StoreFacts) → S → S → Fault → Type 0
+IsNotOpened facts store back fault = opening.IsNotOpened facts store back fault
 
--- A new file of the empty document, in an honest store just the slots and a directory of no block.
-pub record IsMadeIn {S : Type 0} (facts : S → StoreFacts) (store : S) (file : FileState S) : Type 0 where
-  pub follows : Follows facts store file.disk.store
-  pub document : file.document ≡ empty_document
-  pub new_file : IsNewFile facts empty_document file.disk
-  pub bytes : IsTrue (facts store).honest → (facts file.disk.store).content ≡ first_file
-  pub size : IsTrue (facts store).honest → length (facts file.disk.store).content ≡ 1040
+abbrev pub IsMadeIn : {S : Type 0} → (S → StoreFacts) → S → FileState S → Type 0
+IsMadeIn facts store file = opening.IsMadeIn facts store file
 
--- None was made, and the store comes back: as it was where memory ran out.
-pub record IsNotMade {S : Type 0} (facts : S → StoreFacts) (store back : S) (fault : Fault) : Type 0 where
-  pub follows : Follows facts store back
-  pub early : fault ≢ File → back ≡ store
-  pub file : fault ≡ File → Raised (facts store) (facts back)
-  pub faults : IsSupply fault
+abbrev pub IsNotMade : {S : Type 0} → (S → StoreFacts) → S → S → Fault → Type 0
+IsNotMade facts store back fault = opening.IsNotMade facts store back fault

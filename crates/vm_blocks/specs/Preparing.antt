@@ -1,18 +1,18 @@
--- What carrying a change out needs. Half of what lets a change be made is known by handles, user IDs and the map block alone, over any
--- store; the other half is what the body of a block has, which can be tested while the block is in memory.
-use Rattle.std.specs.Prelude.{◌≡◌, ◌≢◌, ◌⊎◌, ℕ, Bool, List, [], ◌∷◌, true}
+-- What making a change needs, and what it leaves. Half of what lets a change be made is known by handles, user IDs and the map block
+-- alone, over any store; the other half is what the body of a block has, which can be tested while the block is in memory.
+use Rattle.std.specs.Prelude.{◌≡◌, ◌≢◌, ◌⊎◌, ℕ, Bool, List, [], ◌∷◌, true, Result, IsOk, IfErr, OnOk, OnErr}
 use Rattle.std.specs.List.{All}
 use Rattle.geos_model.specs.Document.{Document, block_at, is_live, handles_of}
 use Rattle.geos_model.specs.ElementArray.{all_distinct}
 use Rattle.geos_model.specs.declared.fault.Fault.{Fault}
 use Rattle.geos_model.specs.declared.fault.Fault.TheVariants.{Damaged}
 use Rattle.vm_store.specs.Facts.{StoreFacts}
-use Rattle.vm_file.specs.Disk.{FileState, Drifts}
-use Rattle.vm_blocks.specs.Changes.{made, Applies, AreFree, HasUserId, HasMap, IsFor}
-use Rattle.vm_blocks.specs.Keeping.{IsSteady, Lacks, is_loaded}
+use Rattle.vm_file.specs.Disk.{Drifts, Passes}
+use Rattle.block_cache.specs.State.{CacheState}
+use Rattle.vm_blocks.specs.Changes.{made, blocks_in, Applies, AreFree, HasMap}
+use Rattle.vm_blocks.specs.Keeping.{Keeps, IsSteady, Lacks, is_loaded}
 use Rattle.vm_blocks.specs.Members.{saved_blocks}
 use Rattle.vm_blocks.specs.Parts.{Takes}
-use Rattle.vm_blocks.specs.declared.prepared.Prepared.{Prepared}
 use Rattle.vm_blocks.specs.declared.change.Change.{Change}
 use Rattle.vm_blocks.specs.declared.change.Change.TheVariants as changes
 
@@ -27,7 +27,7 @@ abbrev pub Listed : Change → Document → Type 0
 Listed (changes.BlocksIn ms) d = AreFree d (handles_of (saved_blocks ms.list.items))
 Listed (changes.BlocksOut ms) d = CanLeave d (handles_of (saved_blocks ms.list.items))
 Listed (changes.Part b part) d = is_live d b.0 ≡ true
-Listed (changes.UserId b old new) d = HasUserId d b.0 old new
+Listed (changes.UserId b old new) d = is_live d b.0 ≡ true
 Listed (changes.Map old new) d = HasMap d old.0 new.0
 
 -- What is tested: the body takes the change of a part. No other change asks anything of a body.
@@ -39,25 +39,40 @@ BodyTakes (changes.UserId b old new) d = Unit {0}
 BodyTakes (changes.Map old new) d = Unit {0}
 
 -- the block whose body changes is in memory, if there is one
-abbrev pub IsAtHand : {S : Type 0} → Change → FileState S → Type 0
-IsAtHand (changes.BlocksIn ms) file = Unit {0}
-IsAtHand (changes.BlocksOut ms) file = Unit {0}
-IsAtHand (changes.Part b part) file = is_loaded file b.0 ≡ true
-IsAtHand (changes.UserId b old new) file = Unit {0}
-IsAtHand (changes.Map old new) file = Unit {0}
+abbrev pub IsAtHand : {S : Type 0} → Change → CacheState S → Type 0
+IsAtHand (changes.BlocksIn ms) state = Unit {0}
+IsAtHand (changes.BlocksOut ms) state = Unit {0}
+IsAtHand (changes.Part b part) state = is_loaded state b.0 ≡ true
+IsAtHand (changes.UserId b old new) state = Unit {0}
+IsAtHand (changes.Map old new) state = Unit {0}
 
--- What carrying a change out needs, and all of it: beside the two halves the block in memory, and the blocks that come in.
-pub record IsReady {S : Type 0} (prepared : Prepared) (change : Change) (file : FileState S) : Type 0 where
-  pub listed : Listed change file.document
-  pub takes : BodyTakes change file.document
-  pub at_hand : IsAtHand change file
-  pub incoming : IsFor prepared change
+-- It is known by handles, and its body, in memory, takes it: all but memory for blocks that come in.
+pub record IsReady {S : Type 0} (change : Change) (state : CacheState S) : Type 0 where
+  pub listed : Listed change state.document
+  pub takes : BodyTakes change state.document
+  pub at_hand : IsAtHand change state
 
--- Why a change can't be made ready: bringing the block into memory was refused; or its body doesn't take the change, which never is so of a
--- change that applies, over a store that gives back what it has.
-abbrev pub IsUnready : {S : Type 0} → (S → StoreFacts) → Change → FileState S → FileState S → Fault → Type 0
+-- A change was made: nothing was committed, and the document is the one that the change makes of the one before, as far as the store
+-- gives back what it has.
+pub record Makes {S : Type 0} (facts : S → StoreFacts) (change : Change) (old new : CacheState S) : Type 0 where
+  pub passes : Passes facts old.disk new.disk
+  pub document : Drifts (facts old.disk.store).honest (made change old.document) new.document
+  pub at_hand : IsAtHand change new
+  pub frames : new.frames ≡ old.frames
+
+-- Why a change isn't made: what bringing a block into memory, or blocks into the document, may be refused for; or the body doesn't take
+-- it, as it didn't before, if the store gives back what it has.
+abbrev pub IsUnready : {S : Type 0} → (S → StoreFacts) → Change → CacheState S → CacheState S → Fault → Type 0
 IsUnready facts change old new fault =
-    Lacks facts old.disk.store new.disk.store fault ⊎ ((fault ≡ Damaged) × (IsSteady facts old.disk.store → Applies change old.document → ⊥))
+    Lacks facts old.disk.store new.disk.store fault ⊎ ((fault ≡ Damaged) × (IsSteady facts old.disk.store → BodyTakes change old.document → ⊥))
+
+-- What a call leaves that makes a change or is refused. It is sure where no block comes in, and the one that changes is in memory and
+-- takes it: then the store isn't called, and over any store the document is the one that the change makes.
+pub record Turns {S : Type 0} (facts : S → StoreFacts) (change : Change) (old new : CacheState S) (result : Result (Unit {0}) Fault) : Type 0 where
+  pub ok : OnOk result (Makes facts change old new)
+  pub err : OnErr result (Keeps facts old new)
+  pub refusals : IfErr result (IsUnready facts change old new)
+  pub sure : blocks_in change ≡ [] → IsAtHand change old → BodyTakes change old.document → IsOk result × (new.disk ≡ old.disk) × (new.document ≡ made change old.document)
 
 -- A change that applies is one of the first kind, and its body takes it.
 abbrev pub HalvesLaw : Type 0

@@ -2,12 +2,11 @@ ghost use Rattle.std.specs.Prelude.{◌≡◌, ◌+◌, ◌≤◌, ◌↔◌, �
 ghost use Rattle.std.specs.FinMap.{get, insert, contains_key};
 ghost use Rattle.geos_model.specs.Heap.{chunk_bytes, fits_with, is_chunk_handle, is_heap_map};
 ghost use Rattle.geos_model.specs.declared.command.Body.TheVariants as bodies;
-ghost use Rattle.vm_blocks.specs.Bodies.{body_of};
+ghost use Rattle.block_cache.specs.Bodies.{body_of};
 ghost use Rattle.vm_blocks.specs.Allowing.{AllowsRaw, AllowsChunk, AllowsNewChunk};
 ghost use Rattle.vm_blocks.specs.Changes.{bytes_of, turned_part};
 ghost use Rattle.vm_blocks.specs.Parts.{Takes, RawTakes, HeapTakes, body_made};
 
-use crate::block::fill_chunk;
 use crate::{BlockBody, Content, Direction, PartChange};
 use chunk_edits::{apply, apply_back, apply_raw, apply_raw_back};
 use geos_model::ChunkHandle;
@@ -193,4 +192,13 @@ fn bring_in(heap: &mut Heap, chunk: ChunkHandle, content: &Content)
         Content::Bytes(bytes) => fill_chunk(heap, chunk, bytes.as_slice()),
         Content::Zeros(n) => heap.alloc_at(chunk, *n),
     }
+}
+
+/// A new chunk of these bytes, under a free handle.
+fn fill_chunk(heap: &mut Heap, chunk: ChunkHandle, bytes: &[u8])
+    requires { AllowsNewChunk heap.old.chunks chunk.0 bytes.now }
+    ensures { heap.new.chunks ≡ insert heap.old.chunks chunk.0 bytes.now }
+{
+    heap.alloc_at(chunk, bytes.len() as u32);
+    heap.write(chunk, 0, bytes);
 }

@@ -1,16 +1,24 @@
 ghost use Rattle.std.specs.Prelude.{◌≡◌, ◌≤◌, ◌<◌, ◌+◌, true, IfOk, length, replicate};
 ghost use Rattle.std.specs.FinMap.{empty};
-ghost use Rattle.geos_model.specs.Document.{is_valid_body, is_heap_body};
+ghost use Rattle.geos_model.specs.Document.{is_valid_body};
 ghost use Rattle.geos_model.specs.Heap.{capacity};
 ghost use Rattle.geos_model.specs.Image.{image};
 ghost use Rattle.geos_model.specs.declared.command.Body.TheVariants as bodies;
-ghost use Rattle.vm_blocks.specs.Blocks.{block_of};
-ghost use Rattle.vm_blocks.specs.Bodies.{body_of};
+ghost use Rattle.block_cache.specs.Bodies.{body_of};
 
-use crate::images::{image_of, restore};
-use crate::{Block, BlockBody};
+use crate::BlockBody;
 use std::alloc::{AllocError, Global};
 use vm_file::Image;
+
+// The image of a body.
+fn image_of(alloc: Global, body: &BlockBody) -> Result<Image, AllocError>
+    ensures { IfOk result (λ i. i ≡ body_of body.now) }
+{
+    match body {
+        BlockBody::Raw(raw) => Image::of_raw(alloc, raw.bytes()),
+        BlockBody::Heap(heap) => Image::of_heap(heap),
+    }
+}
 
 /// A block as it was, one that a document can have, with its body as a file keeps it.
 #[derive(Drop)]
@@ -55,11 +63,11 @@ impl SavedBlock {
         Ok(SavedBlock::new(user_id, Image::empty_heap(alloc)?))
     }
 
-    /// The block as it is now.
-    pub fn of(alloc: Global, block: &Block) -> Result<SavedBlock, AllocError>
-        ensures { IfOk result (λ saved. saved_block saved ≡ block_of block.now) }
+    /// A block with this body, as it is now.
+    pub fn of(alloc: Global, user_id: u16, body: &BlockBody) -> Result<SavedBlock, AllocError>
+        ensures { IfOk result (λ saved. saved_block saved ≡ record { user_id = user_id; body = body_of body.now }) }
     {
-        Ok(SavedBlock::new(block.user_id, image_of(alloc, &block.body)?))
+        Ok(SavedBlock::new(user_id, image_of(alloc, body)?))
     }
 
     /// How many bytes it holds: those of the image, at most 65,521.
@@ -68,13 +76,5 @@ impl SavedBlock {
         ensures small { result ≤ capacity + 1 }
     {
         self.image.as_slice().len()
-    }
-
-    /// The block as it was.
-    pub fn restore(&self, alloc: Global) -> Result<Block, AllocError>
-        ensures { IfOk result (λ block. block_of block ≡ saved_block self.now) }
-    {
-        let body = restore(alloc, &self.image)?;
-        Ok(Block::new(self.user_id, body))
     }
 }

@@ -1,30 +1,30 @@
 -- Blocks of a plan can come in or go.
-use Rattle.std.proofs.Common.{◌≡◌, ◌≢◌, Bool, ℕ, ◌≤◌, true, false, ◌==◌, List, [], length, get_or, Option, None, Some, is_none, is_some, unwrap_or, Result, Ok, Err, IfOk, MatchResult, length-take, refl, sym, ap, subst, ◌∙◌, arith}
+use Rattle.std.proofs.Common.{◌≡◌, ◌≢◌, Bool, ℕ, suc, ◌<◌, ◌≤◌, true, false, ◌==◌, List, [], length, get_or, Option, None, Some, is_none, is_some, unwrap_or, Result, Ok, Err, IfOk, length-take, refl, sym, ap, subst, ◌∙◌, arith}
 use Rattle.std.proofs.lemmas.Bool.{eq-eqb, true≢false}
 use Rattle.std.proofs.lemmas.List.{length-map}
 use Rattle.std.proofs.lemmas.List.Elements.{All-map, Contains-get_or}
 use Rattle.std.proofs.lemmas.List.Folds.{list_any_at}
-use Rattle.std.specs.List.{Contains, list_any, zip}
+use Rattle.std.specs.List.{Contains, list_any}
 use Rattle.std.specs.FinMap.{get}
-use Rattle.geos_model.specs.Chain.{blocks_of, chain, chain_blocks, free_conditions, free_handles, name_of, new_handles, relinked_block, renamed_blocks}
+use Rattle.geos_model.specs.Chain.{blocks_of, chain, chain_blocks, free_conditions, free_handles, new_handles}
 use Rattle.geos_model.specs.ElementArray.{all_distinct}
 use Rattle.geos_model.specs.Document.{Block, Document, block_at, handles_of, is_live}
 use Rattle.geos_model.specs.Refusal.{Conditions, first_refusal}
 use Rattle.geos_model.specs.declared.fault.Fault.{Fault}
-use Rattle.geos_model.specs.declared.fault.Fault.TheVariants.{BadChain, IsMap, Memory}
+use Rattle.geos_model.specs.declared.fault.Fault.TheVariants.{BadChain, IsMap}
 use Rattle.geos_model.proofs.Refusals.{none_applies, or_none}
 use Rattle.geos_model.proofs.Chains.{chain-members}
 use Rattle.geos_model.proofs.ChainCopies.{new-new}
 use Rattle.geos_model.proofs.ChainEdits.{blocks_of-handles}
-use Rattle.geos_model.proofs.CopiedChains.{named-handles}
 use Rattle.vm_blocks.specs.Members.{saved_blocks}
+use Rattle.vm_blocks.specs.Saved.{saved_block}
 use Rattle.vm_blocks.specs.Changes.{AreFree, CanAllGo, CanGo}
 use Rattle.vm_blocks.specs.declared.member.Members.{Members}
 use Rattle.geos_model.specs.declared.handle.VmHandle.{VmHandle}
 use Rattle.vm_chains.specs.Numbers.{numbers}
 use Rattle.vm_chains.specs.Answers.{Answers}
 use Rattle.vm_blocks.specs.Preparing.{CanLeave}
-use Rattle.vm_chains.specs.Walking.{AreBlocks}
+use Rattle.vm_chains.specs.Walking.{AreBlocks, BeginsWith}
 use Rattle.vm_file.specs.Disk.{Drifts}
 
 none_there : (o : Option Block) → is_some o ≡ false → o ≡ None
@@ -92,6 +92,15 @@ copy_applies honest d now n new (Err fault) drifts is enough handles = tt
 copy_applies honest d now n new (Ok plan) drifts is enough handles =
     let many : length (new_handles d n) ≡ length new = ap length (sym is) ∙ length-map new (λ h. h.0) in
     subst (AreFree now) (sym (handles ∙ is)) (free_stays honest d now (new_handles d n) drifts (new_free d n (omega (arith, many, enough))))
+
+pub copy_some : (root : ℕ) (hs new : List VmHandle) (result : Result Members Fault) → BeginsWith root (numbers hs) → length hs ≤ length new
+    → IfOk result (λ plan. handles_of (saved_blocks plan.list.items) ≡ numbers new) → IfOk result (λ plan. 0 < length plan.list.items)
+copy_some root hs new (Err fault) begins enough handles = tt
+copy_some root hs new (Ok plan) begins enough handles =
+    let met : suc (length begins.0) ≡ length hs = sym (ap length begins.1) ∙ length-map hs (λ h. h.0) in
+    let many : length plan.list.items ≡ length new =
+    sym (length-map plan.list.items (λ m. (m.handle.0, saved_block m.block))) ∙ sym (length-map (saved_blocks plan.list.items) (λ p. p.0)) ∙ ap length handles ∙ length-map new (λ h. h.0) in
+    omega (arith, met, many, enough)
 
 pub free_leaves : (honest : Bool) (d now : Document) (hs : List VmHandle) (result : Result Members Fault) → Drifts honest d now → AreBlocks d hs → list_any (λ h. h.0 == d.map_block) hs ≡ false
     → IfOk result (λ plan. handles_of (saved_blocks plan.list.items) ≡ numbers hs) → IfOk result (λ plan. CanLeave now (handles_of (saved_blocks plan.list.items)))

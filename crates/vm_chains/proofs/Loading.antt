@@ -1,19 +1,21 @@
 -- Calls that load blocks, in turn.
-use Rattle.std.proofs.Common.{◌≡◌, ◌⊎◌, ℕ, Bool, true, false, not, ◌&&◌, List, [], get_or, Option, Some, None, Result, Ok, Err, IfErr, IsErrAnd, MatchResult, refl, sym, ap, subst, ◌∙◌, inl, inr}
+use Rattle.std.proofs.Common.{◌≡◌, ◌⊎◌, ℕ, Bool, true, false, not, ◌&&◌, List, [], get_or, Option, Some, None, Result, Ok, Err, IfErr, IsErrAnd, MatchResult, unwrap_or, refl, sym, ap, subst, ◌∙◌, inl, inr}
 use Rattle.std.specs.Option.{option_map, option_map_or}
 use Rattle.std.proofs.lemmas.Bool.{true≢false}
 use Rattle.vm_store.specs.Facts.{StoreFacts}
 use Rattle.geos_model.specs.Chain.{is_linked}
 use Rattle.geos_model.specs.declared.command.Body.{Body}
+use Rattle.geos_model.specs.declared.command.Body.TheVariants.{Raw}
+use Rattle.std.specs.FinMap.{get}
 use Rattle.vm_chains.proofs.WalkLemmas.{and_false}
-use Rattle.geos_model.specs.Document.{Block, Document, bytes_of_body, is_heap_body, is_live}
+use Rattle.geos_model.specs.Document.{Block, Document, block_at, bytes_of_body, is_heap_body, is_live, user_id_of}
 use Rattle.geos_model.specs.declared.fault.Fault.{Fault}
 use Rattle.geos_model.specs.declared.fault.Fault.TheVariants.{Damaged, NoBlock}
 use Rattle.geos_model.specs.declared.handle.VmHandle.{VmHandle}
-use Rattle.vm_file.specs.Disk.{FileState}
+use Rattle.block_cache.specs.State.{CacheState}
 use Rattle.vm_blocks.specs.Keeping.{Keeps, IsSteady, Lacks}
 use Rattle.vm_blocks.proofs.KeepingLaws.{keeps-drifts, keeps-same, keeps-was_steady, lacks-damaged}
-use Rattle.vm_chains.specs.Walking.{AreBlocks, AreMembers}
+use Rattle.vm_chains.specs.Walking.{AreBlocks}
 
 -- the fault that `?` hands on
 pub carried : {A : Type 0} (result : Result A Fault) (fault : Fault) (P : A → Type 0) (Q : Fault → Type 0) → IsErrAnd result (λ e. e ≡ fault) → Q fault → MatchResult result P Q
@@ -41,7 +43,16 @@ unlinked_there (Some b) body e none =
     let same : b.body ≡ body = cc e in
     ap (λ (x : Body). not (is_heap_body x) && is_linked (bytes_of_body x)) same ∙ ap (λ (l : Bool). not (is_heap_body body) && l) none ∙ and_false (not (is_heap_body body))
 
-module _ {S : Type 0} (facts : S → StoreFacts) (a b : FileState S) (keeps : Keeps facts a b) where
+-- the block that stands under a handle, by what is read of it
+pub block_read : (d : Document) (h user_id : ℕ) (body : Body) → user_id ≡ user_id_of d h → option_map (λ b. b.body) (get d.blocks h) ≡ Some body → record { user_id = user_id; body = body } ≡ block_at d h
+block_read d h user_id body is read = by_block (get d.blocks h) is read
+  where
+    by_block : (o : Option Block) → user_id ≡ option_map_or (λ (b : Block). b.user_id) o 0 → option_map (λ (b : Block). b.body) o ≡ Some body
+        → record { user_id = user_id; body = body } ≡ unwrap_or o (record { user_id = 0; body = Raw [] })
+    by_block None same there = absurd (cc there)
+    by_block (Some b) same there = let has : body ≡ b.body = cc there in λ i. record { user_id = same i; body = has i }
+
+module _ {S : Type 0} (facts : S → StoreFacts) (a b : CacheState S) (keeps : Keeps facts a b) where
   -- What is known by handle stays.
 
   pub still_live : (h : ℕ) → is_live a.document h ≡ true → is_live b.document h ≡ true

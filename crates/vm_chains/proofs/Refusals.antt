@@ -1,5 +1,5 @@
 -- Which refusal of a call on a chain comes first.
-use Rattle.std.proofs.Common.{◌≡◌, ◌⊎◌, ℕ, List, [], ◌∷◌, Bool, true, false, not, cond, nat_lt, length, ◌==◌, ◌&&◌, ◌||◌, Option, Some, None, is_none, Result, Ok, Err, IfOk, IfErr, MatchResult, refl, sym, ap, subst, ◌∙◌, inl, inr}
+use Rattle.std.proofs.Common.{◌≡◌, ◌⊎◌, ℕ, List, [], ◌∷◌, Bool, true, false, not, cond, nat_lt, length, ◌==◌, ◌&&◌, ◌||◌, Option, Some, None, is_none, Result, Ok, Err, IfOk, IfErr, MatchResult, refl, sym, ap, ◌∙◌, inl, inr}
 use Rattle.std.proofs.lemmas.Bool.{and_parts, cond-true, cond-false, true≢false}
 use Rattle.std.specs.List.{list_any}
 use Rattle.geos_model.specs.Chain.{chain, chain_blocks, copy_conditions, free_conditions, free_handles, on_chain, on_chains}

@@ -1,5 +1,5 @@
 -- Steps of a walk along a chain.
-use Rattle.std.proofs.Common.{◌≡◌, ◌<◌, ◌≤◌, ◌+◌, ◌-◌, get_or, is_some, ℕ, zero, suc, List, [], ◌∷◌, ◌++◌, Bool, true, false, not, ◌==◌, ◌&&◌, ◌||◌, Option, Some, None, refl, sym, ap, subst, ◌∙◌, inl, inr, append_assoc, length, arith}
+use Rattle.std.proofs.Common.{◌≡◌, ◌⊎◌, ◌<◌, ◌≤◌, ◌+◌, ◌-◌, get_or, is_some, ℕ, zero, suc, List, [], ◌∷◌, ◌++◌, Bool, true, false, not, ◌==◌, ◌&&◌, ◌||◌, Option, Some, None, refl, sym, ap, subst, ◌∙◌, inl, inr, append_assoc, length, arith}
 use Rattle.std.proofs.lemmas.Bool.{cases_Bool, cond-true, cond-false, true≢false, and_parts, or_parts, or_from, or_left, or_right, not-true}
 use Rattle.std.proofs.lemmas.List.{append-nil, get_or-map, length-append, length-map, length_push}
 use Rattle.std.proofs.lemmas.List.Elements.{All-nil, All-push}
@@ -8,11 +8,11 @@ use Rattle.std.specs.List.{All, list_any}
 use Rattle.std.specs.FinMap.{get}
 use Rattle.std.specs.Option.{option_map, option_map_or, option_and_then}
 use Rattle.geos_model.specs.Chain.{blocks_from, chain, if_distinct, is_linked, is_member, links}
-use Rattle.geos_model.specs.Document.{Block, Document, IsValid, is_heap_body, is_live, is_raw, is_vm_handle, most_blocks, raw_bytes_of}
+use Rattle.geos_model.specs.Document.{Block, Document, is_heap_body, is_live, is_raw, is_vm_handle, most_blocks, raw_bytes_of}
 use Rattle.geos_model.specs.ElementArray.{all_distinct}
 use Rattle.geos_model.specs.declared.handle.VmHandle.{VmHandle}
 use Rattle.vm_chains.specs.Numbers.{numbers}
-use Rattle.vm_chains.specs.Walking.{AreBlocks, GoesOn, IsWalk}
+use Rattle.vm_chains.specs.Walking.{AreBlocks, BeginsWith, GoesOn, IsWalk}
 
 -- What the definition says of the next block that is pending.
 
@@ -149,14 +149,6 @@ member_raw d h member = (and_parts (is_raw d h) (is_linked (raw_bytes_of d h)) m
 pub member_live : (d : Document) (h : ℕ) → is_member d h ≡ true → is_live d h ≡ true
 member_live d h member = raw_live d h (member_raw d h member)
 
--- and has a handle that a block can have
-pub live_handle : (d : Document) (h : ℕ) → IsValid d → is_live d h ≡ true → is_vm_handle h ≡ true
-live_handle d h valid live = by_block (get d.blocks h) refl live
-  where
-    by_block : (o : Option Block) → get d.blocks h ≡ o → is_some o ≡ true → is_vm_handle h ≡ true
-    by_block None is e = absurd (cc e)
-    by_block (Some b) is e = (valid.blocks h b is).handle
-
 -- What is known of a walk over any store.
 
 -- live blocks, each once, where at most so many may still be met
@@ -185,13 +177,28 @@ one_met d n h met new are left live other is = subst (AreMet d (n - 1)) (sym is)
   few = omega (arith, left, are.few, length_push met h);
 })
 
-pub met_blocks : (d : Document) (n : ℕ) (hs : List VmHandle) → IsValid d → AreMet d n (numbers hs) → AreBlocks d hs
-met_blocks d n hs valid are =
+-- all of them have handles that a block can have
+pub met_blocks : (d : Document) (n : ℕ) (hs : List VmHandle) → ((h : ℕ) → is_live d h ≡ true → is_vm_handle h ≡ true) → AreMet d n (numbers hs) → AreBlocks d hs
+met_blocks d n hs can are =
     let many : length (numbers hs) ≡ length hs = length-map hs (λ (h : VmHandle). h.0) in
     let live : All (λ (h : VmHandle). is_live d h.0 ≡ true) hs = λ i h within. subst (λ (k : ℕ). is_live d k ≡ true) (get_or-map (λ (h : VmHandle). h.0) hs i h h.0 within) (are.live i h.0 (omega (arith, many, within))) in
     record {
       live = live;
-      handles = λ i h within. live_handle d (get_or hs i h).0 valid (live i h within);
+      handles = λ i h within. can (get_or hs i h).0 (live i h within);
       distinct = are.distinct;
       few = omega (arith, many, are.few);
     }
+
+-- The root is the first that was met; where nothing was, it alone is pending.
+abbrev pub RootFirst : ℕ → List ℕ → List ℕ → Type 0
+RootFirst root met pending = ((met ≡ []) × (pending ≡ root ∷ [])) ⊎ BeginsWith root met
+
+pub root_met : (root h : ℕ) (met pending hs new : List ℕ) → RootFirst root met pending → pending ≡ h ∷ hs → new ≡ met ++ h ∷ [] → BeginsWith root new
+root_met root h met pending hs new (inl first) next is =
+    let same : h ≡ root = let e : h ∷ hs ≡ root ∷ [] = sym next ∙ first.1 in cc e in
+    ([], is ∙ ap (λ (xs : List ℕ). xs ++ h ∷ []) first.0 ∙ ap (λ (k : ℕ). k ∷ []) same)
+root_met root h met pending hs new (inr begins) next is = (begins.0 ++ h ∷ [], is ∙ ap (λ (xs : List ℕ). xs ++ h ∷ []) begins.1)
+
+pub root_there : (root : ℕ) (met pending all : List ℕ) → RootFirst root met pending → pending ≡ [] → all ≡ met → BeginsWith root all
+root_there root met pending all (inl first) none same = let e : root ∷ [] ≡ [] = sym first.1 ∙ none in absurd (cc e)
+root_there root met pending all (inr begins) none same = (begins.0, same ∙ begins.1)

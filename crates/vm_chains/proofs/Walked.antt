@@ -1,5 +1,5 @@
 -- What is read of the blocks that a walk has met.
-use Rattle.std.proofs.Common.{◌≡◌, ◌⊎◌, ℕ, List, Some, None, Result, Ok, Err, IfOk, IfErr, sym, ap, subst, ◌∙◌, inl}
+use Rattle.std.proofs.Common.{◌≡◌, ◌⊎◌, ℕ, List, Some, None, Result, IfOk, IfErr, sym, ap, subst, ◌∙◌, inl}
 use Rattle.std.proofs.lemmas.Result.{IfErr-weaker}
 use Rattle.vm_store.specs.Facts.{StoreFacts}
 use Rattle.geos_model.specs.Chain.{chain, chain_blocks}
@@ -7,7 +7,7 @@ use Rattle.geos_model.specs.Document.{Document}
 use Rattle.geos_model.specs.Refusal.{Conditions, first_refusal}
 use Rattle.geos_model.specs.declared.fault.Fault.{Fault}
 use Rattle.geos_model.specs.declared.handle.VmHandle.{VmHandle}
-use Rattle.vm_file.specs.Disk.{FileState}
+use Rattle.block_cache.specs.State.{CacheState}
 use Rattle.vm_blocks.specs.Keeping.{Keeps, IsSteady, Lacks}
 use Rattle.vm_blocks.proofs.KeepingLaws.{keeps-same, keeps-steady, keeps-was_steady, lacks-later}
 use Rattle.vm_chains.specs.Answers.{Answers}
@@ -16,7 +16,7 @@ use Rattle.vm_chains.specs.Walking.{AreMembers}
 use Rattle.vm_chains.proofs.ChainLemmas.{blocks_are}
 use Rattle.vm_chains.proofs.Refusals.{answers}
 
-module _ {S : Type 0} (facts : S → StoreFacts) (a b e : FileState S) (walks : Keeps facts a b) (reads : Keeps facts b e) where
+module _ {S : Type 0} (facts : S → StoreFacts) (a b e : CacheState S) (walks : Keeps facts a b) (reads : Keeps facts b e) where
   -- a refusal of what is read
   pub refused_on : {A : Type 0} (other : Fault → Type 0) (result : Result A Fault) → IfErr result (Lacks facts b.disk.store e.disk.store) → IfErr result (λ fault. Lacks facts a.disk.store e.disk.store fault ⊎ other fault)
   refused_on other result refused = IfErr-weaker result (Lacks facts b.disk.store e.disk.store) (λ fault. Lacks facts a.disk.store e.disk.store fault ⊎ other fault) (λ fault lacks. inl (lacks-later facts a b e.disk.store fault walks lacks)) refused

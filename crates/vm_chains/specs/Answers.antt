@@ -15,3 +15,7 @@ Answers lacks conditions P result = MatchResult result (λ a. (first_refusal con
 -- a refusal of any call on a chain
 abbrev pub IsChainFault : Fault → Type 0
 IsChainFault fault = (fault ≡ NoBlock) ⊎ (fault ≡ WrongKind) ⊎ (fault ≡ BadChain)
+
+-- what a call that walks a chain is refused for, over any store
+abbrev pub IsWalkRefusal : (Fault → Type 0) → Fault → Type 0
+IsWalkRefusal lacks fault = lacks fault ⊎ IsChainFault fault

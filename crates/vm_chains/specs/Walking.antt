@@ -33,6 +33,10 @@ pub record IsWalk (d : Document) (root n : ℕ) (met pending : List ℕ) : Type 
   pub rest : blocks_from most_blocks d (root ∷ []) ≡ option_map (λ hs. met ++ hs) (blocks_from n d pending)
   pub distinct : all_distinct met ≡ true
 
+-- h is the first of these
+abbrev pub BeginsWith : ℕ → List ℕ → Type 0
+BeginsWith h hs = (rest : List ℕ) × (hs ≡ h ∷ rest)
+
 -- handles of live blocks, each once
 pub record AreBlocks (d : Document) (hs : List VmHandle) : Type 0 where
   pub live : All (λ h. is_live d h.0 ≡ true) hs

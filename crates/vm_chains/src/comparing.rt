@@ -1,10 +1,10 @@
-ghost use Rattle.std.specs.Prelude.{◌≡◌, ◌⊎◌, ◌≤◌, ℕ, true, IfOk, IfErr, MatchResult, length};
+ghost use Rattle.std.specs.Prelude.{◌≡◌, ◌≤◌, ℕ, true, IfOk, IfErr, MatchResult, length};
 ghost use Rattle.std.specs.List.{All};
 ghost use Rattle.geos_model.specs.Bytes.{same_bytes};
 ghost use Rattle.geos_model.specs.Chain.{chain_blocks, on_chains, same_shape};
 ghost use Rattle.geos_model.specs.Document.{is_raw, is_vm_handle, most_blocks};
 ghost use Rattle.vm_blocks.specs.Keeping.{Keeps, IsSteady, Lacks};
-ghost use Rattle.vm_chains.specs.Answers.{Answers, IsChainFault, Refuses};
+ghost use Rattle.vm_chains.specs.Answers.{Answers, IsWalkRefusal, Refuses};
 ghost use Rattle.vm_chains.specs.Naming.{name_in, place_in};
 ghost use Rattle.vm_chains.specs.Numbers.{numbers};
 ghost use Rattle.vm_chains.specs.Walking.{AreBlocks, AreMembers};
@@ -28,7 +28,7 @@ pub fn equal<S: Store>(
     ensures value { IsSteady S.facts blocks.old.disk.store
         → Answers (Lacks S.facts blocks.old.disk.store blocks.new.disk.store) (on_chains blocks.new.document first.0 second.0)
         (λ same. same ≡ same_shape blocks.new.document (chain_blocks blocks.new.document first.0) (chain_blocks blocks.new.document second.0)) result }
-    ensures refusals { IfErr result (λ fault. Lacks S.facts blocks.old.disk.store blocks.new.disk.store fault ⊎ IsChainFault fault) }
+    ensures refusals { IfErr result (IsWalkRefusal (Lacks S.facts blocks.old.disk.store blocks.new.disk.store)) }
 {
     test_roots(blocks, first, second)?;
     let first = walk_from(alloc, blocks, first)?;
@@ -46,7 +46,7 @@ fn test_roots<S: Store>(
     ensures value { IsSteady S.facts blocks.old.disk.store → MatchResult result
         (λ _. (is_raw blocks.new.document first.0 ≡ true) × (is_raw blocks.new.document second.0 ≡ true))
         (Refuses (Lacks S.facts blocks.old.disk.store blocks.new.disk.store) (on_chains blocks.new.document first.0 second.0)) }
-    ensures refusals { IfErr result (λ fault. Lacks S.facts blocks.old.disk.store blocks.new.disk.store fault ⊎ IsChainFault fault) }
+    ensures refusals { IfErr result (IsWalkRefusal (Lacks S.facts blocks.old.disk.store blocks.new.disk.store)) }
 {
     if !blocks.is_live(first) || !blocks.is_live(second) {
         return Err(Fault::NoBlock);

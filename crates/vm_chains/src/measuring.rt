@@ -1,7 +1,7 @@
-ghost use Rattle.std.specs.Prelude.{◌≡◌, ◌⊎◌, IfOk, IfErr};
+ghost use Rattle.std.specs.Prelude.{◌≡◌, IfOk, IfErr};
 ghost use Rattle.geos_model.specs.Chain.{bytes_in, chain_blocks, on_chain};
 ghost use Rattle.vm_blocks.specs.Keeping.{Keeps, IsSteady, Lacks};
-ghost use Rattle.vm_chains.specs.Answers.{Answers, IsChainFault};
+ghost use Rattle.vm_chains.specs.Answers.{Answers, IsWalkRefusal};
 ghost use Rattle.vm_chains.specs.Numbers.{numbers};
 ghost use Rattle.vm_chains.specs.Walking.{AreBlocks, AreMembers};
 
@@ -22,7 +22,7 @@ pub fn size<S: Store>(
     ensures value { IsSteady S.facts blocks.old.disk.store
         → Answers (Lacks S.facts blocks.old.disk.store blocks.new.disk.store) (on_chain blocks.new.document root.0)
         (λ n. n ≡ bytes_in blocks.new.document (chain_blocks blocks.new.document root.0)) result }
-    ensures refusals { IfErr result (λ fault. Lacks S.facts blocks.old.disk.store blocks.new.disk.store fault ⊎ IsChainFault fault) }
+    ensures refusals { IfErr result (IsWalkRefusal (Lacks S.facts blocks.old.disk.store blocks.new.disk.store)) }
 {
     let handles = walk(alloc, blocks, root)?;
     total_len(blocks, &handles)

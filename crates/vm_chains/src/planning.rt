@@ -1,4 +1,4 @@
-ghost use Rattle.std.specs.Prelude.{◌≡◌, ◌⊎◌, ◌==◌, IfOk, IfErr, length};
+ghost use Rattle.std.specs.Prelude.{◌≡◌, ◌⊎◌, ◌==◌, ◌<◌, IfOk, IfErr, length};
 ghost use Rattle.std.specs.List.{list_any};
 ghost use Rattle.geos_model.specs.Chain.{blocks_of, chain_blocks, copies_of, copy_conditions, free_conditions, new_handles, renamed_blocks};
 ghost use Rattle.geos_model.specs.Document.{handles_of};
@@ -31,6 +31,7 @@ pub fn copy_plan<S: Store>(
         → Answers (Lacks S.facts blocks.old.disk.store blocks.new.disk.store) (copy_conditions blocks.new.document root.0)
         (λ plan. saved_blocks plan.list.items ≡ copies_of blocks.new.document (chain_blocks blocks.new.document root.0)) result }
     ensures applies { IfOk result (λ plan. Applies (changes.BlocksIn plan) blocks.new.document) }
+    ensures some { IfOk result (λ plan. 0 < length plan.list.items) }
     ensures refusals { IfErr result (λ fault. Lacks S.facts blocks.old.disk.store blocks.new.disk.store fault ⊎ IsChainFault fault ⊎ (fault ≡ NoHandles)) }
 {
     let handles = walk(alloc, blocks, root)?;

@@ -65,8 +65,6 @@ pub(crate) fn saved_at<S: Store>(
     ensures value { MatchResult result (λ saved. saved_block saved ≡ block_at blocks.new.document handle.0) (Lacks S.facts blocks.old.disk.store blocks.new.disk.store) }
 {
     blocks.load(handle)?;
-    match blocks.block(handle) {
-        Some(block) => Ok(SavedBlock::of(alloc, block)?),
-        None => unreachable!(),
-    }
+    let user_id = blocks.user_id(handle);
+    Ok(SavedBlock::of(alloc, user_id, blocks.body(handle))?)
 }

@@ -3,9 +3,9 @@ ghost use Rattle.geos_model.specs.Chain.{chain, is_member, on_chain};
 ghost use Rattle.geos_model.specs.Document.{is_raw};
 ghost use Rattle.geos_model.specs.declared.fault.Fault.TheVariants.{BadChain};
 ghost use Rattle.vm_blocks.specs.Keeping.{Keeps, IsSteady, Lacks};
-ghost use Rattle.vm_chains.specs.Answers.{Answers, IsChainFault};
+ghost use Rattle.vm_chains.specs.Answers.{Answers, IsWalkRefusal};
 ghost use Rattle.vm_chains.specs.Numbers.{numbers};
-ghost use Rattle.vm_chains.specs.Walking.{AreBlocks, AreMembers, GoesOn, RefusesRoot, Stops};
+ghost use Rattle.vm_chains.specs.Walking.{AreBlocks, AreMembers, BeginsWith, GoesOn, RefusesRoot, Stops};
 
 use crate::links::{links_of, push_links};
 use crate::met::Met;
@@ -24,9 +24,10 @@ pub fn walk<S: Store>(
     ensures keeps { Keeps S.facts blocks.old blocks.new }
     ensures value { IsSteady S.facts blocks.old.disk.store
         → Answers (Lacks S.facts blocks.old.disk.store blocks.new.disk.store) (on_chain blocks.new.document root.0) (λ handles. chain blocks.new.document root.0 ≡ Some (numbers handles.items)) result }
+    ensures root { IfOk result (λ handles. BeginsWith root.0 (numbers handles.items)) }
     ensures live { IfOk result (λ handles. AreBlocks blocks.new.document handles.items) }
     ensures members { IsSteady S.facts blocks.old.disk.store → IfOk result (λ handles. AreMembers blocks.new.document handles.items) }
-    ensures refusals { IfErr result (λ fault. Lacks S.facts blocks.old.disk.store blocks.new.disk.store fault ⊎ IsChainFault fault) }
+    ensures refusals { IfErr result (IsWalkRefusal (Lacks S.facts blocks.old.disk.store blocks.new.disk.store)) }
 {
     test_root(blocks, root)?;
     walk_from(alloc, blocks, root)
@@ -56,6 +57,7 @@ pub(crate) fn walk_from<S: Store>(
     ensures value { IsSteady S.facts blocks.old.disk.store → MatchResult result
         (λ handles. chain blocks.new.document root.0 ≡ Some (numbers handles.items))
         (Stops (Lacks S.facts blocks.old.disk.store blocks.new.disk.store) (chain blocks.new.document root.0 ≡ None)) }
+    ensures root { IfOk result (λ handles. BeginsWith root.0 (numbers handles.items)) }
     ensures live { IfOk result (λ handles. AreBlocks blocks.new.document handles.items) }
     ensures members { IsSteady S.facts blocks.old.disk.store → IfOk result (λ handles. AreMembers blocks.new.document handles.items) }
     ensures refusals { IfErr result (λ fault. Lacks S.facts blocks.old.disk.store blocks.new.disk.store fault ⊎ (fault ≡ BadChain)) }

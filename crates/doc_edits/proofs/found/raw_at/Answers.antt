@@ -1,6 +1,6 @@
 use Rattle.std.proofs.Common.{ap, refl, ◌∙◌, Some}
-use Rattle.vm_blocks.specs.Bodies.{body_of}
-use Rattle.vm_blocks.specs.declared.block.BlockBody.{BlockBody}
+use Rattle.block_cache.specs.Bodies.{body_of}
+use Rattle.block_cache.specs.declared.body.BlockBody.{BlockBody}
 use Rattle.doc_edits.proofs.Documents.{body_at}
 use Rattle.doc_edits.proofs.Refusals.{no_raw}
 use Rattle.doc_edits.proofs.found.raw_at.Goals as goal

@@ -12,6 +12,7 @@ returns-in-Ok-create-clause-ok g c =
       session_is = rw c.requires.new (record {
         honest = file.follows.honest;
         failures = file.follows.failures;
+        exact = made.exact;
         machine = λ target. machine-empty c.in-Ok-create.session c.args.options.cache target file.document file.new_file.updated file.new_file.saved file.new_file.sequence made.new.0 made.new.1 frames;
         attempted = file.new_file.attempted;
         numbered = λ so. file.new_file.numbered (subst IsTrue (sym file.follows.honest) so);

@@ -1,50 +1,48 @@
-use Rattle.geos_shell.specs.Holdings.{held}
 use Rattle.geos_shell.proofs.Replying.{extends_told, replied, replied_told}
-use Rattle.geos_shell.proofs.Serving.{serves_at_rest, serves_commit}
+use Rattle.geos_shell.proofs.Serving.{serves_passing, serves_commit, told_as_accepted}
 use Rattle.geos_shell.proofs.replies.push_reply.Goals as goal
 
--- Edits, and undo and redo, leave the files.
+-- Edits, and undo and redo, commit nothing.
 pub returns-in-Edit-clause-replied : goal.returns-in-Edit-clause-replied
-returns-in-Edit-clause-replied g c = λ honest.
-    rw c.in-Edit.is (replied g.S.Store.facts c.push_done.result _ _ _ _ _ _ (serves_at_rest g.S.Store.facts _ _ _ _ _ _ c.edit.ensures.rests.0 (c.edit.ensures.step _) (λ stays. stays) honest) c.push_done.ensures.ok)
+returns-in-Edit-clause-replied g c = λ exact.
+    rw c.in-Edit.is (replied g.S.Store.facts c.push_done.result _ _ _ _ _ _ (serves_passing g.S.Store.facts _ _ _ _ _ _ c.edit.ensures.passes c.edit.ensures.step (λ nothing. nothing) tt exact) c.push_done.ensures.ok)
 
 pub returns-in-Undo-clause-replied : goal.returns-in-Undo-clause-replied
-returns-in-Undo-clause-replied g c = λ honest.
-    rw c.in-Undo.is (replied g.S.Store.facts c.push_accepted.result _ _ _ _ _ _ (serves_at_rest g.S.Store.facts _ _ _ _ _ _ c.undo.ensures.rests.0 (c.undo.ensures.step _) (λ stays. stays) honest) c.push_accepted.ensures.ok)
+returns-in-Undo-clause-replied g c = λ exact.
+    rw c.in-Undo.is (replied g.S.Store.facts c.push_accepted.result _ _ _ _ _ _ (serves_passing g.S.Store.facts _ _ _ _ _ _ c.undo.ensures.passes c.undo.ensures.step (λ nothing. nothing) (λ is. let taken = c.undo.ensures.sure is in (told_as_accepted _ taken.0, taken.1)) exact) c.push_accepted.ensures.ok)
 
 pub returns-in-Redo-clause-replied : goal.returns-in-Redo-clause-replied
-returns-in-Redo-clause-replied g c = λ honest.
-    rw c.in-Redo.is (replied g.S.Store.facts c.push_accepted-in-Redo.result _ _ _ _ _ _ (serves_at_rest g.S.Store.facts _ _ _ _ _ _ c.redo.ensures.rests.0 (c.redo.ensures.step _) (λ stays. stays) honest) c.push_accepted-in-Redo.ensures.ok)
+returns-in-Redo-clause-replied g c = λ exact.
+    rw c.in-Redo.is (replied g.S.Store.facts c.push_accepted-in-Redo.result _ _ _ _ _ _ (serves_passing g.S.Store.facts _ _ _ _ _ _ c.redo.ensures.passes c.redo.ensures.step (λ nothing. nothing) (λ is. let taken = c.redo.ensures.sure is in (told_as_accepted _ taken.0, taken.1)) exact) c.push_accepted-in-Redo.ensures.ok)
 
 -- Commits.
 pub returns-in-Update-clause-replied : goal.returns-in-Update-clause-replied
-returns-in-Update-clause-replied g c = λ honest.
+returns-in-Update-clause-replied g c = λ exact.
     let done = c.update.ensures in
-    rw c.in-Update.is (replied g.S.Store.facts c.push_accepted-in-Update.result _ _ _ _ _ _ (serves_commit g.S.Store.facts _ _ _ _ _ _ _ done.commit.commits done.commit.passes done.fails.file done.step (λ settles. settles) honest) c.push_accepted-in-Update.ensures.ok)
+    rw c.in-Update.is (replied g.S.Store.facts c.push_accepted-in-Update.result _ _ _ _ _ _ (serves_commit g.S.Store.facts _ _ _ _ _ _ _ done.commit.commits done.commit.passes done.fails.file done.step (λ settles. settles) tt exact) c.push_accepted-in-Update.ensures.ok)
 
 pub returns-in-Save-clause-replied : goal.returns-in-Save-clause-replied
-returns-in-Save-clause-replied g c = λ honest.
+returns-in-Save-clause-replied g c = λ exact.
     let done = c.save.ensures in
-    rw c.in-Save.is (replied g.S.Store.facts c.push_accepted-in-Save.result _ _ _ _ _ _ (serves_commit g.S.Store.facts _ _ _ _ _ _ _ done.commit.commits done.commit.passes done.fails.file done.step (λ settles. settles) honest) c.push_accepted-in-Save.ensures.ok)
+    rw c.in-Save.is (replied g.S.Store.facts c.push_accepted-in-Save.result _ _ _ _ _ _ (serves_commit g.S.Store.facts _ _ _ _ _ _ _ done.commit.commits done.commit.passes done.fails.file done.step (λ settles. settles) tt exact) c.push_accepted-in-Save.ensures.ok)
 
 pub returns-in-Revert-clause-replied : goal.returns-in-Revert-clause-replied
-returns-in-Revert-clause-replied g c = λ honest.
+returns-in-Revert-clause-replied g c = λ exact.
     let done = c.revert.ensures in
-    rw c.in-Revert.is (replied g.S.Store.facts c.push_accepted-in-Revert.result _ _ _ _ _ _ (serves_commit g.S.Store.facts _ _ _ _ _ _ _ done.commit.commits done.commit.passes done.fails.file done.step (λ settles. settles) honest) c.push_accepted-in-Revert.ensures.ok)
+    rw c.in-Revert.is (replied g.S.Store.facts c.push_accepted-in-Revert.result _ _ _ _ _ _ (serves_commit g.S.Store.facts _ _ _ _ _ _ _ done.commit.commits done.commit.passes done.fails.file done.step (λ settles. settles) tt exact) c.push_accepted-in-Revert.ensures.ok)
 
 pub returns-in-SaveAs-clause-replied : goal.returns-in-SaveAs-clause-replied
-returns-in-SaveAs-clause-replied g c = λ honest.
-    rw c.in-SaveAs.is (replied g.S.Store.facts c.push_accepted-in-SaveAs.result _ _ _ _ _ _ (c.save_as.ensures honest) c.push_accepted-in-SaveAs.ensures.ok)
+returns-in-SaveAs-clause-replied g c = λ exact.
+    rw c.in-SaveAs.is (replied g.S.Store.facts c.push_accepted-in-SaveAs.result _ _ _ _ _ _ (c.save_as.ensures exact) c.push_accepted-in-SaveAs.ensures.ok)
 
--- A look-up leaves all.
+-- So do look-ups.
 
 pub returns-in_default-clause-replied : goal.returns-in_default-clause-replied
-returns-in_default-clause-replied g c = λ honest.
+returns-in_default-clause-replied g c =
     let other = c.in_default in
-    let holding = held c.args.session.now c.args.target.now c.args.former.now in
-    rw (c.push_look_up.ensures.stays)
-    (replied_told g.S.Store.facts c.push_look_up.result holding c.args.command.now _ _ other.not-Update other.not-Save other.not-Revert other.not-SaveAs honest c.push_look_up.ensures.ok)
+    let asked = c.push_look_up.ensures in
+    replied_told g.S.Store.facts c.push_look_up.result c.args.session.now c.push_look_up.new.session c.args.target.now c.args.former.now c.args.command.now _ _ other.not-Undo other.not-Redo other.not-Update other.not-Save other.not-Revert other.not-SaveAs asked.stays asked.told
 
 pub returns-in_default-clause-ok : goal.returns-in_default-clause-ok
 returns-in_default-clause-ok g c =
-    extends_told c.push_look_up.result c.args.session.now c.args.command.now _ _ c.push_look_up.ensures.ok
+    extends_told c.push_look_up.result g.S.Store.facts c.args.session.now c.push_look_up.new.session c.args.command.now _ _ c.push_look_up.ensures.told

@@ -1,6 +1,5 @@
-use Rattle.std.proofs.Common.{◌∙◌, refl, sym, inl}
-use Rattle.geos_shell.specs.Holdings.{held}
-use Rattle.geos_shell.proofs.Serving.{serves_accepted, serves_refused, serves_at_rest}
+use Rattle.std.proofs.Common.{◌∙◌, sym}
+use Rattle.geos_shell.proofs.Serving.{serves_accepted, serves_refused}
 use Rattle.geos_shell.proofs.replies.save_as.Goals as goal
 
 -- The old store is put aside.

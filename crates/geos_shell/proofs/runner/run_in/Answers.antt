@@ -7,8 +7,8 @@ use Rattle.geos_shell.proofs.runner.run_in.Goals as goal
 use Rattle.geos_shell.proofs.runner.run_in.Goals.{in-Interrupted, in-Bytes+in_ok-answer_piece-in-Bytes}
 
 pub loop-init : goal.loop-init
-loop-init g c = λ honest.
-    Ran-none g.S.Store.facts _ _ (held c.args.session.now c.args.target.now c.args.former.now) (record { begun = c.new.result; replies = c.new-2.result }) honest c.new.ensures.items c.new-2.ensures.items
+loop-init g c = λ exact.
+    Ran-none g.S.Store.facts _ _ (held c.args.session.now c.args.target.now c.args.former.now) (record { begun = c.new.result; replies = c.new-2.result }) exact c.new.ensures.items c.new-2.ensures.items
 
 -- The reader failed.
 pub returns-in_err-read_piece-clause-err : goal.returns-in_err-read_piece-clause-err
@@ -16,7 +16,7 @@ returns-in_err-read_piece-clause-err g c =
     let r = c.from_residual in
     let p = err_from_is_err_and r.result r.ensures.1 in
     let failed = c.in_err-read_piece.ensures.err in
-    rw (p.1, p.2, failed.0) (λ honest. AnswersFinished-now (c.loop.invariant honest) _ failed.1)
+    rw (p.1, p.2, failed.0) (λ exact. AnswersFinished-now (c.loop.invariant exact) _ failed.1)
 
 -- The script ended, and so did the run.
 pub returns-in-End-clause-ok : goal.returns-in-End-clause-ok
@@ -24,7 +24,7 @@ returns-in-End-clause-ok g c =
     let to = g.R.Read.remaining c.read_piece.new.reader in
     let after = g.W.Write.contents c.answer_rest.new.writer in
     let gives = rw c.in-End.is at c.in_ok-read_piece.ensures.ok in
-    on_ok_weaker c.answer_rest.result (λ rest honest. AnswersAll-end (c.loop.invariant honest) to after _ gives.0 gives.1 rest) c.answer_rest.ensures.ok
+    on_ok_weaker c.answer_rest.result (λ rest exact. AnswersAll-end (c.loop.invariant exact) to after _ gives.0 gives.1 rest) c.answer_rest.ensures.ok
 
 -- The script ended, and its last line or the writer stopped the run.
 pub returns-in-End-clause-err : goal.returns-in-End-clause-err
@@ -33,8 +33,8 @@ returns-in-End-clause-err g c =
     let after = g.W.Write.contents c.answer_rest.new.writer in
     let gives = rw c.in-End.is at c.in_ok-read_piece.ensures.ok in
     let new = held c.answer_rest.new.session c.answer_rest.new.target c.answer_rest.new.former in
-    IfErr-weaker c.answer_rest.result _ _ (λ fault stops honest.
-    EndsBy-or fault g.S.Store.facts _ _ to _ after new (AnswersUnsent-behind (c.loop.invariant honest) to _ new gives.0) (AnswersSome-rest (c.loop.invariant honest) to after new gives.0) stops) c.answer_rest.ensures.err
+    IfErr-weaker c.answer_rest.result _ _ (λ fault stops exact.
+    EndsBy-or fault g.S.Store.facts _ _ to _ after new (AnswersUnsent-behind (c.loop.invariant exact) to _ new gives.0) (AnswersSome-rest (c.loop.invariant exact) to after new gives.0) stops) c.answer_rest.ensures.err
 
 -- A piece or the writer stopped the run.
 pub returns-in_err-answer_piece-in-Bytes-clause-err :
@@ -49,8 +49,8 @@ returns-in_err-answer_piece-in-Bytes-clause-err g c =
     let new = held c.answer_piece.new.session c.answer_piece.new.target c.answer_piece.new.former in
     let r = c.from_residual-in_err-answer_piece-in-Bytes in
     let p = err_from_is_err_and r.result r.ensures.1 in
-    rw (p.1, p.2) (λ honest.
-    EndsBy-or _ g.S.Store.facts _ _ to _ after new (AnswersUnsent-behind (c.loop.invariant honest) to (take count piece) new gives.2) (AnswersSome-piece (c.loop.invariant honest) to after (take count piece) new some gives.2) c.in_err-answer_piece-in-Bytes.ensures.err)
+    rw (p.1, p.2) (λ exact.
+    EndsBy-or _ g.S.Store.facts _ _ to _ after new (AnswersUnsent-behind (c.loop.invariant exact) to (take count piece) new gives.2) (AnswersSome-piece (c.loop.invariant exact) to after (take count piece) new some gives.2) c.in_err-answer_piece-in-Bytes.ensures.err)
 
 -- One more read.
 pub loop-preserved : goal.loop-preserved
@@ -58,12 +58,12 @@ loop-preserved g c =
     elim c.match-branch-2.branch [
       | in-Interrupted w ↦
           let gives = rw w.in-Interrupted.is at c.in_ok-read_piece.ensures.ok in
-          rw (w.writer-is, w.answering-is, w.session-is, w.target-is, w.former-is) (λ honest. Ran-kept (c.loop.invariant honest) _ gives)
+          rw (w.writer-is, w.answering-is, w.session-is, w.target-is, w.former-is) (λ exact. Ran-kept (c.loop.invariant exact) _ gives)
       | in-Bytes+in_ok-answer_piece-in-Bytes w ↦
           let gives = rw w.in-Bytes.is at c.in_ok-read_piece.ensures.ok in
-          rw (w.writer-is, w.answering-is, w.session-is, w.target-is, w.former-is) (λ honest. Ran-piece (c.loop.invariant honest) _ _ (take w.in-Bytes.count c.read_piece.new.piece) _ gives.2 w.in_ok-answer_piece-in-Bytes.ensures.ok)
+          rw (w.writer-is, w.answering-is, w.session-is, w.target-is, w.former-is) (λ exact. Ran-piece (c.loop.invariant exact) _ _ (take w.in-Bytes.count c.read_piece.new.piece) _ gives.2 w.in_ok-answer_piece-in-Bytes.ensures.ok)
     ]
 
 -- The reader did not end.
 pub returns-clause-err : goal.returns-clause-err
-returns-clause-err g c = λ honest. AnswersFinished-now (c.loop.invariant honest) _ (Keeps-refl _)
+returns-clause-err g c = λ exact. AnswersFinished-now (c.loop.invariant exact) _ (Keeps-refl _)

@@ -1,16 +1,14 @@
-use Rattle.std.proofs.Common.{◌≡◌, ◌⊎◌, ℕ, List, None, Some, true, Result, IfOk, IfErr, sym, ap, subst, ◌∙◌, inl, inr}
+use Rattle.std.proofs.Common.{◌≡◌, ◌⊎◌, ℕ, None, Some, true, sym, ap, subst, ◌∙◌, inl, inr}
 use Rattle.std.proofs.lemmas.Result.{IfErr-weaker}
 use Rattle.vm_store.specs.Facts.{StoreFacts}
-use Rattle.vm_file.specs.Disk.{FileState}
+use Rattle.block_cache.specs.State.{CacheState}
 use Rattle.geos_model.specs.Chain.{chain, chain_blocks, on_chains, same_shape}
 use Rattle.geos_model.specs.Document.{Document, is_raw}
-use Rattle.geos_model.specs.Refusal.{first_refusal}
 use Rattle.geos_model.specs.declared.fault.Fault.{Fault}
 use Rattle.geos_model.specs.declared.fault.Fault.TheVariants.{BadChain}
-use Rattle.geos_model.specs.declared.handle.VmHandle.{VmHandle}
 use Rattle.vm_blocks.specs.Keeping.{Keeps, IsSteady, Lacks}
 use Rattle.vm_blocks.proofs.KeepingLaws.{keeps-same, keeps-steady, keeps-trans, keeps-was_steady, lacks-later}
-use Rattle.vm_chains.specs.Answers.{IsChainFault, Refuses}
+use Rattle.vm_chains.specs.Answers.{IsWalkRefusal, Refuses}
 use Rattle.vm_chains.specs.Numbers.{numbers}
 use Rattle.vm_chains.specs.Walking.{AreBlocks, AreMembers, Stops}
 use Rattle.vm_chains.proofs.ChainLemmas.{blocks_are}
@@ -22,7 +20,7 @@ abbrev AreRaw : ℕ → ℕ → Document → Type 0
 AreRaw f s d = (is_raw d f ≡ true) × (is_raw d s ≡ true)
 
 -- a walk of either chain is refused
-walk_refused : {S : Type 0} (facts : S → StoreFacts) (a r u : FileState S) (f s : ℕ) (fault : Fault) → Keeps facts a r → Keeps facts r u → IsSteady facts a.disk.store → AreRaw f s r.document
+walk_refused : {S : Type 0} (facts : S → StoreFacts) (a r u : CacheState S) (f s : ℕ) (fault : Fault) → Keeps facts a r → Keeps facts r u → IsSteady facts a.disk.store → AreRaw f s r.document
     → Stops (Lacks facts r.disk.store u.disk.store) ((chain u.document f ≡ None) ⊎ (chain u.document s ≡ None)) fault → Refuses (Lacks facts a.disk.store u.disk.store) (on_chains u.document f s) fault
 walk_refused facts a r u f s fault begins walks steady raw stops =
     let now : AreRaw f s u.document = subst (AreRaw f s) (sym (keeps-same facts r u walks (keeps-steady facts a r begins steady))) raw in
@@ -32,8 +30,8 @@ walk_refused facts a r u f s fault begins walks steady raw stops =
       | inr bad ↦ inr bad
     ])
 
-stop_fault : {S : Type 0} (facts : S → StoreFacts) (a r u : FileState S) (fault : Fault) → Keeps facts a r → Lacks facts r.disk.store u.disk.store fault ⊎ (fault ≡ BadChain) → Lacks facts a.disk.store u.disk.store fault ⊎ IsChainFault fault
-stop_fault facts a r u fault begins stops = elim stops as (λ _. Lacks facts a.disk.store u.disk.store fault ⊎ IsChainFault fault) [
+stop_fault : {S : Type 0} (facts : S → StoreFacts) (a r u : CacheState S) (fault : Fault) → Keeps facts a r → Lacks facts r.disk.store u.disk.store fault ⊎ (fault ≡ BadChain) → IsWalkRefusal (Lacks facts a.disk.store u.disk.store) fault
+stop_fault facts a r u fault begins stops = elim stops as (λ _. IsWalkRefusal (Lacks facts a.disk.store u.disk.store) fault) [
   | inl lacks ↦ inl (lacks-later facts a r u.disk.store fault begins lacks)
   | inr bad ↦ inr (inr (inr bad))
 ]
@@ -131,5 +129,5 @@ pub returns-clause-refusals : goal.returns-clause-refusals
 returns-clause-refusals g c =
     let a = c.args.blocks.now in let r = c.test_roots.new.blocks in let u = c.walk_from.new.blocks in let v = c.walk_from-2.new.blocks in let e = c.same_shape.new.blocks in
     let k3 = keeps-trans g.S.Store.facts a u v (keeps-trans g.S.Store.facts a r u c.test_roots.ensures.keeps c.walk_from.ensures.keeps) c.walk_from-2.ensures.keeps in
-    IfErr-weaker c.same_shape.result (Lacks g.S.Store.facts v.disk.store e.disk.store) (λ fault. Lacks g.S.Store.facts a.disk.store e.disk.store fault ⊎ IsChainFault fault)
+    IfErr-weaker c.same_shape.result (Lacks g.S.Store.facts v.disk.store e.disk.store) (IsWalkRefusal (Lacks g.S.Store.facts a.disk.store e.disk.store))
     (λ fault lacks. inl (lacks-later g.S.Store.facts a v e.disk.store fault k3 lacks)) c.same_shape.ensures.refusals

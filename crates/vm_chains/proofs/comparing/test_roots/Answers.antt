@@ -1,20 +1,18 @@
-use Rattle.std.proofs.Common.{◌≡◌, ◌⊎◌, ◌&&◌, ℕ, true, rules, ap, subst, sym, inl, inr}
-use Rattle.std.proofs.lemmas.Result.{IfErr-weaker, MatchResult-weaker, MatchResult-at_err}
+use Rattle.std.proofs.Common.{◌≡◌, ◌&&◌, ℕ, true, rules, subst, sym, inl, inr}
+use Rattle.std.proofs.lemmas.Result.{MatchResult-weaker}
 use Rattle.vm_store.specs.Facts.{StoreFacts}
-use Rattle.vm_file.specs.Disk.{FileState}
+use Rattle.block_cache.specs.State.{CacheState}
 use Rattle.geos_model.specs.Chain.{on_chains}
 use Rattle.geos_model.specs.Document.{Document, is_live, is_raw}
-use Rattle.geos_model.specs.declared.fault.Fault.{Fault}
-use Rattle.vm_blocks.specs.Keeping.{Keeps, IsSteady, Lacks}
+use Rattle.vm_blocks.specs.Keeping.{Keeps, Lacks}
 use Rattle.vm_blocks.proofs.KeepingLaws.{keeps-refl, keeps-same, keeps-steady, keeps-trans, lacks-later}
-use Rattle.vm_chains.specs.Answers.{IsChainFault, Refuses}
-use Rattle.vm_chains.specs.Walking.{RefusesRoot}
+use Rattle.vm_chains.specs.Answers.{IsWalkRefusal, Refuses}
 use Rattle.vm_chains.proofs.Loading.{carried, refused_later, still_live}
 use Rattle.vm_chains.proofs.Refusals.{root_fault, two_refused}
 use Rattle.vm_chains.proofs.comparing.test_roots.Goals as goal
 
 -- both roots are live still
-both_live : {S : Type 0} (facts : S → StoreFacts) (a b : FileState S) (f s : ℕ) → Keeps facts a b → is_live a.document f ≡ true → is_live a.document s ≡ true → (is_live b.document f && is_live b.document s) ≡ true
+both_live : {S : Type 0} (facts : S → StoreFacts) (a b : CacheState S) (f s : ℕ) → Keeps facts a b → is_live a.document f ≡ true → is_live a.document s ≡ true → (is_live b.document f && is_live b.document s) ≡ true
 both_live facts a b f s keeps first second = λ i. still_live facts a b keeps f first i && still_live facts a b keeps s second i
 
 pub returns-then-not-is_live-clause-keeps : goal.returns-then-not-is_live-clause-keeps
@@ -52,7 +50,7 @@ pub returns-clause-refusals : goal.returns-clause-refusals
 returns-clause-refusals g c =
     let a = c.args.blocks.now in let b = c.test_root.new.blocks in let e = c.test_root-2.new.blocks in
     refused_later c.test_root-2.result _ _ _ c.test_root-2.ensures.value
-    (λ fault refused. elim refused as (λ _. Lacks g.S.Store.facts a.disk.store e.disk.store fault ⊎ IsChainFault fault) [
+    (λ fault refused. elim refused as (λ _. IsWalkRefusal (Lacks g.S.Store.facts a.disk.store e.disk.store) fault) [
       | inl lacks ↦ inl (lacks-later g.S.Store.facts a b e.disk.store fault c.test_root.ensures.keeps lacks)
       | inr refuses ↦ inr (root_fault e.document c.args.second.0 fault refuses)
     ])

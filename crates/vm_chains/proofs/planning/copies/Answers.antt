@@ -1,8 +1,8 @@
-use Rattle.std.proofs.Common.{◌≡◌, ◌+◌, ◌<◌, ◌≤◌, ◌++◌, ◌∷◌, [], ℕ, List, get_or, length, drop, take, true, refl, sym, ap, ◌∙◌, arith}
+use Rattle.std.proofs.Common.{◌≡◌, ◌+◌, ◌<◌, ◌≤◌, ◌++◌, ◌∷◌, [], List, get_or, length, drop, true, refl, sym, ap, ◌∙◌, arith}
 use Rattle.std.proofs.lemmas.List.{append-nil, drop_all, length_push, take_all}
 use Rattle.std.specs.List.{zip}
 use Rattle.geos_model.specs.Chain.{is_member, name_of, relinked, renamed_blocks}
-use Rattle.geos_model.specs.Document.{Block, Document, handles_of, is_live, raw_bytes_of, user_id_of}
+use Rattle.geos_model.specs.Document.{Document, handles_of, raw_bytes_of, user_id_of}
 use Rattle.geos_model.specs.declared.fault.Fault.TheVariants.{Memory}
 use Rattle.geos_model.specs.declared.handle.VmHandle.{VmHandle}
 use Rattle.vm_chains.specs.Naming.{name_in}

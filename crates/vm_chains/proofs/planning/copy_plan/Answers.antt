@@ -1,19 +1,18 @@
 use Rattle.std.proofs.Common.{◌≡◌, ◌⊎◌, ◌<◌, ◌≤◌, ℕ, List, Some, min, true, false, nat_lt, length, length-take, sym, ap, subst, ◌∙◌, inl, inr, arith}
 use Rattle.std.proofs.lemmas.Bool.{le-ltb, lt-ltb}
 use Rattle.std.proofs.lemmas.List.{length-map}
-use Rattle.std.proofs.lemmas.Result.{IfErr-weaker, IfOk-weaker}
-use Rattle.geos_model.specs.Chain.{chain, chain_blocks, copies_of, copy_conditions, free_handles, new_handles, on_chain, renamed_blocks}
+use Rattle.std.proofs.lemmas.Result.{IfOk-weaker}
+use Rattle.geos_model.specs.Chain.{chain, chain_blocks, copies_of, copy_conditions, free_handles, new_handles, renamed_blocks}
 use Rattle.geos_model.specs.Document.{Document}
-use Rattle.geos_model.specs.declared.fault.Fault.{Fault}
 use Rattle.geos_model.specs.declared.fault.Fault.TheVariants.{Memory, NoHandles}
 use Rattle.geos_model.specs.declared.handle.VmHandle.{VmHandle}
 use Rattle.vm_blocks.specs.Keeping.{Lacks}
 use Rattle.vm_blocks.specs.Members.{saved_blocks}
-use Rattle.vm_blocks.proofs.KeepingLaws.{keeps-drifts, keeps-refl, keeps-same, keeps-steady, keeps-trans, lacks-memory}
+use Rattle.vm_blocks.proofs.KeepingLaws.{keeps-drifts, keeps-refl, keeps-same, keeps-trans, lacks-memory}
 use Rattle.vm_chains.specs.Answers.{IsChainFault}
 use Rattle.vm_chains.specs.Numbers.{numbers}
 use Rattle.vm_chains.specs.Walking.{AreBlocks}
-use Rattle.vm_chains.proofs.Carrying.{copy_applies}
+use Rattle.vm_chains.proofs.Carrying.{copy_applies, copy_some}
 use Rattle.vm_chains.proofs.ChainLemmas.{blocks_are}
 use Rattle.vm_chains.proofs.Loading.{carried, carried_so}
 use Rattle.vm_chains.proofs.Refusals.{by_handles, copy_refused}
@@ -90,6 +89,12 @@ returns-clause-applies g c =
     let found : numbers new ≡ new_handles b.document c.len.result = ap numbers c.deref-2.ensures.value ∙ c.in_ok-new.ensures in
     let many : c.len.result ≤ length new = omega (arith, c.len.ensures, c.in_ok-new.new.ok.0, ap (λ (xs : List VmHandle). length xs) c.deref-2.ensures.value) in
     copy_applies (g.S.Store.facts b.disk.store).honest b.document e.document c.len.result new c.copies.result (keeps-drifts g.S.Store.facts b e c.copies.ensures.keeps) found many c.copies.ensures.handles
+
+pub returns-clause-some : goal.returns-clause-some
+returns-clause-some g c =
+    let hs = c.in_ok-handles.handles.items in let new = c.deref-2.result.now in
+    let many : length hs ≤ length new = omega (arith, c.len.ensures, c.in_ok-handles.handles.ok.0, c.in_ok-new.new.ok.0, ap (λ (xs : List VmHandle). length xs) c.deref-2.ensures.value) in
+    copy_some c.args.root.0 hs new c.copies.result c.in_ok-handles.ensures.root many c.copies.ensures.handles
 
 pub returns-clause-refusals : goal.returns-clause-refusals
 returns-clause-refusals g c =

@@ -2,7 +2,6 @@ use Rattle.std.proofs.Common.{◌≡◌, ◌⊎◌, ◌==◌, ◌||◌, List, []
 use Rattle.std.specs.List.{list_any}
 use Rattle.geos_model.specs.Chain.{blocks_of, chain, chain_blocks, free_conditions}
 use Rattle.geos_model.specs.Document.{Document}
-use Rattle.geos_model.specs.declared.fault.Fault.{Fault}
 use Rattle.geos_model.specs.declared.fault.Fault.TheVariants.{IsMap}
 use Rattle.geos_model.specs.declared.handle.VmHandle.{VmHandle}
 use Rattle.vm_blocks.specs.Keeping.{Lacks}

@@ -1,9 +1,9 @@
-use Rattle.std.proofs.Common.{◌≡◌, ◌∙◌, ◌&&◌, ap}
+use Rattle.std.proofs.Common.{◌∙◌, ◌&&◌, ap}
 use Rattle.std.specs.FinMap.{get}
 use Rattle.geos_model.specs.Chain.{is_linked, is_member}
 use Rattle.geos_model.specs.Document.{bytes_of_body, is_heap_body, raw_bytes_of}
 use Rattle.geos_model.specs.declared.fault.Fault.TheVariants.{Memory}
-use Rattle.vm_blocks.specs.Bodies.{body_of}
+use Rattle.block_cache.specs.Bodies.{body_of}
 use Rattle.vm_blocks.proofs.KeepingLaws.{lacks-memory}
 use Rattle.vm_chains.proofs.Loading.{carried, heap_there, load_lacks, other_now, unlinked_there}
 use Rattle.vm_chains.proofs.reading.relinked_at.Goals as goal

@@ -1,4 +1,4 @@
-use Rattle.std.proofs.Common.{◌≡◌, ◌∙◌, sym, inl}
+use Rattle.std.proofs.Common.{◌∙◌, sym, inl}
 use Rattle.geos_model.specs.declared.fault.Fault.TheVariants.{Memory}
 use Rattle.vm_blocks.proofs.KeepingLaws.{keeps-refl, lacks-memory}
 use Rattle.vm_chains.proofs.Loading.{carried, load_lacks}

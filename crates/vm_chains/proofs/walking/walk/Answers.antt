@@ -2,12 +2,10 @@ use Rattle.std.proofs.Common.{◌≡◌, ◌⊎◌, ℕ, List, Option, None, tru
 use Rattle.std.proofs.lemmas.Result.{IfErr-weaker, MatchResult-weaker}
 use Rattle.geos_model.specs.Chain.{chain}
 use Rattle.geos_model.specs.Document.{Document, is_raw}
-use Rattle.geos_model.specs.declared.fault.Fault.{Fault}
 use Rattle.geos_model.specs.declared.fault.Fault.TheVariants.{BadChain}
 use Rattle.vm_blocks.specs.Keeping.{Lacks}
 use Rattle.vm_blocks.proofs.KeepingLaws.{keeps-same, keeps-steady, keeps-trans, lacks-later}
-use Rattle.vm_chains.specs.Answers.{IsChainFault}
-use Rattle.vm_chains.specs.Numbers.{numbers}
+use Rattle.vm_chains.specs.Answers.{IsWalkRefusal}
 use Rattle.vm_chains.specs.Walking.{Stops}
 use Rattle.vm_chains.proofs.Loading.{carried, carried_so}
 use Rattle.vm_chains.proofs.Refusals.{root_fault, root_refused, walked}
@@ -23,7 +21,7 @@ pub returns-in_err-test_root-clause-refusals : goal.returns-in_err-test_root-cla
 returns-in_err-test_root-clause-refusals g c =
     let b = c.test_root.new.blocks in let fault = c.in_err-test_root.field-0.0 in
     carried_so c.from_residual.result fault _ c.from_residual.ensures.1
-    (elim c.in_err-test_root.ensures.value as (λ _. Lacks g.S.Store.facts c.args.blocks.now.disk.store b.disk.store fault ⊎ IsChainFault fault) [
+    (elim c.in_err-test_root.ensures.value as (λ _. IsWalkRefusal (Lacks g.S.Store.facts c.args.blocks.now.disk.store b.disk.store) fault) [
       | inl lacks ↦ inl lacks
       | inr refuses ↦ inr (root_fault b.document c.args.root.0 fault refuses)
     ])
@@ -49,8 +47,8 @@ returns-clause-members g c = λ steady. c.walk_from.ensures.members (keeps-stead
 pub returns-clause-refusals : goal.returns-clause-refusals
 returns-clause-refusals g c =
     let a = c.args.blocks.now in let b = c.test_root.new.blocks in let e = c.walk_from.new.blocks in
-    IfErr-weaker c.walk_from.result (λ fault. Lacks g.S.Store.facts b.disk.store e.disk.store fault ⊎ (fault ≡ BadChain)) (λ fault. Lacks g.S.Store.facts a.disk.store e.disk.store fault ⊎ IsChainFault fault)
-    (λ fault stops. elim stops as (λ _. Lacks g.S.Store.facts a.disk.store e.disk.store fault ⊎ IsChainFault fault) [
+    IfErr-weaker c.walk_from.result (λ fault. Lacks g.S.Store.facts b.disk.store e.disk.store fault ⊎ (fault ≡ BadChain)) (IsWalkRefusal (Lacks g.S.Store.facts a.disk.store e.disk.store))
+    (λ fault stops. elim stops as (λ _. IsWalkRefusal (Lacks g.S.Store.facts a.disk.store e.disk.store) fault) [
       | inl lacks ↦ inl (lacks-later g.S.Store.facts a b e.disk.store fault c.test_root.ensures.keeps lacks)
       | inr bad ↦ inr (inr (inr bad))
     ]) c.walk_from.ensures.refusals

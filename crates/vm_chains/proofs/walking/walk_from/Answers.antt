@@ -1,32 +1,32 @@
-use Rattle.std.proofs.Common.{◌≡◌, ◌⊎◌, ◌==◌, ◌<◌, ◌≤◌, ℕ, suc, ◌-◌, ◌∷◌, ◌++◌, [], List, Option, Some, None, true, false, length, refl, sym, ap, subst, ◌∙◌, inl, inr, arith}
+use Rattle.std.proofs.Common.{◌≡◌, ◌⊎◌, ◌==◌, ◌<◌, ◌≤◌, ℕ, suc, ◌-◌, ◌∷◌, ◌++◌, [], List, Some, None, true, false, length, refl, sym, ap, subst, ◌∙◌, inl, inr, arith}
 use Rattle.std.proofs.lemmas.Result.{err_from_is_err_and}
 use Rattle.std.specs.List.{list_any}
 use Rattle.vm_store.specs.Facts.{StoreFacts}
-use Rattle.vm_file.specs.Disk.{FileState}
+use Rattle.block_cache.specs.State.{CacheState}
 use Rattle.vm_blocks.specs.Keeping.{Keeps, IsSteady, Lacks}
 use Rattle.vm_blocks.proofs.KeepingLaws.{keeps-drifts, keeps-refl, keeps-same, keeps-trans, lacks-later, lacks-memory}
 use Rattle.geos_model.specs.Chain.{chain, is_member}
-use Rattle.geos_model.specs.Document.{Document, IsValid, is_live}
+use Rattle.geos_model.specs.Document.{Document, is_live, is_vm_handle}
 use Rattle.geos_model.specs.declared.fault.Fault.{Fault}
 use Rattle.geos_model.specs.declared.fault.Fault.TheVariants.{BadChain, Memory}
 use Rattle.geos_model.specs.declared.handle.VmHandle.{VmHandle}
 use Rattle.vm_chains.specs.Numbers.{numbers}
-use Rattle.vm_chains.specs.Walking.{AreBlocks, AreMembers, GoesOn, IsWalk, Stops}
+use Rattle.vm_chains.specs.Walking.{AreBlocks, GoesOn, IsWalk, Stops}
 use Rattle.vm_chains.proofs.ChainLemmas.{are_members}
 use Rattle.vm_chains.proofs.Loading.{carried, carried_so, still_blocks}
-use Rattle.vm_chains.proofs.WalkLemmas.{AreMet, none_met, one_met, met_blocks, live_handle, member_live, same_walk, walk_begins, walk_ends, walk_turns, walk_breaks, walk_follows, walk_is_full}
+use Rattle.vm_chains.proofs.WalkLemmas.{AreMet, none_met, one_met, met_blocks, member_live, root_met, root_there, same_walk, walk_begins, walk_ends, walk_turns, walk_breaks, walk_follows, walk_is_full}
 use Rattle.vm_chains.proofs.walking.walk_from.Goals as goal
 
 -- The file as the walk began, and as it is after some blocks were followed.
-module _ {S : Type 0} (facts : S → StoreFacts) (a b : FileState S) (keeps : Keeps facts a b) (root n : ℕ) (met : List ℕ) where
+module _ {S : Type 0} (facts : S → StoreFacts) (a b : CacheState S) (keeps : Keeps facts a b) (root n : ℕ) (met : List ℕ) where
   -- nothing is pending
   ended : (pending : List ℕ) (hs : List VmHandle) → (IsSteady facts a.disk.store → IsWalk a.document root n met pending) → pending ≡ [] → numbers hs ≡ met → IsSteady facts a.disk.store → chain b.document root ≡ Some (numbers hs)
   ended pending hs walk none same steady =
       ap (λ (x : Document). chain x root) (keeps-same facts a b keeps steady)
       ∙ walk_ends a.document root n met (same_walk a.document root n n met pending [] (walk steady) refl none) ∙ ap (λ (xs : List ℕ). Some xs) (sym same)
 
-  are_blocks : (hs : List VmHandle) → IsValid a.document → AreMet a.document n met → numbers hs ≡ met → AreBlocks b.document hs
-  are_blocks hs valid are same = still_blocks facts a b keeps hs (met_blocks a.document n hs valid (subst (AreMet a.document n) (sym same) are))
+  are_blocks : (hs : List VmHandle) → ((h : ℕ) → is_live a.document h ≡ true → is_vm_handle h ≡ true) → AreMet a.document n met → numbers hs ≡ met → AreBlocks b.document hs
+  are_blocks hs can are same = still_blocks facts a b keeps hs (met_blocks a.document n hs can (subst (AreMet a.document n) (sym same) are))
 
   -- it was met
   turned : (h : ℕ) (pending hs : List ℕ) → (IsSteady facts a.disk.store → IsWalk a.document root n met pending) → 1 ≤ n → pending ≡ h ∷ hs → list_any (λ x. x == h) met ≡ true → IsSteady facts a.disk.store → chain b.document root ≡ None
@@ -35,7 +35,7 @@ module _ {S : Type 0} (facts : S → StoreFacts) (a b : FileState S) (keeps : Ke
       ∙ walk_turns a.document root (n - 1) met h hs (same_walk a.document root n (suc (n - 1)) met pending (h ∷ hs) (walk steady) (omega (arith, left)) next) twice
 
   -- The next one is followed.
-  module _ (c : FileState S) (follows : Keeps facts b c) (h : ℕ) (pending hs : List ℕ) (walk : IsSteady facts a.disk.store → IsWalk a.document root n met pending) (next : pending ≡ h ∷ hs) where
+  module _ (c : CacheState S) (follows : Keeps facts b c) (h : ℕ) (pending hs : List ℕ) (walk : IsSteady facts a.disk.store → IsWalk a.document root n met pending) (next : pending ≡ h ∷ hs) where
     now : IsSteady facts a.disk.store → c.document ≡ a.document
     now steady = keeps-same facts a c (keeps-trans facts a b c keeps follows) steady
 
@@ -67,6 +67,7 @@ module _ {S : Type 0} (facts : S → StoreFacts) (a b : FileState S) (keeps : Ke
 pub loop-left-init : goal.loop-left-init
 loop-left-init g c = record {
   walk = λ steady. walk_begins c.args.blocks.now.document c.args.root.0 _ _ c.in_ok-met.ensures c.in_ok-pending.ensures;
+  root = inl (c.in_ok-met.ensures, c.in_ok-pending.ensures);
   met = none_met c.args.blocks.now.document _ c.in_ok-met.ensures;
   few = omega (arith, ap (λ (hs : List ℕ). length hs) c.in_ok-pending.ensures);
   keeps = keeps-refl g.S.Store.facts c.args.blocks.now;
@@ -103,9 +104,13 @@ pub returns-in-None-clause-value : goal.returns-in-None-clause-value
 returns-in-None-clause-value g c =
     ended g.S.Store.facts c.args.blocks.now c.loop-left.blocks c.loop-left.invariant.keeps c.args.root.0 c.loop-left.left c.loop-left.met c.loop-left.pending c.into_handles.result.items c.loop-left.invariant.walk c.in-None.ensures.0 c.into_handles.ensures
 
+pub returns-in-None-clause-root : goal.returns-in-None-clause-root
+returns-in-None-clause-root g c =
+    root_there c.args.root.0 c.loop-left.met c.loop-left.pending (numbers c.into_handles.result.items) c.loop-left.invariant.root c.in-None.ensures.0 c.into_handles.ensures
+
 pub returns-in-None-clause-live : goal.returns-in-None-clause-live
 returns-in-None-clause-live g c =
-    are_blocks g.S.Store.facts c.args.blocks.now c.loop-left.blocks c.loop-left.invariant.keeps c.args.root.0 c.loop-left.left c.loop-left.met c.into_handles.result.items c.validity.ensures.document c.loop-left.invariant.met c.into_handles.ensures
+    are_blocks g.S.Store.facts c.args.blocks.now c.loop-left.blocks c.loop-left.invariant.keeps c.args.root.0 c.loop-left.left c.loop-left.met c.into_handles.result.items c.validity.ensures.listed.handles c.loop-left.invariant.met c.into_handles.ensures
 
 pub returns-in-None-clause-members : goal.returns-in-None-clause-members
 returns-in-None-clause-members g c = λ steady. are_members c.loop-left.blocks.document c.args.root.0 c.into_handles.result.items (returns-in-None-clause-value g c steady)
@@ -133,7 +138,7 @@ returns-in_err-follow-clause-refusals g c =
 
 pub add-requires : goal.add-requires
 add-requires g c =
-    live_handle c.args.blocks.now.document c.in-Some.handle.0 c.validity.ensures.document
+    c.validity.ensures.listed.handles c.in-Some.handle.0
     (live_then g.S.Store.facts c.args.blocks.now c.loop-left.blocks c.loop-left.invariant.keeps c.args.root.0 c.loop-left.left c.loop-left.met c.follow.new.blocks c.follow.ensures.keeps c.in-Some.handle.0 c.loop-left.pending c.pop.new.self c.loop-left.invariant.walk c.in-Some.ensures c.follow.new.pending c.in_ok-follow.ensures.value)
 
 pub returns-then-len-left-clause-keeps : goal.returns-then-len-left-clause-keeps
@@ -149,6 +154,7 @@ loop-left-preserved g c =
     record {
       walk = λ steady. subst (λ (hs : List ℕ). IsWalk d root (c.loop-left.left - 1) hs c.follow.new.pending) (sym c.in_ok-add.ensures)
           (gone_on g.S.Store.facts c.args.blocks.now c.loop-left.blocks c.loop-left.invariant.keeps root c.loop-left.left c.loop-left.met c.follow.new.blocks c.follow.ensures.keeps h c.loop-left.pending c.pop.new.self c.loop-left.invariant.walk c.in-Some.ensures c.follow.new.pending (omega arith) c.in_ok-follow.ensures.value (sym c.contains.ensures ∙ c.if-contains.false) steady);
+      root = inr (root_met root h c.loop-left.met c.loop-left.pending c.pop.new.self _ c.loop-left.invariant.root c.in-Some.ensures c.in_ok-add.ensures);
       met = one_met d c.loop-left.left h c.loop-left.met _ c.loop-left.invariant.met (omega arith)
           (live_then g.S.Store.facts c.args.blocks.now c.loop-left.blocks c.loop-left.invariant.keeps root c.loop-left.left c.loop-left.met c.follow.new.blocks c.follow.ensures.keeps h c.loop-left.pending c.pop.new.self c.loop-left.invariant.walk c.in-Some.ensures c.follow.new.pending c.in_ok-follow.ensures.value)
           (sym c.contains.ensures ∙ c.if-contains.false) c.in_ok-add.ensures;
@@ -164,9 +170,13 @@ pub returns-clause-value : goal.returns-clause-value
 returns-clause-value g c =
     ended g.S.Store.facts c.args.blocks.now c.loop-left.blocks c.loop-left.invariant.keeps c.args.root.0 c.loop-left.left c.loop-left.met c.loop-left.pending c.into_handles-2.result.items c.loop-left.invariant.walk (nothing c.loop-left.pending (omega (arith, c.loop-left.invariant.few))) c.into_handles-2.ensures
 
+pub returns-clause-root : goal.returns-clause-root
+returns-clause-root g c =
+    root_there c.args.root.0 c.loop-left.met c.loop-left.pending (numbers c.into_handles-2.result.items) c.loop-left.invariant.root (nothing c.loop-left.pending (omega (arith, c.loop-left.invariant.few))) c.into_handles-2.ensures
+
 pub returns-clause-live : goal.returns-clause-live
 returns-clause-live g c =
-    are_blocks g.S.Store.facts c.args.blocks.now c.loop-left.blocks c.loop-left.invariant.keeps c.args.root.0 c.loop-left.left c.loop-left.met c.into_handles-2.result.items c.validity.ensures.document c.loop-left.invariant.met c.into_handles-2.ensures
+    are_blocks g.S.Store.facts c.args.blocks.now c.loop-left.blocks c.loop-left.invariant.keeps c.args.root.0 c.loop-left.left c.loop-left.met c.into_handles-2.result.items c.validity.ensures.listed.handles c.loop-left.invariant.met c.into_handles-2.ensures
 
 pub returns-clause-members : goal.returns-clause-members
 returns-clause-members g c = λ steady. are_members c.loop-left.blocks.document c.args.root.0 c.into_handles-2.result.items (returns-clause-value g c steady)

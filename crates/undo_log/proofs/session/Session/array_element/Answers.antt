@@ -1,26 +1,24 @@
-use Rattle.std.proofs.Common.{List, ℕ, false, Some, reverse, subst, refl, rules, Bor}
-use Rattle.geos_model.specs.Machine.{Step}
-use Rattle.geos_model.specs.Reply.{BytesAre, reply_by}
+use Rattle.std.proofs.Common.{reverse, refl, rules}
 use Rattle.geos_model.specs.declared.command.Command.TheVariants as commands
-use Rattle.undo_log.specs.Records.{SessionState, machine_of}
-use Rattle.undo_log.proofs.LookUps.{look_up_step, seen, same_session, same_steps}
+use Rattle.vm_blocks.proofs.KeepingLaws.{keeps-drifts}
+use Rattle.undo_log.proofs.Keeping.{drifted_listed}
+use Rattle.undo_log.proofs.LookUps.{looked_at}
 use Rattle.undo_log.proofs.session.Session.array_element.Goals as goal
 
 pub returns : goal.returns
 returns g c = (
-  (refl, λ _. tt, same_session g.S.Store.facts _ _ c.array_element.follows.holds-at-none.0 (reverse c.self.inside.undo.items) (reverse c.self.inside.redo.items) c.self.inside.frames _ c.self.view_is),
-  record {
-    step = λ target.
-        subst (λ (s : SessionState g.row.S.Denot). Step false (machine_of target s) (Some (commands.ArrayElement c.args.block c.args.chunk c.args.i)) (reply_by {T = Bor (List ℕ)} (λ bytes. BytesAre bytes.now) c.array_element.result) (machine_of target s)) c.self.view_is
-        (look_up_step _ (commands.ArrayElement c.args.block c.args.chunk c.args.i) _ refl refl refl
-        (seen g.S.Store.facts _ _ c.array_element.follows.holds-at-none.0 (commands.ArrayElement c.args.block c.args.chunk c.args.i) _ c.array_element.follows.holds-at-none.1));
-    stays = tt;
-  },
+  (
+    refl,
+    λ _. tt,
+    looked_at g.S.Store.facts _ _ (reverse c.self.inside.undo.items) (reverse c.self.inside.redo.items) c.array_element.follows.holds-at-none.0 _ c.self.view_is (commands.ArrayElement c.args.block c.args.chunk c.args.i) _
+        (record { takes = λ _. refl; calls = λ _. refl; refuses = λ _. refl; answers = λ _. refl }) c.array_element.follows.holds-at-none.1,
+  ),
+  record { leaves = tt },
 )
 
 pub invariant_of-self : goal.invariant_of-self
 invariant_of-self g c = (
   search rules,
   search rules,
-  same_steps g.S.Store.facts _ _ c.array_element.follows.holds-at-none.0 (reverse c.self.inside.undo.items) (reverse c.self.inside.redo.items) c.self.invariant.2,
+  drifted_listed _ _ _ (reverse c.self.inside.undo.items) (reverse c.self.inside.redo.items) (keeps-drifts g.S.Store.facts _ _ c.array_element.follows.holds-at-none.0) c.self.invariant.2,
 )

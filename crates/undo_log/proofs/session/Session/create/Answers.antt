@@ -1,22 +1,26 @@
-use Rattle.std.proofs.Common.{ap, subst, sym, ◌∙◌}
+use Rattle.std.proofs.Common.{IsTrue, ap, subst, sym, ◌∙◌}
 use Rattle.geos_model.specs.Document.{empty_document}
+use Rattle.block_cache.specs.State.{CacheState, seen}
 use Rattle.vm_blocks.specs.Opening.{IsMadeIn}
-use Rattle.undo_log.specs.Records.{SessionState, file_of}
 use Rattle.undo_log.proofs.Beginnings.{begun}
 use Rattle.undo_log.proofs.session.Session.create.Goals as goal
 
 pub returns-in-Ok-clause-made : goal.returns-in-Ok-clause-made
-returns-in-Ok-clause-made g c = subst (λ (s : SessionState g.row.S.Denot). IsMadeIn g.S.Store.facts c.args.store (file_of s)) (sym c.begin.ensures) c.in-Ok.ensures
+returns-in-Ok-clause-made g c = subst (λ (b : CacheState g.row.S.Denot). IsMadeIn g.S.Store.facts c.args.store (seen b)) (sym c.begin.ensures.blocks) c.in-Ok.ensures.made
+
+pub returns-in-Ok-clause-new : goal.returns-in-Ok-clause-new
+returns-in-Ok-clause-new g c = (c.begin.ensures.undo, c.begin.ensures.redo, ap (λ (b : CacheState g.row.S.Denot). b.frames) c.begin.ensures.blocks ∙ c.in-Ok.ensures.frames)
+
+pub returns-in-Ok-clause-exact : goal.returns-in-Ok-clause-exact
+returns-in-Ok-clause-exact g c so = c.begin.ensures.exact (subst IsTrue (sym c.in-Ok.ensures.made.follows.honest) so)
 
 pub returns-in-Ok-clause-machine : goal.returns-in-Ok-clause-machine
 returns-in-Ok-clause-machine g c target =
-    let is = c.begin.ensures in
-    let made = c.in-Ok.ensures in
+    let is = c.begin.ensures.blocks in
+    let made = c.in-Ok.ensures.made in
     begun c.begin.result empty_document empty_document 1 c.args.frames target
-    (ap (λ (s : SessionState g.row.S.Denot). s.document) is ∙ made.document)
-    (ap (λ (s : SessionState g.row.S.Denot). s.disk.updated) is ∙ made.new_file.updated)
-    (ap (λ (s : SessionState g.row.S.Denot). s.disk.saved) is ∙ made.new_file.saved)
-    (ap (λ (s : SessionState g.row.S.Denot). s.disk.sequence) is ∙ made.new_file.sequence)
-    (ap (λ (s : SessionState g.row.S.Denot). s.undo) is)
-    (ap (λ (s : SessionState g.row.S.Denot). s.redo) is)
-    (ap (λ (s : SessionState g.row.S.Denot). s.frames) is)
+    (ap (λ (b : CacheState g.row.S.Denot). b.document) is ∙ made.document)
+    (ap (λ (b : CacheState g.row.S.Denot). b.disk.updated) is ∙ made.new_file.updated)
+    (ap (λ (b : CacheState g.row.S.Denot). b.disk.saved) is ∙ made.new_file.saved)
+    (ap (λ (b : CacheState g.row.S.Denot). b.disk.sequence) is ∙ made.new_file.sequence)
+    c.begin.ensures.undo c.begin.ensures.redo (ap (λ (b : CacheState g.row.S.Denot). b.frames) is ∙ c.in-Ok.ensures.frames)

@@ -1,42 +1,154 @@
-use Rattle.std.proofs.Common.{◌≡◌, false, List, [], ◌∷◌, reverse, Some, sym, subst, ap, ◌∙◌, rules}
-use Rattle.geos_model.specs.Document.{Document}
-use Rattle.geos_model.specs.Machine.{Step}
-use Rattle.geos_model.specs.Reply.{reply_of_done}
+use Rattle.std.proofs.Common.{◌≡◌, ◌⊎◌, Err, List, ◌∷◌, reverse, inl, refl, ap, sym, subst, ◌∙◌, rules}
+use Rattle.std.specs.Prelude.{IfErr, OnErr}
+use Rattle.std.proofs.lemmas.Result.{err_from_is_err_and}
+use Rattle.geos_model.specs.Machine.{kind_of}
+use Rattle.geos_model.specs.Reply.{reply_by, reply_of_done}
 use Rattle.geos_model.specs.declared.command.Command.TheVariants as commands
-use Rattle.vm_file.specs.Disk.{Disk}
-use Rattle.vm_blocks.specs.Changes.{made}
-use Rattle.vm_blocks.proofs.Documents.{same_document, same_disk}
+use Rattle.geos_model.specs.declared.fault.Fault.TheVariants.{Memory}
+use Rattle.vm_file.specs.Disk.{Passes}
+use Rattle.vm_blocks.specs.Keeping.{Lacks}
 use Rattle.vm_blocks.specs.declared.change.Change.{Change}
 use Rattle.vm_blocks.specs.declared.change.Direction.TheVariants.{Backwards}
-use Rattle.undo_log.specs.Records.{SessionState, machine_of, AreSteps}
-use Rattle.undo_log.proofs.Answers.{edit_answers}
+use Rattle.vm_blocks.proofs.KeepingLaws.{keeps-refl, keeps-passes, keeps-drifts, lacks-memory}
+use Rattle.doc_edits.specs.Planning.{IsChainEditFault, Refuses}
+use Rattle.undo_log.specs.Records.{SessionState, AreListed, IsStep, KeepsSession, Records}
+use Rattle.undo_log.proofs.Edited.{edit_step, edit_refused, made_at_hand}
+use Rattle.undo_log.proofs.Keeping.{drifted_listed}
+use Rattle.undo_log.proofs.Listing.{drifted, edited_listed}
 use Rattle.undo_log.proofs.Lists.{pushed_first}
-use Rattle.undo_log.proofs.Steps.{edited_steps}
+use Rattle.undo_log.proofs.LookUps.{session_with}
 use Rattle.undo_log.proofs.session.Session.edit.Goals as goal
 
+-- memory for the lists was wanting
+pub returns-in_err-reserve-clause-step : goal.returns-in_err-reserve-clause-step
+returns-in_err-reserve-clause-step g c =
+    let facts = g.S.Store.facts in
+    let old = session_with c.self.inside.blocks (reverse c.self.inside.undo.items) (reverse c.self.inside.redo.items) in
+    let new = session_with c.self.inside.blocks (reverse c.reserve.new.self.items) (reverse c.self.inside.redo.items) in
+    let p = err_from_is_err_and c.from_residual.result c.from_residual.ensures.1 in
+    subst (λ (s : SessionState g.row.S.Denot). IsStep facts s new (commands.Edit c.args.edit.now) (reply_by reply_of_done c.from_residual.result)) c.self.view_is
+    (subst (λ r. IsStep facts old new (commands.Edit c.args.edit.now) (reply_by reply_of_done r)) (sym (p.1 ∙ ap Err p.2))
+    (edit_refused facts old new c.args.edit.now Memory (record { blocks = keeps-refl facts c.self.inside.blocks; undo = ap reverse c.in_err-reserve.ensures.items; redo = refl }) (λ _. inl (lacks-memory facts c.self.inside.blocks.disk.store c.self.inside.blocks.disk.store)) (λ _. inl refl)))
+
+pub returns-in_err-reserve-clause-err : goal.returns-in_err-reserve-clause-err
+returns-in_err-reserve-clause-err g c =
+    let facts = g.S.Store.facts in
+    let old = session_with c.self.inside.blocks (reverse c.self.inside.undo.items) (reverse c.self.inside.redo.items) in
+    let new = session_with c.self.inside.blocks (reverse c.reserve.new.self.items) (reverse c.self.inside.redo.items) in
+    let p = err_from_is_err_and c.from_residual.result c.from_residual.ensures.1 in
+    subst (λ (s : SessionState g.row.S.Denot). OnErr c.from_residual.result (KeepsSession facts s new)) c.self.view_is
+    (subst (λ r. OnErr r (KeepsSession facts old new)) (sym p.1) (record { blocks = keeps-refl facts c.self.inside.blocks; undo = ap reverse c.in_err-reserve.ensures.items; redo = refl }))
+
+pub returns-in_err-reserve-clause-refusals : goal.returns-in_err-reserve-clause-refusals
+returns-in_err-reserve-clause-refusals g c =
+    let p = err_from_is_err_and c.from_residual.result c.from_residual.ensures.1 in
+    rw (p.1, p.2) (inl (inl (lacks-memory g.S.Store.facts _ _)))
+
+pub returns-in_err-reserve-2-clause-step : goal.returns-in_err-reserve-2-clause-step
+returns-in_err-reserve-2-clause-step g c =
+    let facts = g.S.Store.facts in
+    let old = session_with c.self.inside.blocks (reverse c.self.inside.undo.items) (reverse c.self.inside.redo.items) in
+    let new = session_with c.self.inside.blocks (reverse c.reserve.new.self.items) (reverse c.reserve-2.new.self.items) in
+    let p = err_from_is_err_and c.from_residual-in_err-reserve-2.result c.from_residual-in_err-reserve-2.ensures.1 in
+    subst (λ (s : SessionState g.row.S.Denot). IsStep facts s new (commands.Edit c.args.edit.now) (reply_by reply_of_done c.from_residual-in_err-reserve-2.result)) c.self.view_is
+    (subst (λ r. IsStep facts old new (commands.Edit c.args.edit.now) (reply_by reply_of_done r)) (sym (p.1 ∙ ap Err p.2))
+    (edit_refused facts old new c.args.edit.now Memory (record { blocks = keeps-refl facts c.self.inside.blocks; undo = ap reverse c.in_ok-reserve.ensures.items; redo = ap reverse c.in_err-reserve-2.ensures.items }) (λ _. inl (lacks-memory facts c.self.inside.blocks.disk.store c.self.inside.blocks.disk.store)) (λ _. inl refl)))
+
+pub returns-in_err-reserve-2-clause-err : goal.returns-in_err-reserve-2-clause-err
+returns-in_err-reserve-2-clause-err g c =
+    let facts = g.S.Store.facts in
+    let old = session_with c.self.inside.blocks (reverse c.self.inside.undo.items) (reverse c.self.inside.redo.items) in
+    let new = session_with c.self.inside.blocks (reverse c.reserve.new.self.items) (reverse c.reserve-2.new.self.items) in
+    let p = err_from_is_err_and c.from_residual-in_err-reserve-2.result c.from_residual-in_err-reserve-2.ensures.1 in
+    subst (λ (s : SessionState g.row.S.Denot). OnErr c.from_residual-in_err-reserve-2.result (KeepsSession facts s new)) c.self.view_is
+    (subst (λ r. OnErr r (KeepsSession facts old new)) (sym p.1) (record { blocks = keeps-refl facts c.self.inside.blocks; undo = ap reverse c.in_ok-reserve.ensures.items; redo = ap reverse c.in_err-reserve-2.ensures.items }))
+
+pub returns-in_err-reserve-2-clause-refusals : goal.returns-in_err-reserve-2-clause-refusals
+returns-in_err-reserve-2-clause-refusals g c =
+    let p = err_from_is_err_and c.from_residual-in_err-reserve-2.result c.from_residual-in_err-reserve-2.ensures.1 in
+    rw (p.1, p.2) (inl (inl (lacks-memory g.S.Store.facts _ _)))
+
+-- the edit is refused
+pub invariant_of-self-in_err-change : goal.invariant_of-self-in_err-change
+invariant_of-self-in_err-change g c = (
+  search rules,
+  search rules,
+  subst (λ (cs : List Change). AreListed Backwards c.make.new.blocks.document (reverse cs) (reverse c.reserve-2.new.self.items)) (sym c.in_ok-reserve.ensures.items)
+      (subst (λ (cs : List Change). AreListed Backwards c.make.new.blocks.document (reverse c.self.inside.undo.items) (reverse cs)) (sym c.in_ok-reserve-2.ensures.items)
+      (drifted_listed _ _ _ (reverse c.self.inside.undo.items) (reverse c.self.inside.redo.items) (keeps-drifts g.S.Store.facts c.self.inside.blocks c.make.new.blocks c.in_err-change.ensures.err) c.self.invariant.2)),
+)
+
+pub returns-in_err-change-clause-step : goal.returns-in_err-change-clause-step
+returns-in_err-change-clause-step g c =
+    let facts = g.S.Store.facts in let e = c.in_err-change.ensures in
+    let old = session_with c.self.inside.blocks (reverse c.self.inside.undo.items) (reverse c.self.inside.redo.items) in
+    let new = session_with c.make.new.blocks (reverse c.reserve.new.self.items) (reverse c.reserve-2.new.self.items) in
+    let p = err_from_is_err_and c.from_residual-in_err-change.result c.from_residual-in_err-change.ensures.1 in
+    subst (λ (s : SessionState g.row.S.Denot). IsStep facts s new (commands.Edit c.args.edit.now) (reply_by reply_of_done c.from_residual-in_err-change.result)) c.self.view_is
+    (subst (λ r. IsStep facts old new (commands.Edit c.args.edit.now) (reply_by reply_of_done r)) (sym (p.1 ∙ ap Err p.2))
+    (edit_refused facts old new c.args.edit.now c.in_err-change.field-0.0 (record { blocks = e.err; undo = ap reverse c.in_ok-reserve.ensures.items; redo = ap reverse c.in_ok-reserve-2.ensures.items }) e.rules (λ is. (e.plain is).1)))
+
+pub returns-in_err-change-clause-err : goal.returns-in_err-change-clause-err
+returns-in_err-change-clause-err g c =
+    let facts = g.S.Store.facts in
+    let old = session_with c.self.inside.blocks (reverse c.self.inside.undo.items) (reverse c.self.inside.redo.items) in
+    let new = session_with c.make.new.blocks (reverse c.reserve.new.self.items) (reverse c.reserve-2.new.self.items) in
+    let p = err_from_is_err_and c.from_residual-in_err-change.result c.from_residual-in_err-change.ensures.1 in
+    subst (λ (s : SessionState g.row.S.Denot). OnErr c.from_residual-in_err-change.result (KeepsSession facts s new)) c.self.view_is
+    (subst (λ r. OnErr r (KeepsSession facts old new)) (sym p.1) (record { blocks = c.in_err-change.ensures.err; undo = ap reverse c.in_ok-reserve.ensures.items; redo = ap reverse c.in_ok-reserve-2.ensures.items }))
+
+pub returns-in_err-change-clause-refusals : goal.returns-in_err-change-clause-refusals
+returns-in_err-change-clause-refusals g c =
+    let facts = g.S.Store.facts in let new = c.make.new.blocks in
+    let p = err_from_is_err_and c.from_residual-in_err-change.result c.from_residual-in_err-change.ensures.1 in
+    subst (λ (s : SessionState g.row.S.Denot). IfErr c.from_residual-in_err-change.result (λ fault. Refuses (Lacks facts s.disk.store new.disk.store) c.args.edit.now new.document fault ⊎ IsChainEditFault c.args.edit.now fault)) c.self.view_is
+    (subst (λ r. IfErr r (λ fault. Refuses (Lacks facts c.self.inside.blocks.disk.store new.disk.store) c.args.edit.now new.document fault ⊎ IsChainEditFault c.args.edit.now fault)) (sym (p.1 ∙ ap Err p.2)) c.in_err-change.ensures.refusals)
+
+pub returns-in_err-change-clause-passes : goal.returns-in_err-change-clause-passes
+returns-in_err-change-clause-passes g c =
+    subst (λ (s : SessionState g.row.S.Denot). Passes g.S.Store.facts s.disk c.make.new.blocks.disk) c.self.view_is (keeps-passes g.S.Store.facts c.self.inside.blocks c.make.new.blocks c.in_err-change.ensures.err)
+
+pub returns-in_err-change-clause-plain : goal.returns-in_err-change-clause-plain
+returns-in_err-change-clause-plain g c = λ is.
+    let p = err_from_is_err_and c.from_residual-in_err-change.result c.from_residual-in_err-change.ensures.1 in
+    (subst (λ (s : SessionState g.row.S.Denot). c.make.new.blocks.disk ≡ s.disk) c.self.view_is (c.in_err-change.ensures.plain is).0, rw (p.1, p.2) (c.in_err-change.ensures.plain is).1)
+
+-- the edit is made
 pub invariant_of-self-2 : goal.invariant_of-self-2
 invariant_of-self-2 g c =
-    let before = c.self.inside.blocks.document in let new = c.take.new.blocks.document in let plans = c.in_ok-change.ensures.planned in let change = c.in_ok-change.change in
+    let facts = g.S.Store.facts in let made = c.in_ok-change.ensures.ok in let new = c.make.new.blocks in let change = c.in_ok-change.change in
     let undo = reverse c.self.inside.undo.items in
-    let is : new ≡ made change before = same_document c.in_ok-take.ensures.ok ∙ ap (made change) (same_document c.in_ok-change.ensures.stays) in
     let pushed : reverse c.push_reserved.new.self.items ≡ change ∷ undo = pushed_first c.self.inside.undo.items _ _ change c.in_ok-reserve.ensures.items c.push_reserved.ensures.items in
-    let steps = edited_steps before new undo (reverse c.self.inside.redo.items) change c.self.invariant.2 plans.applies is in (
+    let honest = (facts c.self.inside.blocks.disk.store).honest in (
       search rules,
       search rules,
-      subst (λ (cs : List Change). AreSteps Backwards new cs (reverse c.clear.new.self.items)) (sym pushed)
-          (subst (λ (cs : List Change). AreSteps Backwards new (change ∷ undo) (reverse cs)) (sym c.clear.ensures.items) steps),
+      subst (λ (cs : List Change). AreListed Backwards new.document cs (reverse c.clear.new.self.items)) (sym pushed)
+          (subst (λ (cs : List Change). AreListed Backwards new.document (change ∷ undo) (reverse cs)) (sym c.clear.ensures.items)
+          (edited_listed honest c.self.inside.blocks.document new.document change undo (reverse c.self.inside.redo.items) c.validity.ensures.listed (drifted honest _ new.document made.makes.document) made.listed c.self.invariant.2)),
     )
 
 pub returns-clause-step : goal.returns-clause-step
-returns-clause-step g c = λ target.
-    let m = machine_of target (record { disk = c.self.inside.blocks.disk; document = c.self.inside.blocks.document; undo = []; redo = []; frames = c.self.inside.frames }) in
-    let before = c.self.inside.blocks.document in let new = c.take.new.blocks.document in let plans = c.in_ok-change.ensures.planned in let change = c.in_ok-change.change in
-    let undo = reverse c.self.inside.undo.items in
-    let is : new ≡ made change before = same_document c.in_ok-take.ensures.ok ∙ ap (made change) (same_document c.in_ok-change.ensures.stays) in
+returns-clause-step g c =
+    let facts = g.S.Store.facts in let undo = reverse c.self.inside.undo.items in let change = c.in_ok-change.change in
+    let old = session_with c.self.inside.blocks undo (reverse c.self.inside.redo.items) in
+    let new = session_with c.make.new.blocks (reverse c.push_reserved.new.self.items) (reverse c.clear.new.self.items) in
     let pushed : reverse c.push_reserved.new.self.items ≡ change ∷ undo = pushed_first c.self.inside.undo.items _ _ change c.in_ok-reserve.ensures.items c.push_reserved.ensures.items in
-    let answers = edit_answers m c.args.edit.now before undo (reverse c.self.inside.redo.items) change c.in_ok-change.done c.self.invariant.2 plans in
-    let disk : c.take.new.blocks.disk ≡ c.self.inside.blocks.disk = same_disk c.in_ok-take.ensures.ok ∙ same_disk c.in_ok-change.ensures.stays in
-    let old : SessionState g.row.S.Denot = record { disk = c.self.inside.blocks.disk; document = c.self.inside.blocks.document; undo = reverse c.self.inside.undo.items; redo = reverse c.self.inside.redo.items; frames = c.self.inside.frames } in
-    let now : Disk g.row.S.Denot → SessionState g.row.S.Denot = λ disk. record { disk = disk; document = new; undo = reverse c.push_reserved.new.self.items; redo = reverse c.clear.new.self.items; frames = c.self.inside.frames } in
-    subst (λ (s : SessionState g.row.S.Denot). Step false (machine_of target s) (Some (commands.Edit c.args.edit.now)) (reply_of_done c.in_ok-change.done) (machine_of target (now c.take.new.blocks.disk))) c.self.view_is
-    (subst (λ (d : Disk g.row.S.Denot). Step false (machine_of target old) (Some (commands.Edit c.args.edit.now)) (reply_of_done c.in_ok-change.done) (machine_of target (now d))) (sym disk) (rw (pushed, is, c.clear.ensures.items) answers))
+    subst (λ (s : SessionState g.row.S.Denot). IsStep facts s new (commands.Edit c.args.edit.now) (reply_of_done c.in_ok-change.done)) c.self.view_is
+    (edit_step facts old new c.args.edit.now change c.in_ok-change.done c.in_ok-change.ensures.ok pushed (ap reverse c.clear.ensures.items))
+
+pub returns-clause-ok : goal.returns-clause-ok
+returns-clause-ok g c =
+    let facts = g.S.Store.facts in let undo = reverse c.self.inside.undo.items in let change = c.in_ok-change.change in let made = c.in_ok-change.ensures.ok in
+    let new = session_with c.make.new.blocks (reverse c.push_reserved.new.self.items) (reverse c.clear.new.self.items) in
+    let pushed : reverse c.push_reserved.new.self.items ≡ change ∷ undo = pushed_first c.self.inside.undo.items _ _ change c.in_ok-reserve.ensures.items c.push_reserved.ensures.items in
+    subst (λ (s : SessionState g.row.S.Denot). Records facts c.args.edit.now s new) c.self.view_is
+    (record { change = change; kind = made.kind; makes = made.makes; undo = pushed; redo = ap reverse c.clear.ensures.items })
+
+pub returns-clause-at_hand : goal.returns-clause-at_hand
+returns-clause-at_hand g c = made_at_hand g.S.Store.facts c.in_ok-change.change (kind_of c.args.edit.now) c.make.new.blocks c.in_ok-change.ensures.ok.kind c.in_ok-change.ensures.ok.makes.at_hand
+
+pub returns-clause-plain : goal.returns-clause-plain
+returns-clause-plain g c = λ is. (subst (λ (s : SessionState g.row.S.Denot). c.make.new.blocks.disk ≡ s.disk) c.self.view_is (c.in_ok-change.ensures.plain is).0, tt)
+
+pub returns-clause-passes : goal.returns-clause-passes
+returns-clause-passes g c = subst (λ (s : SessionState g.row.S.Denot). Passes g.S.Store.facts s.disk c.make.new.blocks.disk) c.self.view_is c.in_ok-change.ensures.ok.makes.passes

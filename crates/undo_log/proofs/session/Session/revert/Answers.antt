@@ -1,29 +1,51 @@
-use Rattle.std.proofs.Common.{Bool, IsTrue, Err, Some, reverse, refl, sym, ap, subst, ◌∙◌}
-use Rattle.std.specs.Prelude.{Ok}
+use Rattle.std.proofs.Common.{IsTrue, Err, Ok, List, [], reverse, refl, sym, ap, subst, ◌∙◌, rules}
 use Rattle.std.proofs.lemmas.Result.{err_from_is_err_and}
-use Rattle.geos_model.specs.Machine.{Step}
 use Rattle.geos_model.specs.Reply.{Accepted, reply_by}
 use Rattle.geos_model.specs.declared.command.Command.TheVariants as commands
-use Rattle.undo_log.specs.Records.{SessionState, machine_of, has_failed}
-use Rattle.undo_log.proofs.CommitSteps.{revert_step}
+use Rattle.vm_blocks.specs.declared.change.Change.{Change}
+use Rattle.vm_blocks.specs.declared.change.Direction.TheVariants.{Backwards}
+use Rattle.undo_log.specs.Records.{SessionState, AreListed, IsExact, IsStep}
+use Rattle.undo_log.proofs.Beginnings.{begun_exact}
+use Rattle.undo_log.proofs.CommitSteps.{revert_is}
+use Rattle.undo_log.proofs.Keeping.{drifted_listed}
+use Rattle.undo_log.proofs.Listing.{none_listed}
+use Rattle.undo_log.proofs.LookUps.{session_with}
 use Rattle.undo_log.proofs.session.Session.revert.Goals as goal
 
 pub returns-in_err-revert-clause-step : goal.returns-in_err-revert-clause-step
 returns-in_err-revert-clause-step g c =
-    let facts = g.S.Store.facts in let i = c.self.inside in let e = c.in_err-revert.ensures in
+    let facts = g.S.Store.facts in let e = c.in_err-revert.ensures in let undo = reverse c.self.inside.undo.items in let redo = reverse c.self.inside.redo.items in
     let p = err_from_is_err_and c.from_residual.result c.from_residual.ensures.1 in
-    let old : SessionState g.row.S.Denot = record { disk = i.blocks.disk; document = i.blocks.document; undo = reverse i.undo.items; redo = reverse i.redo.items; frames = i.frames } in
-    let new : SessionState g.row.S.Denot = record old { disk = c.revert.new.self.disk; document = c.revert.new.self.document } in
-    subst (λ (s : SessionState g.row.S.Denot). IsTrue (facts s.disk.store).honest → (target : Bool)
-    → Step (has_failed (facts s.disk.store) (facts new.disk.store)) (machine_of target s) (Some commands.Revert) (reply_by (λ _. Accepted) c.from_residual.result) (machine_of target new)) c.self.view_is
-    (λ so target. subst (λ r. Step (has_failed (facts old.disk.store) (facts new.disk.store)) (machine_of target old) (Some commands.Revert) (reply_by (λ _. Accepted) r) (machine_of target new)) (sym (p.1 ∙ ap Err p.2))
-    (revert_step facts target old new so (Err c.in_err-revert.field-0.0) e.commit e.fails (refl, refl) refl))
+    let new = session_with c.revert.new.self undo redo in
+    subst (λ (s : SessionState g.row.S.Denot). IsStep facts s new commands.Revert (reply_by (λ _. Accepted) c.from_residual.result)) c.self.view_is
+    (subst (λ r. IsStep facts (session_with c.self.inside.blocks undo redo) new commands.Revert (reply_by (λ _. Accepted) r)) (sym (p.1 ∙ ap Err p.2))
+    (revert_is facts (session_with c.self.inside.blocks undo redo) new (Err c.in_err-revert.field-0.0) e.commit e.fails (refl, refl) e.frames tt))
 
 pub returns-clause-step : goal.returns-clause-step
 returns-clause-step g c =
-    let facts = g.S.Store.facts in let i = c.self.inside in let e = c.in_ok-revert.ensures in
-    let old : SessionState g.row.S.Denot = record { disk = i.blocks.disk; document = i.blocks.document; undo = reverse i.undo.items; redo = reverse i.redo.items; frames = i.frames } in
-    let new : SessionState g.row.S.Denot = record { disk = c.revert.new.self.disk; document = c.revert.new.self.document; undo = reverse c.clear.new.self.items; redo = reverse c.clear-2.new.self.items; frames = i.frames } in
-    subst (λ (s : SessionState g.row.S.Denot). IsTrue (facts s.disk.store).honest → (target : Bool)
-    → Step (has_failed (facts s.disk.store) (facts new.disk.store)) (machine_of target s) (Some commands.Revert) Accepted (machine_of target new)) c.self.view_is
-    (λ so target. revert_step facts target old new so (Ok c.in_ok-revert.field-0) e.commit e.fails (ap reverse c.clear.ensures.items, ap reverse c.clear-2.ensures.items) refl)
+    let facts = g.S.Store.facts in let e = c.in_ok-revert.ensures in let undo = reverse c.self.inside.undo.items in let redo = reverse c.self.inside.redo.items in
+    let new = session_with c.revert.new.self (reverse c.clear.new.self.items) (reverse c.clear-2.new.self.items) in
+    subst (λ (s : SessionState g.row.S.Denot). IsStep facts s new commands.Revert Accepted) c.self.view_is
+    (revert_is facts (session_with c.self.inside.blocks undo redo) new (Ok c.in_ok-revert.field-0) e.commit e.fails (ap reverse c.clear.ensures.items, ap reverse c.clear-2.ensures.items) e.frames c.validity.ensures.document)
+
+pub returns-clause-exact : goal.returns-clause-exact
+returns-clause-exact g c =
+    let facts = g.S.Store.facts in let honest = c.in_ok-revert.ensures.commit.commits.honest in
+    let new = session_with c.revert.new.self (reverse c.clear.new.self.items) (reverse c.clear-2.new.self.items) in
+    subst (λ (s : SessionState g.row.S.Denot). IsTrue (facts s.disk.store).honest → IsExact facts new) c.self.view_is
+    (λ so. begun_exact facts new c.validity.ensures.document (ap reverse c.clear.ensures.items) (ap reverse c.clear-2.ensures.items) (subst IsTrue (sym honest) so))
+
+pub invariant_of-self : goal.invariant_of-self
+invariant_of-self g c = (
+  search rules,
+  search rules,
+  drifted_listed _ _ _ (reverse c.self.inside.undo.items) (reverse c.self.inside.redo.items) c.in_err-revert.ensures.commit.document c.self.invariant.2,
+)
+
+pub invariant_of-self-2 : goal.invariant_of-self-2
+invariant_of-self-2 g c = (
+  search rules,
+  search rules,
+  subst (λ (cs : List Change). AreListed Backwards c.revert.new.self.document (reverse cs) (reverse c.clear-2.new.self.items)) (sym c.clear.ensures.items)
+      (subst (λ (cs : List Change). AreListed Backwards c.revert.new.self.document [] (reverse cs)) (sym c.clear-2.ensures.items) (none_listed c.revert.new.self.document)),
+)

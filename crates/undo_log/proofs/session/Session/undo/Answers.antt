@@ -1,37 +1,83 @@
-use Rattle.std.proofs.Common.{false, Some, [], reverse, sym, subst, rules}
-use Rattle.geos_model.specs.Machine.{Step}
+use Rattle.std.proofs.Common.{Err, reverse, ap, sym, subst, ◌∙◌, rules}
+use Rattle.std.specs.Prelude.{IfErr, OnErr}
+use Rattle.std.proofs.lemmas.Bool.{true≢false}
+use Rattle.std.proofs.lemmas.Result.{err_from_is_err_and}
 use Rattle.geos_model.specs.Reply.{Accepted, reply_by}
 use Rattle.geos_model.specs.declared.command.Command.TheVariants as commands
+use Rattle.geos_model.specs.declared.fault.Fault.TheVariants.{NothingToUndo}
+use Rattle.vm_file.specs.Disk.{Passes}
 use Rattle.vm_blocks.specs.declared.change.Direction.TheVariants.{Backwards}
-use Rattle.vm_file.specs.Disk.{Disk}
-use Rattle.undo_log.specs.Records.{SessionState, machine_of}
-use Rattle.undo_log.proofs.Answers.{undo_answers}
-use Rattle.undo_log.proofs.Steps.{kept_steps}
+use Rattle.vm_blocks.proofs.KeepingLaws.{keeps-passes}
+use Rattle.undo_log.specs.Records.{SessionState, IsStep, KeepsSession}
+use Rattle.undo_log.specs.Turning.{IsRefusedTurn}
+use Rattle.undo_log.proofs.LookUps.{session_with}
+use Rattle.undo_log.proofs.Turns.{refused_turn, turned_passes, undo_answers, undo_kept, undo_refused}
 use Rattle.undo_log.proofs.session.Session.undo.Goals as goal
 use Rattle.undo_log.proofs.session.Session.undo.Goals.{then-branch, else-branch}
 
+pub invariant_of-self : goal.invariant_of-self
+invariant_of-self g c = (search rules, search rules, c.turn.ensures.listed)
+
 pub invariant_of-self-2 : goal.invariant_of-self-2
-invariant_of-self-2 g c = (
-  search rules,
-  search rules,
-  kept_steps c.in_ok-turn.field-0 Backwards c.self.inside.blocks.document c.turn.new.blocks.document (reverse c.self.inside.undo.items) (reverse c.self.inside.redo.items) (reverse c.turn.new.from.items) (reverse c.turn.new.to.items) c.in_ok-turn.ensures.ok c.self.invariant.2,
-)
+invariant_of-self-2 g c = (search rules, search rules, c.turn.ensures.listed)
+
+pub returns-in_err-turn-clause-step : goal.returns-in_err-turn-clause-step
+returns-in_err-turn-clause-step g c =
+    let facts = g.S.Store.facts in let e = c.in_err-turn.ensures in
+    let old = session_with c.self.inside.blocks (reverse c.self.inside.undo.items) (reverse c.self.inside.redo.items) in
+    let new = session_with c.turn.new.blocks (reverse c.turn.new.from.items) (reverse c.turn.new.to.items) in
+    let p = err_from_is_err_and c.from_residual.result c.from_residual.ensures.1 in
+    subst (λ (s : SessionState g.row.S.Denot). IsStep facts s new commands.Undo (reply_by (λ _. Accepted) c.from_residual.result)) c.self.view_is
+    (subst (λ r. IsStep facts old new commands.Undo (reply_by (λ _. Accepted) r)) (sym (p.1 ∙ ap Err p.2))
+    (undo_refused facts old new c.in_err-turn.field-0.0 (record { blocks = e.keeps.0; undo = ap reverse e.keeps.1; redo = ap reverse e.keeps.2 }) (λ can. true≢false (sym (e.sure can).0)) e.err))
+
+pub returns-in_err-turn-clause-err : goal.returns-in_err-turn-clause-err
+returns-in_err-turn-clause-err g c =
+    let facts = g.S.Store.facts in let e = c.in_err-turn.ensures in
+    let old = session_with c.self.inside.blocks (reverse c.self.inside.undo.items) (reverse c.self.inside.redo.items) in
+    let new = session_with c.turn.new.blocks (reverse c.turn.new.from.items) (reverse c.turn.new.to.items) in
+    let p = err_from_is_err_and c.from_residual.result c.from_residual.ensures.1 in
+    subst (λ (s : SessionState g.row.S.Denot). OnErr c.from_residual.result (KeepsSession facts s new)) c.self.view_is
+    (subst (λ r. OnErr r (KeepsSession facts old new)) (sym p.1) (record { blocks = e.keeps.0; undo = ap reverse e.keeps.1; redo = ap reverse e.keeps.2 }))
+
+pub returns-in_err-turn-clause-refusals : goal.returns-in_err-turn-clause-refusals
+returns-in_err-turn-clause-refusals g c =
+    let facts = g.S.Store.facts in
+    let old = session_with c.self.inside.blocks (reverse c.self.inside.undo.items) (reverse c.self.inside.redo.items) in
+    let new = session_with c.turn.new.blocks (reverse c.turn.new.from.items) (reverse c.turn.new.to.items) in
+    let p = err_from_is_err_and c.from_residual.result c.from_residual.ensures.1 in
+    subst (λ (s : SessionState g.row.S.Denot). IfErr c.from_residual.result (IsRefusedTurn facts NothingToUndo s.undo s new)) c.self.view_is
+    (subst (λ r. IfErr r (IsRefusedTurn facts NothingToUndo old.undo old new)) (sym (p.1 ∙ ap Err p.2))
+    (refused_turn facts old new Backwards NothingToUndo c.in_err-turn.field-0.0 old.undo (λ exact. exact.steps.first) c.in_err-turn.ensures.err))
+
+pub returns-in_err-turn-clause-passes : goal.returns-in_err-turn-clause-passes
+returns-in_err-turn-clause-passes g c =
+    subst (λ (s : SessionState g.row.S.Denot). Passes g.S.Store.facts s.disk c.turn.new.blocks.disk) c.self.view_is (keeps-passes g.S.Store.facts c.self.inside.blocks c.turn.new.blocks c.in_err-turn.ensures.keeps.0)
 
 pub returns-clause-step : goal.returns-clause-step
-returns-clause-step g c = λ target.
-    let m = machine_of target (record { disk = c.self.inside.blocks.disk; document = c.self.inside.blocks.document; undo = []; redo = []; frames = c.self.inside.frames }) in
-    let answers = undo_answers m c.in_ok-turn.field-0 c.self.inside.blocks.document c.turn.new.blocks.document (reverse c.self.inside.undo.items) (reverse c.self.inside.redo.items) (reverse c.turn.new.from.items) (reverse c.turn.new.to.items) c.self.invariant.2 c.in_ok-turn.ensures.ok in
-    let old : SessionState g.row.S.Denot = record { disk = c.self.inside.blocks.disk; document = c.self.inside.blocks.document; undo = reverse c.self.inside.undo.items; redo = reverse c.self.inside.redo.items; frames = c.self.inside.frames } in
-    let now : Disk g.row.S.Denot → SessionState g.row.S.Denot = λ disk. record { disk = disk; document = c.turn.new.blocks.document; undo = reverse c.turn.new.from.items; redo = reverse c.turn.new.to.items; frames = c.self.inside.frames } in
-    subst (λ (s : SessionState g.row.S.Denot). Step false (machine_of target s) (Some commands.Undo) (reply_by (λ _. Accepted) c.if-branch.result) (machine_of target (now c.turn.new.blocks.disk))) c.self.view_is
-    (subst (λ (disk : Disk g.row.S.Denot). Step false (machine_of target old) (Some commands.Undo) (reply_by (λ _. Accepted) c.if-branch.result) (machine_of target (now disk))) (sym c.turn.ensures.disk) (elim c.if-branch.branch [
+returns-clause-step g c =
+    let facts = g.S.Store.facts in
+    let old = session_with c.self.inside.blocks (reverse c.self.inside.undo.items) (reverse c.self.inside.redo.items) in
+    let new = session_with c.turn.new.blocks (reverse c.turn.new.from.items) (reverse c.turn.new.to.items) in
+    let answers = undo_answers facts old new c.in_ok-turn.field-0 c.in_ok-turn.ensures.ok in
+    subst (λ (s : SessionState g.row.S.Denot). IsStep facts s new commands.Undo (reply_by (λ _. Accepted) c.if-branch.result)) c.self.view_is
+    (elim c.if-branch.branch [
       | then-branch w ↦ rw w.result-is (rw w.if-branch.true at answers)
       | else-branch w ↦ rw w.result-is (rw w.if-branch.false at answers)
-    ]))
+    ])
 
-pub invariant_of-self : goal.invariant_of-self
-invariant_of-self g c = (
-  search rules,
-  search rules,
-  search rules,
-)
+pub returns-clause-err : goal.returns-clause-err
+returns-clause-err g c =
+    let facts = g.S.Store.facts in
+    let old = session_with c.self.inside.blocks (reverse c.self.inside.undo.items) (reverse c.self.inside.redo.items) in
+    let new = session_with c.turn.new.blocks (reverse c.turn.new.from.items) (reverse c.turn.new.to.items) in
+    let turns = c.in_ok-turn.ensures.ok in
+    subst (λ (s : SessionState g.row.S.Denot). OnErr c.if-branch.result (KeepsSession facts s new)) c.self.view_is
+    (elim c.if-branch.branch [
+      | then-branch w ↦ subst (λ r. OnErr r (KeepsSession facts old new)) (sym w.result-is) tt
+      | else-branch w ↦ subst (λ r. OnErr r (KeepsSession facts old new)) (sym w.result-is) (undo_kept facts old new (rw w.if-branch.false at turns))
+    ])
+
+pub returns-clause-passes : goal.returns-clause-passes
+returns-clause-passes g c =
+    subst (λ (s : SessionState g.row.S.Denot). Passes g.S.Store.facts s.disk c.turn.new.blocks.disk) c.self.view_is (turned_passes g.S.Store.facts c.in_ok-turn.field-0 Backwards c.self.inside.blocks c.turn.new.blocks _ _ _ _ c.in_ok-turn.ensures.ok)

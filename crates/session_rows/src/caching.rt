@@ -1,0 +1,129 @@
+// Sessions with one frame: which block is in memory, and how often the store is called for it.
+use crate::calls::{BLOCK, Fused, fused, hold};
+use geos_model::VmHandle;
+use std::alloc::Global;
+use std::test::Fail;
+use undo_log::Session;
+
+// Another block than the first.
+const OTHER: VmHandle = VmHandle(2);
+
+// A saved document of two raw blocks and a heap, of which the last one that was read is in memory.
+const SAVED: &str = "
+    newraw 1 1   = block 0001
+    newraw 2 1   = block 0002
+    newheap 3    = block 0003
+    alloc 0003 3 = chunk 0010
+    save         = ok
+    vread 0001   = bytes 00
+    ";
+
+// A session on that document with one frame, when it has answered so, over a store of which the call after so many fails, or all from
+// there on.
+fn told(alloc: Global, passes: u64, all: bool, text: &str) -> Result<Fused, Fail> {
+    let store = fused(alloc, passes, all);
+    let session = Session::create(alloc, store, 1).map_err(|refused| refused.fault)?;
+    let session = hold(alloc, session, None, SAVED)?;
+    Ok(hold(alloc, session, None, text)?)
+}
+
+// The store calls of such a session.
+fn calls(alloc: Global, text: &str) -> Result<u64, Fail> {
+    Ok(told(alloc, u64::MAX, false, text)?.close().calls())
+}
+
+// Whether this takes so many store calls behind that.
+fn takes(alloc: Global, before: &str, text: &str, more: u64) -> Result<bool, Fail> {
+    let first = calls(alloc, before)?;
+    let all = calls(alloc, &format!(in alloc; "{before}\n{text}")?)?;
+    Ok(first.checked_add(more) == Some(all))
+}
+
+const EDIT: &str = "vwrite 0001 0 61 = ok";
+
+#[test]
+fn a_block_is_in_memory_behind_an_edit_of_it_an_undo_and_a_redo(
+    rt: HostRuntime,
+) -> Result<(), Fail> {
+    let alloc = rt.alloc();
+    let mut session = told(alloc, u64::MAX, false, "vread 0002 = bytes 00")?;
+    for step in [EDIT, "undo = ok", "redo = ok"] {
+        assert!(rt; session.is_resident(OTHER) && !session.is_resident(BLOCK));
+        session = hold(alloc, session, None, step)?;
+        assert!(rt;
+            session.is_resident(BLOCK) && !session.is_resident(OTHER),
+            "{step}"
+        );
+        session = hold(alloc, session, None, "vread 0002 = bytes 00")?;
+    }
+    Ok(())
+}
+
+// What stands before a command, the command, and its store calls.
+const ASKED: [(&str, &str, u64); 9] = [
+    ("", "vread 0001 = bytes 00", 0),
+    ("", "info 0001 = raw 1 1", 0),
+    ("", "vread 0002 = bytes 00", 1),
+    ("", "read 0003 0010 = bytes 000000", 1),
+    ("vread 0002 = bytes 00", "vread 0002 = bytes 00", 0),
+    (EDIT, "vread 0001 = bytes 61", 0),
+    (EDIT, "vread 0002 = bytes 00", 2),
+    ("", "list = blocks 0001 0002 0003", 0),
+    (EDIT, "find 2 0000 = block 0002", 0),
+];
+
+#[test]
+fn a_look_up_reads_a_block_that_is_away_and_writes_a_changed_one_that_goes(
+    rt: HostRuntime,
+) -> Result<(), Fail> {
+    let alloc = rt.alloc();
+    for (before, asked, more) in ASKED {
+        assert!(rt; takes(alloc, before, asked, more)?, "{before} {asked}");
+    }
+    Ok(())
+}
+
+const UNDONE: [(&str, &str, u64); 6] = [
+    (EDIT, "undo = ok", 0),
+    (EDIT, "undo = ok\nredo = ok", 0),
+    ("uid 0002 9 = ok", "undo = ok", 0),
+    ("map 0002 = ok", "undo = ok", 0),
+    (
+        "vwrite 0001 0 61 = ok\nvread 0002 = bytes 00",
+        "undo = ok",
+        1,
+    ),
+    ("newraw 7 9 = block 0004", "undo = ok", 0),
+];
+
+#[test]
+fn an_undo_of_an_edit_in_a_block_in_memory_calls_no_store(rt: HostRuntime) -> Result<(), Fail> {
+    let alloc = rt.alloc();
+    for (before, undone, more) in UNDONE {
+        assert!(rt; takes(alloc, before, undone, more)?, "{before} {undone}");
+    }
+    Ok(())
+}
+
+#[test]
+fn such_an_undo_is_sure_while_the_store_fails(rt: HostRuntime) -> Result<(), Fail> {
+    let alloc = rt.alloc();
+    let passes = calls(alloc, EDIT)?;
+    let session = told(alloc, passes, true, EDIT)?;
+    hold(
+        alloc,
+        session,
+        None,
+        "undo = ok
+        vread 0001 = bytes 00
+        redo = ok
+        vread 0001 = bytes 61
+        vread 0002 = no 2 File
+        update = no 2 File
+        undo = ok
+        vread 0001 = bytes 00
+        undos = number 4
+        redos = number 1",
+    )?;
+    Ok(())
+}

@@ -1,0 +1,102 @@
+-- What always holds of the blocks of a file stays so.
+use Rattle.std.proofs.Common.{◌≡◌, ◌≢◌, ◌≤◌, ◌<◌, ℕ, IsTrue, true, false, List, [], Some, sym, ap, subst, ◌∙◌, arith}
+use Rattle.std.specs.Prelude.{Result, Ok, Err, IfOk, MatchResult, nat_eq}
+use Rattle.std.specs.Option.{option_map}
+use Rattle.std.specs.Map.{remove_entry}
+use Rattle.std.specs.FinMap.{get}
+use Rattle.geos_model.specs.Document.{Block, Document, IsValid, block_at, is_live, is_valid_body, empty_document, with_body, with_user_id, without_block}
+use Rattle.geos_model.specs.declared.command.Body.{Body}
+use Rattle.geos_model.specs.declared.fault.Fault.{Fault}
+use Rattle.geos_model.proofs.Validity.{empty_document-valid, with_body-valid, with_user_id-valid, without_block-valid}
+use Rattle.vm_store.specs.Facts.{StoreFacts}
+use Rattle.vm_file.specs.Disk.{Drifts}
+use Rattle.vm_file.specs.Effects.{KeepsFile}
+use Rattle.block_cache.specs.SavingAs.{IsSavedAs, IsNotSavedAs}
+use Rattle.block_cache.specs.State.{CacheState, Seat, all_locked, locked_count, seen}
+use Rattle.block_cache.proofs.Seats.{some_free}
+use Rattle.vm_blocks.specs.Parts.{Takes, body_made}
+use Rattle.vm_blocks.specs.Sound.{IsSound}
+use Rattle.vm_blocks.specs.declared.change.PartChange.{PartChange}
+use Rattle.vm_blocks.proofs.PartLemmas.{part_valid}
+use Rattle.vm_blocks.proofs.Preparing.{body_of_option, live_there, takes_body}
+use Rattle.vm_blocks.proofs.Residents.{fewer_locked}
+
+none_locked : (ss : List Seat) → ss ≡ [] → locked_count ss ≡ 0
+none_locked ss is = ap locked_count is
+
+module _ {S : Type 0} (facts : S → StoreFacts) where
+  pub sound_made : (frames : ℕ) (state : CacheState S) → 1 ≤ frames → state.document ≡ empty_document → (state.resident ≡ []) × (state.frames ≡ frames) → IsSound facts state
+  sound_made frames state some document empty = record {
+    valid = λ so. subst IsValid (sym document) empty_document-valid;
+    unlocked = none_locked state.resident empty.0;
+    room = let same = empty.1 in omega (arith, some, same);
+  }
+
+  module _ (old new : CacheState S) (sound : IsSound facts old) where
+    pub room_left : all_locked old.frames old.resident ≡ false
+    room_left = let none = sound.unlocked in let some = sound.room in some_free old.frames old.resident (omega (arith, none, some))
+
+    -- where the document drifts at most
+    pub sound_drifts : (facts new.disk.store).honest ≡ (facts old.disk.store).honest → Drifts (facts old.disk.store).honest old.document new.document
+        → locked_count new.resident ≡ locked_count old.resident → new.frames ≡ old.frames → IsSound facts new
+    sound_drifts honest drifts locked frames = record {
+      valid = λ so. let before : IsTrue (facts old.disk.store).honest = subst IsTrue honest so in subst IsValid (sym (drifts.same before)) (sound.valid before);
+      unlocked = locked ∙ sound.unlocked;
+      room = let some = sound.room in omega (arith, some, frames);
+    }
+
+  -- other documents of the same cache
+  module _ (state : CacheState S) where
+    sound_with : (d : Document) → (IsValid state.document → IsValid d) → IsSound facts state → IsSound facts (record state { document = d })
+    sound_with d valid sound = record { valid = λ so. valid (sound.valid so); unlocked = sound.unlocked; room = sound.room }
+
+    pub sound_map : (h : ℕ) → (h ≢ 0 → is_live state.document h ≡ true) → IsSound facts state → IsSound facts (record state { document = record state.document { map_block = h } })
+    sound_map h live sound = sound_with (record state.document { map_block = h }) (λ valid. record { blocks = valid.blocks; map_block = live }) sound
+
+    pub sound_user_id : (h user_id : ℕ) → user_id < 65536 → IsSound facts state → IsSound facts (record state { document = with_user_id state.document h user_id })
+    sound_user_id h user_id word sound = sound_with (with_user_id state.document h user_id) (λ valid. with_user_id-valid state.document h user_id valid word) sound
+
+    -- a block was taken out
+    pub sound_taken : (h : ℕ) → (state.document.map_block ≡ h → ⊥) → IsSound facts state → IsSound facts (record state { document = without_block state.document h; resident = remove_entry (nat_eq h) state.resident })
+    sound_taken h other sound = record {
+      valid = λ so. without_block-valid state.document h (sound.valid so) other;
+      unlocked = let none = sound.unlocked in let fewer = fewer_locked (nat_eq h) state.resident in omega (arith, none, fewer);
+      room = sound.room;
+    }
+
+  -- blocks were put in, or not
+  pub sound_put : (old new : CacheState S) (d : Document) (r : Result (Unit {0}) Fault) → IsSound facts old → (IsValid old.document → IsValid d)
+      → MatchResult r (λ _. KeepsFile facts d (seen old) (seen new)) (λ _. KeepsFile facts old.document (seen old) (seen new)) → (new.resident ≡ old.resident) × (new.frames ≡ old.frames) → IsSound facts new
+  sound_put old new d (Ok done) sound valid keeps same = record {
+    valid = λ so. let before : IsTrue (facts old.disk.store).honest = subst IsTrue keeps.passes.honest so in subst IsValid (sym (keeps.document.same before)) (valid (sound.valid before));
+    unlocked = ap locked_count same.0 ∙ sound.unlocked;
+    room = let some = sound.room in let frames = same.1 in omega (arith, some, frames);
+  }
+  sound_put old new d (Err fault) sound valid keeps same = sound_drifts old new sound keeps.passes.honest keeps.document (ap locked_count same.0) same.1
+
+  -- the file was saved under another store, or not
+  pub sound_saved_as : {E : Type 0} (fault : E → Fault) (back : E → S) (target : S) (old new : CacheState S) (r : Result S E) → IsSound facts old
+      → IfOk r (λ _. IsTrue (facts new.disk.store).honest → IsValid new.document)
+      → MatchResult r (λ store. IsSavedAs facts target store (seen old) (seen new)) (λ e. IsNotSavedAs facts target (back e) (seen old) (seen new) (fault e))
+      → (new.resident ≡ old.resident) × (new.frames ≡ old.frames) → IsSound facts new
+  sound_saved_as fault back target old new (Ok store) sound valid saved same =
+      record { valid = valid; unlocked = ap locked_count same.0 ∙ sound.unlocked; room = let some = sound.room in let frames = same.1 in omega (arith, some, frames) }
+  sound_saved_as fault back target old new (Err e) sound valid saved same =
+      sound_drifts old new sound saved.commits.honest saved.document (ap locked_count same.0) same.1
+
+  -- the body of a block was changed
+  module _ (state : CacheState S) (h : ℕ) (p : PartChange) (body made : Body) (there : option_map (λ (b : Block). b.body) (get state.document.blocks h) ≡ Some body) (takes : Takes p (block_at state.document h).body) (is : made ≡ body_made p body) where
+    taken : Takes p body
+    taken = takes_body state.document h p body there takes
+
+    made_valid : IsValid state.document → is_live state.document h ≡ true → is_valid_body made ≡ true
+    made_valid valid live =
+        let good : is_valid_body body ≡ true = subst (λ (b : Body). is_valid_body b ≡ true) (body_of_option (get state.document.blocks h) body there) (valid.blocks h (block_at state.document h) (live_there state.document h live)).body in
+        ap is_valid_body is ∙ part_valid p body good taken
+
+    pub sound_part : is_live state.document h ≡ true → IsSound facts state → IsSound facts (record state { document = with_body state.document h made })
+    sound_part live sound = record {
+      valid = λ so. let valid = sound.valid so in with_body-valid state.document h made valid live (made_valid valid live);
+      unlocked = sound.unlocked;
+      room = sound.room;
+    }

@@ -1,0 +1,177 @@
+-- What a call leaves that makes a change.
+use Rattle.std.proofs.Common.{◌≡◌, ◌⊎◌, ℕ, Bool, true, false, get_or, is_some, List, [], ◌∷◌, Option, Some, None, inl, inr, refl, sym, ap, subst, ◌∙◌}
+use Rattle.std.specs.Prelude.{Result, Ok, Err, MatchResult, ◌&&◌, IsOk, IfErr, OnOk}
+use Rattle.std.specs.Option.{option_map}
+use Rattle.std.specs.List.{All}
+use Rattle.std.proofs.lemmas.Bool.{true≢false}
+use Rattle.std.specs.FinMap.{get}
+use Rattle.geos_model.specs.Document.{Block, Document, is_live, with_block, with_blocks, with_body, handles_of}
+use Rattle.geos_model.specs.Image.{body_read}
+use Rattle.geos_model.specs.declared.command.Body.{Body}
+use Rattle.geos_model.specs.declared.fault.Fault.{Fault}
+use Rattle.geos_model.specs.declared.fault.Fault.TheVariants.{File, Memory}
+use Rattle.vm_store.specs.Facts.{StoreFacts, Raised}
+use Rattle.vm_file.specs.Calls.{put_all}
+use Rattle.vm_file.specs.Disk.{Disk, Drifts, Passes}
+use Rattle.vm_file.specs.Effects.{Fails, IsCommit, IsWorn, IsDamage, KeepsFile, NoFault}
+use Rattle.vm_file.specs.declared.put.PutBlock.{PutBlock}
+use Rattle.vm_file.proofs.Results.{any_way}
+use Rattle.block_cache.specs.SavingAs.{IsSavedAs, IsNotSavedAs}
+use Rattle.vm_file.proofs.Passing.{Passes-refl, Drifts-refl}
+use Rattle.block_cache.specs.State.{CacheState, is_resident, seated, seen, Stays}
+use Rattle.vm_blocks.proofs.ManyBlocks.{All-from_map}
+use Rattle.vm_blocks.specs.Changes.{AreFree, IsFree, blocks_in, made, part_made}
+use Rattle.vm_blocks.specs.Committing.{IsRevertFault}
+use Rattle.vm_blocks.specs.Keeping.{Keeps, Lacks, is_loaded}
+use Rattle.vm_blocks.specs.Members.{put_blocks, saved_blocks}
+use Rattle.vm_blocks.specs.Parts.{body_made}
+use Rattle.vm_blocks.specs.Preparing.{BodyTakes, IsAtHand, IsUnready, Turns}
+use Rattle.vm_blocks.specs.declared.change.Change.{Change}
+use Rattle.vm_blocks.specs.declared.change.Change.TheVariants as changes
+use Rattle.vm_blocks.specs.declared.change.PartChange.{PartChange}
+use Rattle.vm_blocks.specs.declared.change.PartChange.TheVariants as parts
+use Rattle.vm_blocks.specs.declared.member.Members.{Members}
+use Rattle.vm_blocks.proofs.KeepingLaws.{keeps-refl, lacks-memory}
+use Rattle.vm_blocks.proofs.Preparing.{makes, with_document}
+use Rattle.vm_blocks.proofs.Residents.{both, seated_there}
+
+pub part_as_body : (h : ℕ) (p : PartChange) (d : Document) (body : Body) → option_map (λ (b : Block). b.body) (get d.blocks h) ≡ Some body → part_made h p d ≡ with_body d h (body_made p body)
+part_as_body h p d body there = by (get d.blocks h) refl there
+  where
+    at : (p : PartChange) (block : Block) → get d.blocks h ≡ Some block → part_made h p d ≡ with_body d h (body_made p block.body)
+    at (parts.Raw s) block is = rw is refl
+    at (parts.Chunk c s) block is = rw is refl
+    at (parts.ChunkIn c content) block is = rw is refl
+    at (parts.ChunkOut c content) block is = rw is refl
+
+    by : (o : Option Block) → get d.blocks h ≡ o → option_map (λ (b : Block). b.body) o ≡ Some body → part_made h p d ≡ with_body d h (body_made p body)
+    by None is there = absurd (cc there)
+    by (Some block) is there = let same : block.body ≡ body = cc there in at p block is ∙ ap (λ (x : Body). with_body d h (body_made p x)) same
+
+pub put_all_blocks : (puts : List PutBlock) (d : Document) → put_all puts d ≡ with_blocks d (put_blocks puts)
+put_all_blocks [] d = refl
+put_all_blocks (p ∷ puts) d = put_all_blocks puts (with_block d p.handle.0 (record { user_id = p.user_id; body = body_read p.image }))
+
+no_puts : (puts : List PutBlock) → put_blocks puts ≡ [] → puts ≡ []
+no_puts [] is = refl
+no_puts (p ∷ puts) is = absurd (cc is)
+
+module _ {S : Type 0} (facts : S → StoreFacts) where
+  -- Bringing a block into memory.
+
+  pub loaded_there : (r : Result (Unit {0}) Fault) (old new : CacheState S) (h : ℕ) → Stays facts old new → is_live old.document h ≡ true → OnOk r (new.resident ≡ seated old.frames h old.resident) → OnOk r (is_loaded new h ≡ true)
+  unfolding is_loaded
+  loaded_there (Ok done) old new h stays live ok =
+      both _ _ (subst (λ ss. is_resident ss h ≡ true) (sym ok) (seated_there old.frames h old.resident)) (stays.file.document.live h ∙ live)
+  loaded_there (Err fault) old new h stays live ok = tt
+
+  pub lacks_of : (r : Result (Unit {0}) Fault) (a b : S) → Fails facts (IsDamage (facts a).honest) a b r → IfErr r (Lacks facts a b)
+  unfolding Lacks
+  lacks_of (Ok done) a b fails = tt
+  lacks_of (Err fault) a b fails = elim fails.faults as (λ _. (fault ≡ Memory) ⊎ (((fault ≡ File) × Raised (facts a) (facts b)) ⊎ IsDamage (facts a).honest fault)) [
+    | inl supply ↦ elim supply as (λ _. (fault ≡ Memory) ⊎ (((fault ≡ File) × Raised (facts a) (facts b)) ⊎ IsDamage (facts a).honest fault)) [
+      | inl memory ↦ inl memory
+      | inr file ↦ inr (inl (file, fails.file (ap Err file)))
+    ]
+    | inr damage ↦ inr (inr damage)
+  ]
+
+  pub revert_fails : (r : Result (Unit {0}) Fault) (a b : S) → Fails facts IsWorn a b r → Fails facts (IsRevertFault (facts a).honest) a b r
+  revert_fails (Ok done) a b fails = record { file = fails.file; faults = tt }
+  revert_fails (Err fault) a b fails = record { file = fails.file; faults = elim fails.faults [ inl supply ↦ inl supply | inr worn ↦ inr (inl worn) ] }
+
+  -- What is in memory stays there.
+
+  loaded_still : (old new : CacheState S) → ((h : ℕ) → is_live new.document h ≡ is_live old.document h) → new.resident ≡ old.resident → (h : ℕ) → is_loaded new h ≡ is_loaded old h
+  unfolding is_loaded
+  loaded_still old new live resident h = ap (λ b. is_resident new.resident h && b) (live h) ∙ ap (λ ss. is_resident ss h && is_live old.document h) resident
+
+  pub loaded_committed : (old new : CacheState S) (pair : Document × Document) (r : Result (Unit {0}) Fault) → IsCommit facts pair old.document (seen old) (seen new) r → new.resident ≡ old.resident → (h : ℕ) → is_loaded new h ≡ is_loaded old h
+  loaded_committed old new pair r commit resident = loaded_still old new (any_way r _ commit.document).live resident
+
+  pub loaded_saved_as : {E : Type 0} (fault : E → Fault) (back : E → S) (target : S) (old new : CacheState S) (r : Result S E)
+      → MatchResult r (λ store. IsSavedAs facts target store (seen old) (seen new)) (λ e. IsNotSavedAs facts target (back e) (seen old) (seen new) (fault e))
+      → new.resident ≡ old.resident → (h : ℕ) → is_loaded new h ≡ is_loaded old h
+  loaded_saved_as fault back target old new (Ok store) saved resident = loaded_still old new saved.document.live resident
+  loaded_saved_as fault back target old new (Err e) saved resident = loaded_still old new saved.document.live resident
+
+  -- A change that is made on the same disk.
+
+  pub turns_exact : (c : Change) (old new : CacheState S) → new.disk ≡ old.disk → new.document ≡ made c old.document → new.frames ≡ old.frames → IsAtHand c new → Turns facts c old new (Ok tt)
+  turns_exact c old new disk document frames at_hand = record {
+    ok = record {
+      passes = subst (λ (d : Disk S). Passes facts old.disk d) (sym disk) (Passes-refl facts old.disk);
+      document = subst (λ (d : Document). Drifts (facts old.disk.store).honest (made c old.document) d) (sym document) (Drifts-refl _ _);
+      at_hand = at_hand;
+      frames = frames;
+    };
+    err = tt;
+    refusals = tt;
+    sure = λ none here takes. (refl, disk, document);
+  }
+
+  -- Memory was wanting before anything was done.
+  pub turns_not : (c : Change) (state : CacheState S) (fault : Fault) → fault ≡ Memory → (blocks_in c ≡ [] → ⊥) → Turns facts c state state (Err fault)
+  turns_not c state fault memory some = record {
+    ok = tt;
+    err = keeps-refl facts state;
+    refusals = inl (subst (Lacks facts state.disk.store state.disk.store) (sym memory) (lacks-memory facts state.disk.store state.disk.store));
+    sure = λ none. absurd (some none);
+  }
+
+  -- Blocks come in.
+
+  -- those that come in aren't in memory
+  pub away : (state : CacheState S) (ms : Members) (puts : List PutBlock) → put_blocks puts ≡ saved_blocks ms.list.items → AreFree state.document (handles_of (saved_blocks ms.list.items))
+      → ((h : ℕ) → is_resident state.resident h ≡ true → is_live state.document h ≡ true) → All (λ p. is_resident state.resident p.handle.0 ≡ false) puts
+  away state ms puts are free live =
+      let each : All (λ h. IsFree state.document h) (handles_of (put_blocks puts)) = subst (λ (ps : List (ℕ × Block)). All (IsFree state.document) (handles_of ps)) (sym are) free.free in
+      let at : All (λ p. IsFree state.document p.handle.0) puts = All-from_map (λ (p : ℕ × Block). IsFree state.document p.0) (λ (p : PutBlock). (p.handle.0, record { user_id = p.user_id; body = body_read p.image })) puts
+      (All-from_map (IsFree state.document) (λ (p : ℕ × Block). p.0) (put_blocks puts) each) in
+      λ i p within. not_there (is_resident state.resident (get_or puts i p).handle.0) (λ there. let is : is_live state.document (get_or puts i p).handle.0 ≡ true = live _ there in
+      let none : is_live state.document (get_or puts i p).handle.0 ≡ false = ap is_some (at i p within).free in true≢false (sym is ∙ none))
+    where
+      not_there : (b : Bool) → (b ≡ true → ⊥) → b ≡ false
+      not_there true gone = absurd (gone refl)
+      not_there false gone = refl
+
+  module _ (ms : Members) (puts : List PutBlock) (old new : CacheState S) (are : put_blocks puts ≡ saved_blocks ms.list.items) (resident : (new.resident ≡ old.resident) × (new.frames ≡ old.frames)) where
+    made_is : put_all puts old.document ≡ made (changes.BlocksIn ms) old.document
+    made_is = put_all_blocks puts old.document ∙ ap (with_blocks old.document) are
+
+    pub put_in_turns : (r : Result (Unit {0}) Fault)
+        → MatchResult r (λ _. KeepsFile facts (put_all puts old.document) (seen old) (seen new)) (λ _. KeepsFile facts old.document (seen old) (seen new))
+        → Fails facts NoFault old.disk.store new.disk.store r → (puts ≡ [] → IsOk r × (new ≡ old)) → Turns facts (changes.BlocksIn ms) old new r
+    unfolding Keeps
+    put_in_turns (Ok done) keeps fails none = record {
+      ok = record {
+        passes = keeps.passes;
+        document = subst (λ (d : Document). Drifts (facts old.disk.store).honest d new.document) made_is keeps.document;
+        at_hand = tt;
+        frames = resident.1;
+      };
+      err = tt;
+      refusals = tt;
+      sure = λ empty here takes. let still = none (no_puts puts (are ∙ empty)) in
+          (refl, ap (λ (s : CacheState S). s.disk) still.1, ap (λ (s : CacheState S). s.document) still.1 ∙ sym (ap (with_blocks old.document) empty));
+    }
+    put_in_turns (Err fault) keeps fails none = record {
+      ok = tt;
+      err = record { file = keeps; frames = resident.1 };
+      refusals = inl (lacks_of (Err fault) old.disk.store new.disk.store (record { file = fails.file; faults = elim fails.faults [ inl supply ↦ inl supply | inr never ↦ absurd never ] }));
+      sure = λ empty here takes. absurd (cc (none (no_puts puts (are ∙ empty))).0);
+    }
+
+  -- A body changes.
+
+  module _ (c : Change) (old mid : CacheState S) (keeps : Keeps facts old mid) where
+    pub turns_ready : (new : CacheState S) → IsAtHand c mid → (IsAtHand c old → BodyTakes c old.document → (mid.disk ≡ old.disk) × (mid.document ≡ old.document)) → new ≡ with_document mid (made c mid.document) → Turns facts c old new (Ok tt)
+    turns_ready new at_hand same is = record {
+      ok = makes facts old mid keeps c new at_hand is;
+      err = tt;
+      refusals = tt;
+      sure = λ none here takes. (refl, ap (λ (s : CacheState S). s.disk) is ∙ (same here takes).0, ap (λ (s : CacheState S). s.document) is ∙ ap (made c) (same here takes).1);
+    }
+
+    pub turns_unready : (fault : Fault) → IsUnready facts c old mid fault → (IsAtHand c old → BodyTakes c old.document → ⊥) → Turns facts c old mid (Err fault)
+    turns_unready fault unready sure = record { ok = tt; err = keeps; refusals = unready; sure = λ none here takes. absurd (sure here takes) }

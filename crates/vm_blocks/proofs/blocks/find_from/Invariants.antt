@@ -1,6 +1,0 @@
-use Rattle.std.proofs.Common.{◌≡◌, drop}
-use Rattle.vm_blocks.proofs.SlotLemmas.{found_from}
-use Rattle.vm_blocks.proofs.blocks.find_from.Given as goal
-
-abbrev pub invariant-loop-i : goal.invariant-loop-i
-invariant-loop-i l = found_from l.user_id l.start 0 l.slots ≡ found_from l.user_id l.start l.i (drop l.i l.slots)
