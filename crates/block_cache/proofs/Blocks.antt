@@ -17,7 +17,7 @@ use Rattle.vm_file.specs.declared.put.PutBlock.{PutBlock}
 use Rattle.block_cache.specs.State.{seats_without}
 use Rattle.block_cache.specs.Frames.{held, seats, overlay, frames_without, IsKept, AreKept}
 use Rattle.block_cache.specs.declared.frame.Frame.{Frame}
-use Rattle.block_cache.proofs.Overlay.{cover, get-overlay, overlay_map, same_document, cover_by, body_by}
+use Rattle.block_cache.proofs.Overlay.{cover, heap_by, get-overlay, overlay_map, same_document, cover_by, body_by}
 use Rattle.block_cache.proofs.Seats.{seats-remove}
 
 -- a block that isn't in memory is put into the file
@@ -37,7 +37,7 @@ module _ (es : List (ℕ × Frame)) (d : Document) (h : ℕ) (b : Block) (away :
     each = λ q f is. elim (cases_eq q h) as (λ _. IsKept honest (with_block d h b) q f) [
       | inl here ↦ let wrong : None ≡ Some f = sym (ap (held es) here ∙ away) ∙ is in absurd (cc wrong)
       | inr other ↦ let same : get (with_block d h b).blocks q ≡ get d.blocks q = get-put_other d.blocks h b q other in
-          record { live = ap is_some same ∙ (kept.each q f is).live; clean = λ so clean. ap body_by same ∙ (kept.each q f is).clean so clean }
+          record { live = ap is_some same ∙ (kept.each q f is).live; kind = λ clean. (kept.each q f is).kind clean ∙ sym (ap heap_by same); clean = λ so clean. ap body_by same ∙ (kept.each q f is).clean so clean }
     ];
   }
 
@@ -89,7 +89,7 @@ module _ (es : List (ℕ × Frame)) (d : Document) (h : ℕ) (distinct : IsDisti
       | inr other ↦
           let same : get (without_block d h).blocks q ≡ get d.blocks q = get-taken_other d.blocks h q other in
           let was = kept.each q f (sym (left_other q other) ∙ is) in
-          record { live = ap is_some same ∙ was.live; clean = λ so clean. ap body_by same ∙ was.clean so clean }
+          record { live = ap is_some same ∙ was.live; kind = λ clean. was.kind clean ∙ sym (ap heap_by same); clean = λ so clean. ap body_by same ∙ was.clean so clean }
     ];
   }
 

@@ -51,6 +51,7 @@ module _ (es : List (ℕ × Frame)) (h : ℕ) (f : Frame) (here : held es h ≡ 
             let the : g ≡ k = ap (λ o. unwrap_or o g) found in
             record {
               live = ap (is_live d) at ∙ (kept.each h f here).live;
+              kind = λ same. let wrong : true ≡ false = sym changed ∙ ap (λ (x : Frame). x.changed) the ∙ same in absurd (cc wrong);
               clean = λ so same. let wrong : true ≡ false = sym changed ∙ ap (λ (x : Frame). x.changed) the ∙ same in absurd (cc wrong);
             }
         | inr other ↦ kept.each q k (sym (now_other q other) ∙ is)

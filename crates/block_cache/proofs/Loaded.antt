@@ -1,6 +1,7 @@
 -- What is read of an image.
-use Rattle.std.proofs.Common.{◌≡◌, ◌⊎◌, ℕ, true, IsTrue, List, Option, None, Some, sym, ap, subst, ◌∙◌, unwrap_or, inl, inr}
+use Rattle.std.proofs.Common.{◌≡◌, ◌⊎◌, ℕ, Bool, true, false, IsTrue, List, Option, None, Some, sym, ap, subst, ◌∙◌, unwrap_or, inl, inr}
 use Rattle.std.specs.Prelude.{Result, Err}
+use mathlib.Core.Bool.{beq}
 use Rattle.vm_store.specs.Facts.{StoreFacts}
 use Rattle.geos_model.specs.Document.{is_valid_body}
 use Rattle.geos_model.specs.Image.{image, body_of}
@@ -20,6 +21,13 @@ pub no_image : (other : Body) (bytes : List ℕ) → body_of bytes ≡ None → 
 no_image other bytes none is valid =
     let wrong : None ≡ Some other = sym none ∙ ap body_of is ∙ body_of-image other valid in
     cc wrong
+
+-- a kind that isn't the one that it is
+pub kinds_differ : (a b : Bool) → a ≡ b → beq a b ≡ false → ⊥
+kinds_differ true true same differ = cc differ
+kinds_differ true false same differ = cc same
+kinds_differ false true same differ = cc same
+kinds_differ false false same differ = cc differ
 
 -- what can't be read
 pub unread : {S A : Type 0} (facts : S → StoreFacts) (old new : S) (fault : Fault) (result : Result A Fault) → result ≡ Err fault → (fault ≡ Memory) ⊎ (fault ≡ Damaged) → (fault ≡ Damaged → IsTrue (facts old).honest → ⊥)

@@ -6,7 +6,7 @@ use Rattle.std.specs.Map.{set_value}
 use Rattle.std.specs.Cmp.{nat_cmp_total, nat_eq_equiv}
 use Rattle.std.proofs.lemmas.Map.{lookup-set_value}
 use Rattle.std.specs.FinMap.{get, same_map, nat_cmp-IsAntisymmetric}
-use Rattle.geos_model.specs.Document.{Block, Document, IsValidBlock, IsValid, block_at, is_live, is_valid_body, user_id_of, with_body}
+use Rattle.geos_model.specs.Document.{Block, Document, IsValidBlock, IsValid, block_at, is_heap, is_heap_body, is_live, is_valid_body, user_id_of, with_body}
 use Rattle.geos_model.specs.declared.command.Body.{Body}
 use Rattle.geos_model.specs.declared.command.Body.TheVariants.{Raw}
 use Rattle.geos_model.proofs.HeapEdits.{get-put_same, get-put_other}
@@ -22,6 +22,9 @@ cover (Some f) d h = Some (record { user_id = user_id_of d h; body = body_of f.b
 
 abbrev pub uid : Option Block → ℕ
 uid o = option_map_or (λ (b : Block). b.user_id) o 0
+
+abbrev pub heap_by : Option Block → Bool
+heap_by o = option_map_or (λ (b : Block). is_heap_body b.body) o false
 
 pub uid-cover : (o : Option Frame) (d : Document) (h : ℕ) → uid (cover o d h) ≡ user_id_of d h
 uid-cover None d h = refl
@@ -82,10 +85,12 @@ same_document d e map same =
 -- what holds of frames and files that show the same blocks
 pub agree : (honest : Bool) (es : List (ℕ × Frame)) (d : Document) (fs : List (ℕ × Frame)) (e : Document) → AreKept honest d es → AreKept honest e fs
     → ((h : ℕ) → is_live e h ≡ is_live d h) → ((h : ℕ) → user_id_of e h ≡ user_id_of d h) → e.map_block ≡ d.map_block
+    → ((h : ℕ) → heap_by (cover (held fs h) e h) ≡ heap_by (cover (held es h) d h))
     → (IsTrue honest → (h : ℕ) → cover (held fs h) e h ≡ cover (held es h) d h) → Drifts honest (overlay es d) (overlay fs e)
-agree honest es d fs e kept kept' live user map same = record {
+agree honest es d fs e kept kept' live user map kind same = record {
   live = λ h. overlay_live honest fs e h kept' ∙ live h ∙ sym (overlay_live honest es d h kept);
   user_ids = λ h. overlay_user fs e h ∙ user h ∙ sym (overlay_user es d h);
+  kinds = λ h. ap heap_by (get-overlay fs e h) ∙ kind h ∙ sym (ap heap_by (get-overlay es d h));
   map_block = overlay_map fs e ∙ map ∙ sym (overlay_map es d);
   same = λ so. same_document (overlay es d) (overlay fs e) (overlay_map fs e ∙ map ∙ sym (overlay_map es d)) (λ h. get-overlay fs e h ∙ same so h ∙ sym (get-overlay es d h));
 }
@@ -98,6 +103,10 @@ block_by (Some b) live = (b, refl)
 
 abbrev pub body_by : Option Block → Body
 body_by o = let b : Block = unwrap_or o (record { user_id = 0; body = Raw [] }) in b.body
+
+pub heap_body : (o : Option Block) → is_heap_body (body_by o) ≡ heap_by o
+heap_body None = refl
+heap_body (Some b) = refl
 
 -- valid bodies over a valid document
 module _ (es : List (ℕ × Frame)) (d : Document) (valid : IsValid d) (kept : AreKept false d es) (bodies : (h : ℕ) (f : Frame) → held es h ≡ Some f → is_valid_body (body_of f.body) ≡ true) where
@@ -125,13 +134,19 @@ pub kept_drifts : (honest : Bool) (es : List (ℕ × Frame)) (d e : Document) �
 kept_drifts honest es d e drifts kept = record {
   each = λ h f is. record {
     live = drifts.live h ∙ (kept.each h f is).live;
+    kind = λ same. (kept.each h f is).kind same ∙ sym (drifts.kinds h);
     clean = λ so same. ap (λ (x : Document). (block_at x h).body) (drifts.same so) ∙ (kept.each h f is).clean so same;
   };
 }
 
+cover_kind : (o : Option Frame) (d e : Document) (h : ℕ) → is_heap e h ≡ is_heap d h → heap_by (cover o e h) ≡ heap_by (cover o d h)
+cover_kind None d e h same = same
+cover_kind (Some f) d e h same = refl
+
 pub overlay_drifts : (honest : Bool) (es : List (ℕ × Frame)) (d e : Document) → Drifts honest d e → AreKept honest d es → Drifts honest (overlay es d) (overlay es e)
 overlay_drifts honest es d e drifts kept =
-    agree honest es d es e kept (kept_drifts honest es d e drifts kept) drifts.live drifts.user_ids drifts.map_block (λ so h. ap (λ (x : Document). cover (held es h) x h) (drifts.same so))
+    agree honest es d es e kept (kept_drifts honest es d e drifts kept) drifts.live drifts.user_ids drifts.map_block
+    (λ h. cover_kind (held es h) d e h (drifts.kinds h)) (λ so h. ap (λ (x : Document). cover (held es h) x h) (drifts.same so))
 
 -- frames in another order
 
@@ -160,9 +175,14 @@ kept_more honest es d h f kept one = record {
   ];
 }
 
-pub fetched : (honest : Bool) (es : List (ℕ × Frame)) (d : Document) (h : ℕ) (f : Frame) → AreKept honest d es → held es h ≡ None → is_live d h ≡ true → (IsTrue honest → (block_at d h).body ≡ body_of f.body) → Drifts honest (overlay es d) (overlay ((h, f) ∷ es) d)
-fetched honest es d h f kept absent live same =
-    agree honest es d ((h, f) ∷ es) d kept (kept_more honest es d h f kept (record { live = live; clean = λ so _. same so })) (λ _. refl) (λ _. refl) refl
+pub fetched : (honest : Bool) (es : List (ℕ × Frame)) (d : Document) (h : ℕ) (f : Frame) → AreKept honest d es → held es h ≡ None → is_live d h ≡ true → is_heap_body (body_of f.body) ≡ is_heap d h → (IsTrue honest → (block_at d h).body ≡ body_of f.body)
+    → Drifts honest (overlay es d) (overlay ((h, f) ∷ es) d)
+fetched honest es d h f kept absent live kind same =
+    agree honest es d ((h, f) ∷ es) d kept (kept_more honest es d h f kept (record { live = live; kind = λ _. kind; clean = λ so _. same so })) (λ _. refl) (λ _. refl) refl
+    (λ q. elim (cases_eq q h) as (λ _. heap_by (cover (held ((h, f) ∷ es) q) d q) ≡ heap_by (cover (held es q) d q)) [
+      | inl here ↦ ap (λ o. heap_by (cover o d q)) (held_here (h, f) es q here) ∙ kind ∙ sym (ap (is_heap d) here) ∙ sym (ap (λ o. heap_by (cover o d q)) (ap (held es) here ∙ absent))
+      | inr other ↦ ap (λ o. heap_by (cover o d q)) (held_on (h, f) es q other)
+    ])
     (λ so q. elim (cases_eq q h) as (λ _. cover (held ((h, f) ∷ es) q) d q ≡ cover (held es q) d q) [
       | inl here ↦ ap (λ o. cover o d q) (held_here (h, f) es q here) ∙ covers_same d q f (ap (is_live d) here ∙ live) (ap (λ k. (block_at d k).body) here ∙ same so) ∙ sym (ap (λ o. cover o d q) (ap (held es) here ∙ absent))
       | inr other ↦ ap (λ o. cover o d q) (held_on (h, f) es q other)
@@ -208,6 +228,12 @@ module _ (d : Document) (h : ℕ) (body : Body) (live : is_live d h ≡ true) wh
     | inr other ↦ ap uid (get-with_other q other)
   ]
 
+  pub heap-with_body : (q : ℕ) → q ≡ h → is_heap (with_body d h body) q ≡ is_heap_body body
+  heap-with_body q here = ap heap_by (get-with_body q here)
+
+  pub heap-with_other : (q : ℕ) → q ≢ h → is_heap (with_body d h body) q ≡ is_heap d q
+  heap-with_other q other = ap heap_by (get-with_other q other)
+
 -- a frame is written to the file
 module _ (honest : Bool) (es : List (ℕ × Frame)) (d : Document) (h : ℕ) (f g : Frame) (fs : List (ℕ × Frame)) (e : Document) (kept : AreKept honest d es) (here : held es h ≡ Some f) (same : body_of g.body ≡ body_of f.body)
     (now : (q : ℕ) → held fs q ≡ cond (nat_eq h q) (Some g) (held es q)) (drifts : Drifts honest (with_body d h (body_of f.body)) e) where
@@ -233,11 +259,13 @@ module _ (honest : Bool) (es : List (ℕ × Frame)) (d : Document) (h : ℕ) (f 
           let the : g ≡ k = ap (λ o. unwrap_or o g) found in
           record {
             live = drifts.live q ∙ live-with_body d h (body_of f.body) live q ∙ ap (is_live d) at ∙ live;
+            kind = λ clean. sym (ap (λ (x : Frame). is_heap_body (body_of x.body)) the) ∙ ap is_heap_body same ∙ sym (heap-with_body d h (body_of f.body) live q at) ∙ sym (drifts.kinds q);
             clean = λ so clean. body_now so q at ∙ ap (λ (x : Frame). body_of x.body) the;
           }
       | inr other ↦ let was = kept.each q k (sym (elsewhere q other) ∙ is) in
           record {
             live = drifts.live q ∙ live-with_body d h (body_of f.body) live q ∙ was.live;
+            kind = λ clean. was.kind clean ∙ sym (heap-with_other d h (body_of f.body) live q other) ∙ sym (drifts.kinds q);
             clean = λ so clean. ap (λ (x : Document). body_by (get x.blocks q)) (drifts.same so) ∙ ap body_by (get-with_other d h (body_of f.body) live q other) ∙ was.clean so clean;
           }
     ];
@@ -245,12 +273,21 @@ module _ (honest : Bool) (es : List (ℕ × Frame)) (d : Document) (h : ℕ) (f 
 
   pub written : Drifts honest (overlay es d) (overlay fs e)
   written = agree honest es d fs e kept written_kept (λ q. drifts.live q ∙ live-with_body d h (body_of f.body) live q) (λ q. drifts.user_ids q ∙ user-with_body d h (body_of f.body) live q) drifts.map_block
+      (λ q. elim (cases_eq q h) as (λ _. heap_by (cover (held fs q) e q) ≡ heap_by (cover (held es q) d q)) [
+        | inl at ↦ ap (λ o. heap_by (cover o e q)) (at_block q at) ∙ ap is_heap_body same ∙ sym (ap (λ o. heap_by (cover o d q)) (ap (held es) at ∙ here))
+        | inr other ↦ ap (λ o. heap_by (cover o e q)) (elsewhere q other) ∙ cover_kind (held es q) d e q (drifts.kinds q ∙ heap-with_other d h (body_of f.body) live q other)
+      ])
       (λ so q. elim (cases_eq q h) as (λ _. cover (held fs q) e q ≡ cover (held es q) d q) [
         | inl at ↦ ap (λ o. cover o e q) (at_block q at)
             ∙ (λ i. Some (record { user_id = (drifts.user_ids q ∙ user-with_body d h (body_of f.body) live q) i; body = same i }))
             ∙ sym (ap (λ o. cover o d q) (ap (held es) at ∙ here))
         | inr other ↦ ap (λ o. cover o e q) (elsewhere q other) ∙ cover_by (held es q) d e q (ap (λ (x : Document). get x.blocks q) (drifts.same so) ∙ get-with_other d h (body_of f.body) live q other)
       ])
+
+-- under an unchanged frame the file has a body of its kind
+uncovered_kind : (honest : Bool) (es : List (ℕ × Frame)) (d : Document) (h : ℕ) → AreKept honest d es → is_changed_in es h ≡ false → (o : Option Frame) → held es h ≡ o → is_heap d h ≡ heap_by (cover o d h)
+uncovered_kind honest es d h kept clean None is = refl
+uncovered_kind honest es d h kept clean (Some f) is = sym ((kept.each h f is).kind (sym (ap (λ o. option_map_or (λ (x : Frame). x.changed) o false) is) ∙ clean))
 
 -- a frame that isn't changed goes
 module _ (honest : Bool) (es : List (ℕ × Frame)) (d : Document) (h : ℕ) (fs : List (ℕ × Frame)) (kept : AreKept honest d es) (clean : is_changed_in es h ≡ false) (now : (q : ℕ) → held fs q ≡ cond (nat_eq h q) None (held es q)) where
@@ -276,7 +313,10 @@ module _ (honest : Bool) (es : List (ℕ × Frame)) (d : Document) (h : ℕ) (fs
       sym (covers_same d h f was.live (was.clean so unchanged))
 
   pub dropped : Drifts honest (overlay es d) (overlay fs d)
-  dropped = agree honest es d fs d kept dropped_kept (λ _. refl) (λ _. refl) refl (λ so q. elim (cases_eq q h) as (λ _. cover (held fs q) d q ≡ cover (held es q) d q) [
+  dropped = agree honest es d fs d kept dropped_kept (λ _. refl) (λ _. refl) refl (λ q. elim (cases_eq q h) as (λ _. heap_by (cover (held fs q) d q) ≡ heap_by (cover (held es q) d q)) [
+    | inl at ↦ ap (λ o. heap_by (cover o d q)) (gone_at q at) ∙ subst (λ k. is_heap d k ≡ heap_by (cover (held es k) d k)) (sym at) (uncovered_kind honest es d h kept clean (held es h) refl)
+    | inr other ↦ ap (λ o. heap_by (cover o d q)) (stays_at q other)
+  ]) (λ so q. elim (cases_eq q h) as (λ _. cover (held fs q) d q ≡ cover (held es q) d q) [
     | inl at ↦ ap (λ o. cover o d q) (gone_at q at) ∙ subst (λ k. get d.blocks k ≡ cover (held es k) d k) (sym at) (uncovered so (held es h) refl)
     | inr other ↦ ap (λ o. cover o d q) (stays_at q other)
   ])
@@ -300,7 +340,11 @@ module _ (es : List (ℕ × Frame)) (h : ℕ) (g : Frame → Frame) (body : (f :
   kept_by honest d q (Some f) k clean kept is =
       let at : g f ≡ k = ap (λ (o : Option Frame). unwrap_or o (g f)) is in
       let was = kept f refl in
-      record { live = was.live; clean = λ so same. was.clean so (clean f (ap (λ (x : Frame). x.changed) at ∙ same)) ∙ sym (body f) ∙ ap (λ (x : Frame). body_of x.body) at }
+      record {
+        live = was.live;
+        kind = λ same. sym (ap (λ (x : Frame). is_heap_body (body_of x.body)) at) ∙ ap is_heap_body (body f) ∙ was.kind (clean f (ap (λ (x : Frame). x.changed) at ∙ same));
+        clean = λ so same. was.clean so (clean f (ap (λ (x : Frame). x.changed) at ∙ same)) ∙ sym (body f) ∙ ap (λ (x : Frame). body_of x.body) at;
+      }
 
   pub kept_with_frame : (honest : Bool) (d : Document) → ((f : Frame) → (g f).changed ≡ false → f.changed ≡ false) → AreKept honest d es → AreKept honest d (with_frame es h g)
   kept_with_frame honest d clean kept = record {
@@ -329,6 +373,7 @@ pub bare : (honest : Bool) (es : List (ℕ × Frame)) (d : Document) → AreKept
 bare honest es d kept clean = record {
   live = λ h. sym (overlay_live honest es d h kept);
   user_ids = λ h. sym (overlay_user es d h);
+  kinds = λ h. uncovered_kind honest es d h kept (clean h) (held es h) refl ∙ sym (ap heap_by (get-overlay es d h));
   map_block = sym (overlay_map es d);
   same = λ so. sym (clean_overlay honest es d so kept clean);
 }

@@ -4,7 +4,7 @@ use Rattle.std.specs.Option.{option_map_or}
 use Rattle.std.specs.Map.{lookup, remove_entry, set_value}
 use Rattle.vm_store.specs.Facts.{StoreFacts}
 use Rattle.geos_model.specs.declared.handle.VmHandle.{VmHandle}
-use Rattle.geos_model.specs.Document.{Document, block_at, is_live, with_body}
+use Rattle.geos_model.specs.Document.{Document, block_at, is_heap, is_heap_body, is_live, with_body}
 use Rattle.vm_file.specs.Disk.{FileState, Passes, Drifts}
 use Rattle.block_cache.specs.Bodies.{body_of}
 use Rattle.block_cache.specs.State.{Seat}
@@ -50,9 +50,10 @@ pub record IsChangedBody (es : List (ℕ × Frame)) (h : ℕ) (body : BlockBody)
   pub changed : frame.changed ≡ true
   pub same : frame.body ≡ body
 
--- A frame is of a block of the file, and an unchanged one has the file's body.
+-- A frame is of a block of the file. An unchanged one has the file's body, or, over a store that isn't honest, one of its kind.
 pub record IsKept (honest : Bool) (file : Document) (h : ℕ) (f : Frame) : Type 0 where
   pub live : is_live file h ≡ true
+  pub kind : f.changed ≡ false → is_heap_body (body_of f.body) ≡ is_heap file h
   pub clean : IsTrue honest → f.changed ≡ false → (block_at file h).body ≡ body_of f.body
 
 pub record AreKept (honest : Bool) (file : Document) (es : List (ℕ × Frame)) : Type 0 where

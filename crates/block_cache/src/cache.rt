@@ -4,7 +4,7 @@ ghost use Rattle.std.specs.FinMap.{get, keys};
 ghost use Rattle.std.specs.Map.{set_value};
 ghost use Rattle.std.specs.Option.{option_map};
 ghost use Rattle.std.specs.Result.{IsErrAnd};
-ghost use Rattle.geos_model.specs.Document.{IsValid, is_vm_handle, is_live, next_handle, user_id_of, with_user_id};
+ghost use Rattle.geos_model.specs.Document.{IsValid, is_heap, is_vm_handle, is_live, next_handle, user_id_of, with_user_id};
 ghost use Rattle.geos_model.specs.Reply.{found};
 ghost use Rattle.vm_file.specs.Calls.{IsPut, put_all, remove_all, last_sequence};
 ghost use Rattle.vm_file.specs.Disk.{IsListed, IsSettled, Numbered};
@@ -143,6 +143,17 @@ impl<S: Store> Cache<S> {
         ensures { result ≡ is_live self.now.document block.0 }
     {
         self.file.entry(block).is_some()
+    }
+
+    /// Whether a block is a heap, in memory or not.
+    pub fn is_heap(&self, block: VmHandle) -> bool
+        requires { is_live self.now.document block.0 ≡ true }
+        ensures { result ≡ is_heap self.now.document block.0 }
+    {
+        match self.frames.peek(&block.0) {
+            Some(frame) => frame.body.is_heap(),
+            None => self.file.entry(block).unwrap().is_heap,
+        }
     }
 
     /// The user ID of a block, in memory or not.

@@ -1,8 +1,8 @@
 // Blocks that come into memory and go out of it.
 ghost use Rattle.std.specs.Prelude.{◌≡◌, ◌⊎◌, ◌<◌, false, true, cond, nat_lt, List, [], ◌∷◌, length, IsTrue, is_some, None, Some, IfOk, OnOk, OnErr, MatchOption};
-ghost use Rattle.geos_model.specs.Document.{is_live, with_body};
+ghost use Rattle.geos_model.specs.Document.{block_at, is_heap, is_heap_body, is_live, with_body};
 ghost use Rattle.vm_file.specs.Calls.{IsPut, put_all};
-ghost use Rattle.vm_file.specs.Effects.{Fails, NoFault, IsDamage};
+ghost use Rattle.vm_file.specs.Effects.{OnlyReads, Fails, NoFault, IsDamage};
 ghost use Rattle.block_cache.specs.Bodies.{body_of};
 ghost use Rattle.block_cache.specs.Frames.{held, seats, overlay, is_changed_in, some_changed, AreClean, IsChangedBody, AreKept, Moves};
 ghost use Rattle.block_cache.specs.State.{all_locked, victim, evicted};
@@ -11,6 +11,7 @@ use crate::body::{BlockBody, read_image, write_image};
 use crate::frame::{Frame, mark, victim};
 use geos_model::{Bytes, Fault, VmHandle};
 use lru::LruCache;
+use raw_region::Region;
 use std::alloc::{AllocError, Global};
 use vm_file::{PutBlock, VmFile};
 use vm_store::Store;
@@ -77,12 +78,12 @@ pub fn write_back<S: Store>(
     }
 }
 
-// Frees the frame of the least recently used block that isn't locked. Memory, File.
+// Frees the frame of the least recently used block that isn't locked, and gives its region. Memory, File.
 fn evict<S: Store>(
     alloc: Global,
     file: &mut VmFile<S>,
     frames: &mut LruCache<u16, Frame>,
-) -> Result<(), Fault>
+) -> Result<Region, Fault>
     requires kept { AreKept (S.facts file.old.disk.store).honest file.old.document frames.old.entries }
     requires some { IsTrue (is_some (victim (seats frames.old.entries))) }
     ensures moves { Moves S.facts file.old frames.old.entries file.new frames.new.entries }
@@ -95,16 +96,17 @@ fn evict<S: Store>(
     let block = victim(frames).unwrap();
     write_back(alloc, file, frames, VmHandle(block))?;
     let _count = frames.len();
-    frames.pop(&block);
-    Ok(())
+    let frame = frames.pop(&block).unwrap();
+    Ok(frame.body.into_region())
 }
 
-/// Frees a frame, if each one is taken. Memory, File.
+/// Frees a frame, if each one is taken. The region for the block that comes is that of the block that goes, or else a new one.
+/// Memory, File.
 pub fn make_room<S: Store>(
     alloc: Global,
     file: &mut VmFile<S>,
     frames: &mut LruCache<u16, Frame>,
-) -> Result<(), Fault>
+) -> Result<Region, Fault>
     requires kept { AreKept (S.facts file.old.disk.store).honest file.old.document frames.old.entries }
     requires room { all_locked frames.old.cap (seats frames.old.entries) ≡ false }
     ensures moves { Moves S.facts file.old frames.old.entries file.new frames.new.entries }
@@ -115,17 +117,45 @@ pub fn make_room<S: Store>(
     ensures fails { Fails S.facts NoFault file.old.disk.store file.new.disk.store result }
 {
     if frames.len() < frames.cap().get() {
-        return Ok(());
+        return Ok(Region::new(alloc)?);
     }
     evict(alloc, file, frames)
 }
 
-/// Reads a block into a free frame. Damaged where what is read is no image, which an honest store never gives; Memory, File.
+// The body of a block as the file has it, in this region. Damaged where what is read is no image of the block's kind, which an honest
+// store never gives; Memory, File.
+fn read_body<S: Store>(
+    file: &mut VmFile<S>,
+    block: VmHandle,
+    region: Region,
+) -> Result<BlockBody, Fault>
+    requires live { is_live file.old.document block.0 ≡ true }
+    ensures reads { OnlyReads S.facts file.old file.new }
+    ensures kind { IfOk result (λ body. is_heap_body (body_of body) ≡ is_heap file.old.document block.0) }
+    ensures same { IfOk result (λ body. IsTrue (S.facts file.old.disk.store).honest → (block_at file.old.document block.0).body ≡ body_of body) }
+    ensures fails { Fails S.facts (IsDamage (S.facts file.old.disk.store).honest) file.old.disk.store file.new.disk.store result }
+{
+    file.validity();
+    let is_heap = file.entry(block).unwrap().is_heap;
+    let image = file.read_block(block)?;
+    match read_image(region, &image) {
+        Some(body) => {
+            if body.is_heap() == is_heap {
+                Ok(body)
+            } else {
+                Err(Fault::Damaged)
+            }
+        }
+        None => Err(Fault::Damaged),
+    }
+}
+
+/// Reads a block into a free frame, in this region. Refused as `read_body` is.
 pub fn fetch<S: Store>(
-    alloc: Global,
     file: &mut VmFile<S>,
     frames: &mut LruCache<u16, Frame>,
     block: VmHandle,
+    region: Region,
 ) -> Result<(), Fault>
     requires kept { AreKept (S.facts file.old.disk.store).honest file.old.document frames.old.entries }
     requires live { is_live file.old.document block.0 ≡ true }
@@ -137,9 +167,7 @@ pub fn fetch<S: Store>(
     ensures cap { frames.new.cap ≡ frames.old.cap }
     ensures fails { Fails S.facts (IsDamage (S.facts file.old.disk.store).honest) file.old.disk.store file.new.disk.store result }
 {
-    file.validity();
-    let image = file.read_block(block)?;
-    let body = read_image(alloc, &image)?;
+    let body = read_body(file, block, region)?;
     frames.put(
         block.0,
         Frame {
@@ -168,8 +196,8 @@ pub fn bring<S: Store>(
     ensures cap { frames.new.cap ≡ frames.old.cap }
     ensures fails { Fails S.facts (IsDamage (S.facts file.old.disk.store).honest) file.old.disk.store file.new.disk.store result }
 {
-    make_room(alloc, file, frames)?;
-    fetch(alloc, file, frames, block)
+    let region = make_room(alloc, file, frames)?;
+    fetch(file, frames, block, region)
 }
 
 // A block in memory that is changed.

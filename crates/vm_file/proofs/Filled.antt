@@ -6,7 +6,7 @@ use Rattle.std.specs.FinMap.{FinMap, get, remove, get-insert, get-remove, same_m
 use Rattle.std.specs.Ordering.{nat_cmp}
 use Rattle.std.proofs.lemmas.Bool.{cases_Bool, cases_lt, cond-true, cond-false, eqb-true}
 use Rattle.std.proofs.lemmas.List.{get_or-set_other, set_past}
-use Rattle.geos_model.specs.Document.{Block, Document, is_live, user_id_of, with_block, without_block}
+use Rattle.geos_model.specs.Document.{Block, Document, is_heap, is_heap_body, is_live, user_id_of, with_block, without_block}
 use Rattle.geos_model.specs.Image.{body_read}
 use Rattle.geos_model.specs.File.{bytes_in}
 use Rattle.geos_model.specs.declared.file.Extent.{Extent}
@@ -14,10 +14,13 @@ use Rattle.geos_model.specs.declared.handle.VmHandle.{VmHandle}
 use Rattle.geos_model.proofs.Tables.{slot_at, slot_at_past}
 use Rattle.vm_file.specs.Calls.{IsPut, put_all, remove_all}
 use Rattle.vm_file.specs.Disk.{Drifts}
-use Rattle.vm_file.specs.Documents.{block_in}
+use Rattle.geos_model.specs.declared.command.Body.{Body}
+use Rattle.vm_file.specs.Documents.{block_in, of_kind}
 use Rattle.vm_file.specs.Writing.{placed_at, with_places, without_place, without_places}
 use Rattle.vm_file.specs.declared.put.PutBlock.{PutBlock}
 use Rattle.vm_file.specs.declared.table.Place.{Place}
+use Rattle.vm_file.proofs.ImageLemmas.{kind_is}
+use Rattle.vm_file.proofs.BodyKinds.{of_kind-kind, of_kind-same}
 use Rattle.vm_file.proofs.Passing.{Drifts-trans, Drifts-refl}
 use Rattle.vm_file.proofs.Tables.{EachPlace, shown, shown_put, shown_removed, get_none, get_at, each_set, full_set, handle_within}
 
@@ -34,6 +37,11 @@ module _ (d : Document) (h : ℕ) where
       ap (λ o. option_map_or (λ (x : Block). x.user_id) o 0) (get-insert nat_cmp_total d.blocks h b q ∙ ap (λ t. cond t (Some b) (get d.blocks q)) (unsigned_tied q h))
       ∙ elim (q == h) as (λ t. option_map_or (λ (x : Block). x.user_id) (cond t (Some b) (get d.blocks q)) 0 ≡ cond t b.user_id (option_map_or (λ (x : Block). x.user_id) (get d.blocks q) 0)) [ true ↦ refl | false ↦ refl ]
 
+  heap_with : (b : Block) (q : ℕ) → is_heap (with_block d h b) q ≡ cond (q == h) (is_heap_body b.body) (is_heap d q)
+  heap_with b q =
+      ap (λ o. option_map_or (λ (x : Block). is_heap_body x.body) o false) (get-insert nat_cmp_total d.blocks h b q ∙ ap (λ t. cond t (Some b) (get d.blocks q)) (unsigned_tied q h))
+      ∙ elim (q == h) as (λ t. option_map_or (λ (x : Block). is_heap_body x.body) (cond t (Some b) (get d.blocks q)) false ≡ cond t (is_heap_body b.body) (option_map_or (λ (x : Block). is_heap_body x.body) (get d.blocks q) false)) [ true ↦ refl | false ↦ refl ]
+
   live_without : (q : ℕ) → is_live (without_block d h) q ≡ cond (q == h) false (is_live d q)
   live_without q =
       ap is_some (get-remove nat_cmp_total d.blocks h q ∙ ap (λ t. cond t None (get d.blocks q)) (unsigned_tied q h))
@@ -44,10 +52,16 @@ module _ (d : Document) (h : ℕ) where
       ap (λ o. option_map_or (λ (x : Block). x.user_id) o 0) (get-remove nat_cmp_total d.blocks h q ∙ ap (λ t. cond t None (get d.blocks q)) (unsigned_tied q h))
       ∙ elim (q == h) as (λ t. option_map_or (λ (x : Block). x.user_id) (cond t None (get d.blocks q)) 0 ≡ cond t 0 (option_map_or (λ (x : Block). x.user_id) (get d.blocks q) 0)) [ true ↦ refl | false ↦ refl ]
 
-drifts_with : (honest : Bool) (a b : Document) (h : ℕ) (x y : Block) → Drifts honest a b → y.user_id ≡ x.user_id → (IsTrue honest → y ≡ x) → Drifts honest (with_block a h x) (with_block b h y)
-drifts_with honest a b h x y drifts same is = record {
+  heap_without : (q : ℕ) → is_heap (without_block d h) q ≡ cond (q == h) false (is_heap d q)
+  heap_without q =
+      ap (λ o. option_map_or (λ (x : Block). is_heap_body x.body) o false) (get-remove nat_cmp_total d.blocks h q ∙ ap (λ t. cond t None (get d.blocks q)) (unsigned_tied q h))
+      ∙ elim (q == h) as (λ t. option_map_or (λ (x : Block). is_heap_body x.body) (cond t None (get d.blocks q)) false ≡ cond t false (option_map_or (λ (x : Block). is_heap_body x.body) (get d.blocks q) false)) [ true ↦ refl | false ↦ refl ]
+
+drifts_with : (honest : Bool) (a b : Document) (h : ℕ) (x y : Block) → Drifts honest a b → y.user_id ≡ x.user_id → is_heap_body y.body ≡ is_heap_body x.body → (IsTrue honest → y ≡ x) → Drifts honest (with_block a h x) (with_block b h y)
+drifts_with honest a b h x y drifts same kind is = record {
   live = λ q. live_with b h y q ∙ ap (cond (q == h) true) (drifts.live q) ∙ sym (live_with a h x q);
   user_ids = λ q. user_id_with b h y q ∙ ap₂ (cond (q == h)) same (drifts.user_ids q) ∙ sym (user_id_with a h x q);
+  kinds = λ q. heap_with b h y q ∙ ap₂ (cond (q == h)) kind (drifts.kinds q) ∙ sym (heap_with a h x q);
   map_block = drifts.map_block;
   same = λ so. ap₂ (λ d z. with_block d h z) (drifts.same so) (is so);
 }
@@ -56,6 +70,7 @@ drifts_without : (honest : Bool) (a b : Document) (h : ℕ) → Drifts honest a 
 drifts_without honest a b h drifts = record {
   live = λ q. live_without b h q ∙ ap (cond (q == h) false) (drifts.live q) ∙ sym (live_without a h q);
   user_ids = λ q. user_id_without b h q ∙ ap (cond (q == h) 0) (drifts.user_ids q) ∙ sym (user_id_without a h q);
+  kinds = λ q. heap_without b h q ∙ ap (cond (q == h) false) (drifts.kinds q) ∙ sym (heap_without a h q);
   map_block = drifts.map_block;
   same = λ so. ap (λ d. without_block d h) (drifts.same so);
 }
@@ -64,7 +79,7 @@ pub drifts_put_all : (honest : Bool) (puts : List PutBlock) (a b : Document) →
 drifts_put_all honest [] a b drifts = drifts
 drifts_put_all honest (p ∷ puts) a b drifts =
     let block : Block = record { user_id = p.user_id; body = body_read p.image } in
-    drifts_put_all honest puts (with_block a p.handle.0 block) (with_block b p.handle.0 block) (drifts_with honest a b p.handle.0 block block drifts refl (λ so. refl))
+    drifts_put_all honest puts (with_block a p.handle.0 block) (with_block b p.handle.0 block) (drifts_with honest a b p.handle.0 block block drifts refl refl (λ so. refl))
 
 pub drifts_remove_all : (honest : Bool) (handles : List VmHandle) (a b : Document) → Drifts honest a b → Drifts honest (remove_all handles a) (remove_all handles b)
 drifts_remove_all honest [] a b drifts = drifts
@@ -102,8 +117,12 @@ filled_drifts honest file (p ∷ puts) (e ∷ extents) places map_block size are
     let d = shown file places map_block in
     let next = set places (h - 1) (Some one) in
     let made : shown file next map_block ≡ with_block d h (block_in file one) = shown_put file places map_block h one bounds.0 (omega (arith, bounds.0, bounds.1, size)) in
+    let there : IsTrue honest → block_in file one ≡ block = λ so.
+      ap (λ bytes. record { user_id = p.user_id; body = of_kind one.is_heap (body_read bytes) }) (images 0 p e (omega arith) so)
+      ∙ ap (λ b. record { user_id = p.user_id; body = b }) (of_kind-same one.is_heap (body_read p.image) (kind_is p.image)) in
+    let kind_here : (b : Body) → is_heap_body (of_kind one.is_heap b) ≡ one.is_heap = of_kind-kind one.is_heap in
     let first : Drifts honest (with_block d h block) (shown file next map_block) =
-    subst (Drifts honest (with_block d h block)) (sym made) (drifts_with honest d d h block (block_in file one) (Drifts-refl honest d) refl (λ so. ap (λ bytes. record { user_id = p.user_id; body = body_read bytes }) (images 0 p e (omega arith) so))) in
+    subst (Drifts honest (with_block d h block)) (sym made) (drifts_with honest d d h block (block_in file one) (Drifts-refl honest d) refl (kind_here (body_read (bytes_in file e)) ∙ kind_is p.image) there) in
     Drifts-trans honest _ _ _ (drifts_put_all honest puts (with_block d h block) (shown file next map_block) first)
     (filled_drifts honest file puts extents next map_block (length-set places (h - 1) (Some one) ∙ size) (λ k q low. are (suc k) q (omega arith)) (omega (arith, long)) (λ k q x low so. images (suc k) q x (omega arith) so))
 

@@ -19,6 +19,7 @@ use Rattle.vm_file.specs.Calls.{IsImageLength}
 use Rattle.vm_file.specs.Documents.{IsImaged, AreImaged}
 use Rattle.vm_file.specs.declared.table.Place.{Place}
 use Rattle.vm_file.proofs.KeptBytes.{bytes_held}
+use Rattle.vm_file.proofs.BodyKinds.{of_kind-same}
 use Rattle.vm_file.proofs.Tables.{shown, each_at, block_at_is, IsPlaceOf, entry_lies}
 
 -- bytes that are the image of a body that can be
@@ -66,7 +67,9 @@ image_kind bytes = elim (cases_Bool (slice_index bytes 0 == 0)) as (λ _. is_hea
 lying_image : (file : List ℕ) (places : List (Option Place)) (map_block h : ℕ) (place : Place) → 1 ≤ h → slot_at places (h - 1) ≡ Some place → AreImaged file places → bytes_in file place.extent ≡ image (block_at (shown file places map_block) h).body
 lying_image file places map_block h place low at images =
     let one = each_at (IsImaged file) places (h - 1) place at images in
-    sym (is_image (bytes_in file place.extent) (ap is_some one.image)).image ∙ ap (λ b. image b.body) (sym (block_at_is file places map_block h place low at))
+    sym (is_image (bytes_in file place.extent) (ap is_some one.image)).image
+    ∙ ap image (sym (of_kind-same place.is_heap (body_read (bytes_in file place.extent)) one.kind))
+    ∙ ap (λ b. image b.body) (sym (block_at_is file places map_block h place low at))
 
 pub entry_image : (H : Type 0) (file : List ℕ) (places : List (Option Place)) (map_block h : ℕ) (result : Option Place) → (H → AreImaged file places) → IsPlaceOf places h result
     → IfSome result (λ place. H → bytes_in file place.extent ≡ image (block_at (shown file places map_block) h).body)

@@ -6,7 +6,7 @@ use Rattle.std.proofs.lemmas.List.Elements.{All-nil, All-cons, All-head, All-tai
 use Rattle.std.proofs.lemmas.List.{map-append, take_more}
 use Rattle.vm_store.specs.Facts.{byte, Puts}
 use Rattle.vm_store.specs.Laws.{Holds-Puts}
-use Rattle.geos_model.specs.Document.{Block, is_heap_body, is_live, user_id_of}
+use Rattle.geos_model.specs.Document.{Block, is_heap, is_heap_body, is_live, user_id_of}
 use Rattle.geos_model.proofs.Table.{table_map}
 use Rattle.geos_model.specs.Image.{body_of, body_read}
 use Rattle.geos_model.specs.File.{bytes_in, pages_of, directory_text}
@@ -14,14 +14,14 @@ use Rattle.geos_model.proofs.Files.{length-directory}
 use Rattle.geos_model.specs.declared.file.Extent.{Extent}
 use Rattle.vm_file.specs.Ranges.{IsPlaced, end_of, KeepsAll}
 use Rattle.vm_file.specs.Slots.{block_extents}
-use Rattle.vm_file.specs.Documents.{block_in, blocks_in, document_in, entries_of, directory_of_table, IsImaged, AreImaged}
+use Rattle.vm_file.specs.Documents.{block_in, blocks_in, of_kind, document_in, entries_of, directory_of_table, IsImaged, AreImaged}
 use Rattle.vm_file.specs.Disk.{Drifts}
 use Rattle.vm_file.specs.Sound.{IsTable}
 use Rattle.vm_file.specs.Making.{moved_to, pages_taken, laid_out, page_behind, IsWritten, IsCopied, AreCopied, IsFounding}
 use Rattle.vm_file.specs.declared.table.Table.{Table}
 use Rattle.vm_file.proofs.First.{AreLying}
 use Rattle.vm_file.specs.declared.table.Place.{Place}
-use Rattle.vm_file.proofs.Tables.{EachPlace, shown, not_live, live_is, get_none, user_id_is, extents_of, places_of, blocks_same, images_same}
+use Rattle.vm_file.proofs.Tables.{EachPlace, shown, not_live, live_is, get_none, heap_is, user_id_is, extents_of, places_of, blocks_same, images_same}
 use Rattle.vm_file.proofs.KeptBytes.{bytes_held}
 use Rattle.vm_file.proofs.Written.{entries_few}
 
@@ -90,7 +90,7 @@ module _ (source old c d : List ℕ) (honest : Type 0) (ps : List (Option Place)
     }
 
     new_block : honest → block_in d new ≡ block_in source place
-    new_block so = ap (λ b. record { user_id = place.user_id; body = body_read b }) (image_there ∙ written.same so)
+    new_block so = ap (λ b. record { user_id = place.user_id; body = of_kind place.is_heap (body_read b) }) (image_there ∙ written.same so)
 
     longer : EachPlace (λ p. end_of p.extent ≤ length d) ls
     longer k x inside = elim (get_or ls k x) as (λ o. IfSome o (λ p. end_of p.extent ≤ length c) → IfSome o (λ p. end_of p.extent ≤ length d)) [
@@ -257,6 +257,12 @@ laid_user_id page zero (None ∷ ps) = refl
 laid_user_id page zero (Some place ∷ ps) = refl
 laid_user_id page (suc k) (o ∷ ps) = laid_user_id (page + pages_taken o) k ps
 
+laid_kind : (page k : ℕ) (ps : List (Option Place)) → option_map_or (λ (p : Place). p.is_heap) (get_or (laid_out page ps) k None) false ≡ option_map_or (λ (p : Place). p.is_heap) (get_or ps k None) false
+laid_kind page k [] = refl
+laid_kind page zero (None ∷ ps) = refl
+laid_kind page zero (Some place ∷ ps) = refl
+laid_kind page (suc k) (o ∷ ps) = laid_kind (page + pages_taken o) k ps
+
 module _ (file c : List ℕ) (ps : List (Option Place)) (m : ℕ) where
   live_laid : (h : ℕ) → is_live (shown c (laid_out 2 ps) m) h ≡ is_live (shown file ps m) h
   live_laid zero = not_live c (laid_out 2 ps) m ∙ sym (not_live file ps m)
@@ -266,12 +272,16 @@ module _ (file c : List ℕ) (ps : List (Option Place)) (m : ℕ) where
   user_ids_laid zero = ap (λ o. option_map_or (λ (b : Block). b.user_id) o 0) (get_none c (laid_out 2 ps) m ∙ sym (get_none file ps m))
   user_ids_laid (suc n) = user_id_is c (laid_out 2 ps) m (suc n) (omega arith) ∙ laid_user_id 2 (suc n - 1) ps ∙ sym (user_id_is file ps m (suc n) (omega arith))
 
+  kinds_laid : (h : ℕ) → is_heap (shown c (laid_out 2 ps) m) h ≡ is_heap (shown file ps m) h
+  kinds_laid zero = ap (λ o. option_map_or (λ (b : Block). is_heap_body b.body) o false) (get_none c (laid_out 2 ps) m ∙ sym (get_none file ps m))
+  kinds_laid (suc n) = heap_is c (laid_out 2 ps) m (suc n) (omega arith) ∙ laid_kind 2 (suc n - 1) ps ∙ sym (heap_is file ps m (suc n) (omega arith))
+
   pub laid_drifts : (live new : Table) → live.places.items ≡ ps → live.map_block ≡ m → new.places.items ≡ laid_out 2 ps → new.map_block ≡ m → Drifts false (document_in file live) (document_in c new)
   laid_drifts live new from from_map places map_block =
       let old_is : shown file ps m ≡ document_in file live = λ i. record { blocks = table_map 1 1 (blocks_in file ((sym from) i)); map_block = (sym from_map) i } in
       let new_is : shown c (laid_out 2 ps) m ≡ document_in c new = λ i. record { blocks = table_map 1 1 (blocks_in c ((sym places) i)); map_block = (sym map_block) i } in
       subst (λ d. Drifts false d (document_in c new)) old_is (subst (λ d. Drifts false (shown file ps m) d) new_is
-      (record { live = live_laid; user_ids = user_ids_laid; map_block = refl; same = λ so. absurd (cc so) }))
+      (record { live = live_laid; user_ids = user_ids_laid; kinds = kinds_laid; map_block = refl; same = λ so. absurd (cc so) }))
 
 pub laid_same : (file c : List ℕ) (live new : Table) → new.map_block ≡ live.map_block → blocks_in c new.places.items ≡ blocks_in file live.places.items → document_in c new ≡ document_in file live
 laid_same file c live new map_block blocks = λ i. record { blocks = table_map 1 1 (blocks i); map_block = map_block i }

@@ -1,5 +1,6 @@
 pub mod Away
 pub mod BodyImages
+pub mod BodyKinds
 pub mod Carried
 pub mod Committed
 pub mod Content

@@ -1,5 +1,5 @@
 -- What always holds of the document of a table.
-use Rattle.std.proofs.Common.{◌≡◌, ◌⊎◌, ℕ, ◌-◌, Bool, true, IsTrue, List, ap, ◌∙◌, arith, inl, inr}
+use Rattle.std.proofs.Common.{◌≡◌, ◌⊎◌, ℕ, ◌-◌, Bool, true, IsTrue, List, sym, ap, ◌∙◌, arith, inl, inr}
 use Rattle.geos_model.specs.Document.{is_live, is_valid_body, is_vm_handle, block_at}
 use Rattle.geos_model.specs.Image.{body_read}
 use Rattle.geos_model.specs.File.{bytes_in}
@@ -8,6 +8,7 @@ use Rattle.vm_file.specs.Documents.{IsImaged, AreImaged, document_in}
 use Rattle.vm_file.specs.Disk.{IsListed}
 use Rattle.vm_file.specs.Sound.{IsTable}
 use Rattle.vm_file.specs.declared.table.Table.{Table}
+use Rattle.vm_file.proofs.BodyKinds.{of_kind-same}
 use Rattle.vm_file.proofs.Tables.{each_at, lies, live_is, block_at_is, handle_in}
 
 module _ (honest : Bool) (file : List ℕ) (table : Table) (is : IsTable table) (images : IsTrue honest → AreImaged file table.places.items) where
@@ -19,8 +20,10 @@ module _ (honest : Bool) (file : List ℕ) (table : Table) (is : IsTable table) 
   listed_body : IsTrue honest → (h : ℕ) → is_live (document_in file table) h ≡ true → is_valid_body (block_at (document_in file table) h).body ≡ true
   listed_body so h live =
       let there = lies file table.places.items table.map_block h live in
-      let image = (each_at (IsImaged file) table.places.items (h - 1) there.place there.at (images so)).image in
+      let imaged = each_at (IsImaged file) table.places.items (h - 1) there.place there.at (images so) in
+      let image = imaged.image in
       ap (λ b. is_valid_body b.body) (block_at_is file table.places.items table.map_block h there.place there.low there.at)
+      ∙ ap is_valid_body (of_kind-same there.place.is_heap (body_read (bytes_in file there.place.extent)) imaged.kind)
       ∙ (body_of-some (bytes_in file there.place.extent) (body_read (bytes_in file there.place.extent)) image).0
 
   pub listed : IsListed honest (document_in file table)

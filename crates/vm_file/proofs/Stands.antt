@@ -26,6 +26,7 @@ use Rattle.vm_file.specs.Slots.{gate_text, behind_gate, Leads, IsBeside, IsUnmar
 use Rattle.vm_file.specs.Documents.{blocks_in, document_in, documents_in, attempted_in, entries_of, directory_of_table, IsImaged, AreImaged, IsStored, AreStored, IsHeldStored, sequence_of, sequence_in}
 use Rattle.vm_file.specs.Disk.{StandsForOne, IsSettled, Numbered}
 use Rattle.vm_file.specs.Opened.{Beaten}
+use Rattle.vm_file.proofs.BodyKinds.{of_kind-same}
 use Rattle.vm_file.specs.Sound.{IsFormed, IsHeldFormed, IsWhole, IsSound, disk_of}
 use Rattle.vm_file.specs.Opened.{Beaten}
 use Rattle.vm_file.specs.declared.table.Place.{Place}
@@ -50,7 +51,8 @@ table_blocks file h (Some place ∷ places) are =
     let more = table_blocks file (h + 1) places (λ i d within. are (suc i) d (omega arith)) in
     let one : IfSome (Some place) (IsImaged file) = are 0 None (omega arith) in
     let image : body_of (bytes_in file place.extent) ≡ Some (body_read (bytes_in file place.extent)) = one.image in
-    ap₂ prepended (ap (option_map (λ body. numbered h (record { user_id = place.user_id; body = body }))) image) more
+    let body = body_read (bytes_in file place.extent) in
+    ap₂ prepended (ap (option_map (λ b. numbered h (record { user_id = place.user_id; body = b }))) (image ∙ ap (λ b. Some b) (sym (of_kind-same place.is_heap body one.kind)))) more
 
 -- the directory's document
 pub stored_document : (file : List ℕ) (s : Stored) → IsStored file s → document_at file s.directory ≡ Some (document_in file s.table)

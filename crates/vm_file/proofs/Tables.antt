@@ -7,7 +7,7 @@ use Rattle.std.proofs.lemmas.Bool.Decides.{nat_tests}
 use Rattle.std.proofs.lemmas.Bool.{and_parts, leb-true}
 use Rattle.std.specs.Prelude.{nat_le}
 use Rattle.std.proofs.lemmas.List.{append-nil, drop_all, take_all}
-use Rattle.geos_model.specs.Document.{Block, Document, is_heap_body, is_live, is_vm_handle, user_id_of, block_at, with_block, without_block, with_user_id}
+use Rattle.geos_model.specs.Document.{Block, Document, is_heap, is_heap_body, is_live, is_vm_handle, user_id_of, block_at, with_block, without_block, with_user_id}
 use Rattle.geos_model.specs.declared.command.Body.TheVariants.{Raw}
 use Rattle.geos_model.specs.Image.{body_of, body_read}
 use Rattle.geos_model.specs.File.{bytes_in}
@@ -17,7 +17,8 @@ use Rattle.geos_model.proofs.Table.{table_map}
 use Rattle.geos_model.proofs.Tables.{slot_at, slot_at_within, get-table_map_at, get-table_map_below, table_map-set, table_map-clear}
 use Rattle.vm_file.specs.Ranges.{end_of, KeepsAll}
 use Rattle.vm_file.specs.Slots.{block_extents}
-use Rattle.vm_file.specs.Documents.{block_in, blocks_in, IsImaged, AreImaged}
+use Rattle.vm_file.specs.Documents.{block_in, blocks_in, of_kind, IsImaged, AreImaged}
+use Rattle.vm_file.proofs.BodyKinds.{of_kind-kind}
 use Rattle.vm_file.specs.Disk.{Drifts}
 use Rattle.vm_file.specs.declared.table.Place.{Place}
 
@@ -80,7 +81,11 @@ user_id-map : (file : List ℕ) (o : Option Place) → option_map_or (λ (b : Bl
 user_id-map file None = refl
 user_id-map file (Some x) = refl
 
--- whether a block is live, and its user ID, whatever the bytes
+kind-map : (file : List ℕ) (o : Option Place) → option_map_or (λ (b : Block). is_heap_body b.body) (option_map (block_in file) o) false ≡ option_map_or (λ (p : Place). p.is_heap) o false
+kind-map file None = refl
+kind-map file (Some x) = of_kind-kind x.is_heap (body_read (bytes_in file x.extent))
+
+-- whether a block is live, its user ID and its kind, whatever the bytes
 pub live_is : (file : List ℕ) (places : List (Option Place)) (map_block h : ℕ) → 1 ≤ h → is_live (shown file places map_block) h ≡ is_some (slot_at places (h - 1))
 live_is file places map_block h low = ap is_some (get_at file places map_block h low) ∙ is_some-map (block_in file) (slot_at places (h - 1))
 
@@ -89,6 +94,9 @@ not_live file places map_block = ap is_some (get_none file places map_block)
 
 pub user_id_is : (file : List ℕ) (places : List (Option Place)) (map_block h : ℕ) → 1 ≤ h → user_id_of (shown file places map_block) h ≡ option_map_or (λ (p : Place). p.user_id) (slot_at places (h - 1)) 0
 user_id_is file places map_block h low = ap (λ o. option_map_or (λ (b : Block). b.user_id) o 0) (get_at file places map_block h low) ∙ user_id-map file (slot_at places (h - 1))
+
+pub heap_is : (file : List ℕ) (places : List (Option Place)) (map_block h : ℕ) → 1 ≤ h → is_heap (shown file places map_block) h ≡ option_map_or (λ (p : Place). p.is_heap) (slot_at places (h - 1)) false
+heap_is file places map_block h low = ap (λ o. option_map_or (λ (b : Block). is_heap_body b.body) o false) (get_at file places map_block h low) ∙ kind-map file (slot_at places (h - 1))
 
 pub block_is : (file : List ℕ) (places : List (Option Place)) (map_block h : ℕ) (place : Place) → 1 ≤ h → slot_at places (h - 1) ≡ Some place → get (shown file places map_block).blocks h ≡ Some (block_in file place)
 block_is file places map_block h place low at = get_at file places map_block h low ∙ ap (option_map (block_in file)) at
@@ -120,10 +128,15 @@ drifts_user_ids : (file c : List ℕ) (places : List (Option Place)) (map_block 
 drifts_user_ids file c places map_block zero = ap (λ o. option_map_or (λ (b : Block). b.user_id) o 0) (get_none c places map_block ∙ sym (get_none file places map_block))
 drifts_user_ids file c places map_block (suc n) = user_id_is c places map_block (suc n) (omega arith) ∙ sym (user_id_is file places map_block (suc n) (omega arith))
 
+drifts_kinds : (file c : List ℕ) (places : List (Option Place)) (map_block h : ℕ) → is_heap (shown c places map_block) h ≡ is_heap (shown file places map_block) h
+drifts_kinds file c places map_block zero = ap (λ o. option_map_or (λ (b : Block). is_heap_body b.body) o false) (get_none c places map_block ∙ sym (get_none file places map_block))
+drifts_kinds file c places map_block (suc n) = heap_is c places map_block (suc n) (omega arith) ∙ sym (heap_is file places map_block (suc n) (omega arith))
+
 pub places_drift : (honest : Bool) (file c : List ℕ) (places : List (Option Place)) (map_block : ℕ) → (IsTrue honest → blocks_in c places ≡ blocks_in file places) → Drifts honest (shown file places map_block) (shown c places map_block)
 places_drift honest file c places map_block same = record {
   live = λ h. drifts_live file c places map_block h;
   user_ids = λ h. drifts_user_ids file c places map_block h;
+  kinds = λ h. drifts_kinds file c places map_block h;
   map_block = refl;
   same = λ so. ap (λ (t : List (Option Block)). record { blocks = table_map 1 1 t; map_block = map_block }) (same so);
 }
@@ -133,7 +146,7 @@ pub blocks_same : (file c : List ℕ) (places : List (Option Place)) → All (λ
 blocks_same file c [] within keeps = refl
 blocks_same file c (None ∷ places) within keeps = ap (λ (t : List (Option Block)). None ∷ t) (blocks_same file c places within keeps)
 blocks_same file c (Some place ∷ places) within keeps =
-    let here : block_in c place ≡ block_in file place = ap (λ bytes. record { user_id = place.user_id; body = body_read bytes }) (bytes_in-keeps file c place.extent (keeps 0 place.extent (omega arith)) (within 0 place.extent (omega arith))) in
+    let here : block_in c place ≡ block_in file place = ap (λ bytes. record { user_id = place.user_id; body = of_kind place.is_heap (body_read bytes) }) (bytes_in-keeps file c place.extent (keeps 0 place.extent (omega arith)) (within 0 place.extent (omega arith))) in
     let more = blocks_same file c places (λ i x inside. within (suc i) x (omega arith)) (λ i x inside. keeps (suc i) x (omega arith)) in
     ap (λ (b : Block). Some b ∷ blocks_in c places) here ∙ ap (λ (t : List (Option Block)). Some (block_in file place) ∷ t) more
 
@@ -215,12 +228,11 @@ entry_extent P places h (Some place) all is = each_at (λ p. P p.extent) places 
 pub block_at_is : (file : List ℕ) (places : List (Option Place)) (map_block h : ℕ) (place : Place) → 1 ≤ h → slot_at places (h - 1) ≡ Some place → block_at (shown file places map_block) h ≡ block_in file place
 block_at_is file places map_block h place low at = ap (λ o. unwrap_or o (record { user_id = 0; body = Raw [] })) (block_is file places map_block h place low at)
 
-pub entry_kind : (H : Type 0) (file : List ℕ) (places : List (Option Place)) (map_block h : ℕ) (result : Option Place) → (H → AreImaged file places) → IsPlaceOf places h result
-    → IfSome result (λ place. H → place.is_heap ≡ is_heap_body (block_at (shown file places map_block) h).body)
-entry_kind H file places map_block h None images is = tt
-entry_kind H file places map_block h (Some place) images is = λ so.
+pub entry_kind : (file : List ℕ) (places : List (Option Place)) (map_block h : ℕ) (result : Option Place) → IsPlaceOf places h result → IfSome result (λ place. place.is_heap ≡ is_heap (shown file places map_block) h)
+entry_kind file places map_block h None is = tt
+entry_kind file places map_block h (Some place) is =
     let at = entry_lies places h place is in
-    (each_at (IsImaged file) places (h - 1) place at.1 (images so)).kind ∙ ap (λ b. is_heap_body b.body) (sym (block_at_is file places map_block h place at.0 at.1))
+    sym (heap_is file places map_block h at.0 ∙ ap (λ o. option_map_or (λ (p : Place). p.is_heap) o false) at.1)
 
 pub entry_handle : (places : List (Option Place)) (h : ℕ) (result : Option Place) → length places ≡ 2048 → IsPlaceOf places h result → IfSome result (λ place. is_vm_handle h ≡ true)
 entry_handle places h None size is = tt

@@ -1,9 +1,12 @@
 -- The documents that tables of places stand for.
-use Rattle.std.specs.Prelude.{◌≡◌, ℕ, ◌+◌, List, [], ◌∷◌, map, Option, None, Some, Result, Ok, Err, All, IfSome}
+use Rattle.std.specs.Prelude.{◌≡◌, ℕ, ◌+◌, List, [], ◌∷◌, Bool, true, false, map, Option, None, Some, Result, Ok, Err, All, IfSome}
+use Rattle.std.specs.FinMap.{empty}
 use Rattle.std.specs.Option.{option_map}
 use Rattle.geos_model.specs.Document.{Block, Document, is_heap_body}
 use Rattle.geos_model.specs.Image.{body_of, body_read}
 use Rattle.geos_model.specs.File.{Directory, bytes_in, directory_of, open_slot, counting_slot}
+use Rattle.geos_model.specs.declared.command.Body.{Body}
+use Rattle.geos_model.specs.declared.command.Body.TheVariants.{Raw, Heap}
 use Rattle.geos_model.specs.declared.fault.Fault.{Fault}
 use Rattle.geos_model.specs.declared.file.Slot.{Slot}
 use Rattle.geos_model.specs.declared.file.Entry.{Entry}
@@ -19,9 +22,16 @@ use Rattle.vm_file.specs.declared.slots.Other.TheVariants.{Shut, Stale, Held}
 abbrev pub Documents : Type 0
 Documents = Document × Document
 
--- the block whose image lies at a place
+-- the body if it is of this kind, else one of the kind with nothing in it
+abbrev pub of_kind : Bool → Body → Body
+of_kind false (Raw bytes) = Raw bytes
+of_kind false (Heap m) = Raw []
+of_kind true (Raw bytes) = Heap empty
+of_kind true (Heap m) = Heap m
+
+-- The block whose image lies at a place. It is of the place's kind over any store, and over an honest one so is the image.
 abbrev pub block_in : List ℕ → Place → Block
-block_in file place = record { user_id = place.user_id; body = body_read (bytes_in file place.extent) }
+block_in file place = record { user_id = place.user_id; body = of_kind place.is_heap (body_read (bytes_in file place.extent)) }
 
 abbrev pub blocks_in : List ℕ → List (Option Place) → List (Option Block)
 blocks_in file places = map (option_map (block_in file)) places

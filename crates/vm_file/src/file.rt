@@ -2,7 +2,7 @@ ghost use Rattle.std.specs.Prelude.{◌≡◌, ◌≢◌, ◌⊎◌, ◌↔◌, 
 ghost use Rattle.std.specs.Option.{option_map};
 ghost use Rattle.std.specs.FinMap.{get, keys};
 ghost use Rattle.vm_store.specs.Facts.{Raised, Rests};
-ghost use Rattle.geos_model.specs.Document.{empty_document, is_live, is_vm_handle, next_handle, user_id_of, with_user_id, block_at, is_heap_body};
+ghost use Rattle.geos_model.specs.Document.{empty_document, is_live, is_vm_handle, next_handle, user_id_of, with_user_id, block_at, is_heap};
 ghost use Rattle.geos_model.specs.Image.{image};
 ghost use Rattle.geos_model.specs.Reply.{found};
 ghost use Rattle.geos_model.specs.File.{bytes_in, directory_text, open_slot, stands};
@@ -130,7 +130,7 @@ impl<S: Store> VmFile<S> {
     pub fn entry(&self, block: VmHandle) -> Option<Place>
         ensures live { is_some result ≡ is_live self.now.document block.0 }
         ensures user_id { IfSome result (λ place. place.user_id ≡ user_id_of self.now.document block.0) }
-        ensures kind { IfSome result (λ place. IsTrue (S.facts self.now.disk.store).honest → place.is_heap ≡ is_heap_body (block_at self.now.document block.0).body) }
+        ensures kind { IfSome result (λ place. place.is_heap ≡ is_heap self.now.document block.0) }
         ensures handle { IfSome result (λ place. is_vm_handle block.0 ≡ true) }
         ensures length { IfSome result (λ place. IsImageLength place.extent.length) }
         ensures image { IfSome result (λ place. IsTrue (S.facts self.now.disk.store).honest

@@ -11,12 +11,12 @@ pub fetch-requires-clause-live : goal.fetch-requires-clause-live
 fetch-requires-clause-live g c = moves_live g.S.Store.facts c.args.file.now c.args.frames.now.entries c.make_room.new.file c.make_room.new.frames.entries c.requires.kept c.make_room.ensures.moves c.args.block.0 ∙ c.requires.live
 
 pub fetch-requires-clause-absent : goal.fetch-requires-clause-absent
-fetch-requires-clause-absent g c = still_absent c.args.block.0 c.args.frames.now.entries c.make_room.new.frames.entries _ c.in_ok-make_room.ensures.ok c.requires.absent
+fetch-requires-clause-absent g c = still_absent c.args.block.0 c.args.frames.now.entries c.make_room.new.frames.entries _ c.in_ok-region.ensures.ok c.requires.absent
 
-pub returns-in_err-make_room-clause-fails : goal.returns-in_err-make_room-clause-fails
-returns-in_err-make_room-clause-fails g c =
+pub returns-in_err-region-clause-fails : goal.returns-in_err-region-clause-fails
+returns-in_err-region-clause-fails g c =
     let p = err_from_is_err_and c.from_residual.result c.from_residual.ensures.1 in
-    Fails-as g.S.Store.facts NoFault (IsDamage (g.S.Store.facts c.args.file.now.disk.store).honest) _ _ c.in_err-make_room.field-0.0 c.from_residual.result (p.1 ∙ ap Err p.2) (λ f none. absurd none) c.in_err-make_room.ensures.fails
+    Fails-as g.S.Store.facts NoFault (IsDamage (g.S.Store.facts c.args.file.now.disk.store).honest) _ _ c.in_err-region.field-0.0 c.from_residual.result (p.1 ∙ ap Err p.2) (λ f none. absurd none) c.in_err-region.ensures.fails
 
 pub returns-clause-fails : goal.returns-clause-fails
 returns-clause-fails g c =

@@ -12,6 +12,15 @@ use Rattle.block_cache.proofs.Steps.{moves_frames, moves_both}
 use Rattle.block_cache.proofs.Overlay.{dropped, dropped_kept}
 use Rattle.block_cache.proofs.loading.evict.Goals as goal
 
+pub unwrap-frame-requires : goal.unwrap-frame-requires
+unwrap-frame-requires g c =
+    let es = c.args.frames.now.entries in
+    let fs = c.write_back.new.frames.entries in
+    let h = c.unwrap-block.result in
+    let at : victim (seats es) ≡ Some h = sym c.victim.ensures ∙ c.unwrap-block.ensures in
+    let there : is_some (held fs h) ≡ true = sym (resident_is h fs) ∙ ap (λ ss. is_some (lookup (nat_eq h) ss)) c.write_back.ensures.seats ∙ victim_there (seats es) h at in
+    ap is_some c.pop.ensures.value ∙ there
+
 pub returns-clause-moves : goal.returns-clause-moves
 returns-clause-moves g c =
     let facts = g.S.Store.facts in

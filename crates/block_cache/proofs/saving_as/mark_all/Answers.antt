@@ -63,6 +63,7 @@ returns-clause-kept c = λ honest d handles kept.
           let high = is_low h (handles h was.live) in
           record {
             live = was.live;
+            kind = λ same. let set : f.changed ≡ true = l.invariant.marked h f (omega (arith, high)) is in absurd (cc (set, same));
             clean = λ so same. let set : f.changed ≡ true = l.invariant.marked h f (omega (arith, high)) is in absurd (cc (set, same));
           };
     }

@@ -1,6 +1,6 @@
 use Rattle.std.proofs.Common.{◌≡◌, ◌-◌, IsTrue, ap, subst, ◌∙◌}
 use Rattle.std.specs.Prelude.{IfSome}
-use Rattle.geos_model.specs.Document.{is_live, user_id_of, block_at, is_heap_body}
+use Rattle.geos_model.specs.Document.{is_live, user_id_of, block_at, is_heap}
 use Rattle.geos_model.specs.Image.{image}
 use Rattle.geos_model.specs.File.{bytes_in}
 use Rattle.geos_model.proofs.Tables.{slot_at}
@@ -31,8 +31,8 @@ returns-clause-kind g c =
     let h = c.args.block.0 in
     let facts = g.S.Store.facts c.self.inside.store in
     let is : IsPlaceOf live.places.items h c.place_of.result = record { nothing = c.place_of.ensures.zero; place = λ low. c.place_of.ensures.place low ∙ ap (λ ps. slot_at ps (h - 1)) c.deref.ensures.value } in
-    subst (λ s. IfSome c.place_of.result (λ place. IsTrue (g.S.Store.facts s.disk.store).honest → place.is_heap ≡ is_heap_body (block_at s.document h).body)) c.self.view_is
-    (entry_kind (IsTrue facts.honest) facts.content live.places.items live.map_block h c.place_of.result (λ yes. (c.self.invariant.sound.whole yes).images) is)
+    subst (λ s. IfSome c.place_of.result (λ place. place.is_heap ≡ is_heap s.document h)) c.self.view_is
+    (entry_kind facts.content live.places.items live.map_block h c.place_of.result is)
 
 pub returns-clause-handle : goal.returns-clause-handle
 returns-clause-handle g c =
