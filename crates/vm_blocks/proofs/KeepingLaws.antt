@@ -1,8 +1,9 @@
 -- Laws of what a call leaves that may bring blocks into memory.
-use Rattle.std.proofs.Common.{◌≡◌, ◌⊎◌, ℕ, Bool, IsTrue, true, inl, inr, refl, sym, subst, ◌∙◌, arith}
+use Rattle.std.proofs.Common.{◌≡◌, ◌⊎◌, ℕ, Bool, IsTrue, not, Option, None, Some, is_some, true, false, ap, inl, inr, refl, sym, subst, ◌∙◌, arith}
 use Rattle.std.proofs.lemmas.Bool.{and_parts}
 use Rattle.vm_store.specs.Facts.{StoreFacts, Raised}
-use Rattle.geos_model.specs.Document.{is_live}
+use Rattle.std.specs.Option.{option_map_or}
+use Rattle.geos_model.specs.Document.{Block, is_heap_body, is_live}
 use Rattle.geos_model.specs.declared.fault.Fault.{Fault}
 use Rattle.geos_model.specs.declared.fault.Fault.TheVariants.{Damaged, File, Memory}
 use Rattle.vm_file.specs.Disk.{Passes, Drifts}
@@ -103,3 +104,8 @@ module _ {S : Type 0} (facts : S → StoreFacts) where
 pub loaded-live : {S : Type 0} (state : CacheState S) (h : ℕ) → is_loaded state h ≡ true → is_live state.document h ≡ true
 unfolding is_loaded
 loaded-live state h loaded = (and_parts (is_resident state.resident h) (is_live state.document h) loaded).1
+
+-- a block that is live and no heap is raw
+pub raw_by : (o : Option Block) → is_some o ≡ true → option_map_or (λ (b : Block). is_heap_body b.body) o false ≡ false → option_map_or (λ (b : Block). not (is_heap_body b.body)) o false ≡ true
+raw_by None live kind = absurd (cc live)
+raw_by (Some b) live kind = ap not kind

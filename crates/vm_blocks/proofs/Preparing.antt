@@ -5,7 +5,7 @@ use Rattle.std.specs.Option.{option_map, option_map_or}
 use Rattle.std.proofs.lemmas.Bool.{and_parts, cases_eq, true≢false}
 use Rattle.std.proofs.lemmas.List.Elements.{All-map}
 use Rattle.std.specs.FinMap.{get}
-use Rattle.geos_model.specs.Document.{Block, Document, block_at, is_live, with_block, without_block, with_blocks, without_blocks, with_user_id, handles_of}
+use Rattle.geos_model.specs.Document.{Block, Document, is_heap_body, block_at, is_live, with_block, without_block, with_blocks, without_blocks, with_user_id, handles_of}
 use Rattle.geos_model.specs.declared.command.Body.{Body}
 use Rattle.geos_model.specs.declared.command.Body.TheVariants.{Raw}
 use Rattle.geos_model.proofs.HeapEdits.{get-put_same, get-put_other, get-taken_same, get-taken_other}
@@ -69,20 +69,23 @@ applies_listed c d applies = (halves c d applies).0
 pub applies_takes : (c : Change) (d : Document) → Applies c d → BodyTakes c d
 applies_takes c d applies = (halves c d applies).1
 
--- Documents with the same handles, user IDs and map block, over any store.
+-- Documents with the same handles, user IDs, kinds and map block, over any store.
 
 abbrev Alike : Document → Document → Type 0
 Alike a b = Drifts false a b
 
 alike : (honest : Bool) (a b : Document) → Drifts honest a b → Alike a b
-alike honest a b drifts = record { live = drifts.live; user_ids = drifts.user_ids; map_block = drifts.map_block; same = λ no. absurd (true≢false (sym no)) }
+alike honest a b drifts = record { live = drifts.live; user_ids = drifts.user_ids; kinds = drifts.kinds; map_block = drifts.map_block; same = λ no. absurd (true≢false (sym no)) }
 
 abbrev uid : Option Block → ℕ
 uid o = option_map_or (λ (b : Block). b.user_id) o 0
 
--- the same block but for its body, put under a handle
-put_alike : (a b : Document) (h : ℕ) (x y : Block) → y.user_id ≡ x.user_id → Alike a b → Alike (with_block a h x) (with_block b h y)
-put_alike a b h x y same drifts = record {
+abbrev heap : Option Block → Bool
+heap o = option_map_or (λ (b : Block). is_heap_body b.body) o false
+
+-- the same block but for what its body has, put under a handle
+put_alike : (a b : Document) (h : ℕ) (x y : Block) → y.user_id ≡ x.user_id → is_heap_body y.body ≡ is_heap_body x.body → Alike a b → Alike (with_block a h x) (with_block b h y)
+put_alike a b h x y same kind drifts = record {
   live = λ k. elim (cases_eq k h) [
     | inl e ↦ ap is_some (get-put_same b.blocks h y k e) ∙ sym (ap is_some (get-put_same a.blocks h x k e))
     | inr other ↦ ap is_some (get-put_other b.blocks h y k other) ∙ (drifts.live k ∙ sym (ap is_some (get-put_other a.blocks h x k other)))
@@ -90,6 +93,10 @@ put_alike a b h x y same drifts = record {
   user_ids = λ k. elim (cases_eq k h) [
     | inl e ↦ ap uid (get-put_same b.blocks h y k e) ∙ (same ∙ sym (ap uid (get-put_same a.blocks h x k e)))
     | inr other ↦ ap uid (get-put_other b.blocks h y k other) ∙ (drifts.user_ids k ∙ sym (ap uid (get-put_other a.blocks h x k other)))
+  ];
+  kinds = λ k. elim (cases_eq k h) [
+    | inl e ↦ ap heap (get-put_same b.blocks h y k e) ∙ (kind ∙ sym (ap heap (get-put_same a.blocks h x k e)))
+    | inr other ↦ ap heap (get-put_other b.blocks h y k other) ∙ (drifts.kinds k ∙ sym (ap heap (get-put_other a.blocks h x k other)))
   ];
   map_block = drifts.map_block;
   same = λ no. absurd (true≢false (sym no));
@@ -105,13 +112,17 @@ taken_alike a b h drifts = record {
     | inl e ↦ ap uid (get-taken_same b.blocks h k e) ∙ sym (ap uid (get-taken_same a.blocks h k e))
     | inr other ↦ ap uid (get-taken_other b.blocks h k other) ∙ (drifts.user_ids k ∙ sym (ap uid (get-taken_other a.blocks h k other)))
   ];
+  kinds = λ k. elim (cases_eq k h) [
+    | inl e ↦ ap heap (get-taken_same b.blocks h k e) ∙ sym (ap heap (get-taken_same a.blocks h k e))
+    | inr other ↦ ap heap (get-taken_other b.blocks h k other) ∙ (drifts.kinds k ∙ sym (ap heap (get-taken_other a.blocks h k other)))
+  ];
   map_block = drifts.map_block;
   same = λ no. absurd (true≢false (sym no));
 }
 
 put_all_alike : (a b : Document) (ps : List (ℕ × Block)) → Alike a b → Alike (with_blocks a ps) (with_blocks b ps)
 put_all_alike a b [] drifts = drifts
-put_all_alike a b (p ∷ ps) drifts = put_all_alike (with_block a p.0 p.1) (with_block b p.0 p.1) ps (put_alike a b p.0 p.1 p.1 refl drifts)
+put_all_alike a b (p ∷ ps) drifts = put_all_alike (with_block a p.0 p.1) (with_block b p.0 p.1) ps (put_alike a b p.0 p.1 p.1 refl refl drifts)
 
 taken_all_alike : (a b : Document) (hs : List ℕ) → Alike a b → Alike (without_blocks a hs) (without_blocks b hs)
 taken_all_alike a b [] drifts = drifts
@@ -119,27 +130,27 @@ taken_all_alike a b (h ∷ hs) drifts = taken_all_alike (without_block a h) (wit
 
 -- whatever bodies they have, and whatever the change makes of them
 part_alike : (a b : Document) (h : ℕ) (p : PartChange) → Alike a b → Alike (part_made h p a) (part_made h p b)
-part_alike a b h (parts.Raw s) drifts = put_alike a b h _ _ (drifts.user_ids h) drifts
-part_alike a b h (parts.Chunk c s) drifts = put_alike a b h _ _ (drifts.user_ids h) drifts
-part_alike a b h (parts.ChunkIn c content) drifts = put_alike a b h _ _ (drifts.user_ids h) drifts
-part_alike a b h (parts.ChunkOut c content) drifts = put_alike a b h _ _ (drifts.user_ids h) drifts
+part_alike a b h (parts.Raw s) drifts = put_alike a b h _ _ (drifts.user_ids h) refl drifts
+part_alike a b h (parts.Chunk c s) drifts = put_alike a b h _ _ (drifts.user_ids h) refl drifts
+part_alike a b h (parts.ChunkIn c content) drifts = put_alike a b h _ _ (drifts.user_ids h) refl drifts
+part_alike a b h (parts.ChunkOut c content) drifts = put_alike a b h _ _ (drifts.user_ids h) refl drifts
 
 user_id_alike : (a b : Document) (h user_id : ℕ) → Alike a b → Alike (with_user_id a h user_id) (with_user_id b h user_id)
-user_id_alike a b h user_id drifts = of (get a.blocks h) (get b.blocks h) (drifts.live h)
+user_id_alike a b h user_id drifts = of (get a.blocks h) (get b.blocks h) (drifts.live h) (drifts.kinds h)
   where
-    of : (x y : Option Block) → is_some y ≡ is_some x
+    of : (x y : Option Block) → is_some y ≡ is_some x → heap y ≡ heap x
         → Alike (option_map_or (λ (o : Block). with_block a h (record o { user_id = user_id })) x a) (option_map_or (λ (o : Block). with_block b h (record o { user_id = user_id })) y b)
-    of None None same = drifts
-    of None (Some y) same = absurd (true≢false same)
-    of (Some x) None same = absurd (true≢false (sym same))
-    of (Some x) (Some y) same = put_alike a b h (record x { user_id = user_id }) (record y { user_id = user_id }) refl drifts
+    of None None same kind = drifts
+    of None (Some y) same kind = absurd (true≢false same)
+    of (Some x) None same kind = absurd (true≢false (sym same))
+    of (Some x) (Some y) same kind = put_alike a b h (record x { user_id = user_id }) (record y { user_id = user_id }) refl kind drifts
 
 made_alike : (c : Change) (a b : Document) → Alike a b → Alike (made c a) (made c b)
 made_alike (changes.BlocksIn ms) a b drifts = put_all_alike a b (saved_blocks ms.list.items) drifts
 made_alike (changes.BlocksOut ms) a b drifts = taken_all_alike a b (handles_of (saved_blocks ms.list.items)) drifts
 made_alike (changes.Part h part) a b drifts = part_alike a b h.0 part drifts
 made_alike (changes.UserId h old new) a b drifts = user_id_alike a b h.0 new drifts
-made_alike (changes.Map old new) a b drifts = record { live = drifts.live; user_ids = drifts.user_ids; map_block = refl; same = λ no. absurd (true≢false (sym no)) }
+made_alike (changes.Map old new) a b drifts = record { live = drifts.live; user_ids = drifts.user_ids; kinds = drifts.kinds; map_block = refl; same = λ no. absurd (true≢false (sym no)) }
 
 none_there : (o : Option Block) → is_some o ≡ false → o ≡ None
 none_there None free = refl
@@ -193,6 +204,7 @@ pub made_on : (c : Change) (honest : Bool) (old new : Document) → Drifts hones
 made_on c honest old new drifts = let same = made_alike c old new (alike honest old new drifts) in record {
   live = same.live;
   user_ids = same.user_ids;
+  kinds = same.kinds;
   map_block = same.map_block;
   same = λ so. ap (made c) (drifts.same so);
 }

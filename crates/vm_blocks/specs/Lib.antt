@@ -6,5 +6,6 @@ pub mod Saved
 pub mod Committing
 pub mod Opening
 pub mod Keeping
+pub mod Kinds
 pub mod Preparing
 pub mod Sound

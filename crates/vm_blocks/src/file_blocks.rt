@@ -3,7 +3,7 @@ ghost use Rattle.std.specs.Prelude.{◌≡◌, ◌≢◌, ◌⊎◌, ◌↔◌, 
 ghost use Rattle.std.specs.Option.{option_map};
 ghost use Rattle.std.specs.Result.{IsErrAnd};
 ghost use Rattle.std.specs.FinMap.{get, keys};
-ghost use Rattle.geos_model.specs.Document.{IsValid, block_at, next_handle, is_live, is_vm_handle, user_id_of, handles_of, without_block, without_blocks};
+ghost use Rattle.geos_model.specs.Document.{IsValid, block_at, is_heap, is_raw, next_handle, is_live, is_vm_handle, user_id_of, handles_of, without_block, without_blocks};
 ghost use Rattle.geos_model.specs.Reply.{found};
 ghost use Rattle.vm_file.specs.Calls.{IsCommitRefusal, last_sequence};
 ghost use Rattle.vm_file.specs.Disk.{IsListed, IsSettled};
@@ -16,6 +16,7 @@ ghost use Rattle.vm_blocks.specs.Keeping.{Keeps, Lacks, is_loaded};
 ghost use Rattle.vm_blocks.specs.Members.{saved_blocks};
 ghost use Rattle.vm_blocks.specs.Opening.{IsOpenedFrom, IsNotOpened, IsMadeIn, IsNotMade};
 ghost use Rattle.vm_blocks.specs.Parts.{Takes};
+ghost use Rattle.vm_blocks.specs.Kinds.{IsOfOther};
 ghost use Rattle.vm_blocks.specs.Preparing.{CanLeave, Listed, BodyTakes, IsAtHand, IsUnready, Makes, Turns};
 
 use crate::part::{can_take, carry_out};
@@ -159,6 +160,14 @@ impl<S: Store> FileBlocks<S> {
         self.cache.is_live(handle)
     }
 
+    /// Whether a block is a heap, in memory or not.
+    pub fn is_heap(&self, handle: VmHandle) -> bool
+        requires { is_live self.now.document handle.0 ≡ true }
+        ensures { result ≡ is_heap self.now.document handle.0 }
+    {
+        self.cache.is_heap(handle)
+    }
+
     /// The user ID of a block, in memory or not.
     pub fn user_id(&self, handle: VmHandle) -> u16
         requires { is_live self.now.document handle.0 ≡ true }
@@ -190,6 +199,42 @@ impl<S: Store> FileBlocks<S> {
         } else {
             Err(Fault::NoBlock)
         }
+    }
+
+    /// Brings a raw block into memory, as `load` does. WrongKind where it is a heap: then, and where it isn't live, no memory is taken
+    /// and no store is called.
+    pub fn load_raw(&mut self, handle: VmHandle) -> Result<(), Fault>
+        ensures keeps { Keeps S.facts self.old self.new }
+        ensures ok { OnOk result ((is_loaded self.new handle.0 ≡ true) × (is_raw self.new.document handle.0 ≡ true)) }
+        ensures err { IfErr result (λ fault. Lacks S.facts self.old.disk.store self.new.disk.store fault ⊎ IsOfOther is_raw self.new.document handle.0 fault) }
+        ensures already { is_loaded self.old handle.0 ≡ true → is_raw self.old.document handle.0 ≡ true → IsOk result × (self.new.disk ≡ self.old.disk) × (self.new.document ≡ self.old.document) }
+        ensures early { (fault : Fault) → IsOfOther is_raw self.old.document handle.0 fault → (result ≡ Err fault) × (self.new ≡ self.old) }
+    {
+        if !self.cache.is_live(handle) {
+            return Err(Fault::NoBlock);
+        }
+        if self.cache.is_heap(handle) {
+            return Err(Fault::WrongKind);
+        }
+        self.load_live(handle)
+    }
+
+    /// Brings a heap into memory, as `load` does. WrongKind where the block is raw: then, and where it isn't live, no memory is taken
+    /// and no store is called.
+    pub fn load_heap(&mut self, handle: VmHandle) -> Result<(), Fault>
+        ensures keeps { Keeps S.facts self.old self.new }
+        ensures ok { OnOk result ((is_loaded self.new handle.0 ≡ true) × (is_heap self.new.document handle.0 ≡ true)) }
+        ensures err { IfErr result (λ fault. Lacks S.facts self.old.disk.store self.new.disk.store fault ⊎ IsOfOther is_heap self.new.document handle.0 fault) }
+        ensures already { is_loaded self.old handle.0 ≡ true → is_heap self.old.document handle.0 ≡ true → IsOk result × (self.new.disk ≡ self.old.disk) × (self.new.document ≡ self.old.document) }
+        ensures early { (fault : Fault) → IsOfOther is_heap self.old.document handle.0 fault → (result ≡ Err fault) × (self.new ≡ self.old) }
+    {
+        if !self.cache.is_live(handle) {
+            return Err(Fault::NoBlock);
+        }
+        if !self.cache.is_heap(handle) {
+            return Err(Fault::WrongKind);
+        }
+        self.load_live(handle)
     }
 
     // Brings a live block into memory.
