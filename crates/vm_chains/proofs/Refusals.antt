@@ -8,7 +8,8 @@ use Rattle.geos_model.specs.Refusal.{Conditions, first_refusal}
 use Rattle.geos_model.specs.declared.fault.Fault.{Fault}
 use Rattle.geos_model.specs.declared.fault.Fault.TheVariants.{NoBlock, WrongKind, BadChain, IsMap, NoHandles}
 use Rattle.vm_chains.specs.Answers.{Answers, IsChainFault, Refuses}
-use Rattle.vm_chains.specs.Walking.{RefusesRoot, Stops}
+use Rattle.vm_blocks.specs.Kinds.{IsOfOther}
+use Rattle.vm_chains.specs.Walking.{Stops}
 use Rattle.vm_chains.proofs.WalkLemmas.{and_false, raw_live}
 
 -- by the three tests of a chain: is its root live, is it raw, is there a chain
@@ -84,7 +85,7 @@ module _ (d : Document) (h : ℕ) where
     copy_refused fault (inr first) = inr (before_copy (is_live d h) (is_raw d h) (is_none (chain d h)) _ fault first)
 
     -- the root is refused
-    pub root_refused : (fault : Fault) → lacks fault ⊎ RefusesRoot d h fault → Refuses lacks (on_chain d h) fault
+    pub root_refused : (fault : Fault) → lacks fault ⊎ IsOfOther is_raw d h fault → Refuses lacks (on_chain d h) fault
     root_refused fault (inl lack) = inl lack
     root_refused fault (inr (inl dead)) = inr (of_one (is_live d h) (is_raw d h) (is_none (chain d h)) ∙ cond-false _ _ _ dead.1 ∙ ap (λ (f : Fault). Some f) (sym dead.0))
     root_refused fault (inr (inr heap)) = inr (of_one (is_live d h) (is_raw d h) (is_none (chain d h)) ∙ cond-true _ _ _ heap.1 ∙ cond-false _ _ _ heap.2 ∙ ap (λ (f : Fault). Some f) (sym heap.0))
@@ -95,7 +96,7 @@ module _ (d : Document) (h : ℕ) where
     walked P (Err fault) raw some (inl lack) = inl lack
     walked P (Err fault) raw some (inr bad) = inr (of_one (is_live d h) (is_raw d h) (is_none (chain d h)) ∙ cond-true _ _ _ (raw_live d h raw) ∙ cond-true _ _ _ raw ∙ cond-true _ _ _ (ap (λ (o : Option (List ℕ)). is_none o) bad.1) ∙ ap (λ (f : Fault). Some f) (sym bad.0))
 
-pub root_fault : (d : Document) (h : ℕ) (fault : Fault) → RefusesRoot d h fault → IsChainFault fault
+pub root_fault : (d : Document) (h : ℕ) (fault : Fault) → IsOfOther is_raw d h fault → IsChainFault fault
 root_fault d h fault (inl dead) = inl dead.0
 root_fault d h fault (inr heap) = inr (inl heap.0)
 
@@ -113,7 +114,7 @@ module _ (d : Document) (f s : ℕ) where
   two_heap live heap = two ∙ cond-true _ _ _ live ∙ cond-false _ _ _ heap
 
   -- one of the roots is refused
-  pub two_refused : (fault : Fault) → (is_live d f && is_live d s) ≡ true → RefusesRoot d f fault ⊎ RefusesRoot d s fault → first_refusal (on_chains d f s) ≡ Some fault
+  pub two_refused : (fault : Fault) → (is_live d f && is_live d s) ≡ true → IsOfOther is_raw d f fault ⊎ IsOfOther is_raw d s fault → first_refusal (on_chains d f s) ≡ Some fault
   two_refused fault live (inl (inl dead)) = absurd (true≢false (sym (and_parts (is_live d f) (is_live d s) live).0 ∙ dead.1))
   two_refused fault live (inl (inr heap)) = two_heap live (ap (λ (b : Bool). b && is_raw d s) heap.2) ∙ ap (λ (x : Fault). Some x) (sym heap.0)
   two_refused fault live (inr (inl dead)) = absurd (true≢false (sym (and_parts (is_live d f) (is_live d s) live).1 ∙ dead.1))

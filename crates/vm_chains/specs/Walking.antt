@@ -6,13 +6,9 @@ use Rattle.geos_model.specs.Chain.{blocks_from, is_member, links}
 use Rattle.geos_model.specs.Document.{Document, is_live, is_raw, is_vm_handle, most_blocks, raw_bytes_of}
 use Rattle.geos_model.specs.ElementArray.{all_distinct}
 use Rattle.geos_model.specs.declared.fault.Fault.{Fault}
-use Rattle.geos_model.specs.declared.fault.Fault.TheVariants.{NoBlock, WrongKind, BadChain}
+use Rattle.geos_model.specs.declared.fault.Fault.TheVariants.{BadChain}
 use Rattle.geos_model.specs.declared.handle.VmHandle.{VmHandle}
 use Rattle.vm_chains.specs.Numbers.{numbers}
-
--- the block under a handle can't be the root of a chain
-abbrev pub RefusesRoot : Document → ℕ → Fault → Type 0
-RefusesRoot d h fault = ((fault ≡ NoBlock) × (is_live d h ≡ false)) ⊎ ((fault ≡ WrongKind) × (is_live d h ≡ true) × (is_raw d h ≡ false))
 
 -- what no rule of the document decides, or BadChain with its cause
 abbrev pub Stops : (Fault → Type 0) → Type 0 → Fault → Type 0

@@ -1,10 +1,11 @@
-ghost use Rattle.std.specs.Prelude.{◌≡◌, ◌≤◌, ℕ, true, IfOk, IfErr, MatchResult, length};
+ghost use Rattle.std.specs.Prelude.{◌≡◌, ◌≤◌, ℕ, Some, true, IfOk, IfErr, MatchResult, length};
 ghost use Rattle.std.specs.List.{All};
 ghost use Rattle.geos_model.specs.Bytes.{same_bytes};
 ghost use Rattle.geos_model.specs.Chain.{chain_blocks, on_chains, same_shape};
 ghost use Rattle.geos_model.specs.Document.{is_raw, is_vm_handle, most_blocks};
+ghost use Rattle.geos_model.specs.Refusal.{first_refusal};
 ghost use Rattle.vm_blocks.specs.Keeping.{Keeps, IsSteady, Lacks};
-ghost use Rattle.vm_chains.specs.Answers.{Answers, IsWalkRefusal, Refuses};
+ghost use Rattle.vm_chains.specs.Answers.{Answers, IsChainFault, IsWalkRefusal};
 ghost use Rattle.vm_chains.specs.Naming.{name_in, place_in};
 ghost use Rattle.vm_chains.specs.Numbers.{numbers};
 ghost use Rattle.vm_chains.specs.Walking.{AreBlocks, AreMembers};
@@ -38,15 +39,14 @@ pub fn equal<S: Store>(
 
 /// NoBlock where one of the two isn't live, and then WrongKind where one is a heap.
 fn test_roots<S: Store>(
-    blocks: &mut FileBlocks<S>,
+    blocks: &FileBlocks<S>,
     first: VmHandle,
     second: VmHandle,
 ) -> Result<(), Fault>
-    ensures keeps { Keeps S.facts blocks.old blocks.new }
-    ensures value { IsSteady S.facts blocks.old.disk.store → MatchResult result
-        (λ _. (is_raw blocks.new.document first.0 ≡ true) × (is_raw blocks.new.document second.0 ≡ true))
-        (Refuses (Lacks S.facts blocks.old.disk.store blocks.new.disk.store) (on_chains blocks.new.document first.0 second.0)) }
-    ensures refusals { IfErr result (IsWalkRefusal (Lacks S.facts blocks.old.disk.store blocks.new.disk.store)) }
+    ensures value { MatchResult result
+        (λ _. (is_raw blocks.now.document first.0 ≡ true) × (is_raw blocks.now.document second.0 ≡ true))
+        (λ fault. first_refusal (on_chains blocks.now.document first.0 second.0) ≡ Some fault) }
+    ensures refusals { IfErr result IsChainFault }
 {
     if !blocks.is_live(first) || !blocks.is_live(second) {
         return Err(Fault::NoBlock);

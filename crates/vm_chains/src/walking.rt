@@ -3,9 +3,10 @@ ghost use Rattle.geos_model.specs.Chain.{chain, is_member, on_chain};
 ghost use Rattle.geos_model.specs.Document.{is_raw};
 ghost use Rattle.geos_model.specs.declared.fault.Fault.TheVariants.{BadChain};
 ghost use Rattle.vm_blocks.specs.Keeping.{Keeps, IsSteady, Lacks};
+ghost use Rattle.vm_blocks.specs.Kinds.{IsOfOther};
 ghost use Rattle.vm_chains.specs.Answers.{Answers, IsWalkRefusal};
 ghost use Rattle.vm_chains.specs.Numbers.{numbers};
-ghost use Rattle.vm_chains.specs.Walking.{AreBlocks, AreMembers, BeginsWith, GoesOn, RefusesRoot, Stops};
+ghost use Rattle.vm_chains.specs.Walking.{AreBlocks, AreMembers, BeginsWith, GoesOn, Stops};
 
 use crate::links::{links_of, push_links};
 use crate::met::Met;
@@ -33,18 +34,17 @@ pub fn walk<S: Store>(
     walk_from(alloc, blocks, root)
 }
 
-/// NoBlock where no block is there, WrongKind where a heap is.
-pub(crate) fn test_root<S: Store>(blocks: &mut FileBlocks<S>, root: VmHandle) -> Result<(), Fault>
-    ensures keeps { Keeps S.facts blocks.old blocks.new }
-    ensures value { MatchResult result
-        (λ _. is_raw blocks.new.document root.0 ≡ true)
-        (λ fault. Lacks S.facts blocks.old.disk.store blocks.new.disk.store fault ⊎ RefusesRoot blocks.new.document root.0 fault) }
+/// NoBlock where no block is there, WrongKind where a heap is. No block is looked into for it.
+pub(crate) fn test_root<S: Store>(blocks: &FileBlocks<S>, root: VmHandle) -> Result<(), Fault>
+    ensures { MatchResult result (λ _. is_raw blocks.now.document root.0 ≡ true) (IsOfOther is_raw blocks.now.document root.0) }
 {
-    blocks.load(root)?;
-    match blocks.body(root) {
-        BlockBody::Raw(_) => Ok(()),
-        BlockBody::Heap(_) => Err(Fault::WrongKind),
+    if !blocks.is_live(root) {
+        return Err(Fault::NoBlock);
     }
+    if blocks.is_heap(root) {
+        return Err(Fault::WrongKind);
+    }
+    Ok(())
 }
 
 /// The blocks of the chain of a raw block.

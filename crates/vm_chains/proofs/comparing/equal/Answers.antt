@@ -7,7 +7,7 @@ use Rattle.geos_model.specs.Document.{Document, is_raw}
 use Rattle.geos_model.specs.declared.fault.Fault.{Fault}
 use Rattle.geos_model.specs.declared.fault.Fault.TheVariants.{BadChain}
 use Rattle.vm_blocks.specs.Keeping.{Keeps, IsSteady, Lacks}
-use Rattle.vm_blocks.proofs.KeepingLaws.{keeps-same, keeps-steady, keeps-trans, keeps-was_steady, lacks-later}
+use Rattle.vm_blocks.proofs.KeepingLaws.{keeps-refl, keeps-same, keeps-steady, keeps-trans, keeps-was_steady, lacks-later}
 use Rattle.vm_chains.specs.Answers.{IsWalkRefusal, Refuses}
 use Rattle.vm_chains.specs.Numbers.{numbers}
 use Rattle.vm_chains.specs.Walking.{AreBlocks, AreMembers, Stops}
@@ -36,21 +36,21 @@ stop_fault facts a r u fault begins stops = elim stops as (λ _. IsWalkRefusal (
   | inr bad ↦ inr (inr (inr bad))
 ]
 
+pub returns-in_err-test_roots-clause-keeps : goal.returns-in_err-test_roots-clause-keeps
+returns-in_err-test_roots-clause-keeps g c = keeps-refl g.S.Store.facts c.args.blocks.now
+
 pub returns-in_err-test_roots-clause-value : goal.returns-in_err-test_roots-clause-value
-returns-in_err-test_roots-clause-value g c = λ steady. carried c.from_residual.result c.in_err-test_roots.field-0.0 _ _ c.from_residual.ensures.1 (c.in_err-test_roots.ensures.value steady)
+returns-in_err-test_roots-clause-value g c = λ steady. carried c.from_residual.result c.in_err-test_roots.field-0.0 _ _ c.from_residual.ensures.1 (inr c.in_err-test_roots.ensures.value)
 
 pub returns-in_err-test_roots-clause-refusals : goal.returns-in_err-test_roots-clause-refusals
-returns-in_err-test_roots-clause-refusals g c = carried_so c.from_residual.result c.in_err-test_roots.field-0.0 _ c.from_residual.ensures.1 c.in_err-test_roots.ensures.refusals
-
-pub returns-in_err-first-clause-keeps : goal.returns-in_err-first-clause-keeps
-returns-in_err-first-clause-keeps g c = keeps-trans g.S.Store.facts c.args.blocks.now c.test_roots.new.blocks c.walk_from.new.blocks c.test_roots.ensures.keeps c.walk_from.ensures.keeps
+returns-in_err-test_roots-clause-refusals g c = carried_so c.from_residual.result c.in_err-test_roots.field-0.0 _ c.from_residual.ensures.1 (inr c.in_err-test_roots.ensures.refusals)
 
 pub returns-in_err-first-clause-value : goal.returns-in_err-first-clause-value
 returns-in_err-first-clause-value g c = λ steady.
-    let a = c.args.blocks.now in let r = c.test_roots.new.blocks in let u = c.walk_from.new.blocks in let f = c.args.first.0 in let s = c.args.second.0 in let fault = c.in_err-first.field-0.0 in
+    let a = c.args.blocks.now in let u = c.walk_from.new.blocks in let f = c.args.first.0 in let s = c.args.second.0 in let fault = c.in_err-first.field-0.0 in
     carried c.from_residual-in_err-first.result fault _ _ c.from_residual-in_err-first.ensures.1
-    (walk_refused g.S.Store.facts a r u f s fault c.test_roots.ensures.keeps c.walk_from.ensures.keeps steady (c.in_ok-test_roots.ensures.value steady)
-    (elim (c.in_err-first.ensures.value (keeps-steady g.S.Store.facts a r c.test_roots.ensures.keeps steady)) as (λ _. Stops (Lacks g.S.Store.facts r.disk.store u.disk.store) ((chain u.document f ≡ None) ⊎ (chain u.document s ≡ None)) fault) [
+    (walk_refused g.S.Store.facts a a u f s fault (keeps-refl g.S.Store.facts a) c.walk_from.ensures.keeps steady c.in_ok-test_roots.ensures.value
+    (elim (c.in_err-first.ensures.value steady) as (λ _. Stops (Lacks g.S.Store.facts a.disk.store u.disk.store) ((chain u.document f ≡ None) ⊎ (chain u.document s ≡ None)) fault) [
       | inl lacks ↦ inl lacks
       | inr bad ↦ inr (bad.0, inl bad.1)
     ]))
@@ -58,19 +58,18 @@ returns-in_err-first-clause-value g c = λ steady.
 pub returns-in_err-first-clause-refusals : goal.returns-in_err-first-clause-refusals
 returns-in_err-first-clause-refusals g c =
     carried_so c.from_residual-in_err-first.result c.in_err-first.field-0.0 _ c.from_residual-in_err-first.ensures.1
-    (stop_fault g.S.Store.facts c.args.blocks.now c.test_roots.new.blocks c.walk_from.new.blocks c.in_err-first.field-0.0 c.test_roots.ensures.keeps c.in_err-first.ensures.refusals)
+    (stop_fault g.S.Store.facts c.args.blocks.now c.args.blocks.now c.walk_from.new.blocks c.in_err-first.field-0.0 (keeps-refl g.S.Store.facts c.args.blocks.now) c.in_err-first.ensures.refusals)
 
 pub returns-in_err-second-clause-keeps : goal.returns-in_err-second-clause-keeps
 returns-in_err-second-clause-keeps g c =
-    let a = c.args.blocks.now in let r = c.test_roots.new.blocks in let u = c.walk_from.new.blocks in
-    keeps-trans g.S.Store.facts a u c.walk_from-2.new.blocks (keeps-trans g.S.Store.facts a r u c.test_roots.ensures.keeps c.walk_from.ensures.keeps) c.walk_from-2.ensures.keeps
+    keeps-trans g.S.Store.facts c.args.blocks.now c.walk_from.new.blocks c.walk_from-2.new.blocks c.walk_from.ensures.keeps c.walk_from-2.ensures.keeps
 
 pub returns-in_err-second-clause-value : goal.returns-in_err-second-clause-value
 returns-in_err-second-clause-value g c = λ steady.
-    let a = c.args.blocks.now in let r = c.test_roots.new.blocks in let u = c.walk_from.new.blocks in let v = c.walk_from-2.new.blocks in
+    let a = c.args.blocks.now in let u = c.walk_from.new.blocks in let v = c.walk_from-2.new.blocks in
     let f = c.args.first.0 in let s = c.args.second.0 in let fault = c.in_err-second.field-0.0 in
-    let begins = keeps-trans g.S.Store.facts a r u c.test_roots.ensures.keeps c.walk_from.ensures.keeps in
-    let raw : AreRaw f s u.document = subst (AreRaw f s) (sym (keeps-same g.S.Store.facts r u c.walk_from.ensures.keeps (keeps-steady g.S.Store.facts a r c.test_roots.ensures.keeps steady))) (c.in_ok-test_roots.ensures.value steady) in
+    let begins = c.walk_from.ensures.keeps in
+    let raw : AreRaw f s u.document = subst (AreRaw f s) (sym (keeps-same g.S.Store.facts a u begins steady)) c.in_ok-test_roots.ensures.value in
     carried c.from_residual-in_err-second.result fault _ _ c.from_residual-in_err-second.ensures.1
     (walk_refused g.S.Store.facts a u v f s fault begins c.walk_from-2.ensures.keeps steady raw
     (elim (c.in_err-second.ensures.value (keeps-steady g.S.Store.facts a u begins steady)) as (λ _. Stops (Lacks g.S.Store.facts u.disk.store v.disk.store) ((chain v.document f ≡ None) ⊎ (chain v.document s ≡ None)) fault) [
@@ -80,9 +79,9 @@ returns-in_err-second-clause-value g c = λ steady.
 
 pub returns-in_err-second-clause-refusals : goal.returns-in_err-second-clause-refusals
 returns-in_err-second-clause-refusals g c =
-    let a = c.args.blocks.now in let r = c.test_roots.new.blocks in let u = c.walk_from.new.blocks in
+    let a = c.args.blocks.now in let u = c.walk_from.new.blocks in
     carried_so c.from_residual-in_err-second.result c.in_err-second.field-0.0 _ c.from_residual-in_err-second.ensures.1
-    (stop_fault g.S.Store.facts a u c.walk_from-2.new.blocks c.in_err-second.field-0.0 (keeps-trans g.S.Store.facts a r u c.test_roots.ensures.keeps c.walk_from.ensures.keeps) c.in_err-second.ensures.refusals)
+    (stop_fault g.S.Store.facts a u c.walk_from-2.new.blocks c.in_err-second.field-0.0 c.walk_from.ensures.keeps c.in_err-second.ensures.refusals)
 
 pub same_shape-requires-clause-first : goal.same_shape-requires-clause-first
 same_shape-requires-clause-first g c =
@@ -94,28 +93,28 @@ same_shape-requires-clause-second g c = subst (AreBlocks c.walk_from-2.new.block
 
 pub same_shape-requires-clause-members : goal.same_shape-requires-clause-members
 same_shape-requires-clause-members g c = λ steady.
-    let r = c.test_roots.new.blocks in let u = c.walk_from.new.blocks in let v = c.walk_from-2.new.blocks in
+    let a = c.args.blocks.now in let u = c.walk_from.new.blocks in let v = c.walk_from-2.new.blocks in
     let before = keeps-was_steady g.S.Store.facts u v c.walk_from-2.ensures.keeps steady in
-    let first = still g.S.Store.facts u v c.walk_from-2.ensures.keeps (λ d. AreMembers d c.in_ok-first.first.items) (λ s. c.in_ok-first.ensures.members (keeps-was_steady g.S.Store.facts r u c.walk_from.ensures.keeps s)) before in
+    let first = still g.S.Store.facts u v c.walk_from-2.ensures.keeps (λ d. AreMembers d c.in_ok-first.first.items) (λ s. c.in_ok-first.ensures.members (keeps-was_steady g.S.Store.facts a u c.walk_from.ensures.keeps s)) before in
     (subst (AreMembers v.document) (sym c.deref.ensures.value) first, subst (AreMembers v.document) (sym c.deref-2.ensures.value) (c.in_ok-second.ensures.members before))
 
 pub returns-clause-keeps : goal.returns-clause-keeps
 returns-clause-keeps g c =
-    let a = c.args.blocks.now in let r = c.test_roots.new.blocks in let u = c.walk_from.new.blocks in let v = c.walk_from-2.new.blocks in
+    let a = c.args.blocks.now in let u = c.walk_from.new.blocks in let v = c.walk_from-2.new.blocks in
     keeps-trans g.S.Store.facts a v c.same_shape.new.blocks
-    (keeps-trans g.S.Store.facts a u v (keeps-trans g.S.Store.facts a r u c.test_roots.ensures.keeps c.walk_from.ensures.keeps) c.walk_from-2.ensures.keeps) c.same_shape.ensures.keeps
+    (keeps-trans g.S.Store.facts a u v c.walk_from.ensures.keeps c.walk_from-2.ensures.keeps) c.same_shape.ensures.keeps
 
 pub returns-clause-value : goal.returns-clause-value
 returns-clause-value g c = λ steady.
-    let a = c.args.blocks.now in let r = c.test_roots.new.blocks in let u = c.walk_from.new.blocks in let v = c.walk_from-2.new.blocks in let e = c.same_shape.new.blocks in
+    let a = c.args.blocks.now in let u = c.walk_from.new.blocks in let v = c.walk_from-2.new.blocks in let e = c.same_shape.new.blocks in
     let f = c.args.first.0 in let s = c.args.second.0 in
     let facts = g.S.Store.facts in
-    let k1 = c.test_roots.ensures.keeps in let k2 = keeps-trans facts a r u k1 c.walk_from.ensures.keeps in let k3 = keeps-trans facts a u v k2 c.walk_from-2.ensures.keeps in
-    let at_r = keeps-steady facts a r k1 steady in let at_u = keeps-steady facts a u k2 steady in let at_v = keeps-steady facts a v k3 steady in
+    let k2 = c.walk_from.ensures.keeps in let k3 = keeps-trans facts a u v k2 c.walk_from-2.ensures.keeps in
+    let at_u = keeps-steady facts a u k2 steady in let at_v = keeps-steady facts a v k3 steady in
     let last = keeps-same facts v e c.same_shape.ensures.keeps at_v in
     let later = keeps-same facts u v c.walk_from-2.ensures.keeps at_u in
-    let raw : AreRaw f s e.document = subst (AreRaw f s) (sym (last ∙ later ∙ keeps-same facts r u c.walk_from.ensures.keeps at_r)) (c.in_ok-test_roots.ensures.value steady) in
-    let first : chain e.document f ≡ Some (numbers c.in_ok-first.first.items) = ap (λ (d : Document). chain d f) (last ∙ later) ∙ c.in_ok-first.ensures.value at_r in
+    let raw : AreRaw f s e.document = subst (AreRaw f s) (sym (last ∙ later ∙ keeps-same facts a u k2 steady)) c.in_ok-test_roots.ensures.value in
+    let first : chain e.document f ≡ Some (numbers c.in_ok-first.first.items) = ap (λ (d : Document). chain d f) (last ∙ later) ∙ c.in_ok-first.ensures.value steady in
     let second : chain e.document s ≡ Some (numbers c.in_ok-second.second.items) = ap (λ (d : Document). chain d s) last ∙ c.in_ok-second.ensures.value at_u in
     let xs = ap numbers c.deref.ensures.value ∙ sym (blocks_are e.document f (numbers c.in_ok-first.first.items) first) in
     let ys = ap numbers c.deref-2.ensures.value ∙ sym (blocks_are e.document s (numbers c.in_ok-second.second.items) second) in
@@ -127,7 +126,7 @@ returns-clause-value g c = λ steady.
 
 pub returns-clause-refusals : goal.returns-clause-refusals
 returns-clause-refusals g c =
-    let a = c.args.blocks.now in let r = c.test_roots.new.blocks in let u = c.walk_from.new.blocks in let v = c.walk_from-2.new.blocks in let e = c.same_shape.new.blocks in
-    let k3 = keeps-trans g.S.Store.facts a u v (keeps-trans g.S.Store.facts a r u c.test_roots.ensures.keeps c.walk_from.ensures.keeps) c.walk_from-2.ensures.keeps in
+    let a = c.args.blocks.now in let u = c.walk_from.new.blocks in let v = c.walk_from-2.new.blocks in let e = c.same_shape.new.blocks in
+    let k3 = keeps-trans g.S.Store.facts a u v c.walk_from.ensures.keeps c.walk_from-2.ensures.keeps in
     IfErr-weaker c.same_shape.result (Lacks g.S.Store.facts v.disk.store e.disk.store) (IsWalkRefusal (Lacks g.S.Store.facts a.disk.store e.disk.store))
     (λ fault lacks. inl (lacks-later g.S.Store.facts a v e.disk.store fault k3 lacks)) c.same_shape.ensures.refusals
