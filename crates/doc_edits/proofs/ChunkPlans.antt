@@ -27,15 +27,10 @@ use Rattle.doc_edits.specs.Found.{IsHeapAt, IsChunkAt, AreLate}
 use Rattle.doc_edits.specs.Building.{place_of, new_in, IsAt, IsIn, IsHeapFor, SplicesAt, CreatesAt, Splices, Creates, IsBuilt}
 use Rattle.doc_edits.specs.Planning.{Plans}
 use Rattle.doc_edits.proofs.Documents.{chunks_are, heap_there, heap_here}
-use Rattle.doc_edits.proofs.First.{chunk_first, heap_first}
+use Rattle.doc_edits.proofs.First.{chunk_first}
 
 -- An edit of a chunk's bytes.
 module _ (edit : Edit) (d : Document) (b : VmHandle) (c : ChunkHandle) (is : place_of edit ≡ Some (b, c)) where
-  pub heap_refused : (fault : Fault) → ((rest : Conditions) → AreLate rest → first_refusal (on_heap d b.0 ++ rest) ≡ Some fault) → first_refusal (conditions edit d) ≡ Some fault
-  heap_refused fault refused =
-      let first = chunk_first edit d (b, c) is in
-      ap first_refusal first.2 ∙ refused ((NoChunk, not (contains_key (chunks_of d b.0) c.0)) ∷ first.0) first.1
-
   pub chunk_refused : (fault : Fault) → ((rest : Conditions) → AreLate rest → first_refusal (on_chunk d b.0 c.0 ++ rest) ≡ Some fault) → first_refusal (conditions edit d) ≡ Some fault
   chunk_refused fault refused =
       let first = chunk_first edit d (b, c) is in
@@ -102,11 +97,6 @@ module _ (m : ChunkMap) (bytes : List ℕ) where
 
 -- An edit that makes a chunk.
 module _ (edit : Edit) (d : Document) (b : VmHandle) (is : new_in edit ≡ Some b) where
-  pub new_heap_refused : (fault : Fault) → ((rest : Conditions) → AreLate rest → first_refusal (on_heap d b.0 ++ rest) ≡ Some fault) → first_refusal (conditions edit d) ≡ Some fault
-  new_heap_refused fault refused =
-      let first = heap_first edit d b is in
-      ap first_refusal first.2 ∙ refused first.0 first.1
-
   module _ (m : ChunkMap) (live : IsHeapAt d b.0 m) where
     pub is_heap_for : IsHeapFor edit d
     is_heap_for = subst (λ (o : Option VmHandle). MatchOption o ⊥ (λ b. IsHeapAt d b.0 (chunks_of d b.0))) (sym is) (heap_here d b.0 m live)

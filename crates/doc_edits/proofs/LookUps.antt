@@ -4,13 +4,13 @@ use Rattle.std.specs.Option.{option_map, option_map_or}
 use Rattle.std.specs.Result.{IsErrAnd}
 use Rattle.std.specs.FinMap.{contains_key}
 use Rattle.geos_model.specs.Refusal.{Conditions, first_refusal}
-use Rattle.geos_model.specs.Document.{Document, chunks_of, is_live}
-use Rattle.geos_model.specs.Meaning.{on_heap, on_chunk, chunk_at}
+use Rattle.geos_model.specs.Document.{Document, chunks_of, is_heap}
+use Rattle.geos_model.specs.Meaning.{on_chunk, chunk_at}
 use Rattle.geos_model.specs.NameEdits.{names_in, token_of_text, find_conditions}
 use Rattle.geos_model.specs.Reply.{Reply, Refused, BytesAre, TokenIs, reply_by, look_up_conditions, look_up}
 use Rattle.geos_model.proofs.Refusals.{none_applies, or_none}
 use Rattle.geos_model.specs.declared.fault.Fault.{Fault}
-use Rattle.geos_model.specs.declared.fault.Fault.TheVariants.{NoBlock, NoChunk, NoName}
+use Rattle.geos_model.specs.declared.fault.Fault.TheVariants.{NoChunk, NoName}
 use Rattle.geos_model.specs.declared.command.Command.{Command}
 use Rattle.geos_model.specs.declared.command.Command.TheVariants as commands
 use Rattle.geos_model.specs.declared.handle.ChunkHandle.{ChunkHandle}
@@ -18,9 +18,10 @@ use Rattle.geos_model.specs.declared.handle.Token.{Token}
 use Rattle.geos_model.specs.declared.handle.VmHandle.{VmHandle}
 use Rattle.element_arrays.specs.Answering.{IsAnswered, IsRefused}
 use Rattle.vm_chains.specs.Answers.{Answers}
+use Rattle.vm_blocks.specs.Kinds.{IsOfOther}
 use Rattle.doc_edits.specs.Found.{AreLate, IsChunkAt}
 use Rattle.doc_edits.specs.LookUps.{chunk_asked, LooksUp, RefusesChunk}
-use Rattle.doc_edits.proofs.Refusals.{past_chunk, no_block}
+use Rattle.doc_edits.proofs.Refusals.{past_chunk, heap_other}
 
 module _ (lacks : Fault → Type 0) where
   -- a look-up that is refused
@@ -103,15 +104,11 @@ module _ (lacks : Fault → Type 0) (d : Document) (b : VmHandle) (c : ChunkHand
       let first = subst (λ (o : Option (VmHandle × ChunkHandle)). MatchOption o (Unit {0}) (FirstOfLookUp command d)) asked (look_up_cases command d) in
       look_up_refused lacks command d fault (ap first_refusal first.2 ∙ refuses first.0 first.1)
 
-  -- what refuses all that looks for the heap first
-  pub refuses_heap : (fault : Fault) → ((rest : Conditions) → AreLate rest → first_refusal (on_heap d b.0 ++ rest) ≡ Some fault) → RefusesChunk lacks d b c fault
-  refuses_heap fault refuses = refuses_chunk fault (λ rest late. refuses ((NoChunk, not (contains_key (chunks_of d b.0) c.0)) ∷ rest) late)
-
-  -- a block that isn't live, or what the call lacked
-  pub refuses_block : (fault : Fault) → lacks fault ⊎ ((fault ≡ NoBlock) × (is_live d b.0 ≡ false)) → RefusesChunk lacks d b c fault
+  -- no heap is there, or what the call lacked
+  pub refuses_block : (fault : Fault) → lacks fault ⊎ IsOfOther is_heap d b.0 fault → RefusesChunk lacks d b c fault
   refuses_block fault why = elim why [
     | inl lack ↦ λ command asked. lacked lacks command d fault lack
-    | inr none ↦ subst (RefusesChunk lacks d b c) (sym none.0) (refuses_heap NoBlock (λ rest late. no_block d b.0 rest none.1 late))
+    | inr other ↦ refuses_chunk fault (λ rest late. heap_other d b.0 ((NoChunk, not (contains_key (chunks_of d b.0) c.0)) ∷ rest) fault other late)
   ]
 
   module _ {X : Type 0} (now : X → List ℕ) (r : Result X Fault) where

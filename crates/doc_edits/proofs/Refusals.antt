@@ -1,14 +1,15 @@
 -- Which refusal is the first.
 use Rattle.std.proofs.Common.{◌≡◌, ℕ, Result, Ok, Err, MatchResult, subst, ◌++◌, true, false, Some, refl, sym, inl, inr}
 use Rattle.std.specs.Result.{IsErrAnd}
-use Rattle.std.specs.FinMap.{get, contains_key}
+use Rattle.std.specs.FinMap.{contains_key}
 use Rattle.geos_model.specs.Refusal.{Conditions, applies, first_refusal}
 use Rattle.geos_model.specs.Heap.{ChunkMap}
-use Rattle.geos_model.specs.Document.{Block, Document, is_heap_body, is_live}
+use Rattle.geos_model.specs.Document.{Document, is_heap, is_raw}
 use Rattle.geos_model.specs.Meaning.{on_raw, on_heap, on_chunk}
 use Rattle.geos_model.specs.declared.fault.Fault.{Fault}
 use Rattle.geos_model.specs.declared.command.Edit.{Edit}
 use Rattle.geos_model.specs.declared.fault.Fault.TheVariants.{Memory, BadCommand, Locked, NothingToUndo, NothingToRedo, NoTarget, NoBlock, WrongKind, NotLocked, LockLimit, CacheFull, NoChunk}
+use Rattle.vm_blocks.specs.Kinds.{IsOfOther}
 use Rattle.doc_edits.specs.Found.{is_among, late_faults, AreLate, IsHeapAt}
 use Rattle.doc_edits.specs.Planning.{IsMemory, Refuses}
 use Rattle.doc_edits.proofs.Order.{not_among}
@@ -16,19 +17,17 @@ use Rattle.doc_edits.proofs.Order.{not_among}
 not_late : (rest : Conditions) (f : Fault) → AreLate rest → is_among late_faults f ≡ false → applies rest f ≡ false
 not_late rest f late early = not_among late_faults rest f late early
 
--- no block under the handle
-pub no_block : (d : Document) (h : ℕ) (rest : Conditions) → is_live d h ≡ false → AreLate rest → first_refusal (on_heap d h ++ rest) ≡ Some NoBlock
-no_block d h rest dead late =
-    rw (dead, not_late rest BadCommand late refl, not_late rest Locked late refl, not_late rest NothingToUndo late refl, not_late rest NothingToRedo late refl, not_late rest NoTarget late refl) refl
+-- no block under the handle, or one of the other kind
 
--- a block of the other kind
-pub no_heap : (d : Document) (h : ℕ) (b : Block) (rest : Conditions) → get d.blocks h ≡ Some b → is_heap_body b.body ≡ false → AreLate rest → first_refusal (on_heap d h ++ rest) ≡ Some WrongKind
-no_heap d h b rest live raw late =
-    rw (live, raw, not_late rest BadCommand late refl, not_late rest Locked late refl, not_late rest NothingToUndo late refl, not_late rest NothingToRedo late refl, not_late rest NoTarget late refl, not_late rest NoBlock late refl) refl
+pub heap_other : (d : Document) (h : ℕ) (rest : Conditions) (fault : Fault) → IsOfOther is_heap d h fault → AreLate rest → first_refusal (on_heap d h ++ rest) ≡ Some fault
+heap_other d h rest fault (inl none) late = rw (none.0, none.1, not_late rest BadCommand late refl, not_late rest Locked late refl, not_late rest NothingToUndo late refl, not_late rest NothingToRedo late refl, not_late rest NoTarget late refl) refl
+heap_other d h rest fault (inr other) late =
+    rw (other.0, other.1, other.2, not_late rest BadCommand late refl, not_late rest Locked late refl, not_late rest NothingToUndo late refl, not_late rest NothingToRedo late refl, not_late rest NoTarget late refl, not_late rest NoBlock late refl) refl
 
-pub no_raw : (d : Document) (h : ℕ) (b : Block) (rest : Conditions) → get d.blocks h ≡ Some b → is_heap_body b.body ≡ true → AreLate rest → first_refusal (on_raw d h ++ rest) ≡ Some WrongKind
-no_raw d h b rest live heap late =
-    rw (live, heap, not_late rest BadCommand late refl, not_late rest Locked late refl, not_late rest NothingToUndo late refl, not_late rest NothingToRedo late refl, not_late rest NoTarget late refl, not_late rest NoBlock late refl) refl
+pub raw_other : (d : Document) (h : ℕ) (rest : Conditions) (fault : Fault) → IsOfOther is_raw d h fault → AreLate rest → first_refusal (on_raw d h ++ rest) ≡ Some fault
+raw_other d h rest fault (inl none) late = rw (none.0, none.1, not_late rest BadCommand late refl, not_late rest Locked late refl, not_late rest NothingToUndo late refl, not_late rest NothingToRedo late refl, not_late rest NoTarget late refl) refl
+raw_other d h rest fault (inr other) late =
+    rw (other.0, other.1, other.2, not_late rest BadCommand late refl, not_late rest Locked late refl, not_late rest NothingToUndo late refl, not_late rest NothingToRedo late refl, not_late rest NoTarget late refl, not_late rest NoBlock late refl) refl
 
 -- no such chunk in the heap
 pub no_chunk : (d : Document) (h c : ℕ) (m : ChunkMap) (rest : Conditions) → IsHeapAt d h m → contains_key m c ≡ false → AreLate rest → first_refusal (on_chunk d h c ++ rest) ≡ Some NoChunk

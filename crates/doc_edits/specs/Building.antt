@@ -1,8 +1,9 @@
 -- What is built for an edit of a chunk: a splice of its bytes, or the bytes of a new one.
 use Rattle.std.specs.Prelude.{◌≡◌, ◌≤◌, ◌+◌, ℕ, List, Bool, true, false, Option, None, Some, MatchOption, length, if◌then◌else◌}
+use Rattle.std.specs.Option.{option_map_or}
 use Rattle.geos_model.specs.Refusal.{first_refusal}
 use Rattle.geos_model.specs.Heap.{ChunkMap, is_heap_map, longest_chunk, fits_with}
-use Rattle.geos_model.specs.Document.{Document, chunks_of}
+use Rattle.geos_model.specs.Document.{Document, chunks_of, is_heap, is_raw}
 use Rattle.geos_model.specs.Meaning.{conditions, effect, chunk_at, with_chunk, makes_chunk, no_place}
 use Rattle.geos_model.specs.Cost.{cost}
 use Rattle.geos_model.specs.Machine.{kind_of}
@@ -16,7 +17,11 @@ use Rattle.geos_model.specs.declared.handle.VmHandle.{VmHandle}
 use Rattle.geos_model.specs.declared.handle.ChunkHandle.{ChunkHandle}
 use Rattle.chunk_edits.specs.Splicing.{Stands, forwards}
 use Rattle.chunk_edits.specs.declared.splice.Splice.{Splice}
+use Rattle.block_cache.specs.State.{CacheState}
+use Rattle.vm_blocks.specs.Keeping.{is_loaded}
 use Rattle.doc_edits.specs.Found.{IsHeapAt, IsChunkAt}
+use Rattle.doc_edits.specs.declared.planning.Wanted.{Wanted}
+use Rattle.doc_edits.specs.declared.planning.Wanted.TheVariants.{Nothing, Any, Raw, Heap}
 
 -- the block and the chunk of an edit of a chunk's bytes
 abbrev pub place_of : Edit → Option (VmHandle × ChunkHandle)
@@ -80,12 +85,21 @@ block_of_kind Plain = None
 block_of_kind Made = None
 block_of_kind Freed = None
 
--- The block into whose body an edit looks: one that is freed or copied, or that in which the edit is made. An edit of a chain looks
--- into many.
-abbrev pub block_read : Edit → Option VmHandle
-block_read (edits.FreeBlock b) = Some b
-block_read (edits.CopyBlock b) = Some b
-block_read edit = block_of_kind (kind_of edit)
+-- The block into whose body an edit looks: one that is freed or copied, of any kind; or that in which the edit is made, a raw block or
+-- a heap. An edit of a chain looks into many.
+abbrev pub wanted : Edit → Wanted
+wanted (edits.FreeBlock b) = Any b
+wanted (edits.CopyBlock b) = Any b
+wanted (edits.WriteRaw b at bytes) = Raw b
+wanted (edits.Attach b bytes) = Raw b
+wanted edit = option_map_or (λ b. Heap b) (block_of_kind (kind_of edit)) Nothing
+
+-- It is in memory, and of the kind that is wanted.
+abbrev pub IsThere : {S : Type 0} → CacheState S → Wanted → Type 0
+IsThere state Nothing = Unit {0}
+IsThere state (Any b) = is_loaded state b.0 ≡ true
+IsThere state (Raw b) = (is_loaded state b.0 ≡ true) × (is_raw state.document b.0 ≡ true)
+IsThere state (Heap b) = (is_loaded state b.0 ≡ true) × (is_heap state.document b.0 ≡ true)
 
 -- The splice is what an edit comes to in a chunk: nothing but want of room refuses it.
 pub record Splices (edit : Edit) (d : Document) (b : VmHandle) (c : ChunkHandle) (s : Splice) (done : Done) : Type 0 where

@@ -1,5 +1,6 @@
 ghost use Rattle.std.specs.Prelude.{◌≡◌, ◌<◌, ◌≤◌, true, false, IsTrue, MatchOption, MatchResult, None, Some, length};
 ghost use Rattle.std.specs.FinMap.{contains_key, get};
+ghost use Rattle.geos_model.specs.Document.{is_heap};
 ghost use Rattle.geos_model.specs.Heap.{chunk_bytes, fits_with, fits_new, is_chunk_handle, next_chunk};
 ghost use Rattle.geos_model.specs.declared.command.Edit.TheVariants as edits;
 ghost use Rattle.chunk_edits.specs.Splicing.{forwards};
@@ -26,11 +27,12 @@ pub fn plan_in_chunk<S: Store>(
     chunk: ChunkHandle,
     edit: &Edit,
 ) -> Result<(Change, Done), Fault>
-    requires resident { is_loaded blocks.now handle.0 ≡ true }
+    requires loaded { is_loaded blocks.now handle.0 ≡ true }
+    requires heap { is_heap blocks.now.document handle.0 ≡ true }
     requires place { place_of edit.now ≡ Some (handle, chunk) }
     ensures { MatchResult result (λ p. Plans edit.now blocks.now.document p.0 p.1) (Refuses IsMemory edit.now blocks.now.document) }
 {
-    let heap = heap_at(blocks, handle)?;
+    let heap = heap_at(blocks, handle);
     let bytes = bytes_in(heap, chunk)?;
     let (splice, done) = build(alloc, heap, chunk, bytes, edit)?;
     if !has_room(heap, chunk, &splice) {
@@ -60,11 +62,12 @@ pub fn plan_new_chunk<S: Store>(
     handle: VmHandle,
     edit: &Edit,
 ) -> Result<(Change, Done), Fault>
-    requires resident { is_loaded blocks.now handle.0 ≡ true }
+    requires loaded { is_loaded blocks.now handle.0 ≡ true }
+    requires heap { is_heap blocks.now.document handle.0 ≡ true }
     requires new { new_in edit.now ≡ Some handle }
     ensures { MatchResult result (λ p. Plans edit.now blocks.now.document p.0 p.1) (Refuses IsMemory edit.now blocks.now.document) }
 {
-    let heap = heap_at(blocks, handle)?;
+    let heap = heap_at(blocks, handle);
     let content = build_chunk(alloc, edit)?;
     match free_place(heap, &content) {
         Some(chunk) => Ok((
@@ -109,10 +112,11 @@ pub fn plan_free_chunk<S: Store>(
     handle: VmHandle,
     chunk: ChunkHandle,
 ) -> Result<(Change, Done), Fault>
-    requires { is_loaded blocks.now handle.0 ≡ true }
+    requires loaded { is_loaded blocks.now handle.0 ≡ true }
+    requires heap { is_heap blocks.now.document handle.0 ≡ true }
     ensures { MatchResult result (λ p. Plans (edits.Free handle chunk) blocks.now.document p.0 p.1) (Refuses IsMemory (edits.Free handle chunk) blocks.now.document) }
 {
-    let heap = heap_at(blocks, handle)?;
+    let heap = heap_at(blocks, handle);
     let bytes = bytes_in(heap, chunk)?;
     let content = Content::Bytes(copied(alloc, bytes)?);
     Ok((

@@ -1,7 +1,7 @@
 ghost use Rattle.std.specs.Prelude.{◌≡◌, ◌++◌, ℕ, true, MatchResult, Some};
-ghost use Rattle.geos_model.specs.Document.{Document};
+ghost use Rattle.geos_model.specs.Document.{Document, is_heap, is_raw};
 ghost use Rattle.geos_model.specs.Refusal.{Conditions, first_refusal};
-ghost use Rattle.geos_model.specs.Meaning.{on_raw, on_heap, on_chunk};
+ghost use Rattle.geos_model.specs.Meaning.{on_chunk};
 ghost use Rattle.vm_blocks.specs.Keeping.{is_loaded};
 ghost use Rattle.doc_edits.specs.Found.{AreLate, IsRawAt, IsHeapAt, IsChunkAt};
 
@@ -11,29 +11,27 @@ use raw_region::RawBody;
 use vm_blocks::{BlockBody, FileBlocks};
 use vm_store::Store;
 
-/// The raw body of a block in memory: WrongKind where it is a heap.
-pub fn raw_at<S: Store>(blocks: &FileBlocks<S>, handle: VmHandle) -> Result<&RawBody, Fault>
-    requires { is_loaded blocks.now handle.0 ≡ true }
-    ensures { MatchResult result
-        (λ body. IsRawAt blocks.now.document handle.0 body.now)
-        (λ fault. (rest : Conditions) → AreLate rest → first_refusal (on_raw blocks.now.document handle.0 ++ rest) ≡ Some fault) }
+/// The body of a raw block in memory.
+pub fn raw_at<S: Store>(blocks: &FileBlocks<S>, handle: VmHandle) -> &RawBody
+    requires loaded { is_loaded blocks.now handle.0 ≡ true }
+    requires raw { is_raw blocks.now.document handle.0 ≡ true }
+    ensures { IsRawAt blocks.now.document handle.0 result.now }
 {
     match blocks.body(handle) {
-        BlockBody::Raw(body) => Ok(body),
-        BlockBody::Heap(_) => Err(Fault::WrongKind),
+        BlockBody::Raw(body) => body,
+        BlockBody::Heap(_) => unreachable!(),
     }
 }
 
-/// The heap of a block in memory: WrongKind where it is raw.
-pub fn heap_at<S: Store>(blocks: &FileBlocks<S>, handle: VmHandle) -> Result<&Heap, Fault>
-    requires { is_loaded blocks.now handle.0 ≡ true }
-    ensures { MatchResult result
-        (λ heap. IsHeapAt blocks.now.document handle.0 heap.now.chunks)
-        (λ fault. (rest : Conditions) → AreLate rest → first_refusal (on_heap blocks.now.document handle.0 ++ rest) ≡ Some fault) }
+/// The heap of a block in memory.
+pub fn heap_at<S: Store>(blocks: &FileBlocks<S>, handle: VmHandle) -> &Heap
+    requires loaded { is_loaded blocks.now handle.0 ≡ true }
+    requires heap { is_heap blocks.now.document handle.0 ≡ true }
+    ensures { IsHeapAt blocks.now.document handle.0 result.now.chunks }
 {
     match blocks.body(handle) {
-        BlockBody::Heap(heap) => Ok(heap),
-        BlockBody::Raw(_) => Err(Fault::WrongKind),
+        BlockBody::Heap(heap) => heap,
+        BlockBody::Raw(_) => unreachable!(),
     }
 }
 

@@ -35,9 +35,8 @@ pub fn info<S: Store>(blocks: &mut FileBlocks<S>, block: VmHandle) -> Result<Inf
 pub fn read_raw<S: Store>(blocks: &mut FileBlocks<S>, block: VmHandle) -> Result<&[u8], Fault>
     ensures* leaves { sem 𝓛 (Leaves (the_row S.row S.Store) blocks.entry (λ loaded. Sees S.facts blocks.old loaded (commands.ReadRaw block) (reply_by (λ bytes. BytesAre bytes.now) result))) }
 {
-    blocks.load(block)?;
-    let body = raw_at(blocks, block)?;
-    Ok(body.bytes())
+    blocks.load_raw(block)?;
+    Ok(raw_at(blocks, block).bytes())
 }
 
 /// The live chunks of a heap, rising.
@@ -48,9 +47,8 @@ pub fn chunks<S: Store>(
     ensures keeps { Keeps S.facts blocks.old blocks.new }
     ensures value { LooksUp (Lacks S.facts blocks.old.disk.store blocks.new.disk.store) (commands.Chunks block) blocks.new.document (reply_by (λ handles. chunks_are handles.items) result) }
 {
-    blocks.load(block)?;
-    let heap = heap_at(blocks, block)?;
-    Ok(heap.handles()?)
+    blocks.load_heap(block)?;
+    Ok(heap_at(blocks, block).handles()?)
 }
 
 /// The bytes of a chunk, or why each look-up into it is refused.
@@ -62,9 +60,8 @@ fn chunk_at<S: Store>(
     ensures* leaves { sem 𝓛 (Leaves (the_row S.row S.Store) blocks.entry (λ loaded. Keeps S.facts blocks.old loaded
         × MatchResult result (λ bytes. IsChunkAt loaded.document block.0 chunk.0 bytes.now) (RefusesChunk (Lacks S.facts blocks.old.disk.store loaded.disk.store) loaded.document block chunk))) }
 {
-    blocks.load(block)?;
-    let heap = heap_at(blocks, block)?;
-    bytes_in(heap, chunk)
+    blocks.load_heap(block)?;
+    bytes_in(heap_at(blocks, block), chunk)
 }
 
 /// The bytes of a chunk.

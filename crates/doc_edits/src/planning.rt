@@ -1,9 +1,9 @@
-ghost use Rattle.std.specs.Prelude.{◌≡◌, ◌⊎◌, true, false, IfErr, IfOk, IsOk, MatchResult, MatchOption};
+ghost use Rattle.std.specs.Prelude.{◌≡◌, ◌⊎◌, true, false, IfErr, IfOk, IsOk, MatchResult};
 ghost use Rattle.geos_model.specs.Machine.{kind_of};
 ghost use Rattle.geos_model.specs.declared.command.Kind.TheVariants.{Plain};
-ghost use Rattle.vm_blocks.specs.Keeping.{Keeps, IsSteady, Lacks, is_loaded};
+ghost use Rattle.vm_blocks.specs.Keeping.{Keeps, IsSteady, Lacks};
 ghost use Rattle.vm_blocks.specs.Preparing.{IsReady};
-ghost use Rattle.doc_edits.specs.Building.{block_read, is_of_chain};
+ghost use Rattle.doc_edits.specs.Building.{IsThere, is_of_chain, wanted};
 ghost use Rattle.doc_edits.specs.Planning.{kind_of_change, IsChainEditFault, IsMemory, Plans, Refuses};
 
 use crate::block_plans::{
@@ -51,26 +51,38 @@ fn plan_of_block<S: Store>(
     ensures ready { IfOk result (λ p. IsReady p.0 blocks.new) }
     ensures plain { kind_of edit.now ≡ Plain → (blocks.new ≡ blocks.old) × IfErr result (Refuses IsMemory edit.now blocks.new.document) }
 {
-    load_read(blocks, edit)?;
+    load_wanted(blocks, edit)?;
     plan_loaded(alloc, blocks, edit)
 }
 
-/// Brings the block into memory into whose body the edit looks, if there is one. NoBlock where it isn't live.
-fn load_read<S: Store>(blocks: &mut FileBlocks<S>, edit: &Edit) -> Result<(), Fault>
+/// The block into whose body an edit looks, if it is one, and of which kind it has to be.
+#[derive(Clone, Copy)]
+pub enum Wanted {
+    Nothing,
+    Any(VmHandle),
+    Raw(VmHandle),
+    Heap(VmHandle),
+}
+
+/// Brings the block into memory into whose body the edit looks, if there is one. NoBlock where it isn't live, WrongKind where it is
+/// of another kind.
+fn load_wanted<S: Store>(blocks: &mut FileBlocks<S>, edit: &Edit) -> Result<(), Fault>
     ensures keeps { Keeps S.facts blocks.old blocks.new }
-    ensures ok { IfOk result (λ _. MatchOption (block_read edit.now) (Unit {0}) (λ b. is_loaded blocks.new b.0 ≡ true)) }
+    ensures ok { IfOk result (λ _. IsThere blocks.new (wanted edit.now)) }
     ensures err { IfErr result (Refuses (Lacks S.facts blocks.old.disk.store blocks.new.disk.store) edit.now blocks.new.document) }
     ensures plain { kind_of edit.now ≡ Plain → IsOk result × (blocks.new ≡ blocks.old) }
 {
-    match block_read(edit) {
-        Some(handle) => blocks.load(handle),
-        None => Ok(()),
+    match block_wanted(edit) {
+        Wanted::Nothing => Ok(()),
+        Wanted::Any(handle) => blocks.load(handle),
+        Wanted::Raw(handle) => blocks.load_raw(handle),
+        Wanted::Heap(handle) => blocks.load_heap(handle),
     }
 }
 
-/// The block into whose body an edit looks; none of an edit of a chain, which looks into many.
-fn block_read(edit: &Edit) -> Option<VmHandle>
-    ensures { result ≡ block_read edit.now }
+/// What an edit looks into; nothing of an edit of a chain, which looks into many blocks.
+fn block_wanted(edit: &Edit) -> Wanted
+    ensures { result ≡ wanted edit.now }
 {
     match edit {
         Edit::NewRaw(_, _)
@@ -78,12 +90,10 @@ fn block_read(edit: &Edit) -> Option<VmHandle>
         | Edit::SetUserId(_, _)
         | Edit::SetMap(_)
         | Edit::CopyChain(_)
-        | Edit::FreeChain(_) => None,
-        Edit::FreeBlock(handle)
-        | Edit::CopyBlock(handle)
-        | Edit::WriteRaw(handle, _, _)
-        | Edit::Attach(handle, _)
-        | Edit::Alloc(handle, _)
+        | Edit::FreeChain(_) => Wanted::Nothing,
+        Edit::FreeBlock(handle) | Edit::CopyBlock(handle) => Wanted::Any(*handle),
+        Edit::WriteRaw(handle, _, _) | Edit::Attach(handle, _) => Wanted::Raw(*handle),
+        Edit::Alloc(handle, _)
         | Edit::Free(handle, _)
         | Edit::Resize(handle, _, _)
         | Edit::Insert(handle, _, _, _)
@@ -104,7 +114,7 @@ fn block_read(edit: &Edit) -> Option<VmHandle>
         | Edit::CreateNameArray(handle, _)
         | Edit::AddName(handle, _, _, _, _)
         | Edit::ChangeName(handle, _, _, _)
-        | Edit::RemoveName(handle, _, _) => Some(*handle),
+        | Edit::RemoveName(handle, _, _) => Wanted::Heap(*handle),
     }
 }
 
@@ -115,7 +125,7 @@ fn plan_loaded<S: Store>(
     edit: &Edit,
 ) -> Result<(Change, Done), Fault>
     requires of_block { is_of_chain edit.now ≡ false }
-    requires loaded { MatchOption (block_read edit.now) (Unit {0}) (λ b. is_loaded blocks.now b.0 ≡ true) }
+    requires there { IsThere blocks.now (wanted edit.now) }
     ensures { MatchResult result (λ p. Plans edit.now blocks.now.document p.0 p.1) (Refuses IsMemory edit.now blocks.now.document) }
 {
     match edit {

@@ -5,10 +5,5 @@ use Rattle.geos_model.specs.declared.fault.Fault.TheVariants.{NoChunk}
 use Rattle.doc_edits.proofs.Refusals.{carried}
 use Rattle.doc_edits.proofs.chunk_plans.plan_free_chunk.Goals as goal
 
-pub returns-in_err-heap : goal.returns-in_err-heap
-returns-in_err-heap g c =
-    let d = c.args.blocks.now.document in let h = c.args.handle.0 in
-    carried c.from_residual.result _ _ c.in_err-heap.field-0.0 c.from_residual.ensures.1 (inr (c.in_err-heap.ensures ((NoChunk, not (contains_key (chunks_of d h) c.args.chunk.0)) ∷ []) refl))
-
 pub returns-in_err-bytes : goal.returns-in_err-bytes
-returns-in_err-bytes g c = carried c.from_residual-in_err-bytes.result _ _ c.in_err-bytes.field-0.0 c.from_residual-in_err-bytes.ensures.1 (inr (c.in_err-bytes.ensures c.args.blocks.now.document c.args.handle.0 c.in_ok-heap.ensures [] refl))
+returns-in_err-bytes g c = carried c.from_residual.result _ _ c.in_err-bytes.field-0.0 c.from_residual.ensures.1 (inr (c.in_err-bytes.ensures c.args.blocks.now.document c.args.handle.0 c.heap_at-heap.ensures [] refl))

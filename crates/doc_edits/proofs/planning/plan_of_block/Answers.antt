@@ -6,19 +6,19 @@ use Rattle.doc_edits.proofs.Planned.{ready, refused_so}
 use Rattle.doc_edits.proofs.Refusals.{may_lack}
 use Rattle.doc_edits.proofs.planning.plan_of_block.Goals as goal
 
-pub returns-in_err-load_read-clause-plain : goal.returns-in_err-load_read-clause-plain
-returns-in_err-load_read-clause-plain g c = λ plain. let no : false ≡ true = (c.in_err-load_read.ensures.plain plain).0 in absurd (cc no)
+pub returns-in_err-load_wanted-clause-plain : goal.returns-in_err-load_wanted-clause-plain
+returns-in_err-load_wanted-clause-plain g c = λ plain. let no : false ≡ true = (c.in_err-load_wanted.ensures.plain plain).0 in absurd (cc no)
 
 pub returns-clause-planned : goal.returns-clause-planned
 returns-clause-planned g c =
-    let loaded = c.load_read.new.blocks in
+    let loaded = c.load_wanted.new.blocks in
     may_lack (Lacks g.S.Store.facts c.args.blocks.now.disk.store loaded.disk.store) c.args.edit.now loaded.document _ c.plan_loaded.result (lacks-memory g.S.Store.facts c.args.blocks.now.disk.store loaded.disk.store) c.plan_loaded.ensures
 
 pub returns-clause-ready : goal.returns-clause-ready
 returns-clause-ready g c =
-    let loaded = c.load_read.new.blocks in
-    ready loaded c.args.edit.now (Refuses IsMemory c.args.edit.now loaded.document) c.plan_loaded.result c.plan_loaded.ensures c.in_ok-load_read.ensures.ok
+    let loaded = c.load_wanted.new.blocks in
+    ready loaded c.args.edit.now (Refuses IsMemory c.args.edit.now loaded.document) c.plan_loaded.result c.plan_loaded.ensures c.in_ok-load_wanted.ensures.ok
 
 pub returns-clause-plain : goal.returns-clause-plain
 returns-clause-plain g c = λ plain.
-    ((c.in_ok-load_read.ensures.plain plain).1, refused_so c.plan_loaded.result _ (Refuses IsMemory c.args.edit.now c.load_read.new.blocks.document) c.plan_loaded.ensures)
+    ((c.in_ok-load_wanted.ensures.plain plain).1, refused_so c.plan_loaded.result _ (Refuses IsMemory c.args.edit.now c.load_wanted.new.blocks.document) c.plan_loaded.ensures)
