@@ -83,6 +83,29 @@ fn a_look_up_reads_a_block_that_is_away_and_writes_a_changed_one_that_goes(
     Ok(())
 }
 
+// Commands that want a block of the other kind, which is away.
+const OTHERWISE: [&str; 8] = [
+    "vread 0003 = no 7 WrongKind",
+    "chunks 0002 = no 7 WrongKind",
+    "read 0002 0010 = no 7 WrongKind",
+    "vwrite 0003 0 61 = no 7 WrongKind",
+    "alloc 0002 1 = no 7 WrongKind",
+    "walk 0003 = no 7 WrongKind",
+    "chequal 0002 0003 = no 7 WrongKind",
+    "chcopy 0003 = no 7 WrongKind",
+];
+
+#[test]
+fn a_block_of_the_other_kind_is_refused_without_a_look_into_it(
+    rt: HostRuntime,
+) -> Result<(), Fail> {
+    let alloc = rt.alloc();
+    for asked in OTHERWISE {
+        assert!(rt; takes(alloc, "", asked, 0)?, "{asked}");
+    }
+    Ok(())
+}
+
 const UNDONE: [(&str, &str, u64); 6] = [
     (EDIT, "undo = ok", 0),
     (EDIT, "undo = ok\nredo = ok", 0),
