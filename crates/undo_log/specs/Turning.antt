@@ -1,12 +1,13 @@
 -- A step from one list of records to the other.
 use Rattle.std.specs.Prelude.{◌≡◌, ◌≢◌, ◌⊎◌, Bool, true, false, List, [], ◌∷◌}
+use Rattle.geos_model.specs.Document.{Document}
 use Rattle.geos_model.specs.declared.command.Kind.{Kind}
 use Rattle.geos_model.specs.declared.command.Kind.TheVariants.{Plain, In, Made, Freed}
 use Rattle.geos_model.specs.declared.fault.Fault.{Fault}
 use Rattle.geos_model.specs.declared.fault.Fault.TheVariants.{Damaged}
 use Rattle.vm_store.specs.Facts.{StoreFacts}
 use Rattle.block_cache.specs.State.{CacheState}
-use Rattle.vm_blocks.specs.Changes.{turned, blocks_in}
+use Rattle.vm_blocks.specs.Changes.{after, turned, blocks_in}
 use Rattle.vm_blocks.specs.Keeping.{Lacks, is_loaded}
 use Rattle.vm_blocks.specs.Preparing.{BodyTakes, IsAtHand, IsUnready, Makes}
 use Rattle.vm_blocks.specs.declared.change.Change.{Change}
@@ -42,6 +43,11 @@ CantTurn facts direction (c ∷ cs) old new fault = IsUnready facts (turned dire
 abbrev pub CanTurn : {S : Type 0} → Direction → List Change → CacheState S → Type 0
 CanTurn direction [] blocks = ⊥
 CanTurn direction (c ∷ cs) blocks = (blocks_in (turned direction c) ≡ []) × IsAtHand (turned direction c) blocks × BodyTakes (turned direction c) blocks.document
+
+-- what the newest change of a list makes of a document
+abbrev pub newest_made : Direction → List Change → Document → Document
+newest_made direction [] d = d
+newest_made direction (c ∷ cs) d = after direction c d
 
 -- Why an undo or a redo is refused: there is nothing to take, which has its own fault, and then nothing changes; or a fault of what the
 -- call may lack; or, in a session that isn't exact, a body that doesn't take the change.

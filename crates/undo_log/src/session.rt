@@ -21,7 +21,7 @@ ghost use Rattle.vm_chains.specs.Answers.{IsWalkRefusal};
 ghost use Rattle.doc_edits.specs.LookUps.{Leaves, LooksUp};
 ghost use Rattle.doc_edits.specs.Planning.{IsChainEditFault, IsMemory, Refuses};
 ghost use Rattle.undo_log.specs.Records.{blocks_of, file_of, machine_of, has_failed, total_cost, total_weight, IsExact, IsStep, KeepsSession, Looks, Records};
-ghost use Rattle.undo_log.specs.Turning.{IsRefusedTurn, IsSure, Moves};
+ghost use Rattle.undo_log.specs.Turning.{IsRefusedTurn, IsSure, Moves, newest_made};
 ghost use Rattle.undo_log.specs.contracts.session.Session.{the_row};
 
 use crate::making::make;
@@ -215,7 +215,7 @@ impl<S: Store> Session<S> {
         ensures err { OnErr result (KeepsSession S.facts self.old self.new) }
         ensures refusals { IfErr result (IsRefusedTurn S.facts Fault.NothingToUndo self.old.undo self.old self.new) }
         ensures passes { Passes S.facts self.old.disk self.new.disk }
-        ensures sure { IsSure S.facts self.old Backwards self.old.undo → IsOk result × (self.new.disk ≡ self.old.disk) }
+        ensures sure { IsSure S.facts self.old Backwards self.old.undo → IsOk result × (self.new.disk ≡ self.old.disk) × (self.new.document ≡ newest_made Backwards self.old.undo self.old.document) }
     {
         if turn(
             &mut self.blocks,
@@ -236,7 +236,7 @@ impl<S: Store> Session<S> {
         ensures err { OnErr result (KeepsSession S.facts self.old self.new) }
         ensures refusals { IfErr result (IsRefusedTurn S.facts Fault.NothingToRedo self.old.redo self.old self.new) }
         ensures passes { Passes S.facts self.old.disk self.new.disk }
-        ensures sure { IsSure S.facts self.old Forwards self.old.redo → IsOk result × (self.new.disk ≡ self.old.disk) }
+        ensures sure { IsSure S.facts self.old Forwards self.old.redo → IsOk result × (self.new.disk ≡ self.old.disk) × (self.new.document ≡ newest_made Forwards self.old.redo self.old.document) }
     {
         if turn(
             &mut self.blocks,

@@ -1,7 +1,7 @@
 ghost use Rattle.std.specs.Prelude.{◌≡◌, ◌+◌, ◌≤◌, IsOk, IfOk, IfErr, OnErr, reverse, vec_len, vec_capacity};
 ghost use Rattle.vm_blocks.specs.Keeping.{Keeps};
 ghost use Rattle.undo_log.specs.Records.{AreListed};
-ghost use Rattle.undo_log.specs.Turning.{CanTurn, CantTurn, Turns};
+ghost use Rattle.undo_log.specs.Turning.{CanTurn, CantTurn, Turns, newest_made};
 
 use geos_model::Fault;
 use vm_blocks::{Change, Direction, FileBlocks};
@@ -20,7 +20,7 @@ pub fn turn<S: Store>(
     ensures ok { IfOk result (λ turned. Turns S.facts turned direction blocks.old blocks.new (reverse from.old.items) (reverse to.old.items) (reverse from.new.items) (reverse to.new.items)) }
     ensures err { IfErr result (CantTurn S.facts direction (reverse from.old.items) blocks.old blocks.new) }
     ensures keeps { OnErr result (Keeps S.facts blocks.old blocks.new × (from.new.items ≡ from.old.items) × (to.new.items ≡ to.old.items)) }
-    ensures sure { CanTurn direction (reverse from.old.items) blocks.old → IsOk result × (blocks.new.disk ≡ blocks.old.disk) }
+    ensures sure { CanTurn direction (reverse from.old.items) blocks.old → IsOk result × (blocks.new.disk ≡ blocks.old.disk) × (blocks.new.document ≡ newest_made direction (reverse from.old.items) blocks.old.document) }
     ensures listed { AreListed direction blocks.new.document (reverse from.new.items) (reverse to.new.items) }
     ensures count { vec_len from.new + vec_len to.new ≡ vec_len from.old + vec_len to.old }
     ensures from_capacity { vec_capacity from.new ≡ vec_capacity from.old }
