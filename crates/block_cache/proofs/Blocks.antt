@@ -1,5 +1,5 @@
 -- Blocks that come into the file under the frames, and blocks that go from both.
-use Rattle.std.proofs.Common.{◌≡◌, ◌≢◌, ℕ, Bool, true, false, cond, nat_eq, List, [], ◌∷◌, Option, None, Some, is_some, All, refl, sym, ap, subst, ◌∙◌, inl, inr, eq-eqb}
+use Rattle.std.proofs.Common.{◌≡◌, ◌≢◌, ℕ, Bool, true, false, cond, nat_eq, List, [], ◌∷◌, None, Some, is_some, All, refl, sym, ap, ◌∙◌, inl, inr, eq-eqb}
 use Rattle.std.proofs.lemmas.Bool.{cases_eq, ne_eqb}
 use Rattle.std.proofs.lemmas.List.Elements.{All-head, All-tail}
 use Rattle.std.proofs.lemmas.Map.{lookup-remove_entry}
@@ -8,12 +8,12 @@ use Rattle.std.specs.Cmp.{nat_eq_equiv}
 use Rattle.std.specs.List.{AllByRecursion, IsDistinct}
 use Rattle.std.specs.Map.{remove_entry, keys_of}
 use Rattle.std.specs.FinMap.{get}
-use Rattle.geos_model.specs.Document.{Block, Document, is_live, with_block, without_block}
-use Rattle.geos_model.specs.Image.{body_read}
+use Rattle.geos_model.specs.Document.{Block, Document, with_block, without_block}
 use Rattle.geos_model.specs.declared.handle.VmHandle.{VmHandle}
 use Rattle.geos_model.proofs.HeapEdits.{get-put_same, get-put_other, get-taken_same, get-taken_other}
 use Rattle.vm_file.specs.Calls.{put_all, remove_all}
-use Rattle.vm_file.specs.declared.put.PutBlock.{PutBlock}
+use Rattle.vm_file.specs.Members.{saved_block}
+use Rattle.vm_file.specs.declared.member.Member.{Member}
 use Rattle.block_cache.specs.State.{seats_without}
 use Rattle.block_cache.specs.Frames.{held, seats, overlay, frames_without, IsKept, AreKept}
 use Rattle.block_cache.specs.declared.frame.Frame.{Frame}
@@ -43,19 +43,19 @@ module _ (es : List (ℕ × Frame)) (d : Document) (h : ℕ) (b : Block) (away :
 
 -- so are many
 module _ (es : List (ℕ × Frame)) where
-  abbrev pub IsAway : PutBlock → Type 0
+  abbrev pub IsAway : Member → Type 0
   IsAway p = held es p.handle.0 ≡ None
 
-  pub overlay_puts : (puts : List PutBlock) (d : Document) → All IsAway puts → put_all puts (overlay es d) ≡ overlay es (put_all puts d)
+  pub overlay_puts : (puts : List Member) (d : Document) → All IsAway puts → put_all puts (overlay es d) ≡ overlay es (put_all puts d)
   overlay_puts [] d away = refl
   overlay_puts (p ∷ puts) d away =
-      let b : Block = record { user_id = p.user_id; body = body_read p.image } in
+      let b = saved_block p.block in
       ap (put_all puts) (overlay_put es d p.handle.0 b (All-head IsAway p puts away)) ∙ overlay_puts puts (with_block d p.handle.0 b) (All-tail IsAway p puts away)
 
-  pub kept_puts : (honest : Bool) (puts : List PutBlock) (d : Document) → All IsAway puts → AreKept honest d es → AreKept honest (put_all puts d) es
+  pub kept_puts : (honest : Bool) (puts : List Member) (d : Document) → All IsAway puts → AreKept honest d es → AreKept honest (put_all puts d) es
   kept_puts honest [] d away kept = kept
   kept_puts honest (p ∷ puts) d away kept =
-      let b : Block = record { user_id = p.user_id; body = body_read p.image } in
+      let b = saved_block p.block in
       kept_puts honest puts (with_block d p.handle.0 b) (All-tail IsAway p puts away) (kept_put es d p.handle.0 b (All-head IsAway p puts away) honest kept)
 
 -- a block goes from memory and from the file

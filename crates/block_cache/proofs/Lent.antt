@@ -1,13 +1,13 @@
 -- A body of a block in memory that is lent, to be changed.
-use Rattle.std.proofs.Common.{◌≡◌, ◌≢◌, ℕ, Bool, true, false, not, cond, nat_eq, List, [], Option, None, Some, is_some, unwrap_or, inl, inr, refl, sym, ap, ◌∙◌, eq-eqb}
+use Rattle.std.proofs.Common.{◌≡◌, ◌≢◌, ℕ, Bool, true, false, cond, nat_eq, List, Option, None, Some, is_some, unwrap_or, inl, inr, refl, sym, ap, ◌∙◌, eq-eqb}
 use Rattle.std.proofs.lemmas.Bool.{cases_eq, ne_eqb}
 use Rattle.std.proofs.lemmas.Map.{lookup-set_value}
 use Rattle.std.specs.Cmp.{nat_eq_equiv}
 use Rattle.std.specs.Map.{set_value}
 use Rattle.std.specs.Borrow.{MutBor}
-use Rattle.std.specs.Option.{IsSome, option_map_or, option_copied_mut}
-use Rattle.std.specs.FinMap.{get, empty}
-use Rattle.geos_model.specs.Document.{Document, Block, is_live, user_id_of, with_body, is_heap, is_raw, is_heap_body, chunks_of, chunks_of_body, raw_bytes_of, bytes_of_body}
+use Rattle.std.specs.Option.{IsSome, option_copied_mut}
+use Rattle.std.specs.FinMap.{get}
+use Rattle.geos_model.specs.Document.{Document, is_live, user_id_of, with_body}
 use Rattle.geos_model.proofs.HeapEdits.{get-put_same, get-put_other}
 use Rattle.block_cache.specs.Bodies.{body_of}
 use Rattle.block_cache.specs.Frames.{held, overlay, IsKept, AreKept}

@@ -6,9 +6,9 @@ use Rattle.std.specs.Ordering.{nat_cmp, eq_by_cmp, is_lt}
 use Rattle.std.specs.Cmp.{nat_cmp_total}
 use Rattle.std.specs.FinMap.{get, keys, entries, entries_sorted, get-entries, nat_cmp-IsAntisymmetric}
 use Rattle.std.specs.FinMap.Entries.{find as find_key, is_sorted, below_all, same_entries}
-use Rattle.geos_model.specs.Document.{Block, Document, is_live, next_handle, user_id_of, vm_handles}
+use Rattle.geos_model.specs.Document.{Block, Document, next_handle, vm_handles}
 use Rattle.geos_model.specs.Reply.{found}
-use Rattle.block_cache.specs.Frames.{held, overlay, IsKept, AreKept}
+use Rattle.block_cache.specs.Frames.{held, overlay, AreKept}
 use Rattle.block_cache.specs.declared.frame.Frame.{Frame}
 use Rattle.block_cache.proofs.Overlay.{cover, block_by, get-overlay, overlay_live, uid}
 

@@ -1,10 +1,10 @@
 -- A save-as of a file under frames.
-use Rattle.std.proofs.Common.{◌≡◌, ◌≢◌, ◌⊎◌, ◌↔◌, ℕ, ◌≤◌, ◌&&◌, Bool, false, true, IsTrue, List, refl, sym, ap, subst, ◌∙◌, inl, inr, arith}
-use Rattle.std.specs.Prelude.{Result, Ok, Err}
+use Rattle.std.proofs.Common.{◌≡◌, ◌≢◌, ◌⊎◌, ℕ, ◌&&◌, Bool, false, true, IsTrue, List, refl, sym, ap, subst, ◌∙◌, inl, inr, arith}
+use Rattle.std.specs.Prelude.{Ok, Err}
 use Rattle.std.proofs.lemmas.Bool.{and_parts}
 use Rattle.geos_model.specs.Document.{Document, is_live, is_vm_handle}
 use Rattle.geos_model.specs.declared.fault.Fault.{Fault}
-use Rattle.geos_model.specs.declared.fault.Fault.TheVariants.{Memory, File, Damaged, Worn}
+use Rattle.geos_model.specs.declared.fault.Fault.TheVariants.{File, Damaged, Worn}
 use Rattle.vm_store.specs.Facts.{StoreFacts, Raised, IsTimely}
 use Rattle.vm_file.specs.Calls.{IsSupply, IsCommitRefusal, last_sequence}
 use Rattle.vm_file.specs.Disk.{FileState, IsSettled, Drifts, Passes, Commits}

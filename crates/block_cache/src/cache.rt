@@ -23,7 +23,7 @@ use lru::LruCache;
 use std::alloc::{AllocError, Global};
 use std::marker::Model;
 use std::num::NonZeroUsize;
-use vm_file::{PutBlock, Refused, VmFile};
+use vm_file::{Member, Refused, VmFile};
 use vm_store::Store;
 
 /// The document of a file, of which some blocks are in memory.
@@ -230,7 +230,7 @@ impl<S: Store> Cache<S> {
     /// Puts blocks into the document, none of which is in memory: their images are written to the file, and their bodies don't come
     /// into memory. Where it is refused none is put. Memory, before anything is written; File. With nothing
     /// to put it takes no memory, calls no store and isn't refused.
-    pub fn put_blocks(&mut self, puts: &[PutBlock]) -> Result<(), Fault>
+    pub fn put_blocks(&mut self, puts: &[Member]) -> Result<(), Fault>
         requires puts { All IsPut puts.now }
         requires few { length puts.now ≤ 2048 }
         requires away { All (λ p. is_resident self.old.resident p.handle.0 ≡ false) puts.now }

@@ -7,13 +7,13 @@ ghost use Rattle.block_cache.specs.Bodies.{body_of};
 ghost use Rattle.block_cache.specs.Frames.{held, seats, overlay, is_changed_in, some_changed, AreClean, IsChangedBody, AreKept, Moves};
 ghost use Rattle.block_cache.specs.State.{all_locked, victim, evicted};
 
-use crate::body::{BlockBody, read_image, write_image};
+use crate::body::{BlockBody, read_image};
 use crate::frame::{Frame, mark, victim};
-use geos_model::{Bytes, Fault, VmHandle};
+use geos_model::{Fault, VmHandle};
 use lru::LruCache;
 use raw_region::Region;
 use std::alloc::{AllocError, Global};
-use vm_file::{PutBlock, VmFile};
+use vm_file::{Member, SavedBlock, VmFile};
 use vm_store::Store;
 
 // A block in memory as it is put into the file.
@@ -22,17 +22,15 @@ fn put_of<S: Store>(
     file: &VmFile<S>,
     block: VmHandle,
     body: &BlockBody,
-) -> Result<PutBlock, AllocError>
+) -> Result<Member, AllocError>
     requires { is_live file.now.document block.0 ≡ true }
     ensures put { IfOk result IsPut }
     ensures is { IfOk result (λ put. put_all (put ∷ []) file.now.document ≡ with_body file.now.document block.0 (body_of body.now)) }
 {
     let place = file.entry(block).unwrap();
-    let image = write_image(alloc, body)?;
-    Ok(PutBlock {
+    Ok(Member {
         handle: block,
-        user_id: place.user_id,
-        image: Bytes::from_vec(image),
+        block: SavedBlock::new(place.user_id, body.image(alloc)?),
     })
 }
 

@@ -3,9 +3,9 @@ ghost use Rattle.std.specs.Prelude.{IfOk};
 ghost use Rattle.vm_file.specs.Calls.{IsPut};
 
 use block_cache::{BlockBody, Cache};
-use geos_model::{Bytes, Fault, VmHandle};
+use geos_model::{Fault, VmHandle};
 use std::alloc::Global;
-use vm_file::{PutBlock, Refused};
+use vm_file::{Image, Member, Refused, SavedBlock};
 use vm_store::Store;
 
 pub(crate) fn why<S: Store>(refused: Refused<S>) -> Fault {
@@ -13,24 +13,20 @@ pub(crate) fn why<S: Store>(refused: Refused<S>) -> Fault {
 }
 
 /// A raw block. Range where there can be none like it.
-pub(crate) fn raw_block(alloc: Global, handle: u16, body: &[u8]) -> Result<PutBlock, Fault>
+pub(crate) fn raw_block(alloc: Global, handle: u16, body: &[u8]) -> Result<Member, Fault>
     ensures { IfOk result IsPut }
 {
     if handle == 0 || handle > 2_048 || body.len() > 65_520 {
         return Err(Fault::Range);
     }
-    let mut image = Vec::with_capacity(alloc, 1 + body.len())?;
-    image.push(0)?;
-    image.extend_from_slice(body)?;
-    Ok(PutBlock {
+    Ok(Member {
         handle: VmHandle(handle),
-        user_id: handle,
-        image: Bytes::from_vec(image),
+        block: SavedBlock::new(handle, Image::of_raw(alloc, body)?),
     })
 }
 
 // Puts a block into the document. Range where it is in memory.
-fn put_block<S: Store>(cache: &mut Cache<S>, block: PutBlock) -> Result<(), Fault>
+fn put_block<S: Store>(cache: &mut Cache<S>, block: Member) -> Result<(), Fault>
     requires { IsPut block }
 {
     if cache.is_resident(block.handle) {

@@ -6,7 +6,7 @@ use geos_model::{
 use lmem_heap::Heap;
 use std::alloc::Global;
 use std::test::Fail;
-use vm_blocks::{Change, Direction, FileBlocks, Members, SavedBlock, change_law};
+use vm_blocks::{Change, Direction, FileBlocks, Members, SavedBlock, change_law, saved_block};
 use vm_store::MemStore;
 
 const BLOCK: VmHandle = VmHandle(1);
@@ -89,7 +89,7 @@ fn blocks_come_in_and_are_saved(rt: HostRuntime) -> Result<(), Fail> {
     set_map(&mut blocks, BLOCK)?;
     assert_eq!(rt; blocks.map_block(), BLOCK);
     blocks.load(BLOCK)?;
-    let saved = SavedBlock::of(alloc, 7, blocks.body(BLOCK))?;
+    let saved = saved_block(alloc, 7, blocks.body(BLOCK))?;
     assert_eq!(rt; saved.byte_count(), 3);
     Ok(())
 }

@@ -20,7 +20,7 @@ use Rattle.geos_model.specs.declared.fault.Fault.TheVariants.{IsMap, NoHandles}
 use Rattle.geos_model.specs.declared.handle.VmHandle.{VmHandle}
 use Rattle.geos_model.specs.declared.command.Kind.TheVariants.{Made, Freed}
 use Rattle.vm_blocks.specs.Changes.{IsFree, AreFree, CanGo, CanAllGo}
-use Rattle.vm_blocks.specs.Members.{saved_blocks}
+use Rattle.vm_file.specs.Members.{saved_blocks}
 use Rattle.vm_blocks.specs.declared.change.Change.TheVariants.{BlocksIn, BlocksOut}
 use Rattle.vm_blocks.specs.declared.member.Members.{Members}
 use Rattle.doc_edits.specs.Planning.{Plans}

@@ -11,9 +11,9 @@ use Rattle.geos_model.specs.declared.handle.VmHandle.{VmHandle}
 use Rattle.geos_model.proofs.ChainEdits.{blocks_of-handles, copies_of-handles}
 use Rattle.geos_model.proofs.Refusals.{none_applies, or_none}
 use Rattle.vm_blocks.specs.Changes.{Applies}
-use Rattle.vm_blocks.specs.Members.{saved_blocks}
+use Rattle.vm_file.specs.Members.{saved_blocks}
 use Rattle.vm_blocks.specs.declared.change.Change.TheVariants.{BlocksIn, BlocksOut}
-use Rattle.vm_blocks.specs.declared.member.Member.{Member}
+use Rattle.vm_file.specs.declared.member.Member.{Member}
 use Rattle.vm_blocks.specs.declared.member.Members.{Members}
 use Rattle.doc_edits.specs.Planning.{Plans}
 

@@ -12,7 +12,7 @@ use Rattle.geos_model.specs.declared.command.Edit.{Edit}
 use Rattle.geos_model.specs.declared.command.Edit.TheVariants as edits
 use Rattle.geos_model.specs.declared.command.Kind.{Kind}
 use Rattle.geos_model.specs.declared.command.Kind.TheVariants.{Plain, In, Made, Freed}
-use Rattle.vm_blocks.specs.Members.{saved_blocks}
+use Rattle.vm_file.specs.Members.{saved_blocks}
 use Rattle.vm_blocks.specs.Changes.{made, bytes_of, Applies}
 use Rattle.vm_blocks.specs.declared.change.Change.{Change}
 use Rattle.vm_blocks.specs.declared.change.Change.TheVariants as changes

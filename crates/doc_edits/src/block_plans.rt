@@ -6,7 +6,7 @@ ghost use Rattle.doc_edits.specs.Planning.{IsMemory, Plans, Refuses};
 use geos_model::{Done, Fault, VmHandle};
 use raw_region::SIZE;
 use std::alloc::Global;
-use vm_blocks::{Change, FileBlocks, Members, SavedBlock};
+use vm_blocks::{Change, FileBlocks, Members, SavedBlock, saved_block};
 use vm_store::Store;
 
 /// Of the edit that makes a raw block of zeros.
@@ -61,7 +61,7 @@ pub fn plan_free_block<S: Store>(
     if blocks.map_block() == handle {
         return Err(Fault::IsMap);
     }
-    let saved = SavedBlock::of(alloc, blocks.user_id(handle), blocks.body(handle))?;
+    let saved = saved_block(alloc, blocks.user_id(handle), blocks.body(handle))?;
     let freed = Members::one(alloc, handle, saved)?;
     Ok((Change::BlocksOut(freed), Done::Nothing))
 }
@@ -79,7 +79,7 @@ pub fn plan_copy_block<S: Store>(
         Some(handle) => handle,
         None => return Err(Fault::NoHandles),
     };
-    let copy = SavedBlock::of(alloc, blocks.user_id(from), blocks.body(from))?;
+    let copy = saved_block(alloc, blocks.user_id(from), blocks.body(from))?;
     let made = Members::one(alloc, handle, copy)?;
     Ok((Change::BlocksIn(made), Done::Block(handle)))
 }

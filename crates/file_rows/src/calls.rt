@@ -2,10 +2,10 @@
 ghost use Rattle.std.specs.Prelude.{IfOk};
 ghost use Rattle.vm_file.specs.Calls.{IsPut};
 
-use geos_model::{Bytes, Fault, VmHandle};
+use geos_model::{Fault, VmHandle};
 use lmem_heap::Heap;
 use std::alloc::Global;
-use vm_file::{PutBlock, Refused, VmFile};
+use vm_file::{Image, Member, Refused, SavedBlock, VmFile};
 use vm_store::{MemStore, Store};
 
 /// How many handles there are.
@@ -31,34 +31,28 @@ pub(crate) fn raw_block(
     handle: u16,
     user_id: u16,
     body: &[u8],
-) -> Result<PutBlock, Fault>
+) -> Result<Member, Fault>
     ensures { IfOk result IsPut }
 {
     if handle == 0 || handle > MOST_BLOCKS || body.len() > 65_520 {
         return Err(Fault::Range);
     }
-    let mut image = Vec::with_capacity(alloc, 1 + body.len())?;
-    image.push(0)?;
-    image.extend_from_slice(body)?;
-    Ok(PutBlock {
+    Ok(Member {
         handle: VmHandle(handle),
-        user_id,
-        image: Bytes::from_vec(image),
+        block: SavedBlock::new(user_id, Image::of_raw(alloc, body)?),
     })
 }
 
 /// A block of a heap. Range where there can be none like it.
-pub(crate) fn heap_block(handle: u16, user_id: u16, heap: &Heap) -> Result<PutBlock, Fault>
+pub(crate) fn heap_block(handle: u16, user_id: u16, heap: &Heap) -> Result<Member, Fault>
     ensures { IfOk result IsPut }
 {
     if handle == 0 || handle > MOST_BLOCKS {
         return Err(Fault::Range);
     }
-    let image = heap.image()?;
-    Ok(PutBlock {
+    Ok(Member {
         handle: VmHandle(handle),
-        user_id,
-        image: Bytes::from_vec(image),
+        block: SavedBlock::new(user_id, Image::of_heap(heap)?),
     })
 }
 

@@ -10,11 +10,11 @@ use geos_model::Fault;
 use lmem_heap::Heap;
 use std::alloc::Global;
 use std::test::Fail;
-use vm_file::{PutBlock, VmFile};
+use vm_file::{Member, VmFile};
 use vm_store::MemStore;
 
 // A block under each handle, with its handle as user ID and this body.
-fn all_blocks(alloc: Global, body: &[u8]) -> Result<Vec<PutBlock>, Fault>
+fn all_blocks(alloc: Global, body: &[u8]) -> Result<Vec<Member>, Fault>
     ensures puts { IfOk result (λ puts. All IsPut puts.items) }
     ensures count { IfOk result (λ puts. length puts.items ≤ 2048) }
 {

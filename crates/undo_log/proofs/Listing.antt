@@ -11,7 +11,7 @@ use Rattle.geos_model.proofs.BlockLists.{put_stands, put_map_block}
 use Rattle.geos_model.proofs.HeapEdits.{get-put_same, get-put_other, get-taken_same, get-taken_other}
 use Rattle.vm_file.specs.Disk.{Drifts, IsListed}
 use Rattle.vm_blocks.specs.Changes.{made, flipped, part_made, turned, AreFree, HasMap, IsFree}
-use Rattle.vm_blocks.specs.Members.{saved_blocks}
+use Rattle.vm_file.specs.Members.{saved_blocks}
 use Rattle.vm_blocks.specs.Preparing.{AllListed, CanLeave, Listed}
 use Rattle.vm_blocks.specs.declared.change.Change.{Change}
 use Rattle.vm_blocks.specs.declared.change.Change.TheVariants as changes

@@ -14,7 +14,7 @@ use Rattle.geos_model.specs.declared.fault.Fault.TheVariants.{Memory, NoBlock}
 use Rattle.vm_store.specs.Facts.{StoreFacts}
 use Rattle.vm_file.specs.Disk.{Drifts}
 use Rattle.block_cache.specs.State.{CacheState, is_resident}
-use Rattle.vm_blocks.specs.Members.{saved_blocks}
+use Rattle.vm_file.specs.Members.{saved_blocks}
 use Rattle.vm_blocks.specs.Changes.{turned, turned_part, made, part_made, Applies, PartApplies, CanAllGo}
 use Rattle.vm_blocks.specs.Keeping.{Keeps, IsSteady, Lacks, is_loaded}
 use Rattle.vm_blocks.specs.Parts.{Takes}

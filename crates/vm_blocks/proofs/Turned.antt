@@ -5,8 +5,7 @@ use Rattle.std.specs.Option.{option_map}
 use Rattle.std.specs.List.{All}
 use Rattle.std.proofs.lemmas.Bool.{true≢false}
 use Rattle.std.specs.FinMap.{get}
-use Rattle.geos_model.specs.Document.{Block, Document, is_live, with_block, with_blocks, with_body, handles_of}
-use Rattle.geos_model.specs.Image.{body_read}
+use Rattle.geos_model.specs.Document.{Block, Document, is_live, with_blocks, with_body, handles_of}
 use Rattle.geos_model.specs.declared.command.Body.{Body}
 use Rattle.geos_model.specs.declared.fault.Fault.{Fault}
 use Rattle.geos_model.specs.declared.fault.Fault.TheVariants.{File, Memory}
@@ -14,16 +13,16 @@ use Rattle.vm_store.specs.Facts.{StoreFacts, Raised}
 use Rattle.vm_file.specs.Calls.{put_all}
 use Rattle.vm_file.specs.Disk.{Disk, Drifts, Passes}
 use Rattle.vm_file.specs.Effects.{Fails, IsCommit, IsWorn, IsDamage, KeepsFile, NoFault}
-use Rattle.vm_file.specs.declared.put.PutBlock.{PutBlock}
+use Rattle.vm_file.specs.Members.{saved_blocks}
+use Rattle.vm_file.specs.declared.member.Member.{Member}
 use Rattle.vm_file.proofs.Results.{any_way}
 use Rattle.block_cache.specs.SavingAs.{IsSavedAs, IsNotSavedAs}
 use Rattle.vm_file.proofs.Passing.{Passes-refl, Drifts-refl}
 use Rattle.block_cache.specs.State.{CacheState, is_resident, seated, seen, Stays}
-use Rattle.vm_blocks.proofs.ManyBlocks.{All-from_map}
-use Rattle.vm_blocks.specs.Changes.{AreFree, IsFree, blocks_in, made, part_made}
+use Rattle.vm_blocks.proofs.ManyBlocks.{in_handles}
+use Rattle.vm_blocks.specs.Changes.{AreFree, blocks_in, made, part_made}
 use Rattle.vm_blocks.specs.Committing.{IsRevertFault}
 use Rattle.vm_blocks.specs.Keeping.{Keeps, Lacks, is_loaded}
-use Rattle.vm_blocks.specs.Members.{put_blocks, saved_blocks}
 use Rattle.vm_blocks.specs.Parts.{body_made}
 use Rattle.vm_blocks.specs.Preparing.{BodyTakes, IsAtHand, IsUnready, Turns}
 use Rattle.vm_blocks.specs.declared.change.Change.{Change}
@@ -48,13 +47,9 @@ part_as_body h p d body there = by (get d.blocks h) refl there
     by None is there = absurd (cc there)
     by (Some block) is there = let same : block.body ≡ body = cc there in at p block is ∙ ap (λ (x : Body). with_body d h (body_made p x)) same
 
-pub put_all_blocks : (puts : List PutBlock) (d : Document) → put_all puts d ≡ with_blocks d (put_blocks puts)
-put_all_blocks [] d = refl
-put_all_blocks (p ∷ puts) d = put_all_blocks puts (with_block d p.handle.0 (record { user_id = p.user_id; body = body_read p.image }))
-
-no_puts : (puts : List PutBlock) → put_blocks puts ≡ [] → puts ≡ []
-no_puts [] is = refl
-no_puts (p ∷ puts) is = absurd (cc is)
+pub no_members : (ms : List Member) → saved_blocks ms ≡ [] → ms ≡ []
+no_members [] is = refl
+no_members (m ∷ ms) is = absurd (cc is)
 
 module _ {S : Type 0} (facts : S → StoreFacts) where
   -- Bringing a block into memory.
@@ -122,23 +117,17 @@ module _ {S : Type 0} (facts : S → StoreFacts) where
   -- Blocks come in.
 
   -- those that come in aren't in memory
-  pub away : (state : CacheState S) (ms : Members) (puts : List PutBlock) → put_blocks puts ≡ saved_blocks ms.list.items → AreFree state.document (handles_of (saved_blocks ms.list.items))
-      → ((h : ℕ) → is_resident state.resident h ≡ true → is_live state.document h ≡ true) → All (λ p. is_resident state.resident p.handle.0 ≡ false) puts
-  away state ms puts are free live =
-      let each : All (λ h. IsFree state.document h) (handles_of (put_blocks puts)) = subst (λ (ps : List (ℕ × Block)). All (IsFree state.document) (handles_of ps)) (sym are) free.free in
-      let at : All (λ p. IsFree state.document p.handle.0) puts = All-from_map (λ (p : ℕ × Block). IsFree state.document p.0) (λ (p : PutBlock). (p.handle.0, record { user_id = p.user_id; body = body_read p.image })) puts
-      (All-from_map (IsFree state.document) (λ (p : ℕ × Block). p.0) (put_blocks puts) each) in
-      λ i p within. not_there (is_resident state.resident (get_or puts i p).handle.0) (λ there. let is : is_live state.document (get_or puts i p).handle.0 ≡ true = live _ there in
-      let none : is_live state.document (get_or puts i p).handle.0 ≡ false = ap is_some (at i p within).free in true≢false (sym is ∙ none))
+  pub away : (state : CacheState S) (ms : List Member) → AreFree state.document (handles_of (saved_blocks ms))
+      → ((h : ℕ) → is_resident state.resident h ≡ true → is_live state.document h ≡ true) → All (λ m. is_resident state.resident m.handle.0 ≡ false) ms
+  away state ms free live =
+      λ i m within. not_there (is_resident state.resident (get_or ms i m).handle.0) (λ there. let is : is_live state.document (get_or ms i m).handle.0 ≡ true = live _ there in
+      let none : is_live state.document (get_or ms i m).handle.0 ≡ false = ap is_some (in_handles state.document ms free i m within).free in true≢false (sym is ∙ none))
     where
       not_there : (b : Bool) → (b ≡ true → ⊥) → b ≡ false
       not_there true gone = absurd (gone refl)
       not_there false gone = refl
 
-  module _ (ms : Members) (puts : List PutBlock) (old new : CacheState S) (are : put_blocks puts ≡ saved_blocks ms.list.items) (resident : (new.resident ≡ old.resident) × (new.frames ≡ old.frames)) where
-    made_is : put_all puts old.document ≡ made (changes.BlocksIn ms) old.document
-    made_is = put_all_blocks puts old.document ∙ ap (with_blocks old.document) are
-
+  module _ (ms : Members) (puts : List Member) (old new : CacheState S) (are : puts ≡ ms.list.items) (resident : (new.resident ≡ old.resident) × (new.frames ≡ old.frames)) where
     pub put_in_turns : (r : Result (Unit {0}) Fault)
         → MatchResult r (λ _. KeepsFile facts (put_all puts old.document) (seen old) (seen new)) (λ _. KeepsFile facts old.document (seen old) (seen new))
         → Fails facts NoFault old.disk.store new.disk.store r → (puts ≡ [] → IsOk r × (new ≡ old)) → Turns facts (changes.BlocksIn ms) old new r
@@ -146,20 +135,20 @@ module _ {S : Type 0} (facts : S → StoreFacts) where
     put_in_turns (Ok done) keeps fails none = record {
       ok = record {
         passes = keeps.passes;
-        document = subst (λ (d : Document). Drifts (facts old.disk.store).honest d new.document) made_is keeps.document;
+        document = subst (λ (xs : List Member). Drifts (facts old.disk.store).honest (put_all xs old.document) new.document) are keeps.document;
         at_hand = tt;
         frames = resident.1;
       };
       err = tt;
       refusals = tt;
-      sure = λ empty here takes. let still = none (no_puts puts (are ∙ empty)) in
+      sure = λ empty here takes. let still = none (are ∙ no_members ms.list.items empty) in
           (refl, ap (λ (s : CacheState S). s.disk) still.1, ap (λ (s : CacheState S). s.document) still.1 ∙ sym (ap (with_blocks old.document) empty));
     }
     put_in_turns (Err fault) keeps fails none = record {
       ok = tt;
       err = record { file = keeps; frames = resident.1 };
       refusals = inl (lacks_of (Err fault) old.disk.store new.disk.store (record { file = fails.file; faults = elim fails.faults [ inl supply ↦ inl supply | inr never ↦ absurd never ] }));
-      sure = λ empty here takes. absurd (cc (none (no_puts puts (are ∙ empty))).0);
+      sure = λ empty here takes. absurd (cc (none (are ∙ no_members ms.list.items empty)).0);
     }
 
   -- A body changes.

@@ -1,8 +1,6 @@
-pub mod Members
 pub mod Allowing
 pub mod Changes
 pub mod Parts
-pub mod Saved
 pub mod Committing
 pub mod Opening
 pub mod Keeping

@@ -11,7 +11,7 @@ use Rattle.vm_file.specs.Disk.{Drifts, Passes}
 use Rattle.block_cache.specs.State.{CacheState}
 use Rattle.vm_blocks.specs.Changes.{made, blocks_in, Applies, AreFree, HasMap}
 use Rattle.vm_blocks.specs.Keeping.{Keeps, IsSteady, Lacks, is_loaded}
-use Rattle.vm_blocks.specs.Members.{saved_blocks}
+use Rattle.vm_file.specs.Members.{saved_blocks}
 use Rattle.vm_blocks.specs.Parts.{Takes}
 use Rattle.vm_blocks.specs.declared.change.Change.{Change}
 use Rattle.vm_blocks.specs.declared.change.Change.TheVariants as changes

@@ -8,12 +8,12 @@ ghost use Rattle.geos_model.specs.Reply.{found};
 ghost use Rattle.vm_file.specs.Calls.{IsCommitRefusal, last_sequence};
 ghost use Rattle.vm_file.specs.Disk.{IsListed, IsSettled};
 ghost use Rattle.vm_file.specs.Effects.{IsCommit, Fails, IsWorn};
+ghost use Rattle.vm_file.specs.Members.{saved_blocks};
 ghost use Rattle.block_cache.specs.Bodies.{body_of};
 ghost use Rattle.block_cache.specs.State.{seen};
 ghost use Rattle.vm_blocks.specs.Changes.{made, part_made, turned, turned_part, blocks_in, AreFree};
 ghost use Rattle.vm_blocks.specs.Committing.{IsRevertFault, IsSavedAs, IsNotSavedAs};
 ghost use Rattle.vm_blocks.specs.Keeping.{Keeps, Lacks, is_loaded};
-ghost use Rattle.vm_blocks.specs.Members.{saved_blocks};
 ghost use Rattle.vm_blocks.specs.Opening.{IsOpenedFrom, IsNotOpened, IsMadeIn, IsNotMade};
 ghost use Rattle.vm_blocks.specs.Parts.{Takes};
 ghost use Rattle.vm_blocks.specs.Kinds.{IsOfOther};
@@ -331,9 +331,8 @@ impl<S: Store> FileBlocks<S> {
         requires { AreFree self.old.document (handles_of (saved_blocks members.now.list.items)) }
         ensures { Turns S.facts (Change.BlocksIn members.now) self.old self.new result }
     {
-        let puts = members.puts(self.alloc)?;
         self.cache.validity();
-        self.cache.put_blocks(&puts)
+        self.cache.put_blocks(&members.list)
     }
 
     // Takes each of these blocks out. It isn't refused.

@@ -12,5 +12,6 @@ pub use block_cache::BlockBody;
 pub use change::{Change, Content, Direction, PartChange};
 pub use file_blocks::FileBlocks;
 pub use law::{change_law, listed_law};
-pub use member::{MOST_BLOCKS, Member, Members};
-pub use saved::SavedBlock;
+pub use member::{MOST_BLOCKS, Members};
+pub use saved::saved_block;
+pub use vm_file::{Member, SavedBlock};

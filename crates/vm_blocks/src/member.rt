@@ -1,25 +1,13 @@
-ghost use Rattle.std.specs.Prelude.{◌≡◌, ◌≤◌, ◌∷◌, [], true, All, IfOk, IsOk, length};
-ghost use Rattle.geos_model.specs.Document.{most_blocks, is_vm_handle};
-ghost use Rattle.geos_model.specs.Image.{body_read};
-ghost use Rattle.vm_file.specs.Calls.{IsPut};
-ghost use Rattle.vm_blocks.specs.Members.{saved_blocks, put_blocks};
-ghost use Rattle.vm_blocks.specs.Saved.{saved_block};
+ghost use Rattle.std.specs.Prelude.{◌≡◌, ◌≤◌, ◌∷◌, [], IfOk, length};
+ghost use Rattle.geos_model.specs.Document.{most_blocks};
+ghost use Rattle.vm_file.specs.Members.{saved_block, saved_blocks};
 
-use crate::SavedBlock;
-use chunk_edits::copied;
+use crate::{Member, SavedBlock};
 use geos_model::VmHandle;
 use std::alloc::{AllocError, Global};
-use vm_file::PutBlock;
 
 /// How many blocks a document can have: their handles are 1 to this.
 pub const MOST_BLOCKS: usize = 2_048;
-
-/// A block that comes in under a handle, or goes from there.
-#[derive(Drop)]
-pub struct Member {
-    pub handle: VmHandle,
-    pub block: SavedBlock,
-}
 
 /// Blocks that come in or go together, no more than a document can have.
 #[derive(Drop)]
@@ -58,37 +46,5 @@ impl Members {
             total += member.block.byte_count() as u64;
         }
         total
-    }
-
-    /// These blocks as they are put into a file.
-    pub(crate) fn puts(&self, alloc: Global) -> Result<Vec<PutBlock>, AllocError>
-        requires { All (λ m. is_vm_handle m.handle.0 ≡ true) self.now.list.items }
-        ensures puts { IfOk result (λ puts. All IsPut puts.items) }
-        ensures blocks { IfOk result (λ puts. put_blocks puts.items ≡ saved_blocks self.now.list.items) }
-        ensures sure { saved_blocks self.now.list.items ≡ [] → IsOk result }
-    {
-        let mut puts = Vec::new(alloc);
-        for member in &self.list {
-            puts.push(member.put(alloc)?)?;
-        }
-        Ok(puts)
-    }
-}
-
-impl Member {
-    /// The block as it is put into a file.
-    fn put(&self, alloc: Global) -> Result<PutBlock, AllocError>
-        requires { is_vm_handle self.now.handle.0 ≡ true }
-        ensures put { IfOk result IsPut }
-        ensures handle { IfOk result (λ put. put.handle ≡ self.now.handle) }
-        ensures block { IfOk result (λ put. record { user_id = put.user_id; body = body_read put.image } ≡ saved_block self.now.block) }
-    {
-        let image = &self.block.image;
-        image.validity();
-        Ok(PutBlock {
-            handle: self.handle,
-            user_id: self.block.user_id,
-            image: copied(alloc, image.as_slice())?,
-        })
     }
 }

@@ -16,8 +16,7 @@ use Rattle.geos_model.proofs.Refusals.{none_applies, or_none}
 use Rattle.geos_model.proofs.Chains.{chain-members}
 use Rattle.geos_model.proofs.ChainCopies.{new-new}
 use Rattle.geos_model.proofs.ChainEdits.{blocks_of-handles}
-use Rattle.vm_blocks.specs.Members.{saved_blocks}
-use Rattle.vm_blocks.specs.Saved.{saved_block}
+use Rattle.vm_file.specs.Members.{saved_block, saved_blocks}
 use Rattle.vm_blocks.specs.Changes.{AreFree, CanAllGo, CanGo}
 use Rattle.vm_blocks.specs.declared.member.Members.{Members}
 use Rattle.geos_model.specs.declared.handle.VmHandle.{VmHandle}

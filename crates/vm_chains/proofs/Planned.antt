@@ -4,9 +4,8 @@ use Rattle.std.proofs.lemmas.List.{map-append, take_more}
 use Rattle.geos_model.specs.Chain.{blocks_of}
 use Rattle.geos_model.specs.Document.{Block, Document, block_at, handles_of}
 use Rattle.geos_model.specs.declared.handle.VmHandle.{VmHandle}
-use Rattle.vm_blocks.specs.Members.{saved_blocks}
-use Rattle.vm_blocks.specs.Saved.{saved_block}
-use Rattle.vm_blocks.specs.declared.member.Member.{Member}
+use Rattle.vm_file.specs.Members.{saved_block, saved_blocks}
+use Rattle.vm_file.specs.declared.member.Member.{Member}
 use Rattle.vm_chains.specs.Numbers.{numbers}
 
 module _ (plan : List Member) (m : Member) (i : ℕ) (hs : List VmHandle) (h : VmHandle) (within : i < length hs) (handle : m.handle ≡ get_or hs i h) where

@@ -5,7 +5,7 @@ ghost use Rattle.geos_model.specs.Document.{handles_of};
 ghost use Rattle.geos_model.specs.declared.fault.Fault.TheVariants.{NoHandles, IsMap};
 ghost use Rattle.vm_blocks.specs.Changes.{Applies};
 ghost use Rattle.vm_blocks.specs.Keeping.{Keeps, IsSteady, Lacks};
-ghost use Rattle.vm_blocks.specs.Members.{saved_blocks};
+ghost use Rattle.vm_file.specs.Members.{saved_blocks};
 ghost use Rattle.vm_blocks.specs.Preparing.{CanLeave};
 ghost use Rattle.vm_blocks.specs.declared.change.Change.TheVariants as changes;
 ghost use Rattle.vm_chains.specs.Answers.{Answers, IsChainFault};

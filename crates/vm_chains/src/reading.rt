@@ -3,14 +3,14 @@ ghost use Rattle.geos_model.specs.Chain.{is_member, relinked};
 ghost use Rattle.geos_model.specs.Document.{block_at, is_live, is_raw, raw_bytes_of};
 ghost use Rattle.geos_model.specs.Heap.{capacity};
 ghost use Rattle.vm_blocks.specs.Keeping.{Keeps, IsSteady, Lacks};
-ghost use Rattle.vm_blocks.specs.Saved.{saved_block};
+ghost use Rattle.vm_file.specs.Members.{saved_block};
 ghost use Rattle.vm_chains.specs.Naming.{name_in};
 
 use crate::links::links_of;
 use crate::names::{Names, relinked};
 use geos_model::{Fault, VmHandle};
 use std::alloc::Global;
-use vm_blocks::{BlockBody, FileBlocks, SavedBlock};
+use vm_blocks::{BlockBody, FileBlocks, SavedBlock, saved_block};
 use vm_store::Store;
 
 // What is read of a block that a walk has met. It is loaded again, since blocks that were met later may have taken its place. Only a
@@ -66,5 +66,5 @@ pub(crate) fn saved_at<S: Store>(
 {
     blocks.load(handle)?;
     let user_id = blocks.user_id(handle);
-    Ok(SavedBlock::of(alloc, user_id, blocks.body(handle))?)
+    Ok(saved_block(alloc, user_id, blocks.body(handle))?)
 }

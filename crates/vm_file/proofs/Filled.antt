@@ -7,19 +7,20 @@ use Rattle.std.specs.Ordering.{nat_cmp}
 use Rattle.std.proofs.lemmas.Bool.{cases_Bool, cases_lt, cond-true, cond-false, eqb-true}
 use Rattle.std.proofs.lemmas.List.{get_or-set_other, set_past}
 use Rattle.geos_model.specs.Document.{Block, Document, is_heap, is_heap_body, is_live, user_id_of, with_block, without_block}
-use Rattle.geos_model.specs.Image.{body_read}
+use Rattle.geos_model.specs.Image.{image, body_read}
 use Rattle.geos_model.specs.File.{bytes_in}
 use Rattle.geos_model.specs.declared.file.Extent.{Extent}
 use Rattle.geos_model.specs.declared.handle.VmHandle.{VmHandle}
+use Rattle.geos_model.proofs.Images.{body_read-body}
 use Rattle.geos_model.proofs.Tables.{slot_at, slot_at_past}
 use Rattle.vm_file.specs.Calls.{IsPut, put_all, remove_all}
+use Rattle.vm_file.specs.Members.{saved_block}
 use Rattle.vm_file.specs.Disk.{Drifts}
 use Rattle.geos_model.specs.declared.command.Body.{Body}
 use Rattle.vm_file.specs.Documents.{block_in, of_kind}
 use Rattle.vm_file.specs.Writing.{placed_at, with_places, without_place, without_places}
-use Rattle.vm_file.specs.declared.put.PutBlock.{PutBlock}
+use Rattle.vm_file.specs.declared.member.Member.{Member}
 use Rattle.vm_file.specs.declared.table.Place.{Place}
-use Rattle.vm_file.proofs.ImageLemmas.{kind_is}
 use Rattle.vm_file.proofs.BodyKinds.{of_kind-kind, of_kind-same}
 use Rattle.vm_file.proofs.Passing.{Drifts-trans, Drifts-refl}
 use Rattle.vm_file.proofs.Tables.{EachPlace, shown, shown_put, shown_removed, get_none, get_at, each_set, full_set, handle_within}
@@ -75,10 +76,10 @@ drifts_without honest a b h drifts = record {
   same = λ so. ap (λ d. without_block d h) (drifts.same so);
 }
 
-pub drifts_put_all : (honest : Bool) (puts : List PutBlock) (a b : Document) → Drifts honest a b → Drifts honest (put_all puts a) (put_all puts b)
+pub drifts_put_all : (honest : Bool) (puts : List Member) (a b : Document) → Drifts honest a b → Drifts honest (put_all puts a) (put_all puts b)
 drifts_put_all honest [] a b drifts = drifts
 drifts_put_all honest (p ∷ puts) a b drifts =
-    let block : Block = record { user_id = p.user_id; body = body_read p.image } in
+    let block = saved_block p.block in
     drifts_put_all honest puts (with_block a p.handle.0 block) (with_block b p.handle.0 block) (drifts_with honest a b p.handle.0 block block drifts refl refl (λ so. refl))
 
 pub drifts_remove_all : (honest : Bool) (handles : List VmHandle) (a b : Document) → Drifts honest a b → Drifts honest (remove_all handles a) (remove_all handles b)
@@ -87,42 +88,43 @@ drifts_remove_all honest (h ∷ handles) a b drifts = drifts_remove_all honest h
 
 -- Blocks that come in.
 
-pub length-with_places : (puts : List PutBlock) (extents : List Extent) (places : List (Option Place)) → length (with_places puts extents places) ≡ length places
+pub length-with_places : (puts : List Member) (extents : List Extent) (places : List (Option Place)) → length (with_places puts extents places) ≡ length places
 length-with_places [] extents places = refl
 length-with_places (p ∷ puts) [] places = refl
 length-with_places (p ∷ puts) (e ∷ extents) places = length-with_places puts extents (set places (p.handle.0 - 1) (Some (placed_at p e))) ∙ length-set places (p.handle.0 - 1) (Some (placed_at p e))
 
-pub each_with : (P : Place → Type 0) (puts : List PutBlock) (extents : List Extent) (places : List (Option Place)) → ((k : ℕ) (p : PutBlock) (e : Extent) → k < length puts → P (placed_at (get_or puts k p) (get_or extents k e))) → EachPlace P places → EachPlace P (with_places puts extents places)
+pub each_with : (P : Place → Type 0) (puts : List Member) (extents : List Extent) (places : List (Option Place)) → ((k : ℕ) (p : Member) (e : Extent) → k < length puts → P (placed_at (get_or puts k p) (get_or extents k e))) → EachPlace P places → EachPlace P (with_places puts extents places)
 each_with P [] extents places new each = each
 each_with P (p ∷ puts) [] places new each = each
 each_with P (p ∷ puts) (e ∷ extents) places new each =
     each_with P puts extents (set places (p.handle.0 - 1) (Some (placed_at p e))) (λ k q x low. new (suc k) q x (omega arith)) (each_set P places (p.handle.0 - 1) (Some (placed_at p e)) (new 0 p e (omega arith)) each)
 
-pub full_with : (puts : List PutBlock) (extents : List Extent) (places : List (Option Place)) (k : ℕ) → is_some (slot_at places k) ≡ true → is_some (slot_at (with_places puts extents places) k) ≡ true
+pub full_with : (puts : List Member) (extents : List Extent) (places : List (Option Place)) (k : ℕ) → is_some (slot_at places k) ≡ true → is_some (slot_at (with_places puts extents places) k) ≡ true
 full_with [] extents places k full = full
 full_with (p ∷ puts) [] places k full = full
 full_with (p ∷ puts) (e ∷ extents) places k full = full_with puts extents (set places (p.handle.0 - 1) (Some (placed_at p e))) k (full_set places (p.handle.0 - 1) k (placed_at p e) full)
 
-pub filled_drifts : (honest : Bool) (file : List ℕ) (puts : List PutBlock) (extents : List Extent) (places : List (Option Place)) (map_block : ℕ) → length places ≡ 2048 → All IsPut puts → length extents ≡ length puts
-    → ((k : ℕ) (p : PutBlock) (e : Extent) → k < length puts → IsTrue honest → bytes_in file (get_or extents k e) ≡ (get_or puts k p).image)
+pub filled_drifts : (honest : Bool) (file : List ℕ) (puts : List Member) (extents : List Extent) (places : List (Option Place)) (map_block : ℕ) → length places ≡ 2048 → All IsPut puts → length extents ≡ length puts
+    → ((k : ℕ) (p : Member) (e : Extent) → k < length puts → IsTrue honest → bytes_in file (get_or extents k e) ≡ image (get_or puts k p).block.image)
     → Drifts honest (put_all puts (shown file places map_block)) (shown file (with_places puts extents places) map_block)
 filled_drifts honest file [] extents places map_block size are long images = Drifts-refl honest (shown file places map_block)
 filled_drifts honest file (p ∷ puts) [] places map_block size are long images = absurd (omega arith)
 filled_drifts honest file (p ∷ puts) (e ∷ extents) places map_block size are long images =
     let put : IsPut p = are 0 p (omega arith) in
-    let bounds = handle_within p.handle.0 put.handle in
+    let bounds = handle_within p.handle.0 put in
     let h = p.handle.0 in
     let one = placed_at p e in
-    let block : Block = record { user_id = p.user_id; body = body_read p.image } in
+    let block = saved_block p.block in
+    let body = p.block.image in
     let d = shown file places map_block in
     let next = set places (h - 1) (Some one) in
     let made : shown file next map_block ≡ with_block d h (block_in file one) = shown_put file places map_block h one bounds.0 (omega (arith, bounds.0, bounds.1, size)) in
     let there : IsTrue honest → block_in file one ≡ block = λ so.
-      ap (λ bytes. record { user_id = p.user_id; body = of_kind one.is_heap (body_read bytes) }) (images 0 p e (omega arith) so)
-      ∙ ap (λ b. record { user_id = p.user_id; body = b }) (of_kind-same one.is_heap (body_read p.image) (kind_is p.image)) in
+    ap (λ b. record { user_id = p.block.user_id; body = of_kind one.is_heap b }) (ap body_read (images 0 p e (omega arith) so) ∙ body_read-body body p.block.valid)
+    ∙ ap (λ b. record { user_id = p.block.user_id; body = b }) (of_kind-same one.is_heap body refl) in
     let kind_here : (b : Body) → is_heap_body (of_kind one.is_heap b) ≡ one.is_heap = of_kind-kind one.is_heap in
     let first : Drifts honest (with_block d h block) (shown file next map_block) =
-    subst (Drifts honest (with_block d h block)) (sym made) (drifts_with honest d d h block (block_in file one) (Drifts-refl honest d) refl (kind_here (body_read (bytes_in file e)) ∙ kind_is p.image) there) in
+    subst (Drifts honest (with_block d h block)) (sym made) (drifts_with honest d d h block (block_in file one) (Drifts-refl honest d) refl (kind_here (body_read (bytes_in file e))) there) in
     Drifts-trans honest _ _ _ (drifts_put_all honest puts (with_block d h block) (shown file next map_block) first)
     (filled_drifts honest file puts extents next map_block (length-set places (h - 1) (Some one) ∙ size) (λ k q low. are (suc k) q (omega arith)) (omega (arith, long)) (λ k q x low so. images (suc k) q x (omega arith) so))
 

@@ -5,6 +5,7 @@ use Rattle.std.proofs.Math.Nat.{div-add-mod, mod-lt}
 use Rattle.std.proofs.lemmas.List.{append-nil, take_more, get_or_append_left}
 use Rattle.std.proofs.lemmas.List.Elements.{All-nil, All-cons, All-head, All-tail, All-append}
 use Rattle.geos_model.specs.File.{pages_of}
+use Rattle.geos_model.specs.Image.{image}
 use Rattle.geos_model.specs.declared.file.Extent.{Extent}
 use Rattle.vm_space.specs.Placing.{IsApart, IsFirstFit}
 use Rattle.std.specs.List.Sorted.{IsPermutation}
@@ -17,7 +18,7 @@ use Rattle.vm_file.specs.Known.{Takes}
 use Rattle.vm_file.specs.Writing.{AreFor}
 use Rattle.vm_file.proofs.Spaces.{takes-one}
 use Rattle.vm_file.specs.declared.table.Place.{Place}
-use Rattle.vm_file.specs.declared.put.PutBlock.{PutBlock}
+use Rattle.vm_file.specs.declared.member.Member.{Member}
 
 -- the taken extents and those found since, the newest first
 abbrev pub taken_with : List Extent → List Extent → List Extent
@@ -25,7 +26,7 @@ taken_with taken [] = taken
 taken_with taken (e ∷ es) = taken_with (e ∷ taken) es
 
 -- extents were found for the first n images
-pub record IsPlacing (taken : List Extent) (puts : List PutBlock) (n : ℕ) (extents : List Extent) (space : Space) : Type 0 where
+pub record IsPlacing (taken : List Extent) (puts : List Member) (n : ℕ) (extents : List Extent) (space : Space) : Type 0 where
   pub found : AreFor taken puts n extents
   pub are : AreTaken (taken_with taken extents) space
 
@@ -63,9 +64,9 @@ apart_out page n e apart =
     elim apart as (λ _. IsOut (512 * page) n (start_of e) (end_of e)) [ inl before ↦ inr (omega (arith, mine, before)) | inr behind ↦ inl (omega (arith, other, behind)) ]
 
 -- one image more
-module _ (taken extents : List Extent) (puts : List PutBlock) (n : ℕ) (r : Extent) (p : PutBlock) (is : (d : PutBlock) → get_or puts n d ≡ p) (size : (1 ≤ length p.image) × (length p.image ≤ 65521)) (fit : IsFirstFit (taken_with taken extents) (length p.image) r) where
-  out : (e : Extent) → IsApart (record { page = r.page; length = length p.image }) e → IsOut (start_of r) r.length (start_of e) (end_of e)
-  out e apart = subst (λ m. IsOut (start_of r) m (start_of e) (end_of e)) (sym fit.length_is) (apart_out r.page (length p.image) e apart)
+module _ (taken extents : List Extent) (puts : List Member) (n : ℕ) (r : Extent) (p : Member) (is : (d : Member) → get_or puts n d ≡ p) (size : (1 ≤ length (image p.block.image)) × (length (image p.block.image) ≤ 65521)) (fit : IsFirstFit (taken_with taken extents) (length (image p.block.image)) r) where
+  out : (e : Extent) → IsApart (record { page = r.page; length = length (image p.block.image) }) e → IsOut (start_of r) r.length (start_of e) (end_of e)
+  out e apart = subst (λ m. IsOut (start_of r) m (start_of e) (end_of e)) (sym fit.length_is) (apart_out r.page (length (image p.block.image)) e apart)
 
   found_more : AreFor taken puts n extents → AreFor taken puts (n + 1) (extents ++ r ∷ [])
   found_more was =
@@ -75,16 +76,16 @@ module _ (taken extents : List Extent) (puts : List PutBlock) (n : ℕ) (r : Ext
       let last : (d : Extent) → get_or all n d ≡ r = λ d. subst (λ m. get_or all m d ≡ r) long (at_end extents r d) in
       record {
         count = omega (arith, length-append extents (r ∷ []), long);
-        sizes = λ k e q low. elim (cases_eq k n) as (λ _. (get_or all k e).length ≡ length (get_or puts k q).image) [
-          | inl same ↦ subst (λ m. (get_or all m e).length ≡ length (get_or puts m q).image) (sym same) (ap (λ x. x.length) (last e) ∙ fit.length_is ∙ ap (λ x. length x.image) (sym (is q)))
+        sizes = λ k e q low. elim (cases_eq k n) as (λ _. (get_or all k e).length ≡ length (image (get_or puts k q).block.image)) [
+          | inl same ↦ subst (λ m. (get_or all m e).length ≡ length (image (get_or puts m q).block.image)) (sym same) (ap (λ x. x.length) (last e) ∙ fit.length_is ∙ ap (λ (x : Member). length (image x.block.image)) (sym (is q)))
           | inr other ↦ ap (λ x. x.length) (old k e (omega (arith, low, other))) ∙ was.sizes k e q (omega (arith, low, other))
         ];
         placed = one_more IsPlaced extents r was.placed (record { behind = fit.behind_slots; within = fit.in_reach; some = omega (arith, fit.length_is, size.0); short = omega (arith, fit.length_is, size.1) });
-        clear = one_more (λ e. IsClear (start_of e) e.length taken) extents r was.clear (λ k d inside. out (get_or taken k d) (with_taken (IsApart (record { page = r.page; length = length p.image })) taken extents fit.free k d inside));
+        clear = one_more (λ e. IsClear (start_of e) e.length taken) extents r was.clear (λ k d inside. out (get_or taken k d) (with_taken (IsApart (record { page = r.page; length = length (image p.block.image) })) taken extents fit.free k d inside));
         apart = λ i k e less low. elim (cases_eq k n) as (λ _. IsOut (start_of (get_or all k e)) (get_or all k e).length (start_of (get_or all i e)) (end_of (get_or all i e))) [
           | inl same ↦
               let P : Extent → Extent → Type 0 = λ x y. IsOut (start_of x) x.length (start_of y) (end_of y) in
-              let new = out (get_or extents i e) (with_found (IsApart (record { page = r.page; length = length p.image })) taken extents fit.free i e (omega (arith, less, same, long))) in
+              let new = out (get_or extents i e) (with_found (IsApart (record { page = r.page; length = length (image p.block.image) })) taken extents fit.free i e (omega (arith, less, same, long))) in
               subst (λ m. P (get_or all m e) (get_or all i e)) (sym same) (subst (λ x. P x (get_or all i e)) (sym (last e)) (subst (P r) (sym (old i e (omega (arith, less, same)))) new))
           | inr other ↦
               let P : Extent → Extent → Type 0 = λ x y. IsOut (start_of x) x.length (start_of y) (end_of y) in
@@ -99,7 +100,7 @@ module _ (taken extents : List Extent) (puts : List PutBlock) (n : ℕ) (r : Ext
   }
 
 -- nothing is found yet
-pub placing_none : (taken : List Extent) (puts : List PutBlock) (space : Space) → AreTaken taken space → IsPlacing taken puts 0 [] space
+pub placing_none : (taken : List Extent) (puts : List Member) (space : Space) → AreTaken taken space → IsPlacing taken puts 0 [] space
 placing_none taken puts space all = record {
   found = record { count = refl; sizes = λ k e p low. absurd (omega arith); placed = All-nil IsPlaced; clear = All-nil (λ e. IsClear (start_of e) e.length taken); apart = λ i k e less low. absurd (omega arith) };
   are = all;
@@ -110,7 +111,7 @@ with_order : (taken es : List Extent) → IsPermutation (taken_with taken es) (e
 with_order taken [] = IsPermutation-refl taken
 with_order taken (e ∷ es) = IsPermutation-trans (taken_with (e ∷ taken) es) (es ++ e ∷ taken) (e ∷ (es ++ taken)) (with_order (e ∷ taken) es) (IsPermutation-middle es e taken)
 
-pub placing_taken : (taken es : List Extent) (puts : List PutBlock) (n : ℕ) (space : Space) → IsPlacing taken puts n es space → AreTaken (es ++ taken) space
+pub placing_taken : (taken es : List Extent) (puts : List Member) (n : ℕ) (space : Space) → IsPlacing taken puts n es space → AreTaken (es ++ taken) space
 placing_taken taken es puts n space is = taken-permuted (taken_with taken es) (es ++ taken) space (with_order taken es) is.are
 
 -- The extents of the first places.

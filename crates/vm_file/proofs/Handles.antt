@@ -1,22 +1,22 @@
 -- Tables of places as listings.
-use Rattle.std.proofs.Common.{◌≡◌, ℕ, zero, suc, ◌+◌, ◌-◌, ◌*◌, ◌<◌, ◌≤◌, ◌≢◌, ◌==◌, ◌&&◌, Bool, true, false, cond, nat_lt, List, [], ◌∷◌, ◌++◌, All, map, find, take, drop, set, length, get_or, Option, None, Some, is_some, refl, sym, ap, subst, ◌∙◌, arith, add_assoc, drop-cons, length-set, inl, inr}
+use Rattle.std.proofs.Common.{◌≡◌, ℕ, zero, suc, ◌+◌, ◌-◌, ◌<◌, ◌≤◌, ◌≢◌, ◌==◌, ◌&&◌, Bool, true, false, cond, nat_lt, List, [], ◌∷◌, ◌++◌, All, map, find, take, drop, set, length, get_or, Option, None, Some, is_some, refl, sym, ap, ◌∙◌, arith, add_assoc, drop-cons, length-set, inl, inr}
 use Rattle.std.specs.Option.{option_map}
 use Rattle.std.specs.FinMap.{get, keys}
 use Rattle.std.proofs.Math.Bool.{and-false}
-use Rattle.std.proofs.lemmas.Bool.{lt-ltb, le-ltb, eqb-true, eq-eqb, ne_eqb, cases_lt}
-use Rattle.std.proofs.lemmas.List.{take_more, drop_more, length-take-le, append-nil, map-append, drop_all, get_or-set_other, get_or-take}
-use Rattle.geos_model.specs.Document.{Block, Document, next_handle}
+use Rattle.std.proofs.lemmas.Bool.{lt-ltb, le-ltb, eq-eqb, ne_eqb, cases_lt}
+use Rattle.std.proofs.lemmas.List.{take_more, drop_more, length-take-le, append-nil, map-append, drop_all, get_or-set_other}
+use Rattle.geos_model.specs.Document.{Block, next_handle}
 use Rattle.geos_model.specs.Reply.{found}
 use Rattle.geos_model.specs.declared.file.Extent.{Extent}
 use Rattle.geos_model.specs.declared.handle.VmHandle.{VmHandle}
-use Rattle.geos_model.proofs.Table.{table_entries, table_map, first_gap}
-use Rattle.geos_model.proofs.Tables.{slot_at, slot_at_past, get-table_map_at, keys-table_map, next_handle-table, first_gap_none, first_gap_below, first_gap_is, entries-table_map}
+use Rattle.geos_model.proofs.Table.{table_entries, first_gap}
+use Rattle.geos_model.proofs.Tables.{slot_at, slot_at_past, keys-table_map, next_handle-table, first_gap_none, entries-table_map}
 use Rattle.vm_file.specs.Calls.{IsPut}
 use Rattle.vm_file.specs.Documents.{block_in, blocks_in}
 use Rattle.vm_file.specs.Listing.{AreBounds, IsWidened, found_in}
 use Rattle.vm_file.specs.Writing.{placed_at, with_places, without_place, without_places}
 use Rattle.vm_file.specs.declared.listing.Bounds.{Bounds}
-use Rattle.vm_file.specs.declared.put.PutBlock.{PutBlock}
+use Rattle.vm_file.specs.declared.member.Member.{Member}
 use Rattle.vm_file.specs.declared.table.Place.{Place}
 use Rattle.vm_file.proofs.Filled.{full_with, full_without, length-with_places, length-without_places}
 use Rattle.vm_file.proofs.Tables.{shown, full_set, get_at, handle_within}
@@ -92,7 +92,7 @@ next_free file places map_block gap e =
 empty_set : (places : List (Option Place)) (i k : ℕ) (o : Option Place) → i < k → is_some (slot_at places k) ≡ false → is_some (slot_at (set places i o) k) ≡ false
 empty_set places i k o low none = ap is_some (get_or-set_other places i k o None (omega arith)) ∙ none
 
-pub empty_with : (puts : List PutBlock) (extents : List Extent) (places : List (Option Place)) (k : ℕ) → All (λ p. p.handle.0 - 1 < k) puts → is_some (slot_at places k) ≡ false → is_some (slot_at (with_places puts extents places) k) ≡ false
+pub empty_with : (puts : List Member) (extents : List Extent) (places : List (Option Place)) (k : ℕ) → All (λ p. p.handle.0 - 1 < k) puts → is_some (slot_at places k) ≡ false → is_some (slot_at (with_places puts extents places) k) ≡ false
 empty_with [] extents places k low none = none
 empty_with (p ∷ puts) [] places k low none = none
 empty_with (p ∷ puts) (e ∷ extents) places k low none =
@@ -114,7 +114,7 @@ empty_without [] places k none = none
 empty_without (h ∷ handles) places k none = empty_without handles (without_place h.0 places) k (empty_without_one h.0 places k none)
 
 -- a table in which blocks were put, and from which others were taken
-pub bounds_changed : (puts : List PutBlock) (extents : List Extent) (removals : List VmHandle) (places : List (Option Place)) (old new : Bounds) → length places ≡ 2048 → All IsPut puts → AreBounds places old → IsWidened puts removals old new
+pub bounds_changed : (puts : List Member) (extents : List Extent) (removals : List VmHandle) (places : List (Option Place)) (old new : Bounds) → length places ≡ 2048 → All IsPut puts → AreBounds places old → IsWidened puts removals old new
     → AreBounds (without_places removals (with_places puts extents places)) new
 bounds_changed puts extents removals places old new size are bounds wide =
     let filled = with_places puts extents places in
@@ -122,7 +122,7 @@ bounds_changed puts extents removals places old new size are bounds wide =
       full = λ k low. full_without removals filled k (λ i d inside same. let past = wide.freed i d inside in absurd (omega (arith, same, past, low)))
           (full_with puts extents places k (bounds.full k (let g = wide.lower in omega (arith, low, g))));
       past = λ k low. empty_without removals filled k
-          (empty_with puts extents places k (λ i p inside. let h = handle_within (get_or puts i p).handle.0 (are i p inside).handle in let past = wide.reached i p inside in omega (arith, h.0, past, low))
+          (empty_with puts extents places k (λ i p inside. let h = handle_within (get_or puts i p).handle.0 (are i p inside) in let past = wide.reached i p inside in omega (arith, h.0, past, low))
           (bounds.past k (let e = wide.higher in omega (arith, low, e))));
       within = let long = length-without_places removals filled in let longer = length-with_places puts extents places in let w = wide.within in omega (arith, long, longer, size, w);
     }

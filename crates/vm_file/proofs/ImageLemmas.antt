@@ -1,9 +1,9 @@
 -- Bytes that are the image of a body that a document can have.
-use Rattle.std.proofs.Common.{◌≡◌, ℕ, ◌+◌, ◌<◌, ◌≤◌, List, [], ◌∷◌, length, slice_index, replicate, drop, Bool, true, false, not, ◌==◌, Some, refl, ap, sym, ◌∙◌, arith, add-one, le-leb}
+use Rattle.std.proofs.Common.{◌≡◌, ℕ, ◌+◌, ◌<◌, ◌≤◌, List, [], ◌∷◌, length, slice_index, replicate, Bool, true, false, not, ◌==◌, Some, refl, ap, sym, ◌∙◌, arith, add-one, le-leb}
 use Rattle.std.specs.Prelude.{if◌then◌else◌}
 use Rattle.std.specs.FinMap.{empty}
 use Rattle.geos_model.specs.Document.{is_valid_body, is_heap_body}
-use Rattle.geos_model.specs.Heap.{ChunkMap, is_heap_map, capacity}
+use Rattle.geos_model.specs.Heap.{ChunkMap, capacity}
 use Rattle.geos_model.specs.Image.{image, body_of, body_read}
 use Rattle.geos_model.specs.declared.command.Body.{Body}
 use Rattle.geos_model.specs.declared.command.Body.TheVariants.{Raw, Heap}
@@ -12,7 +12,6 @@ use Rattle.geos_model.proofs.HeapTables.{image-table, trimmed-nil}
 use Rattle.geos_model.proofs.Images.{body_read-body}
 use Rattle.geos_model.proofs.Tables.{table_map-nil}
 use Rattle.vm_file.specs.Images.{IsImage}
-use Rattle.vm_file.proofs.BodyImages.{is_read}
 
 -- of a body
 pub image_read : (body : Body) (bytes : List ℕ) → is_valid_body body ≡ true → bytes ≡ image body → body_read bytes ≡ body

@@ -1,5 +1,5 @@
 -- Images of bodies.
-use Rattle.std.proofs.Common.{◌≡◌, ℕ, ◌-◌, ◌≤◌, ◌==◌, Bool, true, false, not, List, length, slice_index, Option, None, Some, is_some, refl, sym, ap, subst, ◌∙◌, arith, inl, inr}
+use Rattle.std.proofs.Common.{◌≡◌, ℕ, ◌-◌, ◌≤◌, ◌==◌, Bool, true, false, not, List, length, slice_index, Option, None, Some, is_some, refl, sym, ap, ◌∙◌, arith, inl, inr}
 use Rattle.std.specs.Prelude.{◌&&◌, Result, Ok, Err, IfOk, IfSome, All}
 use Rattle.std.proofs.lemmas.Bool.{cases_Bool, cond-true, cond-false}
 use Rattle.geos_model.specs.Bytes.{same_bytes}
@@ -48,10 +48,8 @@ image_some (Raw bytes) = omega arith
 image_some (Heap m) = omega arith
 
 -- an image has 1 to 65,521 bytes
-pub image_length : (bytes : List ℕ) → is_some (body_of bytes) ≡ true → (1 ≤ length bytes) × (length bytes ≤ 65521)
-image_length bytes some =
-    let is = is_image bytes some in
-    (subst (λ b. 1 ≤ length b) is.image (image_some (body_read bytes)), subst (λ b. length b ≤ 65521) is.image (length_image_body_le (body_read bytes) is.valid))
+pub image_length : (body : Body) → is_valid_body body ≡ true → (1 ≤ length (image body)) × (length (image body) ≤ 65521)
+image_length body valid = (image_some body, length_image_body_le body valid)
 
 -- its first byte tells the kind
 pub image_kind : (bytes : List ℕ) → is_heap_body (body_read bytes) ≡ not (slice_index bytes 0 == 0)

@@ -1,5 +1,5 @@
 -- What always holds of the document of a table.
-use Rattle.std.proofs.Common.{◌≡◌, ◌⊎◌, ℕ, ◌-◌, Bool, true, IsTrue, List, sym, ap, ◌∙◌, arith, inl, inr}
+use Rattle.std.proofs.Common.{◌≡◌, ◌⊎◌, ℕ, ◌-◌, Bool, true, IsTrue, List, ap, ◌∙◌, arith, inl, inr}
 use Rattle.geos_model.specs.Document.{is_live, is_valid_body, is_vm_handle, block_at}
 use Rattle.geos_model.specs.Image.{body_read}
 use Rattle.geos_model.specs.File.{bytes_in}

@@ -2,11 +2,13 @@
 use Rattle.std.proofs.Common.{◌≡◌, ◌≢◌, ◌⊎◌, ℕ, ◌+◌, ◌-◌, ◌<◌, ◌≤◌, true, IsTrue, List, ◌++◌, All, take, drop, length, get_or, Option, Some, is_some, sym, ap, subst, ◌∙◌, arith, inl, inr, length-append}
 use Rattle.vm_store.specs.Facts.{StoreFacts}
 use Rattle.geos_model.specs.Document.{Document}
-use Rattle.geos_model.specs.Image.{body_of, body_read}
+use Rattle.geos_model.specs.Image.{image, body_of, body_read}
 use Rattle.geos_model.specs.Document.{is_heap_body}
 use Rattle.geos_model.specs.File.{bytes_in}
 use Rattle.geos_model.specs.declared.file.Extent.{Extent}
 use Rattle.geos_model.specs.declared.handle.VmHandle.{VmHandle}
+use Rattle.geos_model.proofs.Files.{body_of-image}
+use Rattle.geos_model.proofs.Images.{body_read-body}
 use Rattle.geos_model.proofs.Tables.{slot_at}
 use Rattle.vm_file.specs.Ranges.{IsPlaced, KeepsAll}
 use Rattle.vm_file.specs.Slots.{block_extents, stored_extents, pair_extents, held_extents, kept_extents, Leaves}
@@ -15,7 +17,7 @@ use Rattle.vm_file.specs.Calls.{IsPut, put_all, remove_all}
 use Rattle.vm_file.specs.Disk.{Drifts, Passes}
 use Rattle.vm_file.specs.Sound.{IsTable, AreTables, IsHeldFormed, IsFormed, IsSound, disk_of}
 use Rattle.vm_file.specs.Writing.{AreFor, AreWritten, IsSpared, placed_at, with_places, without_places}
-use Rattle.vm_file.specs.declared.put.PutBlock.{PutBlock}
+use Rattle.vm_file.specs.declared.member.Member.{Member}
 use Rattle.vm_file.specs.declared.table.Place.{Place}
 use Rattle.vm_file.specs.declared.table.Table.{Table}
 use Rattle.vm_file.specs.declared.slots.Stored.{Stored}
@@ -25,7 +27,6 @@ use Rattle.vm_file.specs.declared.slots.Other.TheVariants.{Shut, Stale, Held}
 use Rattle.vm_file.specs.declared.slots.Slots.{Slots}
 use Rattle.vm_file.proofs.Carried.{call_passes, call_sound}
 use Rattle.vm_file.proofs.Filled.{drifts_put_all, drifts_remove_all, filled_drifts, length-with_places, length-without_places, each_with, each_without, full_with, full_without, shown_without_all}
-use Rattle.vm_file.proofs.Imaged.{is_image, image_kind}
 use Rattle.vm_file.proofs.KeptBytes.{bytes_held}
 use Rattle.vm_file.proofs.Live.{EndsIn}
 use Rattle.vm_file.proofs.Passing.{Drifts-trans}
@@ -63,11 +64,10 @@ pub kept_twice : {X : Type 0} (n : ℕ) (xs ws vs : List X) → n ≡ length xs 
 kept_twice n xs ws vs size first second = ap (λ l. take n (vs ++ drop (length vs) l)) (items_kept n ws xs size first) ∙ items_kept n vs ws (omega (arith, size, first)) second
 
 -- an image that stands in its extent
-written_imaged : (file : List ℕ) (p : PutBlock) (e : Extent) → IsPut p → bytes_in file e ≡ p.image → IsImaged file (placed_at p e)
-written_imaged file p e put is = record {
-  image = subst (λ bytes. body_of bytes ≡ Some (body_read bytes)) (sym is) (is_image p.image put.image).reads;
-  kind = sym (image_kind p.image) ∙ ap (λ bytes. is_heap_body (body_read bytes)) (sym is);
-}
+written_imaged : (file : List ℕ) (p : Member) (e : Extent) → bytes_in file e ≡ image p.block.image → IsImaged file (placed_at p e)
+written_imaged file p e is =
+    let read = ap body_read is ∙ body_read-body p.block.image p.block.valid in
+    record { image = ap body_of is ∙ body_of-image p.block.image p.block.valid ∙ ap Some (sym read); kind = ap is_heap_body (sym read) }
 
 module _ {S : Type 0} (facts : S → StoreFacts) (a b : S) (live : Table) (slots : Slots) (sound : IsSound (facts a) live slots) (honest : (facts b).honest ≡ (facts a).honest)
     (now : IsTrue (facts b).honest → (facts b).may_leave (facts b).content)
@@ -95,11 +95,11 @@ module _ {S : Type 0} (facts : S → StoreFacts) (a b : S) (live : Table) (slots
   spared_sound = call_sound facts a b live slots sound honest now leaves live sound.formed (λ so. (images so, within so))
 
   -- where the images were written, and the table is changed
-  module _ (puts : List PutBlock) (extents : List Extent) (removals : List VmHandle) (new : Table) (are : All IsPut puts) (taken : List Extent) (found : AreFor taken puts (length puts) extents)
+  module _ (puts : List Member) (extents : List Extent) (removals : List VmHandle) (new : Table) (are : All IsPut puts) (taken : List Extent) (found : AreFor taken puts (length puts) extents)
       (written : IsTrue (facts a).honest → AreWritten (length puts) puts extents (facts b).content) (same : new.map_block ≡ live.map_block)
       (is : new.places.items ≡ without_places removals (with_places puts extents live.places.items)) where
-    bytes : (so : IsTrue (facts a).honest) (k : ℕ) (p : PutBlock) (e : Extent) → k < length puts → bytes_in (facts b).content (get_or extents k e) ≡ (get_or puts k p).image
-    bytes so k p e low = bytes_held (facts b).content (get_or puts k p).image (get_or extents k e) (sym (found.sizes k e p low)) (written so k e p low)
+    bytes : (so : IsTrue (facts a).honest) (k : ℕ) (p : Member) (e : Extent) → k < length puts → bytes_in (facts b).content (get_or extents k e) ≡ image (get_or puts k p).block.image
+    bytes so k p e low = bytes_held (facts b).content (image (get_or puts k p).block.image) (get_or extents k e) (sym (found.sizes k e p low)) (written so k e p low)
 
     pub put_drifts : Drifts (facts a).honest (remove_all removals (put_all puts (shown (facts a).content live.places.items live.map_block))) (shown (facts b).content new.places.items new.map_block)
     put_drifts =
@@ -114,7 +114,7 @@ module _ {S : Type 0} (facts : S → StoreFacts) (a b : S) (live : Table) (slots
         (filled_drifts honestly file puts extents places live.map_block sound.formed.table.size are found.count (λ k p e low so. bytes so k p e low))))
 
     module _ (stays : All (λ h. h.0 ≢ live.map_block) removals) where
-      each_new : (P : Place → Type 0) → ((k : ℕ) (p : PutBlock) (e : Extent) → k < length puts → P (placed_at (get_or puts k p) (get_or extents k e))) → EachPlace P live.places.items → EachPlace P new.places.items
+      each_new : (P : Place → Type 0) → ((k : ℕ) (p : Member) (e : Extent) → k < length puts → P (placed_at (get_or puts k p) (get_or extents k e))) → EachPlace P live.places.items → EachPlace P new.places.items
       each_new P one each = subst (EachPlace P) (sym is) (each_without P removals (with_places puts extents live.places.items) (each_with P puts extents live.places.items one each))
 
       new_table : IsTable new
@@ -145,14 +145,14 @@ module _ {S : Type 0} (facts : S → StoreFacts) (a b : S) (live : Table) (slots
             in_range = sound.formed.in_range;
           })
           (λ so. (
-            each_new (IsImaged (facts b).content) (λ k p e low. written_imaged (facts b).content (get_or puts k p) (get_or extents k e) (are k p low) (bytes so k p e low)) (images so),
+            each_new (IsImaged (facts b).content) (λ k p e low. written_imaged (facts b).content (get_or puts k p) (get_or extents k e) (bytes so k p e low)) (images so),
             extents_of (EndsIn (facts b).content) new.places.items (each_new (λ p. EndsIn (facts b).content p.extent)
                 (λ k p e low. let size = found.sizes k e p low in let ends = (written so k e p low).within in omega (arith, size, ends))
                 (places_of (EndsIn (facts b).content) live.places.items (within so))),
           ))
 
 -- a table in which blocks were put, and from which others were taken
-pub changed_twice : (n : ℕ) (places filled left : List (Option Place)) (puts : List PutBlock) (extents : List Extent) (removals : List VmHandle) → n ≡ length places → filled ≡ with_places puts extents places
+pub changed_twice : (n : ℕ) (places filled left : List (Option Place)) (puts : List Member) (extents : List Extent) (removals : List VmHandle) → n ≡ length places → filled ≡ with_places puts extents places
     → left ≡ without_places removals (take n (filled ++ drop (length filled) places)) → take n (left ++ drop (length left) (take n (filled ++ drop (length filled) places))) ≡ without_places removals (with_places puts extents places)
 changed_twice n places filled left puts extents removals size first second =
     let long = ap length first ∙ length-with_places puts extents places in

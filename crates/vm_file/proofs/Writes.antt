@@ -3,23 +3,24 @@ use Rattle.std.proofs.Common.{◌≡◌, ℕ, ◌+◌, ◌<◌, ◌≤◌, IsTru
 use Rattle.std.proofs.lemmas.Bool.{cases_eq}
 use Rattle.std.proofs.lemmas.List.{get_or_default}
 use Rattle.vm_store.specs.Facts.{StoreFacts, Torn, Holds}
+use Rattle.geos_model.specs.Image.{image}
 use Rattle.geos_model.specs.declared.file.Extent.{Extent}
 use Rattle.vm_file.specs.Ranges.{start_of, end_of, IsOut}
 use Rattle.vm_file.specs.Slots.{Leaves, Outlives}
 use Rattle.vm_file.specs.Writing.{AreFor, Fills, AreWritten, IsSpared}
-use Rattle.vm_file.specs.declared.put.PutBlock.{PutBlock}
+use Rattle.vm_file.specs.declared.member.Member.{Member}
 use Rattle.vm_file.specs.declared.slots.Slots.{Slots}
 use Rattle.vm_file.proofs.KeptBytes.{all_left, keeps_itself, torn_same, torn_holds}
 use Rattle.vm_file.proofs.Steps.{Outlives-refl, Outlives-trans}
 
 -- the first n images are written
-pub record Writes (slots : Slots) (extents : List Extent) (puts : List PutBlock) (n : ℕ) (old new : StoreFacts) : Type 0 where
+pub record Writes (slots : Slots) (extents : List Extent) (puts : List Member) (n : ℕ) (old new : StoreFacts) : Type 0 where
   pub honest : new.honest ≡ old.honest
   pub failures : old.failures ≤ new.failures
   pub fills : IsTrue old.honest → Fills slots extents old new
   pub written : IsTrue old.honest → AreWritten n puts extents new.content
 
-pub Writes-none : (slots : Slots) (extents : List Extent) (puts : List PutBlock) (a : StoreFacts) → Writes slots extents puts 0 a a
+pub Writes-none : (slots : Slots) (extents : List Extent) (puts : List Member) (a : StoreFacts) → Writes slots extents puts 0 a a
 Writes-none slots extents puts a = record {
   honest = refl;
   failures = omega arith;
@@ -28,7 +29,7 @@ Writes-none slots extents puts a = record {
 }
 
 -- A step: one of the extents is written.
-module _ (slots : Slots) (extents : List Extent) (puts : List PutBlock) (old mid new : StoreFacts) (i : ℕ) (e : Extent) (inside : i < length extents) (is : e ≡ get_or extents i e) (torn : Torn (start_of e) e.length mid.content new.content) where
+module _ (slots : Slots) (extents : List Extent) (puts : List Member) (old mid new : StoreFacts) (i : ℕ) (e : Extent) (inside : i < length extents) (is : e ≡ get_or extents i e) (torn : Torn (start_of e) e.length mid.content new.content) where
   pub fills_more : ((file : List ℕ) → Leaves mid slots file → Leaves new slots file) → ((file : List ℕ) → Leaves mid slots file → Outlives mid new file (λ s. s ≡ slots)) → Fills slots extents old mid → Fills slots extents old new
   fills_more leaves crash was = record {
     keeps = λ x aside within.
@@ -39,21 +40,21 @@ module _ (slots : Slots) (extents : List Extent) (puts : List PutBlock) (old mid
     crash = λ file first. Outlives-trans old mid new file (λ s. s ≡ slots) (was.crash file first) (crash file (was.leaves file first));
   }
 
-  pub written_more : (taken : List Extent) → AreFor taken puts (length puts) extents → i < length puts → (bytes : List ℕ) → ((p : PutBlock) → bytes ≡ (get_or puts i p).image) → Holds new.content (start_of e) bytes → AreWritten i puts extents mid.content → AreWritten (i + 1) puts extents new.content
-  written_more taken are low bytes image holds was k d p below = elim (cases_eq k i) as (λ _. Holds new.content (start_of (get_or extents k d)) (get_or puts k p).image) [
+  pub written_more : (taken : List Extent) → AreFor taken puts (length puts) extents → i < length puts → (bytes : List ℕ) → ((p : Member) → bytes ≡ image (get_or puts i p).block.image) → Holds new.content (start_of e) bytes → AreWritten i puts extents mid.content → AreWritten (i + 1) puts extents new.content
+  written_more taken are low bytes is_image holds was k d p below = elim (cases_eq k i) as (λ _. Holds new.content (start_of (get_or extents k d)) (image (get_or puts k p).block.image)) [
     | inl same ↦
         let place : get_or extents i d ≡ e = get_or_default extents i d e inside ∙ sym is in
-        subst (λ j. Holds new.content (start_of (get_or extents j d)) (get_or puts j p).image) (sym same) (subst (λ x. Holds new.content (start_of x) (get_or puts i p).image) (sym place) (subst (Holds new.content (start_of e)) (image p) holds))
+        subst (λ j. Holds new.content (start_of (get_or extents j d)) (image (get_or puts j p).block.image)) (sym same) (subst (λ x. Holds new.content (start_of x) (image (get_or puts i p).block.image)) (sym place) (subst (Holds new.content (start_of e)) (is_image p) holds))
     | inr other ↦
         let under : k < i = omega (arith, other) in
         let one = get_or extents k d in
         let apart : IsOut (start_of e) e.length (start_of one) (end_of one) = subst (λ x. IsOut (start_of x) x.length (start_of one) (end_of one)) (get_or_default extents i d e inside ∙ sym is) (are.apart k i d under low) in
         let size = are.sizes k d p (omega arith) in
-        torn_holds (start_of e) e.length (start_of one) (end_of one) (get_or puts k p).image mid.content new.content (omega (arith, size)) apart torn (was k d p under)
+        torn_holds (start_of e) e.length (start_of one) (end_of one) (image (get_or puts k p).block.image) mid.content new.content (omega (arith, size)) apart torn (was k d p under)
   ]
 
 -- apart from fewer extents too
-pub for_fewer : (taken fewer : List Extent) (puts : List PutBlock) (n : ℕ) (extents : List Extent) → ((P : Extent → Type 0) → All P taken → All P fewer) → AreFor taken puts n extents → AreFor fewer puts n extents
+pub for_fewer : (taken fewer : List Extent) (puts : List Member) (n : ℕ) (extents : List Extent) → ((P : Extent → Type 0) → All P taken → All P fewer) → AreFor taken puts n extents → AreFor fewer puts n extents
 for_fewer taken fewer puts n extents less was = record {
   count = was.count;
   sizes = was.sizes;
@@ -63,7 +64,7 @@ for_fewer taken fewer puts n extents less was = record {
 }
 
 -- what is written apart from extents keeps them
-pub spared_by : (slots : Slots) (kept more extents : List Extent) (puts : List PutBlock) (n : ℕ) (old new : StoreFacts) → AreFor (kept ++ more) puts n extents → Fills slots extents old new → IsSpared kept slots old new
+pub spared_by : (slots : Slots) (kept more extents : List Extent) (puts : List Member) (n : ℕ) (old new : StoreFacts) → AreFor (kept ++ more) puts n extents → Fills slots extents old new → IsSpared kept slots old new
 spared_by slots kept more extents puts n old new are fills = record {
   keeps = λ within k d inside. fills.keeps (get_or kept k d)
       (λ j x low. let e = get_or extents j x in all_left (λ y. IsOut (start_of e) e.length (start_of y) (end_of y)) kept more (are.clear j x low) k d inside)

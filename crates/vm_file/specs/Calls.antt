@@ -1,21 +1,19 @@
 -- What the calls of a document file are given, and what they answer.
-use Rattle.std.specs.Prelude.{◌≡◌, ◌⊎◌, ◌≤◌, ℕ, true, List, [], ◌∷◌, is_some}
-use Rattle.geos_model.specs.Document.{Document, is_vm_handle, with_block, without_block}
-use Rattle.geos_model.specs.Image.{body_of, body_read}
+use Rattle.std.specs.Prelude.{◌≡◌, ◌⊎◌, ◌≤◌, ℕ, true, List, [], ◌∷◌}
+use Rattle.geos_model.specs.Document.{Document, is_vm_handle, with_blocks, without_block}
 use Rattle.geos_model.specs.declared.fault.Fault.{Fault}
 use Rattle.geos_model.specs.declared.fault.Fault.TheVariants.{Memory, File, Damaged, NotDocument, Worn}
 use Rattle.geos_model.specs.declared.handle.VmHandle.{VmHandle}
-use Rattle.vm_file.specs.declared.put.PutBlock.{PutBlock}
+use Rattle.vm_file.specs.Members.{saved_blocks}
+use Rattle.vm_file.specs.declared.member.Member.{Member}
 
--- a block that can be put: its handle can be, and its image is that of a body that can be
-pub record IsPut (p : PutBlock) : Type 0 where
-  pub handle : is_vm_handle p.handle.0 ≡ true
-  pub image : is_some (body_of p.image) ≡ true
+-- a block that can be put: its handle can be
+abbrev pub IsPut : Member → Type 0
+IsPut m = is_vm_handle m.handle.0 ≡ true
 
 -- the document with these blocks, and without those
-abbrev pub put_all : List PutBlock → Document → Document
-put_all [] d = d
-put_all (p ∷ puts) d = put_all puts (with_block d p.handle.0 (record { user_id = p.user_id; body = body_read p.image }))
+abbrev pub put_all : List Member → Document → Document
+put_all ms d = with_blocks d (saved_blocks ms)
 
 abbrev pub remove_all : List VmHandle → Document → Document
 remove_all [] d = d

@@ -8,6 +8,7 @@ pub mod Effects
 pub mod Images
 pub mod Listing
 pub mod Making
+pub mod Members
 pub mod Opened
 pub mod Passing
 pub mod Ranges

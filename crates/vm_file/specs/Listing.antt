@@ -5,7 +5,7 @@ use Rattle.geos_model.specs.Document.{most_blocks}
 use Rattle.geos_model.specs.declared.handle.VmHandle.{VmHandle}
 use Rattle.geos_model.proofs.Table.{table_entries}
 use Rattle.vm_file.specs.declared.table.Place.{Place}
-use Rattle.vm_file.specs.declared.put.PutBlock.{PutBlock}
+use Rattle.vm_file.specs.declared.member.Member.{Member}
 use Rattle.vm_file.specs.declared.listing.Bounds.{Bounds}
 
 -- each place below the gap has a block, and none from the end on
@@ -15,7 +15,7 @@ pub record AreBounds (places : List (Option Place)) (bounds : Bounds) : Type 0 w
   pub within : bounds.end ≤ length places
 
 -- bounds that serve once these blocks are put in and those taken out
-pub record IsWidened (puts : List PutBlock) (removals : List VmHandle) (old new : Bounds) : Type 0 where
+pub record IsWidened (puts : List Member) (removals : List VmHandle) (old new : Bounds) : Type 0 where
   pub lower : new.gap ≤ old.gap
   pub freed : All (λ h. new.gap ≤ h.0 - 1) removals
   pub higher : old.end ≤ new.end

@@ -1,18 +1,20 @@
 -- Images that are written where nothing lies that stays.
-use Rattle.std.specs.Prelude.{◌≡◌, ℕ, zero, suc, ◌-◌, ◌<◌, ◌≤◌, ◌==◌, not, List, [], ◌∷◌, All, Option, None, Some, length, get_or, slice_index, slice_set}
+use Rattle.std.specs.Prelude.{◌≡◌, ℕ, zero, suc, ◌-◌, ◌<◌, ◌≤◌, List, [], ◌∷◌, All, Option, None, Some, length, get_or, slice_set}
 use Rattle.vm_store.specs.Facts.{StoreFacts, Holds}
+use Rattle.geos_model.specs.Document.{is_heap_body}
+use Rattle.geos_model.specs.Image.{image}
 use Rattle.geos_model.specs.declared.file.Extent.{Extent}
 use Rattle.vm_file.specs.Ranges.{start_of, end_of, IsPlaced, Keeps, KeepsAll, IsOut, IsClear}
 use Rattle.vm_file.specs.Slots.{Leaves, Outlives}
 use Rattle.geos_model.specs.declared.handle.VmHandle.{VmHandle}
-use Rattle.vm_file.specs.declared.put.PutBlock.{PutBlock}
+use Rattle.vm_file.specs.declared.member.Member.{Member}
 use Rattle.vm_file.specs.declared.table.Place.{Place}
 use Rattle.vm_file.specs.declared.slots.Slots.{Slots}
 
 -- Extents for the first n images: each as long as its image, and apart from those that are taken and from each other.
-pub record AreFor (taken : List Extent) (puts : List PutBlock) (n : ℕ) (extents : List Extent) : Type 0 where
+pub record AreFor (taken : List Extent) (puts : List Member) (n : ℕ) (extents : List Extent) : Type 0 where
   pub count : length extents ≡ n
-  pub sizes : (k : ℕ) (e : Extent) (p : PutBlock) → k < n → (get_or extents k e).length ≡ length (get_or puts k p).image
+  pub sizes : (k : ℕ) (e : Extent) (p : Member) → k < n → (get_or extents k e).length ≡ length (image (get_or puts k p).block.image)
   pub placed : All IsPlaced extents
   pub clear : All (λ e. IsClear (start_of e) e.length taken) extents
   pub apart : (i k : ℕ) (e : Extent) → i < k → k < n → IsOut (start_of (get_or extents k e)) (get_or extents k e).length (start_of (get_or extents i e)) (end_of (get_or extents i e))
@@ -28,8 +30,8 @@ pub record Fills (slots : Slots) (extents : List Extent) (old new : StoreFacts) 
   pub crash : (file : List ℕ) → Leaves old slots file → Outlives old new file (λ s. s ≡ slots)
 
 -- the first n images stand in their extents
-abbrev pub AreWritten : ℕ → List PutBlock → List Extent → List ℕ → Type 0
-AreWritten n puts extents file = (k : ℕ) (e : Extent) (p : PutBlock) → k < n → Holds file (start_of (get_or extents k e)) (get_or puts k p).image
+abbrev pub AreWritten : ℕ → List Member → List Extent → List ℕ → Type 0
+AreWritten n puts extents file = (k : ℕ) (e : Extent) (p : Member) → k < n → Holds file (start_of (get_or extents k e)) (image (get_or puts k p).block.image)
 
 -- calls that keep these extents, and all that the slots stand on
 pub record IsSpared (extents : List Extent) (slots : Slots) (old new : StoreFacts) : Type 0 where
@@ -40,11 +42,11 @@ pub record IsSpared (extents : List Extent) (slots : Slots) (old new : StoreFact
 -- Changes of a table.
 
 -- where a block lies whose image is in this extent
-abbrev pub placed_at : PutBlock → Extent → Place
-placed_at p e = record { user_id = p.user_id; is_heap = not (slice_index p.image 0 == 0); extent = e }
+abbrev pub placed_at : Member → Extent → Place
+placed_at p e = record { user_id = p.block.user_id; is_heap = is_heap_body p.block.image; extent = e }
 
 -- with these blocks, each in its extent
-abbrev pub with_places : List PutBlock → List Extent → List (Option Place) → List (Option Place)
+abbrev pub with_places : List Member → List Extent → List (Option Place) → List (Option Place)
 with_places [] extents places = places
 with_places (p ∷ puts) [] places = places
 with_places (p ∷ puts) (e ∷ extents) places = with_places puts extents (slice_set places (p.handle.0 - 1) (Some (placed_at p e)))

@@ -17,7 +17,7 @@ use crate::copying::copy_document;
 use crate::directory::{commit_draft, draft_of};
 use crate::listing::{Bounds, bounds_of, find_from, first_free, live_handles, tightened, widened};
 use crate::making::make_empty;
-use crate::put::PutBlock;
+use crate::member::Member;
 use crate::reading::{open_slots, read_extent};
 use crate::refused::Refused;
 use crate::settle::settle;
@@ -245,7 +245,7 @@ impl<S: Store> VmFile<S> {
     /// Writes the images of blocks, and then puts all these blocks into the document and takes others out. Where it is
     /// refused nothing of that is done. Memory, before anything is written; File. With nothing to write it takes no memory,
     /// calls no store and isn't refused.
-    pub fn put_blocks(&mut self, puts: &[PutBlock], removals: &[VmHandle]) -> Result<(), Fault>
+    pub fn put_blocks(&mut self, puts: &[Member], removals: &[VmHandle]) -> Result<(), Fault>
         requires puts { All IsPut puts.now }
         requires few { length puts.now ≤ 2048 }
         requires removals { All (λ h. h.0 ≢ self.old.document.map_block) removals.now }

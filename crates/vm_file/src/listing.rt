@@ -6,7 +6,7 @@ ghost use Rattle.geos_model.proofs.Table.{table_entries, first_gap};
 ghost use Rattle.vm_file.specs.Calls.{IsPut};
 ghost use Rattle.vm_file.specs.Listing.{AreBounds, IsWidened, found_in};
 
-use crate::put::PutBlock;
+use crate::member::Member;
 use crate::table::Place;
 use geos_model::VmHandle;
 use std::alloc::{AllocError, Global};
@@ -71,7 +71,7 @@ pub fn bounds_of(places: &[Option<Place>]) -> Bounds
 }
 
 // Not before the handle of any of these blocks.
-fn end_with(end: usize, puts: &[PutBlock]) -> usize
+fn end_with(end: usize, puts: &[Member]) -> usize
     requires puts { All IsPut puts.now }
     requires within { end ≤ most_blocks }
     ensures start { end ≤ result }
@@ -98,7 +98,7 @@ fn gap_without(gap: usize, removals: &[VmHandle]) -> usize
 }
 
 /// Bounds of a table that has these blocks more and those less.
-pub fn widened(bounds: Bounds, puts: &[PutBlock], removals: &[VmHandle]) -> Bounds
+pub fn widened(bounds: Bounds, puts: &[Member], removals: &[VmHandle]) -> Bounds
     requires puts { All IsPut puts.now }
     requires within { bounds.end ≤ most_blocks }
     ensures { IsWidened puts.now removals.now bounds result }

@@ -4,11 +4,10 @@ ghost use Rattle.geos_model.specs.declared.file.Extent.{Extent};
 ghost use Rattle.vm_space.specs.Space.{AreTaken};
 ghost use Rattle.vm_file.specs.Ranges.{IsPlaced};
 ghost use Rattle.vm_file.specs.Slots.{block_extents, stored_extents, pair_extents, held_extents, kept_extents};
-ghost use Rattle.vm_file.specs.Calls.{IsPut};
 ghost use Rattle.vm_file.specs.Known.{IsKnown, Takes};
 ghost use Rattle.vm_file.specs.Writing.{AreFor};
 
-use crate::put::PutBlock;
+use crate::member::Member;
 use crate::slots::{Other, Pair, Slots, Stored};
 use crate::table::Place;
 use geos_model::Extent;
@@ -106,16 +105,15 @@ pub fn known_space(
 pub fn place_images(
     alloc: Global,
     space: &mut FreeSpace,
-    puts: &[PutBlock],
+    puts: &[Member],
 ) -> Result<Vec<Extent>, AllocError>
     requires few { space.old.count + length puts.now ≤ MOST_EXTENTS }
-    requires puts { All IsPut puts.now }
     ensures found { IfOk result (λ extents. (taken : List Extent) → AreTaken taken space.old → AreFor taken puts.now (length puts.now) extents.items) }
     ensures taken { IfOk result (λ extents. (taken : List Extent) → AreTaken taken space.old → AreTaken (extents.items ++ taken) space.new) }
 {
     let mut extents = Vec::with_capacity(alloc, puts.len())?;
     for put in puts {
-        let extent = space.take(put.image.as_slice().len() as u32)?;
+        let extent = space.take(put.block.image.as_slice().len() as u32)?;
         extents.push(extent)?;
     }
     Ok(extents)

@@ -9,7 +9,7 @@ ghost use Rattle.geos_model.specs.Document.{most_blocks};
 ghost use Rattle.vm_file.specs.Calls.{IsPut};
 ghost use Rattle.vm_file.specs.Writing.{placed_at, with_places, without_place, without_places};
 
-use crate::put::PutBlock;
+use crate::member::Member;
 use crate::slots::Slots;
 use geos_model::{Extent, VmHandle};
 use vm_space::FreeSpace;
@@ -56,14 +56,13 @@ pub fn set_user_id(places: &mut [Option<Place>], block: VmHandle, user_id: u16)
     }
 }
 
-// Where a block lies whose image is in this extent. The image begins with its kind, which is 0 for a raw body.
-fn placed_at(put: &PutBlock, extent: Extent) -> Place
-    requires { IsPut put.now }
+// Where a block lies whose image is in this extent.
+fn placed_at(put: &Member, extent: Extent) -> Place
     ensures { result ≡ placed_at put.now extent }
 {
     Place {
-        user_id: put.user_id,
-        is_heap: put.image.as_slice()[0] != 0,
+        user_id: put.block.user_id,
+        is_heap: put.block.image.is_heap(),
         extent,
     }
 }
@@ -84,7 +83,7 @@ fn give_back(space: &mut Option<FreeSpace>, place: Option<Place>)
 /// another place, it is free afterwards.
 pub fn put_places(
     places: &mut [Option<Place>],
-    puts: &[PutBlock],
+    puts: &[Member],
     extents: &[Extent],
     slots: &Slots,
     space: &mut Option<FreeSpace>,

@@ -3,13 +3,13 @@ ghost use Rattle.std.specs.Prelude.{◌≡◌, ◌≢◌, ◌++◌, ◌+◌, ◌
 ghost use Rattle.vm_store.specs.Facts.{Raised};
 ghost use Rattle.vm_file.specs.Ranges.{IsPlaced};
 ghost use Rattle.vm_file.specs.Slots.{block_extents, kept_extents, AreKept};
-ghost use Rattle.vm_file.specs.Calls.{IsPut, IsSupply};
+ghost use Rattle.vm_file.specs.Calls.{IsSupply};
 ghost use Rattle.vm_file.specs.Known.{IsKnown};
 ghost use Rattle.vm_file.specs.Writing.{AreFor, Fills, AreWritten, IsSpared};
 
 use crate::commit::write_extent;
+use crate::member::Member;
 use crate::placing::{known_space, place_images};
-use crate::put::PutBlock;
 use crate::slots::Slots;
 use crate::table::Place;
 use geos_model::{Extent, Fault};
@@ -22,7 +22,7 @@ pub fn write_images<S: Store>(
     store: &mut S,
     slots: &Slots,
     extents: &[Extent],
-    puts: &[PutBlock],
+    puts: &[Member],
 ) -> Result<(), StoreFault>
     requires kept { AreKept slots.now }
     requires extents { AreFor (kept_extents slots.now) puts.now (length puts.now) extents.now }
@@ -33,7 +33,7 @@ pub fn write_images<S: Store>(
     ensures file { OnErr result (Raised (S.facts store.old) (S.facts store.new)) }
 {
     for (i, put) in puts.iter().enumerate() {
-        write_extent(store, slots, extents[i], put.image.as_slice())?;
+        write_extent(store, slots, extents[i], put.block.image.as_slice())?;
     }
     Ok(())
 }
@@ -54,12 +54,11 @@ pub fn write_puts<S: Store>(
     live: &[Option<Place>],
     slots: &Slots,
     space: Option<FreeSpace>,
-    puts: &[PutBlock],
+    puts: &[Member],
 ) -> Result<Written, Fault>
     requires live { All IsPlaced (block_extents live.now) }
     requires kept { AreKept slots.now }
     requires few { length (block_extents live.now ++ kept_extents slots.now) + length puts.now ≤ MOST_EXTENTS }
-    requires puts { All IsPut puts.now }
     requires known { IsKnown (block_extents live.now ++ kept_extents slots.now) space }
     ensures honest { (S.facts store.new).honest ≡ (S.facts store.old).honest }
     ensures failures { (S.facts store.old).failures ≤ (S.facts store.new).failures }

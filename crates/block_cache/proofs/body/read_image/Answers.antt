@@ -1,4 +1,4 @@
-use Rattle.std.proofs.Common.{◌≡◌, ◌-◌, drop, length, length-drop, arith, ap, sym, ◌∙◌, eqb-true}
+use Rattle.std.proofs.Common.{◌-◌, drop, length, length-drop, arith, ap, sym, ◌∙◌, eqb-true}
 use Rattle.std.specs.Prelude.{Some}
 use Rattle.std.proofs.lemmas.Bool.{eqb-false}
 use Rattle.std.proofs.lemmas.List.{take_all}

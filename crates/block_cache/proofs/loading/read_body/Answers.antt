@@ -1,4 +1,4 @@
-use Rattle.std.proofs.Common.{◌≡◌, IsTrue, refl, sym, ap, ◌∙◌, inr}
+use Rattle.std.proofs.Common.{◌≡◌, refl, sym, ap, ◌∙◌, inr}
 use Rattle.std.specs.FinMap.{get}
 use Rattle.geos_model.specs.Document.{block_at, is_heap, is_heap_body}
 use Rattle.block_cache.specs.Bodies.{body_of}

@@ -1,8 +1,8 @@
-use Rattle.std.proofs.Common.{◌≡◌, ℕ, ◌<◌, ◌≤◌, Bool, true, false, cond, nat_eq, nat_le, Option, None, Some, refl, sym, ap, subst, ◌∙◌, inl, inr, arith, eq-eqb, leb-true}
+use Rattle.std.proofs.Common.{◌≡◌, ℕ, ◌≤◌, true, false, cond, nat_le, Option, None, Some, refl, sym, ap, subst, ◌∙◌, inl, inr, arith, eq-eqb, leb-true}
 use Rattle.std.proofs.lemmas.Bool.{cases_eq, ne_eqb, and_parts}
 use Rattle.std.specs.Option.{option_map, IfSome}
 use Rattle.std.specs.FinMap.{get}
-use Rattle.geos_model.specs.Document.{Document, is_valid_body, is_vm_handle}
+use Rattle.geos_model.specs.Document.{is_valid_body, is_vm_handle}
 use Rattle.lru.specs.LruCache.{LruCache}
 use Rattle.block_cache.specs.Bodies.{body_of}
 use Rattle.block_cache.specs.Frames.{held, seats, overlay, with_frame, AreKept}

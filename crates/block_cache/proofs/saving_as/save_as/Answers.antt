@@ -1,14 +1,14 @@
 use Rattle.std.proofs.Common.{◌≡◌, ◌≢◌, false, IsTrue, sym, ap, subst, ◌∙◌}
-use Rattle.std.specs.Prelude.{Err, MatchResult}
+use Rattle.std.specs.Prelude.{Err}
 use Rattle.std.proofs.lemmas.Result.{err_from_is_err_and}
 use Rattle.geos_model.specs.Document.{IsValid}
 use Rattle.vm_file.specs.Calls.{last_sequence}
 use Rattle.vm_file.specs.Disk.{FileState}
 use Rattle.vm_file.specs.Effects.{Follows}
-use Rattle.block_cache.specs.SavingAs.{IsSavedAs, IsNotSavedAs}
+use Rattle.block_cache.specs.SavingAs.{IsSavedAs}
 use Rattle.block_cache.specs.Frames.{overlay, covered, AreKept}
 use Rattle.block_cache.proofs.Commits.{kept_after}
-use Rattle.block_cache.proofs.SavedAs.{kept_for_none, copied_handles, refused_early, not_flushed, not_copied, not_reverted, saved}
+use Rattle.block_cache.proofs.SavedAs.{kept_for_none, copied_handles, not_flushed, not_copied, not_reverted, saved}
 use Rattle.block_cache.proofs.saving_as.save_as.Goals as goal
 
 -- what is in memory couldn't be written

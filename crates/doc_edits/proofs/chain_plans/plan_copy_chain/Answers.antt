@@ -1,6 +1,6 @@
 use Rattle.std.proofs.Common.{ap, ◌∙◌}
 use Rattle.std.proofs.lemmas.List.{get_or_read}
-use Rattle.vm_blocks.specs.declared.member.Member.{Member}
+use Rattle.vm_file.specs.declared.member.Member.{Member}
 use Rattle.doc_edits.proofs.ChainPlans.{first_copy, copy_planned}
 use Rattle.doc_edits.proofs.chain_plans.plan_copy_chain.Goals as goal
 

@@ -1,7 +1,7 @@
 use Rattle.std.proofs.Common.{◌≡◌, ◌++◌, length, drop, take}
 use Rattle.geos_model.specs.Document.{handles_of}
 use Rattle.vm_blocks.specs.Keeping.{Keeps, IsSteady}
-use Rattle.vm_blocks.specs.Members.{saved_blocks}
+use Rattle.vm_file.specs.Members.{saved_blocks}
 use Rattle.vm_chains.specs.Numbers.{numbers}
 use Rattle.vm_chains.proofs.CopyLemmas.{copies_from}
 use Rattle.vm_chains.proofs.planning.copies.Given as goal

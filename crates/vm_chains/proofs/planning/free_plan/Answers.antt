@@ -5,7 +5,7 @@ use Rattle.geos_model.specs.Document.{Document}
 use Rattle.geos_model.specs.declared.fault.Fault.TheVariants.{IsMap}
 use Rattle.geos_model.specs.declared.handle.VmHandle.{VmHandle}
 use Rattle.vm_blocks.specs.Keeping.{Lacks}
-use Rattle.vm_blocks.specs.Members.{saved_blocks}
+use Rattle.vm_file.specs.Members.{saved_blocks}
 use Rattle.vm_blocks.proofs.KeepingLaws.{keeps-drifts, keeps-trans}
 use Rattle.vm_chains.specs.Answers.{IsChainFault}
 use Rattle.vm_chains.specs.Numbers.{numbers}

@@ -4,8 +4,8 @@ use Rattle.geos_model.specs.Chain.{blocks_of}
 use Rattle.geos_model.specs.Document.{Document, block_at, handles_of}
 use Rattle.geos_model.specs.declared.fault.Fault.TheVariants.{Memory}
 use Rattle.geos_model.specs.declared.handle.VmHandle.{VmHandle}
-use Rattle.vm_blocks.specs.Members.{saved_blocks}
-use Rattle.vm_blocks.specs.declared.member.Member.{Member}
+use Rattle.vm_file.specs.Members.{saved_blocks}
+use Rattle.vm_file.specs.declared.member.Member.{Member}
 use Rattle.vm_blocks.proofs.KeepingLaws.{keeps-refl, keeps-same, keeps-trans, lacks-later, lacks-memory}
 use Rattle.vm_chains.specs.Numbers.{numbers}
 use Rattle.vm_chains.proofs.Loading.{carried_so, still_live}

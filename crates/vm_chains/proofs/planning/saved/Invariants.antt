@@ -2,7 +2,7 @@ use Rattle.std.proofs.Common.{◌≡◌, length, take}
 use Rattle.geos_model.specs.Chain.{blocks_of}
 use Rattle.geos_model.specs.Document.{handles_of}
 use Rattle.vm_blocks.specs.Keeping.{Keeps, IsSteady}
-use Rattle.vm_blocks.specs.Members.{saved_blocks}
+use Rattle.vm_file.specs.Members.{saved_blocks}
 use Rattle.vm_chains.specs.Numbers.{numbers}
 use Rattle.vm_chains.proofs.planning.saved.Given as goal
 

@@ -1,4 +1,4 @@
-use Rattle.std.proofs.Common.{◌≡◌, length, ap, sym, subst, ◌∙◌, arith, is_some, not}
+use Rattle.std.proofs.Common.{◌≡◌, length, ap, sym, ◌∙◌, arith, is_some, not}
 use Rattle.geos_model.proofs.Tables.{first_gap_is, slot_at_past}
 use Rattle.vm_file.proofs.listing.first_free.Goals as goal
 

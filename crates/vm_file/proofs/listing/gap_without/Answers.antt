@@ -1,4 +1,4 @@
-use Rattle.std.proofs.Common.{◌≤◌, ◌-◌, All, ℕ, length, take, get_or, sym, subst, arith}
+use Rattle.std.proofs.Common.{◌≤◌, ◌-◌, All, ℕ, take, get_or, sym, subst, arith}
 use Rattle.std.proofs.lemmas.List.{take_more, take_all}
 use Rattle.std.proofs.lemmas.List.Elements.{All-push}
 use Rattle.geos_model.specs.declared.handle.VmHandle.{VmHandle}

@@ -1,4 +1,4 @@
-use Rattle.std.proofs.Common.{ap, sym, subst, ◌<◌, ℕ, arith}
+use Rattle.std.proofs.Common.{subst, ◌<◌, ℕ}
 use Rattle.geos_model.proofs.Tables.{first_gap_below}
 use Rattle.vm_file.proofs.listing.tightened.Goals as goal
 

@@ -2,7 +2,6 @@ use Rattle.std.proofs.Common.{◌+◌, ◌≡◌, length, sym, ap, subst, ◌∙
 use Rattle.std.proofs.lemmas.List.{get_or_default}
 use Rattle.geos_model.specs.declared.file.Extent.{Extent}
 use Rattle.vm_space.specs.Placing.{IsFirstFit}
-use Rattle.vm_file.specs.Calls.{IsPut}
 use Rattle.vm_file.specs.Writing.{AreFor}
 use Rattle.vm_file.proofs.Found.{IsPlacing, taken_with, placing_more, placing_none, placing_taken}
 use Rattle.vm_file.proofs.Imaged.{image_length}
@@ -13,15 +12,13 @@ loop-put-init c = record { count = omega arith; placing = λ taken are. subst (�
 
 pub overflow_cast-as_slice : goal.overflow_cast-as_slice
 overflow_cast-as_slice c =
-    let put : IsPut c.put-item.result = subst IsPut (sym c.put-item.is) (c.requires.puts c.loop-put.put-index _ c.loop-put-test.true) in
-    let size = image_length c.put-item.result.image put.image in
+    let size = image_length c.put-item.result.block.image c.put-item.result.block.valid in
     let same = ap length c.as_slice.ensures in
     omega (arith, size.1, same)
 
 pub take-requires-clause-in_range : goal.take-requires-clause-in_range
 take-requires-clause-in_range c =
-    let put : IsPut c.put-item.result = subst IsPut (sym c.put-item.is) (c.requires.puts c.loop-put.put-index _ c.loop-put-test.true) in
-    let size = image_length c.put-item.result.image put.image in
+    let size = image_length c.put-item.result.block.image c.put-item.result.block.valid in
     let same = ap length c.as_slice.ensures in
     (omega (arith, size.0, same), omega (arith, size.1, same))
 
@@ -29,8 +26,7 @@ pub loop-put-preserved : goal.loop-put-preserved
 loop-put-preserved c =
     let i = c.loop-put.put-index in
     let p = c.put-item.result in
-    let put : IsPut p = subst IsPut (sym c.put-item.is) (c.requires.puts i _ c.loop-put-test.true) in
-    let size = image_length p.image put.image in
+    let size = image_length p.block.image p.block.valid in
     let same = ap length c.as_slice.ensures in
     record {
       count = (let was = c.loop-put.invariant.count in let one = c.in_ok-extent.ensures.count in omega (arith, was, one));

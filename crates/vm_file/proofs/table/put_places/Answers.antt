@@ -6,7 +6,7 @@ use Rattle.vm_file.specs.Known.{IsKnown}
 use Rattle.vm_file.specs.Slots.{block_extents, kept_extents}
 use Rattle.vm_file.specs.declared.table.Place.{Place}
 use Rattle.vm_file.specs.Writing.{with_places}
-use Rattle.vm_file.specs.declared.put.PutBlock.{PutBlock}
+use Rattle.vm_file.specs.declared.member.Member.{Member}
 use Rattle.vm_file.proofs.Tables.{handle_within}
 use Rattle.vm_file.proofs.Spaces.{known-put, known_rest}
 use Rattle.vm_file.proofs.table.put_places.Goals as goal
@@ -22,7 +22,7 @@ give_back-requires c =
     let kept : List Extent = kept_extents c.args.slots.now in
     let places = c.loop-i.places in
     let put : IsPut c.index-puts-i.result = subst IsPut (sym c.index-puts-i.is) (c.requires.puts i _ c.loop-i-test.true) in
-    let handle = handle_within c.index-puts-i.result.handle.0 put.handle in
+    let handle = handle_within c.index-puts-i.result.handle.0 put in
     let within : at < length places = omega (arith, handle.0, handle.1, c.from-at.ensures, c.loop-i.invariant.long, c.requires.size) in
     let inside : i < length extents = omega (arith, c.requires.extents, c.loop-i-test.true) in
     let before : IsKnown ((e ∷ drop (i + 1) extents) ++ (block_extents places ++ kept)) c.loop-i.space = subst (λ es. IsKnown (es ++ (block_extents places ++ kept)) c.loop-i.space) (drop_more extents i d inside) c.loop-i.invariant.known in
@@ -40,12 +40,12 @@ loop-i-preserved c =
     let kept : List Extent = kept_extents c.args.slots.now in
     let places = c.loop-i.places in
     let put : IsPut c.index-puts-i.result = subst IsPut (sym c.index-puts-i.is) (c.requires.puts i _ c.loop-i-test.true) in
-    let handle = handle_within c.index-puts-i.result.handle.0 put.handle in
+    let handle = handle_within c.index-puts-i.result.handle.0 put in
     let within : at < length places = omega (arith, handle.0, handle.1, c.from-at.ensures, c.loop-i.invariant.long, c.requires.size) in
     let inside : i < length extents = omega (arith, c.requires.extents, c.loop-i-test.true) in
     let before : IsKnown ((e ∷ drop (i + 1) extents) ++ (block_extents places ++ kept)) c.loop-i.space = subst (λ es. IsKnown (es ++ (block_extents places ++ kept)) c.loop-i.space) (drop_more extents i d inside) c.loop-i.invariant.known in
-    let puts : List PutBlock = c.args.puts.now in
-    let first : drop i puts ≡ c.index-puts-i.result ∷ drop (i + 1) puts = drop_more puts i c.index-puts-i.result c.loop-i-test.true ∙ ap (λ (x : PutBlock). x ∷ drop (i + 1) puts) (sym c.index-puts-i.is) in
+    let puts : List Member = c.args.puts.now in
+    let first : drop i puts ≡ c.index-puts-i.result ∷ drop (i + 1) puts = drop_more puts i c.index-puts-i.result c.loop-i-test.true ∙ ap (λ (x : Member). x ∷ drop (i + 1) puts) (sym c.index-puts-i.is) in
     record {
       long = length-set places at (Some p) ∙ c.loop-i.invariant.long;
       filled = ap₂ (λ (n : ℕ) (x : Place). with_places (drop (i + 1) puts) (drop (i + 1) extents) (set places (n - 1) (Some x))) c.from-at.ensures c.placed_at.ensures

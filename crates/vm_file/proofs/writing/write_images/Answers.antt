@@ -1,5 +1,7 @@
 use Rattle.std.proofs.Common.{◌<◌, length, IsTrue, sym, ap, subst, ◌∙◌, arith}
 use Rattle.std.proofs.lemmas.List.{get_or_default}
+use Rattle.geos_model.specs.Image.{image}
+use Rattle.vm_file.specs.declared.member.Member.{Member}
 use Rattle.vm_file.proofs.Writes.{fills_more, written_more}
 use Rattle.vm_file.proofs.writing.write_images.Goals as goal
 
@@ -26,5 +28,5 @@ loop-i-preserved g c =
           (c.write_extent.ensures.elsewhere (still so)) (λ file was. c.write_extent.ensures.leaves file (still so) was) (λ file was. c.write_extent.ensures.crash file (still so) was) (c.loop-i.invariant.fills so);
       written = λ so.
           written_more c.args.slots.now extents c.args.puts.now (g.S.Store.facts c.args.store.now) (g.S.Store.facts c.loop-i.store) (g.S.Store.facts c.write_extent.new.store) i _ inside (get_or_default extents i _ _ inside)
-          (c.write_extent.ensures.elsewhere (still so)) _ c.requires.extents c.loop-i-test.true c.as_slice.result.now (λ p. c.as_slice.ensures ∙ ap (λ x. x.image) (c.index-puts-i.is ∙ get_or_default c.args.puts.now i _ p c.loop-i-test.true)) (c.in_ok-write_extent.ensures.written (still so)) (c.loop-i.invariant.written so);
+          (c.write_extent.ensures.elsewhere (still so)) _ c.requires.extents c.loop-i-test.true c.as_slice.result.now (λ p. c.as_slice.ensures ∙ ap (λ (x : Member). image x.block.image) (c.index-puts-i.is ∙ get_or_default c.args.puts.now i _ p c.loop-i-test.true)) (c.in_ok-write_extent.ensures.written (still so)) (c.loop-i.invariant.written so);
     }

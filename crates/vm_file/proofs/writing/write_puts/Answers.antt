@@ -5,8 +5,8 @@ use Rattle.vm_file.proofs.KeptBytes.{all_right}
 use Rattle.vm_file.proofs.Writes.{for_fewer, spared_by}
 use Rattle.vm_file.proofs.writing.write_puts.Goals as goal
 
-pub place_images-requires-clause-few : goal.place_images-requires-clause-few
-place_images-requires-clause-few g c = let count = c.in_ok-space.ensures.count in let few = c.requires.few in omega (arith, count, few)
+pub place_images-requires : goal.place_images-requires
+place_images-requires g c = let count = c.in_ok-space.ensures.count in let few = c.requires.few in omega (arith, count, few)
 
 pub write_images-requires-clause-extents : goal.write_images-requires-clause-extents
 write_images-requires-clause-extents g c =

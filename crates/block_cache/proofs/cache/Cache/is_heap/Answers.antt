@@ -1,4 +1,4 @@
-use Rattle.std.proofs.Common.{◌≡◌, true, sym, ap, ◌∙◌}
+use Rattle.std.proofs.Common.{◌≡◌, sym, ap, ◌∙◌}
 use Rattle.geos_model.specs.Document.{is_heap, is_live}
 use Rattle.block_cache.proofs.Overlay.{cover, heap_by, get-overlay, overlay_live}
 use Rattle.block_cache.proofs.cache.Cache.is_heap.Goals as goal

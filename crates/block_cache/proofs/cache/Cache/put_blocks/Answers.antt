@@ -1,11 +1,9 @@
-use Rattle.std.proofs.Common.{◌≡◌, List, All, true, false, IsTrue, None, sym, ap, subst, ◌∙◌}
-use Rattle.std.specs.Prelude.{Result, Ok, Err, MatchResult}
+use Rattle.std.proofs.Common.{All, sym, ap, subst, ◌∙◌}
+use Rattle.std.specs.Prelude.{MatchResult}
 use Rattle.std.proofs.lemmas.List.Elements.{All-weaker}
 use Rattle.vm_file.specs.Calls.{put_all}
-use Rattle.vm_file.specs.Disk.{Drifts}
 use Rattle.vm_file.specs.Effects.{KeepsFile}
-use Rattle.vm_file.specs.declared.put.PutBlock.{PutBlock}
-use Rattle.block_cache.specs.Frames.{held, covered, overlay}
+use Rattle.block_cache.specs.Frames.{held, covered}
 use Rattle.block_cache.specs.State.{CacheState, seen, is_resident}
 use Rattle.block_cache.proofs.Blocks.{IsAway}
 use Rattle.block_cache.proofs.Seats.{none_held, resident_is}

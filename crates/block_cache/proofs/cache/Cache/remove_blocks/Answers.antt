@@ -1,10 +1,9 @@
-use Rattle.std.proofs.Common.{◌≡◌, ◌≢◌, ℕ, List, All, [], refl, sym, ap, subst, ◌∙◌}
-use Rattle.geos_model.specs.Document.{Document}
+use Rattle.std.proofs.Common.{◌≢◌, ℕ, All, refl, sym, ap, subst, ◌∙◌}
 use Rattle.vm_file.specs.Calls.{remove_all}
 use Rattle.vm_file.specs.Disk.{FileState}
 use Rattle.lru.specs.LruCache.{LruCache}
 use Rattle.block_cache.specs.State.{CacheState, seats_without}
-use Rattle.block_cache.specs.Frames.{seats, overlay, frames_without, AreKept}
+use Rattle.block_cache.specs.Frames.{seats, overlay, AreKept}
 use Rattle.block_cache.specs.declared.frame.Frame.{Frame}
 use Rattle.block_cache.proofs.Blocks.{overlay_without, kept_without, seats-without}
 use Rattle.block_cache.proofs.Overlay.{overlay_map}

@@ -1,8 +1,6 @@
-use Rattle.std.proofs.Common.{◌≡◌, ◌⊎◌, true, false, inl, inr, IsTrue, sym, ap, subst, ◌∙◌}
+use Rattle.std.proofs.Common.{false, IsTrue, sym, ap, subst, ◌∙◌}
 use Rattle.geos_model.specs.Document.{IsValid, is_live}
-use Rattle.vm_file.specs.Disk.{IsListed, IsSettled, Numbered}
-use Rattle.vm_file.specs.Calls.{last_sequence}
-use Rattle.block_cache.specs.Frames.{overlay}
+use Rattle.vm_file.specs.Disk.{IsListed, IsSettled}
 use Rattle.block_cache.specs.State.{CacheState, is_resident}
 use Rattle.block_cache.proofs.Overlay.{overlay_live, listed_under}
 use Rattle.block_cache.proofs.Seats.{frame_by, resident_is}

@@ -1,6 +1,6 @@
 use Rattle.std.proofs.Common.{◌≡◌, ◌≤◌, ◌*◌, take}
 use Rattle.geos_model.specs.Cost.{images_length}
-use Rattle.vm_blocks.specs.Members.{saved_blocks}
+use Rattle.vm_file.specs.Members.{saved_blocks}
 use Rattle.vm_blocks.proofs.member.Members.weight.Given as goal
 
 abbrev pub invariant-loop-member : goal.invariant-loop-member

@@ -1,4 +1,4 @@
-use Rattle.std.proofs.Common.{ℕ, ◌+◌, ap, sym, ◌∙◌, arith}
+use Rattle.std.proofs.Common.{◌+◌, ap, sym, ◌∙◌, arith}
 use Rattle.std.specs.FinMap.{get}
 use Rattle.geos_model.specs.Document.{next_handle}
 use Rattle.geos_model.proofs.Table.{first_gap}

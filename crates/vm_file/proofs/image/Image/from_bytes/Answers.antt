@@ -1,4 +1,4 @@
-use Rattle.std.proofs.Common.{List, ℕ, subst}
+use Rattle.std.proofs.Common.{subst}
 use Rattle.vm_file.specs.Images.{IsImage}
 use Rattle.vm_file.proofs.ImageLemmas.{some_image}
 use Rattle.vm_file.proofs.image.Image.from_bytes.Goals as goal

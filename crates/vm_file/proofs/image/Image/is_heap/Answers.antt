@@ -1,4 +1,4 @@
-use Rattle.std.proofs.Common.{◌≡◌, ◌<◌, ℕ, List, length, sym, subst, ap, ◌∙◌}
+use Rattle.std.proofs.Common.{◌<◌, ℕ, List, length, sym, subst, ap, ◌∙◌}
 use Rattle.geos_model.specs.Document.{is_heap_body}
 use Rattle.geos_model.specs.Image.{body_read}
 use Rattle.vm_file.proofs.ImageLemmas.{some_byte, kind_is}
