@@ -1,5 +1,5 @@
 -- A body of a block in memory that is lent, to be changed.
-use Rattle.std.proofs.Common.{◌≡◌, ◌≢◌, ℕ, Bool, true, false, cond, nat_eq, List, Option, None, Some, is_some, unwrap_or, inl, inr, refl, sym, ap, ◌∙◌, eq-eqb}
+use Rattle.std.proofs.Common.{◌≡◌, ◌≤◌, ◌≢◌, ℕ, Bool, true, false, cond, nat_eq, List, Option, None, Some, is_some, unwrap_or, inl, inr, refl, sym, ap, subst, ◌∙◌, eq-eqb}
 use Rattle.std.proofs.lemmas.Bool.{cases_eq, ne_eqb}
 use Rattle.std.proofs.lemmas.Map.{lookup-set_value}
 use Rattle.std.specs.Cmp.{nat_eq_equiv}
@@ -44,13 +44,14 @@ module _ (es : List (ℕ × Frame)) (h : ℕ) (f : Frame) (here : held es h ≡ 
               ∙ sym (get-put_other over.blocks h (record { user_id = user_id_of over h; body = body_of g.body }) q other)
         ])
 
-    pub kept_lent : (honest : Bool) → g.changed ≡ true → AreKept honest d es → AreKept honest d lent
-    kept_lent honest changed kept = record {
+    pub kept_lent : (honest : Bool) → g.locks ≡ f.locks → g.changed ≡ true → AreKept honest d es → AreKept honest d lent
+    kept_lent honest locks changed kept = record {
       each = λ q k is. elim (cases_eq q h) as (λ _. IsKept honest d q k) [
         | inl at ↦ let found : Some g ≡ Some k = sym (now_here q at) ∙ is in
             let the : g ≡ k = ap (λ o. unwrap_or o g) found in
             record {
               live = ap (is_live d) at ∙ (kept.each h f here).live;
+              few = subst (λ (x : Frame). x.locks ≤ 255) the (subst (λ n. n ≤ 255) (sym locks) (kept.each h f here).few);
               kind = λ same. let wrong : true ≡ false = sym changed ∙ ap (λ (x : Frame). x.changed) the ∙ same in absurd (cc wrong);
               clean = λ so same. let wrong : true ≡ false = sym changed ∙ ap (λ (x : Frame). x.changed) the ∙ same in absurd (cc wrong);
             }

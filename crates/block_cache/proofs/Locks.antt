@@ -1,21 +1,23 @@
 -- What stays locked, where blocks come into memory and go out of it.
-use Rattle.std.proofs.Common.{◌≡◌, ◌≢◌, ◌⊎◌, ℕ, ◌+◌, ◌≤◌, ◌==◌, Bool, true, false, not, cond, nat_eq, List, [], ◌∷◌, Option, None, Some, unwrap_or, Result, Ok, Err, OnOk, OnErr, All, inl, inr, refl, sym, ap, subst, ◌∙◌, arith, eq-eqb, eqb-true}
-use Rattle.std.proofs.lemmas.Bool.{cases_eq, ne_eqb}
-use Rattle.std.proofs.lemmas.List.Elements.{All-head, All-tail}
+use Rattle.std.proofs.Common.{◌≡◌, ◌⊎◌, ℕ, ◌+◌, ◌≤◌, ◌==◌, Bool, true, false, not, cond, nat_eq, List, [], ◌∷◌, map, Option, None, Some, unwrap_or, Result, Ok, Err, OnOk, OnErr, inl, inr, refl, sym, ap, subst, ◌∙◌, arith, is_some, eq-eqb, eqb-true, leb-true}
+use Rattle.std.specs.Prelude.{◌&&◌, ◌||◌, ◌<◌, length}
+use Rattle.std.proofs.lemmas.Bool.{and_parts, cases_eq, ne_eqb}
 use Rattle.std.proofs.lemmas.List.Sums.{sum_by-cons}
 use Rattle.std.proofs.lemmas.Map.{lookup-none, lookup-remove_entry}
 use Rattle.std.proofs.lemmas.Map.Entries.{none_past_head}
-use Rattle.std.proofs.lemmas.Map.Keys.{IsDistinct-tail}
+use Rattle.std.proofs.lemmas.Map.Keys.{IsDistinct-head, IsDistinct-tail}
 use Rattle.std.specs.Cmp.{nat_eq_equiv}
-use Rattle.std.specs.List.{IsDistinct}
+use Rattle.std.specs.List.{AllByRecursion, IsDistinct, list_any}
 use Rattle.std.specs.Map.{lookup, lookup_entry, remove_entry, keys_of}
-use Rattle.std.specs.Option.{option_map_or}
+use Rattle.std.specs.Option.{option_map, option_map_or}
+use Rattle.geos_model.specs.Document.{Document}
+use Rattle.geos_model.specs.ElementArray.{all_distinct}
 use Rattle.geos_model.specs.declared.fault.Fault.{Fault}
-use Rattle.geos_model.specs.declared.handle.VmHandle.{VmHandle}
 use Rattle.lru.specs.LruCache.{promoted}
-use Rattle.block_cache.specs.State.{Seat, is_locked, locks_of, locked_count, victim, evicted, seats_without, KeepsLocks}
-use Rattle.block_cache.specs.Frames.{seats}
+use Rattle.block_cache.specs.State.{Seat, is_resident, is_locked, locks_of, locked_count, all_locked, victim, evicted, KeepsLocks}
+use Rattle.block_cache.specs.Frames.{held, seats, IsKept, AreKept}
 use Rattle.block_cache.specs.declared.frame.Frame.{Frame}
+use Rattle.block_cache.proofs.Seats.{lookup-seats, fewer_locked}
 
 pub keys-seats : (es : List (ℕ × Frame)) → keys_of (seats es) ≡ keys_of es
 keys-seats [] = refl
@@ -142,36 +144,88 @@ keeps_either (Err x) h b ss ts distinct absent ok err = elim err as (λ _. Keeps
   | inr less ↦ subst (KeepsLocks ss) (sym less) (keeps_evicted ss distinct)
 ]
 
--- blocks that go from the document
+-- No block is in memory twice, and each is locked 255 times at most.
 
-fewer_by : (test : ℕ → Bool) (ss : List Seat) → locked_count (remove_entry test ss) ≤ locked_count ss
-fewer_by test [] = omega arith
-fewer_by test (s ∷ ss) =
-    let all = counts s ss in
-    let rest = fewer_by test ss in
-    elim (test s.0) as (λ b. locked_count (cond b ss (s ∷ remove_entry test ss)) ≤ locked_count (s ∷ ss)) [
-      | true ↦ omega (arith, all)
-      | false ↦ let left = counts s (remove_entry test ss) in omega (arith, all, left, rest)
-    ]
+none_met : (x : ℕ) (xs : List ℕ) → AllByRecursion (λ y. nat_eq x y ≡ false) xs → list_any (λ y. x == y) xs ≡ false
+none_met x [] none = refl
+none_met x (y ∷ ys) none = ap (λ b. b || list_any (λ y. x == y) ys) none.0 ∙ none_met x ys none.1
 
--- no more are locked
-pub fewer_locked_without : (handles : List VmHandle) (ss : List Seat) → locked_count (seats_without handles ss) ≤ locked_count ss
-fewer_locked_without [] ss = omega arith
-fewer_locked_without (h ∷ handles) ss =
-    let one = fewer_by (nat_eq h.0) ss in
-    let rest = fewer_locked_without handles (remove_entry (nat_eq h.0) ss) in
-    omega (arith, one, rest)
+all_apart : (xs : List ℕ) → IsDistinct nat_eq xs → all_distinct xs ≡ true
+all_apart [] distinct = refl
+all_apart (x ∷ xs) distinct =
+    ap (λ b. not b && all_distinct xs) (none_met x xs (IsDistinct-head nat_eq x xs distinct)) ∙ all_apart xs (IsDistinct-tail nat_eq x xs distinct)
 
-stays_by : (h k : ℕ) (ss : List Seat) → h ≢ k → lookup (nat_eq h) (remove_entry (nat_eq k) ss) ≡ lookup (nat_eq h) ss
-stays_by h k [] other = refl
-stays_by h k (s ∷ ss) other = (elim (nat_eq k s.0) as (λ b. nat_eq k s.0 ≡ b → lookup (nat_eq h) (cond b ss (s ∷ remove_entry (nat_eq k) ss)) ≡ lookup (nat_eq h) (s ∷ ss)) [
-  | true ↦ λ at. sym (ap (λ b. cond b (Some s.1) (lookup (nat_eq h) ss)) (ne_eqb h s.0 (λ is. other (is ∙ sym (eqb-true k s.0 at)))))
-  | false ↦ λ at. ap (λ o. cond (nat_eq h s.0) (Some s.1) o) (stays_by h k ss other)
-]) refl
+pub seats_apart : (es : List (ℕ × Frame)) → IsDistinct nat_eq (keys_of es) → all_distinct (map (λ s. s.0) (seats es)) ≡ true
+seats_apart es distinct = ap all_distinct (keys-seats es) ∙ all_apart (keys_of es) distinct
 
--- another block stays in memory
-pub stays_without : (h : ℕ) (handles : List VmHandle) (ss : List Seat) → All (λ k. k.0 ≢ h) handles → lookup (nat_eq h) (seats_without handles ss) ≡ lookup (nat_eq h) ss
-stays_without h [] ss others = refl
-stays_without h (k ∷ handles) ss others =
-    stays_without h handles (remove_entry (nat_eq k.0) ss) (All-tail (λ k. k.0 ≢ h) k handles others)
-    ∙ stays_by h k.0 ss (λ is. All-head (λ k. k.0 ≢ h) k handles others (sym is))
+pub few_locks : (honest : Bool) (d : Document) (es : List (ℕ × Frame)) → AreKept honest d es → (h : ℕ) → locks_of (seats es) h ≤ 255
+few_locks honest d es kept h = subst (λ (o : Option ℕ). unwrap_or o 0 ≤ 255) (sym (lookup-seats h es)) (by (held es h) (kept.each h))
+  where
+    by : (o : Option Frame) → ((f : Frame) → o ≡ Some f → IsKept honest d h f) → unwrap_or (option_map (λ (f : Frame). f.locks) o) 0 ≤ 255
+    by None each = omega arith
+    by (Some f) each = (each f refl).few
+
+-- A block goes that isn't locked: the others stay locked as often as before.
+
+apart_first : (x : ℕ) (xs : List ℕ) → list_any (λ y. x == y) xs ≡ false → AllByRecursion (λ y. nat_eq x y ≡ false) xs
+apart_first x [] none = tt
+apart_first x (y ∷ ys) none = by (nat_eq x y) refl (apart_first x ys) none
+  where
+    by : (b : Bool) → nat_eq x y ≡ b → (list_any (λ y. x == y) ys ≡ false → AllByRecursion (λ y. nat_eq x y ≡ false) ys)
+        → b || list_any (λ y. x == y) ys ≡ false → AllByRecursion (λ y. nat_eq x y ≡ false) (y ∷ ys)
+    by true at on wrong = absurd (cc wrong)
+    by false at on more = (at, on more)
+
+isnt : (b : Bool) → not b ≡ true → b ≡ false
+isnt true wrong = absurd (cc wrong)
+isnt false is = refl
+
+from_apart : (xs : List ℕ) → all_distinct xs ≡ true → IsDistinct nat_eq xs
+unfolding IsDistinct
+from_apart [] distinct = tt
+from_apart (x ∷ xs) distinct =
+    let parts = and_parts (not (list_any (λ y. x == y) xs)) (all_distinct xs) distinct in
+    (apart_first x xs (isnt (list_any (λ y. x == y) xs) parts.0), from_apart xs parts.1)
+
+none_removed : (h : ℕ) (ss : List Seat) → lookup (nat_eq h) ss ≡ None → remove_entry (nat_eq h) ss ≡ ss
+none_removed h [] none = refl
+none_removed h (s ∷ ss) none = (elim (nat_eq h s.0) as (λ b. cond b (Some s.1) (lookup (nat_eq h) ss) ≡ None → cond b ss (s ∷ remove_entry (nat_eq h) ss) ≡ s ∷ ss) [
+  | true ↦ λ wrong. absurd (cc wrong)
+  | false ↦ λ more. ap (λ l. s ∷ l) (none_removed h ss more)
+]) none
+
+pub keeps_removed : (h : ℕ) (ss : List Seat) → all_distinct (map (λ s. s.0) ss) ≡ true → locks_of ss h ≡ 0 → KeepsLocks ss (remove_entry (nat_eq h) ss)
+keeps_removed h ss distinct none = by (lookup (nat_eq h) ss) refl none
+  where
+    by : (o : Option ℕ) → lookup (nat_eq h) ss ≡ o → unwrap_or o 0 ≡ 0 → KeepsLocks ss (remove_entry (nat_eq h) ss)
+    by None is none = subst (KeepsLocks ss) (sym (none_removed h ss is)) (keeps_refl ss)
+    by (Some n) is none =
+        let free : lookup (nat_eq h) ss ≡ Some 0 = is ∙ ap (λ n. Some n) none in
+        record { each = locks_removed h ss (from_apart (keys_of ss) distinct) free; count = count_removed h ss free }
+
+-- Where as many are locked as there are frames, each that is in memory is.
+
+positive : (n : ℕ) → not (n == 0) ≡ true → 0 < n
+positive n is = elim (cases_eq n 0) as (λ _. 0 < n) [
+  | inl none ↦ let wrong : true ≡ false = sym is ∙ ap not (eq-eqb n 0 none) in absurd (cc wrong)
+  | inr some ↦ omega (arith, some)
+]
+
+all_held : (h : ℕ) (ss : List Seat) → length ss ≤ locked_count ss → is_some (lookup (nat_eq h) ss) ≡ true → 0 < locks_of ss h
+all_held h [] all there = absurd (cc there)
+all_held h (s ∷ ss) all there =
+    let sum = counts s ss in
+    let most = fewer_locked ss in
+    (elim (is_locked s) as (λ b. is_locked s ≡ b → 0 < locks_of (s ∷ ss) h) [
+      | true ↦ λ locked.
+          let single : ◌≡◌ {A = ℕ} (one s) 1 = ap (λ b. cond b 1 0) locked in
+          let rest : length ss ≤ locked_count ss = omega (arith, sum, single, all) in
+          (elim (nat_eq h s.0) as (λ b. is_some (cond b (Some s.1) (lookup (nat_eq h) ss)) ≡ true → 0 < unwrap_or (cond b (Some s.1) (lookup (nat_eq h) ss)) 0) [
+            | true ↦ λ _. positive s.1 locked
+            | false ↦ λ more. all_held h ss rest more
+          ]) there
+      | false ↦ λ free. let none : ◌≡◌ {A = ℕ} (one s) 0 = ap (λ b. cond b 1 0) free in absurd (omega (arith, sum, none, most, all))
+    ]) refl
+
+pub each_locked : (frames : ℕ) (ss : List Seat) (h : ℕ) → length ss ≤ frames → all_locked frames ss ≡ true → is_resident ss h ≡ true → 0 < locks_of ss h
+each_locked frames ss h few full there = let most = leb-true frames (locked_count ss) full in all_held h ss (omega (arith, few, most)) there

@@ -1,5 +1,5 @@
 -- The document under frames.
-use Rattle.std.proofs.Common.{◌≡◌, ◌≢◌, ◌⊎◌, ℕ, ◌<◌, nat_eq, Bool, true, false, cond, IsTrue, List, [], ◌∷◌, map, Option, None, Some, is_some, refl, sym, ap, subst, ◌∙◌, inl, inr, unwrap_or, eq-eqb}
+use Rattle.std.proofs.Common.{◌≡◌, ◌≢◌, ◌⊎◌, ◌≤◌, ℕ, ◌<◌, nat_eq, Bool, true, false, cond, IsTrue, List, [], ◌∷◌, map, Option, None, Some, is_some, refl, sym, ap, subst, ◌∙◌, inl, inr, unwrap_or, eq-eqb}
 use Rattle.std.proofs.lemmas.Bool.{cases_eq, ne_eqb}
 use Rattle.std.specs.Option.{option_map_or, option_map}
 use Rattle.std.specs.Map.{set_value}
@@ -134,6 +134,7 @@ pub kept_drifts : (honest : Bool) (es : List (ℕ × Frame)) (d e : Document) �
 kept_drifts honest es d e drifts kept = record {
   each = λ h f is. record {
     live = drifts.live h ∙ (kept.each h f is).live;
+    few = (kept.each h f is).few;
     kind = λ same. (kept.each h f is).kind same ∙ sym (drifts.kinds h);
     clean = λ so same. ap (λ (x : Document). (block_at x h).body) (drifts.same so) ∙ (kept.each h f is).clean so same;
   };
@@ -175,10 +176,10 @@ kept_more honest es d h f kept one = record {
   ];
 }
 
-pub fetched : (honest : Bool) (es : List (ℕ × Frame)) (d : Document) (h : ℕ) (f : Frame) → AreKept honest d es → held es h ≡ None → is_live d h ≡ true → is_heap_body (body_of f.body) ≡ is_heap d h → (IsTrue honest → (block_at d h).body ≡ body_of f.body)
+pub fetched : (honest : Bool) (es : List (ℕ × Frame)) (d : Document) (h : ℕ) (f : Frame) → AreKept honest d es → held es h ≡ None → is_live d h ≡ true → f.locks ≤ 255 → is_heap_body (body_of f.body) ≡ is_heap d h → (IsTrue honest → (block_at d h).body ≡ body_of f.body)
     → Drifts honest (overlay es d) (overlay ((h, f) ∷ es) d)
-fetched honest es d h f kept absent live kind same =
-    agree honest es d ((h, f) ∷ es) d kept (kept_more honest es d h f kept (record { live = live; kind = λ _. kind; clean = λ so _. same so })) (λ _. refl) (λ _. refl) refl
+fetched honest es d h f kept absent live few kind same =
+    agree honest es d ((h, f) ∷ es) d kept (kept_more honest es d h f kept (record { live = live; few = few; kind = λ _. kind; clean = λ so _. same so })) (λ _. refl) (λ _. refl) refl
     (λ q. elim (cases_eq q h) as (λ _. heap_by (cover (held ((h, f) ∷ es) q) d q) ≡ heap_by (cover (held es q) d q)) [
       | inl here ↦ ap (λ o. heap_by (cover o d q)) (held_here (h, f) es q here) ∙ kind ∙ sym (ap (is_heap d) here) ∙ sym (ap (λ o. heap_by (cover o d q)) (ap (held es) here ∙ absent))
       | inr other ↦ ap (λ o. heap_by (cover o d q)) (held_on (h, f) es q other)
@@ -235,7 +236,7 @@ module _ (d : Document) (h : ℕ) (body : Body) (live : is_live d h ≡ true) wh
   heap-with_other q other = ap heap_by (get-with_other q other)
 
 -- a frame is written to the file
-module _ (honest : Bool) (es : List (ℕ × Frame)) (d : Document) (h : ℕ) (f g : Frame) (fs : List (ℕ × Frame)) (e : Document) (kept : AreKept honest d es) (here : held es h ≡ Some f) (same : body_of g.body ≡ body_of f.body)
+module _ (honest : Bool) (es : List (ℕ × Frame)) (d : Document) (h : ℕ) (f g : Frame) (fs : List (ℕ × Frame)) (e : Document) (kept : AreKept honest d es) (here : held es h ≡ Some f) (same : body_of g.body ≡ body_of f.body) (locks : g.locks ≡ f.locks)
     (now : (q : ℕ) → held fs q ≡ cond (nat_eq h q) (Some g) (held es q)) (drifts : Drifts honest (with_body d h (body_of f.body)) e) where
   live : is_live d h ≡ true
   live = (kept.each h f here).live
@@ -259,12 +260,14 @@ module _ (honest : Bool) (es : List (ℕ × Frame)) (d : Document) (h : ℕ) (f 
           let the : g ≡ k = ap (λ o. unwrap_or o g) found in
           record {
             live = drifts.live q ∙ live-with_body d h (body_of f.body) live q ∙ ap (is_live d) at ∙ live;
+            few = subst (λ (x : Frame). x.locks ≤ 255) the (subst (λ n. n ≤ 255) (sym locks) (kept.each h f here).few);
             kind = λ clean. sym (ap (λ (x : Frame). is_heap_body (body_of x.body)) the) ∙ ap is_heap_body same ∙ sym (heap-with_body d h (body_of f.body) live q at) ∙ sym (drifts.kinds q);
             clean = λ so clean. body_now so q at ∙ ap (λ (x : Frame). body_of x.body) the;
           }
       | inr other ↦ let was = kept.each q k (sym (elsewhere q other) ∙ is) in
           record {
             live = drifts.live q ∙ live-with_body d h (body_of f.body) live q ∙ was.live;
+            few = was.few;
             kind = λ clean. was.kind clean ∙ sym (heap-with_other d h (body_of f.body) live q other) ∙ sym (drifts.kinds q);
             clean = λ so clean. ap (λ (x : Document). body_by (get x.blocks q)) (drifts.same so) ∙ ap body_by (get-with_other d h (body_of f.body) live q other) ∙ was.clean so clean;
           }
@@ -335,21 +338,22 @@ module _ (es : List (ℕ × Frame)) (h : ℕ) (g : Frame → Frame) (body : (f :
         | inr other ↦ ap (λ b. cover (cond b (option_map g (held es h)) (held es q)) d q) (ne_eqb h q (λ is. other (sym is)))
       ] ∙ sym (get-overlay es d q))
 
-  kept_by : (honest : Bool) (d : Document) (q : ℕ) (o : Option Frame) (k : Frame) → ((f : Frame) → (g f).changed ≡ false → f.changed ≡ false) → ((f : Frame) → o ≡ Some f → IsKept honest d q f) → option_map g o ≡ Some k → IsKept honest d q k
-  kept_by honest d q None k clean kept is = absurd (cc is)
-  kept_by honest d q (Some f) k clean kept is =
+  kept_by : (honest : Bool) (d : Document) (q : ℕ) (o : Option Frame) (k : Frame) → ((f : Frame) → o ≡ Some f → f.locks ≤ 255 → (g f).locks ≤ 255) → ((f : Frame) → (g f).changed ≡ false → f.changed ≡ false) → ((f : Frame) → o ≡ Some f → IsKept honest d q f) → option_map g o ≡ Some k → IsKept honest d q k
+  kept_by honest d q None k few clean kept is = absurd (cc is)
+  kept_by honest d q (Some f) k few clean kept is =
       let at : g f ≡ k = ap (λ (o : Option Frame). unwrap_or o (g f)) is in
       let was = kept f refl in
       record {
         live = was.live;
+        few = subst (λ (x : Frame). x.locks ≤ 255) at (few f refl was.few);
         kind = λ same. sym (ap (λ (x : Frame). is_heap_body (body_of x.body)) at) ∙ ap is_heap_body (body f) ∙ was.kind (clean f (ap (λ (x : Frame). x.changed) at ∙ same));
         clean = λ so same. was.clean so (clean f (ap (λ (x : Frame). x.changed) at ∙ same)) ∙ sym (body f) ∙ ap (λ (x : Frame). body_of x.body) at;
       }
 
-  pub kept_with_frame : (honest : Bool) (d : Document) → ((f : Frame) → (g f).changed ≡ false → f.changed ≡ false) → AreKept honest d es → AreKept honest d (with_frame es h g)
-  kept_with_frame honest d clean kept = record {
+  pub kept_with_frame : (honest : Bool) (d : Document) → ((f : Frame) → held es h ≡ Some f → f.locks ≤ 255 → (g f).locks ≤ 255) → ((f : Frame) → (g f).changed ≡ false → f.changed ≡ false) → AreKept honest d es → AreKept honest d (with_frame es h g)
+  kept_with_frame honest d few clean kept = record {
     each = λ q k is. elim (cases_eq q h) as (λ _. IsKept honest d q k) [
-      | inl at ↦ kept_by honest d q (held es q) k clean (kept.each q) (ap (λ j. option_map g (held es j)) at ∙ sym (ap (λ b. cond b (option_map g (held es h)) (held es q)) (eq-eqb h q (sym at))) ∙ sym (held-with_frame es h g q) ∙ is)
+      | inl at ↦ kept_by honest d q (held es q) k (λ f is. few f (sym (ap (held es) at) ∙ is)) clean (kept.each q) (ap (λ j. option_map g (held es j)) at ∙ sym (ap (λ b. cond b (option_map g (held es h)) (held es q)) (eq-eqb h q (sym at))) ∙ sym (held-with_frame es h g q) ∙ is)
       | inr other ↦ kept.each q k (sym (ap (λ b. cond b (option_map g (held es h)) (held es q)) (ne_eqb h q (λ is. other (sym is)))) ∙ sym (held-with_frame es h g q) ∙ is)
     ];
   }

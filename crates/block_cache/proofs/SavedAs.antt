@@ -20,7 +20,7 @@ use Rattle.block_cache.proofs.Overlay.{kept_drifts, overlay_drifts, overlay_live
 -- what is less honest
 
 kept_less : (honest less : Bool) (d : Document) (es : List (ℕ × Frame)) → (IsTrue less → IsTrue honest) → AreKept honest d es → AreKept less d es
-kept_less honest less d es so kept = record { each = λ h f is. record { live = (kept.each h f is).live; kind = (kept.each h f is).kind; clean = λ is_so. (kept.each h f is).clean (so is_so) } }
+kept_less honest less d es so kept = record { each = λ h f is. record { live = (kept.each h f is).live; few = (kept.each h f is).few; kind = (kept.each h f is).kind; clean = λ is_so. (kept.each h f is).clean (so is_so) } }
 
 drifts_less : (honest less : Bool) (d e : Document) → (IsTrue less → IsTrue honest) → Drifts honest d e → Drifts less d e
 drifts_less honest less d e so drifts = record { live = drifts.live; user_ids = drifts.user_ids; kinds = drifts.kinds; map_block = drifts.map_block; same = λ is_so. drifts.same (so is_so) }

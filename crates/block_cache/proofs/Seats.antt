@@ -1,5 +1,5 @@
 -- The order of use.
-use Rattle.std.proofs.Common.{◌≡◌, ◌⊎◌, ℕ, suc, ◌-◌, ◌<◌, ◌≤◌, ◌==◌, nat_eq, nat_le, nat_lt, Bool, true, false, cond, not, List, [], ◌∷◌, length, take, Option, None, Some, is_some, refl, sym, ap, ◌∙◌, arith, inl, inr, unwrap_or, le-leb, reverse, eq-eqb, eqb-true, leb-true, lt-ltb}
+use Rattle.std.proofs.Common.{◌≡◌, ◌⊎◌, ℕ, suc, ◌-◌, ◌<◌, ◌≤◌, ◌==◌, nat_eq, nat_le, nat_lt, Bool, true, false, cond, not, List, [], ◌∷◌, length, take, Option, None, Some, is_some, refl, sym, ap, subst, ◌∙◌, arith, inl, inr, unwrap_or, le-leb, reverse, eq-eqb, eqb-true, leb-true, lt-ltb}
 use Rattle.std.specs.Prelude.{find, count_by, MatchOption}
 use Rattle.std.specs.List.{IsDistinct}
 use Rattle.std.specs.Cmp.{nat_eq_equiv}
@@ -257,6 +257,9 @@ none_held (Some f) is = absurd (cc is)
 pub locks_below : (o : Option Frame) (n : ℕ) → unwrap_or (option_map (λ f. f.locks) o) 0 < n → MatchOption o (Unit {0}) (λ f. f.locks < n)
 locks_below None n low = tt
 locks_below (Some f) n low = low
+
+pub locks_under : (o : Option Frame) (n : ℕ) (f : Frame) → o ≡ Some f → MatchOption o (Unit {0}) (λ f. f.locks < n) → f.locks < n
+locks_under o n f is low = subst (λ o. MatchOption o (Unit {0}) (λ f. f.locks < n)) is low
 
 pub locks_some : (o : Option Frame) → 0 < unwrap_or (option_map (λ f. f.locks) o) 0 → MatchOption o (Unit {0}) (λ f. 0 < f.locks)
 locks_some None low = tt

@@ -20,7 +20,7 @@ overlay_set_map (e ∷ es) d m = ap (λ (x : Document). with_body x e.0 (body_of
 
 pub kept_set_map : (honest : Bool) (es : List (ℕ × Frame)) (d : Document) (m : ℕ) → AreKept honest d es → AreKept honest (record d { map_block = m }) es
 kept_set_map honest es d m kept = record {
-  each = λ h f is. record { live = (kept.each h f is).live; kind = (kept.each h f is).kind; clean = (kept.each h f is).clean };
+  each = λ h f is. record { live = (kept.each h f is).live; few = (kept.each h f is).few; kind = (kept.each h f is).kind; clean = (kept.each h f is).clean };
 }
 
 -- another user ID of a block
@@ -65,11 +65,13 @@ module _ (u : ℕ) where
       each = λ q f is. elim (cases_eq q h) as (λ _. IsKept honest (with_user_id d h u) q f) [
         | inl here ↦ record {
           live = ap is_some (get-named d h live q here);
+          few = (kept.each q f is).few;
           kind = λ same. (kept.each q f is).kind same ∙ ap (λ k. heap_by (get d.blocks k)) here ∙ sym (heap_body (get d.blocks h)) ∙ sym (ap heap_by (get-named d h live q here));
           clean = λ so same. ap body_by (get-named d h live q here) ∙ ap (λ k. body_by (get d.blocks k)) (sym here) ∙ (kept.each q f is).clean so same;
         }
         | inr other ↦ record {
           live = ap is_some (get-unnamed d h live q other) ∙ (kept.each q f is).live;
+          few = (kept.each q f is).few;
           kind = λ same. (kept.each q f is).kind same ∙ sym (ap heap_by (get-unnamed d h live q other));
           clean = λ so same. ap body_by (get-unnamed d h live q other) ∙ (kept.each q f is).clean so same;
         }

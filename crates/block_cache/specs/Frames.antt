@@ -1,5 +1,5 @@
 -- The frames over the document of the file.
-use Rattle.std.specs.Prelude.{◌≡◌, ℕ, Bool, true, false, IsTrue, nat_eq, List, [], ◌∷◌, map, Option, Some, count_by}
+use Rattle.std.specs.Prelude.{◌≡◌, ◌≤◌, ℕ, Bool, true, false, IsTrue, nat_eq, List, [], ◌∷◌, map, Option, Some, count_by}
 use Rattle.std.specs.Option.{option_map_or}
 use Rattle.std.specs.Map.{lookup, remove_entry, set_value}
 use Rattle.vm_store.specs.Facts.{StoreFacts}
@@ -50,9 +50,11 @@ pub record IsChangedBody (es : List (ℕ × Frame)) (h : ℕ) (body : BlockBody)
   pub changed : frame.changed ≡ true
   pub same : frame.body ≡ body
 
--- A frame is of a block of the file. An unchanged one has the file's body, or, over a store that isn't honest, one of its kind.
+-- A frame is of a block of the file, locked 255 times at most. An unchanged one has the file's body, or, over a store that isn't honest,
+-- one of its kind.
 pub record IsKept (honest : Bool) (file : Document) (h : ℕ) (f : Frame) : Type 0 where
   pub live : is_live file h ≡ true
+  pub few : f.locks ≤ 255
   pub kind : f.changed ≡ false → is_heap_body (body_of f.body) ≡ is_heap file h
   pub clean : IsTrue honest → f.changed ≡ false → (block_at file h).body ≡ body_of f.body
 

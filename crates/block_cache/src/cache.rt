@@ -5,6 +5,7 @@ ghost use Rattle.std.specs.Map.{set_value};
 ghost use Rattle.std.specs.Option.{option_map};
 ghost use Rattle.std.specs.Result.{IsErrAnd};
 ghost use Rattle.geos_model.specs.Document.{IsValid, is_heap, is_vm_handle, is_live, next_handle, user_id_of, with_user_id};
+ghost use Rattle.geos_model.specs.ElementArray.{all_distinct};
 ghost use Rattle.geos_model.specs.Reply.{found};
 ghost use Rattle.vm_file.specs.Calls.{IsPut, put_all, remove_all, last_sequence};
 ghost use Rattle.vm_file.specs.Disk.{IsListed, IsSettled, Numbered};
@@ -380,6 +381,8 @@ impl<S: Store> Cache<S> {
         ensures sequence { (1 ≤ self.now.disk.sequence) × (self.now.disk.sequence ≤ last_sequence) }
         ensures resident { (h : ℕ) → is_resident self.now.resident h ≡ true → is_live self.now.document h ≡ true }
         ensures room { length self.now.resident ≤ self.now.frames }
+        ensures distinct { all_distinct (map (λ s. s.0) self.now.resident) ≡ true }
+        ensures counts { (h : ℕ) → locks_of self.now.resident h ≤ 255 }
     {
         let _count = self.frames.len();
         self.file.validity();

@@ -49,11 +49,17 @@ fn tree(alloc: Global) -> Result<Blocks, Fault> {
 
 fn copied(alloc: Global) -> Result<Members, Fault> {
     let mut blocks = tree(alloc)?;
+    if blocks.all_locked() {
+        return Err(Fault::CacheFull);
+    }
     copy_plan(alloc, &mut blocks, ROOT)
 }
 
 fn freed(alloc: Global) -> Result<Members, Fault> {
     let mut blocks = tree(alloc)?;
+    if blocks.all_locked() {
+        return Err(Fault::CacheFull);
+    }
     free_plan(alloc, &mut blocks, ROOT)
 }
 

@@ -1,12 +1,15 @@
 -- Edits of chains, as changes of many blocks.
-use Rattle.std.proofs.Common.{◌≡◌, ◌<◌, ◌≤◌, ℕ, List, [], ◌∷◌, length, get_or, None, refl, ap, ◌∙◌, arith, ltb-false}
-use Rattle.geos_model.specs.Refusal.{first_refusal}
-use Rattle.geos_model.specs.Chain.{chain_blocks, blocks_of, copies_of, free_handles, new_handles, copy_conditions, free_conditions}
+use Rattle.std.proofs.Common.{◌≡◌, ◌<◌, ◌≤◌, ◌==◌, ℕ, Bool, true, List, [], ◌∷◌, ◌++◌, length, get_or, nat_lt, None, Some, refl, sym, ap, ◌∙◌, arith, ltb-false}
+use Rattle.std.specs.List.{list_any}
+use Rattle.geos_model.specs.Refusal.{Conditions, first_refusal}
+use Rattle.geos_model.specs.Chain.{chain_blocks, blocks_of, copies_of, free_handles, new_handles, on_chain, copy_conditions, free_conditions}
 use Rattle.geos_model.specs.Cost.{images_length}
 use Rattle.geos_model.specs.Document.{Block, Document, handles_of, with_blocks, without_blocks}
 use Rattle.geos_model.specs.declared.command.Done.TheVariants as done
 use Rattle.geos_model.specs.declared.command.Edit.TheVariants as edits
-use Rattle.geos_model.specs.declared.fault.Fault.TheVariants.{NoHandles}
+use Rattle.geos_model.specs.Meaning.{conditions}
+use Rattle.geos_model.specs.declared.fault.Fault.{Fault}
+use Rattle.geos_model.specs.declared.fault.Fault.TheVariants.{CacheFull, IsMap, NoHandles}
 use Rattle.geos_model.specs.declared.handle.VmHandle.{VmHandle}
 use Rattle.geos_model.proofs.ChainEdits.{blocks_of-handles, copies_of-handles}
 use Rattle.geos_model.proofs.Refusals.{none_applies, or_none}
@@ -15,7 +18,20 @@ use Rattle.vm_file.specs.Members.{saved_blocks}
 use Rattle.vm_blocks.specs.declared.change.Change.TheVariants.{BlocksIn, BlocksOut}
 use Rattle.vm_file.specs.declared.member.Member.{Member}
 use Rattle.vm_blocks.specs.declared.member.Members.{Members}
+use Rattle.doc_edits.specs.Found.{AreLate}
 use Rattle.doc_edits.specs.Planning.{Plans}
+
+-- What refuses each command along a chain refuses these edits.
+module _ (d : Document) (root : VmHandle) (full : Bool) (fault : Fault) (refuses : (rest : Conditions) → AreLate rest → first_refusal ((CacheFull, full) ∷ on_chain d root.0 ++ rest) ≡ Some fault) where
+  pub copy_refused : first_refusal ((CacheFull, full) ∷ conditions (edits.CopyChain root) d) ≡ Some fault
+  copy_refused = refuses ((NoHandles, nat_lt (length (free_handles d)) (length (chain_blocks d root.0))) ∷ []) refl
+
+  pub free_refused : first_refusal ((CacheFull, full) ∷ conditions (edits.FreeChain root) d) ≡ Some fault
+  free_refused = refuses ((IsMap, list_any (λ x. x == d.map_block) (chain_blocks d root.0)) ∷ []) refl
+
+-- where each frame has a locked block
+pub where_full : (cs : Conditions) (full : Bool) (fault : Fault) → full ≡ true → first_refusal ((CacheFull, full) ∷ cs) ≡ Some fault → first_refusal ((CacheFull, true) ∷ cs) ≡ Some fault
+where_full cs full fault is first = ap (λ (b : Bool). first_refusal ((CacheFull, b) ∷ cs)) (sym is) ∙ first
 
 -- what is planned under new handles
 

@@ -1,28 +1,22 @@
 -- What is first looked for in an edit: the block, its kind, and the chunk.
-use Rattle.std.proofs.Common.{◌≡◌, ◌⊎◌, ◌++◌, false, Option, Some, MatchOption, refl, sym, ap, subst, ◌∙◌, inl, inr}
-use Rattle.geos_model.specs.Refusal.{Conditions, first_refusal}
-use Rattle.geos_model.specs.Document.{Document, is_heap, is_live, is_raw}
-use Rattle.geos_model.specs.Meaning.{conditions, on_raw, on_heap, on_chunk}
-use Rattle.geos_model.specs.declared.fault.Fault.{Fault}
-use Rattle.geos_model.specs.declared.fault.Fault.TheVariants.{NoBlock}
+use Rattle.std.proofs.Common.{◌≡◌, ◌++◌, false, Option, Some, MatchOption, refl, subst}
+use Rattle.geos_model.specs.Refusal.{Conditions}
+use Rattle.geos_model.specs.Document.{Document}
+use Rattle.geos_model.specs.Machine.{Needs, NoBody, OneBody, edit_needs}
+use Rattle.geos_model.specs.Meaning.{conditions, on_block, on_raw, on_heap, on_chunk}
 use Rattle.geos_model.specs.declared.command.Edit.{Edit}
 use Rattle.geos_model.specs.declared.command.Edit.TheVariants as edits
 use Rattle.geos_model.specs.declared.handle.ChunkHandle.{ChunkHandle}
 use Rattle.geos_model.specs.declared.handle.VmHandle.{VmHandle}
 use Rattle.doc_edits.specs.Found.{AreLate}
-use Rattle.vm_blocks.specs.Kinds.{IsOfOther}
-use Rattle.doc_edits.specs.Building.{place_of, wanted}
-use Rattle.doc_edits.specs.Planning.{Refuses}
+use Rattle.doc_edits.specs.Building.{place_of, is_of_chain, wanted}
 use Rattle.doc_edits.specs.declared.planning.Wanted.{Wanted}
 use Rattle.doc_edits.specs.declared.planning.Wanted.TheVariants.{Nothing, Any, Raw, Heap}
-use Rattle.doc_edits.proofs.Refusals.{raw_other, heap_other}
+use Rattle.doc_edits.proofs.Rooms.{Begins}
 
 -- the refusals of an edit are those for its chunk, and later ones
 abbrev pub FirstOfChunk : Edit → Document → VmHandle × ChunkHandle → Type 0
 FirstOfChunk edit d p = (rest : Conditions) × AreLate rest × (conditions edit d ≡ on_chunk d p.0.0 p.1.0 ++ rest)
-
-abbrev pub FirstOfHeap : Edit → Document → VmHandle → Type 0
-FirstOfHeap edit d b = (rest : Conditions) × AreLate rest × (conditions edit d ≡ on_heap d b.0 ++ rest)
 
 chunk_cases : (edit : Edit) (d : Document) → MatchOption (place_of edit) (Unit {0}) (FirstOfChunk edit d)
 chunk_cases (edits.NewRaw b c) d = tt
@@ -61,61 +55,57 @@ chunk_cases (edits.RemoveName b c x) d = (_, refl, refl)
 pub chunk_first : (edit : Edit) (d : Document) (p : VmHandle × ChunkHandle) → place_of edit ≡ Some p → FirstOfChunk edit d p
 chunk_first edit d p is = subst (λ (o : Option (VmHandle × ChunkHandle)). MatchOption o (Unit {0}) (FirstOfChunk edit d)) is (chunk_cases edit d)
 
--- What is wanted refuses first where it isn't there.
+-- What is wanted is looked for first.
 
-abbrev FirstOfWanted : Edit → Document → Wanted → Type 0
-FirstOfWanted edit d Nothing = Unit {0}
-FirstOfWanted edit d (Any b) = is_live d b.0 ≡ false → first_refusal (conditions edit d) ≡ Some NoBlock
-FirstOfWanted edit d (Raw b) = (rest : Conditions) × AreLate rest × (conditions edit d ≡ on_raw d b.0 ++ rest)
-FirstOfWanted edit d (Heap b) = FirstOfHeap edit d b
+abbrev pub FirstOfWanted : Edit → Wanted → Type 0
+FirstOfWanted edit Nothing = Unit {0}
+FirstOfWanted edit (Any b) = Begins on_block b.0 (conditions edit)
+FirstOfWanted edit (Raw b) = Begins on_raw b.0 (conditions edit)
+FirstOfWanted edit (Heap b) = Begins on_heap b.0 (conditions edit)
 
-wanted_cases : (edit : Edit) (d : Document) → FirstOfWanted edit d (wanted edit)
-wanted_cases (edits.NewRaw b c) d = tt
-wanted_cases (edits.NewHeap b) d = tt
-wanted_cases (edits.SetUserId b c) d = tt
-wanted_cases (edits.SetMap b) d = tt
-wanted_cases (edits.CopyChain b) d = tt
-wanted_cases (edits.FreeChain b) d = tt
-wanted_cases (edits.FreeBlock b) d = λ dead. rw dead refl
-wanted_cases (edits.CopyBlock b) d = λ dead. rw dead refl
-wanted_cases (edits.WriteRaw b c x) d = (_, refl, refl)
-wanted_cases (edits.Attach b c) d = (_, refl, refl)
-wanted_cases (edits.Free b c) d = (_, refl, refl)
-wanted_cases (edits.Alloc b c) d = (_, refl, refl)
-wanted_cases (edits.CreateArray b c x) d = (_, refl, refl)
-wanted_cases (edits.CreateElementArray b c) d = (_, refl, refl)
-wanted_cases (edits.CreateNameArray b c) d = (_, refl, refl)
-wanted_cases (edits.Resize b c x) d = (_, refl, refl)
-wanted_cases (edits.Insert b c x y) d = (_, refl, refl)
-wanted_cases (edits.Delete b c x y) d = (_, refl, refl)
-wanted_cases (edits.Write b c x y) d = (_, refl, refl)
-wanted_cases (edits.InsertElement b c x y) d = (_, refl, refl)
-wanted_cases (edits.SetElement b c x y) d = (_, refl, refl)
-wanted_cases (edits.ResizeElement b c x y) d = (_, refl, refl)
-wanted_cases (edits.DeleteElements b c x y) d = (_, refl, refl)
-wanted_cases (edits.ZeroArray b c) d = (_, refl, refl)
-wanted_cases (edits.AddElement b c x) d = (_, refl, refl)
-wanted_cases (edits.AddReference b c x) d = (_, refl, refl)
-wanted_cases (edits.RemoveReference b c x) d = (_, refl, refl)
-wanted_cases (edits.DeleteElement b c x) d = (_, refl, refl)
-wanted_cases (edits.ChangeElement b c x y) d = (_, refl, refl)
-wanted_cases (edits.AddName b c x y z) d = (_, refl, refl)
-wanted_cases (edits.ChangeName b c x y) d = (_, refl, refl)
-wanted_cases (edits.RemoveName b c x) d = (_, refl, refl)
+pub wanted_first : (edit : Edit) → FirstOfWanted edit (wanted edit)
+wanted_first (edits.NewRaw b c) = tt
+wanted_first (edits.NewHeap b) = tt
+wanted_first (edits.SetUserId b c) = tt
+wanted_first (edits.SetMap b) = tt
+wanted_first (edits.CopyChain b) = tt
+wanted_first (edits.FreeChain b) = tt
+wanted_first (edits.FreeBlock b) = λ d. (_, refl, refl)
+wanted_first (edits.CopyBlock b) = λ d. (_, refl, refl)
+wanted_first (edits.WriteRaw b c x) = λ d. (_, refl, refl)
+wanted_first (edits.Attach b c) = λ d. (_, refl, refl)
+wanted_first (edits.Free b c) = λ d. (_, refl, refl)
+wanted_first (edits.Alloc b c) = λ d. (_, refl, refl)
+wanted_first (edits.CreateArray b c x) = λ d. (_, refl, refl)
+wanted_first (edits.CreateElementArray b c) = λ d. (_, refl, refl)
+wanted_first (edits.CreateNameArray b c) = λ d. (_, refl, refl)
+wanted_first (edits.Resize b c x) = λ d. (_, refl, refl)
+wanted_first (edits.Insert b c x y) = λ d. (_, refl, refl)
+wanted_first (edits.Delete b c x y) = λ d. (_, refl, refl)
+wanted_first (edits.Write b c x y) = λ d. (_, refl, refl)
+wanted_first (edits.InsertElement b c x y) = λ d. (_, refl, refl)
+wanted_first (edits.SetElement b c x y) = λ d. (_, refl, refl)
+wanted_first (edits.ResizeElement b c x y) = λ d. (_, refl, refl)
+wanted_first (edits.DeleteElements b c x y) = λ d. (_, refl, refl)
+wanted_first (edits.ZeroArray b c) = λ d. (_, refl, refl)
+wanted_first (edits.AddElement b c x) = λ d. (_, refl, refl)
+wanted_first (edits.AddReference b c x) = λ d. (_, refl, refl)
+wanted_first (edits.RemoveReference b c x) = λ d. (_, refl, refl)
+wanted_first (edits.DeleteElement b c x) = λ d. (_, refl, refl)
+wanted_first (edits.ChangeElement b c x y) = λ d. (_, refl, refl)
+wanted_first (edits.AddName b c x y z) = λ d. (_, refl, refl)
+wanted_first (edits.ChangeName b c x y) = λ d. (_, refl, refl)
+wanted_first (edits.RemoveName b c x) = λ d. (_, refl, refl)
 
-module _ (edit : Edit) (d : Document) (b : VmHandle) (lacks : Fault → Type 0) (fault : Fault) where
-  pub any_refused : wanted edit ≡ Any b → lacks fault ⊎ ((fault ≡ NoBlock) × (is_live d b.0 ≡ false)) → Refuses lacks edit d fault
-  any_refused is why = elim why as (λ _. Refuses lacks edit d fault) [
-    | inl lack ↦ inl lack
-    | inr none ↦ inr (subst (FirstOfWanted edit d) is (wanted_cases edit d) none.1 ∙ ap (λ f. Some f) (sym none.0))
-  ]
+-- so that a body is needed exactly where a block is wanted
 
-  pub raw_refused : wanted edit ≡ Raw b → lacks fault ⊎ IsOfOther is_raw d b.0 fault → Refuses lacks edit d fault
-  raw_refused is why =
-      let first = subst (FirstOfWanted edit d) is (wanted_cases edit d) in
-      elim why as (λ _. Refuses lacks edit d fault) [ inl lack ↦ inl lack | inr other ↦ inr (ap first_refusal first.2 ∙ raw_other d b.0 first.0 fault other first.1) ]
+abbrev pub needs_of : Wanted → Needs
+needs_of Nothing = NoBody
+needs_of (Any b) = OneBody b.0
+needs_of (Raw b) = OneBody b.0
+needs_of (Heap b) = OneBody b.0
 
-  pub heap_refused : wanted edit ≡ Heap b → lacks fault ⊎ IsOfOther is_heap d b.0 fault → Refuses lacks edit d fault
-  heap_refused is why =
-      let first = subst (FirstOfWanted edit d) is (wanted_cases edit d) in
-      elim why as (λ _. Refuses lacks edit d fault) [ inl lack ↦ inl lack | inr other ↦ inr (ap first_refusal first.2 ∙ heap_other d b.0 first.0 fault other first.1) ]
+pub wanted_needs : (edit : Edit) → is_of_chain edit ≡ false → edit_needs edit ≡ needs_of (wanted edit)
+wanted_needs (edits.CopyChain b) other = absurd (cc other)
+wanted_needs (edits.FreeChain b) other = absurd (cc other)
+wanted_needs edit other = refl

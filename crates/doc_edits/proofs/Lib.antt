@@ -5,7 +5,9 @@ pub mod Splicing
 pub mod ArrayEdits
 pub mod ElementEdits
 pub mod NameEdits
+pub mod Rooms
 pub mod First
+pub mod Loads
 pub mod ChunkPlans
 pub mod LookUps
 pub mod BlockPlans

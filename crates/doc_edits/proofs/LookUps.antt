@@ -1,5 +1,6 @@
 -- What is looked up of a document, and what refuses it.
-use Rattle.std.proofs.Common.{◌≡◌, ◌⊎◌, ℕ, List, [], ◌++◌, ◌∷◌, not, false, Option, Some, None, is_none, unwrap_or, MatchOption, Result, Ok, Err, MatchResult, refl, sym, ap, subst, ◌∙◌, inl, inr}
+use Rattle.std.proofs.Common.{◌≡◌, ◌⊎◌, ℕ, List, [], ◌++◌, ◌∷◌, not, false, true, Bool, Option, Some, None, is_none, unwrap_or, MatchOption, Result, Ok, Err, MatchResult, refl, sym, ap, subst, ◌∙◌, inl, inr}
+use Rattle.std.proofs.lemmas.Result.{MatchResult-weaker}
 use Rattle.std.specs.Option.{option_map, option_map_or}
 use Rattle.std.specs.Result.{IsErrAnd}
 use Rattle.std.specs.FinMap.{contains_key}
@@ -9,44 +10,66 @@ use Rattle.geos_model.specs.Meaning.{on_chunk, chunk_at}
 use Rattle.geos_model.specs.NameEdits.{names_in, token_of_text, find_conditions}
 use Rattle.geos_model.specs.Reply.{Reply, Refused, BytesAre, TokenIs, reply_by, look_up_conditions, look_up}
 use Rattle.geos_model.proofs.Refusals.{none_applies, or_none}
+use Rattle.geos_model.proofs.InFront.{passed}
 use Rattle.geos_model.specs.declared.fault.Fault.{Fault}
-use Rattle.geos_model.specs.declared.fault.Fault.TheVariants.{NoChunk, NoName}
+use Rattle.geos_model.specs.declared.fault.Fault.TheVariants.{CacheFull, NoChunk, NoName}
 use Rattle.geos_model.specs.declared.command.Command.{Command}
 use Rattle.geos_model.specs.declared.command.Command.TheVariants as commands
 use Rattle.geos_model.specs.declared.handle.ChunkHandle.{ChunkHandle}
 use Rattle.geos_model.specs.declared.handle.Token.{Token}
 use Rattle.geos_model.specs.declared.handle.VmHandle.{VmHandle}
 use Rattle.element_arrays.specs.Answering.{IsAnswered, IsRefused}
+use Rattle.block_cache.specs.State.{CacheState}
 use Rattle.vm_chains.specs.Answers.{Answers}
+use Rattle.vm_blocks.specs.Keeping.{LacksFrame, is_shut_out}
 use Rattle.vm_blocks.specs.Kinds.{IsOfOther}
 use Rattle.doc_edits.specs.Found.{AreLate, IsChunkAt}
-use Rattle.doc_edits.specs.LookUps.{chunk_asked, LooksUp, RefusesChunk}
-use Rattle.doc_edits.proofs.Refusals.{past_chunk, heap_other}
+use Rattle.doc_edits.specs.LookUps.{answer_of, chunk_asked, LooksUp, RefusesChunk}
+use Rattle.doc_edits.proofs.Refusals.{past_chunk}
+use Rattle.doc_edits.proofs.Rooms.{LooksFor, looks_for_heap, refused_for}
 
-module _ (lacks : Fault → Type 0) where
+module _ (lacks : Fault → Type 0) (no_room : Bool) where
   -- a look-up that is refused
-  pub look_up_refused : (command : Command) (d : Document) (fault : Fault) → first_refusal (look_up_conditions command d) ≡ Some fault → LooksUp lacks command d (Refused fault)
+  pub look_up_refused : (command : Command) (d : Document) (fault : Fault) → first_refusal ((CacheFull, no_room) ∷ look_up_conditions command d) ≡ Some fault → LooksUp lacks no_room command d (Refused fault)
   look_up_refused command d fault first = inr (ap (λ (o : Option Fault). option_map_or (λ x. Some (Refused x)) o (look_up command d)) first)
 
-  -- a look-up that nothing refuses
-  look_up_answered : (command : Command) (d : Document) (reply : Reply) → first_refusal (look_up_conditions command d) ≡ None → look_up command d ≡ Some reply → LooksUp lacks command d reply
-  look_up_answered command d reply first does = inr (ap (λ (o : Option Fault). option_map_or (λ x. Some (Refused x)) o (look_up command d)) first ∙ does)
+  pub refused_or_lacked : (command : Command) (d : Document) (fault : Fault) → (lacks fault × (no_room ≡ false)) ⊎ (first_refusal ((CacheFull, no_room) ∷ look_up_conditions command d) ≡ Some fault) → LooksUp lacks no_room command d (Refused fault)
+  refused_or_lacked command d fault (inl lack) = inl (fault, lack.0, refl, lack.1)
+  refused_or_lacked command d fault (inr first) = look_up_refused command d fault first
 
   -- the fault that `?` hands on
-  pub refused_as : {T : Type 0} (command : Command) (d : Document) (f : T → Reply) (r : Result T Fault) (fault : Fault) → IsErrAnd r (λ e. e ≡ fault) → LooksUp lacks command d (Refused fault) → LooksUp lacks command d (reply_by f r)
+  pub refused_as : {T : Type 0} (command : Command) (d : Document) (f : T → Reply) (r : Result T Fault) (fault : Fault) → IsErrAnd r (λ e. e ≡ fault) → LooksUp lacks no_room command d (Refused fault) → LooksUp lacks no_room command d (reply_by f r)
   refused_as command d f (Ok x) fault is looks = absurd is
-  refused_as command d f (Err e) fault is looks = subst (λ (x : Fault). LooksUp lacks command d (Refused x)) (sym is) looks
+  refused_as command d f (Err e) fault is looks = subst (λ (x : Fault). LooksUp lacks no_room command d (Refused x)) (sym is) looks
 
-  -- what the call lacked
-  pub lacked : (command : Command) (d : Document) (fault : Fault) → lacks fault → LooksUp lacks command d (Refused fault)
-  lacked command d fault lack = inl (fault, lack, refl)
+  -- Where there is room the document decides, or what the call lacked.
+  module _ (room : no_room ≡ false) (command : Command) (d : Document) where
+    pub lacked : (fault : Fault) → lacks fault → LooksUp lacks no_room command d (Refused fault)
+    lacked fault lack = inl (fault, lack, refl, room)
 
-  -- what vm_chains answers of a chain
-  pub chain_answered : {T : Type 0} (command : Command) (d : Document) (f : T → Reply) (P : T → Type 0) (r : Result T Fault) → ((x : T) → P x → look_up command d ≡ Some (f x))
-      → Answers lacks (look_up_conditions command d) P r → LooksUp lacks command d (reply_by f r)
-  chain_answered command d f P (Ok x) does answers = look_up_answered command d (f x) answers.0 (does x answers.1)
-  chain_answered command d f P (Err fault) does (inl lack) = lacked command d fault lack
-  chain_answered command d f P (Err fault) does (inr first) = look_up_refused command d fault first
+    by_document : (o : Option Fault) → first_refusal (look_up_conditions command d) ≡ o → first_refusal ((CacheFull, no_room) ∷ look_up_conditions command d) ≡ o
+    by_document o is = passed CacheFull no_room (look_up_conditions command d) room ∙ is
+
+    pub refused_with_room : (fault : Fault) → first_refusal (look_up_conditions command d) ≡ Some fault → LooksUp lacks no_room command d (Refused fault)
+    refused_with_room fault first = look_up_refused command d fault (by_document (Some fault) first)
+
+    pub answered_with_room : (reply : Reply) → first_refusal (look_up_conditions command d) ≡ None → look_up command d ≡ Some reply → LooksUp lacks no_room command d reply
+    answered_with_room reply first does = inr (ap (λ (o : Option Fault). option_map_or (λ x. Some (Refused x)) o (look_up command d)) (by_document None first) ∙ does)
+
+    -- what vm_chains answers of a chain
+    pub chain_answered : {T : Type 0} (f : T → Reply) (P : T → Type 0) (r : Result T Fault) → ((x : T) → P x → look_up command d ≡ Some (f x))
+        → Answers lacks (look_up_conditions command d) P r → LooksUp lacks no_room command d (reply_by f r)
+    chain_answered f P (Ok x) does answers = answered_with_room (f x) answers.0 (does x answers.1)
+    chain_answered f P (Err fault) does (inl lack) = lacked fault lack
+    chain_answered f P (Err fault) does (inr first) = refused_with_room fault first
+
+-- a look-up along a chain that is refused since each frame has a locked block
+pub answered_so : {T : Type 0} (full : Bool) (command : Command) (d : Document) (f : T → Reply) (r : Result T Fault) (fault : Fault) → full ≡ true → IsErrAnd r (λ e. e ≡ fault)
+    → first_refusal ((CacheFull, full) ∷ look_up_conditions command d) ≡ Some fault → answer_of true command d ≡ Some (reply_by f r)
+answered_so full command d f (Ok x) fault is refused first = absurd refused
+answered_so full command d f (Err e) fault is refused first =
+    ap (λ (o : Option Fault). option_map_or (λ x. Some (Refused x)) o (look_up command d)) (ap (λ (b : Bool). first_refusal ((CacheFull, b) ∷ look_up_conditions command d)) (sym is) ∙ first)
+    ∙ ap (λ (x : Fault). Some (Refused x)) (sym refused)
 
 -- the refusals of a look-up into a chunk are those for the chunk, and later ones
 abbrev FirstOfLookUp : Command → Document → VmHandle × ChunkHandle → Type 0
@@ -70,6 +93,10 @@ look_up_cases (commands.Chunks b) d = tt
 look_up_cases (commands.Walk b) d = tt
 look_up_cases (commands.ChainSize b) d = tt
 look_up_cases (commands.ChainEqual b other) d = tt
+look_up_cases (commands.Lock b) d = tt
+look_up_cases (commands.Unlock b) d = tt
+look_up_cases (commands.Dirty b) d = tt
+look_up_cases (commands.Locks b) d = tt
 look_up_cases commands.Undos d = tt
 look_up_cases commands.Redos d = tt
 look_up_cases (commands.Read b c) d = (_, refl, refl)
@@ -97,58 +124,66 @@ token_answered : (token : Option ℕ) → is_none token ≡ false → option_map
 token_answered None found = absurd (cc found)
 token_answered (Some token) found = refl
 
-module _ (lacks : Fault → Type 0) (d : Document) (b : VmHandle) (c : ChunkHandle) where
-  -- what refuses all that looks for the chunk first
-  refuses_chunk : (fault : Fault) → ((rest : Conditions) → AreLate rest → first_refusal (on_chunk d b.0 c.0 ++ rest) ≡ Some fault) → RefusesChunk lacks d b c fault
-  refuses_chunk fault refuses = λ command asked.
-      let first = subst (λ (o : Option (VmHandle × ChunkHandle)). MatchOption o (Unit {0}) (FirstOfLookUp command d)) asked (look_up_cases command d) in
-      look_up_refused lacks command d fault (ap first_refusal first.2 ∙ refuses first.0 first.1)
+-- each looks first for its heap, and then for room for it
+pub chunk_looks : (command : Command) (b : VmHandle) (c : ChunkHandle) → chunk_asked command ≡ Some (b, c) → LooksFor is_heap b.0 (look_up_conditions command)
+chunk_looks command b c asked = looks_for_heap b.0 (look_up_conditions command) (λ d.
+    let first = subst (λ (o : Option (VmHandle × ChunkHandle)). MatchOption o (Unit {0}) (FirstOfLookUp command d)) asked (look_up_cases command d) in
+    ((NoChunk, not (contains_key (chunks_of d b.0) c.0)) ∷ first.0, first.1, first.2))
 
-  -- no heap is there, or what the call lacked
-  pub refuses_block : (fault : Fault) → lacks fault ⊎ IsOfOther is_heap d b.0 fault → RefusesChunk lacks d b c fault
-  refuses_block fault why = elim why [
-    | inl lack ↦ λ command asked. lacked lacks command d fault lack
-    | inr other ↦ refuses_chunk fault (λ rest late. heap_other d b.0 ((NoChunk, not (contains_key (chunks_of d b.0) c.0)) ∷ rest) fault other late)
-  ]
+-- A block that isn't loaded refuses what is looked up of its body.
+module _ {S : Type 0} (is_kind : Document → ℕ → Bool) (a e : CacheState S) (h : ℕ) (lacks : Fault → Type 0) (result : Result (Unit {0}) Fault)
+    (early : (fault : Fault) → IsOfOther is_kind a.document h fault → (result ≡ Err fault) × (e ≡ a)) (shut : is_kind a.document h ≡ true → is_shut_out a h ≡ true → (result ≡ Err CacheFull) × (e ≡ a))
+    (fault : Fault) (was : result ≡ Err fault) (why : lacks fault ⊎ (IsOfOther is_kind e.document h fault ⊎ LacksFrame a h fault)) where
+  pub load_refuses : (command : Command) → LooksFor is_kind h (look_up_conditions command) → LooksUp lacks (is_shut_out a h) command e.document (Refused fault)
+  load_refuses command looks = refused_or_lacked lacks (is_shut_out a h) command e.document fault (refused_for is_kind a e h result early shut (look_up_conditions command) looks lacks fault was why)
+
+module _ (lacks : Fault → Type 0) (no_room : Bool) (d : Document) (b : VmHandle) (c : ChunkHandle) where
+  -- where the heap is there and the chunk isn't
+  chunk_refuses : no_room ≡ false → (fault : Fault) → ((rest : Conditions) → AreLate rest → first_refusal (on_chunk d b.0 c.0 ++ rest) ≡ Some fault) → RefusesChunk lacks no_room d b c fault
+  chunk_refuses room fault refuses = λ command asked.
+      let first = subst (λ (o : Option (VmHandle × ChunkHandle)). MatchOption o (Unit {0}) (FirstOfLookUp command d)) asked (look_up_cases command d) in
+      refused_with_room lacks no_room room command d fault (ap first_refusal first.2 ∙ refuses first.0 first.1)
 
   module _ {X : Type 0} (now : X → List ℕ) (r : Result X Fault) where
+    abbrev IsFound : X → Type 0
+    IsFound x = (no_room ≡ false) × IsChunkAt d b.0 c.0 (now x)
+
     -- a chunk, or why there is none
-    pub chunk_or_refusal : MatchResult r (λ x. IsChunkAt d b.0 c.0 (now x)) (λ fault. (rest : Conditions) → AreLate rest → first_refusal (on_chunk d b.0 c.0 ++ rest) ≡ Some fault)
-        → MatchResult r (λ x. IsChunkAt d b.0 c.0 (now x)) (RefusesChunk lacks d b c)
-    chunk_or_refusal found = elim r as (λ (r : Result X Fault). MatchResult r (λ x. IsChunkAt d b.0 c.0 (now x)) (λ fault. (rest : Conditions) → AreLate rest → first_refusal (on_chunk d b.0 c.0 ++ rest) ≡ Some fault) → MatchResult r (λ x. IsChunkAt d b.0 c.0 (now x)) (RefusesChunk lacks d b c)) [
-      | Ok x ↦ λ there. there
-      | Err fault ↦ λ refuses. refuses_chunk fault refuses
-    ] found
+    pub chunk_or_refusal : no_room ≡ false → MatchResult r (λ x. IsChunkAt d b.0 c.0 (now x)) (λ fault. (rest : Conditions) → AreLate rest → first_refusal (on_chunk d b.0 c.0 ++ rest) ≡ Some fault)
+        → MatchResult r IsFound (RefusesChunk lacks no_room d b c)
+    chunk_or_refusal room found = MatchResult-weaker r found (λ x there. (room, there)) (λ fault refuses. chunk_refuses room fault refuses)
 
-    module _ (found : MatchResult r (λ x. IsChunkAt d b.0 c.0 (now x)) (RefusesChunk lacks d b c)) where
+    module _ (found : MatchResult r IsFound (RefusesChunk lacks no_room d b c)) where
       -- so is a look-up into it refused
-      pub refused_so : {T : Type 0} (command : Command) (f : T → Reply) (s : Result T Fault) (fault : Fault) → r ≡ Err fault → chunk_asked command ≡ Some (b, c) → IsErrAnd s (λ e. e ≡ fault) → LooksUp lacks command d (reply_by f s)
+      pub refused_so : {T : Type 0} (command : Command) (f : T → Reply) (s : Result T Fault) (fault : Fault) → r ≡ Err fault → chunk_asked command ≡ Some (b, c) → IsErrAnd s (λ e. e ≡ fault) → LooksUp lacks no_room command d (reply_by f s)
       refused_so command f s fault was asked is =
-          let refuses : RefusesChunk lacks d b c fault = subst (λ (r : Result X Fault). MatchResult r (λ x. IsChunkAt d b.0 c.0 (now x)) (RefusesChunk lacks d b c)) was found in
-          refused_as lacks command d f s fault is (refuses command asked)
+          let refuses : RefusesChunk lacks no_room d b c fault = subst (λ (r : Result X Fault). MatchResult r IsFound (RefusesChunk lacks no_room d b c)) was found in
+          refused_as lacks no_room command d f s fault is (refuses command asked)
 
-      found_at : (x : X) → r ≡ Ok x → IsChunkAt d b.0 c.0 (now x)
-      found_at x was = subst (λ (r : Result X Fault). MatchResult r (λ x. IsChunkAt d b.0 c.0 (now x)) (RefusesChunk lacks d b c)) was found
+      found_at : (x : X) → r ≡ Ok x → IsFound x
+      found_at x was = subst (λ (r : Result X Fault). MatchResult r IsFound (RefusesChunk lacks no_room d b c)) was found
 
       -- the bytes of a chunk are answered as they are
-      pub bytes_answered : LooksUp lacks (commands.Read b c) d (reply_by (λ x. BytesAre (now x)) r)
+      pub bytes_answered : LooksUp lacks no_room (commands.Read b c) d (reply_by (λ x. BytesAre (now x)) r)
       bytes_answered = answered r found
         where
-          answered : (r : Result X Fault) → MatchResult r (λ x. IsChunkAt d b.0 c.0 (now x)) (RefusesChunk lacks d b c) → LooksUp lacks (commands.Read b c) d (reply_by (λ x. BytesAre (now x)) r)
-          answered (Ok x) there = look_up_answered lacks (commands.Read b c) d (BytesAre (now x)) (past d b c (now x) (λ bytes. []) there) (ap (λ (y : List ℕ). Some (BytesAre y)) (sym there.value))
+          answered : (r : Result X Fault) → MatchResult r IsFound (RefusesChunk lacks no_room d b c) → LooksUp lacks no_room (commands.Read b c) d (reply_by (λ x. BytesAre (now x)) r)
+          answered (Ok x) there = answered_with_room lacks no_room there.0 (commands.Read b c) d (BytesAre (now x)) (past d b c (now x) (λ bytes. []) there.1) (ap (λ (y : List ℕ). Some (BytesAre y)) (sym there.1.value))
           answered (Err fault) refuses = refuses (commands.Read b c) refl
 
-      -- the token of a name
       module _ (x : X) (was : r ≡ Ok x) where
+        -- the token of a name
         pub name_answered : (text slice : List ℕ) (s : Result Token Fault) → slice ≡ text
             → MatchResult s (λ token. IsAnswered (find_conditions (now x) slice) (unwrap_or (token_of_text (names_in (now x)) slice) 0) token.0) (IsRefused (find_conditions (now x) slice))
-            → LooksUp lacks (commands.NameFind b c text) d (reply_by (λ token. TokenIs token.0) s)
+            → LooksUp lacks no_room (commands.NameFind b c text) d (reply_by (λ token. TokenIs token.0) s)
         name_answered text slice (Ok token) same answered =
-            subst (λ (name : List ℕ). LooksUp lacks (commands.NameFind b c name) d (TokenIs token.0)) same
-            (look_up_answered lacks (commands.NameFind b c slice) d (TokenIs token.0) (past d b c (now x) (λ y. find_conditions y slice) (found_at x was) ∙ answered.accepted)
-            (ap (λ (y : List ℕ). option_map TokenIs (token_of_text (names_in y) slice)) (sym (found_at x was).value)
+            let there = found_at x was in
+            subst (λ (name : List ℕ). LooksUp lacks no_room (commands.NameFind b c name) d (TokenIs token.0)) same
+            (answered_with_room lacks no_room there.0 (commands.NameFind b c slice) d (TokenIs token.0) (past d b c (now x) (λ y. find_conditions y slice) there.1 ∙ answered.accepted)
+            (ap (λ (y : List ℕ). option_map TokenIs (token_of_text (names_in y) slice)) (sym there.1.value)
             ∙ token_answered (token_of_text (names_in (now x)) slice) (or_none (none_applies (find_conditions (now x) slice) answered.accepted NoName refl)).0
             ∙ ap (λ (n : ℕ). Some (TokenIs n)) (sym answered.same)))
         name_answered text slice (Err fault) same refused =
-            subst (λ (name : List ℕ). LooksUp lacks (commands.NameFind b c name) d (Refused fault)) same
-            (look_up_refused lacks (commands.NameFind b c slice) d fault (past d b c (now x) (λ y. find_conditions y slice) (found_at x was) ∙ refused))
+            let there = found_at x was in
+            subst (λ (name : List ℕ). LooksUp lacks no_room (commands.NameFind b c name) d (Refused fault)) same
+            (refused_with_room lacks no_room there.0 (commands.NameFind b c slice) d fault (past d b c (now x) (λ y. find_conditions y slice) there.1 ∙ refused))

@@ -6,7 +6,8 @@ use Rattle.std.proofs.Math.Bool.{or-true}
 use Rattle.std.specs.List.{list_any, list_all}
 use Rattle.geos_model.specs.Refusal.{Conditions, applies, one_order, first_refusal, number_of_fault}
 use Rattle.geos_model.specs.declared.fault.Fault.{Fault}
-use Rattle.geos_model.specs.declared.fault.Fault.TheVariants.{TooBig, NoHandles, Full, Worn}
+use Rattle.geos_model.specs.declared.fault.Fault.TheVariants.{BadChain, IsMap, TooBig, NoHandles, Full, Worn}
+use Rattle.geos_model.proofs.InFront.{found_passes, none_among}
 use Rattle.geos_model.proofs.Order.{is_worn, accepted-room, refused-room}
 use Rattle.doc_edits.specs.Found.{is_among, own_faults, late_faults, AreOwn, AreLate}
 
@@ -14,26 +15,12 @@ use Rattle.doc_edits.specs.Found.{is_among, own_faults, late_faults, AreOwn, Are
 abbrev pub room : Bool → Option Fault
 room full = cond full (Some Full) None
 
-among-number : (faults : List Fault) (f g : Fault) → number_of_fault f ≡ number_of_fault g → is_among faults f ≡ is_among faults g
-among-number faults f g e = ap (λ (n : ℕ). list_any (λ h. number_of_fault h == n) faults) e
-
--- where all conditions are of some refusals, no other one applies
-pub not_among : (faults : List Fault) (rest : Conditions) (f : Fault) → list_all (λ c. is_among faults c.0) rest ≡ true → is_among faults f ≡ false → applies rest f ≡ false
-not_among faults [] f are other = refl
-not_among faults ((g, holds) ∷ rest) f are other = elim (cases_Bool (is_among faults g)) [
-  | inl e ↦ elim (cases_Bool (number_of_fault g == number_of_fault f)) [
-    | inl same ↦ let no : false ≡ true = sym other ∙ sym (among-number faults g f (eqb-true (number_of_fault g) (number_of_fault f) same)) ∙ e in cc
-    | inr apart ↦ rw apart (not_among faults rest f (rw e at are) other)
-  ]
-  | inr e ↦ let no : false ≡ true = rw e at are in cc
-]
-
 not_own : (own : Conditions) (f : Fault) → AreOwn own → is_among own_faults f ≡ false → applies own f ≡ false
-not_own own f are other = not_among own_faults own f are other
+not_own own f are other = none_among own_faults own f are other
 
 late_own : (g : Fault) → is_among own_faults g ≡ true → is_among late_faults g ≡ true
 late_own g e =
-    ap (λ (b : Bool). (6 == number_of_fault g) || b) (list_any-append (λ f. number_of_fault f == number_of_fault g) own_faults (TooBig ∷ NoHandles ∷ Full ∷ []) ∙ rw e refl)
+    ap (λ (b : Bool). (6 == number_of_fault g) || b) (list_any-append (λ f. number_of_fault f == number_of_fault g) own_faults (BadChain ∷ IsMap ∷ TooBig ∷ NoHandles ∷ Full ∷ []) ∙ rw e refl)
     ∙ or-true (6 == number_of_fault g)
 
 -- an edit's own refusals come late enough, and so does want of room
@@ -47,14 +34,6 @@ own_late ((g, holds) ∷ own) full are = elim (cases_Bool (is_among own_faults g
 room_decides : (full : Bool) → first_refusal ((Full, full) ∷ []) ≡ room full
 room_decides true = refl
 room_decides false = refl
-
--- what is found passes
-found_passes : (p : Fault → Bool) (faults : List Fault) (f : Fault) → find p faults ≡ Some f → p f ≡ true
-found_passes p [] f is = absurd (cc is)
-found_passes p (g ∷ faults) f is = elim (cases_Bool (p g)) [
-  | inl e ↦ let same : g ≡ f = cc (rw e at is) in ap p (sym same) ∙ e
-  | inr e ↦ found_passes p faults f (rw e at is)
-]
 
 -- a refusal or none
 which : (o : Option Fault) → (o ≡ None) ⊎ ((f : Fault) × (o ≡ Some f))

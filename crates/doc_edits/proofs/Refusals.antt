@@ -1,23 +1,28 @@
 -- Which refusal is the first.
-use Rattle.std.proofs.Common.{◌≡◌, ℕ, Result, Ok, Err, MatchResult, subst, ◌++◌, true, false, Some, refl, sym, inl, inr}
+use Rattle.std.proofs.Common.{◌≡◌, ℕ, Bool, Result, Ok, Err, IfErr, MatchResult, subst, ◌++◌, true, false, Some, refl, sym, ◌∙◌, inl, inr}
+use Rattle.std.proofs.lemmas.Bool.{true≢false}
 use Rattle.std.specs.Result.{IsErrAnd}
 use Rattle.std.specs.FinMap.{contains_key}
 use Rattle.geos_model.specs.Refusal.{Conditions, applies, first_refusal}
 use Rattle.geos_model.specs.Heap.{ChunkMap}
-use Rattle.geos_model.specs.Document.{Document, is_heap, is_raw}
-use Rattle.geos_model.specs.Meaning.{on_raw, on_heap, on_chunk}
+use Rattle.geos_model.specs.Document.{Document, is_heap, is_live, is_raw}
+use Rattle.geos_model.specs.Meaning.{conditions, on_block, on_raw, on_heap, on_chunk}
 use Rattle.geos_model.specs.declared.fault.Fault.{Fault}
 use Rattle.geos_model.specs.declared.command.Edit.{Edit}
 use Rattle.geos_model.specs.declared.fault.Fault.TheVariants.{Memory, BadCommand, Locked, NothingToUndo, NothingToRedo, NoTarget, NoBlock, WrongKind, NotLocked, LockLimit, CacheFull, NoChunk}
+use Rattle.geos_model.proofs.InFront.{none_among, passed}
 use Rattle.vm_blocks.specs.Kinds.{IsOfOther}
 use Rattle.doc_edits.specs.Found.{is_among, late_faults, AreLate, IsHeapAt}
-use Rattle.doc_edits.specs.Planning.{IsMemory, Refuses}
-use Rattle.doc_edits.proofs.Order.{not_among}
+use Rattle.doc_edits.specs.Planning.{Refuses, RefusesAtHand}
 
 not_late : (rest : Conditions) (f : Fault) → AreLate rest → is_among late_faults f ≡ false → applies rest f ≡ false
-not_late rest f late early = not_among late_faults rest f late early
+not_late rest f late early = none_among late_faults rest f late early
 
 -- no block under the handle, or one of the other kind
+
+pub block_dead : (d : Document) (h : ℕ) (rest : Conditions) (fault : Fault) → IsOfOther is_live d h fault → AreLate rest → first_refusal (on_block d h ++ rest) ≡ Some fault
+block_dead d h rest fault (inl none) late = rw (none.0, none.1, not_late rest BadCommand late refl, not_late rest Locked late refl, not_late rest NothingToUndo late refl, not_late rest NothingToRedo late refl, not_late rest NoTarget late refl) refl
+block_dead d h rest fault (inr other) late = absurd (true≢false (sym other.1 ∙ other.2))
 
 pub heap_other : (d : Document) (h : ℕ) (rest : Conditions) (fault : Fault) → IsOfOther is_heap d h fault → AreLate rest → first_refusal (on_heap d h ++ rest) ≡ Some fault
 heap_other d h rest fault (inl none) late = rw (none.0, none.1, not_late rest BadCommand late refl, not_late rest Locked late refl, not_late rest NothingToUndo late refl, not_late rest NothingToRedo late refl, not_late rest NoTarget late refl) refl
@@ -43,10 +48,18 @@ pub carried : {T : Type 0} (r : Result T Fault) (P : T → Type 0) (Q : Fault �
 carried (Ok x) P Q fault is q = absurd is
 carried (Err e) P Q fault is q = subst Q (sym is) q
 
+pub carried_so : {T : Type 0} (r : Result T Fault) (Q : Fault → Type 0) (fault : Fault) → IsErrAnd r (λ e. e ≡ fault) → Q fault → IfErr r Q
+carried_so (Ok x) Q fault is q = absurd is
+carried_so (Err e) Q fault is q = subst Q (sym is) q
+
+pub refused_then : {T : Type 0} (r : Result T Fault) (P : T → Type 0) (Q R : Fault → Type 0) → MatchResult r P Q → ((fault : Fault) → Q fault → R fault) → IfErr r R
+refused_then (Ok x) P Q R is turn = tt
+refused_then (Err fault) P Q R is turn = turn fault is
+
 -- of blocks in memory it can be said that nothing was lacking but memory
-pub may_lack : {T : Type 0} (lacks : Fault → Type 0) (edit : Edit) (d : Document) (P : T → Type 0) (r : Result T Fault) → lacks Memory → MatchResult r P (Refuses IsMemory edit d) → MatchResult r P (Refuses lacks edit d)
-may_lack lacks edit d P (Ok x) memory planned = planned
-may_lack lacks edit d P (Err fault) memory refused = elim refused [
+pub may_lack : {T : Type 0} (lacks : Fault → Type 0) (no_room : Bool) (edit : Edit) (d : Document) (P : T → Type 0) (r : Result T Fault) → no_room ≡ false → lacks Memory → MatchResult r P (RefusesAtHand edit d) → MatchResult r P (Refuses lacks no_room edit d)
+may_lack lacks no_room edit d P (Ok x) room memory planned = planned
+may_lack lacks no_room edit d P (Err fault) room memory refused = elim refused [
   | inl is ↦ inl (subst lacks (sym is) memory)
-  | inr first ↦ inr first
+  | inr first ↦ inr (passed CacheFull no_room (conditions edit d) room ∙ first)
 ]

@@ -29,7 +29,7 @@ use Rattle.chunk_edits.specs.declared.splice.Splice.{Splice}
 use Rattle.vm_blocks.proofs.RoomLemmas.{bytes-put}
 use Rattle.doc_edits.specs.Found.{AreOwn, IsHeapAt, IsChunkAt}
 use Rattle.doc_edits.specs.Building.{IsAt, IsIn, SplicesAt, Splices}
-use Rattle.doc_edits.specs.Planning.{IsMemory, Refuses}
+use Rattle.doc_edits.specs.Planning.{RefusesAtHand}
 use Rattle.doc_edits.proofs.Order.{more_refused, more_accepted, has_room}
 use Rattle.doc_edits.proofs.Refusals.{past_chunk}
 
@@ -88,7 +88,7 @@ module _ (edit : Edit) (d : Document) (b : VmHandle) (c : ChunkHandle) (own : Li
     past = ap first_refusal means.refusals ∙ past_chunk d b.0 c.0 m (own old ++ no_room m c.0 (to old)) there.heap there.live
 
     -- the builder refuses it
-    built_refused : (fault : Fault) → RefusesToBuild (own bytes ++ too_long (to bytes)) fault → Refuses IsMemory edit d fault
+    built_refused : (fault : Fault) → RefusesToBuild (own bytes ++ too_long (to bytes)) fault → RefusesAtHand edit d fault
     built_refused fault (inl memory) = inl memory
     built_refused fault (inr first) =
         let here : first_refusal (own old ++ too_long (to old)) ≡ Some fault = subst (λ (x : List ℕ). first_refusal (own x ++ too_long (to x)) ≡ Some fault) there.value first in
@@ -124,11 +124,11 @@ module _ (edit : Edit) (d : Document) (b : VmHandle) (c : ChunkHandle) (own : Li
     splices_built s builds = splices s (subst (λ (x : List ℕ). BuildsFor s x own to) there.value builds)
 
     -- what a builder answers
-    pub built : (r : Result Splice Fault) → MatchResult r (λ s. BuildsFor s bytes own to) (RefusesToBuild (own bytes ++ too_long (to bytes))) → MatchResult r (λ s. Splices edit d b c s done) (Refuses IsMemory edit d)
+    pub built : (r : Result Splice Fault) → MatchResult r (λ s. BuildsFor s bytes own to) (RefusesToBuild (own bytes ++ too_long (to bytes))) → MatchResult r (λ s. Splices edit d b c s done) (RefusesAtHand edit d)
     built (Ok s) builds = splices_built s builds
     built (Err fault) refuses = built_refused fault refuses
 
-    pub refuses_built : (fault : Fault) → RefusesToBuild (own bytes ++ too_long (to bytes)) fault → Refuses IsMemory edit d fault
+    pub refuses_built : (fault : Fault) → RefusesToBuild (own bytes ++ too_long (to bytes)) fault → RefusesAtHand edit d fault
     refuses_built fault refuses = built_refused fault refuses
 
 -- An edit that isn't one of an array.
@@ -150,25 +150,25 @@ module _ (edit : Edit) (d : Document) (b : VmHandle) (c : ChunkHandle) (rest : C
         cost = builds.leads.holds ∙ costs;
       }
 
-  plain_refuses : (fault : Fault) → RefusesToBuild rest fault → Refuses IsMemory edit d fault
+  plain_refuses : (fault : Fault) → RefusesToBuild rest fault → RefusesAtHand edit d fault
   plain_refuses fault (inl memory) = inl memory
   plain_refuses fault (inr first) = inr (plain_past ∙ first)
 
   pub plain_built : (r : Result Splice Fault) → MatchResult r (λ s. Builds rest s (chunk_at d b.0 c.0) to held) (RefusesToBuild rest) → IfOk r (λ s. fits_with (chunks_of d b.0) c.0 to ≡ true)
-      → MatchResult r (λ s. Splices edit d b c s done.Nothing) (Refuses IsMemory edit d)
+      → MatchResult r (λ s. Splices edit d b c s done.Nothing) (RefusesAtHand edit d)
   plain_built (Ok s) builds fit = plain_splices s builds fit
   plain_built (Err fault) refuses fit = plain_refuses fault refuses
 
 -- What a builder answers, of the place that an edit names.
 
 abbrev pub BuildsOf : List ℕ → Done → Result Splice Fault → Edit → Type 0
-BuildsOf bytes done r edit = (d : Document) → IsAt edit d bytes → MatchResult r (SplicesAt edit d done) (Refuses IsMemory edit d)
+BuildsOf bytes done r edit = (d : Document) → IsAt edit d bytes → MatchResult r (SplicesAt edit d done) (RefusesAtHand edit d)
 
 abbrev pub BuildsPlain : ChunkMap → ℕ → Result Splice Fault → Edit → Type 0
-BuildsPlain m h r edit = (d : Document) → IsIn edit d m h → MatchResult r (SplicesAt edit d done.Nothing) (Refuses IsMemory edit d)
+BuildsPlain m h r edit = (d : Document) → IsIn edit d m h → MatchResult r (SplicesAt edit d done.Nothing) (RefusesAtHand edit d)
 
 abbrev pub SplicesOf : List ℕ → Done → Splice → Edit → Type 0
 SplicesOf bytes done s edit = (d : Document) → IsAt edit d bytes → SplicesAt edit d done s
 
 abbrev pub RefusesOf : List ℕ → Fault → Edit → Type 0
-RefusesOf bytes fault edit = (d : Document) → IsAt edit d bytes → Refuses IsMemory edit d fault
+RefusesOf bytes fault edit = (d : Document) → IsAt edit d bytes → RefusesAtHand edit d fault

@@ -7,7 +7,7 @@ use Rattle.geos_model.specs.Refusal.{Conditions, number_of_fault}
 use Rattle.geos_model.specs.Document.{Document, user_id_of, chunks_of}
 use Rattle.geos_model.specs.Meaning.{chunk_at}
 use Rattle.geos_model.specs.declared.fault.Fault.{Fault}
-use Rattle.geos_model.specs.declared.fault.Fault.TheVariants.{NoChunk, NotArray, NoElement, NoName, NameInUse, CountFull, Range, TooBig, NoHandles, Full}
+use Rattle.geos_model.specs.declared.fault.Fault.TheVariants.{NoChunk, NotArray, NoElement, NoName, BadChain, IsMap, NameInUse, CountFull, Range, TooBig, NoHandles, Full}
 use Rattle.geos_model.specs.declared.command.Body.{Body}
 use Rattle.geos_model.specs.declared.command.Body.TheVariants.{Raw, Heap}
 
@@ -36,9 +36,9 @@ is_among faults fault = list_any (λ f. number_of_fault f == number_of_fault fau
 abbrev pub own_faults : List Fault
 own_faults = NotArray ∷ NoElement ∷ NoName ∷ NameInUse ∷ CountFull ∷ Range ∷ []
 
--- those that come after the ones for a block and its kind
+-- those that come after the ones for a block, its kind and room for it
 abbrev pub late_faults : List Fault
-late_faults = NoChunk ∷ own_faults ++ TooBig ∷ NoHandles ∷ Full ∷ []
+late_faults = NoChunk ∷ own_faults ++ BadChain ∷ IsMap ∷ TooBig ∷ NoHandles ∷ Full ∷ []
 
 abbrev pub AreLate : Conditions → Type 0
 AreLate conditions = list_all (λ c. is_among late_faults c.0) conditions ≡ true

@@ -1,4 +1,5 @@
 pub mod Planning
 pub mod Found
+pub mod Room
 pub mod Building
 pub mod LookUps

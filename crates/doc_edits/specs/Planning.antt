@@ -1,12 +1,12 @@
 -- What planning an edit comes to.
-use Rattle.std.specs.Prelude.{◌≡◌, ◌⊎◌, ◌+◌, ℕ, None, Some, length}
+use Rattle.std.specs.Prelude.{◌≡◌, ◌⊎◌, ◌+◌, ℕ, Bool, List, [], ◌∷◌, None, Some, length}
 use Rattle.geos_model.specs.Refusal.{first_refusal}
-use Rattle.geos_model.specs.Document.{Document}
+use Rattle.geos_model.specs.Document.{Document, handles_of}
 use Rattle.geos_model.specs.Meaning.{conditions, effect}
 use Rattle.geos_model.specs.Cost.{cost, images_length}
 use Rattle.geos_model.specs.Machine.{kind_of}
 use Rattle.geos_model.specs.declared.fault.Fault.{Fault}
-use Rattle.geos_model.specs.declared.fault.Fault.TheVariants.{Memory, NoHandles, IsMap}
+use Rattle.geos_model.specs.declared.fault.Fault.TheVariants.{Memory, CacheFull, NoHandles, IsMap}
 use Rattle.geos_model.specs.declared.command.Done.{Done}
 use Rattle.geos_model.specs.declared.command.Edit.{Edit}
 use Rattle.geos_model.specs.declared.command.Edit.TheVariants as edits
@@ -27,6 +27,14 @@ kind_of_change (changes.BlocksOut ms) = Freed
 kind_of_change (changes.Part b part) = In b
 kind_of_change (changes.UserId b old new) = Plain
 kind_of_change (changes.Map old new) = Plain
+
+-- the blocks that go by a change
+abbrev pub freed_by : Change → List ℕ
+freed_by (changes.BlocksIn ms) = []
+freed_by (changes.BlocksOut ms) = handles_of (saved_blocks ms.list.items)
+freed_by (changes.Part b part) = []
+freed_by (changes.UserId b old new) = []
+freed_by (changes.Map old new) = []
 
 -- How many bytes a step is charged for: those that its change holds, and the zeros that it need not hold.
 
@@ -52,9 +60,10 @@ pub record Plans (edit : Edit) (d : Document) (change : Change) (done : Done) : 
   pub kind : kind_of_change change ≡ kind_of edit
   pub cost : change_cost change ≡ cost edit d (effect edit d).0
 
--- what a call may lack that looks at blocks in memory alone
-abbrev pub IsMemory : Fault → Type 0
-IsMemory fault = fault ≡ Memory
+-- What an edit is refused for where the bodies into which it looks are in memory: memory for the change may be lacking, or it is the
+-- first refusal.
+abbrev pub RefusesAtHand : Edit → Document → Fault → Type 0
+RefusesAtHand edit d fault = (fault ≡ Memory) ⊎ (first_refusal (conditions edit d) ≡ Some fault)
 
 -- What an edit of a chain may be refused for of any document. Of each body of the chain it is said as it was when it was read, so that over a
 -- store that isn't steady no one document need have this refusal as its first.
@@ -63,6 +72,6 @@ IsChainEditFault (edits.CopyChain b) fault = IsChainFault fault ⊎ (fault ≡ N
 IsChainEditFault (edits.FreeChain b) fault = IsChainFault fault ⊎ (fault ≡ IsMap)
 IsChainEditFault edit fault = ⊥
 
--- a fault of what the call may lack, or the first refusal
-abbrev pub Refuses : (Fault → Type 0) → Edit → Document → Fault → Type 0
-Refuses lacks edit d fault = lacks fault ⊎ (first_refusal (conditions edit d) ≡ Some fault)
+-- a fault of what the call may lack, or the first refusal of an edit for which there may be no room
+abbrev pub Refuses : (Fault → Type 0) → Bool → Edit → Document → Fault → Type 0
+Refuses lacks no_room edit d fault = lacks fault ⊎ (first_refusal ((CacheFull, no_room) ∷ conditions edit d) ≡ Some fault)

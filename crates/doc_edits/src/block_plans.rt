@@ -1,7 +1,7 @@
-ghost use Rattle.std.specs.Prelude.{◌≡◌, true, MatchResult};
+ghost use Rattle.std.specs.Prelude.{◌≡◌, [], ◌∷◌, true, IfOk, MatchResult};
 ghost use Rattle.geos_model.specs.declared.command.Edit.TheVariants as edits;
 ghost use Rattle.vm_blocks.specs.Keeping.{is_loaded};
-ghost use Rattle.doc_edits.specs.Planning.{IsMemory, Plans, Refuses};
+ghost use Rattle.doc_edits.specs.Planning.{freed_by, Plans, RefusesAtHand};
 
 use geos_model::{Done, Fault, VmHandle};
 use raw_region::SIZE;
@@ -17,7 +17,7 @@ pub fn plan_new_raw<S: Store>(
     user_id: u16,
     size: u32,
 ) -> Result<(Change, Done), Fault>
-    ensures { MatchResult result (λ p. Plans (edits.NewRaw user_id size) blocks.now.document p.0 p.1) (Refuses IsMemory (edits.NewRaw user_id size) blocks.now.document) }
+    ensures { MatchResult result (λ p. Plans (edits.NewRaw user_id size) blocks.now.document p.0 p.1) (RefusesAtHand (edits.NewRaw user_id size) blocks.now.document) }
 {
     if size as usize > SIZE {
         return Err(Fault::TooBig);
@@ -38,7 +38,7 @@ pub fn plan_new_heap<S: Store>(
     blocks: &FileBlocks<S>,
     user_id: u16,
 ) -> Result<(Change, Done), Fault>
-    ensures { MatchResult result (λ p. Plans (edits.NewHeap user_id) blocks.now.document p.0 p.1) (Refuses IsMemory (edits.NewHeap user_id) blocks.now.document) }
+    ensures { MatchResult result (λ p. Plans (edits.NewHeap user_id) blocks.now.document p.0 p.1) (RefusesAtHand (edits.NewHeap user_id) blocks.now.document) }
 {
     let handle = match blocks.next_handle() {
         Some(handle) => handle,
@@ -56,7 +56,8 @@ pub fn plan_free_block<S: Store>(
     handle: VmHandle,
 ) -> Result<(Change, Done), Fault>
     requires { is_loaded blocks.now handle.0 ≡ true }
-    ensures { MatchResult result (λ p. Plans (edits.FreeBlock handle) blocks.now.document p.0 p.1) (Refuses IsMemory (edits.FreeBlock handle) blocks.now.document) }
+    ensures planned { MatchResult result (λ p. Plans (edits.FreeBlock handle) blocks.now.document p.0 p.1) (RefusesAtHand (edits.FreeBlock handle) blocks.now.document) }
+    ensures alone { IfOk result (λ p. freed_by p.0 ≡ handle.0 ∷ []) }
 {
     if blocks.map_block() == handle {
         return Err(Fault::IsMap);
@@ -73,7 +74,7 @@ pub fn plan_copy_block<S: Store>(
     from: VmHandle,
 ) -> Result<(Change, Done), Fault>
     requires { is_loaded blocks.now from.0 ≡ true }
-    ensures { MatchResult result (λ p. Plans (edits.CopyBlock from) blocks.now.document p.0 p.1) (Refuses IsMemory (edits.CopyBlock from) blocks.now.document) }
+    ensures { MatchResult result (λ p. Plans (edits.CopyBlock from) blocks.now.document p.0 p.1) (RefusesAtHand (edits.CopyBlock from) blocks.now.document) }
 {
     let handle = match blocks.next_handle() {
         Some(handle) => handle,
@@ -90,7 +91,7 @@ pub fn plan_set_user_id<S: Store>(
     handle: VmHandle,
     user_id: u16,
 ) -> Result<(Change, Done), Fault>
-    ensures { MatchResult result (λ p. Plans (edits.SetUserId handle user_id) blocks.now.document p.0 p.1) (Refuses IsMemory (edits.SetUserId handle user_id) blocks.now.document) }
+    ensures { MatchResult result (λ p. Plans (edits.SetUserId handle user_id) blocks.now.document p.0 p.1) (RefusesAtHand (edits.SetUserId handle user_id) blocks.now.document) }
 {
     if !blocks.is_live(handle) {
         return Err(Fault::NoBlock);
@@ -108,7 +109,7 @@ pub fn plan_set_map<S: Store>(
     blocks: &FileBlocks<S>,
     handle: VmHandle,
 ) -> Result<(Change, Done), Fault>
-    ensures { MatchResult result (λ p. Plans (edits.SetMap handle) blocks.now.document p.0 p.1) (Refuses IsMemory (edits.SetMap handle) blocks.now.document) }
+    ensures { MatchResult result (λ p. Plans (edits.SetMap handle) blocks.now.document p.0 p.1) (RefusesAtHand (edits.SetMap handle) blocks.now.document) }
 {
     if handle.0 != 0 && !blocks.is_live(handle) {
         return Err(Fault::NoBlock);

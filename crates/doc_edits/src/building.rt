@@ -4,7 +4,7 @@ ghost use Rattle.geos_model.specs.Document.{Document};
 ghost use Rattle.geos_model.specs.declared.command.Done.TheVariants as done;
 ghost use Rattle.vm_blocks.specs.Changes.{bytes_of};
 ghost use Rattle.doc_edits.specs.Building.{place_of, is_plain, answers_token, new_in, creates_array, IsAt, IsIn, SplicesAt, IsHeapFor, CreatesAt};
-ghost use Rattle.doc_edits.specs.Planning.{IsMemory, Refuses};
+ghost use Rattle.doc_edits.specs.Planning.{RefusesAtHand};
 
 use chunk_edits::Splice;
 use geos_model::{Bytes, ChunkHandle, Done, Edit, Fault};
@@ -23,7 +23,7 @@ pub fn build(
 ) -> Result<(Splice, Done), Fault>
     requires live { IsTrue (contains_key heap.now.chunks chunk.0) }
     requires place { IsSome (place_of edit.now) }
-    ensures { (d : Document) → IsIn edit.now d heap.now.chunks chunk.0 → IsAt edit.now d bytes.now → MatchResult result (λ built. SplicesAt edit.now d built.1 built.0) (Refuses IsMemory edit.now d) }
+    ensures { (d : Document) → IsIn edit.now d heap.now.chunks chunk.0 → IsAt edit.now d bytes.now → MatchResult result (λ built. SplicesAt edit.now d built.1 built.0) (RefusesAtHand edit.now d) }
 {
     match edit {
         Edit::Resize(_, _, _)
@@ -41,7 +41,7 @@ pub fn build(
 fn build_plain(alloc: Global, heap: &Heap, chunk: ChunkHandle, edit: &Edit) -> Result<Splice, Fault>
     requires live { IsTrue (contains_key heap.now.chunks chunk.0) }
     requires plain { is_plain edit.now ≡ true }
-    ensures { (d : Document) → IsIn edit.now d heap.now.chunks chunk.0 → MatchResult result (SplicesAt edit.now d done.Nothing) (Refuses IsMemory edit.now d) }
+    ensures { (d : Document) → IsIn edit.now d heap.now.chunks chunk.0 → MatchResult result (SplicesAt edit.now d done.Nothing) (RefusesAtHand edit.now d) }
 {
     match edit {
         Edit::Resize(_, _, n) => chunk_edits::resize(alloc, heap, chunk, *n),
@@ -58,7 +58,7 @@ fn build_plain(alloc: Global, heap: &Heap, chunk: ChunkHandle, edit: &Edit) -> R
 fn build_in_array(alloc: Global, bytes: &[u8], edit: &Edit) -> Result<(Splice, Done), Fault>
     requires place { IsSome (place_of edit.now) }
     requires array { is_plain edit.now ≡ false }
-    ensures { (d : Document) → IsAt edit.now d bytes.now → MatchResult result (λ built. SplicesAt edit.now d built.1 built.0) (Refuses IsMemory edit.now d) }
+    ensures { (d : Document) → IsAt edit.now d bytes.now → MatchResult result (λ built. SplicesAt edit.now d built.1 built.0) (RefusesAtHand edit.now d) }
 {
     match edit {
         Edit::AddElement(_, _, element) => {
@@ -87,7 +87,7 @@ fn build_silent(alloc: Global, bytes: &[u8], edit: &Edit) -> Result<Splice, Faul
     requires place { IsSome (place_of edit.now) }
     requires array { is_plain edit.now ≡ false }
     requires silent { answers_token edit.now ≡ false }
-    ensures { (d : Document) → IsAt edit.now d bytes.now → MatchResult result (SplicesAt edit.now d done.Nothing) (Refuses IsMemory edit.now d) }
+    ensures { (d : Document) → IsAt edit.now d bytes.now → MatchResult result (SplicesAt edit.now d done.Nothing) (RefusesAtHand edit.now d) }
 {
     match edit {
         Edit::InsertElement(_, _, i, new) => chunk_arrays::insert(alloc, bytes, *i, new.as_slice()),
@@ -112,7 +112,7 @@ fn build_silent(alloc: Global, bytes: &[u8], edit: &Edit) -> Result<Splice, Faul
 /// What is in the chunk that an edit makes.
 pub fn build_chunk(alloc: Global, edit: &Edit) -> Result<Content, Fault>
     requires { IsSome (new_in edit.now) }
-    ensures { (d : Document) → IsHeapFor edit.now d → MatchResult result (λ content. CreatesAt edit.now d (bytes_of content)) (Refuses IsMemory edit.now d) }
+    ensures { (d : Document) → IsHeapFor edit.now d → MatchResult result (λ content. CreatesAt edit.now d (bytes_of content)) (RefusesAtHand edit.now d) }
 {
     match edit {
         Edit::Alloc(_, n) => Ok(Content::Zeros(*n)),
@@ -126,7 +126,7 @@ pub fn build_chunk(alloc: Global, edit: &Edit) -> Result<Content, Fault>
 /// The bytes of the array that an edit makes.
 fn build_array(alloc: Global, edit: &Edit) -> Result<Vec<u8>, Fault>
     requires { creates_array edit.now ≡ true }
-    ensures { (d : Document) → IsHeapFor edit.now d → MatchResult result (λ bytes. CreatesAt edit.now d bytes.items) (Refuses IsMemory edit.now d) }
+    ensures { (d : Document) → IsHeapFor edit.now d → MatchResult result (λ bytes. CreatesAt edit.now d bytes.items) (RefusesAtHand edit.now d) }
 {
     match edit {
         Edit::CreateArray(_, size, extra) => chunk_arrays::create_bytes(alloc, *size, *extra),

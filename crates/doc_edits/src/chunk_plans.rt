@@ -8,7 +8,7 @@ ghost use Rattle.vm_blocks.specs.Keeping.{is_loaded};
 ghost use Rattle.vm_blocks.specs.Allowing.{AllowsNewChunk};
 ghost use Rattle.vm_blocks.specs.Changes.{bytes_of};
 ghost use Rattle.doc_edits.specs.Building.{place_of, new_in, IsBuilt};
-ghost use Rattle.doc_edits.specs.Planning.{IsMemory, Plans, Refuses};
+ghost use Rattle.doc_edits.specs.Planning.{Plans, RefusesAtHand};
 
 use crate::building::{build, build_chunk};
 use crate::found::{bytes_in, heap_at};
@@ -30,7 +30,7 @@ pub fn plan_in_chunk<S: Store>(
     requires loaded { is_loaded blocks.now handle.0 ≡ true }
     requires heap { is_heap blocks.now.document handle.0 ≡ true }
     requires place { place_of edit.now ≡ Some (handle, chunk) }
-    ensures { MatchResult result (λ p. Plans edit.now blocks.now.document p.0 p.1) (Refuses IsMemory edit.now blocks.now.document) }
+    ensures { MatchResult result (λ p. Plans edit.now blocks.now.document p.0 p.1) (RefusesAtHand edit.now blocks.now.document) }
 {
     let heap = heap_at(blocks, handle);
     let bytes = bytes_in(heap, chunk)?;
@@ -65,7 +65,7 @@ pub fn plan_new_chunk<S: Store>(
     requires loaded { is_loaded blocks.now handle.0 ≡ true }
     requires heap { is_heap blocks.now.document handle.0 ≡ true }
     requires new { new_in edit.now ≡ Some handle }
-    ensures { MatchResult result (λ p. Plans edit.now blocks.now.document p.0 p.1) (Refuses IsMemory edit.now blocks.now.document) }
+    ensures { MatchResult result (λ p. Plans edit.now blocks.now.document p.0 p.1) (RefusesAtHand edit.now blocks.now.document) }
 {
     let heap = heap_at(blocks, handle);
     let content = build_chunk(alloc, edit)?;
@@ -114,7 +114,7 @@ pub fn plan_free_chunk<S: Store>(
 ) -> Result<(Change, Done), Fault>
     requires loaded { is_loaded blocks.now handle.0 ≡ true }
     requires heap { is_heap blocks.now.document handle.0 ≡ true }
-    ensures { MatchResult result (λ p. Plans (edits.Free handle chunk) blocks.now.document p.0 p.1) (Refuses IsMemory (edits.Free handle chunk) blocks.now.document) }
+    ensures { MatchResult result (λ p. Plans (edits.Free handle chunk) blocks.now.document p.0 p.1) (RefusesAtHand (edits.Free handle chunk) blocks.now.document) }
 {
     let heap = heap_at(blocks, handle);
     let bytes = bytes_in(heap, chunk)?;

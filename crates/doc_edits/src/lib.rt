@@ -9,5 +9,6 @@ mod found;
 pub mod look_ups;
 mod planning;
 mod raw_plans;
+mod room;
 
 pub use planning::plan;

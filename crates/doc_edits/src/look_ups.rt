@@ -1,18 +1,22 @@
 //! What is looked up of a document. A block that is looked into is brought into memory first, which may be refused; the answer
-//! is that of the document as it is held from then on. Of a chain each block is, one after another.
-ghost use Rattle.std.specs.Prelude.{[], IfErr, MatchResult, get_or, length};
+//! is that of the document as it is held from then on. Of a chain each block is, one after another. Each call answers its first
+//! refusal: NoBlock or WrongKind, which are known without the block; then CacheFull where it can't be brought into memory, since
+//! each frame has a locked block and it is none of them, and of a chain wherever each frame has one; then what its body refuses.
+//! Memory, File or Damaged may come in place of what follows CacheFull.
+ghost use Rattle.std.specs.Prelude.{◌≡◌, [], true, false, IfErr, MatchResult, Some, get_or, length};
 ghost use Rattle.std.specs.Borrow.{sem};
 ghost use Rattle.geos_model.specs.ArrayEdits.{array_in, on_array, on_element};
 ghost use Rattle.geos_model.specs.Reply.{AreEqual, BytesAre, NumberIs, TokenIs, reply_by, info_is, blocks_are, chunks_are};
 ghost use Rattle.geos_model.specs.declared.command.Command.TheVariants as commands;
 ghost use Rattle.vm_blocks.specs.contracts.file_blocks.FileBlocks.{the_row};
-ghost use Rattle.vm_blocks.specs.Keeping.{Keeps, IsSteady, Lacks};
-ghost use Rattle.vm_chains.specs.Answers.{IsWalkRefusal};
+ghost use Rattle.vm_blocks.specs.Keeping.{Keeps, IsSteady, Lacks, is_full, is_shut_out};
 ghost use Rattle.element_arrays.specs.Answering.{IsAnswered, IsRefused};
 ghost use Rattle.doc_edits.specs.Found.{IsChunkAt};
-ghost use Rattle.doc_edits.specs.LookUps.{Leaves, LooksUp, RefusesChunk, Sees};
+ghost use Rattle.doc_edits.specs.LookUps.{Leaves, LooksUp, RefusesChunk, Sees, answer_of};
+ghost use Rattle.doc_edits.specs.Room.{IsChainRefusal};
 
 use crate::found::{bytes_in, heap_at, raw_at};
+use crate::room::{test_chain, test_chains};
 use geos_model::{Bytes, ChunkHandle, Fault, Info, Token, VmHandle};
 use std::alloc::Global;
 use vm_blocks::{BlockBody, FileBlocks};
@@ -21,7 +25,7 @@ use vm_store::Store;
 /// A block's user ID and size.
 pub fn info<S: Store>(blocks: &mut FileBlocks<S>, block: VmHandle) -> Result<Info, Fault>
     ensures keeps { Keeps S.facts blocks.old blocks.new }
-    ensures value { LooksUp (Lacks S.facts blocks.old.disk.store blocks.new.disk.store) (commands.Info block) blocks.new.document (reply_by info_is result) }
+    ensures value { LooksUp (Lacks S.facts blocks.old.disk.store blocks.new.disk.store) (is_shut_out blocks.old block.0) (commands.Info block) blocks.new.document (reply_by info_is result) }
 {
     blocks.load(block)?;
     let user_id = blocks.user_id(block);
@@ -45,7 +49,7 @@ pub fn chunks<S: Store>(
     block: VmHandle,
 ) -> Result<Vec<ChunkHandle>, Fault>
     ensures keeps { Keeps S.facts blocks.old blocks.new }
-    ensures value { LooksUp (Lacks S.facts blocks.old.disk.store blocks.new.disk.store) (commands.Chunks block) blocks.new.document (reply_by (λ handles. chunks_are handles.items) result) }
+    ensures value { LooksUp (Lacks S.facts blocks.old.disk.store blocks.new.disk.store) (is_shut_out blocks.old block.0) (commands.Chunks block) blocks.new.document (reply_by (λ handles. chunks_are handles.items) result) }
 {
     blocks.load_heap(block)?;
     Ok(heap_at(blocks, block).handles()?)
@@ -58,7 +62,8 @@ fn chunk_at<S: Store>(
     chunk: ChunkHandle,
 ) -> Result<&[u8], Fault>
     ensures* leaves { sem 𝓛 (Leaves (the_row S.row S.Store) blocks.entry (λ loaded. Keeps S.facts blocks.old loaded
-        × MatchResult result (λ bytes. IsChunkAt loaded.document block.0 chunk.0 bytes.now) (RefusesChunk (Lacks S.facts blocks.old.disk.store loaded.disk.store) loaded.document block chunk))) }
+        × MatchResult result (λ bytes. (is_shut_out blocks.old block.0 ≡ false) × IsChunkAt loaded.document block.0 chunk.0 bytes.now)
+        (RefusesChunk (Lacks S.facts blocks.old.disk.store loaded.disk.store) (is_shut_out blocks.old block.0) loaded.document block chunk))) }
 {
     blocks.load_heap(block)?;
     bytes_in(heap_at(blocks, block), chunk)
@@ -82,7 +87,7 @@ pub fn array_count<S: Store>(
     chunk: ChunkHandle,
 ) -> Result<usize, Fault>
     ensures keeps { Keeps S.facts blocks.old blocks.new }
-    ensures value { LooksUp (Lacks S.facts blocks.old.disk.store blocks.new.disk.store) (commands.ArrayCount block chunk) blocks.new.document (reply_by NumberIs result) }
+    ensures value { LooksUp (Lacks S.facts blocks.old.disk.store blocks.new.disk.store) (is_shut_out blocks.old block.0) (commands.ArrayCount block chunk) blocks.new.document (reply_by NumberIs result) }
 {
     let bytes = chunk_at(blocks, block, chunk)?;
     count_in(bytes)
@@ -129,7 +134,7 @@ pub fn element_refs<S: Store>(
     token: Token,
 ) -> Result<u32, Fault>
     ensures keeps { Keeps S.facts blocks.old blocks.new }
-    ensures value { LooksUp (Lacks S.facts blocks.old.disk.store blocks.new.disk.store) (commands.ElementReferences block chunk token) blocks.new.document (reply_by NumberIs result) }
+    ensures value { LooksUp (Lacks S.facts blocks.old.disk.store blocks.new.disk.store) (is_shut_out blocks.old block.0) (commands.ElementReferences block chunk token) blocks.new.document (reply_by NumberIs result) }
 {
     let bytes = chunk_at(blocks, block, chunk)?;
     element_arrays::count_of(bytes, token)
@@ -155,7 +160,7 @@ pub fn elements_used<S: Store>(
     chunk: ChunkHandle,
 ) -> Result<usize, Fault>
     ensures keeps { Keeps S.facts blocks.old blocks.new }
-    ensures value { LooksUp (Lacks S.facts blocks.old.disk.store blocks.new.disk.store) (commands.ElementsUsed block chunk) blocks.new.document (reply_by NumberIs result) }
+    ensures value { LooksUp (Lacks S.facts blocks.old.disk.store blocks.new.disk.store) (is_shut_out blocks.old block.0) (commands.ElementsUsed block chunk) blocks.new.document (reply_by NumberIs result) }
 {
     let bytes = chunk_at(blocks, block, chunk)?;
     element_arrays::used_count(bytes)
@@ -169,7 +174,7 @@ pub fn token_of_used<S: Store>(
     k: u32,
 ) -> Result<Token, Fault>
     ensures keeps { Keeps S.facts blocks.old blocks.new }
-    ensures value { LooksUp (Lacks S.facts blocks.old.disk.store blocks.new.disk.store) (commands.TokenOfUsed block chunk k) blocks.new.document (reply_by (λ token. TokenIs token.0) result) }
+    ensures value { LooksUp (Lacks S.facts blocks.old.disk.store blocks.new.disk.store) (is_shut_out blocks.old block.0) (commands.TokenOfUsed block chunk k) blocks.new.document (reply_by (λ token. TokenIs token.0) result) }
 {
     let bytes = chunk_at(blocks, block, chunk)?;
     element_arrays::token_of_used(bytes, k)
@@ -183,7 +188,7 @@ pub fn used_of_token<S: Store>(
     token: Token,
 ) -> Result<usize, Fault>
     ensures keeps { Keeps S.facts blocks.old blocks.new }
-    ensures value { LooksUp (Lacks S.facts blocks.old.disk.store blocks.new.disk.store) (commands.UsedOfToken block chunk token) blocks.new.document (reply_by NumberIs result) }
+    ensures value { LooksUp (Lacks S.facts blocks.old.disk.store blocks.new.disk.store) (is_shut_out blocks.old block.0) (commands.UsedOfToken block chunk token) blocks.new.document (reply_by NumberIs result) }
 {
     let bytes = chunk_at(blocks, block, chunk)?;
     element_arrays::used_of_token(bytes, token)
@@ -197,7 +202,7 @@ pub fn name_find<S: Store>(
     name: &Bytes,
 ) -> Result<Token, Fault>
     ensures keeps { Keeps S.facts blocks.old blocks.new }
-    ensures value { LooksUp (Lacks S.facts blocks.old.disk.store blocks.new.disk.store) (commands.NameFind block chunk name.now) blocks.new.document (reply_by (λ token. TokenIs token.0) result) }
+    ensures value { LooksUp (Lacks S.facts blocks.old.disk.store blocks.new.disk.store) (is_shut_out blocks.old block.0) (commands.NameFind block chunk name.now) blocks.new.document (reply_by (λ token. TokenIs token.0) result) }
 {
     let bytes = chunk_at(blocks, block, chunk)?;
     name_arrays::find(bytes, name.as_slice())
@@ -211,7 +216,7 @@ pub fn name_refs<S: Store>(
     token: Token,
 ) -> Result<u32, Fault>
     ensures keeps { Keeps S.facts blocks.old blocks.new }
-    ensures value { LooksUp (Lacks S.facts blocks.old.disk.store blocks.new.disk.store) (commands.NameReferences block chunk token) blocks.new.document (reply_by NumberIs result) }
+    ensures value { LooksUp (Lacks S.facts blocks.old.disk.store blocks.new.disk.store) (is_shut_out blocks.old block.0) (commands.NameReferences block chunk token) blocks.new.document (reply_by NumberIs result) }
 {
     let bytes = chunk_at(blocks, block, chunk)?;
     name_arrays::count_of(bytes, token)
@@ -250,9 +255,11 @@ pub fn walk<S: Store>(
     root: VmHandle,
 ) -> Result<Vec<VmHandle>, Fault>
     ensures keeps { Keeps S.facts blocks.old blocks.new }
-    ensures value { IsSteady S.facts blocks.old.disk.store → LooksUp (Lacks S.facts blocks.old.disk.store blocks.new.disk.store) (commands.Walk root) blocks.new.document (reply_by (λ handles. blocks_are handles.items) result) }
-    ensures refusals { IfErr result (IsWalkRefusal (Lacks S.facts blocks.old.disk.store blocks.new.disk.store)) }
+    ensures value { IsSteady S.facts blocks.old.disk.store → LooksUp (Lacks S.facts blocks.old.disk.store blocks.new.disk.store) (is_full blocks.old) (commands.Walk root) blocks.new.document (reply_by (λ handles. blocks_are handles.items) result) }
+    ensures shut { is_full blocks.old ≡ true → (blocks.new ≡ blocks.old) × (answer_of true (commands.Walk root) blocks.old.document ≡ Some (reply_by (λ handles. blocks_are handles.items) result)) }
+    ensures refusals { IfErr result (IsChainRefusal (Lacks S.facts blocks.old.disk.store blocks.new.disk.store) (is_full blocks.old)) }
 {
+    test_chain(blocks, root)?;
     vm_chains::walk(alloc, blocks, root)
 }
 
@@ -263,9 +270,11 @@ pub fn chain_size<S: Store>(
     root: VmHandle,
 ) -> Result<u32, Fault>
     ensures keeps { Keeps S.facts blocks.old blocks.new }
-    ensures value { IsSteady S.facts blocks.old.disk.store → LooksUp (Lacks S.facts blocks.old.disk.store blocks.new.disk.store) (commands.ChainSize root) blocks.new.document (reply_by NumberIs result) }
-    ensures refusals { IfErr result (IsWalkRefusal (Lacks S.facts blocks.old.disk.store blocks.new.disk.store)) }
+    ensures value { IsSteady S.facts blocks.old.disk.store → LooksUp (Lacks S.facts blocks.old.disk.store blocks.new.disk.store) (is_full blocks.old) (commands.ChainSize root) blocks.new.document (reply_by NumberIs result) }
+    ensures shut { is_full blocks.old ≡ true → (blocks.new ≡ blocks.old) × (answer_of true (commands.ChainSize root) blocks.old.document ≡ Some (reply_by NumberIs result)) }
+    ensures refusals { IfErr result (IsChainRefusal (Lacks S.facts blocks.old.disk.store blocks.new.disk.store) (is_full blocks.old)) }
 {
+    test_chain(blocks, root)?;
     vm_chains::size(alloc, blocks, root)
 }
 
@@ -277,8 +286,10 @@ pub fn chain_equal<S: Store>(
     second: VmHandle,
 ) -> Result<bool, Fault>
     ensures keeps { Keeps S.facts blocks.old blocks.new }
-    ensures value { IsSteady S.facts blocks.old.disk.store → LooksUp (Lacks S.facts blocks.old.disk.store blocks.new.disk.store) (commands.ChainEqual first second) blocks.new.document (reply_by AreEqual result) }
-    ensures refusals { IfErr result (IsWalkRefusal (Lacks S.facts blocks.old.disk.store blocks.new.disk.store)) }
+    ensures value { IsSteady S.facts blocks.old.disk.store → LooksUp (Lacks S.facts blocks.old.disk.store blocks.new.disk.store) (is_full blocks.old) (commands.ChainEqual first second) blocks.new.document (reply_by AreEqual result) }
+    ensures shut { is_full blocks.old ≡ true → (blocks.new ≡ blocks.old) × (answer_of true (commands.ChainEqual first second) blocks.old.document ≡ Some (reply_by AreEqual result)) }
+    ensures refusals { IfErr result (IsChainRefusal (Lacks S.facts blocks.old.disk.store blocks.new.disk.store) (is_full blocks.old)) }
 {
+    test_chains(blocks, first, second)?;
     vm_chains::equal(alloc, blocks, first, second)
 }

@@ -1,10 +1,15 @@
-ghost use Rattle.std.specs.Prelude.{◌≡◌, ◌⊎◌, true, false, IfErr, IfOk, IsOk, MatchResult};
-ghost use Rattle.geos_model.specs.Machine.{kind_of};
+ghost use Rattle.std.specs.Prelude.{◌≡◌, ◌⊎◌, [], ◌∷◌, true, false, IfErr, IfOk, IsOk, MatchResult, Some};
+ghost use Rattle.geos_model.specs.Machine.{edit_needs, kind_of};
+ghost use Rattle.geos_model.specs.Meaning.{conditions};
+ghost use Rattle.geos_model.specs.Refusal.{first_refusal};
+ghost use Rattle.geos_model.specs.declared.command.Edit.TheVariants as edits;
 ghost use Rattle.geos_model.specs.declared.command.Kind.TheVariants.{Plain};
+ghost use Rattle.geos_model.specs.declared.fault.Fault.TheVariants.{CacheFull};
 ghost use Rattle.vm_blocks.specs.Keeping.{Keeps, IsSteady, Lacks};
 ghost use Rattle.vm_blocks.specs.Preparing.{IsReady};
 ghost use Rattle.doc_edits.specs.Building.{IsThere, is_of_chain, wanted};
-ghost use Rattle.doc_edits.specs.Planning.{kind_of_change, IsChainEditFault, IsMemory, Plans, Refuses};
+ghost use Rattle.doc_edits.specs.Planning.{freed_by, kind_of_change, IsChainEditFault, Plans, Refuses, RefusesAtHand};
+ghost use Rattle.doc_edits.specs.Room.{has_no_room};
 
 use crate::block_plans::{
     plan_copy_block, plan_free_block, plan_new_heap, plan_new_raw, plan_set_map, plan_set_user_id,
@@ -18,7 +23,9 @@ use vm_blocks::{Change, FileBlocks};
 use vm_store::Store;
 
 /// The change that an edit means in the document as it is after the call, and what it answers; or its first refusal there, or
-/// what the call lacked. Blocks may be brought into memory, and nothing else changes.
+/// what the call lacked. Blocks may be brought into memory, and nothing else changes. NoBlock and WrongKind come first; then
+/// CacheFull, where there is no frame for the block into whose body the edit looks, or some frame has to be free of locks for a
+/// chain and none is: then nothing changes at all.
 pub fn plan<S: Store>(
     alloc: Global,
     blocks: &mut FileBlocks<S>,
@@ -26,11 +33,17 @@ pub fn plan<S: Store>(
 ) -> Result<(Change, Done), Fault>
     ensures keeps { Keeps S.facts blocks.old blocks.new }
     ensures planned { (is_of_chain edit.now ≡ true → IsSteady S.facts blocks.old.disk.store)
-        → MatchResult result (λ p. Plans edit.now blocks.new.document p.0 p.1) (Refuses (Lacks S.facts blocks.old.disk.store blocks.new.disk.store) edit.now blocks.new.document) }
+        → MatchResult result (λ p. Plans edit.now blocks.new.document p.0 p.1)
+        (Refuses (Lacks S.facts blocks.old.disk.store blocks.new.disk.store) (has_no_room blocks.old (edit_needs edit.now)) edit.now blocks.new.document) }
     ensures ready { IfOk result (λ p. IsReady p.0 blocks.new) }
+    ensures room { IfOk result (λ _. has_no_room blocks.old (edit_needs edit.now) ≡ false) }
+    ensures shut { has_no_room blocks.old (edit_needs edit.now) ≡ true → (blocks.new ≡ blocks.old)
+        × IfErr result (λ fault. first_refusal ((CacheFull, true) ∷ conditions edit.now blocks.old.document) ≡ Some fault) }
     ensures kind { IfOk result (λ p. kind_of_change p.0 ≡ kind_of edit.now) }
-    ensures refusals { IfErr result (λ fault. Refuses (Lacks S.facts blocks.old.disk.store blocks.new.disk.store) edit.now blocks.new.document fault ⊎ IsChainEditFault edit.now fault) }
-    ensures plain { kind_of edit.now ≡ Plain → (blocks.new ≡ blocks.old) × IfErr result (Refuses IsMemory edit.now blocks.new.document) }
+    ensures alone { (b : VmHandle) → edit.now ≡ edits.FreeBlock b → IfOk result (λ p. freed_by p.0 ≡ b.0 ∷ []) }
+    ensures refusals { IfErr result (λ fault. Refuses (Lacks S.facts blocks.old.disk.store blocks.new.disk.store) (has_no_room blocks.old (edit_needs edit.now)) edit.now blocks.new.document fault
+        ⊎ IsChainEditFault edit.now fault) }
+    ensures plain { kind_of edit.now ≡ Plain → (blocks.new ≡ blocks.old) × IfErr result (RefusesAtHand edit.now blocks.new.document) }
 {
     match edit {
         Edit::CopyChain(root) => plan_copy_chain(alloc, blocks, *root),
@@ -47,9 +60,14 @@ fn plan_of_block<S: Store>(
 ) -> Result<(Change, Done), Fault>
     requires { is_of_chain edit.now ≡ false }
     ensures keeps { Keeps S.facts blocks.old blocks.new }
-    ensures planned { MatchResult result (λ p. Plans edit.now blocks.new.document p.0 p.1) (Refuses (Lacks S.facts blocks.old.disk.store blocks.new.disk.store) edit.now blocks.new.document) }
+    ensures planned { MatchResult result (λ p. Plans edit.now blocks.new.document p.0 p.1)
+        (Refuses (Lacks S.facts blocks.old.disk.store blocks.new.disk.store) (has_no_room blocks.old (edit_needs edit.now)) edit.now blocks.new.document) }
     ensures ready { IfOk result (λ p. IsReady p.0 blocks.new) }
-    ensures plain { kind_of edit.now ≡ Plain → (blocks.new ≡ blocks.old) × IfErr result (Refuses IsMemory edit.now blocks.new.document) }
+    ensures room { IfOk result (λ _. has_no_room blocks.old (edit_needs edit.now) ≡ false) }
+    ensures shut { has_no_room blocks.old (edit_needs edit.now) ≡ true → (blocks.new ≡ blocks.old)
+        × IfErr result (λ fault. first_refusal ((CacheFull, true) ∷ conditions edit.now blocks.old.document) ≡ Some fault) }
+    ensures alone { (b : VmHandle) → edit.now ≡ edits.FreeBlock b → IfOk result (λ p. freed_by p.0 ≡ b.0 ∷ []) }
+    ensures plain { kind_of edit.now ≡ Plain → (blocks.new ≡ blocks.old) × IfErr result (RefusesAtHand edit.now blocks.new.document) }
 {
     load_wanted(blocks, edit)?;
     plan_loaded(alloc, blocks, edit)
@@ -67,9 +85,13 @@ pub enum Wanted {
 /// Brings the block into memory into whose body the edit looks, if there is one. NoBlock where it isn't live, WrongKind where it is
 /// of another kind.
 fn load_wanted<S: Store>(blocks: &mut FileBlocks<S>, edit: &Edit) -> Result<(), Fault>
+    requires { is_of_chain edit.now ≡ false }
     ensures keeps { Keeps S.facts blocks.old blocks.new }
     ensures ok { IfOk result (λ _. IsThere blocks.new (wanted edit.now)) }
-    ensures err { IfErr result (Refuses (Lacks S.facts blocks.old.disk.store blocks.new.disk.store) edit.now blocks.new.document) }
+    ensures room { IfOk result (λ _. has_no_room blocks.old (edit_needs edit.now) ≡ false) }
+    ensures shut { has_no_room blocks.old (edit_needs edit.now) ≡ true → (blocks.new ≡ blocks.old)
+        × IfErr result (λ fault. first_refusal ((CacheFull, true) ∷ conditions edit.now blocks.old.document) ≡ Some fault) }
+    ensures err { IfErr result (Refuses (Lacks S.facts blocks.old.disk.store blocks.new.disk.store) (has_no_room blocks.old (edit_needs edit.now)) edit.now blocks.new.document) }
     ensures plain { kind_of edit.now ≡ Plain → IsOk result × (blocks.new ≡ blocks.old) }
 {
     match block_wanted(edit) {
@@ -126,7 +148,8 @@ fn plan_loaded<S: Store>(
 ) -> Result<(Change, Done), Fault>
     requires of_block { is_of_chain edit.now ≡ false }
     requires there { IsThere blocks.now (wanted edit.now) }
-    ensures { MatchResult result (λ p. Plans edit.now blocks.now.document p.0 p.1) (Refuses IsMemory edit.now blocks.now.document) }
+    ensures planned { MatchResult result (λ p. Plans edit.now blocks.now.document p.0 p.1) (RefusesAtHand edit.now blocks.now.document) }
+    ensures alone { (b : VmHandle) → edit.now ≡ edits.FreeBlock b → IfOk result (λ p. freed_by p.0 ≡ b.0 ∷ []) }
 {
     match edit {
         Edit::NewRaw(user_id, size) => plan_new_raw(alloc, blocks, *user_id, *size),

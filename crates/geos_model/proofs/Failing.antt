@@ -6,11 +6,11 @@ use Rattle.std.specs.List.{list_all}
 use Rattle.std.specs.Option.{option_map, option_map_or}
 use Rattle.geos_model.specs.Refusal.{one_order, applies, first_refusal}
 use Rattle.geos_model.specs.Reply.{Reply, Accepted, Refused}
-use Rattle.geos_model.specs.Machine.{Machine, Request, UndoStep, Step, Answers, GivesUp, command_conditions, done_by, undone, redone, takes_memory, calls_store, may_give_up}
+use Rattle.geos_model.specs.Machine.{Machine, Request, UndoStep, Step, Answers, GivesUp, command_conditions, done_by, undone, redone, takes_memory, calls_store, may_give_up, has_locks}
 use Rattle.geos_model.specs.Undoing.{is_refused}
 use Rattle.geos_model.specs.Failing.{FailingLaw, IsTakenOrGivenUp}
 use Rattle.geos_model.specs.declared.fault.Fault.{Fault}
-use Rattle.geos_model.specs.declared.fault.Fault.TheVariants.{Memory, File, NothingToUndo, NothingToRedo}
+use Rattle.geos_model.specs.declared.fault.Fault.TheVariants.{Memory, File, Locked, NothingToUndo, NothingToRedo}
 use Rattle.geos_model.specs.declared.command.Command.{Command}
 use Rattle.geos_model.specs.declared.command.Command.TheVariants as commands
 use Rattle.geos_model.proofs.Undoing.{OnDone, IsAnswer, on_done, done_by-answers, same_reply, refused, both_true}
@@ -81,17 +81,19 @@ store-failed failed old new request step =
 some-there : {A : Type 0} (x : A) (xs : List A) → (length (x ∷ xs) == 0) ≡ false
 some-there x xs = grind (arith, nat_tests)
 
-undone-accepted : (m new : Machine) (past : List UndoStep) (reply : Reply) → (past ≡ [] → ⊥)
-    → option_map_or {U = Option (Reply × Machine)} (λ fault. Some (Refused fault, m)) (first_refusal ((NothingToUndo, length past == 0) ∷ [])) (option_map (λ next. (Accepted, next)) (undone m past)) ≡ Some (reply, new)
+undone-accepted : (m new : Machine) (locked : Bool) (past : List UndoStep) (reply : Reply) → locked ≡ false → (past ≡ [] → ⊥)
+    → option_map_or {U = Option (Reply × Machine)} (λ fault. Some (Refused fault, m)) (first_refusal ((Locked, locked) ∷ (NothingToUndo, length past == 0) ∷ [])) (option_map (λ next. (Accepted, next)) (undone m past)) ≡ Some (reply, new)
     → reply ≡ Accepted
-undone-accepted m new [] reply some is = absurd (some refl)
-undone-accepted m new (s ∷ past) reply some is = sym (same_reply (rw (some-there s past) at is))
+undone-accepted m new locked [] reply free some is = absurd (some refl)
+undone-accepted m new true (s ∷ past) reply free some is = absurd (cc free)
+undone-accepted m new false (s ∷ past) reply free some is = sym (same_reply (rw (some-there s past) at is))
 
-redone-accepted : (m new : Machine) (future : List UndoStep) (reply : Reply) → (future ≡ [] → ⊥)
-    → option_map_or {U = Option (Reply × Machine)} (λ fault. Some (Refused fault, m)) (first_refusal ((NothingToRedo, length future == 0) ∷ [])) (option_map (λ next. (Accepted, next)) (redone m future)) ≡ Some (reply, new)
+redone-accepted : (m new : Machine) (locked : Bool) (future : List UndoStep) (reply : Reply) → locked ≡ false → (future ≡ [] → ⊥)
+    → option_map_or {U = Option (Reply × Machine)} (λ fault. Some (Refused fault, m)) (first_refusal ((Locked, locked) ∷ (NothingToRedo, length future == 0) ∷ [])) (option_map (λ next. (Accepted, next)) (redone m future)) ≡ Some (reply, new)
     → reply ≡ Accepted
-redone-accepted m new [] reply some is = absurd (some refl)
-redone-accepted m new (s ∷ future) reply some is = sym (same_reply (rw (some-there s future) at is))
+redone-accepted m new locked [] reply free some is = absurd (some refl)
+redone-accepted m new true (s ∷ future) reply free some is = absurd (cc free)
+redone-accepted m new false (s ∷ future) reply free some is = sym (same_reply (rw (some-there s future) at is))
 
 -- a fault that no rule decides is one of two, and File only where the store failed
 gives_up : (failed : Bool) (old : Machine) (c : Command) (fault : Fault) → may_give_up failed c old fault ≡ true → (fault ≡ Memory) ⊎ ((fault ≡ File) × (failed ≡ true))
@@ -108,13 +110,13 @@ given_up failed old new c reply out = inr (
   ],
 )
 
-undo-taken : (failed : Bool) (old new : Machine) (reply : Reply) → (old.past ≡ [] → ⊥) → Step failed old (Some commands.Undo) reply new → IsTakenOrGivenUp failed old reply new
-undo-taken failed old new reply some (inl is) = inl (undone-accepted old new old.past reply some is)
-undo-taken failed old new reply some (inr out) = given_up failed old new commands.Undo reply out
+undo-taken : (failed : Bool) (old new : Machine) (reply : Reply) → has_locks old ≡ false → (old.past ≡ [] → ⊥) → Step failed old (Some commands.Undo) reply new → IsTakenOrGivenUp failed old reply new
+undo-taken failed old new reply free some (inl is) = inl (undone-accepted old new (has_locks old) old.past reply free some is)
+undo-taken failed old new reply free some (inr out) = given_up failed old new commands.Undo reply out
 
-redo-taken : (failed : Bool) (old new : Machine) (reply : Reply) → (old.future ≡ [] → ⊥) → Step failed old (Some commands.Redo) reply new → IsTakenOrGivenUp failed old reply new
-redo-taken failed old new reply some (inl is) = inl (redone-accepted old new old.future reply some is)
-redo-taken failed old new reply some (inr out) = given_up failed old new commands.Redo reply out
+redo-taken : (failed : Bool) (old new : Machine) (reply : Reply) → has_locks old ≡ false → (old.future ≡ [] → ⊥) → Step failed old (Some commands.Redo) reply new → IsTakenOrGivenUp failed old reply new
+redo-taken failed old new reply free some (inl is) = inl (redone-accepted old new (has_locks old) old.future reply free some is)
+redo-taken failed old new reply free some (inr out) = given_up failed old new commands.Redo reply out
 
 pub failing_law : FailingLaw
 failing_law = record {

@@ -16,6 +16,7 @@ pub mod FreeLists
 pub mod ElementArrays
 pub mod NameArrays
 pub mod Refusals
+pub mod InFront
 pub mod Order
 pub mod ArrayEdits
 pub mod UsedElements
@@ -33,4 +34,5 @@ pub mod BlockLists
 pub mod CopiedChains
 mod ChainShapes
 pub mod ChainEdits
+pub mod Locks
 pub mod ValidSteps

@@ -1,5 +1,5 @@
 -- Where nothing refuses, no refusal's condition holds.
-use Rattle.std.proofs.Common.{◌≡◌, ℕ, Bool, true, false, ◌==◌, ◌&&◌, ◌||◌, List, [], ◌∷◌, Some, None, find, sym, ap, subst, ◌∙◌, inl, inr, eqb-true}
+use Rattle.std.proofs.Common.{◌≡◌, ℕ, Bool, true, false, ◌==◌, ◌&&◌, ◌||◌, List, [], ◌∷◌, Some, None, find, refl, sym, ap, subst, ◌∙◌, inl, inr, eqb-true}
 use Rattle.std.proofs.lemmas.Bool.{cases_Bool, true≢false, cond-true, cond-false, or_parts}
 use Rattle.std.specs.List.{list_any}
 use Rattle.geos_model.specs.Refusal.{Conditions, number_of_fault, one_order, applies, first_refusal}
@@ -29,3 +29,15 @@ none_applies cs none f member = none_found cs f one_order none member
 -- Neither of two conditions holds.
 pub or_none : {x y : Bool} → (x || y) ≡ false → (x ≡ false) × (y ≡ false)
 or_none {x = x} {y = y} none = or_parts x y none
+
+-- What is found nowhere isn't found where fewer pass.
+found_nowhere : (p q : Fault → Bool) (fs : List Fault) → ((f : Fault) → p f ≡ false → q f ≡ false) → find p fs ≡ None → find q fs ≡ None
+found_nowhere p q [] fewer none = refl
+found_nowhere p q (f ∷ fs) fewer none = elim (cases_Bool (p f)) [
+  | inl e ↦ absurd (cc (rw e at none))
+  | inr e ↦ rw (fewer f e) (found_nowhere p q fs fewer (rw e at none))
+]
+
+-- Where nothing refuses, nothing does without the first condition.
+pub rest_none : (c : Fault × Bool) (cs : Conditions) → first_refusal (c ∷ cs) ≡ None → first_refusal cs ≡ None
+rest_none c cs none = found_nowhere (applies (c ∷ cs)) (applies cs) one_order (λ f e. (or_none e).1) none

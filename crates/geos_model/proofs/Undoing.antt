@@ -86,6 +86,10 @@ done_by-answers (commands.NamePart b c t) m = refl
 done_by-answers (commands.Walk b) m = refl
 done_by-answers (commands.ChainSize b) m = refl
 done_by-answers (commands.ChainEqual b other) m = refl
+done_by-answers (commands.Lock b) m = refl
+done_by-answers (commands.Unlock b) m = refl
+done_by-answers (commands.Dirty b) m = refl
+done_by-answers (commands.Locks b) m = refl
 done_by-answers commands.Undos m = refl
 done_by-answers commands.Redos m = refl
 
@@ -104,8 +108,14 @@ stores commands.Save = true
 stores commands.SaveAs = true
 stores c = false
 
--- a command that moves nothing and stores nothing leaves the machine
-pub done_by-stays : (c : Command) (m : Machine) → (moves (Some c) || stores c) ≡ false → OnDone (IsAt m) (done_by c m)
+-- a lock or an unlock
+abbrev pub counts_locks : Command → Bool
+counts_locks (commands.Lock b) = true
+counts_locks (commands.Unlock b) = true
+counts_locks c = false
+
+-- a command that moves nothing, stores nothing and counts no lock leaves the machine
+pub done_by-stays : (c : Command) (m : Machine) → (moves (Some c) || stores c || counts_locks c) ≡ false → OnDone (IsAt m) (done_by c m)
 done_by-stays (commands.Edit e) m h = absurd (cc h)
 done_by-stays commands.Undo m h = absurd (cc h)
 done_by-stays commands.Redo m h = absurd (cc h)
@@ -113,6 +123,10 @@ done_by-stays commands.Update m h = absurd (cc h)
 done_by-stays commands.Save m h = absurd (cc h)
 done_by-stays commands.Revert m h = absurd (cc h)
 done_by-stays commands.SaveAs m h = absurd (cc h)
+done_by-stays (commands.Lock b) m h = absurd (cc h)
+done_by-stays (commands.Unlock b) m h = absurd (cc h)
+done_by-stays (commands.Dirty b) m h = refl
+done_by-stays (commands.Locks b) m h = refl
 done_by-stays commands.Blank m h = tt
 done_by-stays (commands.Info b) m h = looked_up-stays m (look_up (commands.Info b) m.document)
 done_by-stays commands.List m h = refl
@@ -159,6 +173,8 @@ done_by-leaves commands.Revert m h = absurd (cc h)
 done_by-leaves commands.Update m h = refl
 done_by-leaves commands.Save m h = refl
 done_by-leaves commands.SaveAs m h = refl
+done_by-leaves (commands.Lock b) m h = refl
+done_by-leaves (commands.Unlock b) m h = refl
 done_by-leaves c m h = at-has_lists m (done_by c m) (done_by-stays c m refl)
 
 -- a reply and the machine after it

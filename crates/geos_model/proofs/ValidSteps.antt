@@ -1,5 +1,5 @@
 -- Every step of the machine keeps validity: edits, then the machine.
-use Rattle.std.proofs.Common.{◌≡◌, ℕ, zero, suc, ◌+◌, ◌<◌, ◌≤◌, Bool, true, List, [], ◌∷◌, length, replicate, Option, Some, None, unwrap_or, refl, sym, ap, subst, inl, inr, arith, le-leb, ltb-false}
+use Rattle.std.proofs.Common.{◌≡◌, ℕ, zero, suc, ◌+◌, ◌<◌, ◌≤◌, Bool, true, false, List, [], ◌∷◌, length, replicate, Option, Some, None, unwrap_or, refl, sym, ap, subst, inl, inr, arith, le-leb, ltb-false}
 use Rattle.std.proofs.lemmas.Bool.{eqb-false}
 use Rattle.std.proofs.lemmas.List.{length-replicate}
 use Rattle.std.specs.List.{All}
@@ -17,16 +17,18 @@ use Rattle.geos_model.specs.Cost.{cost}
 use Rattle.geos_model.specs.Document.{Block, Document, empty_document, is_valid_body, is_live, raw_bytes_of, block_at, IsValid}
 use Rattle.geos_model.specs.Meaning.{chunk_at, past_end, conditions, effect}
 use Rattle.geos_model.specs.Reply.{Reply, Accepted, Refused}
-use Rattle.geos_model.specs.Machine.{UndoStep, Machine, Request, Call, IsValidMachine, Step, Run, opened_machine, command_conditions, done_by, edited, undone, redone, kind_of}
+use Rattle.geos_model.specs.Machine.{UndoStep, Machine, Request, Call, IsValidMachine, Step, Run, opened_machine, has_locks, is_barred, command_conditions, done_by, edited, undone, redone, after_update, after_save, after_revert, after_save_as, kind_of}
 use Rattle.geos_model.specs.Validity.{user_id_given, user_id_asked, ValidityLaw}
 use Rattle.geos_model.specs.declared.fault.Fault.{Fault}
-use Rattle.geos_model.specs.declared.fault.Fault.TheVariants.{NoBlock, TooBig, NoHandles, Range, IsMap}
+use Rattle.geos_model.specs.declared.fault.Fault.TheVariants.{Locked, NoBlock, TooBig, NoHandles, Range, IsMap}
 use Rattle.geos_model.specs.declared.command.Body.TheVariants.{Raw, Heap}
 use Rattle.geos_model.specs.declared.command.Edit.{Edit}
 use Rattle.geos_model.specs.declared.command.Edit.TheVariants as edits
 use Rattle.geos_model.specs.declared.command.Command.{Command}
 use Rattle.geos_model.specs.declared.command.Command.TheVariants as commands
 use Rattle.geos_model.proofs.Refusals.{none_applies, or_none}
+use Rattle.geos_model.proofs.InFront.{edit-accepted}
+use Rattle.geos_model.proofs.Locks.{no_locks-valid, kept_locks-valid, empty_locks-valid, locked-live, lock-valid, unlock-valid}
 use Rattle.geos_model.proofs.ChainEdits.{chain-copy, chain-free}
 use Rattle.geos_model.proofs.Undoing.{OnDone, IsAt, on_done, done_by-stays, same_machine}
 use Rattle.geos_model.proofs.Validity.{not_false, without_block-valid, with_body-valid, with_user_id-valid, with_map-valid, block_there, makes_block-valid, raw_bytes-few, length-written, length-deleted, new_chunk-valid, new_bytes-valid, fewer_bytes-valid, without_chunk-valid, empty-heap, empty_document-valid}
@@ -134,33 +136,36 @@ valid-none k d l = absurd (omega arith)
 abbrev IsLeftValid : Reply → Machine → Type 0
 IsLeftValid reply new = IsValidMachine new
 
-undone-valid : (m : Machine) (past : List UndoStep) → IsValidMachine m → AreValid past → OnDone IsLeftValid (option_map (λ new. (Accepted, new)) (undone m past))
-undone-valid m [] valid past = tt
-undone-valid m (s ∷ past) valid all = record {
+undone-valid : (m : Machine) (past : List UndoStep) → has_locks m ≡ false → IsValidMachine m → AreValid past → OnDone IsLeftValid (option_map (λ new. (Accepted, new)) (undone m past))
+undone-valid m [] free valid past = tt
+undone-valid m (s ∷ past) free valid all = record {
   document = valid-first s past all;
   past = valid-rest s past all;
   future = valid-push (record s { document = m.document }) m.future valid.document valid.future;
   updated = valid.updated;
   saved = valid.saved;
+  locks = no_locks-valid m (unwrap_or (undone m (s ∷ past)) m) valid.locks free refl refl;
 }
 
-redone-valid : (m : Machine) (future : List UndoStep) → IsValidMachine m → AreValid future → OnDone IsLeftValid (option_map (λ new. (Accepted, new)) (redone m future))
-redone-valid m [] valid future = tt
-redone-valid m (s ∷ future) valid all = record {
+redone-valid : (m : Machine) (future : List UndoStep) → has_locks m ≡ false → IsValidMachine m → AreValid future → OnDone IsLeftValid (option_map (λ new. (Accepted, new)) (redone m future))
+redone-valid m [] free valid future = tt
+redone-valid m (s ∷ future) free valid all = record {
   document = valid-first s future all;
   past = valid-push (record s { document = m.document }) m.past valid.document valid.past;
   future = valid-rest s future all;
   updated = valid.updated;
   saved = valid.saved;
+  locks = no_locks-valid m (unwrap_or (redone m (s ∷ future)) m) valid.locks free refl refl;
 }
 
-edited-valid : (e : Edit) (m : Machine) → user_id_given e < 65536 → IsValidMachine m → first_refusal (conditions e m.document) ≡ None → IsValidMachine (edited e m).1
-edited-valid e m low valid none = record {
+edited-valid : (e : Edit) (m : Machine) → user_id_given e < 65536 → IsValidMachine m → is_barred e m ≡ false → first_refusal (conditions e m.document) ≡ None → IsValidMachine (edited e m).1
+edited-valid e m low valid free none = record {
   document = effect-valid e m.document low valid.document none;
   past = valid-push (record { kind = kind_of e; cost = cost e m.document (effect e m.document).0; document = m.document }) m.past valid.document valid.past;
   future = valid-none;
   updated = valid.updated;
   saved = valid.saved;
+  locks = kept_locks-valid m (edited e m).1 valid.locks refl refl (locked-live e m free);
 }
 
 -- what leaves the machine leaves it valid
@@ -169,13 +174,59 @@ stays-valid m None valid stays = tt
 stays-valid m (Some (reply, new)) valid stays = subst IsValidMachine (sym stays) valid
 
 done_by-valid : (c : Command) (m : Machine) → user_id_asked (Some c) < 65536 → IsValidMachine m → first_refusal (command_conditions c m) ≡ None → OnDone IsLeftValid (done_by c m)
-done_by-valid (commands.Edit e) m low valid none = edited-valid e m low valid none
-done_by-valid commands.Undo m low valid none = undone-valid m m.past valid valid.past
-done_by-valid commands.Redo m low valid none = redone-valid m m.future valid valid.future
-done_by-valid commands.Update m low valid none = record { document = valid.document; past = valid.past; future = valid.future; updated = valid.document; saved = valid.saved }
-done_by-valid commands.Save m low valid none = record { document = valid.document; past = valid.past; future = valid.future; updated = valid.document; saved = valid.document }
-done_by-valid commands.Revert m low valid none = record { document = valid.saved; past = valid-none; future = valid-none; updated = valid.saved; saved = valid.saved }
-done_by-valid commands.SaveAs m low valid none = record { document = valid.document; past = valid.past; future = valid.future; updated = valid.document; saved = valid.document }
+done_by-valid (commands.Edit e) m low valid none =
+    let free = (or_none (none_applies (command_conditions (commands.Edit e) m) none Locked refl)).0 in
+    edited-valid e m low valid free (edit-accepted e m none)
+done_by-valid commands.Undo m low valid none = undone-valid m m.past (or_none (none_applies (command_conditions commands.Undo m) none Locked refl)).0 valid valid.past
+done_by-valid commands.Redo m low valid none = redone-valid m m.future (or_none (none_applies (command_conditions commands.Redo m) none Locked refl)).0 valid valid.future
+done_by-valid commands.Update m low valid none = record {
+  document = valid.document;
+  past = valid.past;
+  future = valid.future;
+  updated = valid.document;
+  saved = valid.saved;
+  locks = kept_locks-valid m (after_update m) valid.locks refl refl (λ b locked live. live);
+}
+done_by-valid commands.Save m low valid none = record {
+  document = valid.document;
+  past = valid.past;
+  future = valid.future;
+  updated = valid.document;
+  saved = valid.document;
+  locks = kept_locks-valid m (after_save m) valid.locks refl refl (λ b locked live. live);
+}
+done_by-valid commands.Revert m low valid none = record {
+  document = valid.saved;
+  past = valid-none;
+  future = valid-none;
+  updated = valid.saved;
+  saved = valid.saved;
+  locks = no_locks-valid m (after_revert m) valid.locks (or_none (none_applies (command_conditions commands.Revert m) none Locked refl)).0 refl refl;
+}
+done_by-valid commands.SaveAs m low valid none = record {
+  document = valid.document;
+  past = valid.past;
+  future = valid.future;
+  updated = valid.document;
+  saved = valid.document;
+  locks = kept_locks-valid m (after_save_as m) valid.locks refl refl (λ b locked live. live);
+}
+done_by-valid (commands.Lock b) m low valid none = record {
+  document = valid.document;
+  past = valid.past;
+  future = valid.future;
+  updated = valid.updated;
+  saved = valid.saved;
+  locks = lock-valid m b valid.locks none;
+}
+done_by-valid (commands.Unlock b) m low valid none = record {
+  document = valid.document;
+  past = valid.past;
+  future = valid.future;
+  updated = valid.updated;
+  saved = valid.saved;
+  locks = unlock-valid m b valid.locks none;
+}
 done_by-valid c m low valid none = stays-valid m (done_by c m) valid (done_by-stays c m refl)
 
 answered-valid : (refusal : Option Fault) (m new : Machine) (o : Option (Reply × Machine)) (reply : Reply) → IsValidMachine m → (refusal ≡ None → OnDone IsLeftValid o)
@@ -195,7 +246,14 @@ run-valid old new (c ∷ cs) low valid run =
     run-valid run.0 new cs (λ k d l. low (suc k) d (omega arith)) (step-valid old run.0 c.request c.reply c.failed (low 0 c (omega arith)) valid run.1) run.2
 
 opened-valid : (updated saved : Document) (sequence frames : ℕ) (target : Bool) → IsValid updated → IsValid saved → IsValidMachine (opened_machine updated saved sequence frames target)
-opened-valid updated saved sequence frames target good was = record { document = good; past = valid-none; future = valid-none; updated = good; saved = was }
+opened-valid updated saved sequence frames target good was = record {
+  document = good;
+  past = valid-none;
+  future = valid-none;
+  updated = good;
+  saved = was;
+  locks = empty_locks-valid (opened_machine updated saved sequence frames target) refl;
+}
 
 pub validity_law : ValidityLaw
 validity_law = record {

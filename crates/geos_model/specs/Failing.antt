@@ -1,7 +1,7 @@
 -- When a call may fail in place of its answer.
-use Rattle.std.specs.Prelude.{◌≡◌, ◌⊎◌, Bool, true, [], Some}
+use Rattle.std.specs.Prelude.{◌≡◌, ◌⊎◌, Bool, true, false, [], Some}
 use Rattle.geos_model.specs.Reply.{Reply, Accepted, Refused}
-use Rattle.geos_model.specs.Machine.{Machine, Request, Step, takes_memory, calls_store}
+use Rattle.geos_model.specs.Machine.{Machine, Request, Step, takes_memory, calls_store, has_locks}
 use Rattle.geos_model.specs.Undoing.{is_refused}
 use Rattle.geos_model.specs.declared.command.Command.{Command}
 use Rattle.geos_model.specs.declared.command.Command.TheVariants as commands
@@ -19,6 +19,7 @@ pub record FailingLaw : Type 0 where
       → (c : Command) × (request ≡ Some c) × (takes_memory c old ≡ true)
   pub file : (failed : Bool) (old new : Machine) (request : Request) → Step failed old request (Refused File) new
       → (failed ≡ true) × (c : Command) × (request ≡ Some c) × (calls_store c old ≡ true)
-  -- where there is something to take back, an undo is refused for nothing else, and so is a redo where there is something to make again
-  pub undo : (failed : Bool) (old new : Machine) (reply : Reply) → (old.past ≡ [] → ⊥) → Step failed old (Some commands.Undo) reply new → IsTakenOrGivenUp failed old reply new
-  pub redo : (failed : Bool) (old new : Machine) (reply : Reply) → (old.future ≡ [] → ⊥) → Step failed old (Some commands.Redo) reply new → IsTakenOrGivenUp failed old reply new
+  -- Where no block is locked and there is something to take back, an undo is refused for nothing else; and so is a redo where there is
+  -- something to make again.
+  pub undo : (failed : Bool) (old new : Machine) (reply : Reply) → has_locks old ≡ false → (old.past ≡ [] → ⊥) → Step failed old (Some commands.Undo) reply new → IsTakenOrGivenUp failed old reply new
+  pub redo : (failed : Bool) (old new : Machine) (reply : Reply) → has_locks old ≡ false → (old.future ≡ [] → ⊥) → Step failed old (Some commands.Redo) reply new → IsTakenOrGivenUp failed old reply new

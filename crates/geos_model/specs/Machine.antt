@@ -1,15 +1,15 @@
 -- The machine: a document with its past and its future, and what the file has of it.
-use Rattle.std.specs.Prelude.{◌≡◌, ◌⊎◌, ℕ, ◌+◌, List, [], ◌∷◌, Bool, true, false, not, ◌==◌, ◌&&◌, length, count_by, All, Option, Some, None}
+use Rattle.std.specs.Prelude.{◌≡◌, ◌⊎◌, ◌≤◌, ℕ, ◌+◌, ◌-◌, List, [], ◌∷◌, Bool, true, false, not, ◌==◌, ◌&&◌, nat_le, nat_lt, if◌then◌else◌, length, count_by, All, Option, Some, None, unwrap_or}
 use Rattle.std.specs.Ordering.{nat_cmp}
-use Rattle.std.specs.FinMap.{FinMap, empty}
+use Rattle.std.specs.FinMap.{FinMap, empty, get, insert, remove, contains_key, len}
 use Rattle.std.specs.Option.{option_map, option_map_or}
 use Rattle.geos_model.specs.Refusal.{Conditions, first_refusal}
-use Rattle.geos_model.specs.Document.{Document, empty_document, IsValid}
-use Rattle.geos_model.specs.Meaning.{conditions, effect}
+use Rattle.geos_model.specs.Document.{Document, empty_document, IsValid, is_live, is_raw, chunks_of, raw_bytes_of}
+use Rattle.geos_model.specs.Meaning.{conditions, effect, on_block}
 use Rattle.geos_model.specs.Cost.{cost}
 use Rattle.geos_model.specs.Reply.{Reply, Accepted, Refused, NumberIs, reply_of_done, look_up_conditions, look_up}
 use Rattle.geos_model.specs.declared.fault.Fault.{Fault}
-use Rattle.geos_model.specs.declared.fault.Fault.TheVariants.{Memory, File, BadCommand, NothingToUndo, NothingToRedo, NoTarget, Worn}
+use Rattle.geos_model.specs.declared.fault.Fault.TheVariants.{Memory, File, BadCommand, Locked, NotLocked, LockLimit, CacheFull, NothingToUndo, NothingToRedo, NoTarget, Worn}
 use Rattle.geos_model.specs.declared.command.Kind.{Kind}
 use Rattle.geos_model.specs.declared.command.Kind.TheVariants.{Plain, In, Made, Freed}
 use Rattle.geos_model.specs.declared.command.Edit.{Edit}
@@ -53,13 +53,24 @@ opened_machine updated saved sequence frames target = record {
 abbrev pub empty_machine : ℕ → Bool → Machine
 empty_machine frames target = opened_machine empty_document empty_document 1 frames target
 
--- each of its documents is valid
+-- how often a block can be locked
+abbrev pub most_locks : ℕ
+most_locks = 255
+
+-- Locked blocks are live, each is locked 1 to 255 times, and there are no more of them than may be held in memory.
+pub record AreValidLocks (m : Machine) : Type 0 where
+  pub live : (b n : ℕ) → get m.locks b ≡ Some n → is_live m.document b ≡ true
+  pub count : (b n : ℕ) → get m.locks b ≡ Some n → (1 ≤ n) × (n ≤ most_locks)
+  pub few : len m.locks ≤ m.frames
+
+-- each of its documents is valid, and so are its locks
 pub record IsValidMachine (m : Machine) : Type 0 where
   pub document : IsValid m.document
   pub past : All (λ s. IsValid s.document) m.past
   pub future : All (λ s. IsValid s.document) m.future
   pub updated : IsValid m.updated
   pub saved : IsValid m.saved
+  pub locks : AreValidLocks m
 
 -- what is asked of the machine: a command, or None for a line that is none
 abbrev pub Request : Type 0
@@ -100,24 +111,123 @@ kind_of (edits.RemoveName b c t) = In b
 kind_of (edits.CopyChain b) = Made
 kind_of (edits.FreeChain b) = Freed
 
+-- Which bodies a command looks into, so that their blocks have to be in memory: none, that of one block, or those of a chain.
+pub data Needs : Type 0 where
+  NoBody : Needs
+  OneBody : (block : ℕ) → Needs
+  ManyBodies : Needs
+
+-- an edit of a body looks into that, and one by which blocks are made or freed into none
+abbrev pub needs_of_kind : Kind → Needs
+needs_of_kind Plain = NoBody
+needs_of_kind (In b) = OneBody b.0
+needs_of_kind Made = NoBody
+needs_of_kind Freed = NoBody
+
+-- but those that free or copy blocks which are there; a user ID and the map block are set without a body
+abbrev pub edit_needs : Edit → Needs
+edit_needs (edits.FreeBlock b) = OneBody b.0
+edit_needs (edits.CopyBlock b) = OneBody b.0
+edit_needs (edits.CopyChain b) = ManyBodies
+edit_needs (edits.FreeChain b) = ManyBodies
+edit_needs e = needs_of_kind (kind_of e)
+
+-- so of a look-up
+abbrev pub look_up_needs : Command → Needs
+look_up_needs (commands.Info b) = OneBody b.0
+look_up_needs (commands.ReadRaw b) = OneBody b.0
+look_up_needs (commands.Chunks b) = OneBody b.0
+look_up_needs (commands.Read b c) = OneBody b.0
+look_up_needs (commands.ArrayCount b c) = OneBody b.0
+look_up_needs (commands.ArrayElement b c i) = OneBody b.0
+look_up_needs (commands.ElementReferences b c t) = OneBody b.0
+look_up_needs (commands.ElementBytes b c t) = OneBody b.0
+look_up_needs (commands.ElementsUsed b c) = OneBody b.0
+look_up_needs (commands.TokenOfUsed b c k) = OneBody b.0
+look_up_needs (commands.UsedOfToken b c t) = OneBody b.0
+look_up_needs (commands.NameFind b c text) = OneBody b.0
+look_up_needs (commands.NameReferences b c t) = OneBody b.0
+look_up_needs (commands.NameText b c t) = OneBody b.0
+look_up_needs (commands.NamePart b c t) = OneBody b.0
+look_up_needs (commands.Walk b) = ManyBodies
+look_up_needs (commands.ChainSize b) = ManyBodies
+look_up_needs (commands.ChainEqual b other) = ManyBodies
+look_up_needs command = NoBody
+
+-- Whether there is no room in memory for what is needed, where there is none for these blocks, and for those of a chain where this says so.
+abbrev pub lacks_room : (ℕ → Bool) → Bool → Needs → Bool
+lacks_room shut full NoBody = false
+lacks_room shut full (OneBody b) = shut b
+lacks_room shut full ManyBodies = full
+
+-- Locks.
+
+-- how often a block is locked, 0 where it isn't
+abbrev pub lock_count : Machine → ℕ → ℕ
+lock_count m b = unwrap_or (get m.locks b) 0
+
+abbrev pub is_locked : Machine → ℕ → Bool
+is_locked m b = contains_key m.locks b
+
+-- some block is locked
+abbrev pub has_locks : Machine → Bool
+has_locks m = nat_lt 0 (len m.locks)
+
+-- as many blocks are locked as may be held in memory
+abbrev pub all_locked : Machine → Bool
+all_locked m = nat_le m.frames (len m.locks)
+
+-- so that any other one can't be brought there
+abbrev pub is_shut_out : Machine → ℕ → Bool
+is_shut_out m b = all_locked m && not (is_locked m b)
+
+abbrev pub has_no_room : Machine → Needs → Bool
+has_no_room m needs = lacks_room (is_shut_out m) (all_locked m) needs
+
+-- the block is locked once more
+abbrev pub after_lock : Machine → ℕ → Machine
+after_lock m b = record m { locks = insert m.locks b (lock_count m b + 1) }
+
+-- and once less; with the last time it isn't locked any more
+abbrev pub after_unlock : Machine → ℕ → Machine
+after_unlock m b = record m { locks = if nat_le (lock_count m b) 1 then remove m.locks b else insert m.locks b (lock_count m b - 1) }
+
+-- What is lent of a block that is locked; nothing of another, nor where it is of the other kind or has no such chunk.
+
+abbrev pub locked_raw : Machine → ℕ → Option (List ℕ)
+locked_raw m b = if is_locked m b && is_raw m.document b then Some (raw_bytes_of m.document b) else None
+
+abbrev pub locked_chunk : Machine → ℕ → ℕ → Option (List ℕ)
+locked_chunk m b c = if is_locked m b then get (chunks_of m.document b) c else None
+
+-- whether an edit frees a locked block, or copies or frees a chain while any is locked
+abbrev pub is_barred : Edit → Machine → Bool
+is_barred (edits.FreeBlock b) m = is_locked m b.0
+is_barred (edits.CopyChain b) m = has_locks m
+is_barred (edits.FreeChain b) m = has_locks m
+is_barred e m = false
+
 -- the last sequence number, 2^64 - 1
 abbrev pub last_sequence : ℕ
 last_sequence = 18446744073709551615
 
 -- what is refused of a commit
 abbrev pub on_commit : Machine → Conditions
-on_commit m = (Worn, m.sequence == last_sequence) ∷ []
+on_commit m = (Locked, has_locks m) ∷ (Worn, m.sequence == last_sequence) ∷ []
 
--- the refusals of a command; of a look-up they depend on the document alone
+-- the refusals of a command
 abbrev pub command_conditions : Command → Machine → Conditions
-command_conditions (commands.Edit e) m = conditions e m.document
-command_conditions commands.Undo m = (NothingToUndo, length m.past == 0) ∷ []
-command_conditions commands.Redo m = (NothingToRedo, length m.future == 0) ∷ []
+command_conditions (commands.Edit e) m = (Locked, is_barred e m) ∷ (CacheFull, has_no_room m (edit_needs e)) ∷ conditions e m.document
+command_conditions commands.Undo m = (Locked, has_locks m) ∷ (NothingToUndo, length m.past == 0) ∷ []
+command_conditions commands.Redo m = (Locked, has_locks m) ∷ (NothingToRedo, length m.future == 0) ∷ []
 command_conditions commands.Update m = on_commit m
 command_conditions commands.Save m = on_commit m
 command_conditions commands.Revert m = on_commit m
 command_conditions commands.SaveAs m = (NoTarget, not m.target) ∷ on_commit m
-command_conditions c m = look_up_conditions c m.document
+command_conditions (commands.Lock b) m = (LockLimit, lock_count m b.0 == most_locks) ∷ (CacheFull, is_shut_out m b.0) ∷ on_block m.document b.0
+command_conditions (commands.Unlock b) m = (NotLocked, not (is_locked m b.0)) ∷ on_block m.document b.0
+command_conditions (commands.Dirty b) m = (NotLocked, not (is_locked m b.0)) ∷ on_block m.document b.0
+command_conditions c m = (CacheFull, has_no_room m (look_up_needs c)) ∷ look_up_conditions c m.document
 
 -- an edit puts the old document on the past, and empties the future
 abbrev pub edited : Edit → Machine → Reply × Machine
@@ -161,6 +271,10 @@ done_by commands.Update m = Some (Accepted, after_update m)
 done_by commands.Save m = Some (Accepted, after_save m)
 done_by commands.Revert m = Some (Accepted, after_revert m)
 done_by commands.SaveAs m = Some (Accepted, after_save_as m)
+done_by (commands.Lock b) m = Some (Accepted, after_lock m b.0)
+done_by (commands.Unlock b) m = Some (Accepted, after_unlock m b.0)
+done_by (commands.Dirty b) m = Some (Accepted, m)
+done_by (commands.Locks b) m = Some (NumberIs (lock_count m b.0), m)
 done_by commands.Undos m = Some (NumberIs (length m.past), m)
 done_by commands.Redos m = Some (NumberIs (length m.future), m)
 done_by c m = option_map (λ reply. (reply, m)) (look_up c m.document)
@@ -200,6 +314,10 @@ takes_memory commands.Update m = true
 takes_memory commands.Save m = true
 takes_memory commands.Revert m = true
 takes_memory commands.SaveAs m = m.target
+takes_memory (commands.Lock b) m = true
+takes_memory (commands.Unlock b) m = false
+takes_memory (commands.Dirty b) m = false
+takes_memory (commands.Locks b) m = false
 takes_memory (commands.Info b) m = true
 takes_memory commands.List m = true
 takes_memory (commands.Find uid start) m = false

@@ -75,6 +75,10 @@ look_up_conditions commands.Update d = []
 look_up_conditions commands.Save d = []
 look_up_conditions commands.Revert d = []
 look_up_conditions commands.SaveAs d = []
+look_up_conditions (commands.Lock b) d = []
+look_up_conditions (commands.Unlock b) d = []
+look_up_conditions (commands.Dirty b) d = []
+look_up_conditions (commands.Locks b) d = on_block d b.0
 
 -- of a raw block the size of its body, of a heap the bytes that it needs
 abbrev pub body_info : ℕ → Body → Reply
@@ -118,6 +122,10 @@ look_up commands.Update d = None
 look_up commands.Save d = None
 look_up commands.Revert d = None
 look_up commands.SaveAs d = None
+look_up (commands.Lock b) d = None
+look_up (commands.Unlock b) d = None
+look_up (commands.Dirty b) d = None
+look_up (commands.Locks b) d = None
 
 -- what a call of a session answers, as a reply
 abbrev pub reply_by : {T : Type 0} → (T → Reply) → Result T Fault → Reply

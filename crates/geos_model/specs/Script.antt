@@ -178,6 +178,10 @@ commands_by_name =
     ∷ (codes "walk", with_1 block (λ b. commands.Walk b))
     ∷ (codes "chsize", with_1 block (λ b. commands.ChainSize b))
     ∷ (codes "chequal", with_2 block block (λ b other. commands.ChainEqual b other))
+    ∷ (codes "lock", with_1 block (λ b. commands.Lock b))
+    ∷ (codes "unlock", with_1 block (λ b. commands.Unlock b))
+    ∷ (codes "dirty", with_1 block (λ b. commands.Dirty b))
+    ∷ (codes "locks", with_1 block (λ b. commands.Locks b))
     ∷ (codes "undos", with_none commands.Undos)
     ∷ (codes "redos", with_none commands.Redos)
     ∷ []

@@ -114,6 +114,13 @@ pub enum Command {
     Revert,
     /// The document becomes the updated and the saved one of another file, and the session goes on there.
     SaveAs,
+    /// The block stays in memory until it was unlocked as often as it was locked.
+    Lock(VmHandle),
+    Unlock(VmHandle),
+    /// The body of a locked block counts as changed.
+    Dirty(VmHandle),
+    /// How often a block is locked.
+    Locks(VmHandle),
     Info(VmHandle),
     List,
     /// The least handle above a start that has this user ID.

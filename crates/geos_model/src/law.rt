@@ -84,13 +84,15 @@ pub fn save_law()
     ensures { SaveLaw }
 {}
 
-/// A refused request changes nothing, and a file fault is answered only where the store failed. Where there is something to
-/// take back, an undo is refused only for want of memory or since the store failed in that call; so is a redo.
+/// A refused request changes nothing, and a file fault is answered only where the store failed. Where no block is locked and
+/// there is something to take back, an undo is refused only for want of memory or since the store failed in that call; so is a
+/// redo.
 pub fn failing_law()
     ensures { FailingLaw }
 {}
 
-/// What the machine does to a valid document leaves a valid one.
+/// What the machine does to a valid document leaves a valid one. Locked blocks stay live, and there are never more of them than
+/// frames.
 pub fn validity_law()
     ensures { ValidityLaw }
 {}

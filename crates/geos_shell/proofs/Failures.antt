@@ -90,6 +90,9 @@ module _ {S : Type 0} (facts : S → StoreFacts) where
   after_files old new (Some commands.List) reply files so = after_passes old new (nothing_of old new files) so
   after_files old new (Some (commands.Find uid start)) reply files so = after_passes old new (nothing_of old new files) so
   after_files old new (Some commands.MapBlock) reply files so = after_passes old new (nothing_of old new files) so
+  after_files old new (Some (commands.Unlock b)) reply files so = after_passes old new (nothing_of old new files) so
+  after_files old new (Some (commands.Dirty b)) reply files so = after_passes old new (nothing_of old new files) so
+  after_files old new (Some (commands.Locks b)) reply files so = after_passes old new (nothing_of old new files) so
   after_files old new (Some commands.Undos) reply files so = after_passes old new (nothing_of old new files) so
   after_files old new (Some commands.Redos) reply files so = after_passes old new (nothing_of old new files) so
   after_files old new (Some command) reply files so = after_passes old new files so

@@ -12,7 +12,7 @@ use Rattle.vm_file.proofs.Passing.{Passes-refl}
 use Rattle.undo_log.specs.Records.{SessionState, IsStep, has_failed, machine_of}
 use Rattle.geos_shell.specs.Holdings.{AreExact, CommitsNothing, Holding, IsTakenIfSure, LeavesFiles, Serves, Stays, held}
 use Rattle.geos_shell.specs.Runs.{AnswersOf}
-use Rattle.geos_shell.specs.Replies.{Extends, Replied, Responds, Told, asks_no_body}
+use Rattle.geos_shell.specs.Replies.{Extends, Replied, Responds, Told, asks_no_body, is_look_up}
 use Rattle.geos_shell.proofs.Composed.{AnswersOf-one, AnswersOf-unasked}
 use Rattle.geos_shell.proofs.Serving.{serves_passing, step_any}
 
@@ -26,37 +26,37 @@ module _ {S : Type 0} (facts : S → StoreFacts) where
   replied (Ok x) old new c reply before after serves said = record { reply = reply; serves = serves; text = said }
   replied (Err e) old new c reply before after serves said = inr (reply, serves)
 
-  -- all but a commit commits nothing
-  leaves : (c : Command) (old new : Holding S) (reply : Reply) → (c ≡ commands.Update → ⊥) → (c ≡ commands.Save → ⊥) → (c ≡ commands.Revert → ⊥) → (c ≡ commands.SaveAs → ⊥)
-      → (asks_no_body c ≡ true → Stays old new) → CommitsNothing facts old new → LeavesFiles facts old (Some c) reply new
-  leaves commands.Update old new reply update save revert save_as stays nothing = absurd (update refl)
-  leaves commands.Save old new reply update save revert save_as stays nothing = absurd (save refl)
-  leaves commands.Revert old new reply update save revert save_as stays nothing = absurd (revert refl)
-  leaves commands.SaveAs old new reply update save revert save_as stays nothing = absurd (save_as refl)
-  leaves commands.List old new reply update save revert save_as stays nothing = stays refl
-  leaves (commands.Find uid start) old new reply update save revert save_as stays nothing = stays refl
-  leaves commands.MapBlock old new reply update save revert save_as stays nothing = stays refl
-  leaves commands.Undos old new reply update save revert save_as stays nothing = stays refl
-  leaves commands.Redos old new reply update save revert save_as stays nothing = stays refl
-  leaves c old new reply update save revert save_as stays nothing = nothing
+  -- a look-up commits nothing
+  leaves : (c : Command) (old new : Holding S) (reply : Reply) → is_look_up c ≡ true → (asks_no_body c ≡ true → Stays old new) → CommitsNothing facts old new → LeavesFiles facts old (Some c) reply new
+  leaves commands.Update old new reply asks stays nothing = cc asks
+  leaves commands.Save old new reply asks stays nothing = cc asks
+  leaves commands.Revert old new reply asks stays nothing = cc asks
+  leaves commands.SaveAs old new reply asks stays nothing = cc asks
+  leaves (commands.Unlock b) old new reply asks stays nothing = cc asks
+  leaves (commands.Dirty b) old new reply asks stays nothing = cc asks
+  leaves commands.List old new reply asks stays nothing = stays refl
+  leaves (commands.Find uid start) old new reply asks stays nothing = stays refl
+  leaves commands.MapBlock old new reply asks stays nothing = stays refl
+  leaves (commands.Locks b) old new reply asks stays nothing = stays refl
+  leaves commands.Undos old new reply asks stays nothing = stays refl
+  leaves commands.Redos old new reply asks stays nothing = stays refl
+  leaves c old new reply asks stays nothing = nothing
 
-  -- nothing but an undo or a redo is sure
-  unsure : (c : Command) (old new : SessionState S) (reply : Reply) → (c ≡ commands.Undo → ⊥) → (c ≡ commands.Redo → ⊥) → IsTakenIfSure facts old (Some c) reply new
-  unsure commands.Undo old new reply undo redo = absurd (undo refl)
-  unsure commands.Redo old new reply undo redo = absurd (redo refl)
-  unsure c old new reply undo redo = tt
+  -- and is no undo or redo, which alone are sure
+  unsure : (c : Command) (old new : SessionState S) (reply : Reply) → is_look_up c ≡ true → IsTakenIfSure facts old (Some c) reply new
+  unsure commands.Undo old new reply asks = cc asks
+  unsure commands.Redo old new reply asks = cc asks
+  unsure c old new reply asks = tt
 
   -- what was told of a look-up
   pub replied_told : {T E : Type 0} (put : Result T E) (old new : SessionState S) (target former : Option S) (c : Command) (before after : List ℕ)
-      → (c ≡ commands.Undo → ⊥) → (c ≡ commands.Redo → ⊥)
-      → (c ≡ commands.Update → ⊥) → (c ≡ commands.Save → ⊥) → (c ≡ commands.Revert → ⊥) → (c ≡ commands.SaveAs → ⊥)
-      → (asks_no_body c ≡ true → new ≡ old) → Told put facts old c new before after
+      → is_look_up c ≡ true → (asks_no_body c ≡ true → new ≡ old) → Told put facts old c new before after
       → AreExact facts (held old target former) → Replied put facts (held old target former) c (held new target former) before after
-  replied_told put old new target former c before after undo redo update save revert save_as same t exact =
+  replied_told put old new target former c before after asks same t exact =
       let first = held old target former in
       let last = held new target former in
       let stays : asks_no_body c ≡ true → Stays first last = λ none. record { disk = ap (λ (s : SessionState S). s.disk) (same none); target = refl; former = refl } in
-      let served = serves_passing facts old new target former c t.reply t.passes t.step (leaves c first last t.reply update save revert save_as stays) (unsure c old new t.reply undo redo) exact in
+      let served = serves_passing facts old new target former c t.reply t.passes t.step (leaves c first last t.reply asks stays) (unsure c old new t.reply asks) exact in
       replied put first last c t.reply before after served t.text
 
   -- one line as a run of requests

@@ -1,6 +1,6 @@
 -- How what is held serves a command.
-use Rattle.std.proofs.Common.{◌≡◌, ◌≢◌, ◌||◌, Bool, true, false, Option, Some, None, is_some, IsTrue, Result, Ok, Err, IfErr, refl, sym, ap, subst, inl, inr}
-use Rattle.std.specs.Prelude.{IsErrOf, IsOk}
+use Rattle.std.proofs.Common.{◌≡◌, ◌≢◌, ◌||◌, ℕ, Bool, true, false, Option, Some, None, is_some, IsTrue, Result, Ok, Err, IfErr, refl, sym, ap, subst, inl, inr}
+use Rattle.std.specs.Prelude.{IsErrOf, IsOk, OnOk, OnErr}
 use Rattle.std.specs.Option.{option_map_or}
 use Rattle.geos_model.specs.Reply.{Reply, Accepted, Refused, reply_by}
 use Rattle.geos_model.specs.Machine.{Machine, Request, Step, may_give_up}
@@ -12,8 +12,10 @@ use Rattle.vm_store.specs.Facts.{StoreFacts, Raised}
 use Rattle.vm_file.specs.Disk.{Disk, Commits, Passes}
 use Rattle.vm_file.specs.Effects.{IsNewFile, Follows}
 use Rattle.vm_file.specs.Documents.{Documents}
-use Rattle.undo_log.specs.Records.{SessionState, IsExact, IsStep, machine_of, has_failed}
-use Rattle.geos_shell.specs.Holdings.{AreExact, CommitsAsTold, CommitsNothing, IsTakenIfSure, LeavesFiles, Serves, TriesToCommit, failed_with, held, result_told}
+use Rattle.vm_blocks.specs.Locking.{GainsLock}
+use Rattle.undo_log.specs.Records.{SessionState, IsExact, IsStep, KeepsSession, blocks_of, machine_of, has_failed}
+use Rattle.undo_log.proofs.Keeping.{kept_passes}
+use Rattle.geos_shell.specs.Holdings.{AreExact, CommitsAsTold, CommitsNothing, IsTakenIfSure, LeavesFiles, Serves, Stays, TriesToCommit, failed_with, held, result_told}
 
 -- Where more stores may have failed, no less may be given up.
 
@@ -48,6 +50,16 @@ step_kept facts None failed old new request reply step = step
 step_kept facts (Some t) failed old new request reply step = step_more failed (has_failed (facts t) (facts t)) old new request reply step
 
 module _ {S : Type 0} (facts : S → StoreFacts) where
+  -- a block that is locked was brought into memory at most
+  pub lock_passes : (h : ℕ) (old new : SessionState S) (result : Result (Unit {0}) Fault) → OnOk result (GainsLock facts h (blocks_of old) (blocks_of new))
+      → OnErr result (KeepsSession facts old new) → Passes facts old.disk new.disk
+  lock_passes h old new (Ok x) gains keeps = gains.stays.file.passes
+  lock_passes h old new (Err fault) gains keeps = kept_passes facts old new keeps
+
+  -- whether a session is exact doesn't depend on which blocks are in memory
+  exact_still : (old new : SessionState S) → new ≡ record old { resident = new.resident } → IsExact facts old → IsExact facts new
+  exact_still old new same exact = rw same (record { honest = exact.honest; steps = exact.steps })
+
   -- a call that commits nothing
   pub serves_passing : (old new : SessionState S) (target former : Option S) (c : Command) (reply : Reply) → Passes facts old.disk new.disk → IsStep facts old new c reply
       → (CommitsNothing facts (held old target former) (held new target former) → LeavesFiles facts (held old target former) (Some c) reply (held new target former))
@@ -59,6 +71,20 @@ module _ {S : Type 0} (facts : S → StoreFacts) where
         exact = (went.0, exact.1);
         step = step_kept facts target (has_failed (facts old.disk.store) (facts new.disk.store)) _ _ (Some c) reply (went.1 (is_some target));
         files = leaves (record { passes = passes; target = refl; former = refl });
+        sure = sure;
+      }
+
+  -- a call that changes nothing but locks
+  pub serves_at_rest : (old new : SessionState S) (target former : Option S) (c : Command) (reply : Reply) → new ≡ record old { resident = new.resident }
+      → ((left : Bool) → Step false (machine_of left old) (Some c) reply (machine_of left new))
+      → (Stays (held old target former) (held new target former) → LeavesFiles facts (held old target former) (Some c) reply (held new target former))
+      → IsTakenIfSure facts old (Some c) reply new
+      → AreExact facts (held old target former) → Serves facts (held old target former) (Some c) reply (held new target former)
+  serves_at_rest old new target former c reply same step leaves sure exact =
+      record {
+        exact = (exact_still old new same exact.0, exact.1);
+        step = step_any _ _ _ (Some c) reply (step (is_some target));
+        files = leaves (record { disk = ap (λ (s : SessionState S). s.disk) same; target = refl; former = refl });
         sure = sure;
       }
 

@@ -8,7 +8,7 @@ use Rattle.geos_model.specs.declared.command.Command.TheVariants as commands
 use Rattle.vm_store.specs.Facts.{StoreFacts, Raised}
 use Rattle.vm_file.specs.Disk.{Disk, Commits, IsSettled, Numbered, Passes}
 use Rattle.vm_file.specs.Documents.{Documents}
-use Rattle.undo_log.specs.Records.{SessionState, IsExact, machine_of, has_failed}
+use Rattle.undo_log.specs.Records.{SessionState, IsExact, machine_of, has_failed, has_locks}
 use Rattle.undo_log.specs.Turning.{IsSure}
 use Rattle.vm_blocks.specs.declared.change.Direction.TheVariants.{Forwards, Backwards}
 
@@ -105,6 +105,9 @@ LeavesFiles facts old (Some commands.SaveAs) reply new = SavesAs facts old old.t
 LeavesFiles facts old (Some commands.List) reply new = Stays old new
 LeavesFiles facts old (Some (commands.Find uid start)) reply new = Stays old new
 LeavesFiles facts old (Some commands.MapBlock) reply new = Stays old new
+LeavesFiles facts old (Some (commands.Unlock b)) reply new = Stays old new
+LeavesFiles facts old (Some (commands.Dirty b)) reply new = Stays old new
+LeavesFiles facts old (Some (commands.Locks b)) reply new = Stays old new
 LeavesFiles facts old (Some commands.Undos) reply new = Stays old new
 LeavesFiles facts old (Some commands.Redos) reply new = Stays old new
 LeavesFiles facts old (Some command) reply new = CommitsNothing facts old new
@@ -112,10 +115,10 @@ LeavesFiles facts old None reply new = Stays old new
 
 -- Requests.
 
--- An undo or a redo that is sure, as a session says which are, is accepted and calls no store.
+-- An undo or a redo that is sure, as a session says which are, is accepted and calls no store, where no block is locked.
 abbrev pub IsTakenIfSure : {S : Type 0} → (S → StoreFacts) → SessionState S → Request → Reply → SessionState S → Type 0
-IsTakenIfSure facts old (Some commands.Undo) reply new = IsSure facts old Backwards old.undo → (reply ≡ Accepted) × (new.disk ≡ old.disk)
-IsTakenIfSure facts old (Some commands.Redo) reply new = IsSure facts old Forwards old.redo → (reply ≡ Accepted) × (new.disk ≡ old.disk)
+IsTakenIfSure facts old (Some commands.Undo) reply new = has_locks old ≡ false → IsSure facts old Backwards old.undo → (reply ≡ Accepted) × (new.disk ≡ old.disk)
+IsTakenIfSure facts old (Some commands.Redo) reply new = has_locks old ≡ false → IsSure facts old Forwards old.redo → (reply ≡ Accepted) × (new.disk ≡ old.disk)
 IsTakenIfSure facts old request reply new = Unit {0}
 
 -- The request is answered so: by the machine, with a file fault in place of its answer only where a store failed in this very call.

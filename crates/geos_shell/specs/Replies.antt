@@ -53,6 +53,7 @@ is_look_up commands.MapBlock = true
 is_look_up (commands.ReadRaw b) = true
 is_look_up (commands.Chunks b) = true
 is_look_up (commands.Read b c) = true
+is_look_up (commands.Locks b) = true
 is_look_up commands.Undos = true
 is_look_up commands.Redos = true
 is_look_up command = asks_chain command
@@ -62,6 +63,7 @@ abbrev pub asks_no_body : Command → Bool
 asks_no_body commands.List = true
 asks_no_body (commands.Find uid start) = true
 asks_no_body commands.MapBlock = true
+asks_no_body (commands.Locks b) = true
 asks_no_body commands.Undos = true
 asks_no_body commands.Redos = true
 asks_no_body _ = false

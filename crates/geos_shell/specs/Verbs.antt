@@ -58,6 +58,10 @@ on_block on_blocks.CopyChain b = commands.Edit (edits.CopyChain b)
 on_block on_blocks.FreeChain b = commands.Edit (edits.FreeChain b)
 on_block on_blocks.Walk b = commands.Walk b
 on_block on_blocks.ChainSize b = commands.ChainSize b
+on_block on_blocks.Lock b = commands.Lock b
+on_block on_blocks.Unlock b = commands.Unlock b
+on_block on_blocks.Dirty b = commands.Dirty b
+on_block on_blocks.Locks b = commands.Locks b
 
 abbrev pub make : Make → VmHandle → ℕ → Command
 make makes.Chunk b n = commands.Edit (edits.Alloc b n)

@@ -136,6 +136,7 @@ fn push_look_up<S: Store>(
         Command::Read(block, chunk) => {
             text::push_bytes(alloc, out, session.read_chunk(*block, *chunk))
         }
+        Command::Locks(block) => text::push_lock_count(alloc, out, session.locks(*block)),
         Command::Undos => text::push_count(alloc, out, session.undo_count()),
         Command::Redos => text::push_count(alloc, out, session.redo_count()),
         chain_look_up => push_chain_look_up(alloc, session, chain_look_up, out),
@@ -153,7 +154,12 @@ fn save_as<S: Store>(
         → Serves S.facts (held session.old target.old former.old) (Some commands.SaveAs) (reply_by (λ _. Accepted) result) (held session.new target.new former.new) }
 {
     let Some(store) = target.take() else {
-        return Err(Fault::NoTarget);
+        // A lock refuses before anything else does.
+        return Err(if session.has_locks() {
+            Fault::Locked
+        } else {
+            Fault::NoTarget
+        });
     };
     match session.save_as(store) {
         Ok(old) => {
@@ -191,6 +197,9 @@ fn push_reply<S: Store>(
         Command::Save => text::push_accepted(alloc, out, session.save()),
         Command::Revert => text::push_accepted(alloc, out, session.revert()),
         Command::SaveAs => text::push_accepted(alloc, out, save_as(session, target, former)),
+        Command::Lock(block) => text::push_accepted(alloc, out, session.lock(*block)),
+        Command::Unlock(block) => text::push_accepted(alloc, out, session.unlock(*block)),
+        Command::Dirty(block) => text::push_accepted(alloc, out, session.dirty(*block)),
         look_up => push_look_up(alloc, session, look_up, out),
     }
 }

@@ -65,6 +65,10 @@ pub(crate) enum OnBlock {
     FreeChain,
     Walk,
     ChainSize,
+    Lock,
+    Unlock,
+    Dirty,
+    Locks,
 }
 
 impl OnBlock {
@@ -82,6 +86,10 @@ impl OnBlock {
             Self::FreeChain => Command::Edit(Edit::FreeChain(block)),
             Self::Walk => Command::Walk(block),
             Self::ChainSize => Command::ChainSize(block),
+            Self::Lock => Command::Lock(block),
+            Self::Unlock => Command::Unlock(block),
+            Self::Dirty => Command::Dirty(block),
+            Self::Locks => Command::Locks(block),
         }
     }
 

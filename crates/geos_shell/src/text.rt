@@ -113,6 +113,20 @@ pub(crate) fn push_count(alloc: Global, out: &mut Vec<u8>, count: usize) -> Resu
     out.extend_from_slice(digits.as_bytes())
 }
 
+pub(crate) fn push_lock_count(
+    alloc: Global,
+    out: &mut Vec<u8>,
+    count: Result<u8, Fault>,
+) -> Result<(), AllocError>
+    ensures ok { OnOk result (out.new.items ≡ out.old.items ++ reply_text (reply_by NumberIs count)) }
+    ensures err { OnErr result (Extends out.old.items out.new.items) }
+{
+    match count {
+        Ok(count) => push_count(alloc, out, usize::from(count)),
+        Err(fault) => push_refusal(alloc, out, fault),
+    }
+}
+
 pub(crate) fn push_array_count(
     alloc: Global,
     out: &mut Vec<u8>,
@@ -298,11 +312,13 @@ mod tests {
         push_found(&mut out, Some(VmHandle(0x30)))?;
         push_found(&mut out, None)?;
         push_count(alloc, &mut out, 12)?;
+        push_lock_count(alloc, &mut out, Ok(255))?;
+        push_accepted(alloc, &mut out, Err(Fault::LockLimit))?;
         push_equal(alloc, &mut out, Ok(true))?;
         push_equal(alloc, &mut out, Ok(false))?;
         push_equal(alloc, &mut out, Err(Fault::BadChain))?;
         let texts =
-            b"okblock 0001chunk ffeeno 22 NothingToUndoraw 65535 0heap 7 65520blocks 0001 0800chunksbytes -bytes 0af0block 0030block 0000number 12samedifferno 17 BadChain";
+            b"okblock 0001chunk ffeeno 22 NothingToUndoraw 65535 0heap 7 65520blocks 0001 0800chunksbytes -bytes 0af0block 0030block 0000number 12number 255no 26 LockLimitsamedifferno 17 BadChain";
         assert_eq!(rt; out.as_slice(), texts.as_slice());
         Ok(())
     }

@@ -27,7 +27,7 @@ pub(crate) enum Verb {
 }
 
 /// Each verb by its name.
-const VERBS: [(&[u8], Verb); 61] = [
+const VERBS: [(&[u8], Verb); 65] = [
     (b"newraw", Verb::NewRaw),
     (b"newheap", Verb::NewHeap),
     (b"vfree", Verb::Block(OnBlock::Free)),
@@ -99,6 +99,10 @@ const VERBS: [(&[u8], Verb); 61] = [
     (b"walk", Verb::Block(OnBlock::Walk)),
     (b"chsize", Verb::Block(OnBlock::ChainSize)),
     (b"chequal", Verb::ChainEqual),
+    (b"lock", Verb::Block(OnBlock::Lock)),
+    (b"unlock", Verb::Block(OnBlock::Unlock)),
+    (b"dirty", Verb::Block(OnBlock::Dirty)),
+    (b"locks", Verb::Block(OnBlock::Locks)),
     (b"undos", Verb::Alone(Alone::Undos)),
     (b"redos", Verb::Alone(Alone::Redos)),
 ];

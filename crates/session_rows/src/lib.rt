@@ -1,5 +1,5 @@
 //! Tests of sessions over document files: what a crash and a store that fails leave, how often a store is called, undo over commits, files of
-//! their own, limits, and stores that lie.
+//! their own, limits, locks, and stores that lie.
 #![tactic(auto)]
 
 #[cfg(test)]
@@ -16,6 +16,8 @@ mod crashing;
 mod failing;
 #[cfg(test)]
 mod limits;
+#[cfg(test)]
+mod locking;
 #[cfg(test)]
 mod lying;
 #[cfg(test)]

@@ -1,7 +1,6 @@
 -- The machine that a session begins with, and what a store stands for that comes back.
 use Rattle.std.proofs.Common.{◌≡◌, ℕ, Bool, IsTrue, List, [], Some, sym, ap, subst, ◌∙◌}
 use Rattle.std.specs.Prelude.{Result, Ok, Err, IfOk, MatchResult}
-use Rattle.std.specs.FinMap.{empty}
 use Rattle.geos_model.specs.Document.{Document, IsValid}
 use Rattle.geos_model.specs.File.{stands}
 use Rattle.geos_model.specs.Machine.{opened_machine}
@@ -12,28 +11,28 @@ use Rattle.vm_file.specs.Disk.{FileState}
 use Rattle.vm_blocks.specs.Committing.{IsSavedAs}
 use Rattle.vm_file.proofs.Content.{committed_content}
 use Rattle.vm_blocks.specs.declared.change.Change.{Change}
-use Rattle.undo_log.specs.Records.{SessionState, file_of, steps, machine_of, AreSteps, IsExact}
+use Rattle.undo_log.specs.Records.{SessionState, file_of, locks_in, steps, machine_of, AreSteps, IsExact}
 
 -- with nothing to undo or to redo
 pub begun : {S : Type 0} (s : SessionState S) (updated saved : Document) (sequence frames : ℕ) (target : Bool) → s.document ≡ updated → s.disk.updated ≡ updated → s.disk.saved ≡ saved → s.disk.sequence ≡ sequence
-    → s.undo ≡ [] → s.redo ≡ [] → s.frames ≡ frames → machine_of target s ≡ opened_machine updated saved sequence frames target
-begun s updated saved sequence frames target document is_updated is_saved number undo redo allowed = λ i. record {
+    → s.undo ≡ [] → s.redo ≡ [] → s.resident ≡ [] → s.frames ≡ frames → machine_of target s ≡ opened_machine updated saved sequence frames target
+begun s updated saved sequence frames target document is_updated is_saved number undo redo resident allowed = λ i. record {
   document = document i;
   past = steps Backwards (undo i) (document i);
   future = steps Forwards (redo i) (document i);
   updated = is_updated i;
   saved = is_saved i;
-  locks = empty;
+  locks = locks_in (resident i);
   frames = allowed i;
   target = target;
   sequence = number i;
 }
 
 -- what a file that was opened stands for, and its number, are those of the session
-pub opened : {S : Type 0} (file : FileState S) (content : List ℕ) (frames : ℕ) (s : SessionState S) → file_of s ≡ file → s.undo ≡ [] → s.redo ≡ [] → s.frames ≡ frames
+pub opened : {S : Type 0} (file : FileState S) (content : List ℕ) (frames : ℕ) (s : SessionState S) → file_of s ≡ file → s.undo ≡ [] → s.redo ≡ [] → s.resident ≡ [] → s.frames ≡ frames
     → stands content ≡ Ok (file.disk.updated, file.disk.saved) → file.document ≡ file.disk.updated → sequence_in content ≡ Some file.disk.sequence
     → (updated saved : Document) (sequence : ℕ) (target : Bool) → stands content ≡ Ok (updated, saved) → sequence_in content ≡ Some sequence → machine_of target s ≡ opened_machine updated saved sequence frames target
-opened {S} file content frames s begins undo redo allowed stand document number updated saved sequence target is is_number =
+opened {S} file content frames s begins undo redo resident allowed stand document number updated saved sequence target is is_number =
     let same : (file.disk.updated, file.disk.saved) ≡ (updated, saved) = cc (stand, is) in
     let numbers : file.disk.sequence ≡ sequence = cc (number, is_number) in
     let first : file.disk.updated ≡ updated = ap (λ (d : Documents). d.0) same in
@@ -42,7 +41,7 @@ opened {S} file content frames s begins undo redo allowed stand document number 
     (ap (λ (x : FileState S). x.disk.updated) begins ∙ first)
     (ap (λ (x : FileState S). x.disk.saved) begins ∙ ap (λ (d : Documents). d.1) same)
     (ap (λ (x : FileState S). x.disk.sequence) begins ∙ numbers)
-    undo redo allowed
+    undo redo resident allowed
 
 -- with nothing to undo or to redo a session over an honest store is exact
 pub begun_exact : {S : Type 0} (facts : S → StoreFacts) (s : SessionState S) → (IsTrue (facts s.disk.store).honest → IsValid s.document) → s.undo ≡ [] → s.redo ≡ [] → IsTrue (facts s.disk.store).honest → IsExact facts s

@@ -1,37 +1,90 @@
 -- An edit that was made, or refused, is a step of the machine.
-use Rattle.std.proofs.Common.{◌≡◌, Bool, true, false, IsTrue, List, [], ◌∷◌, Some, inl, inr, refl, sym, ap, subst, ◌∙◌}
+use Rattle.std.proofs.Common.{◌≡◌, ◌≤◌, ℕ, Bool, true, false, IsTrue, All, List, [], ◌∷◌, map, length, Some, inl, inr, refl, sym, ap, subst, ◌∙◌, arith, ltb-false}
 use Rattle.geos_model.specs.Document.{Document}
-use Rattle.geos_model.specs.Machine.{Machine, Step, Answers, is_of_no_body, kind_of}
+use Rattle.std.specs.Option.{option_map_or}
+use Rattle.std.proofs.lemmas.Bool.{true≢false}
+use Rattle.std.proofs.lemmas.List.Elements.{All-cons, All-nil, All-same}
+use Rattle.geos_model.specs.ElementArray.{all_distinct}
+use Rattle.geos_model.specs.Machine as machine
+use Rattle.geos_model.specs.Machine.{Machine, Step, Answers, Needs, NoBody, edit_needs, is_barred, is_of_no_body, kind_of, needs_of_kind}
 use Rattle.geos_model.specs.Meaning.{conditions}
 use Rattle.geos_model.specs.Refusal.{first_refusal}
 use Rattle.geos_model.specs.Reply.{Refused, reply_of_done}
 use Rattle.geos_model.specs.declared.command.Command.TheVariants as commands
 use Rattle.geos_model.specs.declared.command.Done.{Done}
 use Rattle.geos_model.specs.declared.command.Edit.{Edit}
+use Rattle.geos_model.specs.declared.command.Edit.TheVariants as edits
 use Rattle.geos_model.specs.declared.command.Kind.{Kind}
 use Rattle.geos_model.specs.declared.command.Kind.TheVariants.{Plain, In, Made, Freed}
 use Rattle.geos_model.specs.declared.fault.Fault.{Fault}
-use Rattle.geos_model.specs.declared.fault.Fault.TheVariants.{Memory}
+use Rattle.geos_model.specs.declared.fault.Fault.TheVariants.{CacheFull, Locked, Memory}
 use Rattle.geos_model.specs.declared.handle.VmHandle.{VmHandle}
 use Rattle.vm_store.specs.Facts.{StoreFacts}
 use Rattle.vm_file.specs.Disk.{Drifts}
 use Rattle.vm_file.proofs.Passing.{Passes-trans, Drifts-trans}
-use Rattle.block_cache.specs.State.{CacheState}
+use Rattle.geos_model.proofs.InFront.{edit-judged, edit-locked, edit-passed}
+use Rattle.block_cache.specs.State.{CacheState, Seat, KeepsLocks, locks_of}
 use Rattle.vm_blocks.specs.Changes.{made, blocks_in}
 use Rattle.vm_blocks.specs.Keeping.{Keeps, Lacks, is_loaded}
-use Rattle.vm_blocks.specs.Preparing.{BodyTakes, IsAtHand, IsReady, IsUnready, Makes}
+use Rattle.vm_blocks.specs.Preparing.{AreUnlocked, BodyTakes, IsAtHand, IsOutOfReach, IsReady, IsUnready, Makes}
 use Rattle.vm_blocks.specs.declared.change.Change.{Change}
 use Rattle.vm_blocks.specs.declared.change.Change.TheVariants as changes
 use Rattle.vm_blocks.specs.declared.change.Direction.TheVariants.{Backwards}
-use Rattle.vm_blocks.proofs.KeepingLaws.{honest-steady, keeps-passes, keeps-drifts, keeps-frames, keeps-same, lacks-damaged, lacks-later}
+use Rattle.vm_blocks.proofs.KeepingLaws.{honest-steady, keeps-passes, keeps-drifts, keeps-frames, keeps-locks, keeps-same, lacks-damaged, lacks-later, loaded-resident, resident-open}
 use Rattle.vm_blocks.proofs.Preparing.{made_on}
-use Rattle.doc_edits.specs.Planning.{kind_of_change, IsMemory, Plans, Refuses}
+use Rattle.doc_edits.specs.Planning.{freed_by, kind_of_change, Plans, Refuses, RefusesAtHand}
+use Rattle.doc_edits.specs.Room.{has_no_room}
+use Rattle.undo_log.specs.Locking.{IsBarred, bars}
 use Rattle.undo_log.specs.Making.{IsMade}
 use Rattle.undo_log.specs.Records.{SessionState, blocks_of, machine_of, has_failed, AreSteps, IsStep, KeepsSession}
 use Rattle.undo_log.proofs.Answers.{edit_answers}
 use Rattle.undo_log.proofs.Keeping.{gives_up, kept_exact, kept_machine, kept_document, machine_with, passed_machine}
 use Rattle.undo_log.proofs.Listing.{listed_before}
+use Rattle.undo_log.proofs.Locks.{has_no_room-is, is_barred-is, none_of_count}
 use Rattle.undo_log.proofs.Steps.{edited_steps}
+
+-- a block in memory can be brought there
+in_reach : {S : Type 0} (c : Change) (state : CacheState S) → length state.resident ≤ state.frames → IsAtHand c state → IsOutOfReach c state → ⊥
+in_reach (changes.BlocksIn ms) state few at_hand out = out
+in_reach (changes.BlocksOut ms) state few at_hand out = out
+in_reach (changes.Part b part) state few at_hand out = true≢false (sym out ∙ resident-open state b.0 few (loaded-resident state b.0 at_hand))
+in_reach (changes.UserId b old new) state few at_hand out = out
+in_reach (changes.Map old new) state few at_hand out = out
+
+-- The blocks that go by an edit that no lock bars aren't locked.
+
+freed_unlocked : (edit : Edit) (hs : List ℕ) (old mid : List Seat) → KeepsLocks old mid → bars old edit ≡ false → Freed ≡ kind_of edit → ((b : VmHandle) → edit ≡ edits.FreeBlock b → hs ≡ b.0 ∷ [])
+    → All (λ h. locks_of mid h ≡ 0) hs
+freed_unlocked (edits.FreeBlock b) hs old mid keeps free kind alone =
+    let few = ltb-false 0 (locks_of old b.0) free in
+    let none : locks_of mid b.0 ≡ 0 = keeps.each b.0 ∙ omega (arith, few) in
+    All-same (λ h. locks_of mid h ≡ 0) hs (b.0 ∷ []) (alone b refl) (All-cons (λ h. locks_of mid h ≡ 0) b.0 [] none (All-nil (λ h. locks_of mid h ≡ 0)))
+freed_unlocked (edits.FreeChain b) hs old mid keeps free kind alone = λ i d within. keeps.each _ ∙ none_of_count old free _
+freed_unlocked _ hs old mid keeps free kind alone = absurd (cc kind)
+
+pub unlocked_change : (edit : Edit) (c : Change) (old mid : List Seat) → KeepsLocks old mid → bars old edit ≡ false → kind_of_change c ≡ kind_of edit
+    → ((b : VmHandle) → edit ≡ edits.FreeBlock b → freed_by c ≡ b.0 ∷ []) → AreUnlocked c mid
+unlocked_change edit (changes.BlocksIn ms) old mid keeps free kind alone = tt
+unlocked_change edit (changes.BlocksOut ms) old mid keeps free kind alone = freed_unlocked edit (freed_by (changes.BlocksOut ms)) old mid keeps free kind alone
+unlocked_change edit (changes.Part b part) old mid keeps free kind alone = tt
+unlocked_change edit (changes.UserId b was is) old mid keeps free kind alone = tt
+unlocked_change edit (changes.Map was is) old mid keeps free kind alone = tt
+
+-- an edit of a user ID or of the map block is barred by no lock
+plain_free : (seats : List Seat) (edit : Edit) → kind_of edit ≡ Plain → bars seats edit ≡ false
+plain_free seats (edits.SetUserId b uid) kind = refl
+plain_free seats (edits.SetMap b) kind = refl
+plain_free seats _ kind = absurd (cc kind)
+
+-- and needs no body
+plain_needs : (edit : Edit) → kind_of edit ≡ Plain → edit_needs edit ≡ NoBody
+plain_needs (edits.FreeBlock b) kind = absurd (cc kind)
+plain_needs (edits.CopyBlock b) kind = absurd (cc kind)
+plain_needs (edits.CopyChain b) kind = absurd (cc kind)
+plain_needs (edits.FreeChain b) kind = absurd (cc kind)
+plain_needs (edits.SetUserId b uid) kind = refl
+plain_needs (edits.SetMap b) kind = refl
+plain_needs _ kind = absurd (cc kind)
 
 module _ {S : Type 0} (facts : S → StoreFacts) where
   -- A change that is made after its block was brought into memory.
@@ -44,21 +97,25 @@ module _ {S : Type 0} (facts : S → StoreFacts) where
           document = Drifts-trans _ _ _ _ (made_on c _ old.document mid.document (keeps-drifts facts old mid keeps)) (subst (λ (honest : Bool). Drifts honest (made c mid.document) new.document) passes.honest makes.document);
           at_hand = makes.at_hand;
           frames = makes.frames ∙ keeps-frames facts old mid keeps;
+          locks = let first = keeps-locks facts old mid keeps in record { each = λ h. makes.locks.each h ∙ first.each h; count = makes.locks.count ∙ first.count };
         }
 
     -- one that the body takes is refused for what the call may lack alone
-    pub unready_lacks : (c : Change) (new : CacheState S) (fault : Fault) → BodyTakes c mid.document → IsUnready facts c mid new fault → Lacks facts old.disk.store new.disk.store fault
-    unready_lacks c new fault takes unready = lacks-later facts old mid new.disk.store fault keeps (elim unready as (λ _. Lacks facts mid.disk.store new.disk.store fault) [
+    pub unready_lacks : (c : Change) (new : CacheState S) (fault : Fault) → BodyTakes c mid.document → IsAtHand c mid → length mid.resident ≤ mid.frames → IsUnready facts c mid new fault
+        → Lacks facts old.disk.store new.disk.store fault
+    unready_lacks c new fault takes at_hand few unready = lacks-later facts old mid new.disk.store fault keeps (elim unready as (λ _. Lacks facts mid.disk.store new.disk.store fault) [
       | inl lacks ↦ lacks
-      | inr damaged ↦ subst (Lacks facts mid.disk.store new.disk.store) (sym damaged.0) (lacks-damaged facts mid.disk.store new.disk.store (λ steady. damaged.1 steady takes))
+      | inr (inl damaged) ↦ subst (Lacks facts mid.disk.store new.disk.store) (sym damaged.0) (lacks-damaged facts mid.disk.store new.disk.store (λ steady. damaged.1 steady takes))
+      | inr (inr out) ↦ absurd (in_reach c mid few at_hand out.1)
     ])
 
     -- what was planned for the document as it was held then
-    pub made_of_plan : (edit : Edit) (c : Change) (done : Done) (new : CacheState S) → IsReady c mid → kind_of_change c ≡ kind_of edit → (IsTrue (facts old.disk.store).honest → Plans edit mid.document c done)
+    pub made_of_plan : (edit : Edit) (c : Change) (done : Done) (new : CacheState S) → IsReady c mid → has_no_room old (edit_needs edit) ≡ false → kind_of_change c ≡ kind_of edit → (IsTrue (facts old.disk.store).honest → Plans edit mid.document c done)
         → Makes facts c mid new → IsMade facts edit old new c done
-    made_of_plan edit c done new ready kind plans makes = record {
+    made_of_plan edit c done new ready room kind plans makes = record {
       listed = listed_before c (facts old.disk.store).honest old.document mid.document (keeps-drifts facts old mid keeps) ready.listed;
       makes = makes_later c new makes;
+      room = room;
       kind = kind;
       plans = λ so. subst (λ (d : Document). Plans edit d c done) (keeps-same facts old mid keeps (honest-steady facts old.disk.store so)) (plans so);
     }
@@ -79,7 +136,7 @@ module _ {S : Type 0} (facts : S → StoreFacts) where
   made_at_hand (changes.UserId h old new) k state kind at_hand b is = absurd (cc (kind ∙ is))
   made_at_hand (changes.Map old new) k state kind at_hand b is = absurd (cc (kind ∙ is))
 
-  module _ (old new : SessionState S) (edit : Edit) where
+  module _ (old new : SessionState S) (edit : Edit) (distinct : all_distinct (map (λ s. s.0) old.resident) ≡ true) (free : bars old.resident edit ≡ false) where
     pub edit_step : (c : Change) (done : Done) → IsMade facts edit (blocks_of old) (blocks_of new) c done → new.undo ≡ c ∷ old.undo → new.redo ≡ [] → IsStep facts old new (commands.Edit edit) (reply_of_done done)
     edit_step c done is undo redo = λ exact.
         let so = exact.honest in
@@ -93,41 +150,79 @@ module _ {S : Type 0} (facts : S → StoreFacts) where
           },
           λ target.
               let m = machine_of target old in
-              let same : machine_of target new ≡ machine_with m new.document new.undo new.redo = passed_machine facts old new target so is.makes.passes is.makes.frames in
-              inl (rw (same, document, undo, redo) (edit_answers m edit old.document old.undo old.redo c done exact.steps plans)),
+              let same : machine_of target new ≡ machine_with m new.document new.undo new.redo = passed_machine facts old new target so is.makes.passes is.makes.frames is.makes.locks in
+              inl (rw (same, document, undo, redo) (edit_answers m edit old.document old.undo old.redo c done exact.steps plans (is_barred-is old distinct target edit ∙ free) (has_no_room-is old distinct target (edit_needs edit) ∙ is.room))),
         )
 
     module _ (fault : Fault) (keeps : KeepsSession facts old new) where
-      -- the first refusal is the machine's
-      refused_first : (m : Machine) → m.document ≡ old.document → IsTrue (facts old.disk.store).honest → first_refusal (conditions edit new.document) ≡ Some fault → Answers m (Some (commands.Edit edit)) (Refused fault) m
-      refused_first m is so first = rw (is, ← kept_document facts old new keeps so, first) refl
+      -- the machine's: no lock bars the edit, and there is room or none as for the blocks
+      record Judges (m new_m : Machine) : Type 0 where
+        same : new_m ≡ m
+        document : m.document ≡ old.document
+        unbarred : is_barred edit m ≡ false
+        room : machine.has_no_room m (edit_needs edit) ≡ has_no_room (blocks_of old) (edit_needs edit)
 
-      refused_in : (m new_m : Machine) (k : Kind) → kind_of edit ≡ k → is_of_no_body k ≡ false → new_m ≡ m → m.document ≡ old.document → IsTrue (facts old.disk.store).honest
-          → Refuses (Lacks facts old.disk.store new.disk.store) edit new.document fault → Step (has_failed (facts old.disk.store) (facts new.disk.store)) m (Some (commands.Edit edit)) (Refused fault) new_m
-      refused_in m new_m k kind body same is so refuses = elim refuses as (λ _. Step (has_failed (facts old.disk.store) (facts new.disk.store)) m (Some (commands.Edit edit)) (Refused fault) new_m) [
-        | inl lacks ↦ gives_up facts old.disk.store new.disk.store m new_m (commands.Edit edit) fault so lacks same refl (rw (kind, body) refl)
-        | inr first ↦ inl (rw same (refused_first m is so first))
-      ]
+      module _ (m new_m : Machine) (judges : Judges m new_m) (so : IsTrue (facts old.disk.store).honest) where
+        -- the first refusal is its own
+        refused_first : first_refusal ((CacheFull, has_no_room (blocks_of old) (edit_needs edit)) ∷ conditions edit new.document) ≡ Some fault → Answers m (Some (commands.Edit edit)) (Refused fault) m
+        refused_first first =
+            let judged : first_refusal (machine.command_conditions (commands.Edit edit) m) ≡ Some fault =
+            edit-judged edit m judges.unbarred
+            ∙ ap (λ r. first_refusal ((CacheFull, r) ∷ conditions edit m.document)) judges.room
+            ∙ ap (λ (d : Document). first_refusal ((CacheFull, has_no_room (blocks_of old) (edit_needs edit)) ∷ conditions edit d)) (judges.document ∙ sym (kept_document facts old new keeps so))
+            ∙ first in
+            ap (λ o. option_map_or (λ f. Some (Refused f, m)) o (machine.done_by (commands.Edit edit) m)) judged
 
-      refused_plain : (m new_m : Machine) → new_m ≡ m → m.document ≡ old.document → IsTrue (facts old.disk.store).honest → Refuses IsMemory edit new.document fault
-          → Step (has_failed (facts old.disk.store) (facts new.disk.store)) m (Some (commands.Edit edit)) (Refused fault) new_m
-      refused_plain m new_m same is so refuses = elim refuses as (λ _. Step (has_failed (facts old.disk.store) (facts new.disk.store)) m (Some (commands.Edit edit)) (Refused fault) new_m) [
-        | inl memory ↦ inr (record { fault = Memory; may = refl; says = ap Refused memory; stays = same })
-        | inr first ↦ inl (rw same (refused_first m is so first))
-      ]
+        refused_alone : has_no_room (blocks_of old) (edit_needs edit) ≡ false → first_refusal (conditions edit new.document) ≡ Some fault → Answers m (Some (commands.Edit edit)) (Refused fault) m
+        refused_alone room first = rw (edit-passed edit m judges.unbarred (judges.room ∙ room), judges.document, ← kept_document facts old new keeps so, first) refl
 
-      by_kind : (k : Kind) → kind_of edit ≡ k → (m new_m : Machine) → new_m ≡ m → m.document ≡ old.document → IsTrue (facts old.disk.store).honest
-          → Refuses (Lacks facts old.disk.store new.disk.store) edit new.document fault → (kind_of edit ≡ Plain → Refuses IsMemory edit new.document fault)
-          → Step (has_failed (facts old.disk.store) (facts new.disk.store)) m (Some (commands.Edit edit)) (Refused fault) new_m
-      by_kind Plain kind m new_m same is so refuses plain = refused_plain m new_m same is so (plain kind)
-      by_kind (In b) kind m new_m same is so refuses plain = refused_in m new_m (In b) kind refl same is so refuses
-      by_kind Made kind m new_m same is so refuses plain = refused_in m new_m Made kind refl same is so refuses
-      by_kind Freed kind m new_m same is so refuses plain = refused_in m new_m Freed kind refl same is so refuses
+        refused_in : (k : Kind) → kind_of edit ≡ k → is_of_no_body k ≡ false
+            → Refuses (Lacks facts old.disk.store new.disk.store) (has_no_room (blocks_of old) (edit_needs edit)) edit new.document fault
+            → Step (has_failed (facts old.disk.store) (facts new.disk.store)) m (Some (commands.Edit edit)) (Refused fault) new_m
+        refused_in k kind body refuses = elim refuses as (λ _. Step (has_failed (facts old.disk.store) (facts new.disk.store)) m (Some (commands.Edit edit)) (Refused fault) new_m) [
+          | inl lacks ↦ gives_up facts old.disk.store new.disk.store m new_m (commands.Edit edit) fault so lacks judges.same refl (rw (kind, body) refl)
+          | inr first ↦ inl (rw judges.same (refused_first first))
+        ]
 
-      pub edit_refused : (IsTrue (facts old.disk.store).honest → Refuses (Lacks facts old.disk.store new.disk.store) edit new.document fault) → (kind_of edit ≡ Plain → Refuses IsMemory edit new.document fault)
-          → IsStep facts old new (commands.Edit edit) (Refused fault)
+        refused_plain : kind_of edit ≡ Plain → RefusesAtHand edit new.document fault → Step (has_failed (facts old.disk.store) (facts new.disk.store)) m (Some (commands.Edit edit)) (Refused fault) new_m
+        refused_plain kind refuses = elim refuses as (λ _. Step (has_failed (facts old.disk.store) (facts new.disk.store)) m (Some (commands.Edit edit)) (Refused fault) new_m) [
+          | inl memory ↦ inr (record { fault = Memory; may = refl; says = ap Refused memory; stays = judges.same })
+          | inr first ↦ inl (rw judges.same (refused_alone (ap (has_no_room (blocks_of old)) (plain_needs edit kind)) first))
+        ]
+
+        by_kind : (k : Kind) → kind_of edit ≡ k → Refuses (Lacks facts old.disk.store new.disk.store) (has_no_room (blocks_of old) (edit_needs edit)) edit new.document fault
+            → (kind_of edit ≡ Plain → RefusesAtHand edit new.document fault) → Step (has_failed (facts old.disk.store) (facts new.disk.store)) m (Some (commands.Edit edit)) (Refused fault) new_m
+        by_kind Plain kind refuses plain = refused_plain kind (plain kind)
+        by_kind (In b) kind refuses plain = refused_in (In b) kind refl refuses
+        by_kind Made kind refuses plain = refused_in Made kind refl refuses
+        by_kind Freed kind refuses plain = refused_in Freed kind refl refuses
+
+      pub edit_refused : (IsTrue (facts old.disk.store).honest → Refuses (Lacks facts old.disk.store new.disk.store) (has_no_room (blocks_of old) (edit_needs edit)) edit new.document fault)
+          → (kind_of edit ≡ Plain → RefusesAtHand edit new.document fault) → IsStep facts old new (commands.Edit edit) (Refused fault)
       edit_refused refuses plain = λ exact. (
         kept_exact facts old new keeps exact,
         λ target.
-            by_kind (kind_of edit) refl (machine_of target old) (machine_of target new) (kept_machine facts old new keeps target exact) refl exact.honest (refuses exact.honest) plain,
+            let m = machine_of target old in let new_m = machine_of target new in
+            let judges : Judges m new_m = record {
+              same = kept_machine facts old new keeps target exact;
+              document = refl;
+              unbarred = is_barred-is old distinct target edit ∙ free;
+              room = has_no_room-is old distinct target (edit_needs edit);
+            } in
+            by_kind m new_m judges exact.honest (kind_of edit) refl (refuses exact.honest) plain,
       )
+
+-- A lock bars the edit.
+module _ {S : Type 0} (facts : S → StoreFacts) (s : SessionState S) (edit : Edit) (distinct : all_distinct (map (λ x. x.0) s.resident) ≡ true) (barred : bars s.resident edit ≡ true) where
+  pub barred_step : IsStep facts s s (commands.Edit edit) (Refused Locked)
+  barred_step = λ exact. (exact, λ target. inl (rw (edit-locked edit (machine_of target s) (is_barred-is s distinct target edit ∙ barred)) refl))
+
+  pub barred_fault : IsBarred edit s Locked
+  barred_fault = (refl, λ target. is_barred-is s distinct target edit ∙ barred)
+
+  pub plain_open : kind_of edit ≡ Plain → ⊥
+  plain_open kind = true≢false (sym barred ∙ plain_free s.resident edit kind)
+
+-- It doesn't.
+pub not_barred : {S : Type 0} (s : SessionState S) (edit : Edit) → all_distinct (map (λ x. x.0) s.resident) ≡ true → bars s.resident edit ≡ false → ((target : Bool) → is_barred edit (machine_of target s) ≡ true) → ⊥
+not_barred s edit distinct free all = true≢false (sym (all true) ∙ is_barred-is s distinct true edit ∙ free)

@@ -1,6 +1,7 @@
 -- What a call that keeps a session leaves, and when it gives up.
 use Rattle.std.proofs.Common.{◌≡◌, ℕ, Bool, true, IsTrue, List, Some, inl, inr, refl, sym, ap, subst, ◌∙◌}
-use Rattle.std.specs.FinMap.{empty}
+use Rattle.std.specs.Ordering.{nat_cmp}
+use Rattle.std.specs.FinMap.{FinMap}
 use Rattle.std.proofs.lemmas.Bool.{le-leb}
 use Rattle.geos_model.specs.Document.{Document}
 use Rattle.geos_model.specs.Machine.{Machine, Request, Answers, Step, next, takes_memory, calls_store}
@@ -10,24 +11,26 @@ use Rattle.geos_model.specs.declared.fault.Fault.{Fault}
 use Rattle.geos_model.specs.declared.fault.Fault.TheVariants.{Memory, File}
 use Rattle.vm_store.specs.Facts.{StoreFacts, Raised, raised}
 use Rattle.vm_file.specs.Disk.{Drifts, Passes}
+use Rattle.block_cache.specs.State.{KeepsLocks}
 use Rattle.vm_blocks.specs.Keeping.{Lacks}
 use Rattle.vm_blocks.specs.declared.change.Change.{Change}
 use Rattle.vm_blocks.specs.declared.change.Direction.TheVariants.{Forwards, Backwards}
-use Rattle.vm_blocks.proofs.KeepingLaws.{keeps-refl, keeps-passes, keeps-drifts, keeps-frames, lacks-cases}
-use Rattle.undo_log.specs.Records.{SessionState, blocks_of, machine_of, has_failed, steps, AreListed, AreSteps, IsExact, KeepsSession}
+use Rattle.vm_blocks.proofs.KeepingLaws.{keeps-refl, keeps-passes, keeps-drifts, keeps-frames, keeps-locks, lacks-cases}
+use Rattle.undo_log.specs.Records.{SessionState, blocks_of, locks_in, machine_of, has_failed, steps, AreListed, AreSteps, IsExact, KeepsSession}
 use Rattle.undo_log.proofs.Listing.{drifted, are_listed_alike}
+use Rattle.undo_log.proofs.Locks.{kept_locks}
 
 -- The machine of a session, from its parts.
-pub machine_is : {S : Type 0} (target : Bool) (d updated saved : Document) (undo redo : List Change) (frames sequence : ℕ) (new : SessionState S)
-    → d ≡ new.document → undo ≡ new.undo → redo ≡ new.redo → updated ≡ new.disk.updated → saved ≡ new.disk.saved → frames ≡ new.frames → sequence ≡ new.disk.sequence
-    → ◌≡◌ {A = Machine} (record { document = d; past = steps Backwards undo d; future = steps Forwards redo d; updated = updated; saved = saved; locks = empty; frames = frames; target = target; sequence = sequence }) (machine_of target new)
-machine_is target d updated saved undo redo frames sequence new p q r u v f n = λ i. record {
+pub machine_is : {S : Type 0} (target : Bool) (d updated saved : Document) (undo redo : List Change) (locks : FinMap nat_cmp ℕ) (frames sequence : ℕ) (new : SessionState S)
+    → d ≡ new.document → undo ≡ new.undo → redo ≡ new.redo → updated ≡ new.disk.updated → saved ≡ new.disk.saved → locks ≡ locks_in new.resident → frames ≡ new.frames → sequence ≡ new.disk.sequence
+    → ◌≡◌ {A = Machine} (record { document = d; past = steps Backwards undo d; future = steps Forwards redo d; updated = updated; saved = saved; locks = locks; frames = frames; target = target; sequence = sequence }) (machine_of target new)
+machine_is target d updated saved undo redo locks frames sequence new p q r u v l f n = λ i. record {
   document = p i;
   past = steps Backwards (q i) (p i);
   future = steps Forwards (r i) (p i);
   updated = u i;
   saved = v i;
-  locks = empty;
+  locks = l i;
   frames = f i;
   target = target;
   sequence = n i;
@@ -64,10 +67,10 @@ module _ {S : Type 0} (facts : S → StoreFacts) where
     }
 
     -- the machine after a call that commits nothing
-    pub passed_machine : (target : Bool) → IsTrue (facts old.disk.store).honest → Passes facts old.disk new.disk → new.frames ≡ old.frames
+    pub passed_machine : (target : Bool) → IsTrue (facts old.disk.store).honest → Passes facts old.disk new.disk → new.frames ≡ old.frames → KeepsLocks old.resident new.resident
         → machine_of target new ≡ machine_with (machine_of target old) new.document new.undo new.redo
-    passed_machine target so passes frames = sym (machine_is target new.document old.disk.updated old.disk.saved new.undo new.redo old.frames old.disk.sequence new
-        refl refl refl (sym (passes.updated so)) (sym (passes.saved so)) (sym frames) (sym passes.sequence))
+    passed_machine target so passes frames locks = sym (machine_is target new.document old.disk.updated old.disk.saved new.undo new.redo (locks_in old.resident) old.frames old.disk.sequence new
+        refl refl refl (sym (passes.updated so)) (sym (passes.saved so)) (sym (kept_locks old.resident new.resident locks)) (sym frames) (sym passes.sequence))
 
     module _ (keeps : KeepsSession facts old new) where
       pub kept_passes : Passes facts old.disk new.disk
@@ -79,6 +82,9 @@ module _ {S : Type 0} (facts : S → StoreFacts) where
       pub kept_frames : new.frames ≡ old.frames
       kept_frames = keeps-frames facts (blocks_of old) (blocks_of new) keeps.blocks
 
+      pub kept_locked : KeepsLocks old.resident new.resident
+      kept_locked = keeps-locks facts (blocks_of old) (blocks_of new) keeps.blocks
+
       pub kept_document : IsTrue (facts old.disk.store).honest → new.document ≡ old.document
       kept_document so = kept_drifts.same so
 
@@ -87,8 +93,8 @@ module _ {S : Type 0} (facts : S → StoreFacts) where
 
       pub kept_machine : (target : Bool) → IsExact facts old → machine_of target new ≡ machine_of target old
       kept_machine target exact =
-          sym (machine_is target old.document old.disk.updated old.disk.saved old.undo old.redo old.frames old.disk.sequence new (sym (kept_document exact.honest)) (sym keeps.undo) (sym keeps.redo)
-          (sym (kept_passes.updated exact.honest)) (sym (kept_passes.saved exact.honest)) (sym kept_frames) (sym kept_passes.sequence))
+          sym (machine_is target old.document old.disk.updated old.disk.saved old.undo old.redo (locks_in old.resident) old.frames old.disk.sequence new (sym (kept_document exact.honest)) (sym keeps.undo) (sym keeps.redo)
+          (sym (kept_passes.updated exact.honest)) (sym (kept_passes.saved exact.honest)) (sym (kept_locks old.resident new.resident kept_locked)) (sym kept_frames) (sym kept_passes.sequence))
 
   pub keeps_refl : (s : SessionState S) → KeepsSession facts s s
   keeps_refl s = record { blocks = keeps-refl facts (blocks_of s); undo = refl; redo = refl }

@@ -1,6 +1,8 @@
+pub mod Locks
 pub mod Listing
 pub mod Lists
 pub mod Keeping
+pub mod Locking
 pub mod Steps
 pub mod Answers
 pub mod Edited

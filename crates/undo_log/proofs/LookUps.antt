@@ -1,10 +1,13 @@
 -- What is looked up of a session's document is a step of its machine.
-use Rattle.std.proofs.Common.{◌≡◌, true, IsTrue, Option, Some, None, List, refl, ap, subst, inl, inr}
+use Rattle.std.proofs.Common.{◌≡◌, true, IsTrue, Option, Some, None, List, ◌∷◌, map, refl, ap, subst, inl, inr}
 use Rattle.std.specs.Option.{option_map, option_map_or}
 use Rattle.geos_model.specs.Refusal.{first_refusal}
-use Rattle.geos_model.specs.Machine.{Machine, Step, takes_memory, calls_store, command_conditions, done_by}
+use Rattle.geos_model.specs.ElementArray.{all_distinct}
+use Rattle.geos_model.specs.Machine as machine
+use Rattle.geos_model.specs.Machine.{Machine, Step, takes_memory, calls_store, command_conditions, done_by, look_up_needs}
 use Rattle.geos_model.specs.Reply.{Reply, Refused, look_up_conditions, look_up}
 use Rattle.geos_model.specs.declared.fault.Fault.{Fault}
+use Rattle.geos_model.specs.declared.fault.Fault.TheVariants.{CacheFull}
 use Rattle.geos_model.specs.declared.command.Command.{Command}
 use Rattle.geos_model.specs.Document.{Document}
 use Rattle.vm_store.specs.Facts.{StoreFacts}
@@ -13,8 +16,10 @@ use Rattle.vm_blocks.specs.Keeping.{Keeps, Lacks, IsSteady}
 use Rattle.vm_blocks.specs.declared.change.Change.{Change}
 use Rattle.vm_blocks.proofs.KeepingLaws.{honest-steady}
 use Rattle.doc_edits.specs.LookUps.{LooksUp}
-use Rattle.undo_log.specs.Records.{SessionState, machine_of, has_failed, IsStep, KeepsSession, Looks}
+use Rattle.doc_edits.specs.Room.{has_no_room}
+use Rattle.undo_log.specs.Records.{SessionState, blocks_of, machine_of, has_failed, IsStep, KeepsSession, Looks}
 use Rattle.undo_log.proofs.Keeping.{gives_up, kept_exact, kept_machine, kept_document}
+use Rattle.undo_log.proofs.Locks.{has_no_room-is}
 
 -- the first refusal of a look-up or its answer, with which the machine stays
 abbrev reply_if : Machine → Option Reply → Option (Reply × Machine)
@@ -29,34 +34,34 @@ stays_with m (Some fault) answer reply is = ap (reply_if m) is
 pub record IsLookUp (c : Command) : Type 0 where
   pub takes : (m : Machine) → takes_memory c m ≡ true
   pub calls : (m : Machine) → calls_store c m ≡ true
-  pub refuses : (m : Machine) → command_conditions c m ≡ look_up_conditions c m.document
+  pub refuses : (m : Machine) → command_conditions c m ≡ (CacheFull, machine.has_no_room m (look_up_needs c)) ∷ look_up_conditions c m.document
   pub answers : (m : Machine) → done_by c m ≡ reply_if m (look_up c m.document)
 
 -- a session of these blocks
 abbrev pub session_with : {S : Type 0} → CacheState S → List Change → List Change → SessionState S
 session_with blocks undo redo = record { disk = blocks.disk; document = blocks.document; resident = blocks.resident; frames = blocks.frames; undo = undo; redo = redo }
 
-module _ {S : Type 0} (facts : S → StoreFacts) (old new : SessionState S) (keeps : KeepsSession facts old new) where
+module _ {S : Type 0} (facts : S → StoreFacts) (old new : SessionState S) (keeps : KeepsSession facts old new) (distinct : all_distinct (map (λ s. s.0) old.resident) ≡ true) where
   -- What is answered of the document, the machine answers.
-  pub look_up_step : (c : Command) (reply : Reply) → IsLookUp c → (IsTrue (facts old.disk.store).honest → LooksUp (Lacks facts old.disk.store new.disk.store) c new.document reply) → IsStep facts old new c reply
+  pub look_up_step : (c : Command) (reply : Reply) → IsLookUp c → (IsTrue (facts old.disk.store).honest → LooksUp (Lacks facts old.disk.store new.disk.store) (has_no_room (blocks_of old) (look_up_needs c)) c new.document reply) → IsStep facts old new c reply
   look_up_step c reply is looks = λ exact.
       let so = exact.honest in
-      let now : LooksUp (Lacks facts old.disk.store new.disk.store) c old.document reply = subst (λ (d : Document). LooksUp (Lacks facts old.disk.store new.disk.store) c d reply) (kept_document facts old new keeps so) (looks so) in (
+      let now : LooksUp (Lacks facts old.disk.store new.disk.store) (has_no_room (blocks_of old) (look_up_needs c)) c old.document reply = subst (λ (d : Document). LooksUp (Lacks facts old.disk.store new.disk.store) (has_no_room (blocks_of old) (look_up_needs c)) c d reply) (kept_document facts old new keeps so) (looks so) in (
         kept_exact facts old new keeps exact,
         λ target.
             let m = machine_of target old in
             let same : machine_of target new ≡ m = kept_machine facts old new keeps target exact in
             elim now as (λ _. Step (has_failed (facts old.disk.store) (facts new.disk.store)) m (Some c) reply (machine_of target new)) [
               | inl lack ↦ rw lack.2 (gives_up facts old.disk.store new.disk.store m (machine_of target new) c lack.0 so lack.1 same (is.takes m) (is.calls m))
-              | inr first ↦ inl (rw (same, is.refuses m, is.answers m) (stays_with m (first_refusal (look_up_conditions c m.document)) (look_up c m.document) reply first))
+              | inr first ↦ inl (rw (same, is.refuses m, is.answers m, has_no_room-is old distinct target (look_up_needs c)) (stays_with m (first_refusal ((CacheFull, has_no_room (blocks_of old) (look_up_needs c)) ∷ look_up_conditions c m.document)) (look_up c m.document) reply first))
             ],
       )
 
-  pub looked : (c : Command) (reply : Reply) → IsLookUp c → LooksUp (Lacks facts old.disk.store new.disk.store) c new.document reply → Looks facts old new c reply
+  pub looked : (c : Command) (reply : Reply) → IsLookUp c → LooksUp (Lacks facts old.disk.store new.disk.store) (has_no_room (blocks_of old) (look_up_needs c)) c new.document reply → Looks facts old new c reply
   looked c reply is value = record { keeps = keeps; step = look_up_step c reply is (λ _. value); value = value }
 
   -- of a chain
-  pub chain_step : (c : Command) (reply : Reply) → IsLookUp c → (IsSteady facts old.disk.store → LooksUp (Lacks facts old.disk.store new.disk.store) c new.document reply) → IsStep facts old new c reply
+  pub chain_step : (c : Command) (reply : Reply) → IsLookUp c → (IsSteady facts old.disk.store → LooksUp (Lacks facts old.disk.store new.disk.store) (has_no_room (blocks_of old) (look_up_needs c)) c new.document reply) → IsStep facts old new c reply
   chain_step c reply is value = look_up_step c reply is (λ so. value (honest-steady facts old.disk.store so))
 
 -- So it is of a session that is seen to be one of these blocks.
@@ -64,11 +69,11 @@ module _ {S : Type 0} (facts : S → StoreFacts) (old new : CacheState S) (undo 
   pub kept_session : KeepsSession facts s (session_with new undo redo)
   kept_session = subst (λ (x : SessionState S). KeepsSession facts x (session_with new undo redo)) is (record { blocks = keeps; undo = refl; redo = refl })
 
-  module _ (c : Command) (reply : Reply) (asks : IsLookUp c) where
-    pub looked_at : LooksUp (Lacks facts old.disk.store new.disk.store) c new.document reply → Looks facts s (session_with new undo redo) c reply
+  module _ (distinct : all_distinct (map (λ s. s.0) old.resident) ≡ true) (c : Command) (reply : Reply) (asks : IsLookUp c) where
+    pub looked_at : LooksUp (Lacks facts old.disk.store new.disk.store) (has_no_room old (look_up_needs c)) c new.document reply → Looks facts s (session_with new undo redo) c reply
     looked_at value =
-        subst (λ (x : SessionState S). Looks facts x (session_with new undo redo) c reply) is (looked facts (session_with old undo redo) (session_with new undo redo) (record { blocks = keeps; undo = refl; redo = refl }) c reply asks value)
+        subst (λ (x : SessionState S). Looks facts x (session_with new undo redo) c reply) is (looked facts (session_with old undo redo) (session_with new undo redo) (record { blocks = keeps; undo = refl; redo = refl }) distinct c reply asks value)
 
-    pub chain_stepped : (IsSteady facts old.disk.store → LooksUp (Lacks facts old.disk.store new.disk.store) c new.document reply) → IsStep facts s (session_with new undo redo) c reply
+    pub chain_stepped : (IsSteady facts old.disk.store → LooksUp (Lacks facts old.disk.store new.disk.store) (has_no_room old (look_up_needs c)) c new.document reply) → IsStep facts s (session_with new undo redo) c reply
     chain_stepped value =
-        subst (λ (x : SessionState S). IsStep facts x (session_with new undo redo) c reply) is (chain_step facts (session_with old undo redo) (session_with new undo redo) (record { blocks = keeps; undo = refl; redo = refl }) c reply asks value)
+        subst (λ (x : SessionState S). IsStep facts x (session_with new undo redo) c reply) is (chain_step facts (session_with old undo redo) (session_with new undo redo) (record { blocks = keeps; undo = refl; redo = refl }) distinct c reply asks value)

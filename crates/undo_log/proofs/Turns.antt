@@ -1,5 +1,6 @@
 -- What a step from one list of records to the other leaves, and when it is sure to be taken.
-use Rattle.std.proofs.Common.{◌≡◌, ◌⊎◌, Bool, true, false, cond, IsTrue, List, [], ◌∷◌, ◌++◌, reverse, Some, inl, inr, refl, sym, ap, subst, ◌∙◌}
+use Rattle.std.proofs.Common.{◌≡◌, ◌⊎◌, ℕ, Bool, true, false, cond, IsTrue, List, [], ◌∷◌, ◌++◌, reverse, Some, inl, inr, refl, sym, ap, subst, ◌∙◌}
+use Rattle.std.proofs.lemmas.Bool.{true≢false}
 use Rattle.geos_model.specs.Document.{Document}
 use Rattle.geos_model.specs.Machine.{newest_takes, undo_takes, redo_takes}
 use Rattle.geos_model.specs.Reply.{Accepted, Refused}
@@ -10,19 +11,19 @@ use Rattle.geos_model.specs.declared.fault.Fault.TheVariants.{Damaged, NothingTo
 use Rattle.vm_store.specs.Facts.{StoreFacts}
 use Rattle.vm_file.specs.Disk.{IsListed, Passes}
 use Rattle.vm_file.proofs.Passing.{Passes-refl}
-use Rattle.block_cache.specs.State.{CacheState}
+use Rattle.block_cache.specs.State.{CacheState, Seat, locks_of}
 use Rattle.vm_blocks.specs.Changes.{made, turned, after, blocks_in, Applies}
-use Rattle.vm_blocks.specs.Keeping.{Keeps, Lacks}
-use Rattle.vm_blocks.specs.Preparing.{BodyTakes, IsAtHand, IsUnready, Listed, Makes}
+use Rattle.vm_blocks.specs.Keeping.{Keeps, Lacks, is_full}
+use Rattle.vm_blocks.specs.Preparing.{AreUnlocked, BodyTakes, IsAtHand, IsOutOfReach, IsUnready, Listed, Makes}
 use Rattle.vm_blocks.specs.declared.change.Change.{Change}
 use Rattle.vm_blocks.specs.declared.change.Change.TheVariants as changes
 use Rattle.vm_blocks.specs.declared.change.Direction.{Direction}
 use Rattle.vm_blocks.specs.declared.change.Direction.TheVariants.{Forwards, Backwards}
-use Rattle.vm_blocks.proofs.KeepingLaws.{honest-steady, keeps-drifts}
+use Rattle.vm_blocks.proofs.KeepingLaws.{honest-steady, keeps-drifts, open-shut}
 use Rattle.vm_blocks.proofs.Preparing.{applies_takes}
 use Rattle.doc_edits.specs.Planning.{kind_of_change}
-use Rattle.undo_log.specs.Records.{SessionState, blocks_of, machine_of, steps, CanTake, AreListed, AreSteps, IsExact, IsStep, KeepsSession}
-use Rattle.undo_log.specs.Turning.{Moves, Stays, Turns, CanTurn, CantTurn, IsRefusedTurn, IsSure, IsSureKind}
+use Rattle.undo_log.specs.Records.{SessionState, blocks_of, has_locks, machine_of, steps, CanTake, AreListed, AreSteps, IsExact, IsStep, KeepsSession}
+use Rattle.undo_log.specs.Turning.{Moves, Stays, Turns, CanTurn, CantMake, CantTurn, IsRefusedTurn, IsRefusedUnlocked, IsSure, IsSureKind}
 use Rattle.undo_log.proofs.Answers.{undo_moved, redo_moved}
 use Rattle.undo_log.proofs.Keeping.{answers_on, gives_up, keeps_refl, kept_exact, kept_machine, machine_with, passed_machine}
 use Rattle.undo_log.proofs.Listing.{drifted, are_listed_alike, moved_listed}
@@ -33,6 +34,22 @@ use Rattle.undo_log.proofs.Steps.{moved_steps, swapped, swapped_back}
 abbrev turn_takes : Direction → Kind → Bool
 turn_takes Forwards kind = redo_takes kind
 turn_takes Backwards kind = undo_takes kind
+
+-- Where there is room nothing is out of reach,
+pub within : {S : Type 0} (c : Change) (state : CacheState S) → is_full state ≡ false → IsOutOfReach c state → ⊥
+within (changes.BlocksIn ms) state room out = out
+within (changes.BlocksOut ms) state room out = out
+within (changes.Part b part) state room out = true≢false (sym out ∙ open-shut state b.0 room)
+within (changes.UserId b old new) state room out = out
+within (changes.Map old new) state room out = out
+
+-- and where no block is locked none that goes is.
+pub none_locked : (c : Change) (ss : List Seat) → ((h : ℕ) → locks_of ss h ≡ 0) → AreUnlocked c ss
+none_locked (changes.BlocksIn ms) ss none = tt
+none_locked (changes.BlocksOut ms) ss none = λ i d within. none _
+none_locked (changes.Part b part) ss none = tt
+none_locked (changes.UserId b old new) ss none = tt
+none_locked (changes.Map old new) ss none = tt
 
 module _ {S : Type 0} (facts : S → StoreFacts) where
   -- The lists as they are kept, the newest last.
@@ -45,9 +62,16 @@ module _ {S : Type 0} (facts : S → StoreFacts) where
     to_is = newest_first to' to c to_is;
   }
 
-  pub cant : (direction : Direction) (old new : CacheState S) (from from' : List Change) (c : Change) (fault : Fault) → from ≡ from' ++ c ∷ [] → IsUnready facts (turned direction c) old new fault
+  pub cant : (direction : Direction) (old new : CacheState S) (from from' : List Change) (c : Change) (fault : Fault) → from ≡ from' ++ c ∷ [] → CantMake facts (turned direction c) old new fault
       → CantTurn facts direction (reverse from) old new fault
   cant direction old new from from' c fault was unready = subst (λ (cs : List Change). CantTurn facts direction cs old new fault) (sym (newest_first from from' c was)) unready
+
+  pub unready_cant : (c : Change) (old new : CacheState S) (fault : Fault) → is_full old ≡ false → IsUnready facts c old new fault → CantMake facts c old new fault
+  unready_cant c old new fault room unready = elim unready as (λ _. CantMake facts c old new fault) [
+    | inl lacks ↦ inl lacks
+    | inr (inl damaged) ↦ inr damaged
+    | inr (inr out) ↦ absurd (within c old room out.1)
+  ]
 
   pub can_newest : (direction : Direction) (state : CacheState S) (from from' : List Change) (c : Change) → from ≡ from' ++ c ∷ [] → CanTurn direction (reverse from) state
       → (blocks_in (turned direction c) ≡ []) × IsAtHand (turned direction c) state × BodyTakes (turned direction c) state.document
@@ -99,10 +123,10 @@ module _ {S : Type 0} (facts : S → StoreFacts) where
   sure_turns s direction [] can sure = absurd sure
   sure_turns s direction (c ∷ cs) can sure = sure_can s direction c cs (λ exact. (can exact).0) sure
 
-  module _ (old new : SessionState S) where
+  module _ (old new : SessionState S) (none : has_locks old ≡ false) where
     -- Why one is refused.
     pub refused_turn : (direction : Direction) (nothing fault : Fault) (from : List Change) → (IsExact facts old → CanTake direction from old.document) → CantTurn facts direction from (blocks_of old) (blocks_of new) fault
-        → IsRefusedTurn facts nothing from old new fault
+        → IsRefusedUnlocked facts nothing from old new fault
     refused_turn direction nothing fault [] can unready = absurd unready
     refused_turn direction nothing fault (c ∷ cs) can unready = inr (
       λ none. cc none,
@@ -156,9 +180,9 @@ module _ {S : Type 0} (facts : S → StoreFacts) where
               let m = machine_of target old in
               let was : m ≡ machine_with m old.document (c ∷ new.undo) old.redo = ap (λ (cs : List Change). machine_with m old.document cs old.redo) moves.from_was in
               let is : machine_of target new ≡ machine_with m (after Backwards c old.document) new.undo (c ∷ old.redo) =
-              passed_machine facts old new target so moves.makes.passes moves.makes.frames
+              passed_machine facts old new target so moves.makes.passes moves.makes.frames moves.makes.locks
               ∙ ap (λ (d : Document). machine_with m d new.undo new.redo) document ∙ ap (λ (cs : List Change). machine_with m (after Backwards c old.document) new.undo cs) moves.to_is in
-              inl (answers_on m _ (machine_of target new) _ (Some commands.Undo) Accepted was is (undo_moved m old.document c new.undo old.redo are)),
+              inl (answers_on m _ (machine_of target new) _ (Some commands.Undo) Accepted was is (undo_moved m old.document c new.undo old.redo none are)),
         )
 
     pub redo_taken : Moves facts Forwards (blocks_of old) (blocks_of new) old.redo old.undo new.redo new.undo → IsStep facts old new commands.Redo Accepted
@@ -175,17 +199,17 @@ module _ {S : Type 0} (facts : S → StoreFacts) where
               let m = machine_of target old in
               let was : m ≡ machine_with m old.document old.undo (c ∷ new.redo) = ap (λ (cs : List Change). machine_with m old.document old.undo cs) moves.from_was in
               let is : machine_of target new ≡ machine_with m (after Forwards c old.document) (c ∷ old.undo) new.redo =
-              passed_machine facts old new target so moves.makes.passes moves.makes.frames
+              passed_machine facts old new target so moves.makes.passes moves.makes.frames moves.makes.locks
               ∙ ap (λ (d : Document). machine_with m d new.undo new.redo) document ∙ ap (λ (cs : List Change). machine_with m (after Forwards c old.document) cs new.redo) moves.to_is in
-              inl (answers_on m _ (machine_of target new) _ (Some commands.Redo) Accepted was is (redo_moved m old.document c old.undo new.redo are)),
+              inl (answers_on m _ (machine_of target new) _ (Some commands.Redo) Accepted was is (redo_moved m old.document c old.undo new.redo none are)),
         )
 
     -- There is none, and nothing changes.
     pub undo_none : new ≡ old → old.undo ≡ [] → IsStep facts old new commands.Undo (Refused NothingToUndo)
-    undo_none same none = λ exact. (subst (IsExact facts) (sym same) exact, λ target. inl (rw (same, none) refl))
+    undo_none same empty = λ exact. (subst (IsExact facts) (sym same) exact, λ target. inl (rw (same, none, empty) refl))
 
     pub redo_none : new ≡ old → old.redo ≡ [] → IsStep facts old new commands.Redo (Refused NothingToRedo)
-    redo_none same none = λ exact. (subst (IsExact facts) (sym same) exact, λ target. inl (rw (same, none) refl))
+    redo_none same empty = λ exact. (subst (IsExact facts) (sym same) exact, λ target. inl (rw (same, none, empty) refl))
 
     -- so it is whether there was one or not
     none_same : (from to from' to' : List Change) → Stays (blocks_of old) (blocks_of new) from to from' to' → (from' ≡ from) × (to' ≡ to)

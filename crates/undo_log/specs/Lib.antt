@@ -1,4 +1,5 @@
 pub mod Records
 pub mod Making
+pub mod Locking
 pub mod Turning
 pub mod Codes

@@ -1,15 +1,16 @@
 -- The records of a session are changes. What steps they are, and that each can be taken.
-use Rattle.std.specs.Prelude.{◌≡◌, ℕ, Bool, IsTrue, nat_le, List, [], ◌∷◌, map, Some}
-use Rattle.std.specs.FinMap.{empty}
+use Rattle.std.specs.Prelude.{◌≡◌, ℕ, Bool, IsTrue, nat_le, nat_lt, if◌then◌else◌, List, [], ◌∷◌, map, Some}
+use Rattle.std.specs.FinMap.{FinMap, empty, insert, remove, len}
 use Rattle.std.specs.List.{sum_by}
+use Rattle.std.specs.Ordering.{nat_cmp}
 use Rattle.geos_model.specs.Document.{Document, IsValid}
-use Rattle.geos_model.specs.Machine.{Machine, UndoStep, Step, kind_of}
+use Rattle.geos_model.specs.Machine.{Machine, UndoStep, Step, kind_of, look_up_needs}
 use Rattle.geos_model.specs.Reply.{Reply}
 use Rattle.geos_model.specs.declared.command.Command.{Command}
 use Rattle.geos_model.specs.declared.command.Edit.{Edit}
 use Rattle.vm_store.specs.Facts.{StoreFacts, raised}
 use Rattle.vm_file.specs.Disk.{Disk, FileState}
-use Rattle.block_cache.specs.State.{CacheState, seen}
+use Rattle.block_cache.specs.State.{CacheState, Seat, is_locked, seen}
 use Rattle.vm_blocks.specs.Changes.{after, turned, weight, Applies}
 use Rattle.vm_blocks.specs.Keeping.{Keeps, Lacks}
 use Rattle.vm_blocks.specs.Preparing.{AllListed, Makes}
@@ -18,6 +19,7 @@ use Rattle.vm_blocks.specs.declared.change.Direction.{Direction}
 use Rattle.vm_blocks.specs.declared.change.Direction.TheVariants.{Forwards, Backwards}
 use Rattle.doc_edits.specs.LookUps.{LooksUp}
 use Rattle.doc_edits.specs.Planning.{kind_of_change, change_cost}
+use Rattle.doc_edits.specs.Room.{has_no_room}
 
 abbrev pub opposite : Direction → Direction
 opposite Forwards = Backwards
@@ -50,6 +52,15 @@ blocks_of s = record { disk = s.disk; document = s.document; resident = s.reside
 abbrev pub file_of : {S : Type 0} → SessionState S → FileState S
 file_of s = seen (blocks_of s)
 
+-- How often each block is locked, of those in memory that are. If a handle had two seats, the first would count.
+abbrev pub locks_in : List Seat → FinMap nat_cmp ℕ
+locks_in [] = empty
+locks_in (s ∷ seats) = if is_locked s then insert (locks_in seats) s.0 s.1 else remove (locks_in seats) s.0
+
+-- whether any block is locked
+abbrev pub has_locks : {S : Type 0} → SessionState S → Bool
+has_locks s = nat_lt 0 (len (locks_in s.resident))
+
 -- the machine that a session is, where a target for a save-as is left and where none is
 abbrev pub machine_of : {S : Type 0} → Bool → SessionState S → Machine
 machine_of target s = record {
@@ -58,7 +69,7 @@ machine_of target s = record {
   future = steps Forwards s.redo s.document;
   updated = s.disk.updated;
   saved = s.disk.saved;
-  locks = empty;
+  locks = locks_in s.resident;
   frames = s.frames;
   target = target;
   sequence = s.disk.sequence;
@@ -95,7 +106,7 @@ abbrev pub IsStep : {S : Type 0} → (S → StoreFacts) → SessionState S → S
 IsStep facts old new command reply = IsExact facts old
     → IsExact facts new × ((target : Bool) → Step (has_failed (facts old.disk.store) (facts new.disk.store)) (machine_of target old) (Some command) reply (machine_of target new))
 
--- Nothing is committed, the document stays as far as the store gives back what it has, and so do both lists.
+-- Nothing is committed, the document stays as far as the store gives back what it has, and so do the locks and both lists.
 pub record KeepsSession {S : Type 0} (facts : S → StoreFacts) (old new : SessionState S) : Type 0 where
   pub blocks : Keeps facts (blocks_of old) (blocks_of new)
   pub undo : new.undo ≡ old.undo
@@ -106,7 +117,7 @@ pub record KeepsSession {S : Type 0} (facts : S → StoreFacts) (old new : Sessi
 pub record Looks {S : Type 0} (facts : S → StoreFacts) (old new : SessionState S) (command : Command) (reply : Reply) : Type 0 where
   pub keeps : KeepsSession facts old new
   pub step : IsStep facts old new command reply
-  pub value : LooksUp (Lacks facts old.disk.store new.disk.store) command new.document reply
+  pub value : LooksUp (Lacks facts old.disk.store new.disk.store) (has_no_room (blocks_of old) (look_up_needs command)) command new.document reply
 
 -- The edit's change is made, and its record is the newest, of the edit's kind; nothing is left to redo.
 pub record Records {S : Type 0} (facts : S → StoreFacts) (edit : Edit) (old new : SessionState S) : Type 0 where

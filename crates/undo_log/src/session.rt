@@ -1,37 +1,42 @@
 //! A document that is edited, with what undo needs.
-ghost use Rattle.std.specs.Prelude.{◌≡◌, ◌↔◌, ◌+◌, ◌-◌, ◌^◌, ◌≤◌, ◌||◌, ◌⊎◌, ℕ, Bool, true, false, List, [], Some, Ok, IsTrue, IsOk, IfOk, IfErr, OnOk, OnErr, MatchResult, length, min};
+ghost use Rattle.std.specs.Prelude.{◌≡◌, ◌↔◌, ◌+◌, ◌-◌, ◌^◌, ◌≤◌, ◌<◌, ◌||◌, ◌⊎◌, ℕ, Bool, true, false, List, [], Some, Ok, Err, IsTrue, IsOk, IfOk, IfErr, OnOk, OnErr, MatchOption, MatchResult, length, min, nat_lt};
 ghost use Rattle.std.specs.Result.{IsErrAnd};
 ghost use Rattle.std.specs.Borrow.{sem};
+ghost use Rattle.std.specs.FinMap.{get};
 ghost use Rattle.std.specs.Option.{option_map};
 ghost use Rattle.geos_model.specs.Document.{Document};
 ghost use Rattle.geos_model.specs.File.{stands};
 ghost use Rattle.geos_model.specs.Reply.{Accepted, Refused as RefusedWith, AreEqual, BytesAre, NumberIs, TokenIs, reply_by, reply_of_done, info_is, blocks_are, chunks_are, found};
-ghost use Rattle.geos_model.specs.Machine.{IsValidMachine, Step, empty_machine, kind_of, opened_machine};
+ghost use Rattle.geos_model.specs.Machine.{AreValidLocks, IsValidMachine, Step, edit_needs, empty_machine, has_locks as machine_has_locks, is_barred, kind_of, locked_chunk, locked_raw, opened_machine};
 ghost use Rattle.geos_model.specs.declared.command.Command.TheVariants as commands;
 ghost use Rattle.geos_model.specs.declared.command.Kind.TheVariants.{In, Plain};
 ghost use Rattle.vm_file.specs.Calls.{last_sequence};
 ghost use Rattle.vm_file.specs.Disk.{IsListed, IsSettled, Passes};
 ghost use Rattle.vm_file.specs.Documents.{sequence_in};
 ghost use Rattle.vm_file.specs.Effects.{IsCommit, Fails, IsWorn};
-ghost use Rattle.vm_blocks.specs.Committing.{IsRevertFault, IsSavedAs, IsNotSavedAs};
-ghost use Rattle.vm_blocks.specs.Keeping.{IsSteady, Lacks, is_loaded};
+ghost use Rattle.block_cache.specs.Bodies.{body_of};
+ghost use Rattle.block_cache.specs.State.{locks_of, locked_count};
+ghost use Rattle.vm_blocks.specs.Committing.{IsRevertFault, IsSavedAs};
+ghost use Rattle.vm_blocks.specs.Keeping.{IsSteady, Lacks, is_full, is_loaded};
+ghost use Rattle.vm_blocks.specs.Locking.{CantLock, GainsLock, HasNoLock, LosesLock};
 ghost use Rattle.vm_blocks.specs.Opening.{IsOpenedFrom, IsNotOpened, IsMadeIn, IsNotMade};
 ghost use Rattle.vm_blocks.specs.declared.change.Direction.TheVariants.{Backwards, Forwards};
-ghost use Rattle.vm_chains.specs.Answers.{IsWalkRefusal};
 ghost use Rattle.doc_edits.specs.LookUps.{Leaves, LooksUp};
-ghost use Rattle.doc_edits.specs.Planning.{IsChainEditFault, IsMemory, Refuses};
-ghost use Rattle.undo_log.specs.Records.{blocks_of, file_of, machine_of, has_failed, total_cost, total_weight, IsExact, IsStep, KeepsSession, Looks, Records};
+ghost use Rattle.doc_edits.specs.Planning.{IsChainEditFault, Refuses, RefusesAtHand};
+ghost use Rattle.doc_edits.specs.Room.{has_no_room, IsChainRefusal};
+ghost use Rattle.undo_log.specs.Locking.{IsBarred, IsHeld, IsNotMoved, TriesCommit};
+ghost use Rattle.undo_log.specs.Records.{blocks_of, file_of, has_locks, machine_of, has_failed, total_cost, total_weight, IsExact, IsStep, KeepsSession, Looks, Records};
 ghost use Rattle.undo_log.specs.Turning.{IsRefusedTurn, IsSure, Moves, newest_made};
 ghost use Rattle.undo_log.specs.contracts.session.Session.{the_row};
 
-use crate::making::make;
+use crate::making::{is_barred, make};
 use crate::turn::turn;
 use crate::weighing::total_weight;
 use doc_edits::look_ups;
 use geos_model::{Bytes, ChunkHandle, Done, Edit, Fault, Info, Token, VmHandle};
 use std::alloc::Global;
 use std::marker::Model;
-use vm_blocks::{Change, Direction, FileBlocks};
+use vm_blocks::{BlockBody, Change, Direction, FileBlocks};
 use vm_file::Refused;
 use vm_store::Store;
 
@@ -67,7 +72,7 @@ impl<S: Store> Model for Session<S> {
 }
 
 impl<S: Store> Session<S> {
-    // A session of blocks of a file, with nothing to undo.
+    // A session of blocks of a file, none of which is in memory, with nothing to undo.
     fn begin(alloc: Global, blocks: FileBlocks<S>) -> Session<S>
         ensures blocks { blocks_of result ≡ blocks }
         ensures undo { result.undo ≡ [] }
@@ -126,36 +131,54 @@ impl<S: Store> Session<S> {
         self.blocks.close()
     }
 
-    /// Makes the document as it is now the updated one. Worn where the sequence number can't rise, before anything is written;
-    /// Memory, where nothing is committed; File, where what was to be may be read after a crash.
+    /// Makes the document as it is now the updated one. Locked where any block is, before all else; Worn where the sequence number
+    /// can't rise, before anything is written; Memory, where nothing is committed; File, where what was to be may be read after a
+    /// crash.
     pub fn update(&mut self) -> Result<(), Fault>
         ensures step { IsStep S.facts self.old self.new commands.Update (reply_by (λ _. Accepted) result) }
-        ensures commit { IsCommit S.facts (self.old.document, self.old.disk.saved) self.old.document (file_of self.old) (file_of self.new) result }
-        ensures fails { Fails S.facts IsWorn self.old.disk.store self.new.disk.store result }
+        ensures commit { TriesCommit S.facts (self.old.document, self.old.disk.saved) self.old.document self.old self.new result }
+        ensures fails { Fails S.facts (λ fault. IsWorn fault ⊎ IsHeld self.old fault) self.old.disk.store self.new.disk.store result }
         ensures lists { (self.new.undo ≡ self.old.undo) × (self.new.redo ≡ self.old.redo) × (self.new.frames ≡ self.old.frames) }
+        ensures resident { self.new.resident ≡ self.old.resident }
     {
+        self.blocks.validity();
+        if self.has_locks() {
+            return Err(Fault::Locked);
+        }
         self.blocks.update()
     }
 
     /// Makes the document as it is now the updated and the saved one. Refused as an update is.
     pub fn save(&mut self) -> Result<(), Fault>
         ensures step { IsStep S.facts self.old self.new commands.Save (reply_by (λ _. Accepted) result) }
-        ensures commit { IsCommit S.facts (self.old.document, self.old.document) self.old.document (file_of self.old) (file_of self.new) result }
-        ensures fails { Fails S.facts IsWorn self.old.disk.store self.new.disk.store result }
+        ensures commit { TriesCommit S.facts (self.old.document, self.old.document) self.old.document self.old self.new result }
+        ensures fails { Fails S.facts (λ fault. IsWorn fault ⊎ IsHeld self.old fault) self.old.disk.store self.new.disk.store result }
         ensures lists { (self.new.undo ≡ self.old.undo) × (self.new.redo ≡ self.old.redo) × (self.new.frames ≡ self.old.frames) }
+        ensures resident { self.new.resident ≡ self.old.resident }
     {
+        self.blocks.validity();
+        if self.has_locks() {
+            // Before the sequence number is looked at.
+            return Err(Fault::Locked);
+        }
         self.blocks.save()
     }
 
     /// Makes the saved document the updated one and the document as it is now, with nothing to undo. Where it is refused the
-    /// document, over an honest store, and both lists stay. Refused as an update is; over a store that isn't honest what is read may be no image, which is Damaged.
+    /// document, over an honest store, and both lists stay. Refused as an update is; over a store that isn't honest what is read may
+    /// be no image, which is Damaged.
     pub fn revert(&mut self) -> Result<(), Fault>
         ensures step { IsStep S.facts self.old self.new commands.Revert (reply_by (λ _. Accepted) result) }
-        ensures commit { IsCommit S.facts (self.old.disk.saved, self.old.disk.saved) self.old.disk.saved (file_of self.old) (file_of self.new) result }
-        ensures fails { Fails S.facts (IsRevertFault (S.facts self.old.disk.store).honest) self.old.disk.store self.new.disk.store result }
+        ensures commit { TriesCommit S.facts (self.old.disk.saved, self.old.disk.saved) self.old.disk.saved self.old self.new result }
+        ensures fails { Fails S.facts (λ fault. IsRevertFault (S.facts self.old.disk.store).honest fault ⊎ IsHeld self.old fault) self.old.disk.store self.new.disk.store result }
         ensures exact { OnOk result (IsTrue (S.facts self.old.disk.store).honest → IsExact S.facts self.new) }
         ensures lists { MatchResult result (λ _. (self.new.undo ≡ []) × (self.new.redo ≡ [])) (λ _. (self.new.undo ≡ self.old.undo) × (self.new.redo ≡ self.old.redo)) × (self.new.frames ≡ self.old.frames) }
+        ensures resident { MatchResult result (λ _. self.new.resident ≡ []) (λ _. self.new.resident ≡ self.old.resident) }
     {
+        self.blocks.validity();
+        if self.has_locks() {
+            return Err(Fault::Locked);
+        }
         self.blocks.revert()?;
         self.blocks.validity();
         self.undo.clear();
@@ -166,8 +189,8 @@ impl<S: Store> Session<S> {
     /// Makes another store a file of its own, with the document as it is now as its updated and its saved one, and goes on in
     /// that. The file so far goes back to its saved document, and its store comes back. Where it is refused the session stays in
     /// its file, and the target comes back, with any bytes; in the file so far nothing is committed then, but where its store
-    /// fails. Worn where the sequence number of the file so far can't rise, before anything is written; over a store that isn't
-    /// honest what is read may be no image, which is Damaged; Memory, File.
+    /// fails. Locked where any block is, before all else, and Worn where the sequence number of the file so far can't rise, before
+    /// anything is written; over a store that isn't honest what is read may be no image, which is Damaged; Memory, File.
     pub fn save_as(&mut self, target: S) -> Result<S, Refused<S>>
         // a step of the machine, where it is accepted into an honest target
         ensures ok { IfOk result (λ _. IsExact S.facts self.old → IsTrue (S.facts target).honest
@@ -178,45 +201,67 @@ impl<S: Store> Session<S> {
             (machine_of true self.old) (Some commands.SaveAs) (RefusedWith refused.fault) (machine_of true self.new)) }
         ensures saved_as { MatchResult result
             (λ store. IsSavedAs S.facts target store (file_of self.old) (file_of self.new))
-            (λ refused. IsNotSavedAs S.facts target refused.store (file_of self.old) (file_of self.new) refused.fault) }
+            (λ refused. IsNotMoved S.facts target refused.store self.old self.new refused.fault) }
+        ensures locked { has_locks self.old ≡ true
+            → IsErrAnd result (λ refused. (refused.fault ≡ Fault.Locked) × (refused.store ≡ target)) × (self.new ≡ self.old) }
         // of the store that comes back
         ensures reverted { IfOk result (λ store. IsTrue (S.facts self.old.disk.store).honest → stands (S.facts store).content ≡ Ok (self.old.disk.saved, self.old.disk.saved)) }
         ensures lists { (self.new.undo ≡ self.old.undo) × (self.new.redo ≡ self.old.redo) × (self.new.frames ≡ self.old.frames) }
-        ensures worn { IsErrAnd result (λ refused. refused.fault ≡ Fault.Worn) ↔ self.old.disk.sequence ≡ last_sequence }
+        ensures resident { self.new.resident ≡ self.old.resident }
+        ensures worn { IsErrAnd result (λ refused. refused.fault ≡ Fault.Worn) ↔ (has_locks self.old ≡ false) × (self.old.disk.sequence ≡ last_sequence) }
     {
+        self.blocks.validity();
+        if self.has_locks() {
+            return Err(Refused {
+                fault: Fault::Locked,
+                store: target,
+            });
+        }
         self.blocks.save_as(target)
     }
 
-    /// Makes an edit, which can be undone from then on.
+    /// Makes an edit, which can be undone from then on. Locked where it frees a locked block, or copies or frees a chain while any
+    /// block is locked, before all else; CacheFull where each frame has a locked block, and it looks into the body of another one.
     pub fn edit(&mut self, edit: &Edit) -> Result<Done, Fault>
         ensures step { IsStep S.facts self.old self.new (commands.Edit edit.now) (reply_by reply_of_done result) }
         ensures ok { OnOk result (Records S.facts edit.now self.old self.new) }
         ensures err { OnErr result (KeepsSession S.facts self.old self.new) }
-        ensures refusals { IfErr result (λ fault. Refuses (Lacks S.facts self.old.disk.store self.new.disk.store) edit.now self.new.document fault ⊎ IsChainEditFault edit.now fault) }
+        ensures refusals { IfErr result (λ fault. IsBarred edit.now self.old fault
+            ⊎ (Refuses (Lacks S.facts self.old.disk.store self.new.disk.store) (has_no_room (blocks_of self.old) (edit_needs edit.now)) edit.now self.new.document fault
+            ⊎ IsChainEditFault edit.now fault)) }
+        ensures locked { ((target : Bool) → is_barred edit.now (machine_of target self.old) ≡ true) → (result ≡ Err Fault.Locked) × (self.new ≡ self.old) }
         ensures at_hand { OnOk result ((b : VmHandle) → kind_of edit.now ≡ In b → is_loaded (blocks_of self.new) b.0 ≡ true) }
         ensures passes { Passes S.facts self.old.disk self.new.disk }
         // an edit of a user ID or of the map block calls no store
-        ensures plain { kind_of edit.now ≡ Plain → (self.new.disk ≡ self.old.disk) × IfErr result (Refuses IsMemory edit.now self.new.document) }
+        ensures plain { kind_of edit.now ≡ Plain → (self.new.disk ≡ self.old.disk) × IfErr result (RefusesAtHand edit.now self.new.document) }
     {
+        self.blocks.validity();
+        if is_barred(&self.blocks, edit) {
+            return Err(Fault::Locked);
+        }
         self.undo.reserve(self.redo.len() + 1)?;
         self.redo.reserve(self.undo.len() + 1)?;
-        self.blocks.validity();
         let (change, done) = make(self.alloc, &mut self.blocks, edit)?;
         self.redo.clear();
         self.undo.push_reserved(change);
         Ok(done)
     }
 
-    /// Goes back to the document before the newest edit. Where its block has to be brought into memory first, it is refused as
-    /// that is.
+    /// Goes back to the document before the newest edit. Locked where any block is, before all else; NothingToUndo. Where its block
+    /// has to be brought into memory first, it is refused as that is.
     pub fn undo(&mut self) -> Result<(), Fault>
         ensures step { IsStep S.facts self.old self.new commands.Undo (reply_by (λ _. Accepted) result) }
         ensures ok { OnOk result (Moves S.facts Backwards (blocks_of self.old) (blocks_of self.new) self.old.undo self.old.redo self.new.undo self.new.redo) }
         ensures err { OnErr result (KeepsSession S.facts self.old self.new) }
         ensures refusals { IfErr result (IsRefusedTurn S.facts Fault.NothingToUndo self.old.undo self.old self.new) }
+        ensures locked { has_locks self.old ≡ true → (result ≡ Err Fault.Locked) × (self.new ≡ self.old) }
         ensures passes { Passes S.facts self.old.disk self.new.disk }
-        ensures sure { IsSure S.facts self.old Backwards self.old.undo → IsOk result × (self.new.disk ≡ self.old.disk) × (self.new.document ≡ newest_made Backwards self.old.undo self.old.document) }
+        ensures sure { has_locks self.old ≡ false → IsSure S.facts self.old Backwards self.old.undo → IsOk result × (self.new.disk ≡ self.old.disk) × (self.new.document ≡ newest_made Backwards self.old.undo self.old.document) }
     {
+        if self.has_locks() {
+            // Before it is asked whether there is anything to undo.
+            return Err(Fault::Locked);
+        }
         if turn(
             &mut self.blocks,
             &mut self.undo,
@@ -229,15 +274,19 @@ impl<S: Store> Session<S> {
         }
     }
 
-    /// Makes the edit again that the newest undo took back. Refused as an undo is.
+    /// Makes the edit again that the newest undo took back. Refused as an undo is; NothingToRedo.
     pub fn redo(&mut self) -> Result<(), Fault>
         ensures step { IsStep S.facts self.old self.new commands.Redo (reply_by (λ _. Accepted) result) }
         ensures ok { OnOk result (Moves S.facts Forwards (blocks_of self.old) (blocks_of self.new) self.old.redo self.old.undo self.new.redo self.new.undo) }
         ensures err { OnErr result (KeepsSession S.facts self.old self.new) }
         ensures refusals { IfErr result (IsRefusedTurn S.facts Fault.NothingToRedo self.old.redo self.old self.new) }
+        ensures locked { has_locks self.old ≡ true → (result ≡ Err Fault.Locked) × (self.new ≡ self.old) }
         ensures passes { Passes S.facts self.old.disk self.new.disk }
-        ensures sure { IsSure S.facts self.old Forwards self.old.redo → IsOk result × (self.new.disk ≡ self.old.disk) × (self.new.document ≡ newest_made Forwards self.old.redo self.old.document) }
+        ensures sure { has_locks self.old ≡ false → IsSure S.facts self.old Forwards self.old.redo → IsOk result × (self.new.disk ≡ self.old.disk) × (self.new.document ≡ newest_made Forwards self.old.redo self.old.document) }
     {
+        if self.has_locks() {
+            return Err(Fault::Locked);
+        }
         if turn(
             &mut self.blocks,
             &mut self.redo,
@@ -266,10 +315,11 @@ impl<S: Store> Session<S> {
         self.redo.len()
     }
 
-    /// It does nothing: its caller learns that each document of the machine of an exact session is valid, as it always is, and what
-    /// a crash now leaves. What a store that isn't honest has isn't known, but for handles and the map block.
+    /// It does nothing: its caller learns that each document of the machine of an exact session is valid, as it always is, that its
+    /// locks are, and what a crash now leaves. What a store that isn't honest has isn't known, but for handles and the map block.
     pub fn validity(&self)
         ensures machine { IsExact S.facts self.now → (target : Bool) → IsValidMachine (machine_of target self.now) }
+        ensures locks { (target : Bool) → AreValidLocks (machine_of target self.now) }
         ensures listed { IsListed (S.facts self.now.disk.store).honest self.now.document }
         ensures settled { IsSettled S.facts self.now.disk }
     {
@@ -282,6 +332,100 @@ impl<S: Store> Session<S> {
         ensures charged { (target : Bool) → result ≤ total_cost (machine_of target self.now).past + total_cost (machine_of target self.now).future }
     {
         total_weight(self.undo.as_slice()).saturating_add(total_weight(self.redo.as_slice()))
+    }
+
+    /// Locks a block once more. It is brought into memory, and stays there until it is unlocked as often. NoBlock; LockLimit where it
+    /// is locked 255 times; CacheFull where each frame has a locked block, and it isn't one of them: then nothing changes. Otherwise
+    /// refused as a look-up into it is.
+    pub fn lock(&mut self, block: VmHandle) -> Result<(), Fault>
+        ensures step { IsStep S.facts self.old self.new (commands.Lock block) (reply_by (λ _. Accepted) result) }
+        ensures ok { OnOk result (GainsLock S.facts block.0 (blocks_of self.old) (blocks_of self.new)) }
+        ensures err { OnErr result (KeepsSession S.facts self.old self.new) }
+        ensures refusals { IfErr result (λ fault. Lacks S.facts self.old.disk.store self.new.disk.store fault ⊎ CantLock (blocks_of self.old) block.0 fault) }
+        ensures early { (fault : Fault) → CantLock (blocks_of self.old) block.0 fault → (result ≡ Err fault) × (self.new ≡ self.old) }
+        ensures lists { (self.new.undo ≡ self.old.undo) × (self.new.redo ≡ self.old.redo) }
+        ensures already { is_loaded (blocks_of self.old) block.0 ≡ true → locks_of self.old.resident block.0 < 255
+            → IsOk result × (self.new.disk ≡ self.old.disk) × (self.new.document ≡ self.old.document) }
+    {
+        self.blocks.validity();
+        self.blocks.lock(block)
+    }
+
+    /// Takes one lock of a block away. NoBlock; NotLocked where it has none. No memory, no store.
+    pub fn unlock(&mut self, block: VmHandle) -> Result<(), Fault>
+        ensures step { (target : Bool) → Step false (machine_of target self.old) (Some (commands.Unlock block)) (reply_by (λ _. Accepted) result) (machine_of target self.new) }
+        ensures ok { OnOk result (LosesLock block.0 (blocks_of self.old) (blocks_of self.new)) }
+        ensures err { OnErr result (self.new ≡ self.old) }
+        ensures refusals { IfErr result (HasNoLock (blocks_of self.old) block.0) }
+        // but for the locks
+        ensures same { self.new ≡ record self.old { resident = self.new.resident } }
+    {
+        self.blocks.unlock(block)
+    }
+
+    /// Has a locked block written to the file by the next commit, as one that was edited is. NoBlock; NotLocked where it isn't locked.
+    /// No memory, no store.
+    pub fn dirty(&mut self, block: VmHandle) -> Result<(), Fault>
+        ensures step { (target : Bool) → Step false (machine_of target self.old) (Some (commands.Dirty block)) (reply_by (λ _. Accepted) result) (machine_of target self.new) }
+        ensures refusals { IfErr result (HasNoLock (blocks_of self.old) block.0) }
+        ensures same { self.new ≡ self.old }
+    {
+        self.blocks.dirty(block)
+    }
+
+    /// How often a block is locked. NoBlock.
+    pub fn locks(&self, block: VmHandle) -> Result<u8, Fault>
+        ensures { (target : Bool) → Step false (machine_of target self.now) (Some (commands.Locks block)) (reply_by NumberIs result) (machine_of target self.now) }
+    {
+        if self.blocks.is_live(block) {
+            Ok(self.blocks.locks(block))
+        } else {
+            Err(Fault::NoBlock)
+        }
+    }
+
+    /// Whether any block is locked, so that commits, undo, redo and edits of chains are refused.
+    pub fn has_locks(&self) -> bool
+        ensures value { result ≡ has_locks self.now }
+        ensures machine { (target : Bool) → result ≡ machine_has_locks (machine_of target self.now) }
+        ensures blocks { result ≡ nat_lt 0 (locked_count self.now.resident) }
+    {
+        self.blocks.validity();
+        self.blocks.has_locks()
+    }
+
+    /// The bytes of a chunk of a heap that is locked, straight from memory; None where there is no such block, lock or chunk, or the
+    /// block is raw.
+    pub fn locked_chunk(&self, block: VmHandle, chunk: ChunkHandle) -> Option<&[u8]>
+        ensures { (target : Bool) → option_map (λ bytes. bytes.now) result ≡ locked_chunk (machine_of target self.now) block.0 chunk.0 }
+    {
+        match self.locked_body(block)? {
+            BlockBody::Heap(heap) => heap.chunk(chunk),
+            BlockBody::Raw(_) => None,
+        }
+    }
+
+    /// The bytes of a raw block that is locked, straight from memory; None where there is no such block or lock, or it is a heap.
+    pub fn locked_raw(&self, block: VmHandle) -> Option<&[u8]>
+        ensures { (target : Bool) → option_map (λ bytes. bytes.now) result ≡ locked_raw (machine_of target self.now) block.0 }
+    {
+        match self.locked_body(block)? {
+            BlockBody::Raw(body) => Some(body.bytes()),
+            BlockBody::Heap(_) => None,
+        }
+    }
+
+    // The body of a block that is locked.
+    fn locked_body(&self, block: VmHandle) -> Option<&BlockBody>
+        ensures { MatchOption result (locks_of self.now.resident block.0 ≡ 0)
+            (λ body. (0 < locks_of self.now.resident block.0) × (option_map (λ b. b.body) (get self.now.document.blocks block.0) ≡ Some (body_of body.now))) }
+    {
+        self.blocks.validity();
+        if self.blocks.locks(block) > 0 {
+            Some(self.blocks.body(block))
+        } else {
+            None
+        }
     }
 
     /// Whether a block is in memory.
@@ -316,6 +460,7 @@ impl<S: Store> Session<S> {
     pub fn info(&mut self, block: VmHandle) -> Result<Info, Fault>
         ensures { Looks S.facts self.old self.new (commands.Info block) (reply_by info_is result) }
     {
+        self.blocks.validity();
         look_ups::info(&mut self.blocks, block)
     }
 
@@ -323,6 +468,7 @@ impl<S: Store> Session<S> {
     pub fn read_raw(&mut self, block: VmHandle) -> Result<&[u8], Fault>
         ensures* leaves { sem 𝓛 (Leaves (the_row S.row S.Store) self.entry (λ new. Looks S.facts self.old new (commands.ReadRaw block) (reply_by (λ bytes. BytesAre bytes.now) result))) }
     {
+        self.blocks.validity();
         look_ups::read_raw(&mut self.blocks, block)
     }
 
@@ -330,6 +476,7 @@ impl<S: Store> Session<S> {
     pub fn chunks(&mut self, block: VmHandle) -> Result<Vec<ChunkHandle>, Fault>
         ensures { Looks S.facts self.old self.new (commands.Chunks block) (reply_by (λ handles. chunks_are handles.items) result) }
     {
+        self.blocks.validity();
         look_ups::chunks(&mut self.blocks, block)
     }
 
@@ -337,6 +484,7 @@ impl<S: Store> Session<S> {
     pub fn read_chunk(&mut self, block: VmHandle, chunk: ChunkHandle) -> Result<&[u8], Fault>
         ensures* leaves { sem 𝓛 (Leaves (the_row S.row S.Store) self.entry (λ new. Looks S.facts self.old new (commands.Read block chunk) (reply_by (λ bytes. BytesAre bytes.now) result))) }
     {
+        self.blocks.validity();
         look_ups::read_chunk(&mut self.blocks, block, chunk)
     }
 
@@ -344,6 +492,7 @@ impl<S: Store> Session<S> {
     pub fn array_count(&mut self, block: VmHandle, chunk: ChunkHandle) -> Result<usize, Fault>
         ensures { Looks S.facts self.old self.new (commands.ArrayCount block chunk) (reply_by NumberIs result) }
     {
+        self.blocks.validity();
         look_ups::array_count(&mut self.blocks, block, chunk)
     }
 
@@ -356,6 +505,7 @@ impl<S: Store> Session<S> {
     ) -> Result<&[u8], Fault>
         ensures* leaves { sem 𝓛 (Leaves (the_row S.row S.Store) self.entry (λ new. Looks S.facts self.old new (commands.ArrayElement block chunk i) (reply_by (λ bytes. BytesAre bytes.now) result))) }
     {
+        self.blocks.validity();
         look_ups::array_element(&mut self.blocks, block, chunk, i)
     }
 
@@ -368,6 +518,7 @@ impl<S: Store> Session<S> {
     ) -> Result<u32, Fault>
         ensures { Looks S.facts self.old self.new (commands.ElementReferences block chunk token) (reply_by NumberIs result) }
     {
+        self.blocks.validity();
         look_ups::element_refs(&mut self.blocks, block, chunk, token)
     }
 
@@ -380,6 +531,7 @@ impl<S: Store> Session<S> {
     ) -> Result<&[u8], Fault>
         ensures* leaves { sem 𝓛 (Leaves (the_row S.row S.Store) self.entry (λ new. Looks S.facts self.old new (commands.ElementBytes block chunk token) (reply_by (λ bytes. BytesAre bytes.now) result))) }
     {
+        self.blocks.validity();
         look_ups::element_bytes(&mut self.blocks, block, chunk, token)
     }
 
@@ -387,6 +539,7 @@ impl<S: Store> Session<S> {
     pub fn elements_used(&mut self, block: VmHandle, chunk: ChunkHandle) -> Result<usize, Fault>
         ensures { Looks S.facts self.old self.new (commands.ElementsUsed block chunk) (reply_by NumberIs result) }
     {
+        self.blocks.validity();
         look_ups::elements_used(&mut self.blocks, block, chunk)
     }
 
@@ -399,6 +552,7 @@ impl<S: Store> Session<S> {
     ) -> Result<Token, Fault>
         ensures { Looks S.facts self.old self.new (commands.TokenOfUsed block chunk k) (reply_by (λ token. TokenIs token.0) result) }
     {
+        self.blocks.validity();
         look_ups::token_of_used(&mut self.blocks, block, chunk, k)
     }
 
@@ -411,6 +565,7 @@ impl<S: Store> Session<S> {
     ) -> Result<usize, Fault>
         ensures { Looks S.facts self.old self.new (commands.UsedOfToken block chunk token) (reply_by NumberIs result) }
     {
+        self.blocks.validity();
         look_ups::used_of_token(&mut self.blocks, block, chunk, token)
     }
 
@@ -423,6 +578,7 @@ impl<S: Store> Session<S> {
     ) -> Result<Token, Fault>
         ensures { Looks S.facts self.old self.new (commands.NameFind block chunk name.now) (reply_by (λ token. TokenIs token.0) result) }
     {
+        self.blocks.validity();
         look_ups::name_find(&mut self.blocks, block, chunk, name)
     }
 
@@ -435,6 +591,7 @@ impl<S: Store> Session<S> {
     ) -> Result<u32, Fault>
         ensures { Looks S.facts self.old self.new (commands.NameReferences block chunk token) (reply_by NumberIs result) }
     {
+        self.blocks.validity();
         look_ups::name_refs(&mut self.blocks, block, chunk, token)
     }
 
@@ -447,6 +604,7 @@ impl<S: Store> Session<S> {
     ) -> Result<&[u8], Fault>
         ensures* leaves { sem 𝓛 (Leaves (the_row S.row S.Store) self.entry (λ new. Looks S.facts self.old new (commands.NameText block chunk token) (reply_by (λ bytes. BytesAre bytes.now) result))) }
     {
+        self.blocks.validity();
         look_ups::name_text(&mut self.blocks, block, chunk, token)
     }
 
@@ -459,6 +617,7 @@ impl<S: Store> Session<S> {
     ) -> Result<&[u8], Fault>
         ensures* leaves { sem 𝓛 (Leaves (the_row S.row S.Store) self.entry (λ new. Looks S.facts self.old new (commands.NamePart block chunk token) (reply_by (λ bytes. BytesAre bytes.now) result))) }
     {
+        self.blocks.validity();
         look_ups::name_part(&mut self.blocks, block, chunk, token)
     }
 
@@ -466,9 +625,10 @@ impl<S: Store> Session<S> {
     pub fn walk(&mut self, root: VmHandle) -> Result<Vec<VmHandle>, Fault>
         ensures keeps { KeepsSession S.facts self.old self.new }
         ensures step { IsStep S.facts self.old self.new (commands.Walk root) (reply_by (λ handles. blocks_are handles.items) result) }
-        ensures value { IsSteady S.facts self.old.disk.store → LooksUp (Lacks S.facts self.old.disk.store self.new.disk.store) (commands.Walk root) self.new.document (reply_by (λ handles. blocks_are handles.items) result) }
-        ensures refusals { IfErr result (IsWalkRefusal (Lacks S.facts self.old.disk.store self.new.disk.store)) }
+        ensures value { IsSteady S.facts self.old.disk.store → LooksUp (Lacks S.facts self.old.disk.store self.new.disk.store) (is_full (blocks_of self.old)) (commands.Walk root) self.new.document (reply_by (λ handles. blocks_are handles.items) result) }
+        ensures refusals { IfErr result (IsChainRefusal (Lacks S.facts self.old.disk.store self.new.disk.store) (is_full (blocks_of self.old))) }
     {
+        self.blocks.validity();
         look_ups::walk(self.alloc, &mut self.blocks, root)
     }
 
@@ -476,9 +636,10 @@ impl<S: Store> Session<S> {
     pub fn chain_size(&mut self, root: VmHandle) -> Result<u32, Fault>
         ensures keeps { KeepsSession S.facts self.old self.new }
         ensures step { IsStep S.facts self.old self.new (commands.ChainSize root) (reply_by NumberIs result) }
-        ensures value { IsSteady S.facts self.old.disk.store → LooksUp (Lacks S.facts self.old.disk.store self.new.disk.store) (commands.ChainSize root) self.new.document (reply_by NumberIs result) }
-        ensures refusals { IfErr result (IsWalkRefusal (Lacks S.facts self.old.disk.store self.new.disk.store)) }
+        ensures value { IsSteady S.facts self.old.disk.store → LooksUp (Lacks S.facts self.old.disk.store self.new.disk.store) (is_full (blocks_of self.old)) (commands.ChainSize root) self.new.document (reply_by NumberIs result) }
+        ensures refusals { IfErr result (IsChainRefusal (Lacks S.facts self.old.disk.store self.new.disk.store) (is_full (blocks_of self.old))) }
     {
+        self.blocks.validity();
         look_ups::chain_size(self.alloc, &mut self.blocks, root)
     }
 
@@ -486,9 +647,10 @@ impl<S: Store> Session<S> {
     pub fn chain_equal(&mut self, first: VmHandle, second: VmHandle) -> Result<bool, Fault>
         ensures keeps { KeepsSession S.facts self.old self.new }
         ensures step { IsStep S.facts self.old self.new (commands.ChainEqual first second) (reply_by AreEqual result) }
-        ensures value { IsSteady S.facts self.old.disk.store → LooksUp (Lacks S.facts self.old.disk.store self.new.disk.store) (commands.ChainEqual first second) self.new.document (reply_by AreEqual result) }
-        ensures refusals { IfErr result (IsWalkRefusal (Lacks S.facts self.old.disk.store self.new.disk.store)) }
+        ensures value { IsSteady S.facts self.old.disk.store → LooksUp (Lacks S.facts self.old.disk.store self.new.disk.store) (is_full (blocks_of self.old)) (commands.ChainEqual first second) self.new.document (reply_by AreEqual result) }
+        ensures refusals { IfErr result (IsChainRefusal (Lacks S.facts self.old.disk.store self.new.disk.store) (is_full (blocks_of self.old))) }
     {
+        self.blocks.validity();
         look_ups::chain_equal(self.alloc, &mut self.blocks, first, second)
     }
 }

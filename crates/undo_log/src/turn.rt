@@ -1,4 +1,5 @@
-ghost use Rattle.std.specs.Prelude.{◌≡◌, ◌+◌, ◌≤◌, IsOk, IfOk, IfErr, OnErr, reverse, vec_len, vec_capacity};
+ghost use Rattle.std.specs.Prelude.{◌≡◌, ◌+◌, ◌≤◌, false, nat_lt, IsOk, IfOk, IfErr, OnErr, reverse, vec_len, vec_capacity};
+ghost use Rattle.block_cache.specs.State.{locked_count};
 ghost use Rattle.vm_blocks.specs.Keeping.{Keeps};
 ghost use Rattle.undo_log.specs.Records.{AreListed};
 ghost use Rattle.undo_log.specs.Turning.{CanTurn, CantTurn, Turns, newest_made};
@@ -7,7 +8,7 @@ use geos_model::Fault;
 use vm_blocks::{Change, Direction, FileBlocks};
 use vm_store::Store;
 
-/// Makes the newest change of one list in a direction, and puts it on the other; false where there is none.
+/// Makes the newest change of one list in a direction, and puts it on the other; false where there is none. No block is locked.
 pub fn turn<S: Store>(
     blocks: &mut FileBlocks<S>,
     from: &mut Vec<Change>,
@@ -16,6 +17,7 @@ pub fn turn<S: Store>(
 ) -> Result<bool, Fault>
     requires from_room { vec_len from.old ≤ vec_capacity from.old }
     requires to_room { vec_len from.old + vec_len to.old ≤ vec_capacity to.old }
+    requires unlocked { nat_lt 0 (locked_count blocks.old.resident) ≡ false }
     requires listed { AreListed direction blocks.old.document (reverse from.old.items) (reverse to.old.items) }
     ensures ok { IfOk result (λ turned. Turns S.facts turned direction blocks.old blocks.new (reverse from.old.items) (reverse to.old.items) (reverse from.new.items) (reverse to.new.items)) }
     ensures err { IfErr result (CantTurn S.facts direction (reverse from.old.items) blocks.old blocks.new) }

@@ -1,6 +1,7 @@
 -- Laws of what a call leaves that may bring blocks into memory.
-use Rattle.std.proofs.Common.{◌≡◌, ◌⊎◌, ℕ, Bool, IsTrue, not, Option, None, Some, is_some, true, false, ap, inl, inr, refl, sym, subst, ◌∙◌, arith}
-use Rattle.std.proofs.lemmas.Bool.{and_parts}
+use Rattle.std.proofs.Common.{◌≡◌, ◌⊎◌, ℕ, Bool, IsTrue, not, Option, None, Some, is_some, true, false, ap, inl, inr, refl, sym, subst, ◌∙◌, arith, eq-eqb, eqb-true, ltb-false}
+use Rattle.std.specs.Prelude.{Result, Ok, Err, IfErr, ◌==◌, ◌&&◌, ◌≤◌, ◌<◌, nat_le, nat_lt, length}
+use Rattle.std.proofs.lemmas.Bool.{and_parts, cases_Bool}
 use Rattle.vm_store.specs.Facts.{StoreFacts, Raised}
 use Rattle.std.specs.Option.{option_map_or}
 use Rattle.geos_model.specs.Document.{Block, is_heap_body, is_live}
@@ -9,52 +10,79 @@ use Rattle.geos_model.specs.declared.fault.Fault.TheVariants.{Damaged, File, Mem
 use Rattle.vm_file.specs.Disk.{Passes, Drifts}
 use Rattle.vm_file.specs.Effects.{IsDamage}
 use Rattle.vm_file.proofs.Passing.{Passes-refl, Passes-trans, Drifts-refl, Drifts-trans}
-use Rattle.block_cache.specs.State.{CacheState, is_resident}
-use Rattle.vm_blocks.specs.Keeping.{Keeps, IsSteady, Lacks, is_loaded}
+use Rattle.block_cache.specs.State.{CacheState, is_resident, locks_of, locked_count, all_locked, KeepsLocks, Stays}
+use Rattle.block_cache.proofs.Locks.{keeps_refl, each_locked}
+use Rattle.block_cache.proofs.Seats.{locked_there, some_free}
+use Rattle.vm_blocks.specs.Keeping.{Keeps, IsSteady, Lacks, LacksFrame, is_loaded, is_full, is_shut_out}
+use Rattle.vm_blocks.proofs.Residents.{both}
 
 module _ {S : Type 0} (facts : S → StoreFacts) where
   pub keeps-refl : (a : CacheState S) → Keeps facts a a
   unfolding Keeps
-  keeps-refl a = record { file = record { passes = Passes-refl facts a.disk; document = Drifts-refl _ _ }; frames = refl }
+  keeps-refl a = (record { file = record { passes = Passes-refl facts a.disk; document = Drifts-refl _ _ }; frames = refl }, keeps_refl a.resident)
 
   pub keeps-is : (a b : CacheState S) → b ≡ a → Keeps facts a b
   keeps-is a b is = subst (Keeps facts a) (sym is) (keeps-refl a)
 
   pub keeps-trans : (a b c : CacheState S) → Keeps facts a b → Keeps facts b c → Keeps facts a c
   unfolding Keeps
-  keeps-trans a b c p q = record {
-    file = record {
-      passes = Passes-trans facts a.disk b.disk c.disk p.file.passes q.file.passes;
-      document = Drifts-trans _ _ _ _ p.file.document (subst (λ (t : Bool). Drifts t b.document c.document) p.file.passes.honest q.file.document);
-    };
-    frames = q.frames ∙ p.frames;
-  }
+  keeps-trans a b c p q = (
+    record {
+      file = record {
+        passes = Passes-trans facts a.disk b.disk c.disk p.0.file.passes q.0.file.passes;
+        document = Drifts-trans _ _ _ _ p.0.file.document (subst (λ (t : Bool). Drifts t b.document c.document) p.0.file.passes.honest q.0.file.document);
+      };
+      frames = q.0.frames ∙ p.0.frames;
+    },
+    record { each = λ h. q.1.each h ∙ p.1.each h; count = q.1.count ∙ p.1.count },
+  )
 
   pub keeps-passes : (a b : CacheState S) → Keeps facts a b → Passes facts a.disk b.disk
   unfolding Keeps
-  keeps-passes a b p = p.file.passes
+  keeps-passes a b p = p.0.file.passes
 
   pub keeps-drifts : (a b : CacheState S) → Keeps facts a b → Drifts (facts a.disk.store).honest a.document b.document
   unfolding Keeps
-  keeps-drifts a b p = p.file.document
+  keeps-drifts a b p = p.0.file.document
 
   pub keeps-frames : (a b : CacheState S) → Keeps facts a b → b.frames ≡ a.frames
   unfolding Keeps
-  keeps-frames a b p = p.frames
+  keeps-frames a b p = p.0.frames
+
+  pub keeps-stays : (a b : CacheState S) → Keeps facts a b → Stays facts a b
+  unfolding Keeps
+  keeps-stays a b p = p.0
+
+  pub keeps-locks : (a b : CacheState S) → Keeps facts a b → KeepsLocks a.resident b.resident
+  unfolding Keeps
+  keeps-locks a b p = p.1
+
+  pub keeps-by : (a b : CacheState S) → Stays facts a b → KeepsLocks a.resident b.resident → Keeps facts a b
+  unfolding Keeps
+  keeps-by a b stays locks = (stays, locks)
+
+  -- the same blocks can be brought into memory
+  pub keeps-full : (a b : CacheState S) → Keeps facts a b → is_full b ≡ is_full a
+  unfolding Keeps is_full
+  keeps-full a b p = ap (λ n. all_locked n b.resident) p.0.frames ∙ ap (nat_le a.frames) p.1.count
+
+  pub keeps-shut : (a b : CacheState S) → Keeps facts a b → (h : ℕ) → is_shut_out b h ≡ is_shut_out a h
+  unfolding Keeps is_shut_out
+  keeps-shut a b p h = ap (λ t. t && (locks_of b.resident h == 0)) (keeps-full a b p) ∙ ap (λ n. is_full a && (n == 0)) (p.1.each h)
 
   -- over a store that gives back what it has
   pub keeps-same : (a b : CacheState S) → Keeps facts a b → IsSteady facts a.disk.store → b.document ≡ a.document
   unfolding Keeps IsSteady
-  keeps-same a b p steady = p.file.document.same steady
+  keeps-same a b p steady = p.0.file.document.same steady
 
   pub keeps-steady : (a b : CacheState S) → Keeps facts a b → IsSteady facts a.disk.store → IsSteady facts b.disk.store
   unfolding Keeps IsSteady
-  keeps-steady a b p steady = subst IsTrue (sym p.file.passes.honest) steady
+  keeps-steady a b p steady = subst IsTrue (sym p.0.file.passes.honest) steady
 
   -- and it was so before
   pub keeps-was_steady : (a b : CacheState S) → Keeps facts a b → IsSteady facts b.disk.store → IsSteady facts a.disk.store
   unfolding Keeps IsSteady
-  keeps-was_steady a b p steady = subst IsTrue p.file.passes.honest steady
+  keeps-was_steady a b p steady = subst IsTrue p.0.file.passes.honest steady
 
   -- as an honest one does, and no other is known to
   pub honest-steady : (a : S) → IsTrue (facts a).honest → IsSteady facts a
@@ -85,8 +113,8 @@ module _ {S : Type 0} (facts : S → StoreFacts) where
   lacks-later a b c fault p lacks = elim lacks as (λ _. (fault ≡ Memory) ⊎ (((fault ≡ File) × Raised (facts a.disk.store) (facts c)) ⊎ IsDamage (facts a.disk.store).honest fault)) [
     | inl memory ↦ inl memory
     | inr more ↦ inr (elim more as (λ _. ((fault ≡ File) × Raised (facts a.disk.store) (facts c)) ⊎ IsDamage (facts a.disk.store).honest fault) [
-      | inl failed ↦ let raised = failed.1 in let first = p.file.passes.failures in inl (failed.0, omega (arith, raised, first))
-      | inr damage ↦ inr (damage.0, λ so. damage.1 (subst IsTrue (sym p.file.passes.honest) so))
+      | inl failed ↦ let raised = failed.1 in let first = p.0.file.passes.failures in inl (failed.0, omega (arith, raised, first))
+      | inr damage ↦ inr (damage.0, λ so. damage.1 (subst IsTrue (sym p.0.file.passes.honest) so))
     ])
   ]
 
@@ -96,7 +124,7 @@ module _ {S : Type 0} (facts : S → StoreFacts) where
   lacks-before a b c fault p lacks = elim lacks as (λ _. (fault ≡ Memory) ⊎ (((fault ≡ File) × Raised (facts a) (facts c.disk.store)) ⊎ IsDamage (facts a).honest fault)) [
     | inl memory ↦ inl memory
     | inr more ↦ inr (elim more as (λ _. ((fault ≡ File) × Raised (facts a) (facts c.disk.store)) ⊎ IsDamage (facts a).honest fault) [
-      | inl failed ↦ let raised = failed.1 in let last = p.file.passes.failures in inl (failed.0, omega (arith, raised, last))
+      | inl failed ↦ let raised = failed.1 in let last = p.0.file.passes.failures in inl (failed.0, omega (arith, raised, last))
       | inr damage ↦ inr damage
     ])
   ]
@@ -109,3 +137,77 @@ loaded-live state h loaded = (and_parts (is_resident state.resident h) (is_live 
 pub raw_by : (o : Option Block) → is_some o ≡ true → option_map_or (λ (b : Block). is_heap_body b.body) o false ≡ false → option_map_or (λ (b : Block). not (is_heap_body b.body)) o false ≡ true
 raw_by None live kind = absurd (cc live)
 raw_by (Some b) live kind = ap not kind
+
+pub loaded-by : {S : Type 0} (state : CacheState S) (h : ℕ) → is_resident state.resident h ≡ true → is_live state.document h ≡ true → is_loaded state h ≡ true
+unfolding is_loaded
+loaded-by state h there live = both (is_resident state.resident h) (is_live state.document h) there live
+
+pub loaded-resident : {S : Type 0} (state : CacheState S) (h : ℕ) → is_loaded state h ≡ true → is_resident state.resident h ≡ true
+unfolding is_loaded
+loaded-resident state h loaded = (and_parts (is_resident state.resident h) (is_live state.document h) loaded).0
+
+-- Where each frame has a locked block.
+
+pub full-is : {S : Type 0} (state : CacheState S) → is_full state ≡ all_locked state.frames state.resident
+unfolding is_full
+full-is state = refl
+
+pub shut-is : {S : Type 0} (state : CacheState S) (h : ℕ) → is_shut_out state h ≡ (is_full state && (locks_of state.resident h == 0))
+unfolding is_shut_out
+shut-is state h = refl
+
+pub shut-full : {S : Type 0} (state : CacheState S) (h : ℕ) → is_shut_out state h ≡ true → is_full state ≡ true
+shut-full state h shut = (and_parts (is_full state) (locks_of state.resident h == 0) (sym (shut-is state h) ∙ shut)).0
+
+pub shut-unlocked : {S : Type 0} (state : CacheState S) (h : ℕ) → is_shut_out state h ≡ true → locks_of state.resident h ≡ 0
+shut-unlocked state h shut = eqb-true (locks_of state.resident h) 0 (and_parts (is_full state) (locks_of state.resident h == 0) (sym (shut-is state h) ∙ shut)).1
+
+-- one that isn't locked is shut out
+pub full-shut : {S : Type 0} (state : CacheState S) (h : ℕ) → is_full state ≡ true → locks_of state.resident h ≡ 0 → is_shut_out state h ≡ true
+full-shut state h full none = shut-is state h ∙ both (is_full state) (locks_of state.resident h == 0) full (eq-eqb (locks_of state.resident h) 0 none)
+
+pub open-shut : {S : Type 0} (state : CacheState S) (h : ℕ) → is_full state ≡ false → is_shut_out state h ≡ false
+open-shut state h free = shut-is state h ∙ ap (λ t. t && (locks_of state.resident h == 0)) free
+
+-- one that is locked isn't
+pub locked-open : {S : Type 0} (state : CacheState S) (h : ℕ) → 0 < locks_of state.resident h → is_shut_out state h ≡ false
+locked-open state h locked = elim (cases_Bool (is_shut_out state h)) as (λ _. is_shut_out state h ≡ false) [
+  | inl shut ↦ let none = shut-unlocked state h shut in absurd (omega (arith, locked, none))
+  | inr free ↦ free
+]
+
+-- nor is any that is in memory
+pub resident-open : {S : Type 0} (state : CacheState S) (h : ℕ) → length state.resident ≤ state.frames → is_resident state.resident h ≡ true → is_shut_out state h ≡ false
+resident-open state h few there = elim (cases_Bool (is_full state)) as (λ _. is_shut_out state h ≡ false) [
+  | inl full ↦ locked-open state h (each_locked state.frames state.resident h few (sym (full-is state) ∙ full) there)
+  | inr free ↦ open-shut state h free
+]
+
+-- and where none is locked there is room
+pub none-open : {S : Type 0} (state : CacheState S) → 1 ≤ state.frames → nat_lt 0 (locked_count state.resident) ≡ false → is_full state ≡ false
+none-open state some none = full-is state ∙ some_free state.frames state.resident (none_below (locked_count state.resident) none)
+  where
+    none_below : (n : ℕ) → nat_lt 0 n ≡ false → n < state.frames
+    none_below n none = elim (cases_Bool (nat_lt 0 n)) as (λ _. n < state.frames) [
+      | inl one ↦ absurd (cc (one, none))
+      | inr _ ↦ let low = ltb-false 0 n none in omega (arith, low, some)
+    ]
+
+-- a locked block is in memory
+pub locked-loaded : {S : Type 0} (state : CacheState S) (h : ℕ) → ((k : ℕ) → is_resident state.resident k ≡ true → is_live state.document k ≡ true) → 0 < locks_of state.resident h → is_loaded state h ≡ true
+locked-loaded state h live locked = let there : is_resident state.resident h ≡ true = locked_there h state.resident locked in loaded-by state h there (live h there)
+
+-- a block that isn't shut out is never refused so
+pub frame-there : {S : Type 0} (state : CacheState S) (h : ℕ) (fault : Fault) → is_shut_out state h ≡ false → LacksFrame state h fault → ⊥
+frame-there state h fault free lacks = cc (lacks.1, free)
+
+pub err-with_frame : {A S : Type 0} (state : CacheState S) (h : ℕ) (P Q : Fault → Type 0) (r : Result A Fault) → is_shut_out state h ≡ false
+    → IfErr r (λ fault. P fault ⊎ (Q fault ⊎ LacksFrame state h fault)) → IfErr r (λ fault. P fault ⊎ Q fault)
+err-with_frame state h P Q (Ok done) free err = tt
+err-with_frame state h P Q (Err fault) free err = elim err as (λ _. P fault ⊎ Q fault) [
+  | inl one ↦ inl one
+  | inr more ↦ elim more as (λ _. P fault ⊎ Q fault) [
+    | inl other ↦ inr other
+    | inr lacks ↦ absurd (frame-there state h fault free lacks)
+  ]
+]

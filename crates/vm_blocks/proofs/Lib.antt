@@ -6,5 +6,6 @@ pub mod RoomLemmas
 pub mod KeepingLaws
 pub mod Preparing
 pub mod Residents
+pub mod Locking
 pub mod Sounds
 pub mod Turned

@@ -12,6 +12,7 @@ use Rattle.geos_model.proofs.HeapEdits.{get-taken_same}
 use Rattle.geos_model.proofs.Validity.{without_block-valid}
 use Rattle.vm_blocks.proofs.MapLemmas.{put_taken, taken_put, put_past_taken}
 use Rattle.vm_file.specs.Members.{saved_block, saved_blocks}
+use Rattle.block_cache.specs.State.{Seat, locks_of}
 use Rattle.vm_blocks.specs.Changes.{AreFree, CanAllGo, IsFree}
 use Rattle.vm_blocks.specs.Preparing.{CanLeave}
 use Rattle.vm_file.specs.declared.member.Member.{Member}
@@ -102,6 +103,9 @@ out_handles d valid ps can = λ i p within. (valid.blocks (get_or ps i p).0 (get
 module _ (d : Document) (ms : List Member) (can : CanLeave d (handles_of (saved_blocks ms))) where
   each_leaves : (P : ℕ → Type 0) → All P (handles_of (saved_blocks ms)) → All (λ m. P m.handle.0) ms
   each_leaves P all = All-from_map (λ p. P p.0) (λ m. (m.handle.0, saved_block m.block)) ms (All-from_map P (λ p. p.0) (saved_blocks ms) all)
+
+  pub leaving_unlocked : (ss : List Seat) → All (λ h. locks_of ss h ≡ 0) (handles_of (saved_blocks ms)) → All (λ m. locks_of ss m.handle.0 ≡ 0) ms
+  leaving_unlocked ss unlocked = each_leaves (λ h. locks_of ss h ≡ 0) unlocked
 
   pub leaving_others : All (λ m. d.map_block ≢ m.handle.0) ms
   leaving_others = each_leaves (λ h. d.map_block ≢ h) can.others

@@ -1,5 +1,5 @@
 -- What is known of a change by handles alone, and what its body has to have.
-use Rattle.std.proofs.Common.{◌≡◌, ◌≢◌, ◌⊎◌, ℕ, Bool, true, false, List, [], ◌∷◌, Option, Some, None, is_some, inl, inr, refl, sym, ap, subst, ◌∙◌}
+use Rattle.std.proofs.Common.{◌≡◌, ◌≢◌, ℕ, Bool, true, false, List, [], ◌∷◌, Option, Some, None, is_some, inl, inr, refl, sym, ap, subst, ◌∙◌}
 use Rattle.std.specs.Prelude.{unwrap_or, Result, Ok, Err, IfErr, OnOk}
 use Rattle.std.specs.Option.{option_map, option_map_or}
 use Rattle.std.proofs.lemmas.Bool.{and_parts, cases_eq, true≢false}
@@ -10,7 +10,7 @@ use Rattle.geos_model.specs.declared.command.Body.{Body}
 use Rattle.geos_model.specs.declared.command.Body.TheVariants.{Raw}
 use Rattle.geos_model.proofs.HeapEdits.{get-put_same, get-put_other, get-taken_same, get-taken_other}
 use Rattle.geos_model.specs.declared.fault.Fault.{Fault}
-use Rattle.geos_model.specs.declared.fault.Fault.TheVariants.{Memory, NoBlock}
+use Rattle.geos_model.specs.declared.fault.Fault.TheVariants.{Memory}
 use Rattle.vm_store.specs.Facts.{StoreFacts}
 use Rattle.vm_file.specs.Disk.{Drifts}
 use Rattle.block_cache.specs.State.{CacheState, is_resident}
@@ -26,7 +26,7 @@ use Rattle.vm_blocks.specs.declared.change.Direction.{Direction}
 use Rattle.vm_blocks.specs.declared.change.Direction.TheVariants.{Forwards, Backwards}
 use Rattle.vm_blocks.specs.declared.change.PartChange.{PartChange}
 use Rattle.vm_blocks.specs.declared.change.PartChange.TheVariants as parts
-use Rattle.vm_blocks.proofs.KeepingLaws.{keeps-drifts, keeps-frames, keeps-passes, keeps-same, lacks-memory}
+use Rattle.vm_blocks.proofs.KeepingLaws.{keeps-drifts, keeps-frames, keeps-locks, keeps-passes, keeps-same, lacks-memory}
 use Rattle.vm_blocks.proofs.Residents.{both}
 use Rattle.vm_blocks.proofs.PartLemmas.{part_live, part_takes}
 
@@ -223,15 +223,6 @@ at_hand_made (changes.UserId b old new) state at_hand = tt
 at_hand_made (changes.Map old new) state at_hand = tt
 
 module _ {S : Type 0} (facts : S → StoreFacts) (old new : CacheState S) (keeps : Keeps facts old new) where
-  -- a block that was live wasn't refused for want of one
-  pub lacks_alone : {A : Type 0} (h : ℕ) (result : Result A Fault) → is_live old.document h ≡ true
-      → IfErr result (λ fault. Lacks facts old.disk.store new.disk.store fault ⊎ ((fault ≡ NoBlock) × (is_live new.document h ≡ false))) → IfErr result (Lacks facts old.disk.store new.disk.store)
-  lacks_alone h (Ok done) live err = tt
-  lacks_alone h (Err fault) live err = elim err as (λ _. Lacks facts old.disk.store new.disk.store fault) [
-    | inl lacks ↦ lacks
-    | inr dead ↦ absurd (true≢false (sym live ∙ (sym ((keeps-drifts facts old new keeps).live h) ∙ dead.1)))
-  ]
-
   -- a body that doesn't take a change of a part, so that the one before didn't
   pub unfit : (h : ℕ) (p : PartChange) (body : Body) → option_map (λ x. x.body) (get new.document.blocks h) ≡ Some body → (Takes p body → ⊥) → IsSteady facts old.disk.store → Takes p (block_at old.document h).body → ⊥
   unfit h p body is refuses steady takes =
@@ -263,4 +254,5 @@ module _ {S : Type 0} (facts : S → StoreFacts) (old new : CacheState S) (keeps
       document = made_on c (facts old.disk.store).honest old.document new.document (keeps-drifts facts old new keeps);
       at_hand = at_hand_made c new at_hand;
       frames = keeps-frames facts old new keeps;
+      locks = keeps-locks facts old new keeps;
     })

@@ -1,10 +1,9 @@
 -- Which blocks are in memory.
-use Rattle.std.proofs.Common.{◌≡◌, ℕ, ◌+◌, ◌≤◌, Bool, true, false, cond, nat_eq, List, [], ◌∷◌, Option, None, Some, is_some, unwrap_or, refl, sym, ap, subst, ◌∙◌, arith, eq-eqb}
+use Rattle.std.proofs.Common.{◌≡◌, ℕ, Bool, true, false, cond, nat_eq, List, [], ◌∷◌, Option, None, Some, is_some, unwrap_or, refl, sym, ap, subst, ◌∙◌, eq-eqb}
 use Rattle.std.specs.Prelude.{nat_lt, length, ◌&&◌}
-use Rattle.std.proofs.lemmas.List.Sums.{sum_by-cons}
 use Rattle.std.specs.Map.{lookup, lookup_entry, remove_entry}
 use Rattle.std.specs.Option.{option_map_or}
-use Rattle.block_cache.specs.State.{Seat, is_locked, locked_count, is_resident, evicted, seated}
+use Rattle.block_cache.specs.State.{Seat, is_resident, evicted, seated}
 
 -- both of two tests
 pub both : (a b : Bool) → a ≡ true → b ≡ true → a && b ≡ true
@@ -41,18 +40,3 @@ seated_there frames h ss = by (is_resident ss h) refl
     by : (b : Bool) → is_resident ss h ≡ b → is_resident (cond b (promoted h ss) ((h, 0) ∷ cond (nat_lt (length ss) frames) ss (evicted ss))) h ≡ true
     by true is = promoted_there h ss is
     by false is = ap (λ b. is_some (cond b (Some 0) (lookup (nat_eq h) (cond (nat_lt (length ss) frames) ss (evicted ss))))) (eq-eqb h h refl)
-
--- Fewer are locked where one goes.
-
-counts : (s : Seat) (ss : List Seat) → locked_count (s ∷ ss) ≡ cond (is_locked s) 1 0 + locked_count ss
-counts s ss = sum_by-cons (λ (x : Seat). cond (is_locked x) 1 0) s ss
-
-pub fewer_locked : (test : ℕ → Bool) (ss : List Seat) → locked_count (remove_entry test ss) ≤ locked_count ss
-fewer_locked test [] = omega arith
-fewer_locked test (s ∷ ss) =
-    let all = counts s ss in
-    let rest = fewer_locked test ss in
-    elim (test s.0) as (λ b. locked_count (cond b ss (s ∷ remove_entry test ss)) ≤ locked_count (s ∷ ss)) [
-      | true ↦ omega (arith, all)
-      | false ↦ let left = counts s (remove_entry test ss) in omega (arith, all, left, rest)
-    ]

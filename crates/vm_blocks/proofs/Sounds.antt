@@ -1,5 +1,5 @@
 -- What always holds of the blocks of a file stays so.
-use Rattle.std.proofs.Common.{◌≡◌, ◌≢◌, ◌≤◌, ◌<◌, ℕ, IsTrue, true, false, List, [], Some, sym, ap, subst, ◌∙◌, arith}
+use Rattle.std.proofs.Common.{◌≡◌, ◌≢◌, ◌≤◌, ◌<◌, ℕ, IsTrue, true, [], Some, sym, ap, subst, ◌∙◌, arith}
 use Rattle.std.specs.Prelude.{Result, Ok, Err, IfOk, MatchResult, nat_eq}
 use Rattle.std.specs.Option.{option_map}
 use Rattle.std.specs.Map.{remove_entry}
@@ -12,43 +12,33 @@ use Rattle.vm_store.specs.Facts.{StoreFacts}
 use Rattle.vm_file.specs.Disk.{Drifts}
 use Rattle.vm_file.specs.Effects.{KeepsFile}
 use Rattle.block_cache.specs.SavingAs.{IsSavedAs, IsNotSavedAs}
-use Rattle.block_cache.specs.State.{CacheState, Seat, all_locked, locked_count, seen}
-use Rattle.block_cache.proofs.Seats.{some_free}
+use Rattle.block_cache.specs.State.{CacheState, seen}
 use Rattle.vm_blocks.specs.Parts.{Takes, body_made}
 use Rattle.vm_blocks.specs.Sound.{IsSound}
 use Rattle.vm_blocks.specs.declared.change.PartChange.{PartChange}
 use Rattle.vm_blocks.proofs.PartLemmas.{part_valid}
 use Rattle.vm_blocks.proofs.Preparing.{body_of_option, live_there, takes_body}
-use Rattle.vm_blocks.proofs.Residents.{fewer_locked}
-
-none_locked : (ss : List Seat) → ss ≡ [] → locked_count ss ≡ 0
-none_locked ss is = ap locked_count is
 
 module _ {S : Type 0} (facts : S → StoreFacts) where
   pub sound_made : (frames : ℕ) (state : CacheState S) → 1 ≤ frames → state.document ≡ empty_document → (state.resident ≡ []) × (state.frames ≡ frames) → IsSound facts state
   sound_made frames state some document empty = record {
     valid = λ so. subst IsValid (sym document) empty_document-valid;
-    unlocked = none_locked state.resident empty.0;
     room = let same = empty.1 in omega (arith, some, same);
   }
 
   module _ (old new : CacheState S) (sound : IsSound facts old) where
-    pub room_left : all_locked old.frames old.resident ≡ false
-    room_left = let none = sound.unlocked in let some = sound.room in some_free old.frames old.resident (omega (arith, none, some))
-
     -- where the document drifts at most
     pub sound_drifts : (facts new.disk.store).honest ≡ (facts old.disk.store).honest → Drifts (facts old.disk.store).honest old.document new.document
-        → locked_count new.resident ≡ locked_count old.resident → new.frames ≡ old.frames → IsSound facts new
-    sound_drifts honest drifts locked frames = record {
+        → new.frames ≡ old.frames → IsSound facts new
+    sound_drifts honest drifts frames = record {
       valid = λ so. let before : IsTrue (facts old.disk.store).honest = subst IsTrue honest so in subst IsValid (sym (drifts.same before)) (sound.valid before);
-      unlocked = locked ∙ sound.unlocked;
       room = let some = sound.room in omega (arith, some, frames);
     }
 
   -- other documents of the same cache
   module _ (state : CacheState S) where
     sound_with : (d : Document) → (IsValid state.document → IsValid d) → IsSound facts state → IsSound facts (record state { document = d })
-    sound_with d valid sound = record { valid = λ so. valid (sound.valid so); unlocked = sound.unlocked; room = sound.room }
+    sound_with d valid sound = record { valid = λ so. valid (sound.valid so); room = sound.room }
 
     pub sound_map : (h : ℕ) → (h ≢ 0 → is_live state.document h ≡ true) → IsSound facts state → IsSound facts (record state { document = record state.document { map_block = h } })
     sound_map h live sound = sound_with (record state.document { map_block = h }) (λ valid. record { blocks = valid.blocks; map_block = live }) sound
@@ -60,7 +50,6 @@ module _ {S : Type 0} (facts : S → StoreFacts) where
     pub sound_taken : (h : ℕ) → (state.document.map_block ≡ h → ⊥) → IsSound facts state → IsSound facts (record state { document = without_block state.document h; resident = remove_entry (nat_eq h) state.resident })
     sound_taken h other sound = record {
       valid = λ so. without_block-valid state.document h (sound.valid so) other;
-      unlocked = let none = sound.unlocked in let fewer = fewer_locked (nat_eq h) state.resident in omega (arith, none, fewer);
       room = sound.room;
     }
 
@@ -69,10 +58,9 @@ module _ {S : Type 0} (facts : S → StoreFacts) where
       → MatchResult r (λ _. KeepsFile facts d (seen old) (seen new)) (λ _. KeepsFile facts old.document (seen old) (seen new)) → (new.resident ≡ old.resident) × (new.frames ≡ old.frames) → IsSound facts new
   sound_put old new d (Ok done) sound valid keeps same = record {
     valid = λ so. let before : IsTrue (facts old.disk.store).honest = subst IsTrue keeps.passes.honest so in subst IsValid (sym (keeps.document.same before)) (valid (sound.valid before));
-    unlocked = ap locked_count same.0 ∙ sound.unlocked;
     room = let some = sound.room in let frames = same.1 in omega (arith, some, frames);
   }
-  sound_put old new d (Err fault) sound valid keeps same = sound_drifts old new sound keeps.passes.honest keeps.document (ap locked_count same.0) same.1
+  sound_put old new d (Err fault) sound valid keeps same = sound_drifts old new sound keeps.passes.honest keeps.document same.1
 
   -- the file was saved under another store, or not
   pub sound_saved_as : {E : Type 0} (fault : E → Fault) (back : E → S) (target : S) (old new : CacheState S) (r : Result S E) → IsSound facts old
@@ -80,9 +68,9 @@ module _ {S : Type 0} (facts : S → StoreFacts) where
       → MatchResult r (λ store. IsSavedAs facts target store (seen old) (seen new)) (λ e. IsNotSavedAs facts target (back e) (seen old) (seen new) (fault e))
       → (new.resident ≡ old.resident) × (new.frames ≡ old.frames) → IsSound facts new
   sound_saved_as fault back target old new (Ok store) sound valid saved same =
-      record { valid = valid; unlocked = ap locked_count same.0 ∙ sound.unlocked; room = let some = sound.room in let frames = same.1 in omega (arith, some, frames) }
+      record { valid = valid; room = let some = sound.room in let frames = same.1 in omega (arith, some, frames) }
   sound_saved_as fault back target old new (Err e) sound valid saved same =
-      sound_drifts old new sound saved.commits.honest saved.document (ap locked_count same.0) same.1
+      sound_drifts old new sound saved.commits.honest saved.document same.1
 
   -- the body of a block was changed
   module _ (state : CacheState S) (h : ℕ) (p : PartChange) (body made : Body) (there : option_map (λ (b : Block). b.body) (get state.document.blocks h) ≡ Some body) (takes : Takes p (block_at state.document h).body) (is : made ≡ body_made p body) where
@@ -97,6 +85,5 @@ module _ {S : Type 0} (facts : S → StoreFacts) where
     pub sound_part : is_live state.document h ≡ true → IsSound facts state → IsSound facts (record state { document = with_body state.document h made })
     sound_part live sound = record {
       valid = λ so. let valid = sound.valid so in with_body-valid state.document h made valid live (made_valid valid live);
-      unlocked = sound.unlocked;
       room = sound.room;
     }

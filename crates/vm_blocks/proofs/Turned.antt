@@ -1,6 +1,6 @@
 -- What a call leaves that makes a change.
 use Rattle.std.proofs.Common.{◌≡◌, ◌⊎◌, ℕ, Bool, true, false, get_or, is_some, List, [], ◌∷◌, Option, Some, None, inl, inr, refl, sym, ap, subst, ◌∙◌}
-use Rattle.std.specs.Prelude.{Result, Ok, Err, MatchResult, ◌&&◌, IsOk, IfErr, OnOk}
+use Rattle.std.specs.Prelude.{Result, Ok, Err, MatchResult, IsOk, IfErr, OnOk}
 use Rattle.std.specs.Option.{option_map}
 use Rattle.std.specs.List.{All}
 use Rattle.std.proofs.lemmas.Bool.{true≢false}
@@ -8,29 +8,27 @@ use Rattle.std.specs.FinMap.{get}
 use Rattle.geos_model.specs.Document.{Block, Document, is_live, with_blocks, with_body, handles_of}
 use Rattle.geos_model.specs.declared.command.Body.{Body}
 use Rattle.geos_model.specs.declared.fault.Fault.{Fault}
-use Rattle.geos_model.specs.declared.fault.Fault.TheVariants.{File, Memory}
+use Rattle.geos_model.specs.declared.fault.Fault.TheVariants.{File, Memory, CacheFull}
 use Rattle.vm_store.specs.Facts.{StoreFacts, Raised}
 use Rattle.vm_file.specs.Calls.{put_all}
 use Rattle.vm_file.specs.Disk.{Disk, Drifts, Passes}
-use Rattle.vm_file.specs.Effects.{Fails, IsCommit, IsWorn, IsDamage, KeepsFile, NoFault}
+use Rattle.vm_file.specs.Effects.{Fails, IsWorn, IsDamage, KeepsFile, NoFault}
 use Rattle.vm_file.specs.Members.{saved_blocks}
 use Rattle.vm_file.specs.declared.member.Member.{Member}
-use Rattle.vm_file.proofs.Results.{any_way}
-use Rattle.block_cache.specs.SavingAs.{IsSavedAs, IsNotSavedAs}
 use Rattle.vm_file.proofs.Passing.{Passes-refl, Drifts-refl}
-use Rattle.block_cache.specs.State.{CacheState, is_resident, seated, seen, Stays}
+use Rattle.block_cache.specs.State.{CacheState, Seat, is_resident, seated, seen, KeepsLocks, Stays}
+use Rattle.block_cache.proofs.Locks.{keeps_refl}
 use Rattle.vm_blocks.proofs.ManyBlocks.{in_handles}
-use Rattle.vm_blocks.specs.Changes.{AreFree, blocks_in, made, part_made}
+use Rattle.vm_blocks.specs.Changes.{AreFree, made, part_made}
 use Rattle.vm_blocks.specs.Committing.{IsRevertFault}
 use Rattle.vm_blocks.specs.Keeping.{Keeps, Lacks, is_loaded}
 use Rattle.vm_blocks.specs.Parts.{body_made}
-use Rattle.vm_blocks.specs.Preparing.{BodyTakes, IsAtHand, IsUnready, Turns}
+use Rattle.vm_blocks.specs.Preparing.{BodyTakes, IsAtHand, IsOutOfReach, IsUnready, Turns}
 use Rattle.vm_blocks.specs.declared.change.Change.{Change}
 use Rattle.vm_blocks.specs.declared.change.Change.TheVariants as changes
 use Rattle.vm_blocks.specs.declared.change.PartChange.{PartChange}
 use Rattle.vm_blocks.specs.declared.change.PartChange.TheVariants as parts
 use Rattle.vm_blocks.specs.declared.member.Members.{Members}
-use Rattle.vm_blocks.proofs.KeepingLaws.{keeps-refl, lacks-memory}
 use Rattle.vm_blocks.proofs.Preparing.{makes, with_document}
 use Rattle.vm_blocks.proofs.Residents.{both, seated_there}
 
@@ -50,6 +48,9 @@ part_as_body h p d body there = by (get d.blocks h) refl there
 pub no_members : (ms : List Member) → saved_blocks ms ≡ [] → ms ≡ []
 no_members [] is = refl
 no_members (m ∷ ms) is = absurd (cc is)
+
+pub same_locks : (old new : List Seat) → new ≡ old → KeepsLocks old new
+same_locks old new is = subst (KeepsLocks old) (sym is) (keeps_refl old)
 
 module _ {S : Type 0} (facts : S → StoreFacts) where
   -- Bringing a block into memory.
@@ -75,43 +76,22 @@ module _ {S : Type 0} (facts : S → StoreFacts) where
   revert_fails (Ok done) a b fails = record { file = fails.file; faults = tt }
   revert_fails (Err fault) a b fails = record { file = fails.file; faults = elim fails.faults [ inl supply ↦ inl supply | inr worn ↦ inr (inl worn) ] }
 
-  -- What is in memory stays there.
-
-  loaded_still : (old new : CacheState S) → ((h : ℕ) → is_live new.document h ≡ is_live old.document h) → new.resident ≡ old.resident → (h : ℕ) → is_loaded new h ≡ is_loaded old h
-  unfolding is_loaded
-  loaded_still old new live resident h = ap (λ b. is_resident new.resident h && b) (live h) ∙ ap (λ ss. is_resident ss h && is_live old.document h) resident
-
-  pub loaded_committed : (old new : CacheState S) (pair : Document × Document) (r : Result (Unit {0}) Fault) → IsCommit facts pair old.document (seen old) (seen new) r → new.resident ≡ old.resident → (h : ℕ) → is_loaded new h ≡ is_loaded old h
-  loaded_committed old new pair r commit resident = loaded_still old new (any_way r _ commit.document).live resident
-
-  pub loaded_saved_as : {E : Type 0} (fault : E → Fault) (back : E → S) (target : S) (old new : CacheState S) (r : Result S E)
-      → MatchResult r (λ store. IsSavedAs facts target store (seen old) (seen new)) (λ e. IsNotSavedAs facts target (back e) (seen old) (seen new) (fault e))
-      → new.resident ≡ old.resident → (h : ℕ) → is_loaded new h ≡ is_loaded old h
-  loaded_saved_as fault back target old new (Ok store) saved resident = loaded_still old new saved.document.live resident
-  loaded_saved_as fault back target old new (Err e) saved resident = loaded_still old new saved.document.live resident
-
   -- A change that is made on the same disk.
 
-  pub turns_exact : (c : Change) (old new : CacheState S) → new.disk ≡ old.disk → new.document ≡ made c old.document → new.frames ≡ old.frames → IsAtHand c new → Turns facts c old new (Ok tt)
-  turns_exact c old new disk document frames at_hand = record {
+  pub turns_exact : (c : Change) (old new : CacheState S) → new.disk ≡ old.disk → new.document ≡ made c old.document → new.frames ≡ old.frames → KeepsLocks old.resident new.resident → IsAtHand c new
+      → (IsOutOfReach c old → ⊥) → Turns facts c old new (Ok tt)
+  turns_exact c old new disk document frames locks at_hand near = record {
     ok = record {
       passes = subst (λ (d : Disk S). Passes facts old.disk d) (sym disk) (Passes-refl facts old.disk);
       document = subst (λ (d : Document). Drifts (facts old.disk.store).honest (made c old.document) d) (sym document) (Drifts-refl _ _);
       at_hand = at_hand;
       frames = frames;
+      locks = locks;
     };
     err = tt;
     refusals = tt;
     sure = λ none here takes. (refl, disk, document);
-  }
-
-  -- Memory was wanting before anything was done.
-  pub turns_not : (c : Change) (state : CacheState S) (fault : Fault) → fault ≡ Memory → (blocks_in c ≡ [] → ⊥) → Turns facts c state state (Err fault)
-  turns_not c state fault memory some = record {
-    ok = tt;
-    err = keeps-refl facts state;
-    refusals = inl (subst (Lacks facts state.disk.store state.disk.store) (sym memory) (lacks-memory facts state.disk.store state.disk.store));
-    sure = λ none. absurd (some none);
+    shut = λ far. absurd (near far);
   }
 
   -- Blocks come in.
@@ -138,29 +118,33 @@ module _ {S : Type 0} (facts : S → StoreFacts) where
         document = subst (λ (xs : List Member). Drifts (facts old.disk.store).honest (put_all xs old.document) new.document) are keeps.document;
         at_hand = tt;
         frames = resident.1;
+        locks = same_locks old.resident new.resident resident.0;
       };
       err = tt;
       refusals = tt;
       sure = λ empty here takes. let still = none (are ∙ no_members ms.list.items empty) in
           (refl, ap (λ (s : CacheState S). s.disk) still.1, ap (λ (s : CacheState S). s.document) still.1 ∙ sym (ap (with_blocks old.document) empty));
+      shut = λ far. absurd far;
     }
     put_in_turns (Err fault) keeps fails none = record {
       ok = tt;
-      err = record { file = keeps; frames = resident.1 };
+      err = (record { file = keeps; frames = resident.1 }, same_locks old.resident new.resident resident.0);
       refusals = inl (lacks_of (Err fault) old.disk.store new.disk.store (record { file = fails.file; faults = elim fails.faults [ inl supply ↦ inl supply | inr never ↦ absurd never ] }));
       sure = λ empty here takes. absurd (cc (none (are ∙ no_members ms.list.items empty)).0);
+      shut = λ far. absurd far;
     }
 
   -- A body changes.
 
   module _ (c : Change) (old mid : CacheState S) (keeps : Keeps facts old mid) where
-    pub turns_ready : (new : CacheState S) → IsAtHand c mid → (IsAtHand c old → BodyTakes c old.document → (mid.disk ≡ old.disk) × (mid.document ≡ old.document)) → new ≡ with_document mid (made c mid.document) → Turns facts c old new (Ok tt)
-    turns_ready new at_hand same is = record {
+    pub turns_ready : (new : CacheState S) → IsAtHand c mid → (IsOutOfReach c old → ⊥) → (IsAtHand c old → BodyTakes c old.document → (mid.disk ≡ old.disk) × (mid.document ≡ old.document)) → new ≡ with_document mid (made c mid.document) → Turns facts c old new (Ok tt)
+    turns_ready new at_hand near same is = record {
       ok = makes facts old mid keeps c new at_hand is;
       err = tt;
       refusals = tt;
       sure = λ none here takes. (refl, ap (λ (s : CacheState S). s.disk) is ∙ (same here takes).0, ap (λ (s : CacheState S). s.document) is ∙ ap (made c) (same here takes).1);
+      shut = λ far. absurd (near far);
     }
 
-    pub turns_unready : (fault : Fault) → IsUnready facts c old mid fault → (IsAtHand c old → BodyTakes c old.document → ⊥) → Turns facts c old mid (Err fault)
-    turns_unready fault unready sure = record { ok = tt; err = keeps; refusals = unready; sure = λ none here takes. absurd (sure here takes) }
+    pub turns_unready : (fault : Fault) → IsUnready facts c old mid fault → (IsAtHand c old → BodyTakes c old.document → ⊥) → (IsOutOfReach c old → (fault ≡ CacheFull) × (mid ≡ old)) → Turns facts c old mid (Err fault)
+    turns_unready fault unready sure shut = record { ok = tt; err = keeps; refusals = unready; sure = λ none here takes. absurd (sure here takes); shut = λ far. (ap Err (shut far).0, (shut far).1) }

@@ -1,15 +1,15 @@
 -- What a call leaves that may bring blocks into memory, and why one may be refused. Crates above know these words by their laws alone.
-use Rattle.std.specs.Prelude.{◌≡◌, ◌⊎◌, ◌&&◌, ℕ, Bool, IsTrue}
+use Rattle.std.specs.Prelude.{◌≡◌, ◌⊎◌, ◌&&◌, ◌==◌, ℕ, Bool, true, IsTrue}
 use Rattle.vm_store.specs.Facts.{StoreFacts, Raised}
 use Rattle.geos_model.specs.Document.{is_live}
 use Rattle.geos_model.specs.declared.fault.Fault.{Fault}
-use Rattle.geos_model.specs.declared.fault.Fault.TheVariants.{File, Memory}
+use Rattle.geos_model.specs.declared.fault.Fault.TheVariants.{File, Memory, CacheFull}
 use Rattle.vm_file.specs.Effects.{IsDamage}
-use Rattle.block_cache.specs.State.{CacheState, is_resident, Stays}
+use Rattle.block_cache.specs.State.{CacheState, is_resident, locks_of, all_locked, KeepsLocks, Stays}
 
--- nothing is committed, and the document stays, as far as the store gives back what it has
+-- nothing is committed, the document stays, as far as the store gives back what it has, and each block is locked as often as before
 unfoldable pub Keeps : {S : Type 0} → (S → StoreFacts) → CacheState S → CacheState S → Type 0
-Keeps facts old new = Stays facts old new
+Keeps facts old new = Stays facts old new × KeepsLocks old.resident new.resident
 
 -- a document stays whatever is brought into memory
 unfoldable pub IsSteady : {S : Type 0} → (S → StoreFacts) → S → Type 0
@@ -23,3 +23,15 @@ Lacks facts old new fault = (fault ≡ Memory) ⊎ (((fault ≡ File) × Raised 
 -- the block is in memory, and live, as each that is in memory is
 unfoldable pub is_loaded : {S : Type 0} → CacheState S → ℕ → Bool
 is_loaded state h = is_resident state.resident h && is_live state.document h
+
+-- each frame has a locked block, so that no other one can be brought into memory
+unfoldable pub is_full : {S : Type 0} → CacheState S → Bool
+is_full state = all_locked state.frames state.resident
+
+-- nor this one: it isn't locked
+unfoldable pub is_shut_out : {S : Type 0} → CacheState S → ℕ → Bool
+is_shut_out state h = is_full state && (locks_of state.resident h == 0)
+
+-- the fault for that
+abbrev pub LacksFrame : {S : Type 0} → CacheState S → ℕ → Fault → Type 0
+LacksFrame state h fault = (fault ≡ CacheFull) × (is_shut_out state h ≡ true)

@@ -5,5 +5,6 @@ pub mod Committing
 pub mod Opening
 pub mod Keeping
 pub mod Kinds
+pub mod Locking
 pub mod Preparing
 pub mod Sound

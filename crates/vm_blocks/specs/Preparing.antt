@@ -1,16 +1,16 @@
 -- What making a change needs, and what it leaves. Half of what lets a change be made is known by handles, user IDs and the map block
 -- alone, over any store; the other half is what the body of a block has, which can be tested while the block is in memory.
-use Rattle.std.specs.Prelude.{◌≡◌, ◌≢◌, ◌⊎◌, ℕ, Bool, List, [], ◌∷◌, true, Result, IsOk, IfErr, OnOk, OnErr}
+use Rattle.std.specs.Prelude.{◌≡◌, ◌≢◌, ◌⊎◌, ℕ, Bool, List, [], ◌∷◌, true, Result, Err, IsOk, IfErr, OnOk, OnErr}
 use Rattle.std.specs.List.{All}
 use Rattle.geos_model.specs.Document.{Document, block_at, is_live, handles_of}
 use Rattle.geos_model.specs.ElementArray.{all_distinct}
 use Rattle.geos_model.specs.declared.fault.Fault.{Fault}
-use Rattle.geos_model.specs.declared.fault.Fault.TheVariants.{Damaged}
+use Rattle.geos_model.specs.declared.fault.Fault.TheVariants.{Damaged, CacheFull}
 use Rattle.vm_store.specs.Facts.{StoreFacts}
 use Rattle.vm_file.specs.Disk.{Drifts, Passes}
-use Rattle.block_cache.specs.State.{CacheState}
+use Rattle.block_cache.specs.State.{CacheState, Seat, locks_of, KeepsLocks}
 use Rattle.vm_blocks.specs.Changes.{made, blocks_in, Applies, AreFree, HasMap}
-use Rattle.vm_blocks.specs.Keeping.{Keeps, IsSteady, Lacks, is_loaded}
+use Rattle.vm_blocks.specs.Keeping.{Keeps, IsSteady, Lacks, is_loaded, is_shut_out}
 use Rattle.vm_file.specs.Members.{saved_blocks}
 use Rattle.vm_blocks.specs.Parts.{Takes}
 use Rattle.vm_blocks.specs.declared.change.Change.{Change}
@@ -38,6 +38,22 @@ BodyTakes (changes.Part b part) d = Takes part (block_at d b.0).body
 BodyTakes (changes.UserId b old new) d = Unit {0}
 BodyTakes (changes.Map old new) d = Unit {0}
 
+-- the blocks that go, if any do, aren't locked
+abbrev pub AreUnlocked : Change → List Seat → Type 0
+AreUnlocked (changes.BlocksIn ms) seats = Unit {0}
+AreUnlocked (changes.BlocksOut ms) seats = All (λ h. locks_of seats h ≡ 0) (handles_of (saved_blocks ms.list.items))
+AreUnlocked (changes.Part b part) seats = Unit {0}
+AreUnlocked (changes.UserId b old new) seats = Unit {0}
+AreUnlocked (changes.Map old new) seats = Unit {0}
+
+-- the block whose body changes can't be brought into memory, if there is one
+abbrev pub IsOutOfReach : {S : Type 0} → Change → CacheState S → Type 0
+IsOutOfReach (changes.BlocksIn ms) state = ⊥
+IsOutOfReach (changes.BlocksOut ms) state = ⊥
+IsOutOfReach (changes.Part b part) state = is_shut_out state b.0 ≡ true
+IsOutOfReach (changes.UserId b old new) state = ⊥
+IsOutOfReach (changes.Map old new) state = ⊥
+
 -- the block whose body changes is in memory, if there is one
 abbrev pub IsAtHand : {S : Type 0} → Change → CacheState S → Type 0
 IsAtHand (changes.BlocksIn ms) state = Unit {0}
@@ -52,19 +68,21 @@ pub record IsReady {S : Type 0} (change : Change) (state : CacheState S) : Type 
   pub takes : BodyTakes change state.document
   pub at_hand : IsAtHand change state
 
--- A change was made: nothing was committed, and the document is the one that the change makes of the one before, as far as the store
--- gives back what it has.
+-- A change was made: nothing was committed, the document is the one that the change makes of the one before, as far as the store gives
+-- back what it has, and each block is locked as often as before.
 pub record Makes {S : Type 0} (facts : S → StoreFacts) (change : Change) (old new : CacheState S) : Type 0 where
   pub passes : Passes facts old.disk new.disk
   pub document : Drifts (facts old.disk.store).honest (made change old.document) new.document
   pub at_hand : IsAtHand change new
   pub frames : new.frames ≡ old.frames
+  pub locks : KeepsLocks old.resident new.resident
 
 -- Why a change isn't made: what bringing a block into memory, or blocks into the document, may be refused for; or the body doesn't take
--- it, as it didn't before, if the store gives back what it has.
+-- it, as it didn't before, if the store gives back what it has; or the block is shut out.
 abbrev pub IsUnready : {S : Type 0} → (S → StoreFacts) → Change → CacheState S → CacheState S → Fault → Type 0
 IsUnready facts change old new fault =
-    Lacks facts old.disk.store new.disk.store fault ⊎ ((fault ≡ Damaged) × (IsSteady facts old.disk.store → BodyTakes change old.document → ⊥))
+    Lacks facts old.disk.store new.disk.store fault
+    ⊎ (((fault ≡ Damaged) × (IsSteady facts old.disk.store → BodyTakes change old.document → ⊥)) ⊎ ((fault ≡ CacheFull) × IsOutOfReach change old))
 
 -- What a call leaves that makes a change or is refused. It is sure where no block comes in, and the one that changes is in memory and
 -- takes it: then the store isn't called, and over any store the document is the one that the change makes.
@@ -73,6 +91,7 @@ pub record Turns {S : Type 0} (facts : S → StoreFacts) (change : Change) (old 
   pub err : OnErr result (Keeps facts old new)
   pub refusals : IfErr result (IsUnready facts change old new)
   pub sure : blocks_in change ≡ [] → IsAtHand change old → BodyTakes change old.document → IsOk result × (new.disk ≡ old.disk) × (new.document ≡ made change old.document)
+  pub shut : IsOutOfReach change old → (result ≡ Err CacheFull) × (new ≡ old)
 
 -- A change that applies is one of the first kind, and its body takes it.
 abbrev pub HalvesLaw : Type 0

@@ -1,23 +1,27 @@
 //! The blocks of a document file.
-ghost use Rattle.std.specs.Prelude.{◌≡◌, ◌≢◌, ◌⊎◌, ◌↔◌, ◌≤◌, ℕ, [], Some, None, Ok, Err, true, false, IsTrue, IsOk, IfOk, IfErr, IfSome, OnOk, OnErr, MatchResult, length, map};
+ghost use Rattle.std.specs.Prelude.{◌≡◌, ◌≢◌, ◌⊎◌, ◌↔◌, ◌≤◌, ◌<◌, ◌+◌, ℕ, [], Some, None, Ok, Err, true, false, IsTrue, IsOk, IfOk, IfErr, IfSome, OnOk, OnErr, MatchResult, length, map, nat_eq, nat_lt};
 ghost use Rattle.std.specs.Option.{option_map};
 ghost use Rattle.std.specs.Result.{IsErrAnd};
 ghost use Rattle.std.specs.FinMap.{get, keys};
+ghost use Rattle.std.specs.Map.{set_value};
+ghost use Rattle.std.specs.List.{All};
 ghost use Rattle.geos_model.specs.Document.{IsValid, block_at, is_heap, is_raw, next_handle, is_live, is_vm_handle, user_id_of, handles_of, without_block, without_blocks};
+ghost use Rattle.geos_model.specs.ElementArray.{all_distinct};
 ghost use Rattle.geos_model.specs.Reply.{found};
 ghost use Rattle.vm_file.specs.Calls.{IsCommitRefusal, last_sequence};
 ghost use Rattle.vm_file.specs.Disk.{IsListed, IsSettled};
 ghost use Rattle.vm_file.specs.Effects.{IsCommit, Fails, IsWorn};
 ghost use Rattle.vm_file.specs.Members.{saved_blocks};
 ghost use Rattle.block_cache.specs.Bodies.{body_of};
-ghost use Rattle.block_cache.specs.State.{seen};
+ghost use Rattle.block_cache.specs.State.{is_resident, locks_of, locked_count, seen, KeepsLocks};
 ghost use Rattle.vm_blocks.specs.Changes.{made, part_made, turned, turned_part, blocks_in, AreFree};
 ghost use Rattle.vm_blocks.specs.Committing.{IsRevertFault, IsSavedAs, IsNotSavedAs};
-ghost use Rattle.vm_blocks.specs.Keeping.{Keeps, Lacks, is_loaded};
+ghost use Rattle.vm_blocks.specs.Keeping.{Keeps, Lacks, LacksFrame, is_full, is_loaded, is_shut_out};
+ghost use Rattle.vm_blocks.specs.Locking.{GainsLock, LosesLock, CantLock, HasNoLock};
 ghost use Rattle.vm_blocks.specs.Opening.{IsOpenedFrom, IsNotOpened, IsMadeIn, IsNotMade};
 ghost use Rattle.vm_blocks.specs.Parts.{Takes};
 ghost use Rattle.vm_blocks.specs.Kinds.{IsOfOther};
-ghost use Rattle.vm_blocks.specs.Preparing.{CanLeave, Listed, BodyTakes, IsAtHand, IsUnready, Makes, Turns};
+ghost use Rattle.vm_blocks.specs.Preparing.{CanLeave, Listed, AreUnlocked, BodyTakes, IsAtHand, IsOutOfReach, IsUnready, Makes, Turns};
 
 use crate::part::{can_take, carry_out};
 use crate::{BlockBody, Change, Direction, Members, PartChange};
@@ -58,6 +62,7 @@ impl<S: Store> FileBlocks<S> {
             (λ blocks. IsMadeIn S.facts store (seen blocks))
             (λ refused. IsNotMade S.facts store refused.store refused.fault) }
         ensures frames { IfOk result (λ blocks. blocks.frames ≡ frames) }
+        ensures empty { IfOk result (λ blocks. blocks.resident ≡ []) }
     {
         match Cache::create(alloc, store, frames) {
             Ok(cache) => Ok(FileBlocks { alloc, cache }),
@@ -74,6 +79,7 @@ impl<S: Store> FileBlocks<S> {
             (λ blocks. IsOpenedFrom S.facts store (seen blocks))
             (λ refused. IsNotOpened S.facts store refused.store refused.fault) }
         ensures frames { IfOk result (λ blocks. blocks.frames ≡ frames) }
+        ensures empty { IfOk result (λ blocks. blocks.resident ≡ []) }
     {
         match Cache::open(alloc, store, frames) {
             Ok(cache) => {
@@ -99,17 +105,20 @@ impl<S: Store> FileBlocks<S> {
         ensures settled { IsSettled S.facts self.now.disk }
         ensures valid { IsTrue (S.facts self.now.disk.store).honest → IsValid self.now.disk.updated × IsValid self.now.disk.saved }
         ensures few { length self.now.resident ≤ self.now.frames }
+        ensures some { 1 ≤ self.now.frames }
+        ensures resident { (h : ℕ) → is_resident self.now.resident h ≡ true → is_live self.now.document h ≡ true }
+        ensures distinct { all_distinct (map (λ s. s.0) self.now.resident) ≡ true }
+        ensures counts { (h : ℕ) → locks_of self.now.resident h ≤ 255 }
     {
         self.cache.validity();
     }
 
-    /// Makes the document as it is now the updated one. Worn where the sequence number can't rise, before anything is written;
+    /// Makes the document as it is now the updated one. The blocks in memory stay there, with their locks. Worn where the sequence number can't rise, before anything is written;
     /// Memory, where nothing is committed; File, where what was to be may be read after a crash.
     pub fn update(&mut self) -> Result<(), Fault>
         ensures commit { IsCommit S.facts (self.old.document, self.old.disk.saved) self.old.document (seen self.old) (seen self.new) result }
         ensures fails { Fails S.facts IsWorn self.old.disk.store self.new.disk.store result }
-        ensures loaded { (h : ℕ) → is_loaded self.new h ≡ is_loaded self.old h }
-        ensures frames { self.new.frames ≡ self.old.frames }
+        ensures resident { (self.new.resident ≡ self.old.resident) × (self.new.frames ≡ self.old.frames) }
     {
         self.cache.commit_update()
     }
@@ -118,26 +127,27 @@ impl<S: Store> FileBlocks<S> {
     pub fn save(&mut self) -> Result<(), Fault>
         ensures commit { IsCommit S.facts (self.old.document, self.old.document) self.old.document (seen self.old) (seen self.new) result }
         ensures fails { Fails S.facts IsWorn self.old.disk.store self.new.disk.store result }
-        ensures loaded { (h : ℕ) → is_loaded self.new h ≡ is_loaded self.old h }
-        ensures frames { self.new.frames ≡ self.old.frames }
+        ensures resident { (self.new.resident ≡ self.old.resident) × (self.new.frames ≡ self.old.frames) }
     {
         self.cache.commit_save()
     }
 
-    /// Makes the saved document the updated one and the document as it is now; no block is in memory then. Where it is refused, as an
-    /// update is, those in memory stay.
+    /// Makes the saved document the updated one and the document as it is now; no block is in memory then, or locked. Where it is
+    /// refused, as an update is, those in memory stay.
     pub fn revert(&mut self) -> Result<(), Fault>
         ensures commit { IsCommit S.facts (self.old.disk.saved, self.old.disk.saved) self.old.disk.saved (seen self.old) (seen self.new) result }
         ensures fails { Fails S.facts (IsRevertFault (S.facts self.old.disk.store).honest) self.old.disk.store self.new.disk.store result }
         ensures refusals { IfErr result IsCommitRefusal }
+        ensures ok { OnOk result (self.new.resident ≡ []) }
+        ensures err { OnErr result (self.new.resident ≡ self.old.resident) }
         ensures frames { self.new.frames ≡ self.old.frames }
     {
         self.cache.validity();
         self.cache.commit_revert()
     }
 
-    /// Makes the target a file of its own of the document as it is now, and goes on in that. The file so far goes back to its
-    /// saved document, and its store comes back. Where it is refused the file stays, and the target comes back, with any bytes;
+    /// Makes the target a file of its own of the document as it is now, and goes on in that, with the same blocks in memory. The file
+    /// so far goes back to its saved document, and its store comes back. Where it is refused the file stays, and the target comes back, with any bytes;
     /// nothing is committed then, but where the store of the file so far fails. Worn, before anything is written; Damaged where
     /// what is read is no image, which an honest store never gives; Memory, File.
     pub fn save_as(&mut self, target: S) -> Result<S, Refused<S>>
@@ -145,12 +155,39 @@ impl<S: Store> FileBlocks<S> {
             (λ store. IsSavedAs S.facts target store (seen self.old) (seen self.new))
             (λ refused. IsNotSavedAs S.facts target refused.store (seen self.old) (seen self.new) refused.fault) }
         ensures worn { IsErrAnd result (λ refused. refused.fault ≡ Fault.Worn) ↔ self.old.disk.sequence ≡ last_sequence }
-        ensures loaded { (h : ℕ) → is_loaded self.new h ≡ is_loaded self.old h }
-        ensures frames { self.new.frames ≡ self.old.frames }
+        ensures resident { (self.new.resident ≡ self.old.resident) × (self.new.frames ≡ self.old.frames) }
     {
         let result = self.cache.save_as(target);
         self.cache.validity();
         result
+    }
+
+    /// How many blocks may be in memory.
+    pub fn frames(&self) -> usize
+        ensures { result ≡ self.now.frames }
+    {
+        self.cache.frames()
+    }
+
+    /// How often a block is locked, 0 where it isn't in memory.
+    pub fn locks(&self, handle: VmHandle) -> u8
+        ensures { result ≡ locks_of self.now.resident handle.0 }
+    {
+        self.cache.locks(handle)
+    }
+
+    /// Whether a block is locked.
+    pub fn has_locks(&self) -> bool
+        ensures { result ≡ nat_lt 0 (locked_count self.now.resident) }
+    {
+        self.cache.has_locks()
+    }
+
+    /// Whether each frame has a locked block, so that no other one can be brought into memory.
+    pub fn all_locked(&self) -> bool
+        ensures { result ≡ is_full self.now }
+    {
+        self.cache.all_locked()
     }
 
     /// Whether a block has this handle, in memory or not.
@@ -184,15 +221,18 @@ impl<S: Store> FileBlocks<S> {
         self.cache.is_resident(handle)
     }
 
-    /// Brings a block into memory; where all frames are taken, the one that was used least recently goes. NoBlock where it isn't
-    /// live; Memory, File; Damaged where what is read is no body, which an honest store never gives. For a block that is in memory it
-    /// takes no memory, calls no store and isn't refused.
+    /// Brings a block into memory; where all frames are taken, that one of the blocks that aren't locked goes which was used least
+    /// recently. NoBlock where it isn't live; CacheFull where each frame has a locked block, and it isn't one of them: then nothing
+    /// changes. Memory, File; Damaged where what is read is no body, which an honest store never gives. For a block that is in memory
+    /// it takes no memory, calls no store and isn't refused.
     pub fn load(&mut self, handle: VmHandle) -> Result<(), Fault>
         ensures keeps { Keeps S.facts self.old self.new }
         ensures ok { OnOk result (is_loaded self.new handle.0 ≡ true) }
-        ensures err { IfErr result (λ fault. Lacks S.facts self.old.disk.store self.new.disk.store fault ⊎ ((fault ≡ Fault.NoBlock) × (is_live self.new.document handle.0 ≡ false))) }
+        ensures err { IfErr result (λ fault. Lacks S.facts self.old.disk.store self.new.disk.store fault
+            ⊎ (((fault ≡ Fault.NoBlock) × (is_live self.new.document handle.0 ≡ false)) ⊎ LacksFrame self.old handle.0 fault)) }
         ensures already { is_loaded self.old handle.0 ≡ true → IsOk result × (self.new.disk ≡ self.old.disk) × (self.new.document ≡ self.old.document) }
         ensures dead { is_live self.old.document handle.0 ≡ false → (result ≡ Err Fault.NoBlock) × (self.new ≡ self.old) }
+        ensures shut { is_live self.old.document handle.0 ≡ true → is_shut_out self.old handle.0 ≡ true → (result ≡ Err Fault.CacheFull) × (self.new ≡ self.old) }
     {
         if self.cache.is_live(handle) {
             self.load_live(handle)
@@ -206,9 +246,11 @@ impl<S: Store> FileBlocks<S> {
     pub fn load_raw(&mut self, handle: VmHandle) -> Result<(), Fault>
         ensures keeps { Keeps S.facts self.old self.new }
         ensures ok { OnOk result ((is_loaded self.new handle.0 ≡ true) × (is_raw self.new.document handle.0 ≡ true)) }
-        ensures err { IfErr result (λ fault. Lacks S.facts self.old.disk.store self.new.disk.store fault ⊎ IsOfOther is_raw self.new.document handle.0 fault) }
+        ensures err { IfErr result (λ fault. Lacks S.facts self.old.disk.store self.new.disk.store fault
+            ⊎ (IsOfOther is_raw self.new.document handle.0 fault ⊎ LacksFrame self.old handle.0 fault)) }
         ensures already { is_loaded self.old handle.0 ≡ true → is_raw self.old.document handle.0 ≡ true → IsOk result × (self.new.disk ≡ self.old.disk) × (self.new.document ≡ self.old.document) }
         ensures early { (fault : Fault) → IsOfOther is_raw self.old.document handle.0 fault → (result ≡ Err fault) × (self.new ≡ self.old) }
+        ensures shut { is_raw self.old.document handle.0 ≡ true → is_shut_out self.old handle.0 ≡ true → (result ≡ Err Fault.CacheFull) × (self.new ≡ self.old) }
     {
         if !self.cache.is_live(handle) {
             return Err(Fault::NoBlock);
@@ -224,9 +266,11 @@ impl<S: Store> FileBlocks<S> {
     pub fn load_heap(&mut self, handle: VmHandle) -> Result<(), Fault>
         ensures keeps { Keeps S.facts self.old self.new }
         ensures ok { OnOk result ((is_loaded self.new handle.0 ≡ true) × (is_heap self.new.document handle.0 ≡ true)) }
-        ensures err { IfErr result (λ fault. Lacks S.facts self.old.disk.store self.new.disk.store fault ⊎ IsOfOther is_heap self.new.document handle.0 fault) }
+        ensures err { IfErr result (λ fault. Lacks S.facts self.old.disk.store self.new.disk.store fault
+            ⊎ (IsOfOther is_heap self.new.document handle.0 fault ⊎ LacksFrame self.old handle.0 fault)) }
         ensures already { is_loaded self.old handle.0 ≡ true → is_heap self.old.document handle.0 ≡ true → IsOk result × (self.new.disk ≡ self.old.disk) × (self.new.document ≡ self.old.document) }
         ensures early { (fault : Fault) → IsOfOther is_heap self.old.document handle.0 fault → (result ≡ Err fault) × (self.new ≡ self.old) }
+        ensures shut { is_heap self.old.document handle.0 ≡ true → is_shut_out self.old handle.0 ≡ true → (result ≡ Err Fault.CacheFull) × (self.new ≡ self.old) }
     {
         if !self.cache.is_live(handle) {
             return Err(Fault::NoBlock);
@@ -237,15 +281,99 @@ impl<S: Store> FileBlocks<S> {
         self.load_live(handle)
     }
 
-    // Brings a live block into memory.
+    // Brings a live block into memory, if it isn't shut out.
     fn load_live(&mut self, handle: VmHandle) -> Result<(), Fault>
         requires { is_live self.old.document handle.0 ≡ true }
         ensures keeps { Keeps S.facts self.old self.new }
         ensures ok { OnOk result (is_loaded self.new handle.0 ≡ true) }
-        ensures err { IfErr result (Lacks S.facts self.old.disk.store self.new.disk.store) }
+        ensures err { IfErr result (λ fault. Lacks S.facts self.old.disk.store self.new.disk.store fault ⊎ LacksFrame self.old handle.0 fault) }
         ensures already { is_loaded self.old handle.0 ≡ true → IsOk result × (self.new.disk ≡ self.old.disk) × (self.new.document ≡ self.old.document) }
+        ensures shut { is_shut_out self.old handle.0 ≡ true → (result ≡ Err Fault.CacheFull) × (self.new ≡ self.old) }
     {
+        self.validity();
+        if self.is_shut_out(handle) {
+            return Err(Fault::CacheFull);
+        }
         self.cache.load(handle)
+    }
+
+    // Whether a block can't be brought into memory, since each frame has a locked block and it isn't one of them.
+    fn is_shut_out(&self, handle: VmHandle) -> bool
+        ensures { result ≡ is_shut_out self.now handle.0 }
+    {
+        self.all_locked() && self.locks(handle) == 0
+    }
+
+    /// One more lock of a block. It is brought into memory, and stays there until its last lock is taken away. NoBlock where it isn't
+    /// live; LockLimit where it is locked 255 times; CacheFull where each frame has a locked block, and it isn't one of them: then
+    /// nothing changes. Otherwise refused as `load` is.
+    pub fn lock(&mut self, handle: VmHandle) -> Result<(), Fault>
+        ensures ok { OnOk result (GainsLock S.facts handle.0 self.old self.new) }
+        ensures err { OnErr result (Keeps S.facts self.old self.new) }
+        ensures refusals { IfErr result (λ fault. Lacks S.facts self.old.disk.store self.new.disk.store fault ⊎ CantLock self.old handle.0 fault) }
+        ensures early { (fault : Fault) → CantLock self.old handle.0 fault → (result ≡ Err fault) × (self.new ≡ self.old) }
+        ensures already { is_loaded self.old handle.0 ≡ true → locks_of self.old.resident handle.0 < 255
+            → IsOk result × (self.new.disk ≡ self.old.disk) × (self.new.document ≡ self.old.document) }
+    {
+        if !self.cache.is_live(handle) {
+            return Err(Fault::NoBlock);
+        }
+        if self.locks(handle) == u8::MAX {
+            return Err(Fault::LockLimit);
+        }
+        self.load_live(handle)?;
+        self.lock_loaded(handle);
+        Ok(())
+    }
+
+    // One more lock of a block in memory.
+    fn lock_loaded(&mut self, handle: VmHandle)
+        requires loaded { is_loaded self.old handle.0 ≡ true }
+        requires few { locks_of self.old.resident handle.0 < 255 }
+        ensures { self.new ≡ record self.old { resident = set_value (nat_eq handle.0) self.old.resident (locks_of self.old.resident handle.0 + 1) } }
+    {
+        self.cache.lock(handle);
+    }
+
+    /// One lock of a block less; with the last one it may go from memory again. NoBlock where it isn't live, NotLocked where it isn't
+    /// locked: then nothing changes. No memory, no store.
+    pub fn unlock(&mut self, handle: VmHandle) -> Result<(), Fault>
+        ensures ok { OnOk result (LosesLock handle.0 self.old self.new) }
+        ensures err { OnErr result (self.new ≡ self.old) }
+        ensures refusals { IfErr result (HasNoLock self.old handle.0) }
+        ensures early { (fault : Fault) → HasNoLock self.old handle.0 fault → result ≡ Err fault }
+    {
+        self.check_lock(handle)?;
+        self.cache.unlock(handle);
+        Ok(())
+    }
+
+    /// Has a locked block written to the file with the next update, save or save-as, or when it goes from memory, as one that was
+    /// changed is. Nothing that a caller sees changes. NoBlock where it isn't live, NotLocked where it isn't locked. No memory, no store.
+    pub fn dirty(&mut self, handle: VmHandle) -> Result<(), Fault>
+        ensures same { self.new ≡ self.old }
+        ensures ok { OnOk result (0 < locks_of self.old.resident handle.0) }
+        ensures refusals { IfErr result (HasNoLock self.old handle.0) }
+        ensures early { (fault : Fault) → HasNoLock self.old handle.0 fault → result ≡ Err fault }
+    {
+        self.check_lock(handle)?;
+        self.cache.dirty(handle);
+        Ok(())
+    }
+
+    // NoBlock where a block isn't live, NotLocked where it isn't locked.
+    fn check_lock(&self, handle: VmHandle) -> Result<(), Fault>
+        ensures ok { OnOk result (0 < locks_of self.now.resident handle.0) }
+        ensures err { IfErr result (HasNoLock self.now handle.0) }
+        ensures early { (fault : Fault) → HasNoLock self.now handle.0 fault → result ≡ Err fault }
+    {
+        if !self.cache.is_live(handle) {
+            return Err(Fault::NoBlock);
+        }
+        if self.locks(handle) == 0 {
+            return Err(Fault::NotLocked);
+        }
+        Ok(())
     }
 
     /// The body of a block that is in memory.
@@ -287,22 +415,26 @@ impl<S: Store> FileBlocks<S> {
     }
 
     /// Makes a change, in the direction. Where the body of a block changes, that block is brought into memory; Damaged where its body
-    /// doesn't take the change. Blocks that come in are written to the file, all or none. Otherwise refused as `load` is. Where no
-    /// block comes in, and the one that changes is in memory, it takes no memory, calls no store and isn't refused for want of either.
+    /// doesn't take the change, and CacheFull where each frame has a locked block, and it isn't one of them. Blocks that come in are
+    /// written to the file, all or none; those that go aren't locked. Otherwise refused as `load` is. Where no block comes in, and the
+    /// one that changes is in memory, it takes no memory, calls no store and isn't refused for want of either.
     pub fn change(&mut self, change: &Change, direction: Direction) -> Result<(), Fault>
-        requires { Listed (turned direction change.now) self.old.document }
+        requires listed { Listed (turned direction change.now) self.old.document }
+        requires unlocked { AreUnlocked (turned direction change.now) self.old.resident }
         ensures ok { OnOk result (Makes S.facts (turned direction change.now) self.old self.new) }
         ensures err { OnErr result (Keeps S.facts self.old self.new) }
         ensures refusals { IfErr result (IsUnready S.facts (turned direction change.now) self.old self.new) }
         ensures sure { blocks_in (turned direction change.now) ≡ [] → IsAtHand (turned direction change.now) self.old → BodyTakes (turned direction change.now) self.old.document
             → IsOk result × (self.new.disk ≡ self.old.disk) × (self.new.document ≡ made (turned direction change.now) self.old.document) }
+        ensures shut { IsOutOfReach (turned direction change.now) self.old → (result ≡ Err Fault.CacheFull) × (self.new ≡ self.old) }
     {
         self.turn(change, direction)
     }
 
     // So it does, in one word.
     fn turn(&mut self, change: &Change, direction: Direction) -> Result<(), Fault>
-        requires { Listed (turned direction change.now) self.old.document }
+        requires listed { Listed (turned direction change.now) self.old.document }
+        requires unlocked { AreUnlocked (turned direction change.now) self.old.resident }
         ensures { Turns S.facts (turned direction change.now) self.old self.new result }
     {
         match change {
@@ -337,7 +469,8 @@ impl<S: Store> FileBlocks<S> {
 
     // Takes each of these blocks out. It isn't refused.
     fn take_out(&mut self, members: &Members) -> Result<(), Fault>
-        requires { CanLeave self.old.document (handles_of (saved_blocks members.now.list.items)) }
+        requires leave { CanLeave self.old.document (handles_of (saved_blocks members.now.list.items)) }
+        requires unlocked { All (λ h. locks_of self.old.resident h ≡ 0) (handles_of (saved_blocks members.now.list.items)) }
         ensures { Turns S.facts (Change.BlocksOut members.now) self.old self.new result }
     {
         self.take_all(members);
@@ -345,10 +478,12 @@ impl<S: Store> FileBlocks<S> {
     }
 
     fn take_all(&mut self, members: &Members)
-        requires { CanLeave self.old.document (handles_of (saved_blocks members.now.list.items)) }
+        requires leave { CanLeave self.old.document (handles_of (saved_blocks members.now.list.items)) }
+        requires unlocked { All (λ h. locks_of self.old.resident h ≡ 0) (handles_of (saved_blocks members.now.list.items)) }
         ensures disk { self.new.disk ≡ self.old.disk }
         ensures document { self.new.document ≡ without_blocks self.old.document (handles_of (saved_blocks members.now.list.items)) }
         ensures frames { self.new.frames ≡ self.old.frames }
+        ensures locks { KeepsLocks self.old.resident self.new.resident }
     {
         for member in &members.list {
             self.take_one(member.handle);
@@ -356,11 +491,14 @@ impl<S: Store> FileBlocks<S> {
     }
 
     fn take_one(&mut self, handle: VmHandle)
-        requires { self.old.document.map_block ≢ handle.0 }
+        requires other { self.old.document.map_block ≢ handle.0 }
+        requires unlocked { locks_of self.old.resident handle.0 ≡ 0 }
         ensures disk { self.new.disk ≡ self.old.disk }
         ensures document { self.new.document ≡ without_block self.old.document handle.0 }
         ensures frames { self.new.frames ≡ self.old.frames }
+        ensures locks { KeepsLocks self.old.resident self.new.resident }
     {
+        self.cache.validity();
         self.cache.remove_blocks(&[handle]);
     }
 
@@ -393,6 +531,7 @@ impl<S: Store> FileBlocks<S> {
         ensures err { IfErr result (IsUnready S.facts (Change.Part handle (turned_part direction part.now)) self.old self.new) }
         ensures sure { is_loaded self.old handle.0 ≡ true → Takes (turned_part direction part.now) (block_at self.old.document handle.0).body
             → IsOk result × (self.new.disk ≡ self.old.disk) × (self.new.document ≡ self.old.document) }
+        ensures shut { is_shut_out self.old handle.0 ≡ true → (result ≡ Err Fault.CacheFull) × (self.new ≡ self.old) }
     {
         self.load_live(handle)?;
         if can_take(self.body(handle), part, direction) {

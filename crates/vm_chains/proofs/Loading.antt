@@ -13,8 +13,8 @@ use Rattle.geos_model.specs.declared.fault.Fault.{Fault}
 use Rattle.geos_model.specs.declared.fault.Fault.TheVariants.{Damaged, NoBlock}
 use Rattle.geos_model.specs.declared.handle.VmHandle.{VmHandle}
 use Rattle.block_cache.specs.State.{CacheState}
-use Rattle.vm_blocks.specs.Keeping.{Keeps, IsSteady, Lacks}
-use Rattle.vm_blocks.proofs.KeepingLaws.{keeps-drifts, keeps-same, keeps-was_steady, lacks-damaged}
+use Rattle.vm_blocks.specs.Keeping.{Keeps, IsSteady, Lacks, LacksFrame, is_full}
+use Rattle.vm_blocks.proofs.KeepingLaws.{keeps-drifts, keeps-full, keeps-same, keeps-was_steady, lacks-damaged, open-shut}
 use Rattle.vm_chains.specs.Walking.{AreBlocks}
 
 -- the fault that `?` hands on
@@ -58,6 +58,9 @@ module _ {S : Type 0} (facts : S → StoreFacts) (a b : CacheState S) (keeps : K
   pub still_live : (h : ℕ) → is_live a.document h ≡ true → is_live b.document h ≡ true
   still_live h live = (keeps-drifts facts a b keeps).live h ∙ live
 
+  pub still_room : is_full a ≡ false → is_full b ≡ false
+  still_room room = keeps-full facts a b keeps ∙ room
+
   pub still_blocks : (hs : List VmHandle) → AreBlocks a.document hs → AreBlocks b.document hs
   still_blocks hs are = record {
     live = λ i h within. still_live (get_or hs i h).0 (are.live i h within);
@@ -74,11 +77,15 @@ module _ {S : Type 0} (facts : S → StoreFacts) (a b : CacheState S) (keeps : K
   pub still_then : (P : Document → Type 0) → (IsSteady facts a.disk.store → P a.document) → IsSteady facts b.disk.store → P b.document
   still_then P was steady = still P was (keeps-was_steady facts a b keeps steady)
 
-  -- a live block is loaded, or what a load needs is lacking
-  pub load_lacks : (h : ℕ) (fault : Fault) → is_live a.document h ≡ true → Lacks facts a.disk.store b.disk.store fault ⊎ ((fault ≡ NoBlock) × (is_live b.document h ≡ false)) → Lacks facts a.disk.store b.disk.store fault
-  load_lacks h fault live refused = elim refused as (λ _. Lacks facts a.disk.store b.disk.store fault) [
+  -- a live block for which there is room is loaded, or what a load needs is lacking
+  pub load_lacks : (h : ℕ) (fault : Fault) → is_full a ≡ false → is_live a.document h ≡ true
+      → Lacks facts a.disk.store b.disk.store fault ⊎ (((fault ≡ NoBlock) × (is_live b.document h ≡ false)) ⊎ LacksFrame a h fault) → Lacks facts a.disk.store b.disk.store fault
+  load_lacks h fault room live refused = elim refused as (λ _. Lacks facts a.disk.store b.disk.store fault) [
     | inl lacks ↦ lacks
-    | inr none ↦ absurd (true≢false (sym (still_live h live) ∙ none.1))
+    | inr other ↦ elim other as (λ _. Lacks facts a.disk.store b.disk.store fault) [
+      | inl none ↦ absurd (true≢false (sym (still_live h live) ∙ none.1))
+      | inr full ↦ absurd (true≢false (sym full.1 ∙ open-shut a h room))
+    ]
   ]
 
   -- a block that isn't what it was comes from a store that isn't steady

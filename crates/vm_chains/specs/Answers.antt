@@ -12,6 +12,10 @@ Refuses lacks conditions fault = lacks fault ⊎ (first_refusal conditions ≡ S
 abbrev pub Answers : {A : Type 0} → (Fault → Type 0) → Conditions → (A → Type 0) → Result A Fault → Type 0
 Answers lacks conditions P result = MatchResult result (λ a. (first_refusal conditions ≡ None) × P a) (Refuses lacks conditions)
 
+-- a refusal of the root of a chain, which is told without a look into any block
+abbrev pub IsRootFault : Fault → Type 0
+IsRootFault fault = (fault ≡ NoBlock) ⊎ (fault ≡ WrongKind)
+
 -- a refusal of any call on a chain
 abbrev pub IsChainFault : Fault → Type 0
 IsChainFault fault = (fault ≡ NoBlock) ⊎ (fault ≡ WrongKind) ⊎ (fault ≡ BadChain)

@@ -1,11 +1,11 @@
-ghost use Rattle.std.specs.Prelude.{◌≡◌, ◌≤◌, ℕ, Some, true, IfOk, IfErr, MatchResult, length};
+ghost use Rattle.std.specs.Prelude.{◌≡◌, ◌≤◌, ℕ, Some, true, false, IfOk, IfErr, MatchResult, length};
 ghost use Rattle.std.specs.List.{All};
 ghost use Rattle.geos_model.specs.Bytes.{same_bytes};
 ghost use Rattle.geos_model.specs.Chain.{chain_blocks, on_chains, same_shape};
 ghost use Rattle.geos_model.specs.Document.{is_raw, is_vm_handle, most_blocks};
 ghost use Rattle.geos_model.specs.Refusal.{first_refusal};
-ghost use Rattle.vm_blocks.specs.Keeping.{Keeps, IsSteady, Lacks};
-ghost use Rattle.vm_chains.specs.Answers.{Answers, IsChainFault, IsWalkRefusal};
+ghost use Rattle.vm_blocks.specs.Keeping.{Keeps, IsSteady, Lacks, is_full};
+ghost use Rattle.vm_chains.specs.Answers.{Answers, IsRootFault, IsWalkRefusal};
 ghost use Rattle.vm_chains.specs.Naming.{name_in, place_in};
 ghost use Rattle.vm_chains.specs.Numbers.{numbers};
 ghost use Rattle.vm_chains.specs.Walking.{AreBlocks, AreMembers};
@@ -25,6 +25,7 @@ pub fn equal<S: Store>(
     first: VmHandle,
     second: VmHandle,
 ) -> Result<bool, Fault>
+    requires room { is_full blocks.old ≡ false }
     ensures keeps { Keeps S.facts blocks.old blocks.new }
     ensures value { IsSteady S.facts blocks.old.disk.store
         → Answers (Lacks S.facts blocks.old.disk.store blocks.new.disk.store) (on_chains blocks.new.document first.0 second.0)
@@ -37,8 +38,8 @@ pub fn equal<S: Store>(
     same_shape(alloc, blocks, &first, &second)
 }
 
-/// NoBlock where one of the two isn't live, and then WrongKind where one is a heap.
-fn test_roots<S: Store>(
+/// Tests the roots of two chains: NoBlock where one of them isn't live, and then WrongKind where one is a heap. No block is looked into.
+pub fn test_roots<S: Store>(
     blocks: &FileBlocks<S>,
     first: VmHandle,
     second: VmHandle,
@@ -46,7 +47,7 @@ fn test_roots<S: Store>(
     ensures value { MatchResult result
         (λ _. (is_raw blocks.now.document first.0 ≡ true) × (is_raw blocks.now.document second.0 ≡ true))
         (λ fault. first_refusal (on_chains blocks.now.document first.0 second.0) ≡ Some fault) }
-    ensures refusals { IfErr result IsChainFault }
+    ensures refusals { IfErr result IsRootFault }
 {
     if !blocks.is_live(first) || !blocks.is_live(second) {
         return Err(Fault::NoBlock);
@@ -62,6 +63,7 @@ fn same_shape<S: Store>(
     first: &[VmHandle],
     second: &[VmHandle],
 ) -> Result<bool, Fault>
+    requires room { is_full blocks.old ≡ false }
     requires first { AreBlocks blocks.old.document first.now }
     requires second { AreBlocks blocks.old.document second.now }
     requires members { IsSteady S.facts blocks.old.disk.store → AreMembers blocks.old.document first.now × AreMembers blocks.old.document second.now }

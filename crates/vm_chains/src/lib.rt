@@ -1,5 +1,6 @@
 //! Chains and trees of raw blocks: walked, measured and compared, and planned to be copied or freed. A call may bring
-//! blocks into memory, and changes nothing else.
+//! blocks into memory, and changes nothing else. What follows a chain may need any frame, so that not each may have a locked
+//! block; the roots can be tested before that.
 #![tactic(auto)]
 
 mod comparing;
@@ -12,7 +13,7 @@ mod planning;
 mod reading;
 mod walking;
 
-pub use comparing::equal;
+pub use comparing::{equal, test_roots};
 pub use measuring::size;
 pub use planning::{copy_plan, free_plan};
-pub use walking::walk;
+pub use walking::{test_root, walk};

@@ -1,6 +1,6 @@
-ghost use Rattle.std.specs.Prelude.{◌≡◌, IfOk, IfErr};
+ghost use Rattle.std.specs.Prelude.{◌≡◌, false, IfOk, IfErr};
 ghost use Rattle.geos_model.specs.Chain.{bytes_in, chain_blocks, on_chain};
-ghost use Rattle.vm_blocks.specs.Keeping.{Keeps, IsSteady, Lacks};
+ghost use Rattle.vm_blocks.specs.Keeping.{Keeps, IsSteady, Lacks, is_full};
 ghost use Rattle.vm_chains.specs.Answers.{Answers, IsWalkRefusal};
 ghost use Rattle.vm_chains.specs.Numbers.{numbers};
 ghost use Rattle.vm_chains.specs.Walking.{AreBlocks, AreMembers};
@@ -18,6 +18,7 @@ pub fn size<S: Store>(
     blocks: &mut FileBlocks<S>,
     root: VmHandle,
 ) -> Result<u32, Fault>
+    requires room { is_full blocks.old ≡ false }
     ensures keeps { Keeps S.facts blocks.old blocks.new }
     ensures value { IsSteady S.facts blocks.old.disk.store
         → Answers (Lacks S.facts blocks.old.disk.store blocks.new.disk.store) (on_chain blocks.new.document root.0)
@@ -30,6 +31,7 @@ pub fn size<S: Store>(
 
 /// How many bytes these blocks have.
 fn total_len<S: Store>(blocks: &mut FileBlocks<S>, handles: &[VmHandle]) -> Result<u32, Fault>
+    requires room { is_full blocks.old ≡ false }
     requires live { AreBlocks blocks.old.document handles.now }
     requires members { IsSteady S.facts blocks.old.disk.store → AreMembers blocks.old.document handles.now }
     ensures keeps { Keeps S.facts blocks.old blocks.new }

@@ -1,10 +1,10 @@
-ghost use Rattle.std.specs.Prelude.{◌≡◌, ◌⊎◌, ◌==◌, ◌<◌, IfOk, IfErr, length};
+ghost use Rattle.std.specs.Prelude.{◌≡◌, ◌⊎◌, ◌==◌, ◌<◌, false, IfOk, IfErr, length};
 ghost use Rattle.std.specs.List.{list_any};
 ghost use Rattle.geos_model.specs.Chain.{blocks_of, chain_blocks, copies_of, copy_conditions, free_conditions, new_handles, renamed_blocks};
 ghost use Rattle.geos_model.specs.Document.{handles_of};
 ghost use Rattle.geos_model.specs.declared.fault.Fault.TheVariants.{NoHandles, IsMap};
 ghost use Rattle.vm_blocks.specs.Changes.{Applies};
-ghost use Rattle.vm_blocks.specs.Keeping.{Keeps, IsSteady, Lacks};
+ghost use Rattle.vm_blocks.specs.Keeping.{Keeps, IsSteady, Lacks, is_full};
 ghost use Rattle.vm_file.specs.Members.{saved_blocks};
 ghost use Rattle.vm_blocks.specs.Preparing.{CanLeave};
 ghost use Rattle.vm_blocks.specs.declared.change.Change.TheVariants as changes;
@@ -26,6 +26,7 @@ pub fn copy_plan<S: Store>(
     blocks: &mut FileBlocks<S>,
     root: VmHandle,
 ) -> Result<Members, Fault>
+    requires room { is_full blocks.old ≡ false }
     ensures keeps { Keeps S.facts blocks.old blocks.new }
     ensures value { IsSteady S.facts blocks.old.disk.store
         → Answers (Lacks S.facts blocks.old.disk.store blocks.new.disk.store) (copy_conditions blocks.new.document root.0)
@@ -48,6 +49,7 @@ pub fn free_plan<S: Store>(
     blocks: &mut FileBlocks<S>,
     root: VmHandle,
 ) -> Result<Members, Fault>
+    requires room { is_full blocks.old ≡ false }
     ensures keeps { Keeps S.facts blocks.old blocks.new }
     ensures value { IsSteady S.facts blocks.old.disk.store
         → Answers (Lacks S.facts blocks.old.disk.store blocks.new.disk.store) (free_conditions blocks.new.document root.0)
@@ -76,7 +78,8 @@ fn saved<S: Store>(
     blocks: &mut FileBlocks<S>,
     handles: &[VmHandle],
 ) -> Result<Members, Fault>
-    requires { AreBlocks blocks.old.document handles.now }
+    requires room { is_full blocks.old ≡ false }
+    requires live { AreBlocks blocks.old.document handles.now }
     ensures keeps { Keeps S.facts blocks.old blocks.new }
     ensures value { IsSteady S.facts blocks.old.disk.store → IfOk result (λ plan. saved_blocks plan.list.items ≡ blocks_of blocks.new.document (numbers handles.now)) }
     ensures handles { IfOk result (λ plan. handles_of (saved_blocks plan.list.items) ≡ numbers handles.now) }
@@ -121,6 +124,7 @@ fn copies<S: Store>(
     handles: &[VmHandle],
     new: &[VmHandle],
 ) -> Result<Members, Fault>
+    requires room { is_full blocks.old ≡ false }
     requires live { AreBlocks blocks.old.document handles.now }
     requires members { IsSteady S.facts blocks.old.disk.store → AreMembers blocks.old.document handles.now }
     requires new { length handles.now ≡ length new.now }

@@ -1,8 +1,8 @@
-ghost use Rattle.std.specs.Prelude.{◌≡◌, ◌≤◌, true, IfOk, MatchResult, length};
+ghost use Rattle.std.specs.Prelude.{◌≡◌, ◌≤◌, true, false, IfOk, MatchResult, length};
 ghost use Rattle.geos_model.specs.Chain.{is_member, relinked};
 ghost use Rattle.geos_model.specs.Document.{block_at, is_live, is_raw, raw_bytes_of};
 ghost use Rattle.geos_model.specs.Heap.{capacity};
-ghost use Rattle.vm_blocks.specs.Keeping.{Keeps, IsSteady, Lacks};
+ghost use Rattle.vm_blocks.specs.Keeping.{Keeps, IsSteady, Lacks, is_full};
 ghost use Rattle.vm_file.specs.Members.{saved_block};
 ghost use Rattle.vm_chains.specs.Naming.{name_in};
 
@@ -18,6 +18,7 @@ use vm_store::Store;
 
 /// How many bytes it has.
 pub(crate) fn len_at<S: Store>(blocks: &mut FileBlocks<S>, handle: VmHandle) -> Result<usize, Fault>
+    requires room { is_full blocks.old ≡ false }
     requires live { is_live blocks.old.document handle.0 ≡ true }
     requires raw { IsSteady S.facts blocks.old.disk.store → is_raw blocks.old.document handle.0 ≡ true }
     ensures keeps { Keeps S.facts blocks.old blocks.new }
@@ -38,6 +39,7 @@ pub(crate) fn relinked_at<S: Store>(
     handle: VmHandle,
     names: &Names,
 ) -> Result<Vec<u8>, Fault>
+    requires room { is_full blocks.old ≡ false }
     requires live { is_live blocks.old.document handle.0 ≡ true }
     requires member { IsSteady S.facts blocks.old.disk.store → is_member blocks.old.document handle.0 ≡ true }
     ensures keeps { Keeps S.facts blocks.old blocks.new }
@@ -60,7 +62,8 @@ pub(crate) fn saved_at<S: Store>(
     blocks: &mut FileBlocks<S>,
     handle: VmHandle,
 ) -> Result<SavedBlock, Fault>
-    requires { is_live blocks.old.document handle.0 ≡ true }
+    requires room { is_full blocks.old ≡ false }
+    requires live { is_live blocks.old.document handle.0 ≡ true }
     ensures keeps { Keeps S.facts blocks.old blocks.new }
     ensures value { MatchResult result (λ saved. saved_block saved ≡ block_at blocks.new.document handle.0) (Lacks S.facts blocks.old.disk.store blocks.new.disk.store) }
 {

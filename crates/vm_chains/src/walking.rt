@@ -2,7 +2,7 @@ ghost use Rattle.std.specs.Prelude.{◌≡◌, ◌⊎◌, None, Some, true, fals
 ghost use Rattle.geos_model.specs.Chain.{chain, is_member, on_chain};
 ghost use Rattle.geos_model.specs.Document.{is_raw};
 ghost use Rattle.geos_model.specs.declared.fault.Fault.TheVariants.{BadChain};
-ghost use Rattle.vm_blocks.specs.Keeping.{Keeps, IsSteady, Lacks};
+ghost use Rattle.vm_blocks.specs.Keeping.{Keeps, IsSteady, Lacks, is_full};
 ghost use Rattle.vm_blocks.specs.Kinds.{IsOfOther};
 ghost use Rattle.vm_chains.specs.Answers.{Answers, IsWalkRefusal};
 ghost use Rattle.vm_chains.specs.Numbers.{numbers};
@@ -22,6 +22,7 @@ pub fn walk<S: Store>(
     blocks: &mut FileBlocks<S>,
     root: VmHandle,
 ) -> Result<Vec<VmHandle>, Fault>
+    requires room { is_full blocks.old ≡ false }
     ensures keeps { Keeps S.facts blocks.old blocks.new }
     ensures value { IsSteady S.facts blocks.old.disk.store
         → Answers (Lacks S.facts blocks.old.disk.store blocks.new.disk.store) (on_chain blocks.new.document root.0) (λ handles. chain blocks.new.document root.0 ≡ Some (numbers handles.items)) result }
@@ -34,8 +35,8 @@ pub fn walk<S: Store>(
     walk_from(alloc, blocks, root)
 }
 
-/// NoBlock where no block is there, WrongKind where a heap is. No block is looked into for it.
-pub(crate) fn test_root<S: Store>(blocks: &FileBlocks<S>, root: VmHandle) -> Result<(), Fault>
+/// Tests the root of a chain: NoBlock where no block is there, WrongKind where a heap is. No block is looked into.
+pub fn test_root<S: Store>(blocks: &FileBlocks<S>, root: VmHandle) -> Result<(), Fault>
     ensures { MatchResult result (λ _. is_raw blocks.now.document root.0 ≡ true) (IsOfOther is_raw blocks.now.document root.0) }
 {
     if !blocks.is_live(root) {
@@ -53,6 +54,7 @@ pub(crate) fn walk_from<S: Store>(
     blocks: &mut FileBlocks<S>,
     root: VmHandle,
 ) -> Result<Vec<VmHandle>, Fault>
+    requires room { is_full blocks.old ≡ false }
     ensures keeps { Keeps S.facts blocks.old blocks.new }
     ensures value { IsSteady S.facts blocks.old.disk.store → MatchResult result
         (λ handles. chain blocks.new.document root.0 ≡ Some (numbers handles.items))
@@ -89,6 +91,7 @@ fn follow<S: Store>(
     handle: VmHandle,
     pending: &mut Pending,
 ) -> Result<(), Fault>
+    requires room { is_full blocks.old ≡ false }
     ensures keeps { Keeps S.facts blocks.old blocks.new }
     ensures value { MatchResult result
         (λ _. GoesOn blocks.new.document handle.0 pending.old pending.new)

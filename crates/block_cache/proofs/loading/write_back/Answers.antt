@@ -40,8 +40,8 @@ returns-in_ok-put_blocks-in-Some-clause-moves g c =
     let now = now_held es h f c.mark.new.frames c.args.frames.now.cap b.here c.mark.ensures in
     record {
       passes = c.in_ok-put_blocks-in-Some.ensures.keeps.passes;
-      drifts = written honest es d h f (record f { changed = false }) c.mark.new.frames.entries e c.requires.kept b.here refl now drifts;
-      kept = kept_passes facts c.args.file.now c.put_blocks.new.self c.mark.new.frames.entries c.in_ok-put_blocks-in-Some.ensures.keeps.passes (written_kept honest es d h f (record f { changed = false }) c.mark.new.frames.entries e c.requires.kept b.here refl now drifts);
+      drifts = written honest es d h f (record f { changed = false }) c.mark.new.frames.entries e c.requires.kept b.here refl refl now drifts;
+      kept = kept_passes facts c.args.file.now c.put_blocks.new.self c.mark.new.frames.entries c.in_ok-put_blocks-in-Some.ensures.keeps.passes (written_kept honest es d h f (record f { changed = false }) c.mark.new.frames.entries e c.requires.kept b.here refl refl now drifts);
     }
 
 pub returns-in_ok-put_blocks-in-Some-clause-seats : goal.returns-in_ok-put_blocks-in-Some-clause-seats

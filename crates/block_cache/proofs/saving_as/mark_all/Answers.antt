@@ -26,7 +26,7 @@ loop-block-preserved c =
     let is = c.mark_one.ensures.entries in
     record {
       shown = λ d. ap (λ (x : LruCache ℕ Frame). overlay x.entries d) is ∙ overlay_with_frame es b marked (λ f. refl) d ∙ l.invariant.shown d;
-      kept = λ honest d kept. subst (λ (x : LruCache ℕ Frame). AreKept honest d x.entries) (sym is) (kept_with_frame es b marked (λ f. refl) honest d (λ f wrong. absurd (cc wrong)) (l.invariant.kept honest d kept));
+      kept = λ honest d kept. subst (λ (x : LruCache ℕ Frame). AreKept honest d x.entries) (sym is) (kept_with_frame es b marked (λ f. refl) honest d (λ f is few. few) (λ f wrong. absurd (cc wrong)) (l.invariant.kept honest d kept));
       marked = λ q f low at.
           let now : held (with_frame es b marked) q ≡ Some f = sym (ap (λ (x : LruCache ℕ Frame). held x.entries q) is) ∙ at in
           elim (cases_eq q b) as (λ _. f.changed ≡ true) [
@@ -63,6 +63,7 @@ returns-clause-kept c = λ honest d handles kept.
           let high = is_low h (handles h was.live) in
           record {
             live = was.live;
+            few = was.few;
             kind = λ same. let set : f.changed ≡ true = l.invariant.marked h f (omega (arith, high)) is in absurd (cc (set, same));
             clean = λ so same. let set : f.changed ≡ true = l.invariant.marked h f (omega (arith, high)) is in absurd (cc (set, same));
           };

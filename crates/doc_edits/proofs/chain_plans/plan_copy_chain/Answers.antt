@@ -1,8 +1,31 @@
-use Rattle.std.proofs.Common.{ap, ◌∙◌}
+use Rattle.std.proofs.Common.{refl, ap, ◌∙◌, inl, inr}
 use Rattle.std.proofs.lemmas.List.{get_or_read}
 use Rattle.vm_file.specs.declared.member.Member.{Member}
-use Rattle.doc_edits.proofs.ChainPlans.{first_copy, copy_planned}
+use Rattle.geos_model.specs.Meaning.{conditions}
+use Rattle.geos_model.specs.declared.command.Edit.TheVariants as edits
+use Rattle.vm_blocks.specs.Keeping.{is_full}
+use Rattle.vm_blocks.proofs.KeepingLaws.{keeps-refl}
+use Rattle.doc_edits.proofs.ChainPlans.{copy_planned, copy_refused, first_copy, where_full}
+use Rattle.doc_edits.proofs.Refusals.{carried, carried_so}
 use Rattle.doc_edits.proofs.chain_plans.plan_copy_chain.Goals as goal
+
+pub returns-in_err-test_chain-clause-keeps : goal.returns-in_err-test_chain-clause-keeps
+returns-in_err-test_chain-clause-keeps g c = keeps-refl g.S.Store.facts c.args.blocks.now
+
+pub returns-in_err-test_chain-clause-planned : goal.returns-in_err-test_chain-clause-planned
+returns-in_err-test_chain-clause-planned g c = λ steady.
+    let a = c.args.blocks.now in let fault = c.in_err-test_chain.field-0.0 in
+    carried c.from_residual.result _ _ fault c.from_residual.ensures.1 (inr (copy_refused a.document c.args.root (is_full a) fault c.in_err-test_chain.ensures.value))
+
+pub returns-in_err-test_chain-clause-shut : goal.returns-in_err-test_chain-clause-shut
+returns-in_err-test_chain-clause-shut g c = λ full.
+    let a = c.args.blocks.now in let fault = c.in_err-test_chain.field-0.0 in
+    (refl, carried_so c.from_residual.result _ fault c.from_residual.ensures.1 (where_full (conditions (edits.CopyChain c.args.root) a.document) (is_full a) fault full (copy_refused a.document c.args.root (is_full a) fault c.in_err-test_chain.ensures.value)))
+
+pub returns-in_err-test_chain-clause-refusals : goal.returns-in_err-test_chain-clause-refusals
+returns-in_err-test_chain-clause-refusals g c =
+    let a = c.args.blocks.now in let fault = c.in_err-test_chain.field-0.0 in
+    carried_so c.from_residual.result _ fault c.from_residual.ensures.1 (inl (inr (copy_refused a.document c.args.root (is_full a) fault c.in_err-test_chain.ensures.value)))
 
 pub returns-clause-planned : goal.returns-clause-planned
 returns-clause-planned g c = λ steady.

@@ -1,11 +1,11 @@
 use Rattle.std.proofs.Common.{refl}
 use Rattle.geos_model.specs.declared.command.Command.TheVariants as commands
-use Rattle.vm_blocks.specs.Keeping.{Lacks}
+use Rattle.vm_blocks.specs.Keeping.{Lacks, is_shut_out}
 use Rattle.doc_edits.proofs.LookUps.{refused_so}
 use Rattle.doc_edits.proofs.look_ups.array_element.Goals as goal
 
 pub returns-in_err-bytes : goal.returns-in_err-bytes
 returns-in_err-bytes g c =
     let loaded = c.chunk_at.follows.lender-at-none in
-    let value = refused_so (Lacks g.S.Store.facts c.args.blocks.now.disk.store loaded.disk.store) loaded.document c.args.block c.args.chunk (λ bytes. bytes.now) c.chunk_at.result c.chunk_at.follows.holds-at-none.1 (commands.ArrayElement c.args.block c.args.chunk c.args.i) _ c.from_residual.result _ c.in_err-bytes.was refl c.from_residual.ensures.1 in
+    let value = refused_so (Lacks g.S.Store.facts c.args.blocks.now.disk.store loaded.disk.store) (is_shut_out c.args.blocks.now c.args.block.0) loaded.document c.args.block c.args.chunk (λ bytes. bytes.now) c.chunk_at.result c.chunk_at.follows.holds-at-none.1 (commands.ArrayElement c.args.block c.args.chunk c.args.i) _ c.from_residual.result _ c.in_err-bytes.was refl c.from_residual.ensures.1 in
     ((refl, (λ _. tt), (c.chunk_at.follows.holds-at-none.0, value)), record { leaves = tt })

@@ -1,7 +1,9 @@
-use Rattle.std.proofs.Common.{◌≡◌, true, false}
+use Rattle.std.proofs.Common.{◌≡◌, true, false, sym, ◌∙◌}
+use Rattle.geos_model.specs.Machine.{edit_needs}
 use Rattle.vm_blocks.specs.Keeping.{Lacks}
 use Rattle.vm_blocks.proofs.KeepingLaws.{lacks-memory}
-use Rattle.doc_edits.specs.Planning.{IsMemory, Refuses}
+use Rattle.doc_edits.specs.Planning.{RefusesAtHand}
+use Rattle.doc_edits.specs.Room.{has_no_room}
 use Rattle.doc_edits.proofs.Planned.{ready, refused_so}
 use Rattle.doc_edits.proofs.Refusals.{may_lack}
 use Rattle.doc_edits.proofs.planning.plan_of_block.Goals as goal
@@ -11,14 +13,14 @@ returns-in_err-load_wanted-clause-plain g c = λ plain. let no : false ≡ true 
 
 pub returns-clause-planned : goal.returns-clause-planned
 returns-clause-planned g c =
-    let loaded = c.load_wanted.new.blocks in
-    may_lack (Lacks g.S.Store.facts c.args.blocks.now.disk.store loaded.disk.store) c.args.edit.now loaded.document _ c.plan_loaded.result (lacks-memory g.S.Store.facts c.args.blocks.now.disk.store loaded.disk.store) c.plan_loaded.ensures
+    let a = c.args.blocks.now in let loaded = c.load_wanted.new.blocks in
+    may_lack (Lacks g.S.Store.facts a.disk.store loaded.disk.store) (has_no_room a (edit_needs c.args.edit.now)) c.args.edit.now loaded.document _ c.plan_loaded.result c.in_ok-load_wanted.ensures.room (lacks-memory g.S.Store.facts a.disk.store loaded.disk.store) c.plan_loaded.ensures.planned
 
 pub returns-clause-ready : goal.returns-clause-ready
 returns-clause-ready g c =
     let loaded = c.load_wanted.new.blocks in
-    ready loaded c.args.edit.now (Refuses IsMemory c.args.edit.now loaded.document) c.plan_loaded.result c.plan_loaded.ensures c.in_ok-load_wanted.ensures.ok
+    ready loaded c.args.edit.now (RefusesAtHand c.args.edit.now loaded.document) c.plan_loaded.result c.plan_loaded.ensures.planned c.in_ok-load_wanted.ensures.ok
 
 pub returns-clause-plain : goal.returns-clause-plain
 returns-clause-plain g c = λ plain.
-    ((c.in_ok-load_wanted.ensures.plain plain).1, refused_so c.plan_loaded.result _ (Refuses IsMemory c.args.edit.now c.load_wanted.new.blocks.document) c.plan_loaded.ensures)
+    ((c.in_ok-load_wanted.ensures.plain plain).1, refused_so c.plan_loaded.result _ (RefusesAtHand c.args.edit.now c.load_wanted.new.blocks.document) c.plan_loaded.ensures.planned)

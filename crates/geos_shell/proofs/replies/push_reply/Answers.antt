@@ -1,5 +1,7 @@
+use Rattle.std.proofs.Common.{◌≡◌, true, refl, rules}
+use Rattle.geos_shell.specs.Replies.{is_look_up}
 use Rattle.geos_shell.proofs.Replying.{extends_told, replied, replied_told}
-use Rattle.geos_shell.proofs.Serving.{serves_passing, serves_commit, told_as_accepted}
+use Rattle.geos_shell.proofs.Serving.{lock_passes, serves_at_rest, serves_commit, serves_passing, told_as_accepted}
 use Rattle.geos_shell.proofs.replies.push_reply.Goals as goal
 
 -- Edits, and undo and redo, commit nothing.
@@ -9,11 +11,11 @@ returns-in-Edit-clause-replied g c = λ exact.
 
 pub returns-in-Undo-clause-replied : goal.returns-in-Undo-clause-replied
 returns-in-Undo-clause-replied g c = λ exact.
-    rw c.in-Undo.is (replied g.S.Store.facts c.push_accepted.result _ _ _ _ _ _ (serves_passing g.S.Store.facts _ _ _ _ _ _ c.undo.ensures.passes c.undo.ensures.step (λ nothing. nothing) (λ is. let taken = c.undo.ensures.sure is in (told_as_accepted _ taken.0, taken.1)) exact) c.push_accepted.ensures.ok)
+    rw c.in-Undo.is (replied g.S.Store.facts c.push_accepted.result _ _ _ _ _ _ (serves_passing g.S.Store.facts _ _ _ _ _ _ c.undo.ensures.passes c.undo.ensures.step (λ nothing. nothing) (λ free is. let taken = c.undo.ensures.sure free is in (told_as_accepted _ taken.0, taken.1)) exact) c.push_accepted.ensures.ok)
 
 pub returns-in-Redo-clause-replied : goal.returns-in-Redo-clause-replied
 returns-in-Redo-clause-replied g c = λ exact.
-    rw c.in-Redo.is (replied g.S.Store.facts c.push_accepted-in-Redo.result _ _ _ _ _ _ (serves_passing g.S.Store.facts _ _ _ _ _ _ c.redo.ensures.passes c.redo.ensures.step (λ nothing. nothing) (λ is. let taken = c.redo.ensures.sure is in (told_as_accepted _ taken.0, taken.1)) exact) c.push_accepted-in-Redo.ensures.ok)
+    rw c.in-Redo.is (replied g.S.Store.facts c.push_accepted-in-Redo.result _ _ _ _ _ _ (serves_passing g.S.Store.facts _ _ _ _ _ _ c.redo.ensures.passes c.redo.ensures.step (λ nothing. nothing) (λ free is. let taken = c.redo.ensures.sure free is in (told_as_accepted _ taken.0, taken.1)) exact) c.push_accepted-in-Redo.ensures.ok)
 
 -- Commits.
 pub returns-in-Update-clause-replied : goal.returns-in-Update-clause-replied
@@ -35,13 +37,30 @@ pub returns-in-SaveAs-clause-replied : goal.returns-in-SaveAs-clause-replied
 returns-in-SaveAs-clause-replied g c = λ exact.
     rw c.in-SaveAs.is (replied g.S.Store.facts c.push_accepted-in-SaveAs.result _ _ _ _ _ _ (c.save_as.ensures exact) c.push_accepted-in-SaveAs.ensures.ok)
 
--- So do look-ups.
+-- A lock may bring the block into memory; to take one away, or to use one, calls no store.
+
+pub returns-in-Lock-clause-replied : goal.returns-in-Lock-clause-replied
+returns-in-Lock-clause-replied g c = λ exact.
+    let done = c.lock.ensures in
+    rw c.in-Lock.is (replied g.S.Store.facts c.push_accepted-in-Lock.result _ _ _ _ _ _ (serves_passing g.S.Store.facts _ _ _ _ _ _ (lock_passes g.S.Store.facts _ _ _ c.lock.result done.ok done.err) done.step (λ nothing. nothing) tt exact) c.push_accepted-in-Lock.ensures.ok)
+
+pub returns-in-Unlock-clause-replied : goal.returns-in-Unlock-clause-replied
+returns-in-Unlock-clause-replied g c = λ exact.
+    let done = c.unlock.ensures in
+    rw c.in-Unlock.is (replied g.S.Store.facts c.push_accepted-in-Unlock.result _ _ _ _ _ _ (serves_at_rest g.S.Store.facts _ _ _ _ _ _ done.same done.step (λ stays. stays) tt exact) c.push_accepted-in-Unlock.ensures.ok)
+
+pub returns-in-Dirty-clause-replied : goal.returns-in-Dirty-clause-replied
+returns-in-Dirty-clause-replied g c = λ exact.
+    let done = c.dirty.ensures in
+    rw c.in-Dirty.is (replied g.S.Store.facts c.push_accepted-in-Dirty.result _ _ _ _ _ _ (serves_at_rest g.S.Store.facts _ _ _ _ _ _ (rw done.same refl) done.step (λ stays. stays) tt exact) c.push_accepted-in-Dirty.ensures.ok)
+
+-- Look-ups commit nothing.
 
 pub returns-in_default-clause-replied : goal.returns-in_default-clause-replied
 returns-in_default-clause-replied g c =
-    let other = c.in_default in
     let asked = c.push_look_up.ensures in
-    replied_told g.S.Store.facts c.push_look_up.result c.args.session.now c.push_look_up.new.session c.args.target.now c.args.former.now c.args.command.now _ _ other.not-Undo other.not-Redo other.not-Update other.not-Save other.not-Revert other.not-SaveAs asked.stays asked.told
+    let asks : is_look_up c.args.command.now ≡ true = search rules in
+    replied_told g.S.Store.facts c.push_look_up.result c.args.session.now c.push_look_up.new.session c.args.target.now c.args.former.now c.args.command.now _ _ asks asked.stays asked.told
 
 pub returns-in_default-clause-ok : goal.returns-in_default-clause-ok
 returns-in_default-clause-ok g c =

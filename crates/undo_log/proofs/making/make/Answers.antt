@@ -2,8 +2,8 @@ use Rattle.std.proofs.Common.{inl, sym, subst}
 use Rattle.std.specs.Prelude.{OnErr}
 use Rattle.std.proofs.lemmas.Result.{err_from_is_err_and}
 use Rattle.vm_blocks.specs.Keeping.{Keeps}
-use Rattle.vm_blocks.proofs.KeepingLaws.{honest-steady, keeps-trans}
-use Rattle.undo_log.proofs.Edited.{made_of_plan, unready_lacks}
+use Rattle.vm_blocks.proofs.KeepingLaws.{honest-steady, keeps-locks, keeps-trans}
+use Rattle.undo_log.proofs.Edited.{made_of_plan, unlocked_change, unready_lacks}
 use Rattle.undo_log.proofs.making.make.Goals as goal
 
 pub returns-in_err-change-clause-rules : goal.returns-in_err-change-clause-rules
@@ -20,16 +20,21 @@ pub returns-in_err-change-2-clause-refusals : goal.returns-in_err-change-2-claus
 returns-in_err-change-2-clause-refusals g c =
     let p = err_from_is_err_and c.from_residual-in_err-change-2.result c.from_residual-in_err-change-2.ensures.1 in
     rw (p.1, p.2) (inl (inl (unready_lacks g.S.Store.facts c.args.blocks.now c.plan.new.blocks c.plan.ensures.keeps c.in_ok-change.change c.change.new.self c.in_err-change-2.field-0.0
-    c.in_ok-change.ensures.ready.takes c.in_err-change-2.ensures.refusals)))
+    c.in_ok-change.ensures.ready.takes c.in_ok-change.ensures.ready.at_hand c.validity.ensures.few c.in_err-change-2.ensures.refusals)))
 
 pub returns-in_err-change-2-clause-rules : goal.returns-in_err-change-2-clause-rules
 returns-in_err-change-2-clause-rules g c = λ so.
     let p = err_from_is_err_and c.from_residual-in_err-change-2.result c.from_residual-in_err-change-2.ensures.1 in
     rw (p.1, p.2) (inl (unready_lacks g.S.Store.facts c.args.blocks.now c.plan.new.blocks c.plan.ensures.keeps c.in_ok-change.change c.change.new.self c.in_err-change-2.field-0.0
-    c.in_ok-change.ensures.ready.takes c.in_err-change-2.ensures.refusals))
+    c.in_ok-change.ensures.ready.takes c.in_ok-change.ensures.ready.at_hand c.validity.ensures.few c.in_err-change-2.ensures.refusals))
 
 pub returns-clause-ok : goal.returns-clause-ok
 returns-clause-ok g c =
     let plan = c.in_ok-change.ensures in
-    made_of_plan g.S.Store.facts c.args.blocks.now c.plan.new.blocks c.plan.ensures.keeps c.args.edit.now c.in_ok-change.change c.in_ok-change.done c.change.new.self plan.ready plan.kind
+    made_of_plan g.S.Store.facts c.args.blocks.now c.plan.new.blocks c.plan.ensures.keeps c.args.edit.now c.in_ok-change.change c.in_ok-change.done c.change.new.self plan.ready plan.room plan.kind
     (λ so. plan.planned (λ _. honest-steady g.S.Store.facts c.args.blocks.now.disk.store so)) c.in_ok-change-2.ensures.ok
+
+pub change-requires-clause-unlocked : goal.change-requires-clause-unlocked
+change-requires-clause-unlocked g c =
+    let plan = c.in_ok-change.ensures in
+    unlocked_change c.args.edit.now c.in_ok-change.change c.args.blocks.now.resident c.plan.new.blocks.resident (keeps-locks g.S.Store.facts c.args.blocks.now c.plan.new.blocks c.plan.ensures.keeps) c.requires.unlocked plan.kind plan.alone

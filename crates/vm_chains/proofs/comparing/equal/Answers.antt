@@ -12,8 +12,8 @@ use Rattle.vm_chains.specs.Answers.{IsWalkRefusal, Refuses}
 use Rattle.vm_chains.specs.Numbers.{numbers}
 use Rattle.vm_chains.specs.Walking.{AreBlocks, AreMembers, Stops}
 use Rattle.vm_chains.proofs.ChainLemmas.{blocks_are}
-use Rattle.vm_chains.proofs.Loading.{carried, carried_so, still, still_blocks}
-use Rattle.vm_chains.proofs.Refusals.{answers, two_stop, two_whole}
+use Rattle.vm_chains.proofs.Loading.{carried, carried_so, still, still_blocks, still_room}
+use Rattle.vm_chains.proofs.Refusals.{answers, of_chain, two_stop, two_whole}
 use Rattle.vm_chains.proofs.comparing.equal.Goals as goal
 
 abbrev AreRaw : ℕ → ℕ → Document → Type 0
@@ -43,7 +43,7 @@ pub returns-in_err-test_roots-clause-value : goal.returns-in_err-test_roots-clau
 returns-in_err-test_roots-clause-value g c = λ steady. carried c.from_residual.result c.in_err-test_roots.field-0.0 _ _ c.from_residual.ensures.1 (inr c.in_err-test_roots.ensures.value)
 
 pub returns-in_err-test_roots-clause-refusals : goal.returns-in_err-test_roots-clause-refusals
-returns-in_err-test_roots-clause-refusals g c = carried_so c.from_residual.result c.in_err-test_roots.field-0.0 _ c.from_residual.ensures.1 (inr c.in_err-test_roots.ensures.refusals)
+returns-in_err-test_roots-clause-refusals g c = carried_so c.from_residual.result c.in_err-test_roots.field-0.0 _ c.from_residual.ensures.1 (inr (of_chain c.in_err-test_roots.field-0.0 c.in_err-test_roots.ensures.refusals))
 
 pub returns-in_err-first-clause-value : goal.returns-in_err-first-clause-value
 returns-in_err-first-clause-value g c = λ steady.
@@ -59,6 +59,9 @@ pub returns-in_err-first-clause-refusals : goal.returns-in_err-first-clause-refu
 returns-in_err-first-clause-refusals g c =
     carried_so c.from_residual-in_err-first.result c.in_err-first.field-0.0 _ c.from_residual-in_err-first.ensures.1
     (stop_fault g.S.Store.facts c.args.blocks.now c.args.blocks.now c.walk_from.new.blocks c.in_err-first.field-0.0 (keeps-refl g.S.Store.facts c.args.blocks.now) c.in_err-first.ensures.refusals)
+
+pub walk_from-requires-2 : goal.walk_from-requires-2
+walk_from-requires-2 g c = record { room = still_room g.S.Store.facts c.args.blocks.now c.walk_from.new.blocks c.walk_from.ensures.keeps c.requires.room }
 
 pub returns-in_err-second-clause-keeps : goal.returns-in_err-second-clause-keeps
 returns-in_err-second-clause-keeps g c =
@@ -82,6 +85,11 @@ returns-in_err-second-clause-refusals g c =
     let a = c.args.blocks.now in let u = c.walk_from.new.blocks in
     carried_so c.from_residual-in_err-second.result c.in_err-second.field-0.0 _ c.from_residual-in_err-second.ensures.1
     (stop_fault g.S.Store.facts a u c.walk_from-2.new.blocks c.in_err-second.field-0.0 c.walk_from.ensures.keeps c.in_err-second.ensures.refusals)
+
+pub same_shape-requires-clause-room : goal.same_shape-requires-clause-room
+same_shape-requires-clause-room g c =
+    let a = c.args.blocks.now in let u = c.walk_from.new.blocks in let v = c.walk_from-2.new.blocks in
+    still_room g.S.Store.facts a v (keeps-trans g.S.Store.facts a u v c.walk_from.ensures.keeps c.walk_from-2.ensures.keeps) c.requires.room
 
 pub same_shape-requires-clause-first : goal.same_shape-requires-clause-first
 same_shape-requires-clause-first g c =

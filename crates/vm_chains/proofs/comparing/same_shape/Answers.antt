@@ -9,7 +9,7 @@ use Rattle.vm_blocks.proofs.KeepingLaws.{keeps-refl, keeps-same, keeps-trans, la
 use Rattle.vm_chains.specs.Naming.{name_in, place_in}
 use Rattle.vm_chains.specs.declared.names.Names.{Names}
 use Rattle.vm_chains.specs.Numbers.{numbers}
-use Rattle.vm_chains.proofs.Loading.{carried_so, still_live, still_then}
+use Rattle.vm_chains.proofs.Loading.{carried_so, still_live, still_room, still_then}
 use Rattle.vm_chains.proofs.ShapeLemmas.{same_from, same_next}
 use Rattle.vm_chains.proofs.comparing.same_shape.Goals as goal
 
@@ -38,6 +38,9 @@ returns-in_err-second_places-clause-refusals g c = carried_so c.from_residual-in
 pub loop-i-init : goal.loop-i-init
 loop-i-init g c = record { rest = λ steady. refl; keeps = keeps-refl g.S.Store.facts c.args.blocks.now }
 
+pub relinked_at-requires-clause-room : goal.relinked_at-requires-clause-room
+relinked_at-requires-clause-room g c = still_room g.S.Store.facts c.args.blocks.now c.loop-i.blocks c.loop-i.invariant.keeps c.requires.room
+
 pub relinked_at-requires-clause-live : goal.relinked_at-requires-clause-live
 relinked_at-requires-clause-live g c =
     still_live g.S.Store.facts c.args.blocks.now c.loop-i.blocks c.loop-i.invariant.keeps (get_or c.args.first.now c.loop-i.i no_handle).0 (c.requires.first.live c.loop-i.i no_handle (omega arith))
@@ -54,6 +57,11 @@ pub returns-in_err-mine-clause-refusals : goal.returns-in_err-mine-clause-refusa
 returns-in_err-mine-clause-refusals g c =
     carried_so c.from_residual-in_err-mine.result c.in_err-mine.field-0.0 _ c.from_residual-in_err-mine.ensures.1
     (lacks-later g.S.Store.facts c.args.blocks.now c.loop-i.blocks c.relinked_at.new.blocks.disk.store c.in_err-mine.field-0.0 c.loop-i.invariant.keeps c.in_err-mine.ensures.value)
+
+pub relinked_at-requires-in-loop-i-clause-room : goal.relinked_at-requires-in-loop-i-clause-room
+relinked_at-requires-in-loop-i-clause-room g c =
+    let keeps = keeps-trans g.S.Store.facts c.args.blocks.now c.loop-i.blocks c.relinked_at.new.blocks c.loop-i.invariant.keeps c.relinked_at.ensures.keeps in
+    still_room g.S.Store.facts c.args.blocks.now c.relinked_at.new.blocks keeps c.requires.room
 
 pub relinked_at-requires-in-loop-i-clause-live : goal.relinked_at-requires-in-loop-i-clause-live
 relinked_at-requires-in-loop-i-clause-live g c =

@@ -3,7 +3,7 @@ use Rattle.geos_model.specs.Chain.{bytes_in, on_chain}
 use Rattle.vm_blocks.proofs.KeepingLaws.{keeps-refl, keeps-trans}
 use Rattle.vm_chains.specs.Answers.{IsChainFault}
 use Rattle.vm_chains.specs.Walking.{AreBlocks}
-use Rattle.vm_chains.proofs.Loading.{carried, carried_so}
+use Rattle.vm_chains.proofs.Loading.{carried, carried_so, still_room}
 use Rattle.vm_chains.proofs.Walked.{members_on, read_on, refused_on}
 use Rattle.vm_chains.proofs.measuring.size.Goals as goal
 
@@ -12,6 +12,9 @@ returns-in_err-handles-clause-value g c = λ steady. carried c.from_residual.res
 
 pub returns-in_err-handles-clause-refusals : goal.returns-in_err-handles-clause-refusals
 returns-in_err-handles-clause-refusals g c = carried_so c.from_residual.result c.in_err-handles.field-0.0 _ c.from_residual.ensures.1 c.in_err-handles.ensures.refusals
+
+pub total_len-requires-clause-room : goal.total_len-requires-clause-room
+total_len-requires-clause-room g c = still_room g.S.Store.facts c.args.blocks.now c.walk.new.blocks c.walk.ensures.keeps c.requires.room
 
 pub total_len-requires-clause-live : goal.total_len-requires-clause-live
 total_len-requires-clause-live g c = subst (AreBlocks c.walk.new.blocks.document) (sym c.deref.ensures.value) c.in_ok-handles.ensures.live

@@ -7,7 +7,7 @@ use Rattle.geos_model.specs.Document.{Document, is_raw, raw_bytes_of}
 use Rattle.geos_model.specs.declared.handle.VmHandle.{VmHandle}
 use Rattle.vm_blocks.proofs.KeepingLaws.{keeps-refl, keeps-same, keeps-trans, lacks-later}
 use Rattle.vm_chains.specs.Numbers.{numbers}
-use Rattle.vm_chains.proofs.Loading.{carried_so, still_live, still_then}
+use Rattle.vm_chains.proofs.Loading.{carried_so, still_live, still_room, still_then}
 use Rattle.vm_chains.proofs.WalkLemmas.{member_raw}
 use Rattle.vm_chains.proofs.measuring.total_len.Goals as goal
 
@@ -17,6 +17,9 @@ sum_numbers f (h ∷ hs) = sum_by-cons (λ (x : VmHandle). f x.0) h hs ∙ ap (�
 
 pub loop-handle-init : goal.loop-handle-init
 loop-handle-init g c = record { total = λ steady. refl; small = omega arith; keeps = keeps-refl g.S.Store.facts c.args.blocks.now }
+
+pub len_at-requires-clause-room : goal.len_at-requires-clause-room
+len_at-requires-clause-room g c = still_room g.S.Store.facts c.args.blocks.now c.loop-handle.blocks c.loop-handle.invariant.keeps c.requires.room
 
 pub len_at-requires-clause-live : goal.len_at-requires-clause-live
 len_at-requires-clause-live g c =

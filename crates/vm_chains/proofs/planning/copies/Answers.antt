@@ -12,7 +12,7 @@ use Rattle.vm_file.specs.declared.member.Member.{Member}
 use Rattle.vm_blocks.proofs.KeepingLaws.{keeps-refl, keeps-same, keeps-trans, lacks-later, lacks-memory}
 use Rattle.vm_chains.proofs.CopyLemmas.{copies_from, copies_more}
 use Rattle.vm_chains.proofs.ChainLemmas.{renamed_block}
-use Rattle.vm_chains.proofs.Loading.{carried_so, still_live, still_then}
+use Rattle.vm_chains.proofs.Loading.{carried_so, still_live, still_room, still_then}
 use Rattle.vm_chains.proofs.Planned.{handles_more}
 use Rattle.vm_chains.proofs.planning.copies.Goals as goal
 
@@ -34,6 +34,9 @@ loop-i-init g c =
       many = ap (λ (ms : List Member). length ms) nothing;
       keeps = keeps-refl g.S.Store.facts c.args.blocks.now;
     }
+
+pub relinked_at-requires-clause-room : goal.relinked_at-requires-clause-room
+relinked_at-requires-clause-room g c = still_room g.S.Store.facts c.args.blocks.now c.loop-i.blocks c.loop-i.invariant.keeps c.requires.room
 
 pub relinked_at-requires-clause-live : goal.relinked_at-requires-clause-live
 relinked_at-requires-clause-live g c =

@@ -14,7 +14,7 @@ use Rattle.vm_chains.specs.Numbers.{numbers}
 use Rattle.vm_chains.specs.Walking.{AreBlocks}
 use Rattle.vm_chains.proofs.Carrying.{copy_applies, copy_some}
 use Rattle.vm_chains.proofs.ChainLemmas.{blocks_are}
-use Rattle.vm_chains.proofs.Loading.{carried, carried_so}
+use Rattle.vm_chains.proofs.Loading.{carried, carried_so, still_room}
 use Rattle.vm_chains.proofs.Refusals.{by_handles, copy_refused}
 use Rattle.vm_chains.proofs.Walked.{members_on, read_on, refused_on}
 use Rattle.vm_chains.proofs.planning.copy_plan.Goals as goal
@@ -55,6 +55,9 @@ returns-in_err-new-clause-value g c = λ steady. carried c.from_residual-in_err-
 
 pub returns-in_err-new-clause-refusals : goal.returns-in_err-new-clause-refusals
 returns-in_err-new-clause-refusals g c = carried_so c.from_residual-in_err-new.result Memory _ c.from_residual-in_err-new.ensures.1 (inl (lacks-memory g.S.Store.facts c.args.blocks.now.disk.store c.walk.new.blocks.disk.store))
+
+pub copies-requires-clause-room : goal.copies-requires-clause-room
+copies-requires-clause-room g c = still_room g.S.Store.facts c.args.blocks.now c.walk.new.blocks c.walk.ensures.keeps c.requires.room
 
 pub copies-requires-clause-live : goal.copies-requires-clause-live
 copies-requires-clause-live g c = subst (AreBlocks c.walk.new.blocks.document) (sym c.deref.ensures.value) c.in_ok-handles.ensures.live

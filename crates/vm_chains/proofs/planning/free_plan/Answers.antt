@@ -12,7 +12,7 @@ use Rattle.vm_chains.specs.Numbers.{numbers}
 use Rattle.vm_chains.specs.Walking.{AreBlocks}
 use Rattle.vm_chains.proofs.ChainLemmas.{blocks_are}
 use Rattle.vm_chains.proofs.Carrying.{free_applies, free_leaves}
-use Rattle.vm_chains.proofs.Loading.{carried, carried_so}
+use Rattle.vm_chains.proofs.Loading.{carried, carried_so, still_room}
 use Rattle.vm_chains.proofs.Refusals.{by_map, free_refused}
 use Rattle.vm_chains.proofs.Walked.{read_on, refused_on}
 use Rattle.vm_chains.proofs.planning.free_plan.Goals as goal
@@ -47,8 +47,11 @@ returns-then-contains-clause-value g c = λ steady.
     let walked = c.in_ok-handles.ensures.value steady in
     inr (by_map d root true (found d root c.map_block.result.0 c.in_ok-handles.handles.items c.deref.result.now c.contains.result walked.1 c.deref.ensures.value c.map_block.ensures c.contains.ensures ∙ c.if-contains.true) walked.0)
 
-pub saved-requires : goal.saved-requires
-saved-requires g c = subst (AreBlocks c.walk.new.blocks.document) (sym c.deref-2.ensures.value) c.in_ok-handles.ensures.live
+pub saved-requires-clause-room : goal.saved-requires-clause-room
+saved-requires-clause-room g c = still_room g.S.Store.facts c.args.blocks.now c.walk.new.blocks c.walk.ensures.keeps c.requires.room
+
+pub saved-requires-clause-live : goal.saved-requires-clause-live
+saved-requires-clause-live g c = subst (AreBlocks c.walk.new.blocks.document) (sym c.deref-2.ensures.value) c.in_ok-handles.ensures.live
 
 pub returns-clause-keeps : goal.returns-clause-keeps
 returns-clause-keeps g c = keeps-trans g.S.Store.facts c.args.blocks.now c.walk.new.blocks c.saved.new.blocks c.walk.ensures.keeps c.saved.ensures.keeps

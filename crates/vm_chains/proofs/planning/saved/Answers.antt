@@ -8,7 +8,7 @@ use Rattle.vm_file.specs.Members.{saved_blocks}
 use Rattle.vm_file.specs.declared.member.Member.{Member}
 use Rattle.vm_blocks.proofs.KeepingLaws.{keeps-refl, keeps-same, keeps-trans, lacks-later, lacks-memory}
 use Rattle.vm_chains.specs.Numbers.{numbers}
-use Rattle.vm_chains.proofs.Loading.{carried_so, still_live}
+use Rattle.vm_chains.proofs.Loading.{carried_so, still_live, still_room}
 use Rattle.vm_chains.proofs.Planned.{handles_more, saved_more}
 use Rattle.vm_chains.proofs.planning.saved.Goals as goal
 
@@ -25,9 +25,12 @@ loop-handle-init g c =
       keeps = keeps-refl g.S.Store.facts c.args.blocks.now;
     }
 
-pub saved_at-requires : goal.saved_at-requires
-saved_at-requires g c =
-    still_live g.S.Store.facts c.args.blocks.now c.loop-handle.blocks c.loop-handle.invariant.keeps (get_or c.args.handles.now c.loop-handle.handle-index no_handle).0 (c.requires.live c.loop-handle.handle-index no_handle (omega arith))
+pub saved_at-requires-clause-room : goal.saved_at-requires-clause-room
+saved_at-requires-clause-room g c = still_room g.S.Store.facts c.args.blocks.now c.loop-handle.blocks c.loop-handle.invariant.keeps c.requires.room
+
+pub saved_at-requires-clause-live : goal.saved_at-requires-clause-live
+saved_at-requires-clause-live g c =
+    still_live g.S.Store.facts c.args.blocks.now c.loop-handle.blocks c.loop-handle.invariant.keeps (get_or c.args.handles.now c.loop-handle.handle-index no_handle).0 (c.requires.live.live c.loop-handle.handle-index no_handle (omega arith))
 
 pub returns-in_err-block-clause-keeps : goal.returns-in_err-block-clause-keeps
 returns-in_err-block-clause-keeps g c = keeps-trans g.S.Store.facts c.args.blocks.now c.loop-handle.blocks c.saved_at.new.blocks c.loop-handle.invariant.keeps c.saved_at.ensures.keeps

@@ -8,7 +8,7 @@ use Rattle.vm_chains.proofs.reading.len_at.Goals as goal
 pub returns-in_err-load-clause-value : goal.returns-in_err-load-clause-value
 returns-in_err-load-clause-value g c =
     carried c.from_residual.result c.in_err-load.field-0.0 _ _ c.from_residual.ensures.1
-    (load_lacks g.S.Store.facts c.args.blocks.now c.load.new.self c.load.ensures.keeps c.args.handle.0 c.in_err-load.field-0.0 c.requires.live c.in_err-load.ensures.err)
+    (load_lacks g.S.Store.facts c.args.blocks.now c.load.new.self c.load.ensures.keeps c.args.handle.0 c.in_err-load.field-0.0 c.requires.room c.requires.live c.in_err-load.ensures.err)
 
 pub returns-in-Heap-clause-value : goal.returns-in-Heap-clause-value
 returns-in-Heap-clause-value g c =

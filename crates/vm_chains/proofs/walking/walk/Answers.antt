@@ -8,7 +8,7 @@ use Rattle.vm_blocks.proofs.KeepingLaws.{keeps-refl, keeps-same}
 use Rattle.vm_chains.specs.Answers.{IsWalkRefusal}
 use Rattle.vm_chains.specs.Walking.{Stops}
 use Rattle.vm_chains.proofs.Loading.{carried, carried_so}
-use Rattle.vm_chains.proofs.Refusals.{root_fault, root_refused, walked}
+use Rattle.vm_chains.proofs.Refusals.{of_chain, root_fault, root_refused, walked}
 use Rattle.vm_chains.proofs.walking.walk.Goals as goal
 
 pub returns-in_err-test_root-clause-keeps : goal.returns-in_err-test_root-clause-keeps
@@ -21,7 +21,7 @@ returns-in_err-test_root-clause-value g c = λ steady.
     (root_refused a.document c.args.root.0 (Lacks g.S.Store.facts a.disk.store a.disk.store) c.in_err-test_root.field-0.0 (inr c.in_err-test_root.ensures))
 
 pub returns-in_err-test_root-clause-refusals : goal.returns-in_err-test_root-clause-refusals
-returns-in_err-test_root-clause-refusals g c = carried_so c.from_residual.result c.in_err-test_root.field-0.0 _ c.from_residual.ensures.1 (inr (root_fault c.args.blocks.now.document c.args.root.0 c.in_err-test_root.field-0.0 c.in_err-test_root.ensures))
+returns-in_err-test_root-clause-refusals g c = carried_so c.from_residual.result c.in_err-test_root.field-0.0 _ c.from_residual.ensures.1 (inr (of_chain c.in_err-test_root.field-0.0 (root_fault c.args.blocks.now.document c.args.root.0 c.in_err-test_root.field-0.0 c.in_err-test_root.ensures)))
 
 pub returns-clause-value : goal.returns-clause-value
 returns-clause-value g c = λ steady.

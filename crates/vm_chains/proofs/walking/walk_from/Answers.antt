@@ -13,7 +13,7 @@ use Rattle.geos_model.specs.declared.handle.VmHandle.{VmHandle}
 use Rattle.vm_chains.specs.Numbers.{numbers}
 use Rattle.vm_chains.specs.Walking.{AreBlocks, GoesOn, IsWalk, Stops}
 use Rattle.vm_chains.proofs.ChainLemmas.{are_members}
-use Rattle.vm_chains.proofs.Loading.{carried, carried_so, still_blocks}
+use Rattle.vm_chains.proofs.Loading.{carried, carried_so, still_blocks, still_room}
 use Rattle.vm_chains.proofs.WalkLemmas.{AreMet, none_met, one_met, met_blocks, member_live, root_met, root_there, same_walk, walk_begins, walk_ends, walk_turns, walk_breaks, walk_follows, walk_is_full}
 use Rattle.vm_chains.proofs.walking.walk_from.Goals as goal
 
@@ -135,6 +135,9 @@ returns-in_err-follow-clause-refusals g c =
     let stops : Lacks g.S.Store.facts c.args.blocks.now.disk.store c.follow.new.blocks.disk.store c.in_err-follow.field-0.0 ⊎ (c.in_err-follow.field-0.0 ≡ BadChain) =
     stopped_so g.S.Store.facts c.args.blocks.now c.loop-left.blocks c.loop-left.invariant.keeps c.args.root.0 c.loop-left.left c.loop-left.met c.follow.new.blocks c.follow.ensures.keeps c.in-Some.handle.0 c.loop-left.pending c.pop.new.self c.loop-left.invariant.walk c.in-Some.ensures c.in_err-follow.field-0.0 _ c.in_err-follow.ensures.value in
     rw (p.1, p.2) stops
+
+pub follow-requires : goal.follow-requires
+follow-requires g c = record { room = still_room g.S.Store.facts c.args.blocks.now c.loop-left.blocks c.loop-left.invariant.keeps c.requires.room }
 
 pub add-requires : goal.add-requires
 add-requires g c =

@@ -24,7 +24,7 @@ invariant_of-self-lent g c =
     let h = c.args.block.0 in
     let f = c.unwrap.result.now in
     let here : held es h ≡ Some f = sym c.peek_mut.ensures.value ∙ ap option_copied_mut c.unwrap.ensures in
-    λ w. kept_lent es h f here c.self.inside.file.document (with_changed f w) _ refl c.self.invariant
+    λ w. kept_lent es h f here c.self.inside.file.document (with_changed f w) _ refl refl c.self.invariant
 
 pub returns : goal.returns
 returns g c =

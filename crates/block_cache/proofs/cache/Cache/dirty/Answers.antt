@@ -9,7 +9,7 @@ use Rattle.block_cache.proofs.cache.Cache.dirty.Goals as goal
 
 pub invariant_of-self : goal.invariant_of-self
 invariant_of-self g c = subst (λ (x : LruCache ℕ Frame). AreKept (g.S.Store.facts c.self.inside.file.disk.store).honest c.self.inside.file.document x.entries) (sym c.mark.ensures)
-    (kept_with_frame c.self.inside.frames.entries c.args.block.0 (λ f. record f { changed = true }) (λ f. refl) _ c.self.inside.file.document (λ f wrong. absurd (cc wrong)) c.self.invariant)
+    (kept_with_frame c.self.inside.frames.entries c.args.block.0 (λ f. record f { changed = true }) (λ f. refl) _ c.self.inside.file.document (λ f is few. few) (λ f wrong. absurd (cc wrong)) c.self.invariant)
 
 pub returns : goal.returns
 returns g c =

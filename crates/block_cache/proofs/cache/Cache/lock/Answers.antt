@@ -1,24 +1,31 @@
-use Rattle.std.proofs.Common.{◌≡◌, ◌<◌, ◌+◌, ℕ, true, nat_eq, unwrap_or, is_some, refl, ap, sym, subst, ◌∙◌}
+use Rattle.std.proofs.Common.{◌≡◌, ◌<◌, ◌+◌, ℕ, List, true, nat_eq, unwrap_or, is_some, refl, ap, sym, subst, ◌∙◌, arith}
 use Rattle.std.specs.Option.{option_map}
 use Rattle.std.specs.Map.{set_value}
 use Rattle.lru.specs.LruCache.{LruCache}
-use Rattle.block_cache.specs.State.{CacheState, locks_of, is_resident}
+use Rattle.block_cache.specs.State.{CacheState, Seat, locks_of, is_resident}
 use Rattle.block_cache.specs.Frames.{held, seats, overlay, AreKept}
 use Rattle.block_cache.specs.declared.frame.Frame.{Frame}
-use Rattle.block_cache.proofs.Seats.{seats-with_frame, lookup-seats, resident_is, frame_by, locks_below}
+use Rattle.block_cache.proofs.Seats.{seats-with_frame, lookup-seats, resident_is, frame_by, locks_below, locks_under}
 use Rattle.block_cache.proofs.Overlay.{overlay_with_frame, kept_with_frame}
 use Rattle.block_cache.proofs.cache.Cache.lock.Goals as goal
+
+locks_is : (h : ℕ) (seated : List Seat) (es : List (ℕ × Frame)) → seats es ≡ seated → locks_of seated h ≡ unwrap_or (option_map (λ (f : Frame). f.locks) (held es h)) 0
+locks_is h seated es is = ap (λ ss. locks_of ss h) (sym is) ∙ ap (λ o. unwrap_or o 0) (lookup-seats h es)
 
 pub lock-requires : goal.lock-requires
 lock-requires g c =
     let es = c.self.inside.frames.entries in
     let h = c.args.block.0 in
-    let is : locks_of c.args.self.now.resident h ≡ unwrap_or (option_map (λ (f : Frame). f.locks) (held es h)) 0 = ap (λ s. locks_of s.resident h) (sym c.self.view_is) ∙ ap (λ o. unwrap_or o 0) (lookup-seats h es) in
-    locks_below (held es h) 255 (subst (λ n. n < 255) is c.requires.few)
+    locks_below (held es h) 255 (subst (λ n. n < 255) (locks_is h c.args.self.now.resident es (ap (λ (s : CacheState g.row.S.Denot). s.resident) c.self.view_is)) c.requires.few)
 
 pub invariant_of-self : goal.invariant_of-self
-invariant_of-self g c = subst (λ (x : LruCache ℕ Frame). AreKept (g.S.Store.facts c.self.inside.file.disk.store).honest c.self.inside.file.document x.entries) (sym c.lock.ensures)
-    (kept_with_frame c.self.inside.frames.entries c.args.block.0 (λ f. record f { locks = f.locks + 1 }) (λ f. refl) _ c.self.inside.file.document (λ f same. same) c.self.invariant)
+invariant_of-self g c =
+    let file = c.self.inside.file in
+    let es = c.self.inside.frames.entries in
+    let h = c.args.block.0 in
+    let low = locks_below (held es h) 255 (subst (λ n. n < 255) (locks_is h c.args.self.now.resident es (ap (λ (s : CacheState g.row.S.Denot). s.resident) c.self.view_is)) c.requires.few) in
+    subst (λ (x : LruCache ℕ Frame). AreKept (g.S.Store.facts file.disk.store).honest file.document x.entries) (sym c.lock.ensures)
+    (kept_with_frame es h (λ f. record f { locks = f.locks + 1 }) (λ f. refl) _ file.document (λ f is few. let below = locks_under (held es h) 255 f is low in omega (arith, below)) (λ f same. same) c.self.invariant)
 
 pub returns : goal.returns
 returns g c =

@@ -1,4 +1,4 @@
-use Rattle.std.proofs.Common.{◌≡◌, ◌<◌, ◌-◌, ℕ, true, nat_eq, unwrap_or, is_some, refl, ap, sym, subst, ◌∙◌}
+use Rattle.std.proofs.Common.{◌≡◌, ◌<◌, ◌-◌, ℕ, true, nat_eq, unwrap_or, is_some, refl, ap, sym, subst, ◌∙◌, arith}
 use Rattle.std.specs.Option.{option_map}
 use Rattle.std.specs.Map.{set_value}
 use Rattle.lru.specs.LruCache.{LruCache}
@@ -18,7 +18,7 @@ unlock-requires g c =
 
 pub invariant_of-self : goal.invariant_of-self
 invariant_of-self g c = subst (λ (x : LruCache ℕ Frame). AreKept (g.S.Store.facts c.self.inside.file.disk.store).honest c.self.inside.file.document x.entries) (sym c.unlock.ensures)
-    (kept_with_frame c.self.inside.frames.entries c.args.block.0 (λ f. record f { locks = f.locks - 1 }) (λ f. refl) _ c.self.inside.file.document (λ f same. same) c.self.invariant)
+    (kept_with_frame c.self.inside.frames.entries c.args.block.0 (λ f. record f { locks = f.locks - 1 }) (λ f. refl) _ c.self.inside.file.document (λ f is few. omega (arith, few)) (λ f same. same) c.self.invariant)
 
 pub returns : goal.returns
 returns g c =

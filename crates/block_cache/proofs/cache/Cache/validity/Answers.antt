@@ -1,7 +1,9 @@
-use Rattle.std.proofs.Common.{false, IsTrue, sym, ap, subst, ◌∙◌}
+use Rattle.std.proofs.Common.{◌≤◌, false, map, IsTrue, sym, ap, subst, ◌∙◌}
 use Rattle.geos_model.specs.Document.{IsValid, is_live}
+use Rattle.geos_model.specs.ElementArray.{all_distinct}
 use Rattle.vm_file.specs.Disk.{IsListed, IsSettled}
-use Rattle.block_cache.specs.State.{CacheState, is_resident}
+use Rattle.block_cache.specs.State.{CacheState, is_resident, locks_of}
+use Rattle.block_cache.proofs.Locks.{seats_apart, few_locks}
 use Rattle.block_cache.proofs.Overlay.{overlay_live, listed_under}
 use Rattle.block_cache.proofs.Seats.{frame_by, resident_is}
 use Rattle.block_cache.proofs.cache.Cache.validity.Goals as goal
@@ -24,3 +26,12 @@ returns-clause-resident g c = λ h there.
     let d = c.self.inside.file.document in
     let f = frame_by _ (sym (resident_is h es) ∙ ap (λ s. is_resident s.resident h) c.self.view_is ∙ there) in
     sym (ap (λ s. is_live s.document h) c.self.view_is) ∙ overlay_live _ es d h c.self.invariant ∙ (c.self.invariant.each h f.0 f.1).live
+
+pub returns-clause-distinct : goal.returns-clause-distinct
+returns-clause-distinct g c =
+    ap (λ (s : CacheState g.row.S.Denot). all_distinct (map (λ p. p.0) s.resident)) (sym c.self.view_is) ∙ seats_apart c.self.inside.frames.entries c.len-count.ensures.valid.0
+
+pub returns-clause-counts : goal.returns-clause-counts
+returns-clause-counts g c = λ h.
+    let file = c.self.inside.file in
+    subst (λ (s : CacheState g.row.S.Denot). locks_of s.resident h ≤ 255) c.self.view_is (few_locks (g.S.Store.facts file.disk.store).honest file.document c.self.inside.frames.entries c.self.invariant h)

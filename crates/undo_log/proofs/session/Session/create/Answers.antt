@@ -23,4 +23,4 @@ returns-in-Ok-clause-machine g c target =
     (ap (λ (b : CacheState g.row.S.Denot). b.disk.updated) is ∙ made.new_file.updated)
     (ap (λ (b : CacheState g.row.S.Denot). b.disk.saved) is ∙ made.new_file.saved)
     (ap (λ (b : CacheState g.row.S.Denot). b.disk.sequence) is ∙ made.new_file.sequence)
-    c.begin.ensures.undo c.begin.ensures.redo (ap (λ (b : CacheState g.row.S.Denot). b.frames) is ∙ c.in-Ok.ensures.frames)
+    c.begin.ensures.undo c.begin.ensures.redo (ap (λ (b : CacheState g.row.S.Denot). b.resident) is ∙ c.in-Ok.ensures.empty) (ap (λ (b : CacheState g.row.S.Denot). b.frames) is ∙ c.in-Ok.ensures.frames)

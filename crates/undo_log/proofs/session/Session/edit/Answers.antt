@@ -1,23 +1,73 @@
-use Rattle.std.proofs.Common.{◌≡◌, ◌⊎◌, Err, List, ◌∷◌, reverse, inl, refl, ap, sym, subst, ◌∙◌, rules}
+use Rattle.std.proofs.Common.{◌≡◌, ◌⊎◌, Bool, true, Err, List, ◌∷◌, reverse, inl, inr, refl, ap, sym, subst, ◌∙◌, rules}
 use Rattle.std.specs.Prelude.{IfErr, OnErr}
 use Rattle.std.proofs.lemmas.Result.{err_from_is_err_and}
-use Rattle.geos_model.specs.Machine.{kind_of}
+use Rattle.geos_model.specs.Machine.{edit_needs, is_barred, kind_of}
 use Rattle.geos_model.specs.Reply.{reply_by, reply_of_done}
 use Rattle.geos_model.specs.declared.command.Command.TheVariants as commands
-use Rattle.geos_model.specs.declared.fault.Fault.TheVariants.{Memory}
+use Rattle.geos_model.specs.declared.fault.Fault.TheVariants.{Locked, Memory}
 use Rattle.vm_file.specs.Disk.{Passes}
 use Rattle.vm_blocks.specs.Keeping.{Lacks}
 use Rattle.vm_blocks.specs.declared.change.Change.{Change}
 use Rattle.vm_blocks.specs.declared.change.Direction.TheVariants.{Backwards}
 use Rattle.vm_blocks.proofs.KeepingLaws.{keeps-refl, keeps-passes, keeps-drifts, lacks-memory}
 use Rattle.doc_edits.specs.Planning.{IsChainEditFault, Refuses}
-use Rattle.undo_log.specs.Records.{SessionState, AreListed, IsStep, KeepsSession, Records}
-use Rattle.undo_log.proofs.Edited.{edit_step, edit_refused, made_at_hand}
-use Rattle.undo_log.proofs.Keeping.{drifted_listed}
+use Rattle.doc_edits.specs.Room.{has_no_room}
+use Rattle.undo_log.specs.Locking.{IsBarred}
+use Rattle.undo_log.specs.Records.{SessionState, blocks_of, machine_of, AreListed, IsStep, KeepsSession, Records}
+use Rattle.undo_log.proofs.Edited.{barred_fault, barred_step, edit_step, edit_refused, made_at_hand, not_barred, plain_open}
+use Rattle.undo_log.proofs.Keeping.{drifted_listed, keeps_refl}
 use Rattle.undo_log.proofs.Listing.{drifted, edited_listed}
 use Rattle.undo_log.proofs.Lists.{pushed_first}
 use Rattle.undo_log.proofs.LookUps.{session_with}
 use Rattle.undo_log.proofs.session.Session.edit.Goals as goal
+
+-- a lock bars the edit
+pub returns-then-is_barred-clause-step : goal.returns-then-is_barred-clause-step
+returns-then-is_barred-clause-step g c =
+    let facts = g.S.Store.facts in
+    let old = session_with c.self.inside.blocks (reverse c.self.inside.undo.items) (reverse c.self.inside.redo.items) in
+    subst (λ (s : SessionState g.row.S.Denot). IsStep facts s s (commands.Edit c.args.edit.now) (reply_by reply_of_done (Err Locked))) c.self.view_is
+    (barred_step facts old c.args.edit.now c.validity.ensures.distinct (sym c.is_barred.ensures ∙ c.if-is_barred.true))
+
+pub returns-then-is_barred-clause-err : goal.returns-then-is_barred-clause-err
+returns-then-is_barred-clause-err g c = keeps_refl g.S.Store.facts c.args.self.now
+
+pub returns-then-is_barred-clause-refusals : goal.returns-then-is_barred-clause-refusals
+returns-then-is_barred-clause-refusals g c =
+    let facts = g.S.Store.facts in
+    let old = session_with c.self.inside.blocks (reverse c.self.inside.undo.items) (reverse c.self.inside.redo.items) in
+    inl (subst (λ (s : SessionState g.row.S.Denot). IsBarred c.args.edit.now s Locked) c.self.view_is (barred_fault facts old c.args.edit.now c.validity.ensures.distinct (sym c.is_barred.ensures ∙ c.if-is_barred.true)))
+
+pub returns-then-is_barred-clause-plain : goal.returns-then-is_barred-clause-plain
+returns-then-is_barred-clause-plain g c = λ plain.
+    let old = session_with c.self.inside.blocks (reverse c.self.inside.undo.items) (reverse c.self.inside.redo.items) in
+    absurd (plain_open g.S.Store.facts old c.args.edit.now c.validity.ensures.distinct (sym c.is_barred.ensures ∙ c.if-is_barred.true) plain)
+
+-- no lock does
+
+pub returns-in_err-reserve-clause-locked : goal.returns-in_err-reserve-clause-locked
+returns-in_err-reserve-clause-locked g c = λ barred.
+    let old = session_with c.self.inside.blocks (reverse c.self.inside.undo.items) (reverse c.self.inside.redo.items) in
+    absurd (subst (λ (s : SessionState g.row.S.Denot). ((target : Bool) → is_barred c.args.edit.now (machine_of target s) ≡ true) → ⊥) c.self.view_is
+    (not_barred old c.args.edit.now c.validity.ensures.distinct (sym c.is_barred.ensures ∙ c.if-is_barred.false)) barred)
+
+pub returns-in_err-reserve-2-clause-locked : goal.returns-in_err-reserve-2-clause-locked
+returns-in_err-reserve-2-clause-locked g c = λ barred.
+    let old = session_with c.self.inside.blocks (reverse c.self.inside.undo.items) (reverse c.self.inside.redo.items) in
+    absurd (subst (λ (s : SessionState g.row.S.Denot). ((target : Bool) → is_barred c.args.edit.now (machine_of target s) ≡ true) → ⊥) c.self.view_is
+    (not_barred old c.args.edit.now c.validity.ensures.distinct (sym c.is_barred.ensures ∙ c.if-is_barred.false)) barred)
+
+pub returns-in_err-change-clause-locked : goal.returns-in_err-change-clause-locked
+returns-in_err-change-clause-locked g c = λ barred.
+    let old = session_with c.self.inside.blocks (reverse c.self.inside.undo.items) (reverse c.self.inside.redo.items) in
+    absurd (subst (λ (s : SessionState g.row.S.Denot). ((target : Bool) → is_barred c.args.edit.now (machine_of target s) ≡ true) → ⊥) c.self.view_is
+    (not_barred old c.args.edit.now c.validity.ensures.distinct (sym c.is_barred.ensures ∙ c.if-is_barred.false)) barred)
+
+pub returns-clause-locked : goal.returns-clause-locked
+returns-clause-locked g c = λ barred.
+    let old = session_with c.self.inside.blocks (reverse c.self.inside.undo.items) (reverse c.self.inside.redo.items) in
+    absurd (subst (λ (s : SessionState g.row.S.Denot). ((target : Bool) → is_barred c.args.edit.now (machine_of target s) ≡ true) → ⊥) c.self.view_is
+    (not_barred old c.args.edit.now c.validity.ensures.distinct (sym c.is_barred.ensures ∙ c.if-is_barred.false)) barred)
 
 -- memory for the lists was wanting
 pub returns-in_err-reserve-clause-step : goal.returns-in_err-reserve-clause-step
@@ -28,7 +78,7 @@ returns-in_err-reserve-clause-step g c =
     let p = err_from_is_err_and c.from_residual.result c.from_residual.ensures.1 in
     subst (λ (s : SessionState g.row.S.Denot). IsStep facts s new (commands.Edit c.args.edit.now) (reply_by reply_of_done c.from_residual.result)) c.self.view_is
     (subst (λ r. IsStep facts old new (commands.Edit c.args.edit.now) (reply_by reply_of_done r)) (sym (p.1 ∙ ap Err p.2))
-    (edit_refused facts old new c.args.edit.now Memory (record { blocks = keeps-refl facts c.self.inside.blocks; undo = ap reverse c.in_err-reserve.ensures.items; redo = refl }) (λ _. inl (lacks-memory facts c.self.inside.blocks.disk.store c.self.inside.blocks.disk.store)) (λ _. inl refl)))
+    (edit_refused facts old new c.args.edit.now c.validity.ensures.distinct (sym c.is_barred.ensures ∙ c.if-is_barred.false) Memory (record { blocks = keeps-refl facts c.self.inside.blocks; undo = ap reverse c.in_err-reserve.ensures.items; redo = refl }) (λ _. inl (lacks-memory facts c.self.inside.blocks.disk.store c.self.inside.blocks.disk.store)) (λ _. inl refl)))
 
 pub returns-in_err-reserve-clause-err : goal.returns-in_err-reserve-clause-err
 returns-in_err-reserve-clause-err g c =
@@ -42,7 +92,7 @@ returns-in_err-reserve-clause-err g c =
 pub returns-in_err-reserve-clause-refusals : goal.returns-in_err-reserve-clause-refusals
 returns-in_err-reserve-clause-refusals g c =
     let p = err_from_is_err_and c.from_residual.result c.from_residual.ensures.1 in
-    rw (p.1, p.2) (inl (inl (lacks-memory g.S.Store.facts _ _)))
+    rw (p.1, p.2) (inr (inl (inl (lacks-memory g.S.Store.facts _ _))))
 
 pub returns-in_err-reserve-2-clause-step : goal.returns-in_err-reserve-2-clause-step
 returns-in_err-reserve-2-clause-step g c =
@@ -52,7 +102,7 @@ returns-in_err-reserve-2-clause-step g c =
     let p = err_from_is_err_and c.from_residual-in_err-reserve-2.result c.from_residual-in_err-reserve-2.ensures.1 in
     subst (λ (s : SessionState g.row.S.Denot). IsStep facts s new (commands.Edit c.args.edit.now) (reply_by reply_of_done c.from_residual-in_err-reserve-2.result)) c.self.view_is
     (subst (λ r. IsStep facts old new (commands.Edit c.args.edit.now) (reply_by reply_of_done r)) (sym (p.1 ∙ ap Err p.2))
-    (edit_refused facts old new c.args.edit.now Memory (record { blocks = keeps-refl facts c.self.inside.blocks; undo = ap reverse c.in_ok-reserve.ensures.items; redo = ap reverse c.in_err-reserve-2.ensures.items }) (λ _. inl (lacks-memory facts c.self.inside.blocks.disk.store c.self.inside.blocks.disk.store)) (λ _. inl refl)))
+    (edit_refused facts old new c.args.edit.now c.validity.ensures.distinct (sym c.is_barred.ensures ∙ c.if-is_barred.false) Memory (record { blocks = keeps-refl facts c.self.inside.blocks; undo = ap reverse c.in_ok-reserve.ensures.items; redo = ap reverse c.in_err-reserve-2.ensures.items }) (λ _. inl (lacks-memory facts c.self.inside.blocks.disk.store c.self.inside.blocks.disk.store)) (λ _. inl refl)))
 
 pub returns-in_err-reserve-2-clause-err : goal.returns-in_err-reserve-2-clause-err
 returns-in_err-reserve-2-clause-err g c =
@@ -66,7 +116,7 @@ returns-in_err-reserve-2-clause-err g c =
 pub returns-in_err-reserve-2-clause-refusals : goal.returns-in_err-reserve-2-clause-refusals
 returns-in_err-reserve-2-clause-refusals g c =
     let p = err_from_is_err_and c.from_residual-in_err-reserve-2.result c.from_residual-in_err-reserve-2.ensures.1 in
-    rw (p.1, p.2) (inl (inl (lacks-memory g.S.Store.facts _ _)))
+    rw (p.1, p.2) (inr (inl (inl (lacks-memory g.S.Store.facts _ _))))
 
 -- the edit is refused
 pub invariant_of-self-in_err-change : goal.invariant_of-self-in_err-change
@@ -86,7 +136,7 @@ returns-in_err-change-clause-step g c =
     let p = err_from_is_err_and c.from_residual-in_err-change.result c.from_residual-in_err-change.ensures.1 in
     subst (λ (s : SessionState g.row.S.Denot). IsStep facts s new (commands.Edit c.args.edit.now) (reply_by reply_of_done c.from_residual-in_err-change.result)) c.self.view_is
     (subst (λ r. IsStep facts old new (commands.Edit c.args.edit.now) (reply_by reply_of_done r)) (sym (p.1 ∙ ap Err p.2))
-    (edit_refused facts old new c.args.edit.now c.in_err-change.field-0.0 (record { blocks = e.err; undo = ap reverse c.in_ok-reserve.ensures.items; redo = ap reverse c.in_ok-reserve-2.ensures.items }) e.rules (λ is. (e.plain is).1)))
+    (edit_refused facts old new c.args.edit.now c.validity.ensures.distinct (sym c.is_barred.ensures ∙ c.if-is_barred.false) c.in_err-change.field-0.0 (record { blocks = e.err; undo = ap reverse c.in_ok-reserve.ensures.items; redo = ap reverse c.in_ok-reserve-2.ensures.items }) e.rules (λ is. (e.plain is).1)))
 
 pub returns-in_err-change-clause-err : goal.returns-in_err-change-clause-err
 returns-in_err-change-clause-err g c =
@@ -100,9 +150,13 @@ returns-in_err-change-clause-err g c =
 pub returns-in_err-change-clause-refusals : goal.returns-in_err-change-clause-refusals
 returns-in_err-change-clause-refusals g c =
     let facts = g.S.Store.facts in let new = c.make.new.blocks in
+    let old = session_with c.self.inside.blocks (reverse c.self.inside.undo.items) (reverse c.self.inside.redo.items) in
     let p = err_from_is_err_and c.from_residual-in_err-change.result c.from_residual-in_err-change.ensures.1 in
-    subst (λ (s : SessionState g.row.S.Denot). IfErr c.from_residual-in_err-change.result (λ fault. Refuses (Lacks facts s.disk.store new.disk.store) c.args.edit.now new.document fault ⊎ IsChainEditFault c.args.edit.now fault)) c.self.view_is
-    (subst (λ r. IfErr r (λ fault. Refuses (Lacks facts c.self.inside.blocks.disk.store new.disk.store) c.args.edit.now new.document fault ⊎ IsChainEditFault c.args.edit.now fault)) (sym (p.1 ∙ ap Err p.2)) c.in_err-change.ensures.refusals)
+    subst (λ (s : SessionState g.row.S.Denot). IfErr c.from_residual-in_err-change.result (λ fault. IsBarred c.args.edit.now s fault
+    ⊎ (Refuses (Lacks facts s.disk.store new.disk.store) (has_no_room (blocks_of s) (edit_needs c.args.edit.now)) c.args.edit.now new.document fault ⊎ IsChainEditFault c.args.edit.now fault))) c.self.view_is
+    (subst (λ r. IfErr r (λ fault. IsBarred c.args.edit.now old fault
+    ⊎ (Refuses (Lacks facts c.self.inside.blocks.disk.store new.disk.store) (has_no_room c.self.inside.blocks (edit_needs c.args.edit.now)) c.args.edit.now new.document fault ⊎ IsChainEditFault c.args.edit.now fault)))
+    (sym (p.1 ∙ ap Err p.2)) (inr c.in_err-change.ensures.refusals))
 
 pub returns-in_err-change-clause-passes : goal.returns-in_err-change-clause-passes
 returns-in_err-change-clause-passes g c =
@@ -134,7 +188,7 @@ returns-clause-step g c =
     let new = session_with c.make.new.blocks (reverse c.push_reserved.new.self.items) (reverse c.clear.new.self.items) in
     let pushed : reverse c.push_reserved.new.self.items ≡ change ∷ undo = pushed_first c.self.inside.undo.items _ _ change c.in_ok-reserve.ensures.items c.push_reserved.ensures.items in
     subst (λ (s : SessionState g.row.S.Denot). IsStep facts s new (commands.Edit c.args.edit.now) (reply_of_done c.in_ok-change.done)) c.self.view_is
-    (edit_step facts old new c.args.edit.now change c.in_ok-change.done c.in_ok-change.ensures.ok pushed (ap reverse c.clear.ensures.items))
+    (edit_step facts old new c.args.edit.now c.validity.ensures.distinct (sym c.is_barred.ensures ∙ c.if-is_barred.false) change c.in_ok-change.done c.in_ok-change.ensures.ok pushed (ap reverse c.clear.ensures.items))
 
 pub returns-clause-ok : goal.returns-clause-ok
 returns-clause-ok g c =

@@ -10,7 +10,7 @@ returns g c = (
   (
     refl,
     λ _. tt,
-    looked_at g.S.Store.facts _ _ (reverse c.self.inside.undo.items) (reverse c.self.inside.redo.items) c.name_part.follows.holds-at-none.0 _ c.self.view_is (commands.NamePart c.args.block c.args.chunk c.args.token) _
+    looked_at g.S.Store.facts _ _ (reverse c.self.inside.undo.items) (reverse c.self.inside.redo.items) c.name_part.follows.holds-at-none.0 _ c.self.view_is c.validity.ensures.distinct (commands.NamePart c.args.block c.args.chunk c.args.token) _
         (record { takes = λ _. refl; calls = λ _. refl; refuses = λ _. refl; answers = λ _. refl }) c.name_part.follows.holds-at-none.1,
   ),
   record { leaves = tt },

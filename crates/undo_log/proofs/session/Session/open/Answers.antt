@@ -17,5 +17,5 @@ pub returns-in-Ok-clause-machine : goal.returns-in-Ok-clause-machine
 returns-in-Ok-clause-machine g c so =
     let found = c.in-Ok.ensures.opened in
     opened (seen c.in-Ok.blocks) (g.S.Store.facts c.args.store).content c.args.frames c.begin.result (ap (λ (b : CacheState g.row.S.Denot). seen b) c.begin.ensures.blocks)
-    c.begin.ensures.undo c.begin.ensures.redo (ap (λ (b : CacheState g.row.S.Denot). b.frames) c.begin.ensures.blocks ∙ c.in-Ok.ensures.frames)
+    c.begin.ensures.undo c.begin.ensures.redo (ap (λ (b : CacheState g.row.S.Denot). b.resident) c.begin.ensures.blocks ∙ c.in-Ok.ensures.empty) (ap (λ (b : CacheState g.row.S.Denot). b.frames) c.begin.ensures.blocks ∙ c.in-Ok.ensures.frames)
     (found.documents so) (found.now so).0 (found.sequence so)

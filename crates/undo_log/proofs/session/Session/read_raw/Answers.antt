@@ -10,7 +10,7 @@ returns g c = (
   (
     refl,
     λ _. tt,
-    looked_at g.S.Store.facts _ _ (reverse c.self.inside.undo.items) (reverse c.self.inside.redo.items) c.read_raw.follows.holds-at-none.0 _ c.self.view_is (commands.ReadRaw c.args.block) _
+    looked_at g.S.Store.facts _ _ (reverse c.self.inside.undo.items) (reverse c.self.inside.redo.items) c.read_raw.follows.holds-at-none.0 _ c.self.view_is c.validity.ensures.distinct (commands.ReadRaw c.args.block) _
         (record { takes = λ _. refl; calls = λ _. refl; refuses = λ _. refl; answers = λ _. refl }) c.read_raw.follows.holds-at-none.1,
   ),
   record { leaves = tt },

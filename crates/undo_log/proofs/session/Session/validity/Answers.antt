@@ -1,7 +1,9 @@
-use Rattle.std.proofs.Common.{Bool, subst}
-use Rattle.geos_model.specs.Machine.{IsValidMachine}
+use Rattle.std.proofs.Common.{Bool, reverse, subst}
+use Rattle.geos_model.specs.Machine.{AreValidLocks, IsValidMachine}
 use Rattle.vm_file.specs.Disk.{IsListed, IsSettled}
 use Rattle.undo_log.specs.Records.{SessionState, machine_of, IsExact}
+use Rattle.undo_log.proofs.Locking.{locks_valid}
+use Rattle.undo_log.proofs.LookUps.{session_with}
 use Rattle.undo_log.proofs.Steps.{past-valid, future-valid}
 use Rattle.undo_log.proofs.session.Session.validity.Goals as goal
 
@@ -13,10 +15,17 @@ returns-clause-settled g c = subst (λ (s : SessionState g.row.S.Denot). IsSettl
 
 pub returns-clause-machine : goal.returns-clause-machine
 returns-clause-machine g c =
+    let e = c.validity.ensures in let old = session_with c.self.inside.blocks (reverse c.self.inside.undo.items) (reverse c.self.inside.redo.items) in
     subst (λ (s : SessionState g.row.S.Denot). IsExact g.S.Store.facts s → (target : Bool) → IsValidMachine (machine_of target s)) c.self.view_is (λ exact target. record {
       document = exact.steps.valid;
       past = past-valid _ _ _ exact.steps;
       future = future-valid _ _ _ exact.steps;
       updated = (c.validity.ensures.valid exact.honest).0;
       saved = (c.validity.ensures.valid exact.honest).1;
+      locks = locks_valid old target e.distinct e.resident e.counts e.few;
     })
+
+pub returns-clause-locks : goal.returns-clause-locks
+returns-clause-locks g c =
+    let e = c.validity.ensures in let old = session_with c.self.inside.blocks (reverse c.self.inside.undo.items) (reverse c.self.inside.redo.items) in
+    subst (λ (s : SessionState g.row.S.Denot). (target : Bool) → AreValidLocks (machine_of target s)) c.self.view_is (λ target. locks_valid old target e.distinct e.resident e.counts e.few)

@@ -10,7 +10,7 @@ returns-clause-keeps g c = kept_session g.S.Store.facts _ _ (reverse c.self.insi
 
 pub returns-clause-step : goal.returns-clause-step
 returns-clause-step g c =
-    chain_stepped g.S.Store.facts _ _ (reverse c.self.inside.undo.items) (reverse c.self.inside.redo.items) c.walk.ensures.keeps _ c.self.view_is (commands.Walk c.args.root) _
+    chain_stepped g.S.Store.facts _ _ (reverse c.self.inside.undo.items) (reverse c.self.inside.redo.items) c.walk.ensures.keeps _ c.self.view_is c.validity.ensures.distinct (commands.Walk c.args.root) _
     (record { takes = λ _. refl; calls = λ _. refl; refuses = λ _. refl; answers = λ _. refl }) c.walk.ensures.value
 
 pub invariant_of-self : goal.invariant_of-self

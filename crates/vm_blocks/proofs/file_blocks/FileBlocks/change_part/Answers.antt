@@ -14,10 +14,10 @@ returns-in_err-ready_part g c =
     let p = err_from_is_err_and c.from_residual.result c.from_residual.ensures.1 in
     subst (λ (r : Result (Unit {0}) Fault). Turns g.S.Store.facts change c.args.self.now c.ready_part.new.self r) (sym (p.1 ∙ ap Err p.2))
     (turns_unready g.S.Store.facts change c.args.self.now c.ready_part.new.self c.ready_part.ensures.keeps c.in_err-ready_part.field-0.0 c.in_err-ready_part.ensures.err
-    (λ here takes. absurd (cc (c.in_err-ready_part.ensures.sure here takes).0)))
+    (λ here takes. absurd (cc (c.in_err-ready_part.ensures.sure here takes).0)) (λ far. let shut = c.in_err-ready_part.ensures.shut far in (cc shut.0, shut.1)))
 
 pub returns : goal.returns
 returns g c =
     let change = changes.Part c.args.handle (turned_part c.args.direction c.args.part.now) in
-    turns_ready g.S.Store.facts change c.args.self.now c.ready_part.new.self c.ready_part.ensures.keeps c.carry_out_part.new.self c.in_ok-ready_part.ensures.loaded
+    turns_ready g.S.Store.facts change c.args.self.now c.ready_part.new.self c.ready_part.ensures.keeps c.carry_out_part.new.self c.in_ok-ready_part.ensures.loaded (λ far. cc (c.in_ok-ready_part.ensures.shut far).0)
     (λ here takes. let sure = c.in_ok-ready_part.ensures.sure here takes in (sure.1, sure.2)) c.carry_out_part.ensures

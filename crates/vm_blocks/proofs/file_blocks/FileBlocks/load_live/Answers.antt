@@ -1,16 +1,38 @@
-use Rattle.std.proofs.Common.{◌≡◌, true, refl, ap, sym, subst, ◌∙◌}
+use Rattle.std.proofs.Common.{◌≡◌, ◌⊎◌, true, false, refl, ap, sym, subst, ◌∙◌}
 use Rattle.std.specs.Prelude.{Result, IfErr, IsOk}
-use Rattle.std.proofs.lemmas.Bool.{and_parts}
 use Rattle.geos_model.specs.Document.{is_live}
 use Rattle.geos_model.specs.declared.fault.Fault.{Fault}
-use Rattle.block_cache.specs.State.{CacheState, is_resident}
-use Rattle.vm_blocks.specs.Keeping.{Keeps, Lacks, is_loaded}
+use Rattle.block_cache.specs.State.{CacheState, all_locked, is_resident}
+use Rattle.vm_blocks.specs.Keeping.{Keeps, Lacks, LacksFrame}
+use Rattle.vm_blocks.proofs.KeepingLaws.{keeps-by, keeps-refl, loaded-resident, resident-open}
+use Rattle.vm_blocks.proofs.Locking.{one_of, room_by}
 use Rattle.vm_blocks.proofs.Turned.{lacks_of, loaded_there}
 use Rattle.vm_blocks.proofs.file_blocks.FileBlocks.load_live.Goals as goal
 
+-- A block that is shut out.
+
+pub returns-then-is_shut_out-clause-keeps : goal.returns-then-is_shut_out-clause-keeps
+returns-then-is_shut_out-clause-keeps g c = keeps-refl g.S.Store.facts c.args.self.now
+
+pub returns-then-is_shut_out-clause-already : goal.returns-then-is_shut_out-clause-already
+returns-then-is_shut_out-clause-already g c = λ loaded.
+    let state = c.args.self.now in
+    let h = c.args.handle.0 in
+    let out = resident-open state h c.validity.ensures.few (loaded-resident state h loaded) in
+    let wrong : true ≡ false = sym c.if-is_shut_out.true ∙ c.is_shut_out.ensures ∙ out in
+    absurd (cc wrong)
+
+-- Any other.
+
+pub load-requires-clause-room : goal.load-requires-clause-room
+load-requires-clause-room g c =
+    let h = c.args.handle.0 in
+    subst (λ (s : CacheState g.row.S.Denot). (is_resident s.resident h ≡ true) ⊎ (all_locked s.frames s.resident ≡ false)) (sym c.self.view_is)
+    (room_by c.args.self.now h (sym c.is_shut_out.ensures ∙ c.if-is_shut_out.false))
+
 pub returns-clause-keeps : goal.returns-clause-keeps
-unfolding Keeps
-returns-clause-keeps g c = subst (λ (s : CacheState g.row.S.Denot). Keeps g.S.Store.facts s c.load.new.self) c.self.view_is c.load.ensures.stays
+returns-clause-keeps g c =
+    subst (λ (s : CacheState g.row.S.Denot). Keeps g.S.Store.facts s c.load.new.self) c.self.view_is (keeps-by g.S.Store.facts c.self.inside.cache c.load.new.self c.load.ensures.stays c.load.ensures.locks)
 
 pub returns-clause-ok : goal.returns-clause-ok
 returns-clause-ok g c =
@@ -19,15 +41,15 @@ returns-clause-ok g c =
 
 pub returns-clause-err : goal.returns-clause-err
 returns-clause-err g c =
-    subst (λ (s : CacheState g.row.S.Denot). IfErr c.load.result (Lacks g.S.Store.facts s.disk.store c.load.new.self.disk.store)) c.self.view_is
-    (lacks_of g.S.Store.facts c.load.result c.self.inside.cache.disk.store c.load.new.self.disk.store c.load.ensures.fails)
+    let old = c.args.self.now in
+    one_of (Lacks g.S.Store.facts old.disk.store c.load.new.self.disk.store) (LacksFrame old c.args.handle.0) c.load.result
+    (subst (λ (s : CacheState g.row.S.Denot). IfErr c.load.result (Lacks g.S.Store.facts s.disk.store c.load.new.self.disk.store)) c.self.view_is
+    (lacks_of g.S.Store.facts c.load.result c.self.inside.cache.disk.store c.load.new.self.disk.store c.load.ensures.fails))
 
 pub returns-clause-already : goal.returns-clause-already
-unfolding is_loaded
 returns-clause-already g c = λ loaded.
     let h = c.args.handle.0 in
-    let there = (and_parts (is_resident c.args.self.now.resident h) (is_live c.args.self.now.document h) loaded).0 in
-    let done = c.load.ensures.already (subst (λ (s : CacheState g.row.S.Denot). is_resident s.resident h ≡ true) (sym c.self.view_is) there) in (
+    let done = c.load.ensures.already (subst (λ (s : CacheState g.row.S.Denot). is_resident s.resident h ≡ true) (sym c.self.view_is) (loaded-resident c.args.self.now h loaded)) in (
       subst (λ (r : Result (Unit {0}) Fault). IsOk r) (sym done.0) refl,
       done.1 ∙ ap (λ (s : CacheState g.row.S.Denot). s.disk) c.self.view_is,
       done.2 ∙ ap (λ (s : CacheState g.row.S.Denot). s.document) c.self.view_is,

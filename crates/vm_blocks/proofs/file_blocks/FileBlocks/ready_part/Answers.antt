@@ -1,4 +1,4 @@
-use Rattle.std.proofs.Common.{refl, inr, sym, ◌∙◌}
+use Rattle.std.proofs.Common.{refl, inl, inr, sym, ◌∙◌}
 use Rattle.std.proofs.lemmas.Bool.{true≢false}
 use Rattle.block_cache.specs.Bodies.{body_of}
 use Rattle.vm_blocks.specs.Changes.{turned_part}
@@ -11,8 +11,8 @@ returns-then-can_take-clause-takes g c =
 
 pub returns-else-can_take-clause-err : goal.returns-else-can_take-clause-err
 returns-else-can_take-clause-err g c =
-    inr (
+    inr (inl (
       refl,
       unfit g.S.Store.facts c.args.self.now c.load_live.new.self c.load_live.ensures.keeps c.args.handle.0 (turned_part c.args.direction c.args.part.now) (body_of c.body.result.now) c.body.ensures
           (λ takes. true≢false (sym (c.can_take.ensures.1 takes) ∙ c.if-can_take.false)),
-    )
+    ))

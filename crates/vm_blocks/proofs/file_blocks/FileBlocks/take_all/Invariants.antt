@@ -1,6 +1,7 @@
 use Rattle.std.proofs.Common.{◌≡◌, drop}
 use Rattle.geos_model.specs.Document.{handles_of, without_blocks}
 use Rattle.vm_file.specs.Members.{saved_blocks}
+use Rattle.block_cache.specs.State.{KeepsLocks}
 use Rattle.vm_blocks.proofs.file_blocks.FileBlocks.take_all.Given as goal
 
 -- what is left to be taken out leaves what was to be left
@@ -10,4 +11,5 @@ invariant-loop-member g l = record {
   map_block : l.self.document.map_block ≡ l.fn.self.document.map_block;
   disk : l.self.disk ≡ l.fn.self.disk;
   frames : l.self.frames ≡ l.fn.self.frames;
+  locks : KeepsLocks l.fn.self.resident l.self.resident;
 }
