@@ -130,6 +130,32 @@ pub(crate) fn set<S: Store>(cache: &mut Cache<S>, handle: u16, bytes: &[u8]) -> 
     }
 }
 
+/// Whether the document has blocks under these handles alone.
+pub(crate) fn lists<S: Store>(cache: &Cache<S>, handles: &[u16]) -> Result<bool, Fault> {
+    let blocks = cache.list()?;
+    let mut is_each = blocks.len() == handles.len();
+    for (block, handle) in blocks.iter().zip(handles) {
+        is_each = is_each && block.0 == *handle;
+    }
+    Ok(is_each)
+}
+
+/// The handle that the next block gets, 0 where there is none.
+pub(crate) fn next_handle<S: Store>(cache: &Cache<S>) -> u16 {
+    match cache.next_handle() {
+        Some(block) => block.0,
+        None => 0,
+    }
+}
+
+/// The first block with this user ID above a handle, 0 where there is none.
+pub(crate) fn found<S: Store>(cache: &Cache<S>, user_id: u16, start: u16) -> u16 {
+    match cache.find(user_id, VmHandle(start)) {
+        Some(block) => block.0,
+        None => 0,
+    }
+}
+
 // The commits, without what their contracts say: a test that calls them is proved to be safe, no more.
 pub(crate) fn update<S: Store>(cache: &mut Cache<S>) -> Result<(), Fault> {
     cache.commit_update()

@@ -1,93 +1,140 @@
 // Blocks that come into a document and go from it, and documents that move to another file.
-use crate::calls::{created, has, is_there, load, opened, put, remove, save, save_as, set, update};
+use crate::calls::{created, save_as};
+use crate::steps::Step::{
+    Finds, Has, IsAway, Lists, Load, NextHandle, NoLoad, Put, Remove, Save, Set, Update,
+};
+use crate::steps::{Departure, Step, closed, kept, made, take};
 use block_cache::Cache;
-use geos_model::{Fault, VmHandle};
+use geos_model::Fault;
 use std::alloc::Global;
 use std::test::Fail;
 use vm_store::{FuseStore, MemStore};
 
+type Fused = FuseStore<MemStore>;
+
+// A block that goes and comes again, beside one that stays.
+const GONE: [Step; 12] = [
+    Load(1),
+    Load(2),
+    Set(1, b"changed"),
+    Remove(1),
+    IsAway(1),
+    Has(2, b"two"),
+    NoLoad(1, Fault::NoBlock),
+    Put(1, b"again"),
+    IsAway(1),
+    Has(2, b"two"),
+    Load(1),
+    Has(1, b"again"),
+];
+
 #[test]
 fn a_block_that_goes_leaves_memory_and_file(rt: HostRuntime) -> Result<(), Fail> {
     let alloc = rt.alloc();
-    let mut cache = created(alloc, MemStore::new(alloc), 2)?;
-    put(alloc, &mut cache, 1, b"one")?;
-    put(alloc, &mut cache, 2, b"two")?;
-    load(&mut cache, 1)?;
-    load(&mut cache, 2)?;
-    set(&mut cache, 1, b"changed")?;
-    remove(&mut cache, 1)?;
-    assert!(rt; !is_there(&cache, 1) && has(&cache, 2, b"two"));
-    assert!(rt; load(&mut cache, 1) == Err(Fault::NoBlock));
-    put(alloc, &mut cache, 1, b"again")?;
-    assert!(rt; !is_there(&cache, 1) && is_there(&cache, 2));
-    load(&mut cache, 1)?;
-    assert!(rt; has(&cache, 1, b"again"));
+    let begun = [Put(1, b"one"), Put(2, b"two")];
+    made(alloc, MemStore::new(alloc), 2, &begun, &GONE)?;
     Ok(())
 }
 
 #[test]
 fn the_handles_are_those_in_memory_and_not(rt: HostRuntime) -> Result<(), Fail> {
     let alloc = rt.alloc();
-    let mut cache = created(alloc, MemStore::new(alloc), 1)?;
-    put(alloc, &mut cache, 3, b"three")?;
-    put(alloc, &mut cache, 1, b"one")?;
-    put(alloc, &mut cache, 2, b"two")?;
-    load(&mut cache, 3)?;
-    remove(&mut cache, 2)?;
-    let handles = cache.list()?;
-    assert!(rt; handles.as_slice() == [VmHandle(1), VmHandle(3)].as_slice());
-    assert!(rt; cache.next_handle() == Some(VmHandle(2)));
-    assert!(rt; cache.find(3, VmHandle(1)) == Some(VmHandle(3)));
-    assert!(rt; cache.find(3, VmHandle(3)) == None);
+    let begun = [
+        Put(3, b"three"),
+        Put(1, b"one"),
+        Put(2, b"two"),
+        Load(3),
+        Remove(2),
+    ];
+    let told = [
+        Lists(&[1, 3]),
+        NextHandle(2),
+        Finds(3, 1, 3),
+        Finds(3, 3, 0),
+    ];
+    made(alloc, MemStore::new(alloc), 1, &begun, &told)?;
     Ok(())
 }
 
 // A saved document of two blocks, the first of them in memory and changed since.
-fn two(alloc: Global) -> Result<Cache<FuseStore<MemStore>>, Fault> {
-    let mut cache = created(alloc, fused(alloc, u64::MAX), 1)?;
-    put(alloc, &mut cache, 1, b"one")?;
-    put(alloc, &mut cache, 2, b"two")?;
-    save(&mut cache)?;
-    load(&mut cache, 1)?;
-    set(&mut cache, 1, b"changed")?;
-    Ok(cache)
-}
+const TWO: [Step; 5] = [
+    Put(1, b"one"),
+    Put(2, b"two"),
+    Save,
+    Load(1),
+    Set(1, b"changed"),
+];
 
 // A new store in memory of which so many calls succeed.
-fn fused(alloc: Global, passes: u64) -> FuseStore<MemStore> {
+fn fused(alloc: Global, passes: u64) -> Fused {
     FuseStore::new(MemStore::new(alloc), passes, true)
+}
+
+// Begins that document, and makes another file of it, where it goes on. Returns the file so far.
+fn go_on(alloc: Global, cache: &mut Cache<Fused>) -> Result<Fused, Departure> {
+    take(alloc, cache, &TWO)?;
+    let so_far = save_as(cache, fused(alloc, u64::MAX)).map_err(Departure::NoCopy)?;
+    take(
+        alloc,
+        cache,
+        &[Has(1, b"changed"), Set(1, b"later"), Update],
+    )?;
+    Ok(so_far)
+}
+
+// The file so far and the other file.
+fn both_files(alloc: Global) -> Result<(Fused, Fused), Departure> {
+    let mut cache = created(alloc, fused(alloc, u64::MAX), 1).map_err(Departure::NoCache)?;
+    let so_far = go_on(alloc, &mut cache);
+    let other = cache.close();
+    match so_far {
+        Ok(so_far) => Ok((so_far, other)),
+        Err(departure) => Err(departure),
+    }
 }
 
 #[test]
 fn a_save_as_goes_on_in_the_other_file(rt: HostRuntime) -> Result<(), Fail> {
     let alloc = rt.alloc();
-    let mut cache = two(alloc)?;
-    let store = save_as(&mut cache, fused(alloc, u64::MAX))?;
-    assert!(rt; has(&cache, 1, b"changed"));
-    set(&mut cache, 1, b"later")?;
-    update(&mut cache)?;
-    let mut old = opened(alloc, store, 2)?;
-    load(&mut old, 1)?;
-    assert!(rt; has(&old, 1, b"one"));
-    let mut new = opened(alloc, cache.close(), 2)?;
-    load(&mut new, 1)?;
-    load(&mut new, 2)?;
-    assert!(rt; has(&new, 1, b"later") && has(&new, 2, b"two"));
+    let (so_far, other) = both_files(alloc)?;
+    kept(alloc, so_far, 2, &[Load(1), Has(1, b"one")])?;
+    kept(
+        alloc,
+        other,
+        2,
+        &[Load(1), Load(2), Has(1, b"later"), Has(2, b"two")],
+    )?;
     Ok(())
+}
+
+// Begins that document, and makes no other file of it over stores that fail, so that it stays in its own.
+fn stay(alloc: Global, cache: &mut Cache<Fused>) -> Result<(), Departure> {
+    take(alloc, cache, &TWO)?;
+    for passes in 0..6 {
+        if save_as(cache, fused(alloc, passes)).is_ok() {
+            return Err(Departure::Copied(passes));
+        }
+        take(alloc, cache, &[Has(1, b"changed")])?;
+    }
+    take(alloc, cache, &[Update])
+}
+
+// The file of the document that stays.
+fn file_that_stays(alloc: Global) -> Result<Fused, Departure> {
+    let mut cache = created(alloc, fused(alloc, u64::MAX), 1).map_err(Departure::NoCache)?;
+    let end = stay(alloc, &mut cache);
+    closed(cache, end)
 }
 
 #[test]
 fn a_save_as_that_is_refused_stays_in_its_file(rt: HostRuntime) -> Result<(), Fail> {
     let alloc = rt.alloc();
-    let mut cache = two(alloc)?;
-    for passes in 0..6 {
-        assert!(rt; save_as(&mut cache, fused(alloc, passes)).is_err());
-        assert!(rt; has(&cache, 1, b"changed"));
-    }
-    update(&mut cache)?;
-    let mut again = opened(alloc, cache.close(), 2)?;
-    load(&mut again, 1)?;
-    load(&mut again, 2)?;
-    assert!(rt; has(&again, 1, b"changed") && has(&again, 2, b"two"));
+    let file = file_that_stays(alloc)?;
+    kept(
+        alloc,
+        file,
+        2,
+        &[Load(1), Load(2), Has(1, b"changed"), Has(2, b"two")],
+    )?;
     Ok(())
 }

@@ -10,4 +10,6 @@ mod counting;
 #[cfg(test)]
 mod sizes;
 #[cfg(test)]
+mod steps;
+#[cfg(test)]
 mod using;

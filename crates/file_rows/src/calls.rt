@@ -1,5 +1,5 @@
 // Calls of a document file, each with what it has to know beforehand.
-ghost use Rattle.std.specs.Prelude.{IfOk};
+ghost use Rattle.std.specs.Prelude.{◌≤◌, All, IfOk, length};
 ghost use Rattle.vm_file.specs.Calls.{IsPut};
 
 use geos_model::{Fault, VmHandle};
@@ -86,12 +86,43 @@ pub(crate) fn put<S: Store>(
     file.put_blocks(&[block], &[])
 }
 
+// A block under each handle, with its handle as user ID and this body.
+fn all_blocks(alloc: Global, body: &[u8]) -> Result<Vec<Member>, Fault>
+    ensures puts { IfOk result (λ puts. All IsPut puts.items) }
+    ensures count { IfOk result (λ puts. length puts.items ≤ 2048) }
+{
+    let mut puts = Vec::new(alloc);
+    for handle in 0..MOST_BLOCKS {
+        puts.push(raw_block(alloc, handle + 1, handle + 1, body)?)?;
+    }
+    Ok(puts)
+}
+
+/// Puts a block with this body under each handle.
+pub(crate) fn put_all<S: Store>(
+    alloc: Global,
+    file: &mut VmFile<S>,
+    body: &[u8],
+) -> Result<(), Fault> {
+    file.put_blocks(&all_blocks(alloc, body)?, &[])
+}
+
 /// Takes a block out of the document, unless it is the map block.
 pub(crate) fn remove<S: Store>(file: &mut VmFile<S>, handle: u16) -> Result<(), Fault> {
     if file.map_block().0 == handle {
         return Err(Fault::IsMap);
     }
     file.put_blocks(&[], &[VmHandle(handle)])
+}
+
+/// Takes out the blocks under all handles but one.
+pub(crate) fn remove_others<S: Store>(file: &mut VmFile<S>, kept: u16) -> Result<(), Fault> {
+    for handle in 1..=MOST_BLOCKS {
+        if handle != kept {
+            remove(file, handle)?;
+        }
+    }
+    Ok(())
 }
 
 /// The image of a block, `None` where it isn't live.
@@ -160,6 +191,16 @@ pub(crate) fn live_blocks<S: Store>(alloc: Global, file: &VmFile<S>) -> Result<V
     Ok(live)
 }
 
+/// Whether there is a block under each handle, which has it as user ID.
+pub(crate) fn is_full<S: Store>(alloc: Global, file: &VmFile<S>) -> Result<bool, Fault> {
+    let live = live_blocks(alloc, file)?;
+    let mut is_each = live.len() == usize::from(MOST_BLOCKS);
+    for handle in live {
+        is_each = is_each && user_id_of(file, handle) == Some(handle);
+    }
+    Ok(is_each)
+}
+
 /// The handles that the document tells.
 pub(crate) fn listed<S: Store>(alloc: Global, file: &VmFile<S>) -> Result<Vec<u16>, Fault> {
     let mut handles = Vec::new(alloc);
@@ -190,4 +231,12 @@ pub(crate) fn has_no_block<S: Store>(file: &VmFile<S>) -> bool {
         }
     }
     true
+}
+
+/// Whether each commit is refused.
+pub(crate) fn is_worn_out<S: Store>(file: &mut VmFile<S>) -> bool {
+    file.is_worn()
+        && update(file) == Err(Fault::Worn)
+        && save(file) == Err(Fault::Worn)
+        && revert(file) == Err(Fault::Worn)
 }

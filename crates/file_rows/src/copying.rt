@@ -1,31 +1,25 @@
 // A document that is copied into another store.
-use crate::calls::{
-    copy, create, has, live_blocks, open, put, revert, save, set_map_block, update, user_id_of, why,
-};
+use crate::calls::{copy, create, why};
+use crate::steps::Step::{Has, HasUserId, Lives, MapBlock, Put, Revert, Save, SetMap, Update};
+use crate::steps::{Departure, Step, closed, given_back, made, read, take};
 use geos_model::Fault;
 use std::alloc::Global;
 use std::test::Fail;
 use vm_file::VmFile;
-use vm_store::{FuseStore, MemStore, Store};
+use vm_store::{FuseStore, MemStore};
 
 type Fused = FuseStore<MemStore>;
 
-fn fused(alloc: Global, passes: u64, all: bool) -> Fused {
-    FuseStore::new(MemStore::new(alloc), passes, all)
+fn fused(alloc: Global, passes: u64) -> Fused {
+    FuseStore::new(MemStore::new(alloc), passes, true)
 }
 
-// Two blocks, of which the first is updated and the second lies in the file alone. The store fails after so many calls.
-fn source_that_fails(alloc: Global, passes: u64) -> Result<VmFile<Fused>, Fault> {
-    let mut file = create(alloc, fused(alloc, passes, true))?;
-    put(alloc, &mut file, 1, 7, b"ab")?;
-    update(&mut file)?;
-    put(alloc, &mut file, 3, 9, &[5; 512])?;
-    set_map_block(&mut file, 3)?;
-    Ok(file)
-}
+// Two blocks, of which the first is updated and the second lies in the file alone.
+const SOURCE: [Step; 4] = [Put(1, 7, b"ab"), Update, Put(3, 9, &[5; 512]), SetMap(3)];
 
-fn source(alloc: Global) -> Result<VmFile<Fused>, Fault> {
-    source_that_fails(alloc, u64::MAX)
+// The file of that document.
+fn source(alloc: Global) -> Result<Fused, Departure> {
+    made(alloc, fused(alloc, u64::MAX), &[], &SOURCE)
 }
 
 // The slots, and the two images from page 2 on, the second of two pages.
@@ -49,24 +43,52 @@ fn copied(alloc: Global) -> Result<Vec<u8>, Fault> {
     Ok(bytes)
 }
 
-// Whether the document is the one that is copied.
-fn is_copied<S: Store>(alloc: Global, file: &mut VmFile<S>) -> Result<bool, Fault> {
-    let live = live_blocks(alloc, file)?;
-    let has_user_ids = user_id_of(file, 1) == Some(7) && user_id_of(file, 3) == Some(9);
-    let has_body = has(file, 1, b"\0ab")?;
-    Ok(live.as_slice() == [1, 3].as_slice() && has_user_ids && has_body && file.map_block().0 == 3)
+// The document that is copied.
+const COPIED: [Step; 5] = [
+    Lives(&[1, 3]),
+    HasUserId(1, 7),
+    HasUserId(3, 9),
+    Has(1, b"\0ab"),
+    MapBlock(3),
+];
+
+// The file of a copy into a store that serves, when the steps were taken on it.
+fn copied_file(
+    alloc: Global,
+    file: &mut VmFile<Fused>,
+    steps: &[Step],
+) -> Result<Fused, Departure> {
+    let mut copy = copy(file, fused(alloc, u64::MAX))
+        .map_err(why)
+        .map_err(Departure::NoFile)?;
+    let end = take(alloc, &mut copy, steps);
+    closed(copy, end)
 }
 
-// A copy into a store that serves.
-fn copy_of_source(alloc: Global) -> Result<VmFile<Fused>, Fault> {
-    let mut file = source(alloc)?;
-    copy(&mut file, fused(alloc, u64::MAX, true)).map_err(why)
+// Makes that document and copies it, and takes the steps on the copy and then on the document. Returns the file of the copy.
+fn make_and_copy(
+    alloc: Global,
+    file: &mut VmFile<Fused>,
+    steps: &[Step],
+) -> Result<Fused, Departure> {
+    take(alloc, file, &SOURCE)?;
+    let copied = copied_file(alloc, file, steps)?;
+    take(alloc, file, steps)?;
+    Ok(copied)
+}
+
+// The files of that document and of its copy, when the steps were taken on both.
+fn both_files(alloc: Global, steps: &[Step]) -> Result<(Fused, Fused), Departure> {
+    let mut file = create(alloc, fused(alloc, u64::MAX)).map_err(Departure::NoFile)?;
+    let copied = make_and_copy(alloc, &mut file, steps);
+    let store = file.close();
+    Ok((store, copied?))
 }
 
 #[test]
 fn a_copy_is_a_file_of_the_document_as_it_is(rt: HostRuntime) -> Result<(), Fail> {
     let alloc = rt.alloc();
-    let store = copy_of_source(alloc)?.close();
+    let (_, store) = both_files(alloc, &[])?;
     // The length, two images, the directory, two slots, the gate, and two syncs.
     assert_eq!(rt; store.calls(), 9);
     assert_eq!(rt; store.inner().bytes(), copied(alloc)?.as_slice());
@@ -75,25 +97,15 @@ fn a_copy_is_a_file_of_the_document_as_it_is(rt: HostRuntime) -> Result<(), Fail
 
 #[test]
 fn a_copy_has_the_document(rt: HostRuntime) -> Result<(), Fail> {
-    let mut file = copy_of_source(rt.alloc())?;
-    assert!(rt; is_copied(rt.alloc(), &mut file)?);
+    both_files(rt.alloc(), &COPIED)?;
     Ok(())
-}
-
-// The bytes of the source once it was copied, if its document is still there.
-fn left_by_a_copy(alloc: Global) -> Result<Fused, Fault> {
-    let mut file = source(alloc)?;
-    let _copy = copy(&mut file, fused(alloc, u64::MAX, true)).map_err(why)?;
-    if !is_copied(alloc, &mut file)? {
-        return Err(Fault::Range);
-    }
-    Ok(file.close())
 }
 
 #[test]
 fn what_is_copied_stays(rt: HostRuntime) -> Result<(), Fail> {
-    let before = source(rt.alloc())?.close();
-    let after = left_by_a_copy(rt.alloc())?;
+    let alloc = rt.alloc();
+    let before = source(alloc)?;
+    let (after, _) = both_files(alloc, &COPIED)?;
     assert_eq!(rt; after.inner().bytes(), before.inner().bytes());
     Ok(())
 }
@@ -101,34 +113,60 @@ fn what_is_copied_stays(rt: HostRuntime) -> Result<(), Fail> {
 #[test]
 fn a_copy_is_whole_after_a_crash(rt: HostRuntime) -> Result<(), Fail> {
     let alloc = rt.alloc();
-    let left = copy_of_source(alloc)?.close().inner().crashed(0, 255)?;
-    let mut file = open(alloc, left.bytes())?;
-    assert!(rt; is_copied(alloc, &mut file)?);
-    revert(&mut file)?;
-    assert!(rt; is_copied(alloc, &mut file)?);
+    let (_, store) = both_files(alloc, &[])?;
+    let left = store.inner().crashed(0, 255)?;
+    let steps = [
+        Lives(&[1, 3]),
+        HasUserId(1, 7),
+        HasUserId(3, 9),
+        Has(1, b"\0ab"),
+        MapBlock(3),
+        Revert,
+        Lives(&[1, 3]),
+        HasUserId(1, 7),
+        HasUserId(3, 9),
+        Has(1, b"\0ab"),
+        MapBlock(3),
+    ];
+    read(alloc, left.bytes(), &steps)?;
     Ok(())
 }
 
-// Whether the document is there, and can be saved.
-fn can_be_saved(alloc: Global, mut file: VmFile<Fused>) -> Result<bool, Fault> {
-    let live = live_blocks(alloc, &file)?;
-    save(&mut file)?;
-    let saved = open(alloc, file.close().inner().bytes())?;
-    let live_then = live_blocks(alloc, &saved)?;
-    Ok(live.as_slice() == [1, 3].as_slice() && live_then.as_slice() == [1, 3].as_slice())
+// Makes that document, and takes the steps on it behind a copy of it that is refused since a store fails. Returns the target, which is
+// given back.
+fn make_and_refuse(
+    alloc: Global,
+    file: &mut VmFile<Fused>,
+    target: Fused,
+    steps: &[Step],
+) -> Result<Fused, Departure> {
+    take(alloc, file, &SOURCE)?;
+    let target = given_back(copy(file, target))?;
+    take(alloc, file, steps)?;
+    Ok(target)
 }
 
+// The files of that document and of the target of such a copy, whose calls after so many fail.
+fn refused_files(
+    alloc: Global,
+    passes: u64,
+    target_passes: u64,
+    steps: &[Step],
+) -> Result<(Fused, Fused), Departure> {
+    let mut file = create(alloc, fused(alloc, passes)).map_err(Departure::NoFile)?;
+    let target = make_and_refuse(alloc, &mut file, fused(alloc, target_passes), steps);
+    let store = file.close();
+    Ok((store, target?))
+}
+
+// The document is there, and can be saved.
 #[test]
 fn a_refused_copy_gives_the_target_back(rt: HostRuntime) -> Result<(), Fail> {
     let alloc = rt.alloc();
     for passes in 0..9 {
-        let mut file = source(alloc)?;
-        let Err(refused) = copy(&mut file, fused(alloc, passes, true)) else {
-            return Err(Fail::new("the copy was made"));
-        };
-        assert_eq!(rt; refused.fault, Fault::File);
-        assert_eq!(rt; refused.store.calls(), passes + 1);
-        assert!(rt; can_be_saved(alloc, file)?);
+        let (store, target) = refused_files(alloc, u64::MAX, passes, &[Lives(&[1, 3]), Save])?;
+        assert_eq!(rt; target.calls(), passes + 1);
+        read(alloc, store.inner().bytes(), &[Lives(&[1, 3])])?;
     }
     Ok(())
 }
@@ -137,15 +175,11 @@ fn a_refused_copy_gives_the_target_back(rt: HostRuntime) -> Result<(), Fail> {
 #[test]
 fn a_copy_of_what_cannot_be_read_is_refused(rt: HostRuntime) -> Result<(), Fail> {
     let alloc = rt.alloc();
-    let calls = source(alloc)?.close().calls();
+    let calls = source(alloc)?.calls();
     for images in 0..2 {
-        let mut file = source_that_fails(alloc, calls.saturating_add(images))?;
-        let Err(refused) = copy(&mut file, fused(alloc, u64::MAX, true)) else {
-            return Err(Fail::new("the copy was made"));
-        };
-        assert_eq!(rt; refused.fault, Fault::File);
+        let (_, target) = refused_files(alloc, calls.saturating_add(images), u64::MAX, &[])?;
         // Its length, and the images that were read.
-        assert_eq!(rt; refused.store.calls(), 1 + images);
+        assert_eq!(rt; target.calls(), 1 + images);
     }
     Ok(())
 }

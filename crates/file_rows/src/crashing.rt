@@ -1,10 +1,13 @@
 // What a crash leaves while the store fails: the documents last acknowledged, or those of a commit that was tried since.
 use crate::calls::{create, image_of, open, put, revert, save, update};
+use crate::steps::closed;
 use geos_model::Fault;
 use std::alloc::Global;
 use std::test::Fail;
 use vm_file::{VmFile, crash_law};
 use vm_store::{FuseStore, MemStore};
+
+type Fused = FuseStore<MemStore>;
 
 /// The byte of the one block, `None` where it isn't live.
 type Byte = Option<u8>;
@@ -38,7 +41,7 @@ enum Step {
     Revert,
 }
 
-const STEPS: [Step; 8] = [
+const STEPS: [Step; 13] = [
     Step::Put(0),
     Step::Save,
     Step::Put(0x61),
@@ -47,9 +50,6 @@ const STEPS: [Step; 8] = [
     Step::Save,
     Step::Put(0x63),
     Step::Revert,
-];
-
-const MORE_STEPS: [Step; 5] = [
     Step::Put(0x64),
     Step::Save,
     Step::Put(0x65),
@@ -57,40 +57,37 @@ const MORE_STEPS: [Step; 5] = [
     Step::Put(0x66),
 ];
 
+// How many of them lead to the documents above, before the others.
+const FIRST_STEPS: usize = 8;
+
 // The store calls that make a file.
 const MAKING: u64 = 7;
 
 // Never are there more writes since the last sync.
 const MOST_PENDING: usize = 7;
 
-// A file, and what may be read after a crash.
+// What may be read of a file after a crash.
 #[derive(Drop)]
-struct Run {
-    alloc: Global,
-    file: VmFile<FuseStore<MemStore>>,
+struct Record {
     live: Byte,
     acknowledged: Pair,
     // Those that were tried since, oldest first.
     tried: Vec<Pair>,
 }
 
-impl Run {
-    // The store fails after so many calls.
-    fn new(alloc: Global, passes: u64, all: bool) -> Result<Run, Fault> {
-        let store = FuseStore::new(MemStore::new(alloc), passes, all);
-        Ok(Run {
-            alloc,
-            file: create(alloc, store)?,
+impl Record {
+    fn new(alloc: Global) -> Record {
+        Record {
             live: None,
             acknowledged: NONE,
             tried: Vec::new(alloc),
-        })
+        }
     }
 
     // Whether the step was done.
-    fn step(&mut self, step: Step) -> Result<bool, Fault> {
+    fn step(&mut self, alloc: Global, file: &mut VmFile<Fused>, step: Step) -> Result<bool, Fault> {
         let pair = match step {
-            Step::Put(byte) => return Ok(self.put(byte)),
+            Step::Put(byte) => return Ok(self.put(alloc, file, byte)),
             Step::Update => Pair {
                 updated: self.live,
                 saved: self.acknowledged.saved,
@@ -105,9 +102,9 @@ impl Run {
             },
         };
         let answer = match step {
-            Step::Revert => revert(&mut self.file),
-            Step::Save => save(&mut self.file),
-            _ => update(&mut self.file),
+            Step::Revert => revert(file),
+            Step::Save => save(file),
+            _ => update(file),
         };
         if answer.is_err() {
             self.tried.push(pair)?;
@@ -121,8 +118,8 @@ impl Run {
         Ok(true)
     }
 
-    fn put(&mut self, byte: u8) -> bool {
-        match put(self.alloc, &mut self.file, 1, 0, &[byte]) {
+    fn put(&mut self, alloc: Global, file: &mut VmFile<Fused>, byte: u8) -> bool {
+        match put(alloc, file, 1, 0, &[byte]) {
             Ok(()) => {
                 self.live = Some(byte);
                 true
@@ -131,19 +128,24 @@ impl Run {
         }
     }
 
-    fn play(&mut self, steps: &[Step]) -> Result<(), Fault> {
+    fn play(
+        &mut self,
+        alloc: Global,
+        file: &mut VmFile<Fused>,
+        steps: &[Step],
+    ) -> Result<(), Fault> {
         for step in steps {
-            self.step(*step)?;
+            self.step(alloc, file, *step)?;
         }
         Ok(())
     }
 
-    // Plays the steps up to one that isn't done. Returns how many commits there were, and whether another one was tried.
-    fn play_up(&mut self) -> Result<(usize, bool), Fault> {
+    // Plays the first steps up to one that isn't done. Returns how many commits there were, and whether another one was tried.
+    fn play_up(&mut self, alloc: Global, file: &mut VmFile<Fused>) -> Result<(usize, bool), Fault> {
         let mut commits = 0;
-        for step in STEPS {
+        for step in &STEPS[..FIRST_STEPS] {
             let is_put = matches!(step, Step::Put(_));
-            if !self.step(step)? {
+            if !self.step(alloc, file, *step)? {
                 return Ok((commits, !is_put));
             }
             if !is_put && commits < 4 {
@@ -153,26 +155,25 @@ impl Run {
         Ok((commits, false))
     }
 
-    // The documents that a crash leaves.
-    fn crashed(store: &MemStore, alloc: Global, keep: usize, fill: u8) -> Result<Pair, Fault> {
-        let left = store.crashed(keep, fill)?;
-        read(alloc, left.bytes())
-    }
-
     // Whether each crash leaves the documents last acknowledged or others that were tried since.
-    fn stands(self, fill: u8) -> Result<bool, Fault> {
-        let store = self.file.close();
-        if !are_all(store.inner(), MOST_PENDING)? {
+    fn stands(&self, alloc: Global, store: &MemStore, fill: u8) -> Result<bool, Fault> {
+        if !are_all(store, MOST_PENDING)? {
             return Ok(false);
         }
         for keep in 0..=MOST_PENDING {
-            let pair = Run::crashed(store.inner(), self.alloc, keep, fill)?;
+            let pair = crashed(store, alloc, keep, fill)?;
             if pair != self.acknowledged && !self.tried.contains(&pair) {
                 return Ok(false);
             }
         }
         Ok(true)
     }
+}
+
+// The documents that a crash leaves.
+fn crashed(store: &MemStore, alloc: Global, keep: usize, fill: u8) -> Result<Pair, Fault> {
+    let left = store.crashed(keep, fill)?;
+    read(alloc, left.bytes())
 }
 
 // Whether the store has had no more writes since the last sync.
@@ -190,12 +191,17 @@ fn byte_in(file: &mut VmFile<MemStore>) -> Result<Byte, Fault> {
     }
 }
 
+// The documents of a file.
+fn pair_in(file: &mut VmFile<MemStore>) -> Result<Pair, Fault> {
+    let updated = byte_in(file)?;
+    revert(file)?;
+    let saved = byte_in(file)?;
+    Ok(Pair { updated, saved })
+}
+
 fn read(alloc: Global, bytes: &[u8]) -> Result<Pair, Fault> {
     let mut file = open(alloc, bytes)?;
-    let updated = byte_in(&mut file)?;
-    revert(&mut file)?;
-    let saved = byte_in(&mut file)?;
-    Ok(Pair { updated, saved })
+    pair_in(&mut file)
 }
 
 // Whether these documents are those of so many commits, or of the next one where that was tried.
@@ -208,11 +214,48 @@ fn may_be_left(left: Pair, commits: usize, is_tried: bool) -> bool {
     left == PAIRS[commits] || (is_tried && next < PAIRS.len() && left == PAIRS[next])
 }
 
-// The store calls of all the steps.
+// The store of a new file on which the steps were played, where its call after so many fails, and what may be read after a crash.
+fn played(alloc: Global, passes: u64, steps: &[Step]) -> Result<(Fused, Record), Fault> {
+    let store = FuseStore::new(MemStore::new(alloc), passes, false);
+    let mut record = Record::new(alloc);
+    let mut file = create(alloc, store)?;
+    let end = record.play(alloc, &mut file, steps);
+    Ok((closed(file, end)?, record))
+}
+
+// The store of a new file on which the first steps were played, where all its calls after so many fail, with how many commits there
+// were, and whether another one was tried.
+fn played_up(alloc: Global, passes: u64) -> Result<(Fused, usize, bool), Fault> {
+    let store = FuseStore::new(MemStore::new(alloc), passes, true);
+    let mut file = create(alloc, store)?;
+    let end = Record::new(alloc).play_up(alloc, &mut file);
+    let store = file.close();
+    let (commits, is_tried) = end?;
+    Ok((store, commits, is_tried))
+}
+
+// The store calls of the first steps.
 fn all_calls(alloc: Global) -> Result<u64, Fault> {
-    let mut run = Run::new(alloc, u64::MAX, true)?;
-    run.play(&STEPS)?;
-    Ok(run.file.close().calls())
+    let (store, _) = played(alloc, u64::MAX, &STEPS[..FIRST_STEPS])?;
+    Ok(store.calls())
+}
+
+// The documents that a crash leaves which it may not leave, behind so many commits, and how many writes it keeps and what it fills in.
+fn wrongly_left(
+    alloc: Global,
+    store: &MemStore,
+    commits: usize,
+    is_tried: bool,
+) -> Result<Option<(Pair, usize, u8)>, Fault> {
+    for keep in 0..=MOST_PENDING {
+        for fill in [0, 1, 255] {
+            let left = crashed(store, alloc, keep, fill)?;
+            if !may_be_left(left, commits, is_tried) {
+                return Ok(Some((left, keep, fill)));
+            }
+        }
+    }
+    Ok(None)
 }
 
 #[test]
@@ -221,21 +264,21 @@ fn a_crash_of_a_failing_store_leaves_the_last_documents_or_the_next(
 ) -> Result<(), Fail> {
     let alloc = rt.alloc();
     for passes in MAKING..=all_calls(alloc)? {
-        let mut run = Run::new(alloc, passes, true)?;
-        let (commits, is_tried) = run.play_up()?;
-        let store = run.file.close();
+        let (store, commits, is_tried) = played_up(alloc, passes)?;
         assert!(rt; are_all(store.inner(), MOST_PENDING)?);
-        for keep in 0..=MOST_PENDING {
-            for fill in [0, 1, 255] {
-                let left = Run::crashed(store.inner(), alloc, keep, fill)?;
-                assert!(rt;
-                    may_be_left(left, commits, is_tried),
-                    "{left:?} after {passes} calls, {commits} commits, {keep} writes and {fill}"
-                );
-            }
-        }
+        assert_eq!(rt;
+            wrongly_left(alloc, store.inner(), commits, is_tried)?,
+            None,
+            "after {passes} calls, {commits} commits"
+        );
     }
     Ok(())
+}
+
+// Whether each crash behind the steps, where the call after so many fails, leaves what it may leave.
+fn is_kept(alloc: Global, passes: u64, steps: &[Step], fill: u8) -> Result<bool, Fault> {
+    let (store, record) = played(alloc, passes, steps)?;
+    record.stands(alloc, store.inner(), fill)
 }
 
 #[test]
@@ -243,23 +286,21 @@ fn a_failing_call_loses_no_commit_of_those_that_follow(rt: HostRuntime) -> Resul
     let alloc = rt.alloc();
     for passes in MAKING..=all_calls(alloc)? {
         for fill in [0, 1, 255] {
-            let mut run = Run::new(alloc, passes, false)?;
-            run.play(&STEPS)?;
-            run.play(&MORE_STEPS)?;
-            assert!(rt; run.stands(fill)?, "call {passes} failed, {fill}");
+            assert!(rt;
+                is_kept(alloc, passes, &STEPS, fill)?,
+                "call {passes} failed, {fill}"
+            );
         }
     }
-    crash_law::<FuseStore<MemStore>>();
+    crash_law::<Fused>();
     Ok(())
 }
 
 // Each of the first store calls fails alone. Returns the one after whose failure a crash behind some step leaves other documents.
 fn first_loss(alloc: Global, fill: u8) -> Result<Option<u64>, Fault> {
     for passes in MAKING..=all_calls(alloc)? {
-        for steps in 1..=STEPS.len() {
-            let mut run = Run::new(alloc, passes, false)?;
-            run.play(&STEPS[..steps])?;
-            if !run.stands(fill)? {
+        for steps in 1..=FIRST_STEPS {
+            if !is_kept(alloc, passes, &STEPS[..steps], fill)? {
                 return Ok(Some(passes));
             }
         }

@@ -22,4 +22,6 @@ mod real;
 #[cfg(test)]
 mod room;
 #[cfg(test)]
+mod steps;
+#[cfg(test)]
 mod wearing;

@@ -1,10 +1,10 @@
 // What opens, and to which documents.
 ghost use Rattle.std.specs.Prelude.{◌<◌, ◌≤◌};
 
-use crate::calls::{
-    has, has_no_block, image_of, live_blocks, open, revert, update, user_id_of, why,
-};
+use crate::calls::{has_no_block, image_of, open, revert, user_id_of};
 use crate::example::{LENGTH, example};
+use crate::steps::Step::{Has, HasUserId, IsEmpty, Lives, MapBlock, Revert, Update};
+use crate::steps::{Departure, given_back, kept, read};
 use geos_model::Fault;
 use std::alloc::Global;
 use std::test::Fail;
@@ -15,15 +15,16 @@ const VALUES: [u8; 6] = [0, 1, 2, 3, 254, 255];
 
 #[test]
 fn an_open_file_has_its_two_documents(rt: HostRuntime) -> Result<(), Fail> {
-    let alloc = rt.alloc();
-    let mut file = open(alloc, &example())?;
-    assert_eq!(rt; live_blocks(alloc, &file)?.as_slice(), [1].as_slice());
-    assert_eq!(rt; user_id_of(&file, 1), Some(7));
-    assert_eq!(rt; file.map_block().0, 1);
-    assert!(rt; has(&mut file, 1, b"\0ab")?);
-    revert(&mut file)?;
-    assert!(rt; has_no_block(&file));
-    assert_eq!(rt; file.map_block().0, 0);
+    let steps = [
+        Lives(&[1]),
+        HasUserId(1, 7),
+        MapBlock(1),
+        Has(1, b"\0ab"),
+        Revert,
+        IsEmpty,
+        MapBlock(0),
+    ];
+    read(rt.alloc(), &example(), &steps)?;
     Ok(())
 }
 
@@ -48,9 +49,8 @@ fn updated(alloc: Global) -> Result<Vec<u8>, Fault> {
 #[test]
 fn an_update_writes_the_other_slot(rt: HostRuntime) -> Result<(), Fail> {
     let alloc = rt.alloc();
-    let mut file = open(alloc, &example())?;
-    update(&mut file)?;
-    assert_eq!(rt; file.close().bytes(), updated(alloc)?.as_slice());
+    let store = read(alloc, &example(), &[Update])?;
+    assert_eq!(rt; store.bytes(), updated(alloc)?.as_slice());
     Ok(())
 }
 
@@ -67,17 +67,20 @@ enum Answer {
 }
 
 fn look(alloc: Global, bytes: &[u8]) -> Result<Answer, Fault> {
-    let mut file = match open(alloc, bytes) {
-        Ok(file) => file,
-        Err(fault) => return Ok(Answer::Refused(fault)),
-    };
-    let user_id = user_id_of(&file, 1);
+    match open(alloc, bytes) {
+        Ok(mut file) => look_into(&mut file),
+        Err(fault) => Ok(Answer::Refused(fault)),
+    }
+}
+
+fn look_into(file: &mut VmFile<MemStore>) -> Result<Answer, Fault> {
+    let user_id = user_id_of(file, 1);
     let map_block = file.map_block().0;
-    let Some(image) = image_of(&mut file, 1)? else {
+    let Some(image) = image_of(file, 1)? else {
         return Ok(Answer::Other);
     };
-    revert(&mut file)?;
-    if !has_no_block(&file) {
+    revert(file)?;
+    if !has_no_block(file) {
         return Ok(Answer::Other);
     }
     Ok(Answer::Block {
@@ -307,11 +310,15 @@ fn of_two_open_slots_the_greater_number_counts(rt: HostRuntime) -> Result<(), Fa
         look(alloc, &with_two_slots(5))?,
         Answer::Refused(Fault::Damaged)
     );
-    let mut file = open(alloc, &with_two_slots(6))?;
-    assert!(rt; has_no_block(&file));
-    revert(&mut file)?;
-    assert!(rt; has(&mut file, 1, b"\0ab")?);
+    let steps = [IsEmpty, Revert, Has(1, b"\0ab")];
+    read(alloc, &with_two_slots(6), &steps)?;
     Ok(())
+}
+
+// The store that isn't opened, since its call after so many fails.
+fn refused(alloc: Global, passes: u64) -> Result<FuseStore<MemStore>, Departure> {
+    let store = FuseStore::new(MemStore::from_bytes(alloc, &example())?, passes, false);
+    given_back(VmFile::open(alloc, store))
 }
 
 // The length, two slots, two directories, one image, and a sync.
@@ -319,13 +326,9 @@ fn of_two_open_slots_the_greater_number_counts(rt: HostRuntime) -> Result<(), Fa
 fn a_refused_opening_gives_the_store_back(rt: HostRuntime) -> Result<(), Fail> {
     let alloc = rt.alloc();
     for passes in 0..7 {
-        let store = FuseStore::new(MemStore::from_bytes(alloc, &example())?, passes, false);
-        let Err(refused) = VmFile::open(alloc, store) else {
-            return Err(Fail::new("the file was opened"));
-        };
-        assert_eq!(rt; refused.fault, Fault::File);
-        assert_eq!(rt; refused.store.calls(), passes + 1);
-        let store = VmFile::open(alloc, refused.store).map_err(why)?.close();
+        let store = refused(alloc, passes)?;
+        assert_eq!(rt; store.calls(), passes + 1);
+        let store = kept(alloc, store, &[])?;
         assert_eq!(rt; store.calls(), passes + 1 + 7);
         assert_eq!(rt; store.inner().bytes(), example().as_slice());
     }

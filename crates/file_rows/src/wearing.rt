@@ -1,10 +1,10 @@
 // A file whose number is at its last value.
-use crate::calls::{has, open, put, remove, revert, save, set_user_id, update, user_id_of};
 use crate::example::{LENGTH, example};
-use geos_model::Fault;
+use crate::steps::Step::{
+    Has, HasNoBlock, HasUserId, IsNotWorn, IsWornOut, Put, Remove, Save, SetUserId,
+};
+use crate::steps::read;
 use std::test::Fail;
-use vm_file::VmFile;
-use vm_store::MemStore;
 
 fn worn() -> [u8; LENGTH] {
     let mut bytes = example();
@@ -12,41 +12,39 @@ fn worn() -> [u8; LENGTH] {
     bytes
 }
 
-// Whether each commit is refused.
-fn is_worn_out(file: &mut VmFile<MemStore>) -> bool {
-    file.is_worn()
-        && update(file) == Err(Fault::Worn)
-        && save(file) == Err(Fault::Worn)
-        && revert(file) == Err(Fault::Worn)
-}
-
 #[test]
 fn a_worn_file_is_edited_and_not_committed(rt: HostRuntime) -> Result<(), Fail> {
-    let mut file = open(rt.alloc(), &worn())?;
-    for _ in 0..2 {
-        assert!(rt; is_worn_out(&mut file));
-        set_user_id(&mut file, 1, 9)?;
-        assert_eq!(rt; user_id_of(&file, 1), Some(9));
-        set_user_id(&mut file, 1, 7)?;
-        assert_eq!(rt; user_id_of(&file, 1), Some(7));
-    }
-    assert_eq!(rt; file.close().bytes(), worn().as_slice());
+    let steps = [
+        IsWornOut,
+        SetUserId(1, 9),
+        HasUserId(1, 9),
+        SetUserId(1, 7),
+        HasUserId(1, 7),
+        IsWornOut,
+        SetUserId(1, 9),
+        HasUserId(1, 9),
+        SetUserId(1, 7),
+        HasUserId(1, 7),
+    ];
+    let store = read(rt.alloc(), &worn(), &steps)?;
+    assert_eq!(rt; store.bytes(), worn().as_slice());
     Ok(())
 }
 
 // The image lies behind all that was there.
 #[test]
 fn a_worn_file_takes_blocks_and_is_not_committed(rt: HostRuntime) -> Result<(), Fail> {
-    let alloc = rt.alloc();
+    let steps = [
+        Put(2, 3, b"c"),
+        Has(2, b"\0c"),
+        IsWornOut,
+        Remove(2),
+        HasNoBlock(2),
+        IsWornOut,
+    ];
     let bytes = worn();
-    let mut file = open(alloc, &bytes)?;
-    put(alloc, &mut file, 2, 3, b"c")?;
-    assert!(rt; has(&mut file, 2, b"\0c")?);
-    assert!(rt; is_worn_out(&mut file));
-    remove(&mut file, 2)?;
-    assert_eq!(rt; user_id_of(&file, 2), None);
-    assert!(rt; is_worn_out(&mut file));
-    assert!(rt; file.close().bytes().starts_with(&bytes));
+    let store = read(rt.alloc(), &bytes, &steps)?;
+    assert!(rt; store.bytes().starts_with(&bytes));
     Ok(())
 }
 
@@ -55,10 +53,7 @@ fn a_worn_file_takes_blocks_and_is_not_committed(rt: HostRuntime) -> Result<(), 
 fn the_last_number_is_given_once(rt: HostRuntime) -> Result<(), Fail> {
     let mut bytes = worn();
     bytes[8] = 254;
-    let mut file = open(rt.alloc(), &bytes)?;
-    assert!(rt; !file.is_worn());
-    save(&mut file)?;
-    assert!(rt; is_worn_out(&mut file));
-    assert!(rt; file.close().bytes().get(520..528) == Some([255; 8].as_slice()));
+    let store = read(rt.alloc(), &bytes, &[IsNotWorn, Save, IsWornOut])?;
+    assert!(rt; store.bytes().get(520..528) == Some([255; 8].as_slice()));
     Ok(())
 }
