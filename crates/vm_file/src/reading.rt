@@ -440,6 +440,7 @@ fn read_slots<S: Store>(alloc: Global, store: &mut S) -> Result<Slots, Fault>
         sequence: slot.sequence,
         committed,
         other: found.other,
+        marked: None,
     })
 }
 
