@@ -1,6 +1,6 @@
 -- What callers see of a document file, and the words by which the layers above pass its promises on.
-use Rattle.std.specs.Prelude.{◌≡◌, ◌⊎◌, ℕ, ◌+◌, ◌*◌, ◌≤◌, Bool, IsTrue, List, [], ◌∷◌, true, Result, Ok, OnOk, OnErr, MatchResult, refl, Some}
-use Rattle.std.specs.Coded.{Coded, code_by, coded×, coded_ℕ, coded_list}
+use Rattle.std.specs.Prelude.{◌≡◌, ◌⊎◌, ℕ, ◌+◌, ◌*◌, ◌≤◌, Bool, IsTrue, List, [], ◌∷◌, true, Result, Ok, OnOk, OnErr, MatchResult, refl, Option, None, Some}
+use Rattle.std.specs.Coded.{Coded, code_by, coded×, coded_ℕ, coded_list, coded_option}
 use Rattle.vm_store.specs.Facts.{StoreFacts}
 use Rattle.vm_store.specs.Bytes.{put}
 use Rattle.geos_model.specs.Document.{Document, block_at, is_heap, is_live, is_valid_body, is_vm_handle, user_id_of}
@@ -10,13 +10,14 @@ use Rattle.geos_model.proofs.Codes.{document_code}
 use Rattle.vm_file.specs.Documents.{Documents, sequence_in}
 
 -- The store, the updated and the saved document of the last acknowledged commit, the pairs of a commit that failed since and may
--- be read too, and the number of the acknowledged one.
+-- be read too, the number of the acknowledged one, and the document that is marked, if one is: it can be brought back.
 pub record Disk (S : Type 0) : Type 0 where
   pub store : S
   pub updated : Document
   pub saved : Document
   pub attempted : List Documents
   pub sequence : ℕ
+  pub marked : Option Document
 
 -- a file: the disk, and the document as it is now
 pub record FileState (S : Type 0) : Type 0 where
@@ -28,8 +29,8 @@ documents_code = coded× document_code document_code
 
 abbrev pub disk_code : {S : Type 0} → Coded S → Coded (Disk S)
 disk_code {S} s =
-    code_by (S × (Document × (Document × (List Documents × ℕ)))) (coded× s (coded× document_code (coded× document_code (coded× (coded_list documents_code) coded_ℕ)))) (λ d. (d.store, (d.updated, (d.saved, (d.attempted, d.sequence)))))
-    (λ p. record { store = p.0; updated = p.1.0; saved = p.1.1.0; attempted = p.1.1.1.0; sequence = p.1.1.1.1 }) (λ _. refl)
+    code_by (S × (Document × (Document × (List Documents × (ℕ × Option Document))))) (coded× s (coded× document_code (coded× document_code (coded× (coded_list documents_code) (coded× coded_ℕ (coded_option document_code)))))) (λ d. (d.store, (d.updated, (d.saved, (d.attempted, (d.sequence, d.marked))))))
+    (λ p. record { store = p.0; updated = p.1.0; saved = p.1.1.0; attempted = p.1.1.1.0; sequence = p.1.1.1.1.0; marked = p.1.1.1.1.1 }) (λ _. refl)
 
 abbrev pub file_state_code : {S : Type 0} → Coded S → Coded (FileState S)
 file_state_code {S} s =
@@ -89,6 +90,15 @@ pub record Drifts (honest : Bool) (old new : Document) : Type 0 where
   pub map_block : new.map_block ≡ old.map_block
   pub same : IsTrue honest → new ≡ old
 
+-- As it does, so does a marked one, and none is marked where none was.
+abbrev pub MarkDrifts : Bool → Option Document → Option Document → Type 0
+MarkDrifts honest None new = new ≡ None
+MarkDrifts honest (Some d) new = (e : Document) × (new ≡ Some e) × Drifts honest d e
+
+-- no document is marked
+abbrev pub unmarked : {S : Type 0} → Disk S → Disk S
+unmarked disk = record disk { marked = None }
+
 -- What a document of a file is: its handles can be, its map block is none or live, and over an honest store so can its bodies.
 pub record IsListed (honest : Bool) (d : Document) : Type 0 where
   pub handles : (h : ℕ) → is_live d h ≡ true → is_vm_handle h ≡ true
@@ -104,6 +114,7 @@ pub record Passes {S : Type 0} (facts : S → StoreFacts) (old new : Disk S) : T
   pub attempted : IsTrue (facts old.store).honest → new.attempted ≡ old.attempted
   pub tried : IsTrue (facts old.store).honest → (pair : Documents) → IsTried facts pair old → IsTried facts pair new
   pub sequence : new.sequence ≡ old.sequence
+  pub marked : MarkDrifts (facts old.store).honest old.marked new.marked
   pub numbered : IsTrue (facts old.store).honest → old.attempted ≡ [] → Numbered (facts old.store) old.sequence → Numbered (facts new.store) new.sequence
   pub crash : IsTrue (facts old.store).honest → Crash (facts old.store) (facts new.store) (readable old)
 
@@ -127,3 +138,4 @@ pub record Commits {S : Type 0} (facts : S → StoreFacts) (pair : Documents) (o
   -- a refusal keeps the number, where no pair of a commit that failed may be read
   pub still_numbered : OnErr result (IsTrue (facts old.store).honest → (old.attempted ≡ [] → Numbered (facts old.store) old.sequence) → new.attempted ≡ [] → Numbered (facts new.store) new.sequence)
   pub sequence : MatchResult result (λ _. new.sequence ≡ old.sequence + 1) (λ _. new.sequence ≡ old.sequence)
+  pub marked : MarkDrifts (facts old.store).honest old.marked new.marked

@@ -1,5 +1,5 @@
 -- What a call leaves of a file, and why it is refused: each floor from the file up to the session says it in these words.
-use Rattle.std.specs.Prelude.{◌≡◌, ◌≢◌, ◌⊎◌, ◌↔◌, ◌≤◌, Bool, IsTrue, [], Result, OnOk, IfErr, IsErrOf, MatchResult}
+use Rattle.std.specs.Prelude.{◌≡◌, ◌≢◌, ◌⊎◌, ◌↔◌, ◌≤◌, Bool, IsTrue, [], None, Result, OnOk, IfErr, IsErrOf, MatchResult}
 use Rattle.vm_store.specs.Facts.{StoreFacts, Raised, Rests}
 use Rattle.geos_model.specs.Document.{Document, IsValid}
 use Rattle.geos_model.specs.declared.fault.Fault.{Fault}
@@ -29,6 +29,7 @@ pub record IsNewFile {S : Type 0} (facts : S → StoreFacts) (d : Document) (dis
   pub updated : disk.updated ≡ d
   pub saved : disk.saved ≡ d
   pub attempted : disk.attempted ≡ []
+  pub unmarked : disk.marked ≡ None
   pub sequence : disk.sequence ≡ 1
   pub numbered : IsTrue (facts disk.store).honest → Numbered (facts disk.store) 1
   pub settled : IsSettled facts disk

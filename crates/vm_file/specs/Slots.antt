@@ -6,6 +6,7 @@ use Rattle.geos_model.specs.declared.file.Extent.{Extent}
 use Rattle.geos_model.specs.File.{slot_mark, extent_text}
 use Rattle.vm_file.specs.Ranges.{IsPlaced, KeepsAll, IsOut, IsClear}
 use Rattle.vm_file.specs.declared.table.Place.{Place}
+use Rattle.vm_file.specs.declared.table.Table.{Table}
 use Rattle.vm_file.specs.declared.slots.Stored.{Stored}
 use Rattle.vm_file.specs.declared.slots.Pair.{Pair}
 use Rattle.vm_file.specs.declared.slots.Other.{Other}
@@ -31,9 +32,13 @@ held_extents Shut = []
 held_extents Stale = []
 held_extents (Held pair) = pair_extents pair
 
--- all that the slots stand on
+abbrev pub marked_extents : Option Table → List Extent
+marked_extents None = []
+marked_extents (Some table) = block_extents table.places.items
+
+-- all that the slots stand on, and the marked document
 abbrev pub kept_extents : Slots → List Extent
-kept_extents slots = pair_extents slots.committed ++ held_extents slots.other
+kept_extents slots = pair_extents slots.committed ++ (held_extents slots.other ++ marked_extents slots.marked)
 
 -- The slots.
 
@@ -47,7 +52,7 @@ other_of slots = if slots.second then 0 else 1
 
 -- the slots when what the other one leads to counts
 abbrev pub turned : Slots → Pair → Slots
-turned slots pair = record { second = not slots.second; sequence = slots.sequence + 1; committed = pair; other = Stale }
+turned slots pair = record { second = not slots.second; sequence = slots.sequence + 1; committed = pair; other = Stale; marked = slots.marked }
 
 -- what a commit that failed before its last step may leave of the slots
 abbrev pub FailedEarly : Slots → Slots → Type 0
@@ -104,7 +109,7 @@ pub record Outlives (old new : StoreFacts) (file : List ℕ) (Is : Slots → Typ
   pub later : old.moment ≤ new.moment
   pub each : (t : ℕ) (c : List ℕ) → t ≤ old.moment → new.left_since t c → old.left_since t c ⊎ ((slots : Slots) × Is slots × Outcome slots file c)
 
--- all that the slots stand on can be
+-- all of that can be
 abbrev pub AreKept : Slots → Type 0
 AreKept slots = All IsPlaced (kept_extents slots)
 

@@ -1,9 +1,10 @@
 -- What always holds of a document file.
-use Rattle.std.specs.Prelude.{◌≡◌, ◌⊎◌, ℕ, ◌+◌, ◌-◌, ◌^◌, ◌<◌, ◌≤◌, ◌++◌, true, IsTrue, Option, None, is_some, length, All, get_or}
+use Rattle.std.specs.Prelude.{◌≡◌, ◌⊎◌, ℕ, ◌+◌, ◌-◌, ◌^◌, ◌<◌, ◌≤◌, ◌++◌, true, IsTrue, Option, None, IfSome, is_some, length, All, get_or}
+use Rattle.std.specs.Option.{option_map}
 use Rattle.vm_store.specs.Facts.{StoreFacts}
 use Rattle.geos_model.specs.Document.{most_blocks}
 use Rattle.vm_file.specs.Ranges.{IsPlaced, end_of}
-use Rattle.vm_file.specs.Slots.{block_extents, kept_extents, AreKept, Leaves}
+use Rattle.vm_file.specs.Slots.{block_extents, kept_extents, marked_extents, AreKept, Leaves}
 use Rattle.vm_file.specs.Documents.{document_in, attempted_in, AreImaged, AreStored, IsHeldStored}
 use Rattle.vm_file.specs.Disk.{Disk}
 use Rattle.vm_file.specs.Known.{IsKnown}
@@ -38,6 +39,7 @@ pub record IsFormed (live : Table) (slots : Slots) : Type 0 where
   pub placed : All IsPlaced (block_extents live.places.items)
   pub committed : AreTables slots.committed
   pub held : IsHeldFormed slots.sequence slots.other
+  pub marked : IfSome slots.marked IsTable
   pub kept : AreKept slots
   pub numbered : 1 ≤ slots.sequence
   pub in_range : slots.sequence < 2 ^ 64
@@ -48,6 +50,8 @@ pub record IsWhole (store : StoreFacts) (live : Table) (slots : Slots) : Type 0 
   pub within : All (λ e. end_of e ≤ length store.content) (block_extents live.places.items)
   pub committed : AreStored store.content slots.committed
   pub held : IsHeldStored store.content slots.other
+  pub marked : IfSome slots.marked (λ table. AreImaged store.content table.places.items)
+  pub marked_within : All (λ e. end_of e ≤ length store.content) (marked_extents slots.marked)
   pub leaves : Leaves store slots store.content
 
 pub record IsSound (store : StoreFacts) (live : Table) (slots : Slots) : Type 0 where
@@ -70,4 +74,5 @@ disk_of facts store slots =
       saved = document_in file slots.committed.saved.table;
       attempted = attempted_in file slots.other;
       sequence = slots.sequence;
+      marked = option_map (document_in file) slots.marked;
     }

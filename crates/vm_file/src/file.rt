@@ -6,7 +6,7 @@ ghost use Rattle.geos_model.specs.Document.{empty_document, is_live, is_vm_handl
 ghost use Rattle.geos_model.specs.Image.{image};
 ghost use Rattle.geos_model.specs.Reply.{found};
 ghost use Rattle.geos_model.specs.File.{bytes_in, directory_text, open_slot, stands};
-ghost use Rattle.vm_file.specs.Disk.{FileState, ContentStands, Drifts, Passes, IsSettled, Numbered};
+ghost use Rattle.vm_file.specs.Disk.{FileState, ContentStands, Drifts, Passes, IsSettled, Numbered, unmarked};
 ghost use Rattle.vm_file.specs.Effects.{IsFile, IsNewFile, Follows, OnlyReads, KeepsFile, IsCommit, Fails, NoFault, IsWorn};
 ghost use Rattle.vm_file.specs.Documents.{sequence_in};
 ghost use Rattle.vm_file.specs.Making.{first_directory, first_file, first_open, no_blocks};
@@ -109,6 +109,7 @@ impl<S: Store> VmFile<S> {
         ensures numbered { IfOk result (λ file. IsTrue (S.facts store).honest → sequence_in (S.facts store).content ≡ Some file.disk.sequence) }
         ensures numbered_now { IfOk result (λ file. IsTrue (S.facts store).honest → Numbered (S.facts file.disk.store) file.disk.sequence) }
         ensures settled { IfOk result (λ file. IsSettled S.facts file.disk) }
+        ensures unmarked { IfOk result (λ file. file.disk.marked ≡ None) }
         ensures refused { IfErr result (λ refused. IsTrue (S.facts store).honest → IsSupply refused.fault ⊎ (stands (S.facts store).content ≡ Err refused.fault)) }
         ensures file { IfErr result (λ refused. refused.fault ≡ Fault.File → Raised (S.facts store) (S.facts refused.store)) }
         ensures refusals { IfErr result (λ refused. IsOpenRefusal refused.fault) }
@@ -276,6 +277,39 @@ impl<S: Store> VmFile<S> {
         self.space = space;
         self.bounds = tightened(&self.live.places, widened(self.bounds, puts, removals));
         Ok(())
+    }
+
+    /// Marks the document as it is now, in place of one that was marked, so that `roll_back` can bring it back: until then nothing is
+    /// written over its images. Memory.
+    pub fn mark(&mut self) -> Result<(), AllocError>
+        ensures ok { OnOk result (self.new ≡ record self.old { disk = record self.old.disk { marked = Some self.old.document } }) }
+        ensures err { OnErr result (self.new ≡ self.old) }
+    {
+        let marked = copy_table(self.alloc, &self.live)?;
+        self.slots.marked = Some(marked);
+        self.space = None;
+        Ok(())
+    }
+
+    /// Makes the marked document the one as it is now; none is marked then. No memory, no store.
+    pub fn roll_back(&mut self)
+        requires { is_some self.old.disk.marked ≡ true }
+        ensures document { Some self.new.document ≡ self.old.disk.marked }
+        ensures disk { self.new.disk ≡ unmarked self.old.disk }
+    {
+        if let Some(marked) = self.slots.marked.take() {
+            self.live = marked;
+            self.space = None;
+            self.bounds = bounds_of(&self.live.places);
+        }
+    }
+
+    /// Forgets the marked document, if one is. No memory, no store.
+    pub fn release(&mut self)
+        ensures { self.new ≡ record self.old { disk = unmarked self.old.disk } }
+    {
+        self.slots.marked = None;
+        self.space = None;
     }
 
     /// Makes the document as it is now the updated one. Worn where the sequence number can't rise, before anything else is

@@ -65,6 +65,7 @@ pub fn first_slots(alloc: Global, live: Table, directory: Extent) -> Result<Made
         sequence: 1,
         committed,
         other: Other::Shut,
+        marked: None,
     };
     Ok(Made { live, slots })
 }

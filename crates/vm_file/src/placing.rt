@@ -3,13 +3,13 @@ ghost use Rattle.std.specs.Prelude.{◌≡◌, ◌++◌, ◌+◌, ◌≤◌, Lis
 ghost use Rattle.geos_model.specs.declared.file.Extent.{Extent};
 ghost use Rattle.vm_space.specs.Space.{AreTaken};
 ghost use Rattle.vm_file.specs.Ranges.{IsPlaced};
-ghost use Rattle.vm_file.specs.Slots.{block_extents, stored_extents, pair_extents, held_extents, kept_extents};
+ghost use Rattle.vm_file.specs.Slots.{block_extents, stored_extents, pair_extents, held_extents, marked_extents, kept_extents};
 ghost use Rattle.vm_file.specs.Known.{IsKnown, Takes};
 ghost use Rattle.vm_file.specs.Writing.{AreFor};
 
 use crate::member::Member;
 use crate::slots::{Other, Pair, Slots, Stored};
-use crate::table::Place;
+use crate::table::{Place, Table};
 use geos_model::Extent;
 use std::alloc::{AllocError, Global};
 use vm_space::{FreeSpace, MOST_EXTENTS};
@@ -56,11 +56,23 @@ fn hold_other(space: &mut FreeSpace, other: &Other) -> Result<(), AllocError>
     }
 }
 
+fn hold_marked(space: &mut FreeSpace, marked: &Option<Table>) -> Result<(), AllocError>
+    requires few { space.old.count + length (marked_extents marked.now) ≤ MOST_EXTENTS }
+    requires placed { All IsPlaced (marked_extents marked.now) }
+    ensures { OnOk result (Takes (marked_extents marked.now) space.old space.new) }
+{
+    match marked {
+        Some(table) => hold_blocks(space, &table.places),
+        None => Ok(()),
+    }
+}
+
 fn hold_kept(space: &mut FreeSpace, slots: &Slots) -> Result<(), AllocError>
     requires few { space.old.count + length (kept_extents slots.now) ≤ MOST_EXTENTS }
     requires placed { All IsPlaced (kept_extents slots.now) }
     ensures { OnOk result (Takes (kept_extents slots.now) space.old space.new) }
 {
+    hold_marked(space, &slots.marked)?;
     hold_other(space, &slots.other)?;
     hold_pair(space, &slots.committed)
 }

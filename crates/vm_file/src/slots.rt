@@ -27,7 +27,7 @@ pub enum Other {
     Held(Pair),
 }
 
-/// The slot that counts, and the other one.
+/// The slot that counts, the other one, and a document that is marked.
 #[derive(Drop)]
 pub struct Slots {
     /// Whether slot 1 counts.
@@ -36,4 +36,6 @@ pub struct Slots {
     pub sequence: u64,
     pub committed: Pair,
     pub other: Other,
+    /// A document whose images stay in the file beside what the slots lead to, so that it can be brought back.
+    pub marked: Option<Table>,
 }

@@ -2,7 +2,7 @@
 ghost use Rattle.std.specs.Prelude.{◌≡◌, ◌≢◌, ◌++◌, ◌+◌, ◌≤◌, [], All, IsTrue, IsOk, IfOk, IfErr, IsErrOf, OnOk, OnErr, length};
 ghost use Rattle.vm_store.specs.Facts.{Raised};
 ghost use Rattle.vm_file.specs.Ranges.{IsPlaced};
-ghost use Rattle.vm_file.specs.Slots.{block_extents, kept_extents, AreKept};
+ghost use Rattle.vm_file.specs.Slots.{block_extents, kept_extents, marked_extents, AreKept};
 ghost use Rattle.vm_file.specs.Calls.{IsSupply};
 ghost use Rattle.vm_file.specs.Known.{IsKnown};
 ghost use Rattle.vm_file.specs.Writing.{AreFor, Fills, AreWritten, IsSpared};
@@ -62,7 +62,7 @@ pub fn write_puts<S: Store>(
     requires known { IsKnown (block_extents live.now ++ kept_extents slots.now) space }
     ensures honest { (S.facts store.new).honest ≡ (S.facts store.old).honest }
     ensures failures { (S.facts store.old).failures ≤ (S.facts store.new).failures }
-    ensures spared { IsTrue (S.facts store.old).honest → IsSpared (block_extents live.now) slots.now (S.facts store.old) (S.facts store.new) }
+    ensures spared { IsTrue (S.facts store.old).honest → IsSpared (block_extents live.now ++ marked_extents slots.now.marked) slots.now (S.facts store.old) (S.facts store.new) }
     ensures found { IfOk result (λ written. AreFor (block_extents live.now ++ kept_extents slots.now) puts.now (length puts.now) written.extents.items) }
     ensures written { IfOk result (λ written. IsTrue (S.facts store.old).honest → AreWritten (length puts.now) puts.now written.extents.items (S.facts store.new).content) }
     ensures known { IfOk result (λ written. IsKnown (written.extents.items ++ (block_extents live.now ++ kept_extents slots.now)) written.space) }
