@@ -1,5 +1,5 @@
 -- What is answered where there may be no room in memory for the block into which a command looks.
-use Rattle.std.proofs.Common.{◌≡◌, ◌⊎◌, ◌++◌, ◌∷◌, ℕ, Bool, true, false, Result, Ok, Err, IfOk, IfErr, OnOk, Some, None, is_none, [], refl, sym, ap, subst, ◌∙◌, inl, inr}
+use Rattle.std.proofs.Common.{◌≡◌, ◌⊎◌, ◌++◌, ◌∷◌, ℕ, Bool, true, false, Result, Ok, Err, IsOk, IfOk, IfErr, OnOk, Some, None, is_none, [], refl, sym, ap, subst, ◌∙◌, inl, inr}
 use Rattle.std.proofs.lemmas.Bool.{cases_Bool, true≢false}
 use Rattle.vm_store.specs.Facts.{StoreFacts}
 use Rattle.geos_model.specs.Document.{Document, is_heap, is_live, is_raw}
@@ -11,12 +11,12 @@ use Rattle.geos_model.specs.declared.fault.Fault.{Fault}
 use Rattle.geos_model.specs.declared.fault.Fault.TheVariants.{BadChain, NoBlock, WrongKind, CacheFull}
 use Rattle.geos_model.proofs.InFront.{ComesBefore, still_first, full-block, full-chain, full-chains, full-heap, full-raw}
 use Rattle.block_cache.specs.State.{CacheState}
-use Rattle.vm_blocks.specs.Keeping.{Keeps, LacksFrame, is_shut_out}
+use Rattle.vm_blocks.specs.Keeping.{Keeps, LacksFrame, is_loaded, is_shut_out}
 use Rattle.vm_blocks.specs.Kinds.{IsOfOther}
 use Rattle.vm_blocks.proofs.KeepingLaws.{keeps-full, keeps-shut}
 use Rattle.vm_chains.specs.Answers.{IsRootFault}
 use Rattle.doc_edits.specs.Found.{AreLate, late_faults}
-use Rattle.doc_edits.specs.Room.{has_no_room, IsChainRefusal, IsRefusedEarly}
+use Rattle.doc_edits.specs.Room.{has_no_room, IsChainRefusal, IsRefusedEarly, IsRefusedUnseen}
 use Rattle.vm_chains.proofs.WalkLemmas.{raw_live}
 use Rattle.doc_edits.proofs.Documents.{heap_live}
 use Rattle.doc_edits.proofs.Refusals.{block_dead, heap_other, raw_other}
@@ -129,6 +129,43 @@ module _ {S : Type 0} (is_kind : Document → ℕ → Bool) (a b : CacheState S)
   shut_of out =
       let none = kept_out out in
       (none.2, subst (λ (r : Result (Unit {0}) Fault). IfErr r (λ fault. first_refusal ((CacheFull, true) ∷ conditions a.document) ≡ Some fault)) (sym none.1) none.3)
+
+  -- where the block is in memory, or is refused unseen, no store is called
+  module _ (already : is_loaded a h ≡ true → is_kind a.document h ≡ true → IsOk result × (b.disk ≡ a.disk) × (b.document ≡ a.document)) where
+    abbrev IsAtRest : Type 0
+    IsAtRest = (b.disk ≡ a.disk) × (b.document ≡ a.document) × IfErr result (λ fault. first_refusal (conditions a.document) ≡ Some fault)
+
+    pub rests : (is_loaded a h ≡ true) ⊎ IsRefusedUnseen (conditions a.document) → IsAtRest
+    rests near = elim (cases_Bool (is_kind a.document h)) as (λ _. IsAtRest) [
+      | inl of ↦ of_kind of near
+      | inr other ↦ elim (cases_Bool (is_live a.document h)) as (λ _. IsAtRest) [
+        | inl live ↦ refused WrongKind (inr (refl, live, other))
+        | inr dead ↦ refused NoBlock (inl (refl, dead))
+      ]
+    ]
+      where
+        refused : (fault : Fault) → IsOfOther is_kind a.document h fault → IsAtRest
+        refused fault why =
+            let none = early fault why in (
+              ap (λ (s : CacheState S). s.disk) none.1,
+              ap (λ (s : CacheState S). s.document) none.1,
+              subst (λ (r : Result (Unit {0}) Fault). IfErr r (λ f. first_refusal (conditions a.document) ≡ Some f)) (sym none.0) (looks.other a.document fault why),
+            )
+
+        -- one of the kind isn't refused unseen
+        seen : is_kind a.document h ≡ true → (fault : Fault) → ComesBefore fault CacheFull → (fault ≡ CacheFull → ⊥) → first_refusal (conditions a.document) ≡ Some fault → ⊥
+        seen of fault before other first =
+            let same : Some fault ≡ Some CacheFull = sym (still_first CacheFull true (conditions a.document) fault before first) ∙ looks.full a.document of in
+            other (cc same)
+
+        accepted : (r : Result (Unit {0}) Fault) → IsOk r → IfErr r (λ f. first_refusal (conditions a.document) ≡ Some f)
+        accepted (Ok u) is = tt
+        accepted (Err fault) is = absurd (cc is)
+
+        of_kind : is_kind a.document h ≡ true → (is_loaded a h ≡ true) ⊎ IsRefusedUnseen (conditions a.document) → IsAtRest
+        of_kind of (inl loaded) = let there = already loaded of in (there.1, there.2, accepted result there.0)
+        of_kind of (inr (inl dead)) = absurd (seen of NoBlock refl (λ is. cc is) dead)
+        of_kind of (inr (inr other)) = absurd (seen of WrongKind refl (λ is. cc is) other)
 
   module _ (lacks : Fault → Type 0) where
     pub refused_for : (fault : Fault) → result ≡ Err fault → lacks fault ⊎ (IsOfOther is_kind b.document h fault ⊎ LacksFrame a h fault)

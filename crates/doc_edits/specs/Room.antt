@@ -1,15 +1,27 @@
 -- Whether there is room in memory for the bodies into which a command looks.
-use Rattle.std.specs.Prelude.{◌≡◌, ◌⊎◌, Bool, true}
-use Rattle.geos_model.specs.Machine.{Needs, lacks_room}
+use Rattle.std.specs.Prelude.{◌≡◌, ◌⊎◌, Bool, true, Some}
+use Rattle.geos_model.specs.Machine.{Needs, NoBody, OneBody, ManyBodies, lacks_room}
+use Rattle.geos_model.specs.Refusal.{Conditions, first_refusal}
 use Rattle.geos_model.specs.declared.fault.Fault.{Fault}
-use Rattle.geos_model.specs.declared.fault.Fault.TheVariants.{CacheFull}
+use Rattle.geos_model.specs.declared.fault.Fault.TheVariants.{CacheFull, NoBlock, WrongKind}
 use Rattle.block_cache.specs.State.{CacheState}
-use Rattle.vm_blocks.specs.Keeping.{is_full, is_shut_out}
+use Rattle.vm_blocks.specs.Keeping.{is_full, is_loaded, is_shut_out}
 use Rattle.vm_chains.specs.Answers.{IsRootFault, IsWalkRefusal}
 
 -- A block that isn't locked can't be brought into memory where each frame has a locked one, and those of a chain are not even looked for.
 abbrev pub has_no_room : {S : Type 0} → CacheState S → Needs → Bool
 has_no_room state needs = lacks_room (is_shut_out state) (is_full state) needs
+
+-- The first refusal is for a block that isn't live, or is of another kind, which is known without its body.
+abbrev pub IsRefusedUnseen : Conditions → Type 0
+IsRefusedUnseen conditions = (first_refusal conditions ≡ Some NoBlock) ⊎ (first_refusal conditions ≡ Some WrongKind)
+
+-- No body has to be read for a command that is refused so: it looks into none, or into one that is in memory, or into none since the block is
+-- refused. A chain is read as it is followed.
+abbrev pub ReadsNothing : {S : Type 0} → CacheState S → Needs → Conditions → Type 0
+ReadsNothing state NoBody conditions = Unit {0}
+ReadsNothing state (OneBody b) conditions = (is_loaded state b ≡ true) ⊎ IsRefusedUnseen conditions
+ReadsNothing state ManyBodies conditions = ⊥
 
 -- a refusal of a command along a chain that is told before any block is looked into
 abbrev pub IsRefusedEarly : Bool → Fault → Type 0

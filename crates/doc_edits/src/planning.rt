@@ -9,7 +9,7 @@ ghost use Rattle.vm_blocks.specs.Keeping.{Keeps, IsSteady, Lacks};
 ghost use Rattle.vm_blocks.specs.Preparing.{IsReady};
 ghost use Rattle.doc_edits.specs.Building.{IsThere, is_of_chain, wanted};
 ghost use Rattle.doc_edits.specs.Planning.{freed_by, kind_of_change, IsChainEditFault, Plans, Refuses, RefusesAtHand};
-ghost use Rattle.doc_edits.specs.Room.{has_no_room};
+ghost use Rattle.doc_edits.specs.Room.{has_no_room, ReadsNothing};
 
 use crate::block_plans::{
     plan_copy_block, plan_free_block, plan_new_heap, plan_new_raw, plan_set_map, plan_set_user_id,
@@ -25,7 +25,8 @@ use vm_store::Store;
 /// The change that an edit means in the document as it is after the call, and what it answers; or its first refusal there, or
 /// what the call lacked. Blocks may be brought into memory, and nothing else changes. NoBlock and WrongKind come first; then
 /// CacheFull, where there is no frame for the block into whose body the edit looks, or some frame has to be free of locks for a
-/// chain and none is: then nothing changes at all.
+/// chain and none is: then nothing changes at all. No store is called, and none lacked, where no body has to be read: it is in memory, or the
+/// edit is refused for its block.
 pub fn plan<S: Store>(
     alloc: Global,
     blocks: &mut FileBlocks<S>,
@@ -44,6 +45,8 @@ pub fn plan<S: Store>(
     ensures refusals { IfErr result (λ fault. Refuses (Lacks S.facts blocks.old.disk.store blocks.new.disk.store) (has_no_room blocks.old (edit_needs edit.now)) edit.now blocks.new.document fault
         ⊎ IsChainEditFault edit.now fault) }
     ensures plain { kind_of edit.now ≡ Plain → (blocks.new ≡ blocks.old) × IfErr result (RefusesAtHand edit.now blocks.new.document) }
+    ensures already { ReadsNothing blocks.old (edit_needs edit.now) (conditions edit.now blocks.old.document)
+        → (blocks.new.disk ≡ blocks.old.disk) × (blocks.new.document ≡ blocks.old.document) × IfErr result (RefusesAtHand edit.now blocks.old.document) }
 {
     match edit {
         Edit::CopyChain(root) => plan_copy_chain(alloc, blocks, *root),
@@ -68,6 +71,8 @@ fn plan_of_block<S: Store>(
         × IfErr result (λ fault. first_refusal ((CacheFull, true) ∷ conditions edit.now blocks.old.document) ≡ Some fault) }
     ensures alone { (b : VmHandle) → edit.now ≡ edits.FreeBlock b → IfOk result (λ p. freed_by p.0 ≡ b.0 ∷ []) }
     ensures plain { kind_of edit.now ≡ Plain → (blocks.new ≡ blocks.old) × IfErr result (RefusesAtHand edit.now blocks.new.document) }
+    ensures already { ReadsNothing blocks.old (edit_needs edit.now) (conditions edit.now blocks.old.document)
+        → (blocks.new.disk ≡ blocks.old.disk) × (blocks.new.document ≡ blocks.old.document) × IfErr result (RefusesAtHand edit.now blocks.old.document) }
 {
     load_wanted(blocks, edit)?;
     plan_loaded(alloc, blocks, edit)
@@ -93,6 +98,8 @@ fn load_wanted<S: Store>(blocks: &mut FileBlocks<S>, edit: &Edit) -> Result<(), 
         × IfErr result (λ fault. first_refusal ((CacheFull, true) ∷ conditions edit.now blocks.old.document) ≡ Some fault) }
     ensures err { IfErr result (Refuses (Lacks S.facts blocks.old.disk.store blocks.new.disk.store) (has_no_room blocks.old (edit_needs edit.now)) edit.now blocks.new.document) }
     ensures plain { kind_of edit.now ≡ Plain → IsOk result × (blocks.new ≡ blocks.old) }
+    ensures already { ReadsNothing blocks.old (edit_needs edit.now) (conditions edit.now blocks.old.document)
+        → (blocks.new.disk ≡ blocks.old.disk) × (blocks.new.document ≡ blocks.old.document) × IfErr result (λ fault. first_refusal (conditions edit.now blocks.old.document) ≡ Some fault) }
 {
     match block_wanted(edit) {
         Wanted::Nothing => Ok(()),

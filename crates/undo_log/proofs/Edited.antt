@@ -1,14 +1,16 @@
 -- An edit that was made, or refused, is a step of the machine.
-use Rattle.std.proofs.Common.{◌≡◌, ◌≤◌, ℕ, Bool, true, false, IsTrue, All, List, [], ◌∷◌, map, length, Some, inl, inr, refl, sym, ap, subst, ◌∙◌, arith, ltb-false}
+use Rattle.std.proofs.Common.{◌≡◌, ◌⊎◌, ◌≤◌, Result, Ok, Err, IsOk, ℕ, Bool, true, false, IsTrue, All, List, [], ◌∷◌, map, length, Some, inl, inr, refl, sym, ap, subst, ◌∙◌, arith, ltb-false}
 use Rattle.geos_model.specs.Document.{Document}
 use Rattle.std.specs.Option.{option_map_or}
+use Rattle.std.specs.Prelude.{◌≢◌}
+use Rattle.std.specs.Result.{IsErrAnd}
 use Rattle.std.proofs.lemmas.Bool.{true≢false}
 use Rattle.std.proofs.lemmas.List.Elements.{All-cons, All-nil, All-same}
 use Rattle.geos_model.specs.ElementArray.{all_distinct}
 use Rattle.geos_model.specs.Machine as machine
 use Rattle.geos_model.specs.Machine.{Machine, Step, Answers, Needs, NoBody, edit_needs, is_barred, is_of_no_body, kind_of, needs_of_kind}
-use Rattle.geos_model.specs.Meaning.{conditions}
-use Rattle.geos_model.specs.Refusal.{first_refusal}
+use Rattle.geos_model.specs.Meaning.{conditions, effect}
+use Rattle.geos_model.specs.Refusal.{Conditions, first_refusal}
 use Rattle.geos_model.specs.Reply.{Refused, reply_of_done}
 use Rattle.geos_model.specs.declared.command.Command.TheVariants as commands
 use Rattle.geos_model.specs.declared.command.Done.{Done}
@@ -25,16 +27,18 @@ use Rattle.vm_file.proofs.Passing.{Passes-trans, Drifts-trans}
 use Rattle.geos_model.proofs.InFront.{edit-judged, edit-locked, edit-passed}
 use Rattle.block_cache.specs.State.{CacheState, Seat, KeepsLocks, locks_of}
 use Rattle.vm_blocks.specs.Changes.{made, blocks_in}
-use Rattle.vm_blocks.specs.Keeping.{Keeps, Lacks, is_loaded}
+use Rattle.vm_blocks.specs.Keeping.{IsSteady, Keeps, Lacks, is_loaded}
 use Rattle.vm_blocks.specs.Preparing.{AreUnlocked, BodyTakes, IsAtHand, IsOutOfReach, IsReady, IsUnready, Makes}
 use Rattle.vm_blocks.specs.declared.change.Change.{Change}
 use Rattle.vm_blocks.specs.declared.change.Change.TheVariants as changes
 use Rattle.vm_blocks.specs.declared.change.Direction.TheVariants.{Backwards}
 use Rattle.vm_blocks.proofs.KeepingLaws.{honest-steady, keeps-passes, keeps-drifts, keeps-frames, keeps-locks, keeps-same, lacks-damaged, lacks-later, loaded-resident, resident-open}
 use Rattle.vm_blocks.proofs.Preparing.{made_on}
+use Rattle.doc_edits.specs.Building.{is_of_chain}
 use Rattle.doc_edits.specs.Planning.{freed_by, kind_of_change, Plans, Refuses, RefusesAtHand}
-use Rattle.doc_edits.specs.Room.{has_no_room}
+use Rattle.doc_edits.specs.Room.{has_no_room, ReadsNothing}
 use Rattle.undo_log.specs.Locking.{IsBarred, bars}
+use Rattle.undo_log.specs.Editing.{EditsAtHand}
 use Rattle.undo_log.specs.Making.{IsMade}
 use Rattle.undo_log.specs.Records.{SessionState, blocks_of, machine_of, has_failed, AreSteps, IsStep, KeepsSession}
 use Rattle.undo_log.proofs.Answers.{edit_answers}
@@ -70,13 +74,7 @@ unlocked_change edit (changes.Part b part) old mid keeps free kind alone = tt
 unlocked_change edit (changes.UserId b was is) old mid keeps free kind alone = tt
 unlocked_change edit (changes.Map was is) old mid keeps free kind alone = tt
 
--- an edit of a user ID or of the map block is barred by no lock
-plain_free : (seats : List Seat) (edit : Edit) → kind_of edit ≡ Plain → bars seats edit ≡ false
-plain_free seats (edits.SetUserId b uid) kind = refl
-plain_free seats (edits.SetMap b) kind = refl
-plain_free seats _ kind = absurd (cc kind)
-
--- and needs no body
+-- an edit of a user ID or of the map block needs no body
 plain_needs : (edit : Edit) → kind_of edit ≡ Plain → edit_needs edit ≡ NoBody
 plain_needs (edits.FreeBlock b) kind = absurd (cc kind)
 plain_needs (edits.CopyBlock b) kind = absurd (cc kind)
@@ -85,6 +83,34 @@ plain_needs (edits.FreeChain b) kind = absurd (cc kind)
 plain_needs (edits.SetUserId b uid) kind = refl
 plain_needs (edits.SetMap b) kind = refl
 plain_needs _ kind = absurd (cc kind)
+
+-- blocks come in by no edit but one that makes some
+none_come_in : (c : Change) (k : Kind) → kind_of_change c ≡ k → k ≢ Made → blocks_in c ≡ []
+none_come_in (changes.BlocksIn ms) k kind other = absurd (other (sym kind))
+none_come_in (changes.BlocksOut ms) k kind other = refl
+none_come_in (changes.Part b part) k kind other = refl
+none_come_in (changes.UserId b was is) k kind other = refl
+none_come_in (changes.Map was is) k kind other = refl
+
+-- for an edit of a chain bodies are read
+pub reads_chain : {S : Type 0} (state : CacheState S) (edit : Edit) (own : Conditions) → ReadsNothing state (edit_needs edit) own → is_of_chain edit ≡ true → ⊥
+reads_chain state (edits.CopyChain b) own nothing chain = nothing
+reads_chain state (edits.FreeChain b) own nothing chain = nothing
+reads_chain state _ own nothing chain = absurd (cc chain)
+
+-- the change is made and no store called, if the body is there and takes it
+abbrev pub IsSurelyMade : {S : Type 0} → Change → CacheState S → CacheState S → Result (Unit {0}) Fault → Type 0
+IsSurelyMade c mid new result = blocks_in c ≡ [] → IsAtHand c mid → BodyTakes c mid.document → IsOk result × (new.disk ≡ mid.disk) × (new.document ≡ made c mid.document)
+
+-- so that it isn't refused
+pub never_refused : {S : Type 0} (edit : Edit) (c : Change) (mid new : CacheState S) (fault : Fault) (result : Result (Unit {0}) Fault) → result ≡ Err fault → kind_of_change c ≡ kind_of edit → kind_of edit ≢ Made → IsReady c mid
+    → IsSurelyMade c mid new result → ⊥
+never_refused edit c mid new fault result was kind other ready sure =
+    not_both result was (sure (none_come_in c (kind_of edit) kind other) ready.at_hand ready.takes).0
+  where
+    not_both : (r : Result (Unit {0}) Fault) → r ≡ Err fault → IsOk r → ⊥
+    not_both (Ok u) is accepted = cc is
+    not_both (Err e) is accepted = cc accepted
 
 module _ {S : Type 0} (facts : S → StoreFacts) where
   -- A change that is made after its block was brought into memory.
@@ -110,15 +136,30 @@ module _ {S : Type 0} (facts : S → StoreFacts) where
     ])
 
     -- what was planned for the document as it was held then
-    pub made_of_plan : (edit : Edit) (c : Change) (done : Done) (new : CacheState S) → IsReady c mid → has_no_room old (edit_needs edit) ≡ false → kind_of_change c ≡ kind_of edit → (IsTrue (facts old.disk.store).honest → Plans edit mid.document c done)
-        → Makes facts c mid new → IsMade facts edit old new c done
-    made_of_plan edit c done new ready room kind plans makes = record {
+    pub made_of_plan : (edit : Edit) (c : Change) (done : Done) (new : CacheState S) (result : Result (Unit {0}) Fault) → IsReady c mid → has_no_room old (edit_needs edit) ≡ false → kind_of_change c ≡ kind_of edit
+        → ((is_of_chain edit ≡ true → IsSteady facts old.disk.store) → Plans edit mid.document c done) → IsSurelyMade c mid new result → Makes facts c mid new → IsMade facts edit old new c done
+    made_of_plan edit c done new result ready room kind plans sure makes = record {
       listed = listed_before c (facts old.disk.store).honest old.document mid.document (keeps-drifts facts old mid keeps) ready.listed;
       makes = makes_later c new makes;
       room = room;
       kind = kind;
-      plans = λ so. subst (λ (d : Document). Plans edit d c done) (keeps-same facts old mid keeps (honest-steady facts old.disk.store so)) (plans so);
+      meant = λ so.
+          let planned = plans (λ chain. honest-steady facts old.disk.store (so chain)) in
+          record {
+            loaded = mid.document;
+            drifts = keeps-drifts facts old mid keeps;
+            plans = planned;
+            document = λ other. (sure (none_come_in c (kind_of edit) kind other) ready.at_hand ready.takes).2 ∙ planned.document;
+          };
     }
+
+    -- where that is the document before, nothing else is
+    pub made_at_rest : (edit : Edit) (c : Change) (done : Done) (new : CacheState S) (result : Result (Unit {0}) Fault) → mid.disk ≡ old.disk → mid.document ≡ old.document → kind_of edit ≢ Made → IsReady c mid
+        → Plans edit mid.document c done → IsSurelyMade c mid new result
+        → (new.disk ≡ old.disk) × ((new.document ≡ (effect edit old.document).0) × (done ≡ (effect edit old.document).1))
+    made_at_rest edit c done new result disk document other ready plans sure =
+        let is = sure (none_come_in c (kind_of edit) plans.kind other) ready.at_hand ready.takes in
+        (is.1 ∙ disk, (is.2 ∙ plans.document ∙ ap (λ (d : Document). (effect edit d).0) document, plans.answer ∙ ap (λ (d : Document). (effect edit d).1) document))
 
   -- A user ID or the map block is changed without memory.
   pub plain_sure : (c : Change) (state : CacheState S) → kind_of_change c ≡ Plain → (blocks_in c ≡ []) × IsAtHand c state × BodyTakes c state.document
@@ -140,7 +181,8 @@ module _ {S : Type 0} (facts : S → StoreFacts) where
     pub edit_step : (c : Change) (done : Done) → IsMade facts edit (blocks_of old) (blocks_of new) c done → new.undo ≡ c ∷ old.undo → new.redo ≡ [] → IsStep facts old new (commands.Edit edit) (reply_of_done done)
     edit_step c done is undo redo = λ exact.
         let so = exact.honest in
-        let plans = is.plans so in
+        let meant = is.meant (λ _. so) in
+        let plans : Plans edit old.document c done = subst (λ (d : Document). Plans edit d c done) (meant.drifts.same so) meant.plans in
         let document : new.document ≡ made c old.document = is.makes.document.same so in
         let steps : AreSteps Backwards (made c old.document) (c ∷ old.undo) [] = edited_steps old.document old.undo old.redo c exact.steps plans.applies in (
           record {
@@ -220,9 +262,12 @@ module _ {S : Type 0} (facts : S → StoreFacts) (s : SessionState S) (edit : Ed
   pub barred_fault : IsBarred edit s Locked
   barred_fault = (refl, λ target. is_barred-is s distinct target edit ∙ barred)
 
-  pub plain_open : kind_of edit ≡ Plain → ⊥
-  plain_open kind = true≢false (sym barred ∙ plain_free s.resident edit kind)
-
 -- It doesn't.
 pub not_barred : {S : Type 0} (s : SessionState S) (edit : Edit) → all_distinct (map (λ x. x.0) s.resident) ≡ true → bars s.resident edit ≡ false → ((target : Bool) → is_barred edit (machine_of target s) ≡ true) → ⊥
 not_barred s edit distinct free all = true≢false (sym (all true) ∙ is_barred-is s distinct true edit ∙ free)
+
+-- An edit for which no store is called, refused.
+module _ {S : Type 0} (edit : Edit) (old new : SessionState S) (disk : new.disk ≡ old.disk) where
+  pub refused_at_hand : (fault : Fault) (result : Result Done Fault) → IsErrAnd result (λ e. e ≡ fault) → new.document ≡ old.document → IsBarred edit old fault ⊎ RefusesAtHand edit old.document fault → EditsAtHand edit old new result
+  refused_at_hand fault (Ok done) is document why = absurd is
+  refused_at_hand fault (Err e) is document why = record { disk = disk; ok = tt; err = (document, subst (λ (f : Fault). IsBarred edit old f ⊎ RefusesAtHand edit old.document f) (sym is) why) }

@@ -3,3 +3,4 @@ pub mod Making
 pub mod Locking
 pub mod Turning
 pub mod Codes
+pub mod Editing

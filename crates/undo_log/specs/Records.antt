@@ -4,22 +4,24 @@ use Rattle.std.specs.FinMap.{FinMap, empty, insert, remove, len}
 use Rattle.std.specs.List.{sum_by}
 use Rattle.std.specs.Ordering.{nat_cmp}
 use Rattle.geos_model.specs.Document.{Document, IsValid}
-use Rattle.geos_model.specs.Machine.{Machine, UndoStep, Step, kind_of, look_up_needs}
+use Rattle.geos_model.specs.Machine.{Machine, UndoStep, Step, look_up_needs}
 use Rattle.geos_model.specs.Reply.{Reply}
 use Rattle.geos_model.specs.declared.command.Command.{Command}
+use Rattle.geos_model.specs.declared.command.Done.{Done}
 use Rattle.geos_model.specs.declared.command.Edit.{Edit}
 use Rattle.vm_store.specs.Facts.{StoreFacts, raised}
 use Rattle.vm_file.specs.Disk.{Disk, FileState}
 use Rattle.block_cache.specs.State.{CacheState, Seat, is_locked, seen}
 use Rattle.vm_blocks.specs.Changes.{after, turned, weight, Applies}
 use Rattle.vm_blocks.specs.Keeping.{Keeps, Lacks}
-use Rattle.vm_blocks.specs.Preparing.{AllListed, Makes}
+use Rattle.vm_blocks.specs.Preparing.{AllListed}
 use Rattle.vm_blocks.specs.declared.change.Change.{Change}
 use Rattle.vm_blocks.specs.declared.change.Direction.{Direction}
 use Rattle.vm_blocks.specs.declared.change.Direction.TheVariants.{Forwards, Backwards}
 use Rattle.doc_edits.specs.LookUps.{LooksUp}
 use Rattle.doc_edits.specs.Planning.{kind_of_change, change_cost}
 use Rattle.doc_edits.specs.Room.{has_no_room}
+use Rattle.undo_log.specs.Making.{IsMade}
 
 abbrev pub opposite : Direction → Direction
 opposite Forwards = Backwards
@@ -119,11 +121,10 @@ pub record Looks {S : Type 0} (facts : S → StoreFacts) (old new : SessionState
   pub step : IsStep facts old new command reply
   pub value : LooksUp (Lacks facts old.disk.store new.disk.store) (has_no_room (blocks_of old) (look_up_needs command)) command new.document reply
 
--- The edit's change is made, and its record is the newest, of the edit's kind; nothing is left to redo.
-pub record Records {S : Type 0} (facts : S → StoreFacts) (edit : Edit) (old new : SessionState S) : Type 0 where
+-- The edit's change is made, and its record is the newest; nothing is left to redo.
+pub record Records {S : Type 0} (facts : S → StoreFacts) (edit : Edit) (done : Done) (old new : SessionState S) : Type 0 where
   pub change : Change
-  pub kind : kind_of_change change ≡ kind_of edit
-  pub makes : Makes facts change (blocks_of old) (blocks_of new)
+  pub made : IsMade facts edit (blocks_of old) (blocks_of new) change done
   pub undo : new.undo ≡ change ∷ old.undo
   pub redo : new.redo ≡ []
 

@@ -1,9 +1,10 @@
-ghost use Rattle.std.specs.Prelude.{◌≡◌, ◌⊎◌, false, IsTrue, IfOk, IfErr, OnErr};
+ghost use Rattle.std.specs.Prelude.{◌≡◌, ◌≢◌, ◌⊎◌, false, IsTrue, IfOk, IfErr, MatchResult, OnErr};
 ghost use Rattle.geos_model.specs.Machine.{edit_needs, kind_of};
-ghost use Rattle.geos_model.specs.declared.command.Kind.TheVariants.{Plain};
+ghost use Rattle.geos_model.specs.Meaning.{conditions, effect};
+ghost use Rattle.geos_model.specs.declared.command.Kind.TheVariants.{Made, Plain};
 ghost use Rattle.vm_blocks.specs.Keeping.{Keeps, Lacks};
 ghost use Rattle.doc_edits.specs.Planning.{IsChainEditFault, Refuses, RefusesAtHand};
-ghost use Rattle.doc_edits.specs.Room.{has_no_room};
+ghost use Rattle.doc_edits.specs.Room.{has_no_room, ReadsNothing};
 ghost use Rattle.undo_log.specs.Locking.{bars};
 ghost use Rattle.undo_log.specs.Making.{IsMade};
 
@@ -36,6 +37,10 @@ pub fn make<S: Store>(
     ensures refusals { IfErr result (λ fault. Refuses (Lacks S.facts blocks.old.disk.store blocks.new.disk.store) (has_no_room blocks.old (edit_needs edit.now)) edit.now blocks.new.document fault ⊎ IsChainEditFault edit.now fault) }
     ensures rules { IsTrue (S.facts blocks.old.disk.store).honest → IfErr result (Refuses (Lacks S.facts blocks.old.disk.store blocks.new.disk.store) (has_no_room blocks.old (edit_needs edit.now)) edit.now blocks.new.document) }
     ensures plain { kind_of edit.now ≡ Plain → (blocks.new.disk ≡ blocks.old.disk) × IfErr result (RefusesAtHand edit.now blocks.new.document) }
+    ensures already { kind_of edit.now ≢ Made → ReadsNothing blocks.old (edit_needs edit.now) (conditions edit.now blocks.old.document)
+        → (blocks.new.disk ≡ blocks.old.disk)
+        × MatchResult result (λ p. (blocks.new.document ≡ (effect edit.now blocks.old.document).0) × (p.1 ≡ (effect edit.now blocks.old.document).1))
+        (λ fault. (blocks.new.document ≡ blocks.old.document) × RefusesAtHand edit.now blocks.old.document fault) }
 {
     let (change, done) = plan(alloc, blocks, edit)?;
     blocks.validity();

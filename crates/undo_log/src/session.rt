@@ -1,15 +1,16 @@
 //! A document that is edited, with what undo needs.
-ghost use Rattle.std.specs.Prelude.{◌≡◌, ◌↔◌, ◌+◌, ◌-◌, ◌^◌, ◌≤◌, ◌<◌, ◌||◌, ◌⊎◌, ℕ, Bool, true, false, List, [], Some, Ok, Err, IsTrue, IsOk, IfOk, IfErr, OnOk, OnErr, MatchOption, MatchResult, length, min, nat_lt};
+ghost use Rattle.std.specs.Prelude.{◌≡◌, ◌↔◌, ◌≢◌, ◌+◌, ◌-◌, ◌^◌, ◌≤◌, ◌<◌, ◌||◌, ◌⊎◌, ℕ, Bool, true, false, List, [], Some, Ok, Err, IsTrue, IsOk, IfOk, IfErr, OnOk, OnErr, MatchOption, MatchResult, length, min, nat_lt};
 ghost use Rattle.std.specs.Result.{IsErrAnd};
 ghost use Rattle.std.specs.Borrow.{sem};
 ghost use Rattle.std.specs.FinMap.{get};
 ghost use Rattle.std.specs.Option.{option_map};
 ghost use Rattle.geos_model.specs.Document.{Document};
 ghost use Rattle.geos_model.specs.File.{stands};
+ghost use Rattle.geos_model.specs.Meaning.{conditions};
 ghost use Rattle.geos_model.specs.Reply.{Accepted, Refused as RefusedWith, AreEqual, BytesAre, NumberIs, TokenIs, reply_by, reply_of_done, info_is, blocks_are, chunks_are, found};
 ghost use Rattle.geos_model.specs.Machine.{AreValidLocks, IsValidMachine, Step, edit_needs, empty_machine, has_locks as machine_has_locks, is_barred, kind_of, locked_chunk, locked_raw, opened_machine};
 ghost use Rattle.geos_model.specs.declared.command.Command.TheVariants as commands;
-ghost use Rattle.geos_model.specs.declared.command.Kind.TheVariants.{In, Plain};
+ghost use Rattle.geos_model.specs.declared.command.Kind.TheVariants.{In, Made};
 ghost use Rattle.vm_file.specs.Calls.{last_sequence};
 ghost use Rattle.vm_file.specs.Disk.{IsListed, IsSettled, Passes};
 ghost use Rattle.vm_file.specs.Documents.{sequence_in};
@@ -22,8 +23,9 @@ ghost use Rattle.vm_blocks.specs.Locking.{CantLock, GainsLock, HasNoLock, LosesL
 ghost use Rattle.vm_blocks.specs.Opening.{IsOpenedFrom, IsNotOpened, IsMadeIn, IsNotMade};
 ghost use Rattle.vm_blocks.specs.declared.change.Direction.TheVariants.{Backwards, Forwards};
 ghost use Rattle.doc_edits.specs.LookUps.{Leaves, LooksUp};
-ghost use Rattle.doc_edits.specs.Planning.{IsChainEditFault, Refuses, RefusesAtHand};
-ghost use Rattle.doc_edits.specs.Room.{has_no_room, IsChainRefusal};
+ghost use Rattle.doc_edits.specs.Planning.{IsChainEditFault, Refuses};
+ghost use Rattle.doc_edits.specs.Room.{has_no_room, IsChainRefusal, ReadsNothing};
+ghost use Rattle.undo_log.specs.Editing.{EditsAtHand};
 ghost use Rattle.undo_log.specs.Locking.{IsBarred, IsHeld, IsNotMoved, TriesCommit};
 ghost use Rattle.undo_log.specs.Records.{blocks_of, file_of, has_locks, machine_of, has_failed, total_cost, total_weight, IsExact, IsStep, KeepsSession, Looks, Records};
 ghost use Rattle.undo_log.specs.Turning.{IsRefusedTurn, IsSure, Moves, newest_made};
@@ -221,10 +223,11 @@ impl<S: Store> Session<S> {
     }
 
     /// Makes an edit, which can be undone from then on. Locked where it frees a locked block, or copies or frees a chain while any
-    /// block is locked, before all else; CacheFull where each frame has a locked block, and it looks into the body of another one.
+    /// block is locked, before all else; CacheFull where each frame has a locked block, and it looks into the body of another one. For an edit of a user ID, of the map block or of
+    /// the body of a block in memory, and for one that frees such a block, no store is called.
     pub fn edit(&mut self, edit: &Edit) -> Result<Done, Fault>
         ensures step { IsStep S.facts self.old self.new (commands.Edit edit.now) (reply_by reply_of_done result) }
-        ensures ok { OnOk result (Records S.facts edit.now self.old self.new) }
+        ensures ok { IfOk result (λ done. Records S.facts edit.now done self.old self.new) }
         ensures err { OnErr result (KeepsSession S.facts self.old self.new) }
         ensures refusals { IfErr result (λ fault. IsBarred edit.now self.old fault
             ⊎ (Refuses (Lacks S.facts self.old.disk.store self.new.disk.store) (has_no_room (blocks_of self.old) (edit_needs edit.now)) edit.now self.new.document fault
@@ -232,8 +235,9 @@ impl<S: Store> Session<S> {
         ensures locked { ((target : Bool) → is_barred edit.now (machine_of target self.old) ≡ true) → (result ≡ Err Fault.Locked) × (self.new ≡ self.old) }
         ensures at_hand { OnOk result ((b : VmHandle) → kind_of edit.now ≡ In b → is_loaded (blocks_of self.new) b.0 ≡ true) }
         ensures passes { Passes S.facts self.old.disk self.new.disk }
-        // an edit of a user ID or of the map block calls no store
-        ensures plain { kind_of edit.now ≡ Plain → (self.new.disk ≡ self.old.disk) × IfErr result (RefusesAtHand edit.now self.new.document) }
+        // No store is called where no block comes in and no body has to be read.
+        ensures already { kind_of edit.now ≢ Made → ReadsNothing (blocks_of self.old) (edit_needs edit.now) (conditions edit.now self.old.document)
+            → EditsAtHand edit.now self.old self.new result }
     {
         self.blocks.validity();
         if is_barred(&self.blocks, edit) {

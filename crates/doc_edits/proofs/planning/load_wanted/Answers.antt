@@ -19,44 +19,59 @@ returns-in-Nothing-clause-shut g c = λ out. let no : true ≡ false = sym out �
 pub returns-in-Any-clause-room : goal.returns-in-Any-clause-room
 returns-in-Any-clause-room g c =
     let a = c.args.blocks.now in let b = c.load.new.self in
-    (any_brought (Lacks g.S.Store.facts a.disk.store b.disk.store) c.args.edit.now c.requires a b c.in-Any.handle c.load.result (sym c.in-Any.ensures) c.load.ensures.dead c.load.ensures.shut c.load.ensures.err).room
+    (any_brought (Lacks g.S.Store.facts a.disk.store b.disk.store) c.args.edit.now c.requires a b c.in-Any.handle c.load.result (sym c.in-Any.ensures) c.load.ensures.dead c.load.ensures.shut c.load.ensures.err c.load.ensures.already).room
 
 pub returns-in-Any-clause-shut : goal.returns-in-Any-clause-shut
 returns-in-Any-clause-shut g c =
     let a = c.args.blocks.now in let b = c.load.new.self in
-    (any_brought (Lacks g.S.Store.facts a.disk.store b.disk.store) c.args.edit.now c.requires a b c.in-Any.handle c.load.result (sym c.in-Any.ensures) c.load.ensures.dead c.load.ensures.shut c.load.ensures.err).shut
+    (any_brought (Lacks g.S.Store.facts a.disk.store b.disk.store) c.args.edit.now c.requires a b c.in-Any.handle c.load.result (sym c.in-Any.ensures) c.load.ensures.dead c.load.ensures.shut c.load.ensures.err c.load.ensures.already).shut
 
 pub returns-in-Any-clause-err : goal.returns-in-Any-clause-err
 returns-in-Any-clause-err g c =
     let a = c.args.blocks.now in let b = c.load.new.self in
-    (any_brought (Lacks g.S.Store.facts a.disk.store b.disk.store) c.args.edit.now c.requires a b c.in-Any.handle c.load.result (sym c.in-Any.ensures) c.load.ensures.dead c.load.ensures.shut c.load.ensures.err).err
+    (any_brought (Lacks g.S.Store.facts a.disk.store b.disk.store) c.args.edit.now c.requires a b c.in-Any.handle c.load.result (sym c.in-Any.ensures) c.load.ensures.dead c.load.ensures.shut c.load.ensures.err c.load.ensures.already).err
 
 pub returns-in-Raw-clause-room : goal.returns-in-Raw-clause-room
 returns-in-Raw-clause-room g c =
     let a = c.args.blocks.now in let b = c.load_raw.new.self in
-    (raw_brought (Lacks g.S.Store.facts a.disk.store b.disk.store) c.args.edit.now c.requires a b c.in-Raw.handle c.load_raw.result (sym c.in-Raw.ensures) c.load_raw.ensures.early c.load_raw.ensures.shut c.load_raw.ensures.err).room
+    (raw_brought (Lacks g.S.Store.facts a.disk.store b.disk.store) c.args.edit.now c.requires a b c.in-Raw.handle c.load_raw.result (sym c.in-Raw.ensures) c.load_raw.ensures.early c.load_raw.ensures.shut c.load_raw.ensures.err c.load_raw.ensures.already).room
 
 pub returns-in-Raw-clause-shut : goal.returns-in-Raw-clause-shut
 returns-in-Raw-clause-shut g c =
     let a = c.args.blocks.now in let b = c.load_raw.new.self in
-    (raw_brought (Lacks g.S.Store.facts a.disk.store b.disk.store) c.args.edit.now c.requires a b c.in-Raw.handle c.load_raw.result (sym c.in-Raw.ensures) c.load_raw.ensures.early c.load_raw.ensures.shut c.load_raw.ensures.err).shut
+    (raw_brought (Lacks g.S.Store.facts a.disk.store b.disk.store) c.args.edit.now c.requires a b c.in-Raw.handle c.load_raw.result (sym c.in-Raw.ensures) c.load_raw.ensures.early c.load_raw.ensures.shut c.load_raw.ensures.err c.load_raw.ensures.already).shut
 
 pub returns-in-Raw-clause-err : goal.returns-in-Raw-clause-err
 returns-in-Raw-clause-err g c =
     let a = c.args.blocks.now in let b = c.load_raw.new.self in
-    (raw_brought (Lacks g.S.Store.facts a.disk.store b.disk.store) c.args.edit.now c.requires a b c.in-Raw.handle c.load_raw.result (sym c.in-Raw.ensures) c.load_raw.ensures.early c.load_raw.ensures.shut c.load_raw.ensures.err).err
+    (raw_brought (Lacks g.S.Store.facts a.disk.store b.disk.store) c.args.edit.now c.requires a b c.in-Raw.handle c.load_raw.result (sym c.in-Raw.ensures) c.load_raw.ensures.early c.load_raw.ensures.shut c.load_raw.ensures.err c.load_raw.ensures.already).err
 
 pub returns-in-Heap-clause-room : goal.returns-in-Heap-clause-room
 returns-in-Heap-clause-room g c =
     let a = c.args.blocks.now in let b = c.load_heap.new.self in
-    (heap_brought (Lacks g.S.Store.facts a.disk.store b.disk.store) c.args.edit.now c.requires a b c.in-Heap.handle c.load_heap.result (sym c.in-Heap.ensures) c.load_heap.ensures.early c.load_heap.ensures.shut c.load_heap.ensures.err).room
+    (heap_brought (Lacks g.S.Store.facts a.disk.store b.disk.store) c.args.edit.now c.requires a b c.in-Heap.handle c.load_heap.result (sym c.in-Heap.ensures) c.load_heap.ensures.early c.load_heap.ensures.shut c.load_heap.ensures.err c.load_heap.ensures.already).room
 
 pub returns-in-Heap-clause-shut : goal.returns-in-Heap-clause-shut
 returns-in-Heap-clause-shut g c =
     let a = c.args.blocks.now in let b = c.load_heap.new.self in
-    (heap_brought (Lacks g.S.Store.facts a.disk.store b.disk.store) c.args.edit.now c.requires a b c.in-Heap.handle c.load_heap.result (sym c.in-Heap.ensures) c.load_heap.ensures.early c.load_heap.ensures.shut c.load_heap.ensures.err).shut
+    (heap_brought (Lacks g.S.Store.facts a.disk.store b.disk.store) c.args.edit.now c.requires a b c.in-Heap.handle c.load_heap.result (sym c.in-Heap.ensures) c.load_heap.ensures.early c.load_heap.ensures.shut c.load_heap.ensures.err c.load_heap.ensures.already).shut
 
 pub returns-in-Heap-clause-err : goal.returns-in-Heap-clause-err
 returns-in-Heap-clause-err g c =
     let a = c.args.blocks.now in let b = c.load_heap.new.self in
-    (heap_brought (Lacks g.S.Store.facts a.disk.store b.disk.store) c.args.edit.now c.requires a b c.in-Heap.handle c.load_heap.result (sym c.in-Heap.ensures) c.load_heap.ensures.early c.load_heap.ensures.shut c.load_heap.ensures.err).err
+    (heap_brought (Lacks g.S.Store.facts a.disk.store b.disk.store) c.args.edit.now c.requires a b c.in-Heap.handle c.load_heap.result (sym c.in-Heap.ensures) c.load_heap.ensures.early c.load_heap.ensures.shut c.load_heap.ensures.err c.load_heap.ensures.already).err
+
+pub returns-in-Any-clause-already : goal.returns-in-Any-clause-already
+returns-in-Any-clause-already g c =
+    let a = c.args.blocks.now in let b = c.load.new.self in
+    (any_brought (Lacks g.S.Store.facts a.disk.store b.disk.store) c.args.edit.now c.requires a b c.in-Any.handle c.load.result (sym c.in-Any.ensures) c.load.ensures.dead c.load.ensures.shut c.load.ensures.err c.load.ensures.already).already
+
+pub returns-in-Raw-clause-already : goal.returns-in-Raw-clause-already
+returns-in-Raw-clause-already g c =
+    let a = c.args.blocks.now in let b = c.load_raw.new.self in
+    (raw_brought (Lacks g.S.Store.facts a.disk.store b.disk.store) c.args.edit.now c.requires a b c.in-Raw.handle c.load_raw.result (sym c.in-Raw.ensures) c.load_raw.ensures.early c.load_raw.ensures.shut c.load_raw.ensures.err c.load_raw.ensures.already).already
+
+pub returns-in-Heap-clause-already : goal.returns-in-Heap-clause-already
+returns-in-Heap-clause-already g c =
+    let a = c.args.blocks.now in let b = c.load_heap.new.self in
+    (heap_brought (Lacks g.S.Store.facts a.disk.store b.disk.store) c.args.edit.now c.requires a b c.in-Heap.handle c.load_heap.result (sym c.in-Heap.ensures) c.load_heap.ensures.early c.load_heap.ensures.shut c.load_heap.ensures.err c.load_heap.ensures.already).already

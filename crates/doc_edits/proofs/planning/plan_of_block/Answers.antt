@@ -1,11 +1,12 @@
-use Rattle.std.proofs.Common.{◌≡◌, true, false, sym, ◌∙◌}
+use Rattle.std.proofs.Common.{◌≡◌, true, false, IfErr, inr, subst, sym, ◌∙◌}
+use Rattle.geos_model.specs.Document.{Document}
 use Rattle.geos_model.specs.Machine.{edit_needs}
 use Rattle.vm_blocks.specs.Keeping.{Lacks}
 use Rattle.vm_blocks.proofs.KeepingLaws.{lacks-memory}
 use Rattle.doc_edits.specs.Planning.{RefusesAtHand}
 use Rattle.doc_edits.specs.Room.{has_no_room}
 use Rattle.doc_edits.proofs.Planned.{ready, refused_so}
-use Rattle.doc_edits.proofs.Refusals.{may_lack}
+use Rattle.doc_edits.proofs.Refusals.{carried_so, may_lack}
 use Rattle.doc_edits.proofs.planning.plan_of_block.Goals as goal
 
 pub returns-in_err-load_wanted-clause-plain : goal.returns-in_err-load_wanted-clause-plain
@@ -24,3 +25,13 @@ returns-clause-ready g c =
 pub returns-clause-plain : goal.returns-clause-plain
 returns-clause-plain g c = λ plain.
     ((c.in_ok-load_wanted.ensures.plain plain).1, refused_so c.plan_loaded.result _ (RefusesAtHand c.args.edit.now c.load_wanted.new.blocks.document) c.plan_loaded.ensures.planned)
+
+pub returns-in_err-load_wanted-clause-already : goal.returns-in_err-load_wanted-clause-already
+returns-in_err-load_wanted-clause-already g c = λ nothing.
+    let w = c.in_err-load_wanted.ensures.already nothing in
+    (w.0, w.1, carried_so c.from_residual.result _ c.in_err-load_wanted.field-0.0 c.from_residual.ensures.1 (inr w.2))
+
+pub returns-clause-already : goal.returns-clause-already
+returns-clause-already g c = λ nothing.
+    let w = c.in_ok-load_wanted.ensures.already nothing in
+    (w.0, w.1, subst (λ (d : Document). IfErr c.plan_loaded.result (RefusesAtHand c.args.edit.now d)) w.1 (refused_so c.plan_loaded.result _ (RefusesAtHand c.args.edit.now c.load_wanted.new.blocks.document) c.plan_loaded.ensures.planned))

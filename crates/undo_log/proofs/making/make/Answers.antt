@@ -1,9 +1,10 @@
 use Rattle.std.proofs.Common.{inl, sym, subst}
+use Rattle.geos_model.specs.Meaning.{conditions}
 use Rattle.std.specs.Prelude.{OnErr}
 use Rattle.std.proofs.lemmas.Result.{err_from_is_err_and}
 use Rattle.vm_blocks.specs.Keeping.{Keeps}
 use Rattle.vm_blocks.proofs.KeepingLaws.{honest-steady, keeps-locks, keeps-trans}
-use Rattle.undo_log.proofs.Edited.{made_of_plan, unlocked_change, unready_lacks}
+use Rattle.undo_log.proofs.Edited.{made_at_rest, made_of_plan, never_refused, reads_chain, unlocked_change, unready_lacks}
 use Rattle.undo_log.proofs.making.make.Goals as goal
 
 pub returns-in_err-change-clause-rules : goal.returns-in_err-change-clause-rules
@@ -28,11 +29,28 @@ returns-in_err-change-2-clause-rules g c = λ so.
     rw (p.1, p.2) (inl (unready_lacks g.S.Store.facts c.args.blocks.now c.plan.new.blocks c.plan.ensures.keeps c.in_ok-change.change c.change.new.self c.in_err-change-2.field-0.0
     c.in_ok-change.ensures.ready.takes c.in_ok-change.ensures.ready.at_hand c.validity.ensures.few c.in_err-change-2.ensures.refusals))
 
+pub returns-in_err-change-clause-already : goal.returns-in_err-change-clause-already
+returns-in_err-change-clause-already g c = λ other nothing.
+    let rests = c.in_err-change.ensures.already nothing in
+    let p = err_from_is_err_and c.from_residual.result c.from_residual.ensures.1 in
+    (rests.0, rw (p.1, p.2) (rests.1, rests.2))
+
+pub returns-in_err-change-2-clause-already : goal.returns-in_err-change-2-clause-already
+returns-in_err-change-2-clause-already g c = λ other nothing.
+    absurd (never_refused c.args.edit.now c.in_ok-change.change c.plan.new.blocks c.change.new.self c.in_err-change-2.field-0.0 c.change.result c.in_err-change-2.was c.in_ok-change.ensures.kind other c.in_ok-change.ensures.ready c.change.ensures.sure)
+
+pub returns-clause-already : goal.returns-clause-already
+returns-clause-already g c = λ other nothing.
+    let plan = c.in_ok-change.ensures in let a = c.args.blocks.now in
+    let rests = plan.already nothing in
+    let planned = plan.planned (λ chain. absurd (reads_chain a c.args.edit.now (conditions c.args.edit.now a.document) nothing chain)) in
+    made_at_rest g.S.Store.facts a c.plan.new.blocks c.plan.ensures.keeps c.args.edit.now c.in_ok-change.change c.in_ok-change.done c.change.new.self c.change.result rests.0 rests.1 other plan.ready planned c.change.ensures.sure
+
 pub returns-clause-ok : goal.returns-clause-ok
 returns-clause-ok g c =
     let plan = c.in_ok-change.ensures in
-    made_of_plan g.S.Store.facts c.args.blocks.now c.plan.new.blocks c.plan.ensures.keeps c.args.edit.now c.in_ok-change.change c.in_ok-change.done c.change.new.self plan.ready plan.room plan.kind
-    (λ so. plan.planned (λ _. honest-steady g.S.Store.facts c.args.blocks.now.disk.store so)) c.in_ok-change-2.ensures.ok
+    made_of_plan g.S.Store.facts c.args.blocks.now c.plan.new.blocks c.plan.ensures.keeps c.args.edit.now c.in_ok-change.change c.in_ok-change.done c.change.new.self c.change.result plan.ready plan.room plan.kind
+    plan.planned c.change.ensures.sure c.in_ok-change-2.ensures.ok
 
 pub change-requires-clause-unlocked : goal.change-requires-clause-unlocked
 change-requires-clause-unlocked g c =

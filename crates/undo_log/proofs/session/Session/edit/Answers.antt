@@ -1,9 +1,11 @@
-use Rattle.std.proofs.Common.{◌≡◌, ◌⊎◌, Bool, true, Err, List, ◌∷◌, reverse, inl, inr, refl, ap, sym, subst, ◌∙◌, rules}
-use Rattle.std.specs.Prelude.{IfErr, OnErr}
+use Rattle.std.proofs.Common.{◌≡◌, ◌⊎◌, Bool, true, Ok, Err, List, ◌∷◌, reverse, inl, inr, refl, ap, sym, subst, ◌∙◌, rules}
+use Rattle.std.specs.Prelude.{◌≢◌, IfErr, OnErr}
 use Rattle.std.proofs.lemmas.Result.{err_from_is_err_and}
 use Rattle.geos_model.specs.Machine.{edit_needs, is_barred, kind_of}
+use Rattle.geos_model.specs.Meaning.{conditions}
 use Rattle.geos_model.specs.Reply.{reply_by, reply_of_done}
 use Rattle.geos_model.specs.declared.command.Command.TheVariants as commands
+use Rattle.geos_model.specs.declared.command.Kind.TheVariants.{Made}
 use Rattle.geos_model.specs.declared.fault.Fault.TheVariants.{Locked, Memory}
 use Rattle.vm_file.specs.Disk.{Passes}
 use Rattle.vm_blocks.specs.Keeping.{Lacks}
@@ -11,10 +13,11 @@ use Rattle.vm_blocks.specs.declared.change.Change.{Change}
 use Rattle.vm_blocks.specs.declared.change.Direction.TheVariants.{Backwards}
 use Rattle.vm_blocks.proofs.KeepingLaws.{keeps-refl, keeps-passes, keeps-drifts, lacks-memory}
 use Rattle.doc_edits.specs.Planning.{IsChainEditFault, Refuses}
-use Rattle.doc_edits.specs.Room.{has_no_room}
+use Rattle.doc_edits.specs.Room.{has_no_room, ReadsNothing}
+use Rattle.undo_log.specs.Editing.{EditsAtHand}
 use Rattle.undo_log.specs.Locking.{IsBarred}
 use Rattle.undo_log.specs.Records.{SessionState, blocks_of, machine_of, AreListed, IsStep, KeepsSession, Records}
-use Rattle.undo_log.proofs.Edited.{barred_fault, barred_step, edit_step, edit_refused, made_at_hand, not_barred, plain_open}
+use Rattle.undo_log.proofs.Edited.{barred_fault, barred_step, edit_step, edit_refused, made_at_hand, not_barred, refused_at_hand}
 use Rattle.undo_log.proofs.Keeping.{drifted_listed, keeps_refl}
 use Rattle.undo_log.proofs.Listing.{drifted, edited_listed}
 use Rattle.undo_log.proofs.Lists.{pushed_first}
@@ -38,10 +41,12 @@ returns-then-is_barred-clause-refusals g c =
     let old = session_with c.self.inside.blocks (reverse c.self.inside.undo.items) (reverse c.self.inside.redo.items) in
     inl (subst (λ (s : SessionState g.row.S.Denot). IsBarred c.args.edit.now s Locked) c.self.view_is (barred_fault facts old c.args.edit.now c.validity.ensures.distinct (sym c.is_barred.ensures ∙ c.if-is_barred.true)))
 
-pub returns-then-is_barred-clause-plain : goal.returns-then-is_barred-clause-plain
-returns-then-is_barred-clause-plain g c = λ plain.
+pub returns-then-is_barred-clause-already : goal.returns-then-is_barred-clause-already
+returns-then-is_barred-clause-already g c = λ other nothing.
+    let facts = g.S.Store.facts in
     let old = session_with c.self.inside.blocks (reverse c.self.inside.undo.items) (reverse c.self.inside.redo.items) in
-    absurd (plain_open g.S.Store.facts old c.args.edit.now c.validity.ensures.distinct (sym c.is_barred.ensures ∙ c.if-is_barred.true) plain)
+    subst (λ (s : SessionState g.row.S.Denot). EditsAtHand c.args.edit.now s s (Err Locked)) c.self.view_is
+    (record { disk = refl; ok = tt; err = (refl, inl (barred_fault facts old c.args.edit.now c.validity.ensures.distinct (sym c.is_barred.ensures ∙ c.if-is_barred.true))) })
 
 -- no lock does
 
@@ -118,6 +123,20 @@ returns-in_err-reserve-2-clause-refusals g c =
     let p = err_from_is_err_and c.from_residual-in_err-reserve-2.result c.from_residual-in_err-reserve-2.ensures.1 in
     rw (p.1, p.2) (inr (inl (inl (lacks-memory g.S.Store.facts _ _))))
 
+pub returns-in_err-reserve-clause-already : goal.returns-in_err-reserve-clause-already
+returns-in_err-reserve-clause-already g c =
+    let old = session_with c.self.inside.blocks (reverse c.self.inside.undo.items) (reverse c.self.inside.redo.items) in
+    let new = session_with c.self.inside.blocks (reverse c.reserve.new.self.items) (reverse c.self.inside.redo.items) in
+    subst (λ (s : SessionState g.row.S.Denot). kind_of c.args.edit.now ≢ Made → ReadsNothing (blocks_of s) (edit_needs c.args.edit.now) (conditions c.args.edit.now s.document) → EditsAtHand c.args.edit.now s new c.from_residual.result) c.self.view_is
+    (λ other nothing. refused_at_hand c.args.edit.now old new refl Memory c.from_residual.result c.from_residual.ensures.1 refl (inr (inl refl)))
+
+pub returns-in_err-reserve-2-clause-already : goal.returns-in_err-reserve-2-clause-already
+returns-in_err-reserve-2-clause-already g c =
+    let old = session_with c.self.inside.blocks (reverse c.self.inside.undo.items) (reverse c.self.inside.redo.items) in
+    let new = session_with c.self.inside.blocks (reverse c.reserve.new.self.items) (reverse c.reserve-2.new.self.items) in
+    subst (λ (s : SessionState g.row.S.Denot). kind_of c.args.edit.now ≢ Made → ReadsNothing (blocks_of s) (edit_needs c.args.edit.now) (conditions c.args.edit.now s.document) → EditsAtHand c.args.edit.now s new c.from_residual-in_err-reserve-2.result) c.self.view_is
+    (λ other nothing. refused_at_hand c.args.edit.now old new refl Memory c.from_residual-in_err-reserve-2.result c.from_residual-in_err-reserve-2.ensures.1 refl (inr (inl refl)))
+
 -- the edit is refused
 pub invariant_of-self-in_err-change : goal.invariant_of-self-in_err-change
 invariant_of-self-in_err-change g c = (
@@ -162,10 +181,14 @@ pub returns-in_err-change-clause-passes : goal.returns-in_err-change-clause-pass
 returns-in_err-change-clause-passes g c =
     subst (λ (s : SessionState g.row.S.Denot). Passes g.S.Store.facts s.disk c.make.new.blocks.disk) c.self.view_is (keeps-passes g.S.Store.facts c.self.inside.blocks c.make.new.blocks c.in_err-change.ensures.err)
 
-pub returns-in_err-change-clause-plain : goal.returns-in_err-change-clause-plain
-returns-in_err-change-clause-plain g c = λ is.
-    let p = err_from_is_err_and c.from_residual-in_err-change.result c.from_residual-in_err-change.ensures.1 in
-    (subst (λ (s : SessionState g.row.S.Denot). c.make.new.blocks.disk ≡ s.disk) c.self.view_is (c.in_err-change.ensures.plain is).0, rw (p.1, p.2) (c.in_err-change.ensures.plain is).1)
+pub returns-in_err-change-clause-already : goal.returns-in_err-change-clause-already
+returns-in_err-change-clause-already g c =
+    let old = session_with c.self.inside.blocks (reverse c.self.inside.undo.items) (reverse c.self.inside.redo.items) in
+    let new = session_with c.make.new.blocks (reverse c.reserve.new.self.items) (reverse c.reserve-2.new.self.items) in
+    subst (λ (s : SessionState g.row.S.Denot). kind_of c.args.edit.now ≢ Made → ReadsNothing (blocks_of s) (edit_needs c.args.edit.now) (conditions c.args.edit.now s.document) → EditsAtHand c.args.edit.now s new c.from_residual-in_err-change.result) c.self.view_is
+    (λ other nothing.
+    let rests = c.in_err-change.ensures.already other nothing in
+    refused_at_hand c.args.edit.now old new rests.0 c.in_err-change.field-0.0 c.from_residual-in_err-change.result c.from_residual-in_err-change.ensures.1 rests.1.0 (inr rests.1.1))
 
 -- the edit is made
 pub invariant_of-self-2 : goal.invariant_of-self-2
@@ -195,14 +218,17 @@ returns-clause-ok g c =
     let facts = g.S.Store.facts in let undo = reverse c.self.inside.undo.items in let change = c.in_ok-change.change in let made = c.in_ok-change.ensures.ok in
     let new = session_with c.make.new.blocks (reverse c.push_reserved.new.self.items) (reverse c.clear.new.self.items) in
     let pushed : reverse c.push_reserved.new.self.items ≡ change ∷ undo = pushed_first c.self.inside.undo.items _ _ change c.in_ok-reserve.ensures.items c.push_reserved.ensures.items in
-    subst (λ (s : SessionState g.row.S.Denot). Records facts c.args.edit.now s new) c.self.view_is
-    (record { change = change; kind = made.kind; makes = made.makes; undo = pushed; redo = ap reverse c.clear.ensures.items })
+    subst (λ (s : SessionState g.row.S.Denot). Records facts c.args.edit.now c.in_ok-change.done s new) c.self.view_is
+    (record { change = change; made = made; undo = pushed; redo = ap reverse c.clear.ensures.items })
 
 pub returns-clause-at_hand : goal.returns-clause-at_hand
 returns-clause-at_hand g c = made_at_hand g.S.Store.facts c.in_ok-change.change (kind_of c.args.edit.now) c.make.new.blocks c.in_ok-change.ensures.ok.kind c.in_ok-change.ensures.ok.makes.at_hand
 
-pub returns-clause-plain : goal.returns-clause-plain
-returns-clause-plain g c = λ is. (subst (λ (s : SessionState g.row.S.Denot). c.make.new.blocks.disk ≡ s.disk) c.self.view_is (c.in_ok-change.ensures.plain is).0, tt)
-
 pub returns-clause-passes : goal.returns-clause-passes
 returns-clause-passes g c = subst (λ (s : SessionState g.row.S.Denot). Passes g.S.Store.facts s.disk c.make.new.blocks.disk) c.self.view_is c.in_ok-change.ensures.ok.makes.passes
+
+pub returns-clause-already : goal.returns-clause-already
+returns-clause-already g c =
+    let new = session_with c.make.new.blocks (reverse c.push_reserved.new.self.items) (reverse c.clear.new.self.items) in
+    subst (λ (s : SessionState g.row.S.Denot). kind_of c.args.edit.now ≢ Made → ReadsNothing (blocks_of s) (edit_needs c.args.edit.now) (conditions c.args.edit.now s.document) → EditsAtHand c.args.edit.now s new (Ok c.in_ok-change.done)) c.self.view_is
+    (λ other nothing. let rests = c.in_ok-change.ensures.already other nothing in record { disk = rests.0; ok = rests.1; err = tt })
