@@ -431,6 +431,45 @@ impl<S: Store> FileBlocks<S> {
         self.turn(change, direction)
     }
 
+    /// Makes changes one after another, in the direction: all of them or none. What is changed in memory is first written to the file.
+    /// Damaged where a body doesn't take its change; otherwise refused as `load` is. Where it is refused no block is in memory then.
+    pub fn change_all(&mut self, changes: &[Change], direction: Direction) -> Result<(), Fault>
+        requires unmarked { self.old.disk.marked ≡ None }
+        requires listed { AllListed (turned_all direction changes.now) self.old.document }
+        requires unlocked { locked_count self.old.resident ≡ 0 }
+        ensures ok { OnOk result (MakesAll S.facts (turned_all direction changes.now) self.old self.new) }
+        ensures err { OnErr result (Keeps S.facts self.old self.new) }
+        ensures refusals { IfErr result (AreUnready S.facts (turned_all direction changes.now) self.old self.new) }
+    {
+        self.cache.mark()?;
+        match self.turn_all(changes, direction) {
+            Ok(()) => {
+                self.cache.release();
+                Ok(())
+            }
+            Err(fault) => {
+                self.cache.roll_back();
+                Err(fault)
+            }
+        }
+    }
+
+    // Makes changes one after another, in the direction, until one is refused.
+    fn turn_all(&mut self, changes: &[Change], direction: Direction) -> Result<(), Fault>
+        requires listed { AllListed (turned_all direction changes.now) self.old.document }
+        requires unlocked { locked_count self.old.resident ≡ 0 }
+        ensures ok { OnOk result (MakesAll S.facts (turned_all direction changes.now) self.old self.new) }
+        ensures passes { Passes S.facts self.old.disk self.new.disk }
+        ensures frames { self.new.frames ≡ self.old.frames }
+        ensures locks { KeepsLocks self.old.resident self.new.resident }
+        ensures refusals { IfErr result (AreUnready S.facts (turned_all direction changes.now) self.old self.new) }
+    {
+        match direction {
+            Direction::Forwards => self.make_all(changes),
+            Direction::Backwards => self.take_back_all(changes),
+        }
+    }
+
     // So it does, in one word.
     fn turn(&mut self, change: &Change, direction: Direction) -> Result<(), Fault>
         requires listed { Listed (turned direction change.now) self.old.document }
