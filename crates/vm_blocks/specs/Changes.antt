@@ -67,10 +67,9 @@ abbrev pub turned : Direction → Change → Change
 turned Forwards change = change
 turned Backwards change = flipped change
 
--- the changes that are made by carrying changes out in a direction: backwards the last one first
+-- the changes that are made by taking changes off a stack, on which the last one lies uppermost, and carrying each out in a direction
 abbrev pub turned_all : Direction → List Change → List Change
-turned_all Forwards changes = changes
-turned_all Backwards changes = reverse (map flipped changes)
+turned_all direction changes = map (turned direction) (reverse changes)
 
 -- the document after a change is carried out in a direction
 abbrev pub after : Direction → Change → Document → Document

@@ -431,7 +431,7 @@ impl<S: Store> FileBlocks<S> {
         self.turn(change, direction)
     }
 
-    /// Makes changes one after another, in the direction: all of them or none. What is changed in memory is first written to the file.
+    /// Carries changes out in a direction one after another, the last one first: all of them or none. What is changed in memory is first written to the file.
     /// Damaged where a body doesn't take its change; otherwise refused as `load` is. Where it is refused no block is in memory then.
     pub fn change_all(&mut self, changes: &[Change], direction: Direction) -> Result<(), Fault>
         requires unmarked { self.old.disk.marked ≡ None }
@@ -454,7 +454,7 @@ impl<S: Store> FileBlocks<S> {
         }
     }
 
-    // Makes changes one after another, in the direction, until one is refused.
+    // Carries changes out in a direction one after another, the last one first, until one is refused.
     fn turn_all(&mut self, changes: &[Change], direction: Direction) -> Result<(), Fault>
         requires listed { AllListed (turned_all direction changes.now) self.old.document }
         requires unlocked { locked_count self.old.resident ≡ 0 }
@@ -464,10 +464,10 @@ impl<S: Store> FileBlocks<S> {
         ensures locks { KeepsLocks self.old.resident self.new.resident }
         ensures refusals { IfErr result (AreUnready S.facts (turned_all direction changes.now) self.old self.new) }
     {
-        match direction {
-            Direction::Forwards => self.make_all(changes),
-            Direction::Backwards => self.take_back_all(changes),
+        for change in changes.iter().rev() {
+            self.turn(change, direction)?;
         }
+        Ok(())
     }
 
     // So it does, in one word.
