@@ -10,7 +10,7 @@ use Rattle.vm_file.specs.declared.slots.Pair.{Pair}
 use Rattle.vm_file.specs.declared.slots.Other.{Other}
 use Rattle.vm_file.specs.declared.slots.Other.TheVariants.{Shut, Stale, Held}
 use Rattle.vm_file.specs.declared.slots.Slots.{Slots}
-use Rattle.vm_file.proofs.KeptBytes.{all_left, all_right}
+use Rattle.vm_file.proofs.Marked.{kept_pair, kept_held}
 use Rattle.vm_file.proofs.Outcomes.{one_each, spares_gate, outcome_torn}
 use Rattle.vm_file.proofs.Stands.{AreReadable, IsHeldReadable, FitsPair, fits_pair, held_beats, held_numbered}
 
@@ -22,14 +22,14 @@ module _ (slots : Slots) (pair : Pair) (file : List ℕ) (is : slots.other ≡ H
   isnt shut = cc (is, shut)
 
   fits : FitsPair slots.sequence slots.committed
-  fits = fits_pair slots.sequence slots.committed are.some are.in_range (all_left IsPlaced (pair_extents slots.committed) (held_extents slots.other) are.placed)
+  fits = fits_pair slots.sequence slots.committed are.some are.in_range (kept_pair IsPlaced slots are.placed)
 
   held : IsHeldReadable file slots.sequence (Held pair)
   held = subst (IsHeldReadable file slots.sequence) is are.held
 
   fits_held : FitsPair (slots.sequence + 1) pair
   unfolding held
-  fits_held = fits_pair (slots.sequence + 1) pair (omega arith) held.1 (subst (λ o. All IsPlaced (held_extents o)) is (all_right IsPlaced (pair_extents slots.committed) (held_extents slots.other) are.placed))
+  fits_held = fits_pair (slots.sequence + 1) pair (omega arith) held.1 (subst (λ o. All IsPlaced (held_extents o)) is (kept_held IsPlaced slots are.placed))
 
   module _ (c : List ℕ) (was : Outcome slots file c) where
     opened : List ℕ

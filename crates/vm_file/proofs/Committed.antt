@@ -1,23 +1,26 @@
 -- What a commit makes of the whole file.
 use Rattle.std.proofs.Common.{◌≡◌, ◌⊎◌, ℕ, ◌+◌, ◌^◌, ◌<◌, ◌≤◌, IsTrue, List, [], ◌∷◌, length, Option, All, refl, sym, ap, subst, ◌∙◌, arith, inl, inr}
-use Rattle.std.specs.Prelude.{Result, Ok, Err}
+use Rattle.std.specs.Prelude.{IfSome, Result, Ok, Err}
+use Rattle.std.specs.Option.{option_map}
 use Rattle.std.proofs.lemmas.List.Elements.{All-append, All-cons}
 use Rattle.vm_store.specs.Facts.{StoreFacts, Torn, Counts}
 use Rattle.geos_model.specs.Document.{Block}
 use Rattle.geos_model.specs.declared.fault.Fault.{Fault}
+use Rattle.geos_model.specs.declared.file.Extent.{Extent}
 use Rattle.geos_model.proofs.Table.{table_map}
 use Rattle.vm_file.specs.Ranges.{IsPlaced, KeepsAll, end_of}
-use Rattle.vm_file.specs.Slots.{turned, FailedEarly, Failed, Outcome, Leaves, Outlives, AreKept, block_extents, stored_extents, pair_extents, kept_extents}
+use Rattle.vm_file.specs.Slots.{turned, FailedEarly, Failed, Outcome, Leaves, Outlives, AreKept, block_extents, stored_extents, pair_extents, held_extents, marked_extents}
 use Rattle.vm_file.specs.Documents.{Documents, document_in, documents_in, attempted_in, AreImaged, AreStored, IsHeldStored}
-use Rattle.vm_file.specs.Disk.{readable, StandsForOne, Crash, IsTried, AddsNothing, Commits}
+use Rattle.vm_file.specs.Disk.{readable, StandsForOne, Crash, MarkDrifts, IsTried, AddsNothing, Commits}
 use Rattle.vm_file.specs.Sound.{AreTables, IsFormed, IsWhole, IsSound, disk_of}
 use Rattle.vm_file.specs.declared.table.Table.{Table}
 use Rattle.vm_file.specs.declared.slots.Pair.{Pair}
-use Rattle.vm_file.specs.declared.slots.Other.TheVariants.{Held}
+use Rattle.vm_file.specs.declared.slots.Other.TheVariants.{Shut, Held}
 use Rattle.vm_file.specs.declared.slots.Slots.{Slots}
 use Rattle.vm_file.proofs.Away.{attempted_away}
-use Rattle.vm_file.proofs.KeptBytes.{keeps_itself, slots_keep}
-use Rattle.vm_file.proofs.KeptDocuments.{stored_within, committed_again, attempted_again}
+use Rattle.vm_file.proofs.KeptBytes.{keeps_itself, keeps_within, slots_keep}
+use Rattle.vm_file.proofs.KeptDocuments.{stored_within, pair_again, held_again}
+use Rattle.vm_file.proofs.Marked.{kept_marked, marked_imaged, marked_drifts}
 use Rattle.vm_file.proofs.Outcomes.{outcome_keeps, shut_kept, with_pair_kept, failed_kept, turned_kept}
 use Rattle.vm_file.proofs.Steps.{leaves_rebased}
 use Rattle.vm_file.proofs.Stands.{outcome_stands, sound_settled, AreReadable, IsHeldReadable, held_readable, sound_numbered}
@@ -29,36 +32,37 @@ pub record HasAll (file : List ℕ) (live : Table) (slots : Slots) : Type 0 wher
   pub within : All (λ e. end_of e ≤ length file) (block_extents live.places.items)
   pub committed : AreStored file slots.committed
   pub held : IsHeldStored file slots.other
+  pub marked : IfSome slots.marked (λ t. AreImaged file t.places.items)
+  pub marked_within : All (λ e. end_of e ≤ length file) (marked_extents slots.marked)
 
 pub whole_has : (store : StoreFacts) (live : Table) (slots : Slots) → IsWhole store live slots → HasAll store.content live slots
-whole_has store live slots whole = record { images = whole.images; within = whole.within; committed = whole.committed; held = whole.held }
+whole_has store live slots whole = record { images = whole.images; within = whole.within; committed = whole.committed; held = whole.held; marked = whole.marked; marked_within = whole.marked_within }
 
 -- The file is whole again, and so are its documents, after calls that keep the bytes.
-module _ (file : List ℕ) (b : StoreFacts) (live : Table) (slots : Slots) (now : b.may_leave b.content) (has : HasAll file live slots) (keeps : KeepsAll (block_extents live.places.items) file b.content) (leaves : Leaves b slots file) where
-  kept : KeepsAll (kept_extents slots) file b.content
+module _ (file : List ℕ) (b : StoreFacts) (live : Table) (slots : Slots) (now : b.may_leave b.content) (has : HasAll file live slots) (keeps : KeepsAll (block_extents live.places.items) file b.content)
+    (keeps_marked : KeepsAll (marked_extents slots.marked) file b.content) (leaves : Leaves b slots file) where
+  kept : KeepsAll (pair_extents slots.committed) file b.content × KeepsAll (held_extents slots.other) file b.content
   kept = outcome_keeps slots file b.content (leaves b.content now)
 
   committed_now : AreStored b.content slots.committed × (documents_in b.content slots.committed ≡ documents_in file slots.committed)
   unfolding kept
-  committed_now = committed_again file b.content slots kept has.committed
+  committed_now = pair_again file b.content slots.committed has.committed kept.0
 
   attempted_now : IsHeldStored b.content slots.other × (attempted_in b.content slots.other ≡ attempted_in file slots.other)
   unfolding kept
-  attempted_now = attempted_again file b.content slots kept has.held
+  attempted_now = held_again file b.content slots.other has.held kept.1
 
   pub live_again : document_in b.content live ≡ document_in file live
   live_again = ap (λ (bs : List (Option Block)). record { blocks = table_map 1 1 bs; map_block = live.map_block }) (blocks_same file b.content live.places.items has.within keeps)
 
-  live_within : All (λ e. end_of e ≤ length b.content) (block_extents live.places.items)
-  live_within k d inside = (keeps k d inside).within
-
   pub whole_again : IsWhole b live slots
-  unfolding live_within
   whole_again = record {
     images = images_same file b.content live.places.items has.within keeps has.images;
-    within = live_within;
+    within = keeps_within (block_extents live.places.items) file b.content keeps;
     committed = committed_now.0;
     held = attempted_now.0;
+    marked = marked_imaged file b.content slots.marked has.marked_within keeps_marked has.marked;
+    marked_within = keeps_within (marked_extents slots.marked) file b.content keeps_marked;
     leaves = leaves_rebased slots file b now leaves;
   }
 
@@ -121,8 +125,8 @@ failed_has file live slots now pair failed has stored =
     let P : Slots → Type 0 = λ s. HasAll file live s in
     elim failed as (λ _. P now) [
       | inl (inl same) ↦ subst P (sym same) has
-      | inl (inr shut) ↦ subst P (sym shut) (record { images = has.images; within = has.within; committed = has.committed; held = tt })
-      | inr is_held ↦ subst P (sym is_held) (record { images = has.images; within = has.within; committed = has.committed; held = stored })
+      | inl (inr shut) ↦ subst P (sym shut) (record { images = has.images; within = has.within; committed = has.committed; held = tt; marked = has.marked; marked_within = has.marked_within })
+      | inr is_held ↦ subst P (sym is_held) (record { images = has.images; within = has.within; committed = has.committed; held = stored; marked = has.marked; marked_within = has.marked_within })
     ]
 
 failed_formed : (live : Table) (slots now : Slots) (pair : Pair) → Failed slots pair now → IsFormed live slots → AreTables pair → All IsPlaced (pair_extents pair) → slots.sequence + 1 < 2 ^ 64 → IsFormed live now
@@ -131,8 +135,8 @@ failed_formed live slots now pair failed formed tables placed range =
     let kept = failed_kept slots now pair failed formed.kept placed in
     elim failed as (λ _. P now) [
       | inl (inl same) ↦ subst P (sym same) formed
-      | inl (inr shut) ↦ subst P (sym shut) (record { table = formed.table; placed = formed.placed; committed = formed.committed; held = tt; kept = subst AreKept shut kept; numbered = formed.numbered; in_range = formed.in_range })
-      | inr is_held ↦ subst P (sym is_held) (record { table = formed.table; placed = formed.placed; committed = formed.committed; held = (tables, range); kept = subst AreKept is_held kept; numbered = formed.numbered; in_range = formed.in_range })
+      | inl (inr shut) ↦ subst P (sym shut) (record { table = formed.table; placed = formed.placed; committed = formed.committed; held = tt; marked = formed.marked; kept = subst AreKept shut kept; numbered = formed.numbered; in_range = formed.in_range })
+      | inr is_held ↦ subst P (sym is_held) (record { table = formed.table; placed = formed.placed; committed = formed.committed; held = (tables, range); marked = formed.marked; kept = subst AreKept is_held kept; numbered = formed.numbered; in_range = formed.in_range })
     ]
 
 turned_formed : (live : Table) (slots : Slots) (pair : Pair) → IsFormed live slots → AreTables pair → All IsPlaced (pair_extents pair) → slots.sequence + 1 < 2 ^ 64 → IsFormed live (turned slots pair)
@@ -141,7 +145,8 @@ turned_formed live slots pair formed tables placed range = record {
   placed = formed.placed;
   committed = tables;
   held = tt;
-  kept = turned_kept slots pair placed;
+  marked = formed.marked;
+  kept = turned_kept slots pair formed.kept placed;
   numbered = omega arith;
   in_range = range;
 }
@@ -179,8 +184,12 @@ module _ {S : Type 0} (facts : S → StoreFacts) (a b : S) (live : Table) (slots
       (All-cons (λ e. end_of e ≤ length (facts a).content) pair.updated.directory (block_extents pair.updated.table.places.items) updated.0 updated.1)
       (All-cons (λ e. end_of e ≤ length (facts a).content) pair.saved.directory (block_extents pair.saved.table.places.items) saved.0 saved.1))
 
+  -- extents behind the slots
+  still_kept : (es : List Extent) → All IsPlaced es → (so : IsTrue (facts a).honest) → All (λ e. end_of e ≤ length (facts a).content) es → KeepsAll es (facts a).content (facts b).content
+  still_kept es placed so within = slots_keep es (facts a).content (facts a).content (facts b).content placed (call.elsewhere so) (keeps_itself es (facts a).content within)
+
   live_kept : IsTrue (facts a).honest → KeepsAll (block_extents live.places.items) (facts a).content (facts b).content
-  live_kept so = slots_keep (block_extents live.places.items) (facts a).content (facts a).content (facts b).content call.formed.placed (call.elsewhere so) (keeps_itself (block_extents live.places.items) (facts a).content (call.whole so).within)
+  live_kept so = still_kept (block_extents live.places.items) call.formed.placed so (call.whole so).within
 
   left : IsTrue (facts a).honest → Leaves (facts b) now (facts a).content
   left so = call.leaves so (call.whole so).leaves (pair_there so)
@@ -200,20 +209,29 @@ module _ {S : Type 0} (facts : S → StoreFacts) (a b : S) (live : Table) (slots
 
   -- whichever slots are left, the file has all of what they lead to
   module _ (now_formed : IsFormed live now) (has : IsTrue (facts a).honest → HasAll (facts a).content live now) where
+    marked_kept : IsTrue (facts a).honest → KeepsAll (marked_extents now.marked) (facts a).content (facts b).content
+    marked_kept so = still_kept (marked_extents now.marked) (kept_marked IsPlaced now now_formed.kept) so (has so).marked_within
+
     pub settle_sound : IsSound (facts b) live now
     settle_sound = record {
       formed = now_formed;
-      whole = λ so. let then = then_honest so in whole_again (facts a).content (facts b) live now (call.now_there so) (has then) (live_kept then) (left then);
+      whole = λ so. let then = then_honest so in whole_again (facts a).content (facts b) live now (call.now_there so) (has then) (live_kept then) (marked_kept then) (left then);
     }
 
     settle_committed : IsTrue (facts a).honest → documents_in (facts b).content now.committed ≡ documents_in (facts a).content now.committed
-    settle_committed so = (committed_now (facts a).content (facts b) live now (call.now_there (subst IsTrue (sym call.honest) so)) (has so) (live_kept so) (left so)).1
+    settle_committed so = (committed_now (facts a).content (facts b) live now (call.now_there (subst IsTrue (sym call.honest) so)) (has so) (live_kept so) (marked_kept so) (left so)).1
 
     settle_attempted : IsTrue (facts a).honest → attempted_in (facts b).content now.other ≡ attempted_in (facts a).content now.other
-    settle_attempted so = (attempted_now (facts a).content (facts b) live now (call.now_there (subst IsTrue (sym call.honest) so)) (has so) (live_kept so) (left so)).1
+    settle_attempted so = (attempted_now (facts a).content (facts b) live now (call.now_there (subst IsTrue (sym call.honest) so)) (has so) (live_kept so) (marked_kept so) (left so)).1
+
+    settle_marked : now.marked ≡ slots.marked → MarkDrifts (facts a).honest (option_map (document_in (facts a).content) slots.marked) (option_map (document_in (facts b).content) now.marked)
+    settle_marked same =
+        let honest = (facts a).honest in
+        subst (λ m. MarkDrifts honest (option_map (document_in (facts a).content) m) (option_map (document_in (facts b).content) now.marked)) same
+        (marked_drifts honest (facts a).content (facts b).content now.marked (λ so. (has so).marked_within) marked_kept)
 
     pub settle_live : IsTrue (facts a).honest → document_in (facts b).content live ≡ document_in (facts a).content live
-    settle_live so = live_again (facts a).content (facts b) live now (call.now_there (subst IsTrue (sym call.honest) so)) (has so) (live_kept so) (left so)
+    settle_live so = live_again (facts a).content (facts b) live now (call.now_there (subst IsTrue (sym call.honest) so)) (has so) (live_kept so) (marked_kept so) (left so)
 
   -- a commit that wasn't acknowledged
   module _ (failed : Failed slots pair now) where
@@ -231,10 +249,18 @@ module _ {S : Type 0} (facts : S → StoreFacts) (a b : S) (live : Table) (slots
     unfolding now_formed has_all
     err_live = settle_live now_formed has_all
 
+    -- what holds of the slots as they may be
+    as_left : (P : Slots → Type 0) → P slots → P (record slots { other = Shut }) → P (record slots { other = Held pair }) → P now
+    as_left P as_before as_shut as_held = elim failed as (λ _. P now) [ inl (inl same) ↦ subst P (sym same) as_before | inl (inr shut) ↦ subst P (sym shut) as_shut | inr is_held ↦ subst P (sym is_held) as_held ]
+
     same_pair : now.committed ≡ slots.committed
-    same_pair =
-        let P : Slots → Type 0 = λ s. s.committed ≡ slots.committed in
-        elim failed as (λ _. P now) [ inl (inl same) ↦ subst P (sym same) refl | inl (inr shut) ↦ subst P (sym shut) refl | inr is_held ↦ subst P (sym is_held) refl ]
+    same_pair = as_left (λ s. s.committed ≡ slots.committed) refl refl refl
+
+    same_number : now.sequence ≡ slots.sequence
+    same_number = as_left (λ s. s.sequence ≡ slots.sequence) refl refl refl
+
+    same_mark : now.marked ≡ slots.marked
+    same_mark = as_left (λ s. s.marked ≡ slots.marked) refl refl refl
 
     readable_now : IsTrue (facts a).honest → AreReadable now (facts a).content
     readable_now so =
@@ -271,13 +297,8 @@ module _ {S : Type 0} (facts : S → StoreFacts) (a b : S) (live : Table) (slots
           ]
         ]
 
-    same_number : now.sequence ≡ slots.sequence
-    same_number =
-        let P : Slots → Type 0 = λ s. s.sequence ≡ slots.sequence in
-        elim failed as (λ _. P now) [ inl (inl same) ↦ subst P (sym same) refl | inl (inr shut) ↦ subst P (sym shut) refl | inr is_held ↦ subst P (sym is_held) refl ]
-
     pub err_commits : FailsEarly slots pair now (facts a) (facts b) → (fault : Fault) → Commits facts (documents_in (facts a).content pair) (disk_of facts a slots) (disk_of facts b now) (Err fault)
-    unfolding now_formed has_all same_pair added same_number
+    unfolding now_formed has_all same_pair added same_number same_mark
     err_commits early fault = record {
       honest = call.honest;
       failures = call.failures;
@@ -291,6 +312,7 @@ module _ {S : Type 0} (facts : S → StoreFacts) (a b : S) (live : Table) (slots
           (ap (λ (d : Documents). d.0) documents, ap (λ (d : Documents). d.1) documents);
       adds = added early;
       sequence = same_number;
+      marked = settle_marked now_formed has_all same_mark;
     }
 
   -- one that was
@@ -299,7 +321,7 @@ module _ {S : Type 0} (facts : S → StoreFacts) (a b : S) (live : Table) (slots
     turned_is = subst (λ s. IsFormed live s) (sym is) (turned_formed live slots pair call.formed call.tables call.placed call.range)
 
     turned_has : IsTrue (facts a).honest → HasAll (facts a).content live now
-    turned_has so = subst (λ s. HasAll (facts a).content live s) (sym is) (record { images = (call.whole so).images; within = (call.whole so).within; committed = call.stored so; held = tt })
+    turned_has so = subst (λ s. HasAll (facts a).content live s) (sym is) (record { images = (call.whole so).images; within = (call.whole so).within; committed = call.stored so; held = tt; marked = (call.whole so).marked; marked_within = (call.whole so).marked_within })
 
     pub ok_sound : IsSound (facts b) live now
     unfolding turned_is turned_has
@@ -322,4 +344,5 @@ module _ {S : Type 0} (facts : S → StoreFacts) (a b : S) (live : Table) (slots
       err = tt;
       adds = tt;
       sequence = ap (λ (s : Slots). s.sequence) is;
+      marked = settle_marked turned_is turned_has (ap (λ (s : Slots). s.marked) is);
     }

@@ -3,8 +3,8 @@ use Rattle.std.proofs.Common.{◌≡◌, ◌⊎◌, ℕ, suc, ◌-◌, ◌≤◌
 use Rattle.std.proofs.lemmas.List.Elements.{All-append}
 use Rattle.vm_store.specs.Facts.{StoreFacts}
 use Rattle.geos_model.specs.File.{Directory, directory_of}
-use Rattle.vm_file.specs.Ranges.{IsPlaced, end_of}
-use Rattle.vm_file.specs.Slots.{block_extents, stored_extents, pair_extents, held_extents}
+use Rattle.vm_file.specs.Ranges.{IsPlaced}
+use Rattle.vm_file.specs.Slots.{block_extents, stored_extents, pair_extents}
 use Rattle.vm_file.specs.Documents.{blocks_in, document_in, documents_in, entries_of, AreImaged, IsStored, AreStored}
 use Rattle.vm_file.specs.Sound.{IsTable, AreTables, IsSound}
 use Rattle.vm_file.specs.Disk.{Drifts}
@@ -14,8 +14,10 @@ use Rattle.vm_file.specs.declared.table.Table.{Table}
 use Rattle.vm_file.specs.declared.slots.Stored.{Stored}
 use Rattle.vm_file.specs.declared.slots.Pair.{Pair}
 use Rattle.vm_file.specs.declared.slots.Slots.{Slots}
-use Rattle.vm_file.proofs.KeptBytes.{all_left, all_right}
+use Rattle.vm_file.proofs.KeptBytes.{all_right}
 use Rattle.vm_file.proofs.KeptDocuments.{stored_within}
+use Rattle.vm_file.proofs.Live.{EndsIn, sound_live, sound_marked}
+use Rattle.vm_file.proofs.Marked.{kept_pair}
 use Rattle.vm_file.proofs.Tables.{shown, places_drift}
 
 -- a property of the map block and the places
@@ -60,28 +62,17 @@ module _ (file : List ℕ) (pair : Pair) (updated saved : Stored) (first : IsSto
 -- the saved document, as the live one
 pub sound_saved : (store : StoreFacts) (live copy : Table) (slots : Slots) → IsCopy copy slots.committed.saved.table → IsSound store live slots → IsSound store copy slots
 sound_saved store live copy slots is sound =
-    let formed = sound.formed in
-    let placed = all_right IsPlaced (stored_extents slots.committed.updated) (stored_extents slots.committed.saved) (all_left IsPlaced (pair_extents slots.committed) (held_extents slots.other) formed.kept) in
-    record {
-      formed = record {
-        table = copy_formed copy slots.committed.saved.table is formed.committed.saved;
-        placed = subst (λ ps. All IsPlaced (block_extents ps)) (sym is.places) (λ k d inside. placed (suc k) d (omega arith));
-        committed = formed.committed;
-        held = formed.held;
-        kept = formed.kept;
-        numbered = formed.numbered;
-        in_range = formed.in_range;
-      };
-      whole = λ so.
-          let was = sound.whole so in
-          record {
-            images = subst (AreImaged store.content) (sym is.places) was.committed.saved.images;
-            within = subst (λ ps. All (λ e. end_of e ≤ length store.content) (block_extents ps)) (sym is.places) (stored_within store.content slots.committed.saved was.committed.saved).1;
-            committed = was.committed;
-            held = was.held;
-            leaves = was.leaves;
-          };
-    }
+    let saved = slots.committed.saved in
+    let placed = all_right IsPlaced (stored_extents slots.committed.updated) (stored_extents saved) (kept_pair IsPlaced slots sound.formed.kept) in
+    sound_live store live copy slots sound (copy_formed copy saved.table is sound.formed.committed.saved) (subst (λ ps. All IsPlaced (block_extents ps)) (sym is.places) (λ k d inside. placed (suc k) d (omega arith)))
+    (λ so. subst (AreImaged store.content) (sym is.places) (sound.whole so).committed.saved.images)
+    (λ so. subst (λ ps. All (EndsIn store.content) (block_extents ps)) (sym is.places) (stored_within store.content saved (sound.whole so).committed.saved).1)
+
+-- and the live one marked
+pub sound_copied : (store : StoreFacts) (live copy : Table) (slots : Slots) → IsCopy copy live → IsSound store live slots → IsSound store live (record slots { marked = Some copy })
+sound_copied store live copy slots is sound =
+    sound_marked store live slots (Some copy) sound (copy_formed copy live is sound.formed.table) (subst (λ ps. All IsPlaced (block_extents ps)) (sym is.places) sound.formed.placed)
+    (λ so. subst (AreImaged store.content) (sym is.places) (sound.whole so).images) (λ so. subst (λ ps. All (EndsIn store.content) (block_extents ps)) (sym is.places) (sound.whole so).within)
 
 -- a copy of what was copied
 pub copies_alike : (copy other table : Table) → IsCopy copy table → IsCopy other table → IsCopy copy other

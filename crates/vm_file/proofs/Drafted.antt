@@ -9,7 +9,7 @@ use Rattle.vm_store.specs.Facts.{StoreFacts, Torn, Holds}
 use Rattle.geos_model.specs.declared.file.Extent.{Extent}
 use Rattle.geos_model.proofs.Table.{table_map}
 use Rattle.vm_file.specs.Ranges.{IsPlaced, KeepsAll, start_of, end_of, IsOut, IsClear}
-use Rattle.vm_file.specs.Slots.{Leaves, Outlives, block_extents, stored_extents, pair_extents, held_extents, kept_extents}
+use Rattle.vm_file.specs.Slots.{Leaves, Outlives, block_extents, stored_extents, pair_extents, marked_extents, kept_extents}
 use Rattle.vm_file.specs.Documents.{document_in, documents_in, AreImaged, IsStored, AreStored}
 use Rattle.vm_file.specs.Disk.{Passes}
 use Rattle.vm_file.specs.Sound.{IsTable, AreTables, IsFormed, IsSound, disk_of}
@@ -21,7 +21,8 @@ use Rattle.vm_file.specs.declared.slots.Stored.{Stored}
 use Rattle.vm_file.specs.declared.slots.Slots.{Slots}
 use Rattle.vm_file.proofs.Carried.{call_passes, call_sound}
 use Rattle.vm_file.proofs.Copied.{copy_formed, copy_extents, copy_stored, copy_document}
-use Rattle.vm_file.proofs.KeptBytes.{all_left, all_right, keeps_itself, torn_keeps}
+use Rattle.vm_file.proofs.KeptBytes.{all_left, all_right, keeps_itself, keeps_within, torn_keeps}
+use Rattle.vm_file.proofs.Marked.{kept_pair, kept_marked}
 use Rattle.vm_file.proofs.Tables.{blocks_same, images_same}
 use Rattle.vm_file.proofs.Written.{directory_written}
 
@@ -40,23 +41,30 @@ pub record IsWriting {S : Type 0} (facts : S → StoreFacts) (a b : S) (live : T
   pub leaves : IsTrue (facts a).honest → Leaves (facts a) slots (facts a).content → Leaves (facts b) slots (facts a).content
 
 module _ {S : Type 0} (facts : S → StoreFacts) (a b : S) (live : Table) (slots : Slots) (draft : Draft) (call : IsWriting facts a b live slots draft) where
+  clear : IsClear (start_of draft.stored.directory) draft.stored.directory.length (block_extents live.places.items) × IsClear (start_of draft.stored.directory) draft.stored.directory.length (kept_extents slots)
+  clear = clear_parts (start_of draft.stored.directory) draft.stored.directory.length (block_extents live.places.items) (kept_extents slots) call.is_draft.clear
+
+  -- extents on which it doesn't lie
+  keeps : (es : List Extent) → IsClear (start_of draft.stored.directory) draft.stored.directory.length es → (so : IsTrue (facts a).honest) → All (λ e. end_of e ≤ length (facts a).content) es → KeepsAll es (facts a).content (facts b).content
+  keeps es apart so within = torn_keeps (start_of draft.stored.directory) draft.stored.directory.length es (facts a).content (facts a).content (facts b).content apart (call.elsewhere so) (keeps_itself es (facts a).content within)
+
   live_keeps : IsTrue (facts a).honest → KeepsAll (block_extents live.places.items) (facts a).content (facts b).content
-  live_keeps so =
-      let clear = (clear_parts (start_of draft.stored.directory) draft.stored.directory.length (block_extents live.places.items) (kept_extents slots) call.is_draft.clear).0 in
-      torn_keeps (start_of draft.stored.directory) draft.stored.directory.length (block_extents live.places.items) (facts a).content (facts a).content (facts b).content clear (call.elsewhere so)
-      (keeps_itself (block_extents live.places.items) (facts a).content (call.sound.whole so).within)
+  live_keeps so = keeps (block_extents live.places.items) clear.0 so (call.sound.whole so).within
+
+  marked_keeps : IsTrue (facts a).honest → KeepsAll (marked_extents slots.marked) (facts a).content (facts b).content
+  marked_keeps so = keeps (marked_extents slots.marked) (kept_marked (λ e. IsOut (start_of draft.stored.directory) draft.stored.directory.length (start_of e) (end_of e)) slots clear.1) so (call.sound.whole so).marked_within
 
   live_images : IsTrue (facts a).honest → AreImaged (facts b).content live.places.items
   live_images so = images_same (facts a).content (facts b).content live.places.items (call.sound.whole so).within (live_keeps so) (call.sound.whole so).images
 
   live_within : IsTrue (facts a).honest → All (λ e. end_of e ≤ length (facts b).content) (block_extents live.places.items)
-  live_within so k d inside = (live_keeps so k d inside).within
+  live_within so = keeps_within (block_extents live.places.items) (facts a).content (facts b).content (live_keeps so)
 
   pub write_passes : Passes facts (disk_of facts a slots) (disk_of facts b slots)
-  write_passes = call_passes facts a b live slots call.sound call.honest call.now (λ so. call.leaves so (call.sound.whole so).leaves) call.failures (λ so. call.crash so (call.sound.whole so).leaves)
+  write_passes = call_passes facts a b live slots call.sound call.honest call.now (λ so. call.leaves so (call.sound.whole so).leaves) marked_keeps call.failures (λ so. call.crash so (call.sound.whole so).leaves)
 
   pub write_sound : IsSound (facts b) live slots
-  write_sound = call_sound facts a b live slots call.sound call.honest call.now (λ so. call.leaves so (call.sound.whole so).leaves) live call.sound.formed (λ so. (live_images so, live_within so))
+  write_sound = call_sound facts a b live slots call.sound call.honest call.now (λ so. call.leaves so (call.sound.whole so).leaves) marked_keeps live call.sound.formed (λ so. (live_images so, live_within so))
 
   pub write_same : IsTrue (facts a).honest → document_in (facts b).content live ≡ document_in (facts a).content live
   write_same so = ap (λ bs. record { blocks = table_map 1 1 bs; map_block = live.map_block }) (blocks_same (facts a).content (facts b).content live.places.items (call.sound.whole so).within (live_keeps so))
@@ -77,7 +85,7 @@ module _ (live : Table) (slots : Slots) (draft : Draft) (saved : Stored) (formed
   draft_placed = All-cons IsPlaced draft.stored.directory (block_extents draft.stored.table.places.items) is_draft.placed (subst (λ ps. All IsPlaced (block_extents ps)) (sym is_draft.table.places) formed.placed)
 
   saved_placed : All IsPlaced (stored_extents slots.committed.saved)
-  saved_placed = all_right IsPlaced (stored_extents slots.committed.updated) (stored_extents slots.committed.saved) (all_left IsPlaced (pair_extents slots.committed) (held_extents slots.other) formed.kept)
+  saved_placed = all_right IsPlaced (stored_extents slots.committed.updated) (stored_extents slots.committed.saved) (kept_pair IsPlaced slots formed.kept)
 
   pub both_placed : All IsPlaced (pair_extents (record { updated = draft.stored; saved = saved }))
   both_placed = All-append IsPlaced (stored_extents draft.stored) (stored_extents saved) draft_placed (elim alike as (λ _. All IsPlaced (stored_extents saved)) [

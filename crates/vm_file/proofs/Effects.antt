@@ -2,6 +2,7 @@
 use Rattle.std.proofs.Common.{◌≡◌, ◌≢◌, ◌↔◌, ◌≤◌, ℕ, Bool, IsTrue, List, refl, sym, ap, subst, ◌∙◌, arith, inl, inr}
 use Rattle.std.specs.Prelude.{◌⊎◌, Result, Ok, Err, IfErr, IsErrOf, MatchResult}
 use Rattle.std.proofs.lemmas.Result.{IfErr-weaker}
+use Rattle.std.specs.Option.{option_map}
 use Rattle.std.specs.Result.{IsErrAnd}
 use Rattle.geos_model.specs.Document.{Document, IsValid}
 use Rattle.geos_model.specs.declared.fault.Fault.{Fault}
@@ -13,12 +14,15 @@ use Rattle.vm_file.specs.Documents.{Documents, blocks_in, document_in, IsStored}
 use Rattle.vm_file.specs.Disk.{Disk, FileState, IsSettled, Numbered, Drifts, Passes, Commits}
 use Rattle.vm_file.specs.Effects.{IsFile, IsNewFile, OnlyReads, IsCommit, Fails, NoFault, IsDamage}
 use Rattle.vm_file.specs.Making.{IsOne}
+use Rattle.vm_file.specs.Ranges.{KeepsAll}
+use Rattle.vm_file.specs.Slots.{marked_extents}
 use Rattle.vm_file.specs.Sound.{IsSound, disk_of}
 use Rattle.vm_file.specs.declared.slots.Slots.{Slots}
 use Rattle.vm_file.specs.declared.slots.Stored.{Stored}
 use Rattle.vm_file.specs.declared.table.Table.{Table}
 use Rattle.vm_file.proofs.Carried.{call_passes}
 use Rattle.vm_file.proofs.Content.{settled_content, committed_content}
+use Rattle.vm_file.proofs.KeptBytes.{keeps_itself}
 use Rattle.vm_file.proofs.Listed.{listed}
 use Rattle.vm_file.proofs.Looking.{Rests-refl, Rests-trans}
 use Rattle.vm_file.proofs.Passing.{Passes-refl, Passes-trans, Passes-settled, Passes-fails, Passes-Commits, Drifts-refl, Drifts-trans, Commits-refused}
@@ -88,7 +92,8 @@ module _ {S : Type 0} (facts : S → StoreFacts) (a b : S) (live : Table) (slots
       → OnlyReads facts (record { disk = disk_of facts a slots; document = document_in (facts a).content live }) (record { disk = disk_of facts b slots; document = document_in (facts b).content live })
   rested honest failures rests = record {
     passes = call_passes facts a b live slots sound honest now
-        (λ so. rests_leaves slots (facts a).content (facts a) (facts b) (rests so) (sound.whole so).leaves) failures
+        (λ so. rests_leaves slots (facts a).content (facts a) (facts b) (rests so) (sound.whole so).leaves)
+        (λ so. subst (λ c. KeepsAll (marked_extents slots.marked) (facts a).content c) (sym (rests so).content) (keeps_itself (marked_extents slots.marked) (facts a).content (sound.whole so).marked_within)) failures
         (λ so. rests_outlives slots (facts a).content (facts a) (facts b) (rests so) (sound.whole so).leaves);
     rests = rests;
     document = places_drift (facts a).honest (facts a).content (facts b).content live.places.items live.map_block (λ so. ap (λ f. blocks_in f live.places.items) (rests so).content);
@@ -167,6 +172,7 @@ made_file facts timely store live slots sound one =
       updated = one.updated;
       saved = one.saved;
       attempted = one.attempted;
+      unmarked = ap (option_map (document_in (facts store).content)) one.unmarked;
       sequence = one.sequence;
       numbered = λ so. subst (Numbered (facts store)) one.sequence (sound_numbered facts store live slots sound so one.attempted);
       settled = settled;

@@ -21,6 +21,7 @@ use Rattle.vm_file.specs.declared.slots.Stored.{Stored}
 use Rattle.vm_file.specs.declared.slots.Other.{Other}
 use Rattle.vm_file.specs.declared.slots.Slots.{Slots}
 use Rattle.vm_file.proofs.KeptBytes.{keeps_itself, holds_part}
+use Rattle.vm_file.proofs.Marked.{kept_all, nothing_kept, nothing_marked}
 use Rattle.vm_file.proofs.Tables.{images_same}
 use Rattle.vm_file.proofs.Written.{directory_written}
 
@@ -112,7 +113,8 @@ module _ (directory : Extent) (text : List ℕ) (live : Table) (slots : Slots) (
     placed = founding.placed;
     committed = record { updated = copy_table directory live slots.committed.updated first.updated founding.table; saved = copy_table directory live slots.committed.saved first.saved founding.table };
     held = subst (IsHeldFormed slots.sequence) (sym first.other) tt;
-    kept = subst (λ o. All IsPlaced (pair_extents slots.committed ++ held_extents o)) (sym first.other) (All-append IsPlaced (pair_extents slots.committed) [] (all_pair IsPlaced founding.directory_placed founding.placed) (All-nil IsPlaced));
+    marked = nothing_marked IsTable slots.marked first.unmarked;
+    kept = kept_all IsPlaced slots (all_pair IsPlaced founding.directory_placed founding.placed) (subst (λ o. All IsPlaced (held_extents o)) (sym first.other) (All-nil IsPlaced)) (nothing_kept IsPlaced slots.marked first.unmarked);
     numbered = omega (arith, first.sequence);
     in_range = omega (arith, first.sequence);
   }
@@ -172,6 +174,8 @@ module _ (directory : Extent) (text : List ℕ) (live : Table) (slots : Slots) (
       within = within;
       committed = record { updated = copy_stored file directory live slots.committed.updated first.updated one_stored; saved = copy_stored file directory live slots.committed.saved first.saved one_stored };
       held = subst (IsHeldStored file) (sym first.other) tt;
+      marked = nothing_marked (λ t. AreImaged file t.places.items) slots.marked first.unmarked;
+      marked_within = nothing_kept (λ e. end_of e ≤ length file) slots.marked first.unmarked;
       leaves = λ c left. subst (Outcome slots file) (sym (durable c left)) outcome;
     }
 
@@ -243,6 +247,7 @@ first_shown file directory live slots first = record {
   updated = copy_shown file directory live slots.committed.updated first.updated;
   saved = copy_shown file directory live slots.committed.saved first.saved;
   attempted = ap (attempted_in file) first.other;
+  unmarked = first.unmarked;
   sequence = first.sequence;
 }
 

@@ -50,11 +50,9 @@ keeps_of_both es file now c one other k x inside =
     let there = other k x inside in
     record { within = there.within; bytes = λ i low high. there.bytes i low high ∙ sym (here.bytes i low high) }
 
-pub keeps_trans : (es : List Extent) (file now c : List ℕ) → KeepsAll es file now → KeepsAll es now c → KeepsAll es file c
-keeps_trans es file now c one other k x inside =
-    let here = one k x inside in
-    let there = other k x inside in
-    record { within = there.within; bytes = λ i low high. there.bytes i low high ∙ here.bytes i low high }
+-- which lie in the other one too
+pub keeps_within : (es : List Extent) (file c : List ℕ) → KeepsAll es file c → All (λ e. end_of e ≤ length c) es
+keeps_within es file c keeps k x inside = (keeps k x inside).within
 
 -- a range in the slots
 pub clear_of_slots : (at n : ℕ) (es : List Extent) → at + n ≤ 1024 → All IsPlaced es → IsClear at n es

@@ -8,14 +8,13 @@ use Rattle.geos_model.proofs.Files.{is_entry-parts, is_directory-parts, director
 use Rattle.geos_model.proofs.FileDocuments.{directory_of-some, directory_of-kept, is_in_file-parts}
 use Rattle.geos_model.proofs.Table.{table_map}
 use Rattle.vm_file.specs.Ranges.{Keeps, KeepsAll, end_of}
-use Rattle.vm_file.specs.Slots.{block_extents, stored_extents, pair_extents, held_extents, kept_extents}
+use Rattle.vm_file.specs.Slots.{block_extents, stored_extents, pair_extents, held_extents}
 use Rattle.vm_file.specs.Documents.{Documents, document_in, documents_in, attempted_in, entries_of, directory_of_table, IsStored, AreStored, IsHeldStored}
 use Rattle.vm_file.specs.declared.table.Place.{Place}
 use Rattle.vm_file.specs.declared.slots.Stored.{Stored}
 use Rattle.vm_file.specs.declared.slots.Pair.{Pair}
 use Rattle.vm_file.specs.declared.slots.Other.{Other}
 use Rattle.vm_file.specs.declared.slots.Other.TheVariants.{Shut, Stale, Held}
-use Rattle.vm_file.specs.declared.slots.Slots.{Slots}
 use Rattle.vm_file.proofs.KeptBytes.{all_left, all_right}
 use Rattle.vm_file.proofs.Stands.{keeps_entries}
 use Rattle.vm_file.proofs.Tables.{blocks_same, images_same}
@@ -49,21 +48,13 @@ stored_again file c s stored keeps =
       ap (λ (bs : List (Option Block)). record { blocks = table_map 1 1 bs; map_block = s.table.map_block }) (blocks_same file c s.table.places.items within blocks),
     )
 
-pair_again : (file c : List ℕ) (pair : Pair) → AreStored file pair → KeepsAll (pair_extents pair) file c → AreStored c pair × (documents_in c pair ≡ documents_in file pair)
+pub pair_again : (file c : List ℕ) (pair : Pair) → AreStored file pair → KeepsAll (pair_extents pair) file c → AreStored c pair × (documents_in c pair ≡ documents_in file pair)
 pair_again file c pair stored keeps =
     let updated = stored_again file c pair.updated stored.updated (all_left (Keeps file c) (stored_extents pair.updated) (stored_extents pair.saved) keeps) in
     let saved = stored_again file c pair.saved stored.saved (all_right (Keeps file c) (stored_extents pair.updated) (stored_extents pair.saved) keeps) in
     (record { updated = updated.0; saved = saved.0 }, λ i. (updated.1 i, saved.1 i))
 
-held_again : (file c : List ℕ) (other : Other) → IsHeldStored file other → KeepsAll (held_extents other) file c → IsHeldStored c other × (attempted_in c other ≡ attempted_in file other)
+pub held_again : (file c : List ℕ) (other : Other) → IsHeldStored file other → KeepsAll (held_extents other) file c → IsHeldStored c other × (attempted_in c other ≡ attempted_in file other)
 held_again file c Shut stored keeps = (tt, refl)
 held_again file c Stale stored keeps = (tt, refl)
 held_again file c (Held pair) stored keeps = let again = pair_again file c pair stored keeps in (again.0, ap (λ (d : Documents). d ∷ []) again.1)
-
--- all that the slots lead to
-module _ (file c : List ℕ) (slots : Slots) (keeps : KeepsAll (kept_extents slots) file c) where
-  pub committed_again : AreStored file slots.committed → AreStored c slots.committed × (documents_in c slots.committed ≡ documents_in file slots.committed)
-  committed_again stored = pair_again file c slots.committed stored (all_left (Keeps file c) (pair_extents slots.committed) (held_extents slots.other) keeps)
-
-  pub attempted_again : IsHeldStored file slots.other → IsHeldStored c slots.other × (attempted_in c slots.other ≡ attempted_in file slots.other)
-  attempted_again stored = held_again file c slots.other stored (all_right (Keeps file c) (pair_extents slots.committed) (held_extents slots.other) keeps)

@@ -25,6 +25,7 @@ pub mod Listed
 pub mod Live
 pub mod Looking
 pub mod Made
+pub mod Marked
 pub mod Outcomes
 pub mod Passing
 pub mod Puts

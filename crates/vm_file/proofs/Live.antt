@@ -1,15 +1,18 @@
 -- A file whose live table, or whose store, is another one.
-use Rattle.std.proofs.Common.{◌≡◌, ◌⊎◌, ℕ, ◌-◌, ◌≤◌, true, IsTrue, List, All, set, length, Some, is_some, sym, ap, subst, ◌∙◌, arith, inl, inr, length-set}
+use Rattle.std.proofs.Common.{◌≡◌, ◌⊎◌, ℕ, ◌-◌, ◌≤◌, true, IsTrue, List, All, set, length, Option, None, Some, is_some, sym, ap, subst, ◌∙◌, arith, inl, inr, length-set}
+use Rattle.std.specs.Prelude.{IfSome}
+use Rattle.std.proofs.lemmas.List.Elements.{All-nil}
 use Rattle.vm_store.specs.Facts.{StoreFacts}
 use Rattle.geos_model.specs.declared.file.Extent.{Extent}
 use Rattle.geos_model.proofs.Tables.{slot_at}
 use Rattle.vm_file.specs.Ranges.{IsPlaced, end_of}
-use Rattle.vm_file.specs.Slots.{block_extents}
+use Rattle.vm_file.specs.Slots.{block_extents, marked_extents}
 use Rattle.vm_file.specs.Documents.{IsImaged, AreImaged}
 use Rattle.vm_file.specs.Sound.{IsTable, IsSound}
 use Rattle.vm_file.specs.declared.table.Place.{Place}
 use Rattle.vm_file.specs.declared.table.Table.{Table}
 use Rattle.vm_file.specs.declared.slots.Slots.{Slots}
+use Rattle.vm_file.proofs.Marked.{kept_pair, kept_held, kept_marked, kept_all}
 use Rattle.vm_file.proofs.Tables.{Lies, each_at, each_set, extents_of, places_of, full_set}
 
 -- what is known of the extent of a place
@@ -20,9 +23,48 @@ EndsIn file e = end_of e ≤ length file
 pub sound_live : (store : StoreFacts) (live new : Table) (slots : Slots) → IsSound store live slots → IsTable new → All IsPlaced (block_extents new.places.items) → (IsTrue store.honest → AreImaged store.content new.places.items)
     → (IsTrue store.honest → All (EndsIn store.content) (block_extents new.places.items)) → IsSound store new slots
 sound_live store live new slots sound table placed images within = record {
-  formed = record { table = table; placed = placed; committed = sound.formed.committed; held = sound.formed.held; kept = sound.formed.kept; numbered = sound.formed.numbered; in_range = sound.formed.in_range };
-  whole = λ so. let was = sound.whole so in record { images = images so; within = within so; committed = was.committed; held = was.held; leaves = was.leaves };
+  formed = record { table = table; placed = placed; committed = sound.formed.committed; held = sound.formed.held; marked = sound.formed.marked; kept = sound.formed.kept; numbered = sound.formed.numbered; in_range = sound.formed.in_range };
+  whole = λ so. let was = sound.whole so in record { images = images so; within = within so; committed = was.committed; held = was.held; marked = was.marked; marked_within = was.marked_within; leaves = was.leaves };
 }
+
+-- another mark, or none
+pub sound_marked : (store : StoreFacts) (live : Table) (slots : Slots) (marked : Option Table) → IsSound store live slots → IfSome marked IsTable → All IsPlaced (marked_extents marked)
+    → (IsTrue store.honest → IfSome marked (λ t. AreImaged store.content t.places.items)) → (IsTrue store.honest → All (EndsIn store.content) (marked_extents marked)) → IsSound store live (record slots { marked = marked })
+sound_marked store live slots marked sound tables placed images within =
+    let formed = sound.formed in
+    record {
+      formed = record {
+        table = formed.table;
+        placed = formed.placed;
+        committed = formed.committed;
+        held = formed.held;
+        marked = tables;
+        kept = kept_all IsPlaced (record slots { marked = marked }) (kept_pair IsPlaced slots formed.kept) (kept_held IsPlaced slots formed.kept) placed;
+        numbered = formed.numbered;
+        in_range = formed.in_range;
+      };
+      whole = λ so.
+          let was = sound.whole so in
+          record {
+            images = was.images;
+            within = was.within;
+            committed = was.committed;
+            held = was.held;
+            marked = images so;
+            marked_within = within so;
+            leaves = λ c left. let is = was.leaves c left in record { gate = is.gate; counts = is.counts; beside = is.beside };
+          };
+    }
+
+pub sound_unmarked : (store : StoreFacts) (live : Table) (slots : Slots) → IsSound store live slots → IsSound store live (record slots { marked = None })
+sound_unmarked store live slots sound = sound_marked store live slots None sound tt (All-nil IsPlaced) (λ so. tt) (λ so. All-nil (EndsIn store.content))
+
+-- the marked document as the live one
+pub sound_back : (store : StoreFacts) (live back : Table) (slots : Slots) → slots.marked ≡ Some back → IsSound store live slots → IsSound store back (record slots { marked = None })
+sound_back store live back slots is sound =
+    let placed = kept_marked IsPlaced slots sound.formed.kept in
+    sound_unmarked store back slots (sound_live store live back slots sound (subst (λ m. IfSome m IsTable) is sound.formed.marked) (subst (λ m. All IsPlaced (marked_extents m)) is placed)
+    (λ so. subst (λ m. IfSome m (λ t. AreImaged store.content t.places.items)) is (sound.whole so).marked) (λ so. subst (λ m. All (EndsIn store.content) (marked_extents m)) is (sound.whole so).marked_within))
 
 -- one place has another block
 pub table_set : (live new : Table) (i : ℕ) (place : Place) → IsTable live → new.map_block ≡ live.map_block → new.places.items ≡ set live.places.items i (Some place) → IsTable new

@@ -6,14 +6,14 @@ use Rattle.geos_model.specs.File.{bytes_in, directory_of, directory_text, open_s
 use Rattle.geos_model.proofs.FileDocuments.{directory_of-some}
 use Rattle.geos_model.proofs.Files.{directory_in-some}
 use Rattle.geos_model.proofs.FileStands.{open_slot-shut}
-use Rattle.vm_file.specs.Slots.{pair_extents, held_extents, IsBeside, Leads, Outcome}
+use Rattle.vm_file.specs.Slots.{IsBeside, Leads, Outcome}
 use Rattle.vm_file.specs.Making.{first_directory, first_open, no_blocks, IsFirst}
 use Rattle.vm_file.specs.Sound.{IsSound}
 use Rattle.vm_file.specs.Ranges.{IsPlaced}
 use Rattle.vm_file.specs.declared.table.Table.{Table}
 use Rattle.vm_file.specs.declared.slots.Slots.{Slots}
 use Rattle.vm_file.proofs.First.{IsEmpty, empty_listed}
-use Rattle.vm_file.proofs.KeptBytes.{all_left}
+use Rattle.vm_file.proofs.Marked.{kept_pair}
 use Rattle.vm_file.proofs.Stands.{fits_pair, lead_open, slot_value}
 
 module _ (store : StoreFacts) (live : Table) (slots : Slots) (sound : IsSound store live slots) (first : IsFirst first_directory live slots) (so : IsTrue store.honest) (now : store.may_leave store.content) where
@@ -25,7 +25,7 @@ module _ (store : StoreFacts) (live : Table) (slots : Slots) (sound : IsSound st
   made_open =
       let c = store.content in
       let pair = slots.committed in
-      let fits = fits_pair slots.sequence pair sound.formed.numbered sound.formed.in_range (all_left IsPlaced (pair_extents pair) (held_extents slots.other) sound.formed.kept) in
+      let fits = fits_pair slots.sequence pair sound.formed.numbered sound.formed.in_range (kept_pair IsPlaced slots sound.formed.kept) in
       let gate = subst (λ b. byte c (512 * (if b then 1 else 0) + 4) ≡ 1) first.second outcome.gate in
       let leads = subst (λ b. Leads (if b then 1 else 0) slots.sequence pair c c) first.second outcome.counts in
       let same : slot_value slots.sequence pair ≡ first_open = λ i. record { gate = 1; version = 1; reserved = 0; sequence = first.sequence i; working = first.updated.directory_is i; saved = first.saved.directory_is i } in

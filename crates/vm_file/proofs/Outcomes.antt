@@ -13,31 +13,26 @@ use Rattle.vm_file.specs.declared.slots.Other.{Other}
 use Rattle.vm_file.specs.declared.slots.Other.TheVariants.{Shut, Stale, Held}
 use Rattle.vm_file.specs.declared.slots.Slots.{Slots}
 use Rattle.geos_model.specs.declared.file.Extent.{Extent}
-use Rattle.vm_file.proofs.KeptBytes.{all_left, all_right, torn_byte, torn_holds, torn_keeps, clear_of_slots, holds_part, keeps_of_both, keeps_trans}
+use Rattle.vm_file.proofs.KeptBytes.{torn_byte, torn_holds, torn_keeps, clear_of_slots, holds_part, keeps_of_both}
+use Rattle.vm_file.proofs.Marked.{kept_pair, kept_held, kept_marked, kept_all}
 
 pub one_each : (slots : Slots) → counting_of slots + other_of slots ≡ 1
 one_each slots = elim slots.second as (λ b. (if b then 1 else 0) + (if b then 0 else 1) ≡ 1) [ true ↦ refl | false ↦ refl ]
 
 -- The extents of the slots.
 
-pub pair_placed : (slots : Slots) → AreKept slots → All IsPlaced (pair_extents slots.committed)
-pair_placed slots kept = all_left IsPlaced (pair_extents slots.committed) (held_extents slots.other) kept
-
-pub held_placed : (slots : Slots) → AreKept slots → All IsPlaced (held_extents slots.other)
-held_placed slots kept = all_right IsPlaced (pair_extents slots.committed) (held_extents slots.other) kept
-
--- those of the slots when the other one is shut, or leads to a pair that can be
+-- when the other one is shut, or leads to a pair that can be
 pub shut_kept : (slots : Slots) → AreKept slots → AreKept (record slots { other = Shut })
-shut_kept slots kept = All-append IsPlaced (pair_extents slots.committed) [] (pair_placed slots kept) (All-nil IsPlaced)
+shut_kept slots kept = kept_all IsPlaced (record slots { other = Shut }) (kept_pair IsPlaced slots kept) (All-nil IsPlaced) (kept_marked IsPlaced slots kept)
 
 pub with_pair_kept : (slots : Slots) (pair : Pair) → AreKept slots → All IsPlaced (pair_extents pair) → AreKept (record slots { other = Held pair })
-with_pair_kept slots pair kept placed = All-append IsPlaced (pair_extents slots.committed) (pair_extents pair) (pair_placed slots kept) placed
+with_pair_kept slots pair kept placed = kept_all IsPlaced (record slots { other = Held pair }) (kept_pair IsPlaced slots kept) placed (kept_marked IsPlaced slots kept)
 
--- those of the slots when it counts
-pub turned_kept : (slots : Slots) (pair : Pair) → All IsPlaced (pair_extents pair) → AreKept (turned slots pair)
-turned_kept slots pair placed = All-append IsPlaced (pair_extents pair) [] placed (All-nil IsPlaced)
+-- when it counts
+pub turned_kept : (slots : Slots) (pair : Pair) → AreKept slots → All IsPlaced (pair_extents pair) → AreKept (turned slots pair)
+turned_kept slots pair kept placed = kept_all IsPlaced (turned slots pair) placed (All-nil IsPlaced) (kept_marked IsPlaced slots kept)
 
--- those of the slots after a commit that failed
+-- and after a commit that failed
 pub failed_kept : (old new : Slots) (pair : Pair) → Failed old pair new → AreKept old → All IsPlaced (pair_extents pair) → AreKept new
 failed_kept old new pair failed kept placed = elim failed as (λ _. AreKept new) [
   | inl (inl same) ↦ subst AreKept (sym same) kept
@@ -106,8 +101,8 @@ spares_clear at n slots high clear =
     let P : Extent → Type 0 = λ e. IsOut at n (start_of e) (end_of e) in
     record {
       slot = inl (omega arith);
-      committed = all_left P (pair_extents slots.committed) (held_extents slots.other) clear;
-      beside = clear_beside slots.other (other_of slots) at n (omega arith) high (all_right P (pair_extents slots.committed) (held_extents slots.other) clear);
+      committed = kept_pair P slots clear;
+      beside = clear_beside slots.other (other_of slots) at n (omega arith) high (kept_held P slots clear);
     }
 
 -- within the other slot, which spares the one that counts
@@ -119,7 +114,7 @@ spares_in_other slots i n low kept beside =
     let each = one_each slots in
     record {
       slot = other_slot_out slots i n low;
-      committed = clear_of_slots (512 * other_of slots + i) n (pair_extents slots.committed) (omega arith) (pair_placed slots kept);
+      committed = clear_of_slots (512 * other_of slots + i) n (pair_extents slots.committed) (omega arith) (kept_pair IsPlaced slots kept);
       beside = beside;
     }
 
@@ -132,7 +127,7 @@ gate_beside (Held pair) slot low isnt placed = (inl (omega arith), inr (omega ar
 pub spares_gate : (slots : Slots) → AreKept slots → slots.other ≢ Shut → Spares (512 * other_of slots + 4) 1 slots
 spares_gate slots kept isnt =
     let each = one_each slots in
-    spares_in_other slots 4 1 (omega arith) kept (gate_beside slots.other (other_of slots) (omega arith) isnt (held_placed slots kept))
+    spares_in_other slots 4 1 (omega arith) kept (gate_beside slots.other (other_of slots) (omega arith) isnt (kept_held IsPlaced slots kept))
 
 -- its mark and what is behind its gate, where it is
 pub spares_mark : (slots : Slots) → AreKept slots → slots.other ≡ Shut → Spares (512 * other_of slots + 0) 4 slots
@@ -192,25 +187,11 @@ outcome_rebased slots file now c here was = record {
   beside = beside_rebased file now c (λ es. keeps_of_both es file now c) slots.other (other_of slots) slots.sequence here.beside was.beside;
 }
 
-beside_earlier : (other : Other) (slot sequence : ℕ) (file now c : List ℕ) → KeepsAll (held_extents other) file now → IsBeside other slot sequence now c → IsBeside other slot sequence file c
-beside_earlier Shut slot sequence file now c keeps was = was
-beside_earlier Stale slot sequence file now c keeps was = was
-beside_earlier (Held pair) slot sequence file now c keeps was = same_leads slot (sequence + 1) pair now file c (keeps_trans (pair_extents pair) file now c keeps) was
-
--- and from an earlier one, whose bytes still stand
-pub outcome_earlier : (slots : Slots) (file now c : List ℕ) → KeepsAll (kept_extents slots) file now → Outcome slots now c → Outcome slots file c
-outcome_earlier slots file now c keeps was = record {
-  gate = was.gate;
-  counts = same_leads (counting_of slots) slots.sequence slots.committed now file c (keeps_trans (pair_extents slots.committed) file now c (all_left (Keeps file now) (pair_extents slots.committed) (held_extents slots.other) keeps)) was.counts;
-  beside = beside_earlier slots.other (other_of slots) slots.sequence file now c (all_right (Keeps file now) (pair_extents slots.committed) (held_extents slots.other) keeps) was.beside;
-}
-
 beside_keeps : (other : Other) (slot sequence : ℕ) (file c : List ℕ) → IsBeside other slot sequence file c → KeepsAll (held_extents other) file c
 beside_keeps Shut slot sequence file c was = All-nil (Keeps file c)
 beside_keeps Stale slot sequence file c was = All-nil (Keeps file c)
 beside_keeps (Held pair) slot sequence file c was = was.kept
 
 -- all that the slots stand on is in what a crash left
-pub outcome_keeps : (slots : Slots) (file c : List ℕ) → Outcome slots file c → KeepsAll (kept_extents slots) file c
-outcome_keeps slots file c was =
-    All-append (Keeps file c) (pair_extents slots.committed) (held_extents slots.other) was.counts.kept (beside_keeps slots.other (other_of slots) slots.sequence file c was.beside)
+pub outcome_keeps : (slots : Slots) (file c : List ℕ) → Outcome slots file c → KeepsAll (pair_extents slots.committed) file c × KeepsAll (held_extents slots.other) file c
+outcome_keeps slots file c was = (was.counts.kept, beside_keeps slots.other (other_of slots) slots.sequence file c was.beside)

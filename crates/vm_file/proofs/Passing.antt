@@ -1,12 +1,12 @@
 -- How the promises of a document file are passed on.
-use Rattle.std.proofs.Common.{◌≡◌, ◌⊎◌, ℕ, Bool, IsTrue, List, [], ◌∷◌, refl, sym, subst, ◌∙◌, arith, inl, inr}
+use Rattle.std.proofs.Common.{◌≡◌, ◌⊎◌, ℕ, Bool, IsTrue, List, [], ◌∷◌, Option, None, Some, refl, sym, subst, ◌∙◌, arith, inl, inr}
 use Rattle.std.specs.Prelude.{◌+◌, Result, Ok, Err, MatchResult}
 use Rattle.std.proofs.lemmas.Result.{on_ok_weaker, on_err_weaker}
 use Rattle.vm_store.specs.Facts.{StoreFacts, IsTimely}
 use Rattle.geos_model.specs.Document.{Document}
 use Rattle.geos_model.specs.declared.fault.Fault.{Fault}
 use Rattle.vm_file.specs.Documents.{Documents}
-use Rattle.vm_file.specs.Disk.{Disk, readable, StandsForOne, Settled, IsSettled, Numbered, Crash, Drifts, IsTried, Passes, AddsNothing, Commits}
+use Rattle.vm_file.specs.Disk.{Disk, readable, StandsForOne, Settled, IsSettled, Numbered, Crash, Drifts, MarkDrifts, IsTried, Passes, AddsNothing, Commits}
 use Rattle.vm_file.specs.Passing.{PassingLaw}
 use Rattle.vm_file.proofs.Results.{on_ok_both, on_err_both}
 
@@ -21,6 +21,17 @@ Drifts-trans honest a b c p q = record {
   map_block = q.map_block ∙ p.map_block;
   same = λ so. q.same so ∙ p.same so;
 }
+
+-- the marked document
+MarkDrifts-refl : (honest : Bool) (marked : Option Document) → MarkDrifts honest marked marked
+MarkDrifts-refl honest None = refl
+MarkDrifts-refl honest (Some d) = (d, refl, Drifts-refl honest d)
+
+MarkDrifts-trans : (honest : Bool) (a b c : Option Document) → MarkDrifts honest a b → MarkDrifts honest b c → MarkDrifts honest a c
+MarkDrifts-trans honest None b c p q = let then : MarkDrifts honest None c = subst (λ m. MarkDrifts honest m c) p q in then
+MarkDrifts-trans honest (Some d) b c (e, is, p) q =
+    let then : MarkDrifts honest (Some e) c = subst (λ m. MarkDrifts honest m c) is q in
+    (then.0, then.1, Drifts-trans honest d e then.0 p then.2)
 
 pub Crash-refl : (a : StoreFacts) (pairs : List Documents) → Crash a a pairs
 Crash-refl a pairs = record { later = omega arith; each = λ t c le left. inl left }
@@ -46,10 +57,13 @@ Crash-since a b pairs timely settled p c left =
 
 module _ {S : Type 0} (facts : S → StoreFacts) where
   pub Passes-refl : (a : Disk S) → Passes facts a a
-  Passes-refl a = record { honest = refl; failures = omega arith; updated = λ _. refl; saved = λ _. refl; attempted = λ _. refl; tried = λ so pair is. is; sequence = refl; numbered = λ so none is. is; crash = λ _. Crash-refl _ _ }
+  Passes-refl a = record { honest = refl; failures = omega arith; updated = λ _. refl; saved = λ _. refl; attempted = λ _. refl; tried = λ so pair is. is; sequence = refl; marked = MarkDrifts-refl _ a.marked; numbered = λ so none is. is; crash = λ _. Crash-refl _ _ }
 
   pub same_readable : (a b : Disk S) → Passes facts a b → IsTrue (facts a.store).honest → readable b ≡ readable a
   same_readable a b p so = λ i. (p.updated so i, p.saved so i) ∷ p.attempted so i
+
+  both_drift : (a b c : Disk S) → (facts b.store).honest ≡ (facts a.store).honest → MarkDrifts (facts a.store).honest a.marked b.marked → MarkDrifts (facts b.store).honest b.marked c.marked → MarkDrifts (facts a.store).honest a.marked c.marked
+  both_drift a b c same p q = MarkDrifts-trans _ a.marked b.marked c.marked p (subst (λ t. MarkDrifts t b.marked c.marked) same q)
 
   still : (a b : Disk S) → (facts b.store).honest ≡ (facts a.store).honest → IsTrue (facts a.store).honest → IsTrue (facts b.store).honest
   still a b same so = subst IsTrue (sym same) so
@@ -63,6 +77,7 @@ module _ {S : Type 0} (facts : S → StoreFacts) where
     attempted = λ so. q.attempted (still a b p.honest so) ∙ p.attempted so;
     tried = λ so pair is. q.tried (still a b p.honest so) pair (p.tried so pair is);
     sequence = q.sequence ∙ p.sequence;
+    marked = both_drift a b c p.honest p.marked q.marked;
     numbered = λ so none is. q.numbered (still a b p.honest so) (p.attempted so ∙ none) (p.numbered so none is);
     crash = λ so.
         let P : List Documents → Type 0 = λ ds. Crash (facts b.store) (facts c.store) ds in
@@ -106,6 +121,7 @@ module _ {S : Type 0} (facts : S → StoreFacts) where
     err = λ _. (refl, refl);
     adds = λ _. inr (record { crash = Crash-refl _ _; attempted = inl refl });
     sequence = refl;
+    marked = MarkDrifts-refl _ a.marked;
   }
 
   -- calls that commit nothing, before a commit that isn't tried
@@ -121,6 +137,7 @@ module _ {S : Type 0} (facts : S → StoreFacts) where
     err = λ so. (p.updated so, p.saved so);
     adds = λ so. inr (Passes-adds a b p so);
     sequence = p.sequence;
+    marked = p.marked;
   }
 
   -- calls that commit nothing, and then one of which nothing can be read
@@ -153,6 +170,7 @@ module _ {S : Type 0} (facts : S → StoreFacts) where
           | inr none ↦ inr (Passes-AddsNothing a b c p so none)
         ]) q.adds;
         sequence = subst (λ n. MatchResult result (λ _. c.sequence ≡ n + 1) (λ _. c.sequence ≡ n)) p.sequence q.sequence;
+        marked = both_drift a b c p.honest p.marked q.marked;
       }
 
   -- what a commit that was tried may make readable
@@ -200,6 +218,7 @@ module _ {S : Type 0} (facts : S → StoreFacts) where
             })
           ]) p.adds p.err;
           sequence = subst (λ n. MatchResult result (λ _. n ≡ a.sequence + 1) (λ _. n ≡ a.sequence)) (sym q.sequence) p.sequence;
+          marked = both_drift a b c p.honest p.marked q.marked;
         }
 
     pub passing_law : PassingLaw facts

@@ -1,5 +1,7 @@
 -- A file into which blocks are put, and from which others are taken.
-use Rattle.std.proofs.Common.{◌≡◌, ◌≢◌, ◌⊎◌, ℕ, ◌+◌, ◌-◌, ◌<◌, ◌≤◌, true, IsTrue, List, ◌++◌, All, take, drop, length, get_or, Option, Some, is_some, sym, ap, subst, ◌∙◌, arith, inl, inr, length-append}
+use Rattle.std.proofs.Common.{◌≡◌, ◌≢◌, ◌⊎◌, ℕ, ◌+◌, ◌-◌, ◌<◌, ◌≤◌, true, IsTrue, List, ◌++◌, All, take, drop, length, get_or, Option, None, Some, is_some, sym, ap, subst, ◌∙◌, arith, inl, inr, length-append}
+use Rattle.std.specs.Prelude.{IfSome}
+use Rattle.std.proofs.lemmas.List.Elements.{All-append}
 use Rattle.vm_store.specs.Facts.{StoreFacts}
 use Rattle.geos_model.specs.Document.{Document}
 use Rattle.geos_model.specs.Image.{image, body_of, body_read}
@@ -10,8 +12,8 @@ use Rattle.geos_model.specs.declared.handle.VmHandle.{VmHandle}
 use Rattle.geos_model.proofs.Files.{body_of-image}
 use Rattle.geos_model.proofs.Images.{body_read-body}
 use Rattle.geos_model.proofs.Tables.{slot_at}
-use Rattle.vm_file.specs.Ranges.{IsPlaced, KeepsAll}
-use Rattle.vm_file.specs.Slots.{block_extents, stored_extents, pair_extents, held_extents, kept_extents, Leaves}
+use Rattle.vm_file.specs.Ranges.{IsPlaced, Keeps, KeepsAll}
+use Rattle.vm_file.specs.Slots.{block_extents, stored_extents, pair_extents, held_extents, marked_extents, kept_extents, Leaves}
 use Rattle.vm_file.specs.Documents.{IsImaged, AreImaged}
 use Rattle.vm_file.specs.Calls.{IsPut, put_all, remove_all}
 use Rattle.vm_file.specs.Disk.{Drifts, Passes}
@@ -27,7 +29,7 @@ use Rattle.vm_file.specs.declared.slots.Other.TheVariants.{Shut, Stale, Held}
 use Rattle.vm_file.specs.declared.slots.Slots.{Slots}
 use Rattle.vm_file.proofs.Carried.{call_passes, call_sound}
 use Rattle.vm_file.proofs.Filled.{drifts_put_all, drifts_remove_all, filled_drifts, length-with_places, length-without_places, each_with, each_without, full_with, full_without, shown_without_all}
-use Rattle.vm_file.proofs.KeptBytes.{bytes_held}
+use Rattle.vm_file.proofs.KeptBytes.{all_left, all_right, keeps_within, bytes_held}
 use Rattle.vm_file.proofs.Live.{EndsIn}
 use Rattle.vm_file.proofs.Passing.{Drifts-trans}
 use Rattle.vm_file.proofs.Tables.{EachPlace, shown, places_drift, blocks_same, images_same, extents_of, places_of, length-block_extents, items_kept}
@@ -49,15 +51,21 @@ held_few sequence Shut formed = omega arith
 held_few sequence Stale formed = omega arith
 held_few sequence (Held pair) formed = pair_few pair formed.0
 
-pub few_extents : (live : Table) (slots : Slots) → IsFormed live slots → length (block_extents live.places.items ++ kept_extents slots) ≤ 10244
+marked_few : (marked : Option Table) → IfSome marked IsTable → length (marked_extents marked) ≤ 2048
+marked_few None formed = omega arith
+marked_few (Some table) formed = let few = length-block_extents table.places.items in let size = formed.size in omega (arith, few, size)
+
+pub few_extents : (live : Table) (slots : Slots) → IsFormed live slots → length (block_extents live.places.items ++ kept_extents slots) ≤ 12292
 few_extents live slots formed =
     let mine = length-block_extents live.places.items in
     let size = formed.table.size in
     let pair = pair_few slots.committed formed.committed in
     let held = held_few slots.sequence slots.other formed.held in
-    let kept = length-append (pair_extents slots.committed) (held_extents slots.other) in
+    let marked = marked_few slots.marked formed.marked in
+    let rest = length-append (held_extents slots.other) (marked_extents slots.marked) in
+    let kept = length-append (pair_extents slots.committed) (held_extents slots.other ++ marked_extents slots.marked) in
     let all = length-append (block_extents live.places.items) (kept_extents slots) in
-    omega (arith, mine, size, pair, held, kept, all)
+    omega (arith, mine, size, pair, held, marked, rest, kept, all)
 
 -- a vector whose elements are changed twice
 pub kept_twice : {X : Type 0} (n : ℕ) (xs ws vs : List X) → n ≡ length xs → length ws ≡ length xs → length vs ≡ length ws → take n (vs ++ drop (length vs) (take n (ws ++ drop (length ws) xs))) ≡ vs
@@ -71,28 +79,34 @@ written_imaged file p e is =
 
 module _ {S : Type 0} (facts : S → StoreFacts) (a b : S) (live : Table) (slots : Slots) (sound : IsSound (facts a) live slots) (honest : (facts b).honest ≡ (facts a).honest)
     (now : IsTrue (facts b).honest → (facts b).may_leave (facts b).content)
-    (spared : IsTrue (facts a).honest → IsSpared (block_extents live.places.items) slots (facts a) (facts b)) where
+    (spared : IsTrue (facts a).honest → IsSpared (block_extents live.places.items ++ marked_extents slots.marked) slots (facts a) (facts b)) where
   leaves : IsTrue (facts a).honest → Leaves (facts b) slots (facts a).content
   leaves so = (spared so).leaves (facts a).content (sound.whole so).leaves
 
+  both : IsTrue (facts a).honest → KeepsAll (block_extents live.places.items ++ marked_extents slots.marked) (facts a).content (facts b).content
+  both so = (spared so).keeps (All-append (EndsIn (facts a).content) (block_extents live.places.items) (marked_extents slots.marked) (sound.whole so).within (sound.whole so).marked_within)
+
   kept : IsTrue (facts a).honest → KeepsAll (block_extents live.places.items) (facts a).content (facts b).content
-  kept so = (spared so).keeps (sound.whole so).within
+  kept so = all_left (Keeps (facts a).content (facts b).content) (block_extents live.places.items) (marked_extents slots.marked) (both so)
+
+  marked : IsTrue (facts a).honest → KeepsAll (marked_extents slots.marked) (facts a).content (facts b).content
+  marked so = all_right (Keeps (facts a).content (facts b).content) (block_extents live.places.items) (marked_extents slots.marked) (both so)
 
   images : IsTrue (facts a).honest → AreImaged (facts b).content live.places.items
   images so = images_same (facts a).content (facts b).content live.places.items (sound.whole so).within (kept so) (sound.whole so).images
 
   within : IsTrue (facts a).honest → All (EndsIn (facts b).content) (block_extents live.places.items)
-  within so k d inside = (kept so k d inside).within
+  within so = keeps_within (block_extents live.places.items) (facts a).content (facts b).content (kept so)
 
   pub spared_passes : (facts a).failures ≤ (facts b).failures → Passes facts (disk_of facts a slots) (disk_of facts b slots)
-  spared_passes failures = call_passes facts a b live slots sound honest now leaves failures (λ so. (spared so).crash (facts a).content (sound.whole so).leaves)
+  spared_passes failures = call_passes facts a b live slots sound honest now leaves marked failures (λ so. (spared so).crash (facts a).content (sound.whole so).leaves)
 
   pub spared_drifts : Drifts (facts a).honest (shown (facts a).content live.places.items live.map_block) (shown (facts b).content live.places.items live.map_block)
   spared_drifts = places_drift (facts a).honest (facts a).content (facts b).content live.places.items live.map_block (λ so. blocks_same (facts a).content (facts b).content live.places.items (sound.whole so).within (kept so))
 
   -- where the table stays
   pub spared_sound : IsSound (facts b) live slots
-  spared_sound = call_sound facts a b live slots sound honest now leaves live sound.formed (λ so. (images so, within so))
+  spared_sound = call_sound facts a b live slots sound honest now leaves marked live sound.formed (λ so. (images so, within so))
 
   -- where the images were written, and the table is changed
   module _ (puts : List Member) (extents : List Extent) (removals : List VmHandle) (new : Table) (are : All IsPut puts) (taken : List Extent) (found : AreFor taken puts (length puts) extents)
@@ -134,12 +148,13 @@ module _ {S : Type 0} (facts : S → StoreFacts) (a b : S) (live : Table) (slots
       }
 
       pub put_sound : IsSound (facts b) new slots
-      put_sound = call_sound facts a b live slots sound honest now leaves new
+      put_sound = call_sound facts a b live slots sound honest now leaves marked new
           (record {
             table = new_table;
             placed = extents_of IsPlaced new.places.items (each_new (λ p. IsPlaced p.extent) (λ k p e low. found.placed k e (omega (arith, found.count, low))) (places_of IsPlaced live.places.items sound.formed.placed));
             committed = sound.formed.committed;
             held = sound.formed.held;
+            marked = sound.formed.marked;
             kept = sound.formed.kept;
             numbered = sound.formed.numbered;
             in_range = sound.formed.in_range;

@@ -37,6 +37,7 @@ use Rattle.vm_file.specs.declared.slots.Other.{Other}
 use Rattle.vm_file.specs.declared.slots.Other.TheVariants.{Shut, Stale, Held}
 use Rattle.vm_file.specs.declared.slots.Slots.{Slots}
 use Rattle.vm_file.proofs.KeptBytes.{all_left, all_right}
+use Rattle.vm_file.proofs.Marked.{kept_pair, kept_held}
 
 -- The document of a directory.
 
@@ -263,8 +264,8 @@ one_stands (Held pair) second sequence committed file c fits stored placed held 
 -- A file that a crash left stands for the pair that is committed, or for the one that is held.
 pub outcome_stands : (slots : Slots) (file c : List ℕ) → AreReadable slots file → Outcome slots file c → StandsForOne (documents_in file slots.committed ∷ attempted_in file slots.other) c
 outcome_stands slots file c are was =
-    one_stands slots.other slots.second slots.sequence slots.committed file c (fits_pair slots.sequence slots.committed are.some are.in_range (all_left IsPlaced (pair_extents slots.committed) (held_extents slots.other) are.placed))
-    are.committed (all_right IsPlaced (pair_extents slots.committed) (held_extents slots.other) are.placed) are.held was.gate was.counts was.beside
+    one_stands slots.other slots.second slots.sequence slots.committed file c (fits_pair slots.sequence slots.committed are.some are.in_range (kept_pair IsPlaced slots are.placed))
+    are.committed (kept_held IsPlaced slots are.placed) are.held was.gate was.counts was.beside
 
 pub held_readable : (file : List ℕ) (sequence : ℕ) (other : Other) → IsHeldFormed sequence other → IsHeldStored file other → IsHeldReadable file sequence other
 held_readable file sequence Shut formed stored = tt
@@ -300,7 +301,7 @@ numbered_one (Held pair) second sequence committed file c fits none gate leads b
 
 pub outcome_numbered : (slots : Slots) (file c : List ℕ) → AreReadable slots file → attempted_in file slots.other ≡ [] → Outcome slots file c → sequence_in c ≡ Some slots.sequence
 outcome_numbered slots file c are none was =
-    numbered_one slots.other slots.second slots.sequence slots.committed file c (fits_pair slots.sequence slots.committed are.some are.in_range (all_left IsPlaced (pair_extents slots.committed) (held_extents slots.other) are.placed)) none was.gate was.counts was.beside
+    numbered_one slots.other slots.second slots.sequence slots.committed file c (fits_pair slots.sequence slots.committed are.some are.in_range (kept_pair IsPlaced slots are.placed)) none was.gate was.counts was.beside
 
 pub sound_numbered : {S : Type 0} (facts : S → StoreFacts) (store : S) (live : Table) (slots : Slots) → IsSound (facts store) live slots → IsTrue (facts store).honest → attempted_in (facts store).content slots.other ≡ [] → Numbered (facts store) slots.sequence
 sound_numbered facts store live slots sound honest none c left =

@@ -1,5 +1,5 @@
 -- What a file that was read stands for, and that it is sound once it is synced.
-use Rattle.std.proofs.Common.{◌≡◌, ◌⊎◌, ℕ, suc, ◌+◌, ◌-◌, ◌*◌, ◌^◌, ◌<◌, ◌≤◌, ◌==◌, Bool, true, false, not, ◌||◌, IsTrue, List, length, get_or, None, is_some, Err, All, sym, ap, subst, ◌∙◌, arith, inl, inr, eq-eqb, ne_eqb}
+use Rattle.std.proofs.Common.{◌≡◌, ◌⊎◌, ℕ, suc, ◌+◌, ◌-◌, ◌*◌, ◌^◌, ◌<◌, ◌≤◌, ◌==◌, Bool, true, false, not, ◌||◌, IsTrue, List, length, get_or, None, is_some, Err, All, refl, sym, ap, subst, ◌∙◌, arith, inl, inr, eq-eqb, ne_eqb}
 use Rattle.std.specs.Prelude.{if◌then◌else◌}
 use Rattle.std.proofs.lemmas.Bool.{cond-false, le-ltb}
 use Rattle.std.proofs.lemmas.List.Elements.{All-append}
@@ -22,19 +22,21 @@ use Rattle.vm_file.specs.declared.slots.Other.{Other}
 use Rattle.vm_file.specs.declared.slots.Other.TheVariants.{Shut, Stale}
 use Rattle.vm_file.proofs.Stands.{stored_document}
 use Rattle.vm_file.proofs.KeptBytes.{all_left}
+use Rattle.vm_file.proofs.Marked.{kept_all, nothing_kept, nothing_marked}
 use Rattle.vm_file.proofs.Looking.{still_holds}
 use Rattle.vm_file.proofs.Counting.{slot_leads}
 
 -- From any store.
 
 pub slots_formed : (n sequence : ℕ) (second : Bool) (pair : Pair) (other : Other) → AreRead n pair → 1 ≤ sequence → sequence < 2 ^ 64 → (other ≡ Shut) ⊎ (other ≡ Stale)
-    → IsReadSlots (record { second = second; sequence = sequence; committed = pair; other = other })
+    → IsReadSlots (record { second = second; sequence = sequence; committed = pair; other = other; marked = None })
 slots_formed n sequence second pair other are some range alone = record {
   committed = record { updated = are.updated.table; saved = are.saved.table };
   placed = All-append IsPlaced (stored_extents pair.updated) (stored_extents pair.saved) are.updated.placed are.saved.placed;
   numbered = some;
   in_range = range;
   other = alone;
+  unmarked = refl;
 }
 
 -- From an honest one.
@@ -51,7 +53,7 @@ pub record IsChecked (s : Slot) : Type 0 where
 
 pub slots_whole : (file : List ℕ) (n : ℕ) (found : Found) (pair : Pair) → n ≡ length file → IsFound file found → IsChecked found.slot → AreRead n pair → AreStored file pair
     → pair.updated.directory ≡ found.slot.working → pair.saved.directory ≡ found.slot.saved
-    → IsReadWhole file (record { second = found.second; sequence = found.slot.sequence; committed = pair; other = found.other })
+    → IsReadWhole file (record { second = found.second; sequence = found.slot.sequence; committed = pair; other = found.other; marked = None })
 slots_whole file n found pair size is good are stored working saved =
     let inside : All (λ e. end_of e ≤ length file) (pair_extents pair) = subst (λ m. All (λ e. end_of e ≤ m) (pair_extents pair)) size
     (All-append (λ e. end_of e ≤ n) (stored_extents pair.updated) (stored_extents pair.saved) are.updated.within are.saved.within) in
@@ -116,7 +118,8 @@ opened_sound old new live slots looks formed whole durable map items =
         placed = subst (λ ps. All IsPlaced (block_extents ps)) (sym items) (λ k d within. first (suc k) d (omega (arith, within)));
         committed = formed.committed;
         held = nothing_formed slots.sequence slots.other formed.other;
-        kept = All-append IsPlaced (pair_extents slots.committed) (held_extents slots.other) formed.placed (no_extents slots.other formed.other);
+        marked = nothing_marked IsTable slots.marked formed.unmarked;
+        kept = kept_all IsPlaced slots formed.placed (no_extents slots.other formed.other) (nothing_kept IsPlaced slots.marked formed.unmarked);
         numbered = formed.numbered;
         in_range = formed.in_range;
       };
@@ -128,6 +131,8 @@ opened_sound old new live slots looks formed whole durable map items =
             within = subst (λ ps. All (λ e. end_of e ≤ length new.content) (block_extents ps)) (sym items) (λ k d within. inside (suc k) d (omega (arith, within)));
             committed = is.stored;
             held = nothing_stored new.content slots.other formed.other;
+            marked = nothing_marked (λ t. AreImaged new.content t.places.items) slots.marked formed.unmarked;
+            marked_within = nothing_kept (λ e. end_of e ≤ length new.content) slots.marked formed.unmarked;
             leaves = λ c left. subst (Outcome slots new.content) (sym (durable so c left)) is.outcome;
           };
     }

@@ -10,7 +10,7 @@ use Rattle.vm_file.specs.Slots.{Leaves, Outlives}
 use Rattle.vm_file.specs.Writing.{AreFor, Fills, AreWritten, IsSpared}
 use Rattle.vm_file.specs.declared.member.Member.{Member}
 use Rattle.vm_file.specs.declared.slots.Slots.{Slots}
-use Rattle.vm_file.proofs.KeptBytes.{all_left, keeps_itself, torn_same, torn_holds}
+use Rattle.vm_file.proofs.KeptBytes.{keeps_itself, torn_same, torn_holds}
 use Rattle.vm_file.proofs.Steps.{Outlives-refl, Outlives-trans}
 
 -- the first n images are written
@@ -64,10 +64,10 @@ for_fewer taken fewer puts n extents less was = record {
 }
 
 -- what is written apart from extents keeps them
-pub spared_by : (slots : Slots) (kept more extents : List Extent) (puts : List Member) (n : ℕ) (old new : StoreFacts) → AreFor (kept ++ more) puts n extents → Fills slots extents old new → IsSpared kept slots old new
-spared_by slots kept more extents puts n old new are fills = record {
+pub spared_by : (slots : Slots) (kept extents : List Extent) (puts : List Member) (n : ℕ) (old new : StoreFacts) → AreFor kept puts n extents → Fills slots extents old new → IsSpared kept slots old new
+spared_by slots kept extents puts n old new are fills = record {
   keeps = λ within k d inside. fills.keeps (get_or kept k d)
-      (λ j x low. let e = get_or extents j x in all_left (λ y. IsOut (start_of e) e.length (start_of y) (end_of y)) kept more (are.clear j x low) k d inside)
+      (λ j x low. are.clear j x low k d inside)
       (within k d inside);
   leaves = fills.leaves;
   crash = fills.crash;

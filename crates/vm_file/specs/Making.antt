@@ -43,12 +43,14 @@ pub record IsFirst (directory : Extent) (live : Table) (slots : Slots) : Type 0 
   pub other : slots.other ≡ Shut
   pub updated : IsLiveStored directory live slots.committed.updated
   pub saved : IsLiveStored directory live slots.committed.saved
+  pub unmarked : slots.marked ≡ None
 
 -- so that the live document is the updated and the saved one
 pub record IsOne (file : List ℕ) (live : Table) (slots : Slots) : Type 0 where
   pub updated : document_in file slots.committed.updated.table ≡ document_in file live
   pub saved : document_in file slots.committed.saved.table ≡ document_in file live
   pub attempted : attempted_in file slots.other ≡ []
+  pub unmarked : slots.marked ≡ None
   pub sequence : slots.sequence ≡ 1
 
 -- what is known of a table whose directory is written

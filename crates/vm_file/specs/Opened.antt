@@ -79,6 +79,7 @@ pub record IsReadSlots (slots : Slots) : Type 0 where
   pub numbered : 1 ≤ slots.sequence
   pub in_range : slots.sequence < 2 ^ 64
   pub other : (slots.other ≡ Shut) ⊎ (slots.other ≡ Stale)
+  pub unmarked : slots.marked ≡ None
 
 -- from an honest one
 pub record IsReadWhole (file : List ℕ) (slots : Slots) : Type 0 where

@@ -463,6 +463,7 @@ pub fn open_slots<S: Store>(alloc: Global, store: &mut S) -> Result<(Slots, Tabl
     ensures sound { IfOk result (λ p. IsSound (S.facts store.new) p.1 p.0) }
     ensures live { IfOk result (λ p. (p.1.map_block ≡ p.0.committed.updated.table.map_block) × (p.1.places.items ≡ p.0.committed.updated.table.places.items)) }
     ensures alone { IfOk result (λ p. (p.0.other ≡ Other.Shut) ⊎ (p.0.other ≡ Other.Stale)) }
+    ensures unmarked { IfOk result (λ p. p.0.marked ≡ None) }
     ensures stands { IfOk result (λ p. IsTrue (S.facts store.old).honest → stands (S.facts store.old).content ≡ Ok (documents_in (S.facts store.old).content p.0.committed)) }
     ensures numbered { IfOk result (λ p. IsTrue (S.facts store.old).honest → sequence_in (S.facts store.old).content ≡ Some p.0.sequence) }
     ensures refused { IfErr result (λ fault. IsTrue (S.facts store.old).honest → IsSupply fault ⊎ (stands (S.facts store.old).content ≡ Err fault)) }

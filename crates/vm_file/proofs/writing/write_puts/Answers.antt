@@ -1,7 +1,8 @@
 use Rattle.std.proofs.Common.{◌++◌, length, sym, subst, arith}
-use Rattle.vm_file.specs.Slots.{block_extents, kept_extents}
+use Rattle.vm_file.specs.Slots.{block_extents, marked_extents, kept_extents}
 use Rattle.vm_file.specs.Writing.{AreFor, Fills}
 use Rattle.vm_file.proofs.KeptBytes.{all_right}
+use Rattle.vm_file.proofs.Marked.{live_and_marked}
 use Rattle.vm_file.proofs.Writes.{for_fewer, spared_by}
 use Rattle.vm_file.proofs.writing.write_puts.Goals as goal
 
@@ -21,7 +22,10 @@ returns-in-Ok-clause-spared g c = λ so.
     let live = block_extents c.args.live.now in
     let kept = kept_extents c.args.slots.now in
     let puts = c.args.puts.now in
-    spared_by c.args.slots.now live kept c.in_ok-extents.extents.items puts (length puts) (g.S.Store.facts c.args.store.now) (g.S.Store.facts c.write_images.new.store) (c.in_ok-extents.ensures.found (live ++ kept) c.in_ok-space.ensures)
+    let slots = c.args.slots.now in
+    let images = c.in_ok-extents.extents.items in
+    let apart = for_fewer (live ++ kept) (live ++ marked_extents slots.marked) puts (length puts) images (λ P all. live_and_marked P slots live all) (c.in_ok-extents.ensures.found (live ++ kept) c.in_ok-space.ensures) in
+    spared_by slots (live ++ marked_extents slots.marked) images puts (length puts) (g.S.Store.facts c.args.store.now) (g.S.Store.facts c.write_images.new.store) apart
     (subst (λ es. Fills c.args.slots.now es (g.S.Store.facts c.args.store.now) (g.S.Store.facts c.write_images.new.store)) c.deref.ensures.value (c.write_images.ensures.fills so))
 
 pub returns-in-Ok-clause-found : goal.returns-in-Ok-clause-found
@@ -35,5 +39,8 @@ returns-in-Err-clause-spared g c = λ so.
     let live = block_extents c.args.live.now in
     let kept = kept_extents c.args.slots.now in
     let puts = c.args.puts.now in
-    spared_by c.args.slots.now live kept c.in_ok-extents.extents.items puts (length puts) (g.S.Store.facts c.args.store.now) (g.S.Store.facts c.write_images.new.store) (c.in_ok-extents.ensures.found (live ++ kept) c.in_ok-space.ensures)
+    let slots = c.args.slots.now in
+    let images = c.in_ok-extents.extents.items in
+    let apart = for_fewer (live ++ kept) (live ++ marked_extents slots.marked) puts (length puts) images (λ P all. live_and_marked P slots live all) (c.in_ok-extents.ensures.found (live ++ kept) c.in_ok-space.ensures) in
+    spared_by slots (live ++ marked_extents slots.marked) images puts (length puts) (g.S.Store.facts c.args.store.now) (g.S.Store.facts c.write_images.new.store) apart
     (subst (λ es. Fills c.args.slots.now es (g.S.Store.facts c.args.store.now) (g.S.Store.facts c.write_images.new.store)) c.deref.ensures.value (c.write_images.ensures.fills so))

@@ -9,10 +9,11 @@ use Rattle.vm_file.specs.Documents.{Documents, document_in}
 use Rattle.vm_file.specs.Listing.{AreBounds}
 use Rattle.vm_file.specs.Effects.{IsCommit}
 use Rattle.vm_file.specs.Ranges.{IsPlaced}
-use Rattle.vm_file.specs.Slots.{stored_extents, pair_extents, held_extents}
+use Rattle.vm_file.specs.Slots.{stored_extents}
 use Rattle.vm_file.specs.Sound.{disk_of}
 use Rattle.vm_file.specs.declared.slots.Pair.{Pair}
-use Rattle.vm_file.proofs.KeptBytes.{all_left, all_right}
+use Rattle.vm_file.proofs.KeptBytes.{all_right}
+use Rattle.vm_file.proofs.Marked.{kept_pair}
 use Rattle.vm_file.proofs.Copied.{pair_documents, pair_placed, pair_stored, sound_saved, copy_document, copies_alike, copy_itself, copy_drifts}
 use Rattle.vm_file.proofs.Effects.{refused, refused_by, tried}
 use Rattle.vm_file.proofs.Stands.{sound_settled}
@@ -40,7 +41,7 @@ pub settle-requires-clause-placed : goal.settle-requires-clause-placed
 settle-requires-clause-placed g c =
     let slots = c.self.inside.slots in
     let saved = slots.committed.saved in
-    let placed = all_right IsPlaced (stored_extents slots.committed.updated) (stored_extents saved) (all_left IsPlaced (pair_extents slots.committed) (held_extents slots.other) c.self.invariant.sound.formed.kept) in
+    let placed = all_right IsPlaced (stored_extents slots.committed.updated) (stored_extents saved) (kept_pair IsPlaced slots c.self.invariant.sound.formed.kept) in
     pair_placed [] c.in_ok-pair.pair saved saved c.in_ok-pair.ensures.updated c.in_ok-pair.ensures.saved placed placed
 
 pub settle-requires-clause-stored : goal.settle-requires-clause-stored

@@ -6,7 +6,7 @@ use Rattle.vm_file.specs.Calls.{put_all, remove_all}
 use Rattle.vm_file.specs.Disk.{FileState}
 use Rattle.vm_file.specs.Effects.{KeepsFile}
 use Rattle.vm_file.specs.Documents.{document_in}
-use Rattle.vm_file.specs.Slots.{block_extents, kept_extents}
+use Rattle.vm_file.specs.Slots.{block_extents, marked_extents, kept_extents}
 use Rattle.vm_file.specs.Sound.{disk_of}
 use Rattle.vm_file.specs.Writing.{IsSpared, with_places, without_places}
 use Rattle.vm_file.specs.declared.table.Table.{Table}
@@ -53,7 +53,7 @@ invariant_of-self g c =
     let b = c.write_puts.new.store in
     record {
       sound = spared_sound g.S.Store.facts i.store b i.live i.slots c.self.invariant.sound c.write_puts.ensures.honest (λ so. (g.met.S.Store.timely b so).now)
-          (λ so. subst (λ ps. IsSpared (block_extents ps) i.slots (g.S.Store.facts i.store) (g.S.Store.facts b)) c.deref.ensures.value (c.write_puts.ensures.spared so));
+          (λ so. subst (λ ps. IsSpared (block_extents ps ++ marked_extents i.slots.marked) i.slots (g.S.Store.facts i.store) (g.S.Store.facts b)) c.deref.ensures.value (c.write_puts.ensures.spared so));
       bounded = c.self.invariant.bounded;
       known = subst (λ space. IsKnown (block_extents i.live.places.items ++ kept_extents i.slots) space) (sym c.take.ensures.after) tt;
     }
@@ -64,7 +64,7 @@ returns-in_err-written-clause-keeps g c =
     let facts = g.S.Store.facts in let i = c.self.inside in
     let b = c.write_puts.new.store in
     let timely : IsTrue (facts b).honest → (facts b).may_leave (facts b).content = λ so. (g.met.S.Store.timely b so).now in
-    let spared : IsTrue (facts i.store).honest → IsSpared (block_extents i.live.places.items) i.slots (facts i.store) (facts b) = λ so. subst (λ ps. IsSpared (block_extents ps) i.slots (facts i.store) (facts b)) c.deref.ensures.value (c.write_puts.ensures.spared so) in
+    let spared : IsTrue (facts i.store).honest → IsSpared (block_extents i.live.places.items ++ marked_extents i.slots.marked) i.slots (facts i.store) (facts b) = λ so. subst (λ ps. IsSpared (block_extents ps ++ marked_extents i.slots.marked) i.slots (facts i.store) (facts b)) c.deref.ensures.value (c.write_puts.ensures.spared so) in
     let new : FileState g.row.S.Denot = record { disk = disk_of facts b i.slots; document = document_in (facts b).content i.live } in
     let kept : KeepsFile facts (document_in (facts i.store).content i.live) (record { disk = disk_of facts i.store i.slots; document = document_in (facts i.store).content i.live }) new = record {
       passes = spared_passes facts i.store b i.live i.slots c.self.invariant.sound c.write_puts.ensures.honest timely spared c.write_puts.ensures.failures;
@@ -97,7 +97,7 @@ invariant_of-self-2 g c =
     let kept = kept_twice i.live.places.len i.live.places.items c.put_places.new.places c.remove_places.new.places i.live.places.ok.0 long (ap length (left ∙ ap (without_places c.args.removals.now) mid) ∙ length-without_places c.args.removals.now c.put_places.new.places) in
     record {
       sound = put_sound g.S.Store.facts i.store b i.live i.slots c.self.invariant.sound c.write_puts.ensures.honest (λ so. (g.met.S.Store.timely b so).now)
-          (λ so. subst (λ ps. IsSpared (block_extents ps) i.slots (g.S.Store.facts i.store) (g.S.Store.facts b)) c.deref.ensures.value (c.write_puts.ensures.spared so))
+          (λ so. subst (λ ps. IsSpared (block_extents ps ++ marked_extents i.slots.marked) i.slots (g.S.Store.facts i.store) (g.S.Store.facts b)) c.deref.ensures.value (c.write_puts.ensures.spared so))
           c.args.puts.now es c.args.removals.now new c.requires.puts _ c.in_ok-written.ensures.found c.in_ok-written.ensures.written refl changed
           (subst (λ s. All (λ h. h.0 ≢ s.document.map_block) c.args.removals.now) (sym c.self.view_is) c.requires.removals);
       bounded = subst (λ ps. AreBounds ps c.tightened-self-inside.result) c.deref-3.ensures.value c.tightened-self-inside.ensures;
@@ -115,7 +115,7 @@ returns-clause-keeps g c =
     let changed : new.places.items ≡ without_places c.args.removals.now (with_places c.args.puts.now es i.live.places.items) =
     changed_twice i.live.places.len i.live.places.items c.put_places.new.places c.remove_places.new.places c.args.puts.now es c.args.removals.now i.live.places.ok.0 filled left in
     let timely : IsTrue (facts b).honest → (facts b).may_leave (facts b).content = λ so. (g.met.S.Store.timely b so).now in
-    let spared : IsTrue (facts i.store).honest → IsSpared (block_extents i.live.places.items) i.slots (facts i.store) (facts b) = λ so. subst (λ ps. IsSpared (block_extents ps) i.slots (facts i.store) (facts b)) c.deref.ensures.value (c.write_puts.ensures.spared so) in
+    let spared : IsTrue (facts i.store).honest → IsSpared (block_extents i.live.places.items ++ marked_extents i.slots.marked) i.slots (facts i.store) (facts b) = λ so. subst (λ ps. IsSpared (block_extents ps ++ marked_extents i.slots.marked) i.slots (facts i.store) (facts b)) c.deref.ensures.value (c.write_puts.ensures.spared so) in
     subst (λ (s : FileState g.row.S.Denot). KeepsFile facts (remove_all c.args.removals.now (put_all c.args.puts.now s.document)) s (record { disk = disk_of facts b i.slots; document = document_in (facts b).content new })) c.self.view_is (record {
       passes = spared_passes facts i.store b i.live i.slots c.self.invariant.sound c.write_puts.ensures.honest timely spared c.write_puts.ensures.failures;
       document = put_drifts facts i.store b i.live i.slots c.self.invariant.sound c.write_puts.ensures.honest timely spared
