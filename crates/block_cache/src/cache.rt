@@ -333,7 +333,7 @@ impl<S: Store> Cache<S> {
         ensures resident { self.new.resident ≡ self.old.resident }
         ensures fails { Fails S.facts NoFault self.old.disk.store self.new.disk.store result }
     {
-        self.flush()?;
+        flush(self.alloc, &mut self.file, &mut self.frames)?;
         self.file.mark()?;
         Ok(())
     }
