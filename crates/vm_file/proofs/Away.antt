@@ -3,7 +3,7 @@ use Rattle.std.proofs.Common.{◌≡◌, ◌≢◌, ℕ, ◌+◌, ◌*◌, List,
 use Rattle.vm_store.specs.Facts.{StoreFacts, byte}
 use Rattle.vm_store.specs.Bytes.{puts-put, torn-put}
 use Rattle.vm_file.specs.Ranges.{IsPlaced}
-use Rattle.vm_file.specs.Slots.{pair_extents, held_extents, other_of, Leads, IsBeside, Outcome, Leaves}
+use Rattle.vm_file.specs.Slots.{held_extents, other_of, Leads, IsBeside, Outcome, Leaves}
 use Rattle.vm_file.specs.Documents.{Documents, documents_in, attempted_in}
 use Rattle.vm_file.specs.Disk.{with_gate_open, IsOneGateAway}
 use Rattle.vm_file.specs.declared.slots.Pair.{Pair}

@@ -1,12 +1,12 @@
 -- How the promises of a document file are passed on.
-use Rattle.std.proofs.Common.{◌≡◌, ◌⊎◌, ℕ, Bool, IsTrue, List, [], ◌∷◌, Option, None, Some, refl, sym, subst, ◌∙◌, arith, inl, inr}
+use Rattle.std.proofs.Common.{◌≡◌, ◌⊎◌, ℕ, Bool, IsTrue, List, [], ◌∷◌, Option, None, Some, is_some, true, refl, sym, ap, subst, ◌∙◌, arith, inl, inr}
 use Rattle.std.specs.Prelude.{◌+◌, Result, Ok, Err, MatchResult}
 use Rattle.std.proofs.lemmas.Result.{on_ok_weaker, on_err_weaker}
 use Rattle.vm_store.specs.Facts.{StoreFacts, IsTimely}
 use Rattle.geos_model.specs.Document.{Document}
 use Rattle.geos_model.specs.declared.fault.Fault.{Fault}
 use Rattle.vm_file.specs.Documents.{Documents}
-use Rattle.vm_file.specs.Disk.{Disk, readable, StandsForOne, Settled, IsSettled, Numbered, Crash, Drifts, MarkDrifts, IsTried, Passes, AddsNothing, Commits}
+use Rattle.vm_file.specs.Disk.{Disk, readable, StandsForOne, Settled, IsSettled, Numbered, Crash, Drifts, MarkDrifts, unmarked, IsTried, Passes, AddsNothing, Commits}
 use Rattle.vm_file.specs.Passing.{PassingLaw}
 use Rattle.vm_file.proofs.Results.{on_ok_both, on_err_both}
 
@@ -23,15 +23,24 @@ Drifts-trans honest a b c p q = record {
 }
 
 -- the marked document
-MarkDrifts-refl : (honest : Bool) (marked : Option Document) → MarkDrifts honest marked marked
+pub MarkDrifts-refl : (honest : Bool) (marked : Option Document) → MarkDrifts honest marked marked
 MarkDrifts-refl honest None = refl
 MarkDrifts-refl honest (Some d) = (d, refl, Drifts-refl honest d)
 
-MarkDrifts-trans : (honest : Bool) (a b c : Option Document) → MarkDrifts honest a b → MarkDrifts honest b c → MarkDrifts honest a c
+pub MarkDrifts-trans : (honest : Bool) (a b c : Option Document) → MarkDrifts honest a b → MarkDrifts honest b c → MarkDrifts honest a c
 MarkDrifts-trans honest None b c p q = let then : MarkDrifts honest None c = subst (λ m. MarkDrifts honest m c) p q in then
 MarkDrifts-trans honest (Some d) b c (e, is, p) q =
     let then : MarkDrifts honest (Some e) c = subst (λ m. MarkDrifts honest m c) is q in
     (then.0, then.1, Drifts-trans honest d e then.0 p then.2)
+
+-- it is still there
+pub still_marked : (honest : Bool) (a b : Option Document) → MarkDrifts honest a b → is_some a ≡ true → is_some b ≡ true
+still_marked honest None b drifts some = absurd (cc some)
+still_marked honest (Some d) b (e, is, drifts) some = ap is_some is
+
+-- and is brought back as it was
+pub brought_back : (honest : Bool) (d e : Document) (b : Option Document) → MarkDrifts honest (Some d) b → Some e ≡ b → Drifts honest d e
+brought_back honest d e b (f, is, drifts) back = let same : f ≡ e = cc (is, back) in subst (Drifts honest d) same drifts
 
 pub Crash-refl : (a : StoreFacts) (pairs : List Documents) → Crash a a pairs
 Crash-refl a pairs = record { later = omega arith; each = λ t c le left. inl left }
@@ -56,8 +65,44 @@ Crash-since a b pairs timely settled p c left =
     elim (p.each a.moment c (omega arith) left) as (λ _. StandsForOne pairs c) [ inl before ↦ settled c (timely.only_now c before) | inr now ↦ now ]
 
 module _ {S : Type 0} (facts : S → StoreFacts) where
+  tried_unmarked : (pair : Documents) (a : Disk S) → IsTried facts pair a → IsTried facts pair (unmarked a)
+  tried_unmarked pair a is = record { attempted = is.attempted; gate = is.gate }
+
   pub Passes-refl : (a : Disk S) → Passes facts a a
   Passes-refl a = record { honest = refl; failures = omega arith; updated = λ _. refl; saved = λ _. refl; attempted = λ _. refl; tried = λ so pair is. is; sequence = refl; marked = MarkDrifts-refl _ a.marked; numbered = λ so none is. is; crash = λ _. Crash-refl _ _ }
+
+  -- the mark left aside
+  pub Passes-unmarked : (a b : Disk S) → Passes facts a b → Passes facts (unmarked a) (unmarked b)
+  Passes-unmarked a b p = record {
+    honest = p.honest;
+    failures = p.failures;
+    updated = p.updated;
+    saved = p.saved;
+    attempted = p.attempted;
+    tried = λ so pair is. tried_unmarked pair b (p.tried so pair (record { attempted = is.attempted; gate = is.gate }));
+    sequence = p.sequence;
+    marked = refl;
+    numbered = p.numbered;
+    crash = p.crash;
+  }
+
+  pub Commits-unmarked : (a b : Disk S) (pair : Documents) (result : Result (Unit {0}) Fault) → Commits facts pair a b result → Commits facts pair (unmarked a) (unmarked b) result
+  Commits-unmarked a b pair result p = record {
+    honest = p.honest;
+    failures = p.failures;
+    crash = p.crash;
+    settled = p.settled;
+    ok = p.ok;
+    err = p.err;
+    adds = on_err_weaker result (λ given so. elim (given so) as (λ _. IsTried facts pair (unmarked b) ⊎ AddsNothing facts (unmarked a) (unmarked b)) [
+      | inl tried ↦ inl (tried_unmarked pair b tried)
+      | inr none ↦ inr (record { crash = none.crash; attempted = none.attempted })
+    ]) p.adds;
+    numbered = p.numbered;
+    still_numbered = p.still_numbered;
+    sequence = p.sequence;
+    marked = refl;
+  }
 
   pub same_readable : (a b : Disk S) → Passes facts a b → IsTrue (facts a.store).honest → readable b ≡ readable a
   same_readable a b p so = λ i. (p.updated so i, p.saved so i) ∷ p.attempted so i
