@@ -5,6 +5,7 @@ pub mod Lent
 pub mod Listing
 pub mod Loaded
 pub mod Locks
+pub mod Marking
 pub mod Overlay
 pub mod PutUnder
 pub mod SavedAs

@@ -211,6 +211,18 @@ positive n is = elim (cases_eq n 0) as (λ _. 0 < n) [
   | inr some ↦ omega (arith, some)
 ]
 
+-- Where none is locked, each one isn't.
+pub none_locked : (ss : List Seat) → locked_count ss ≡ 0 → (h : ℕ) → locks_of ss h ≡ 0
+none_locked [] none h = refl
+none_locked (s ∷ ss) none h =
+    let sum = counts s ss in
+    elim (cases_eq s.1 0) as (λ _. locks_of (s ∷ ss) h ≡ 0) [
+      | inl free ↦
+          let rest : locks_of ss h ≡ 0 = none_locked ss (omega (arith, sum, none)) h in
+          elim (nat_eq h s.0) as (λ b. unwrap_or (cond b (Some s.1) (lookup (nat_eq h) ss)) 0 ≡ 0) [ true ↦ free | false ↦ rest ]
+      | inr some ↦ let single : ◌≡◌ {A = ℕ} (one s) 1 = ap (λ b. cond (not b) 1 0) (ne_eqb s.1 0 some) in absurd (omega (arith, sum, single, none))
+    ]
+
 all_held : (h : ℕ) (ss : List Seat) → length ss ≤ locked_count ss → is_some (lookup (nat_eq h) ss) ≡ true → 0 < locks_of ss h
 all_held h [] all there = absurd (cc there)
 all_held h (s ∷ ss) all there =

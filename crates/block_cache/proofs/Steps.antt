@@ -3,7 +3,7 @@ use Rattle.std.proofs.Common.{◌≡◌, ℕ, List, sym, subst, ◌∙◌}
 use Rattle.vm_store.specs.Facts.{StoreFacts}
 use Rattle.geos_model.specs.Document.{is_live}
 use Rattle.vm_file.specs.Disk.{FileState, Passes, Drifts}
-use Rattle.vm_file.proofs.Passing.{Passes-refl, Passes-trans, Drifts-trans}
+use Rattle.vm_file.proofs.Passing.{Passes-refl, Passes-trans, Drifts-refl, Drifts-trans}
 use Rattle.block_cache.specs.State.{CacheState, Stays}
 use Rattle.block_cache.specs.Frames.{seats, overlay, AreKept, Moves}
 use Rattle.block_cache.specs.declared.frame.Frame.{Frame}
@@ -24,6 +24,10 @@ module _ {S : Type 0} (facts : S → StoreFacts) where
   -- the frames alone change
   pub moves_frames : (a : FileState S) (es fs : List (ℕ × Frame)) → AreKept (facts a.disk.store).honest a.document fs → Drifts (facts a.disk.store).honest (overlay es a.document) (overlay fs a.document) → Moves facts a es a fs
   moves_frames a es fs kept drifts = record { passes = Passes-refl facts a.disk; drifts = drifts; kept = kept }
+
+  -- nothing happens
+  pub moves_none : (a : FileState S) (es : List (ℕ × Frame)) → AreKept (facts a.disk.store).honest a.document es → Moves facts a es a es
+  moves_none a es kept = moves_frames a es es kept (Drifts-refl _ (overlay es a.document))
 
   pub moves_both : (a : FileState S) (es : List (ℕ × Frame)) (b : FileState S) (fs : List (ℕ × Frame)) (c : FileState S) (gs : List (ℕ × Frame)) → Moves facts a es b fs → Moves facts b fs c gs → Moves facts a es c gs
   moves_both a es b fs c gs p q = record {

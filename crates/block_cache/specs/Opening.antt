@@ -1,5 +1,5 @@
 -- What opening a document file gives, and making a new one.
-use Rattle.std.specs.Prelude.{◌≡◌, ◌≢◌, ◌⊎◌, IsTrue, [], Some, Ok, Err, length}
+use Rattle.std.specs.Prelude.{◌≡◌, ◌≢◌, ◌⊎◌, IsTrue, [], None, Some, Ok, Err, length}
 use Rattle.geos_model.specs.Document.{empty_document}
 use Rattle.geos_model.specs.File.{stands}
 use Rattle.geos_model.specs.declared.fault.Fault.{Fault}
@@ -17,6 +17,7 @@ pub record IsOpenedFrom {S : Type 0} (facts : S → StoreFacts) (store : S) (fil
   pub follows : Follows facts store file.disk.store
   pub rests : IsTrue (facts store).honest → Rests (facts store) (facts file.disk.store)
   pub documents : IsTrue (facts store).honest → stands (facts store).content ≡ Ok (file.disk.updated, file.disk.saved)
+  pub unmarked : file.disk.marked ≡ None
   pub now : IsTrue (facts store).honest → (file.document ≡ file.disk.updated) × (file.disk.attempted ≡ [])
   pub sequence : IsTrue (facts store).honest → sequence_in (facts store).content ≡ Some file.disk.sequence
   pub numbered : IsTrue (facts store).honest → Numbered (facts file.disk.store) file.disk.sequence

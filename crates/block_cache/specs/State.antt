@@ -7,7 +7,7 @@ use Rattle.vm_store.specs.Facts.{StoreFacts}
 use Rattle.geos_model.specs.Document.{Document}
 use Rattle.geos_model.specs.declared.handle.VmHandle.{VmHandle}
 use Rattle.geos_model.proofs.Codes.{document_code}
-use Rattle.vm_file.specs.Disk.{Disk, FileState, disk_code}
+use Rattle.vm_file.specs.Disk.{Disk, FileState, disk_code, Drifts, MarkDrifts, Passes, unmarked}
 use Rattle.vm_file.specs.Effects.{KeepsFile}
 use Rattle.lru.specs.LruCache.{promoted}
 
@@ -76,4 +76,11 @@ seen c = record { disk = c.disk; document = c.document }
 -- A call that commits nothing and keeps the document, over any store as many frames.
 pub record Stays {S : Type 0} (facts : S → StoreFacts) (old new : CacheState S) : Type 0 where
   pub file : KeepsFile facts old.document (seen old) (seen new)
+  pub frames : new.frames ≡ old.frames
+
+-- The document was marked, and stays; nothing was committed, over any store as many frames.
+pub record Marks {S : Type 0} (facts : S → StoreFacts) (old new : CacheState S) : Type 0 where
+  pub passes : Passes facts old.disk (unmarked new.disk)
+  pub document : Drifts (facts old.disk.store).honest old.document new.document
+  pub marked : MarkDrifts (facts old.disk.store).honest (Some old.document) new.disk.marked
   pub frames : new.frames ≡ old.frames

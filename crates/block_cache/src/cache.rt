@@ -1,4 +1,4 @@
-ghost use Rattle.std.specs.Prelude.{◌≡◌, ◌≢◌, ◌⊎◌, ◌↔◌, ◌≤◌, ◌<◌, ◌+◌, ◌-◌, ℕ, true, false, IsTrue, MatchResult, IfOk, IfErr, IfSome, IsOk, OnOk, OnErr, Ok, Some, None, [], All, length, map, nat_eq, nat_lt};
+ghost use Rattle.std.specs.Prelude.{◌≡◌, ◌≢◌, ◌⊎◌, ◌↔◌, ◌≤◌, ◌<◌, ◌+◌, ◌-◌, ℕ, true, false, IsTrue, is_some, MatchResult, IfOk, IfErr, IfSome, IsOk, OnOk, OnErr, Ok, Some, None, [], All, length, map, nat_eq, nat_lt};
 ghost use Rattle.std.specs.Borrow.{sem};
 ghost use Rattle.std.specs.FinMap.{get, keys};
 ghost use Rattle.std.specs.Map.{set_value};
@@ -8,12 +8,12 @@ ghost use Rattle.geos_model.specs.Document.{IsValid, is_heap, is_vm_handle, is_l
 ghost use Rattle.geos_model.specs.ElementArray.{all_distinct};
 ghost use Rattle.geos_model.specs.Reply.{found};
 ghost use Rattle.vm_file.specs.Calls.{IsPut, put_all, remove_all, last_sequence};
-ghost use Rattle.vm_file.specs.Disk.{IsListed, IsSettled, Numbered};
+ghost use Rattle.vm_file.specs.Disk.{IsListed, IsSettled, Numbered, unmarked};
 ghost use Rattle.vm_file.specs.Effects.{IsCommit, KeepsFile, Fails, NoFault, IsWorn, IsDamage};
 ghost use Rattle.block_cache.specs.Bodies.{body_of};
 ghost use Rattle.block_cache.specs.Opening.{IsOpenedFrom, IsNotOpened, IsMadeIn, IsNotMade};
 ghost use Rattle.block_cache.specs.SavingAs.{IsSavedAs, IsNotSavedAs};
-ghost use Rattle.block_cache.specs.State.{is_resident, locks_of, locked_count, all_locked, seated, evicted, seats_without, seen, Stays, KeepsLocks};
+ghost use Rattle.block_cache.specs.State.{is_resident, locks_of, locked_count, all_locked, seated, evicted, seats_without, seen, Marks, Stays, KeepsLocks};
 
 use crate::changing::drop_blocks;
 use crate::frame::{Frame, all_locked, body_in, has_locks, lock, locks_of, mark, unlock};
@@ -322,6 +322,38 @@ impl<S: Store> Cache<S> {
         ensures fails { Fails S.facts NoFault self.old.disk.store self.new.disk.store result }
     {
         drop_all(self.alloc, &mut self.file, &mut self.frames)
+    }
+
+    /// Marks the document as it is now, so that `roll_back` can bring it back: what is changed in memory is written to the file first.
+    /// The blocks in memory stay there. Memory, File: then no document is marked.
+    pub fn mark(&mut self) -> Result<(), Fault>
+        requires { self.old.disk.marked ≡ None }
+        ensures ok { OnOk result (Marks S.facts self.old self.new) }
+        ensures err { OnErr result (Stays S.facts self.old self.new) }
+        ensures resident { self.new.resident ≡ self.old.resident }
+        ensures fails { Fails S.facts NoFault self.old.disk.store self.new.disk.store result }
+    {
+        flush(self.alloc, &mut self.file, &mut self.frames)?;
+        self.file.mark()?;
+        Ok(())
+    }
+
+    /// Makes the marked document the one as it is now: none is marked and no block is in memory then. No memory, no store.
+    pub fn roll_back(&mut self)
+        requires { is_some self.old.disk.marked ≡ true }
+        ensures document { Some self.new.document ≡ self.old.disk.marked }
+        ensures disk { self.new.disk ≡ unmarked self.old.disk }
+        ensures empty { (self.new.resident ≡ []) × (self.new.frames ≡ self.old.frames) }
+    {
+        self.frames.clear();
+        self.file.roll_back();
+    }
+
+    /// Forgets the marked document, if one is. No memory, no store.
+    pub fn release(&mut self)
+        ensures { self.new ≡ record self.old { disk = unmarked self.old.disk } }
+    {
+        self.file.release();
     }
 
     /// Makes the document as it is now the updated one: what is changed in memory goes into the file first. Worn where the

@@ -1,5 +1,5 @@
 // Calls of a cache, each with what it has to know beforehand.
-ghost use Rattle.std.specs.Prelude.{IfOk};
+ghost use Rattle.std.specs.Prelude.{◌≡◌, true, is_some, IfOk};
 ghost use Rattle.vm_file.specs.Calls.{IsPut};
 
 use block_cache::{BlockBody, Cache};
@@ -73,7 +73,9 @@ pub(crate) fn opened<S: Store>(alloc: Global, store: S, frames: usize) -> Result
 }
 
 /// Brings a block into memory. NoBlock where it isn't live; Range where each frame has a locked block.
-pub(crate) fn load<S: Store>(cache: &mut Cache<S>, handle: u16) -> Result<(), Fault> {
+pub(crate) fn load<S: Store>(cache: &mut Cache<S>, handle: u16) -> Result<(), Fault>
+    ensures { is_some cache.old.disk.marked ≡ true → is_some cache.new.disk.marked ≡ true }
+{
     let block = VmHandle(handle);
     if !cache.is_live(block) {
         return Err(Fault::NoBlock);
@@ -115,7 +117,9 @@ pub(crate) fn lock<S: Store>(cache: &mut Cache<S>, handle: u16) -> Result<(), Fa
 }
 
 /// Gives a block in memory other bytes. Range where it isn't raw and in memory, or the bytes are too many.
-pub(crate) fn set<S: Store>(cache: &mut Cache<S>, handle: u16, bytes: &[u8]) -> Result<(), Fault> {
+pub(crate) fn set<S: Store>(cache: &mut Cache<S>, handle: u16, bytes: &[u8]) -> Result<(), Fault>
+    ensures { cache.new.disk ≡ cache.old.disk }
+{
     let block = VmHandle(handle);
     if !cache.is_resident(block) || bytes.len() > 65_520 {
         return Err(Fault::Range);

@@ -8,6 +8,8 @@ mod changing;
 #[cfg(test)]
 mod counting;
 #[cfg(test)]
+mod marking;
+#[cfg(test)]
 mod sizes;
 #[cfg(test)]
 mod steps;

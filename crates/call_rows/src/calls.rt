@@ -7,7 +7,7 @@ use lmem_heap::Heap;
 use std::alloc::Global;
 use std::test::Fail;
 use vm_blocks::{Change, Direction, FileBlocks, Members, SavedBlock, change_law, saved_block};
-use vm_store::MemStore;
+use vm_store::{MemStore, Store};
 
 const BLOCK: VmHandle = VmHandle(1);
 
@@ -53,7 +53,7 @@ fn images_are_written_and_read(rt: HostRuntime) -> Result<(), Fail> {
 }
 
 // The least free handle gets a block with an empty heap.
-fn put(alloc: Global, blocks: &mut FileBlocks<MemStore>) -> Result<(), Fault> {
+pub(crate) fn put<S: Store>(alloc: Global, blocks: &mut FileBlocks<S>) -> Result<(), Fault> {
     let block = SavedBlock::empty_heap(alloc, 7)?;
     match blocks.next_handle() {
         None => Err(Fault::NoHandles),

@@ -6,6 +6,8 @@ mod arrays;
 #[cfg(test)]
 mod calls;
 #[cfg(test)]
+mod changing_all;
+#[cfg(test)]
 mod heaps;
 #[cfg(test)]
 mod memory;

@@ -1,5 +1,5 @@
 -- The locks of a machine are those of the blocks in memory.
-use Rattle.std.proofs.Common.{◌≡◌, ◌≢◌, ℕ, ◌+◌, ◌-◌, ◌<◌, ◌==◌, Bool, true, false, not, cond, nat_eq, nat_cmp, List, [], ◌∷◌, map, Option, None, Some, is_some, unwrap_or, inl, inr, refl, sym, ap, subst, ◌∙◌, arith, eqb-true, lt-ltb, ltb-false}
+use Rattle.std.proofs.Common.{◌≡◌, ◌≢◌, ℕ, ◌+◌, ◌-◌, ◌<◌, ◌==◌, Bool, true, false, not, cond, nat_eq, nat_cmp, List, [], ◌∷◌, map, Option, None, Some, is_some, unwrap_or, inl, inr, refl, sym, ap, subst, ◌∙◌, arith, lt-ltb, ltb-false}
 use Rattle.std.specs.Prelude.{◌&&◌, ◌||◌, nat_le, nat_lt, if◌then◌else◌}
 use Rattle.std.proofs.lemmas.Bool.{and_parts, cases_Bool, cases_eq, cond-true, cond-false, eq-eqb, ne_eqb}
 use Rattle.std.proofs.lemmas.List.Sums.{sum_by-cons}
@@ -14,6 +14,7 @@ use Rattle.geos_model.specs.declared.command.Edit.{Edit}
 use Rattle.geos_model.specs.declared.command.Edit.TheVariants as edits
 use Rattle.geos_model.proofs.HeapEdits.{get-put_same, get-put_other, get-taken_same, get-taken_other}
 use Rattle.block_cache.specs.State.{Seat, is_locked, locks_of, locked_count, KeepsLocks}
+use Rattle.block_cache.proofs.Locks.{none_locked}
 use Rattle.vm_blocks.specs.Keeping.{is_full, is_shut_out}
 use Rattle.vm_blocks.proofs.KeepingLaws.{full-is, shut-is}
 use Rattle.doc_edits.specs.Room.{has_no_room}
@@ -93,21 +94,7 @@ len-locks (s ∷ ss) distinct =
 
 -- where none is, each one isn't
 pub none_of_count : (ss : List Seat) → nat_lt 0 (locked_count ss) ≡ false → (h : ℕ) → locks_of ss h ≡ 0
-none_of_count ss none h = let few = ltb-false 0 (locked_count ss) none in each ss (omega (arith, few))
-  where
-    each : (ss : List Seat) → locked_count ss ≡ 0 → locks_of ss h ≡ 0
-    each [] none = refl
-    each (s ∷ ss) none =
-        let sum = counts s ss in
-        (elim (is_locked s) as (λ b. is_locked s ≡ b → locked_count (s ∷ ss) ≡ cond b 1 0 + locked_count ss → locks_of (s ∷ ss) h ≡ 0) [
-          | true ↦ λ _ all. absurd (omega (arith, all, none))
-          | false ↦ λ free all.
-              let rest : locks_of ss h ≡ 0 = each ss (omega (arith, all, none)) in
-              (elim (nat_eq h s.0) as (λ b. unwrap_or (cond b (Some s.1) (lookup (nat_eq h) ss)) 0 ≡ 0) [
-                | true ↦ eqb-true s.1 0 (is_not (s.1 == 0) free)
-                | false ↦ rest
-              ])
-        ]) refl sum
+none_of_count ss none h = let few = ltb-false 0 (locked_count ss) none in none_locked ss (omega (arith, few)) h
 
 -- maps of the same locks
 pub same_locks : (m : FinMap nat_cmp ℕ) (ss : List Seat) → ((h : ℕ) → get m h ≡ as_locked (locks_of ss h)) → m ≡ locks_in ss

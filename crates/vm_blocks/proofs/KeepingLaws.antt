@@ -107,16 +107,24 @@ module _ {S : Type 0} (facts : S → StoreFacts) where
   unfolding Lacks
   lacks-cases a b fault lacks = lacks
 
-  -- a call that was refused after others that were not
-  pub lacks-later : (a b : CacheState S) (c : S) (fault : Fault) → Keeps facts a b → Lacks facts b.disk.store c fault → Lacks facts a.disk.store c fault
-  unfolding Keeps Lacks
-  lacks-later a b c fault p lacks = elim lacks as (λ _. (fault ≡ Memory) ⊎ (((fault ≡ File) × Raised (facts a.disk.store) (facts c)) ⊎ IsDamage (facts a.disk.store).honest fault)) [
+  pub steady-on : (a b : S) → (facts b).honest ≡ (facts a).honest → IsSteady facts a → IsSteady facts b
+  unfolding IsSteady
+  steady-on a b same steady = subst IsTrue (sym same) steady
+
+  -- a call that was refused after others of the same store
+  pub lacks-since : (a b c : S) (fault : Fault) → (facts b).honest ≡ (facts a).honest → (facts a).failures ≤ (facts b).failures → Lacks facts b c fault → Lacks facts a c fault
+  unfolding Lacks
+  lacks-since a b c fault same first lacks = elim lacks as (λ _. (fault ≡ Memory) ⊎ (((fault ≡ File) × Raised (facts a) (facts c)) ⊎ IsDamage (facts a).honest fault)) [
     | inl memory ↦ inl memory
-    | inr more ↦ inr (elim more as (λ _. ((fault ≡ File) × Raised (facts a.disk.store) (facts c)) ⊎ IsDamage (facts a.disk.store).honest fault) [
-      | inl failed ↦ let raised = failed.1 in let first = p.0.file.passes.failures in inl (failed.0, omega (arith, raised, first))
-      | inr damage ↦ inr (damage.0, λ so. damage.1 (subst IsTrue (sym p.0.file.passes.honest) so))
+    | inr more ↦ inr (elim more as (λ _. ((fault ≡ File) × Raised (facts a) (facts c)) ⊎ IsDamage (facts a).honest fault) [
+      | inl failed ↦ let raised = failed.1 in inl (failed.0, omega (arith, raised, first))
+      | inr damage ↦ inr (damage.0, λ so. damage.1 (subst IsTrue (sym same) so))
     ])
   ]
+
+  -- after others that were not
+  pub lacks-later : (a b : CacheState S) (c : S) (fault : Fault) → Keeps facts a b → Lacks facts b.disk.store c fault → Lacks facts a.disk.store c fault
+  lacks-later a b c fault p lacks = let passes = keeps-passes a b p in lacks-since a.disk.store b.disk.store c fault passes.honest passes.failures lacks
 
   -- and others after it
   pub lacks-before : (a : S) (b c : CacheState S) (fault : Fault) → Keeps facts b c → Lacks facts a b.disk.store fault → Lacks facts a c.disk.store fault

@@ -1,6 +1,7 @@
 pub mod MapLemmas
 pub mod ManyBlocks
 pub mod ChangeLaws
+pub mod ChangingAll
 pub mod PartLemmas
 pub mod RoomLemmas
 pub mod KeepingLaws

@@ -200,6 +200,19 @@ part_live_made h (parts.Chunk c s) d = ap is_some (get-put_same d.blocks h _ h r
 part_live_made h (parts.ChunkIn c content) d = ap is_some (get-put_same d.blocks h _ h refl)
 part_live_made h (parts.ChunkOut c content) d = ap is_some (get-put_same d.blocks h _ h refl)
 
+-- and each one that was there still is
+put_live : (d : Document) (h : ℕ) (block : Block) (k : ℕ) → is_live d k ≡ true → is_live (with_block d h block) k ≡ true
+put_live d h block k live = elim (cases_eq k h) as (λ _. is_live (with_block d h block) k ≡ true) [
+  | inl here ↦ ap is_some (get-put_same d.blocks h block k here)
+  | inr other ↦ ap is_some (get-put_other d.blocks h block k other) ∙ live
+]
+
+pub part_live_on : (h : ℕ) (p : PartChange) (d : Document) (k : ℕ) → is_live d k ≡ true → is_live (part_made h p d) k ≡ true
+part_live_on h (parts.Raw s) d k live = put_live d h _ k live
+part_live_on h (parts.Chunk c s) d k live = put_live d h _ k live
+part_live_on h (parts.ChunkIn c content) d k live = put_live d h _ k live
+part_live_on h (parts.ChunkOut c content) d k live = put_live d h _ k live
+
 pub made_on : (c : Change) (honest : Bool) (old new : Document) → Drifts honest old new → Drifts honest (made c old) (made c new)
 made_on c honest old new drifts = let same = made_alike c old new (alike honest old new drifts) in record {
   live = same.live;

@@ -1,5 +1,5 @@
 -- What a change makes of a document, the same change the other way round, and in which documents it can be made.
-use Rattle.std.specs.Prelude.{◌≡◌, ◌≢◌, ◌≤◌, ◌<◌, ◌+◌, ℕ, List, [], true, Some, None, length, replicate}
+use Rattle.std.specs.Prelude.{◌≡◌, ◌≢◌, ◌≤◌, ◌<◌, ◌+◌, ℕ, List, [], true, Some, None, length, map, replicate, reverse}
 use Rattle.std.specs.List.{All}
 use Rattle.std.specs.FinMap.{get, contains_key}
 use Rattle.geos_model.specs.Heap.{capacity, fits_with, is_chunk_handle}
@@ -66,6 +66,10 @@ turned_part Backwards part = flipped_part part
 abbrev pub turned : Direction → Change → Change
 turned Forwards change = change
 turned Backwards change = flipped change
+
+-- the changes that are made by taking changes off a stack, on which the last one lies uppermost, and carrying each out in a direction
+abbrev pub turned_all : Direction → List Change → List Change
+turned_all direction changes = map (turned direction) (reverse changes)
 
 -- the document after a change is carried out in a direction
 abbrev pub after : Direction → Change → Document → Document

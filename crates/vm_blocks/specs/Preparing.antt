@@ -110,3 +110,22 @@ AllListed (c ∷ cs) d = Listed c d × AllListed cs (made c d)
 -- What is known by handles alone stays known in a document that drifts from the first, over any store.
 abbrev pub ListedLaw : Type 0
 ListedLaw = (honest : Bool) (cs : List Change) (old new : Document) → Drifts honest old new → AllListed cs old → AllListed cs new
+
+-- the body of each takes it, one after another
+abbrev pub AllTake : List Change → Document → Type 0
+AllTake [] d = Unit {0}
+AllTake (c ∷ cs) d = BodyTakes c d × AllTake cs (made c d)
+
+-- Changes were made one after another: nothing was committed, and the document is the one that they make of the one before, as far as
+-- the store gives back what it has.
+pub record MakesAll {S : Type 0} (facts : S → StoreFacts) (changes : List Change) (old new : CacheState S) : Type 0 where
+  pub passes : Passes facts old.disk new.disk
+  pub document : Drifts (facts old.disk.store).honest (made_all changes old.document) new.document
+  pub frames : new.frames ≡ old.frames
+  pub locks : KeepsLocks old.resident new.resident
+
+-- Why they aren't made: what bringing a block into memory, or blocks into the file, may be refused for; or a body doesn't take one, as it
+-- didn't before, if the store gives back what it has.
+abbrev pub AreUnready : {S : Type 0} → (S → StoreFacts) → List Change → CacheState S → CacheState S → Fault → Type 0
+AreUnready facts changes old new fault =
+    Lacks facts old.disk.store new.disk.store fault ⊎ ((fault ≡ Damaged) × (IsSteady facts old.disk.store → AllTake changes old.document → ⊥))

@@ -9,19 +9,19 @@ ghost use Rattle.geos_model.specs.Document.{IsValid, block_at, is_heap, is_raw, 
 ghost use Rattle.geos_model.specs.ElementArray.{all_distinct};
 ghost use Rattle.geos_model.specs.Reply.{found};
 ghost use Rattle.vm_file.specs.Calls.{IsCommitRefusal, last_sequence};
-ghost use Rattle.vm_file.specs.Disk.{IsListed, IsSettled};
+ghost use Rattle.vm_file.specs.Disk.{IsListed, IsSettled, Passes};
 ghost use Rattle.vm_file.specs.Effects.{IsCommit, Fails, IsWorn};
 ghost use Rattle.vm_file.specs.Members.{saved_blocks};
 ghost use Rattle.block_cache.specs.Bodies.{body_of};
 ghost use Rattle.block_cache.specs.State.{is_resident, locks_of, locked_count, seen, KeepsLocks};
-ghost use Rattle.vm_blocks.specs.Changes.{made, part_made, turned, turned_part, blocks_in, AreFree};
+ghost use Rattle.vm_blocks.specs.Changes.{made, part_made, turned, turned_all, turned_part, blocks_in, AreFree};
 ghost use Rattle.vm_blocks.specs.Committing.{IsRevertFault, IsSavedAs, IsNotSavedAs};
 ghost use Rattle.vm_blocks.specs.Keeping.{Keeps, Lacks, LacksFrame, is_full, is_loaded, is_shut_out};
 ghost use Rattle.vm_blocks.specs.Locking.{GainsLock, LosesLock, CantLock, HasNoLock};
 ghost use Rattle.vm_blocks.specs.Opening.{IsOpenedFrom, IsNotOpened, IsMadeIn, IsNotMade};
 ghost use Rattle.vm_blocks.specs.Parts.{Takes};
 ghost use Rattle.vm_blocks.specs.Kinds.{IsOfOther};
-ghost use Rattle.vm_blocks.specs.Preparing.{CanLeave, Listed, AreUnlocked, BodyTakes, IsAtHand, IsOutOfReach, IsUnready, Makes, Turns};
+ghost use Rattle.vm_blocks.specs.Preparing.{CanLeave, Listed, AllListed, AreUnlocked, BodyTakes, IsAtHand, IsOutOfReach, IsUnready, AreUnready, Makes, MakesAll, Turns};
 
 use crate::part::{can_take, carry_out};
 use crate::{BlockBody, Change, Direction, Members, PartChange};
@@ -429,6 +429,46 @@ impl<S: Store> FileBlocks<S> {
         ensures shut { IsOutOfReach (turned direction change.now) self.old → (result ≡ Err Fault.CacheFull) × (self.new ≡ self.old) }
     {
         self.turn(change, direction)
+    }
+
+    /// Carries changes out in a direction one after another, the last one first: all of them or none. What is changed in memory is first written to the file.
+    /// Damaged where a body doesn't take its change; otherwise refused as `load` is. Where it is refused no block is in memory then.
+    pub fn change_all(&mut self, changes: &[Change], direction: Direction) -> Result<(), Fault>
+        requires unmarked { self.old.disk.marked ≡ None }
+        requires listed { AllListed (turned_all direction changes.now) self.old.document }
+        requires unlocked { locked_count self.old.resident ≡ 0 }
+        ensures ok { OnOk result (MakesAll S.facts (turned_all direction changes.now) self.old self.new) }
+        ensures err { OnErr result (Keeps S.facts self.old self.new) }
+        ensures refusals { IfErr result (AreUnready S.facts (turned_all direction changes.now) self.old self.new) }
+    {
+        self.cache.mark()?;
+        match self.turn_all(changes, direction) {
+            Ok(()) => {
+                self.cache.release();
+                Ok(())
+            }
+            Err(fault) => {
+                self.cache.roll_back();
+                Err(fault)
+            }
+        }
+    }
+
+    // Carries changes out in a direction one after another, the last one first, until one is refused.
+    fn turn_all(&mut self, changes: &[Change], direction: Direction) -> Result<(), Fault>
+        requires listed { AllListed (turned_all direction changes.now) self.old.document }
+        requires unlocked { locked_count self.old.resident ≡ 0 }
+        ensures ok { OnOk result (MakesAll S.facts (turned_all direction changes.now) self.old self.new) }
+        ensures passes { Passes S.facts self.old.disk self.new.disk }
+        ensures frames { self.new.frames ≡ self.old.frames }
+        ensures locks { KeepsLocks self.old.resident self.new.resident }
+        ensures refusals { IfErr result (AreUnready S.facts (turned_all direction changes.now) self.old self.new) }
+    {
+        self.validity();
+        for change in changes.iter().rev() {
+            self.turn(change, direction)?;
+        }
+        Ok(())
     }
 
     // So it does, in one word.

@@ -4,7 +4,7 @@ use Rattle.std.proofs.lemmas.Result.{err_from_is_err_and}
 use Rattle.vm_file.specs.Effects.{Fails, NoFault, IsDamage}
 use Rattle.vm_file.proofs.Effects.{Fails-after, Fails-as}
 use Rattle.block_cache.proofs.Seats.{still_absent}
-use Rattle.block_cache.proofs.Steps.{moves_live}
+use Rattle.block_cache.proofs.Steps.{moves_both, moves_live}
 use Rattle.block_cache.proofs.loading.bring.Goals as goal
 
 pub fetch-requires-clause-live : goal.fetch-requires-clause-live
@@ -17,6 +17,10 @@ pub returns-in_err-region-clause-fails : goal.returns-in_err-region-clause-fails
 returns-in_err-region-clause-fails g c =
     let p = err_from_is_err_and c.from_residual.result c.from_residual.ensures.1 in
     Fails-as g.S.Store.facts NoFault (IsDamage (g.S.Store.facts c.args.file.now.disk.store).honest) _ _ c.in_err-region.field-0.0 c.from_residual.result (p.1 ∙ ap Err p.2) (λ f none. absurd none) c.in_err-region.ensures.fails
+
+pub returns-clause-moves : goal.returns-clause-moves
+returns-clause-moves g c =
+    moves_both g.S.Store.facts c.args.file.now c.args.frames.now.entries c.make_room.new.file c.make_room.new.frames.entries c.fetch.new.file c.fetch.new.frames.entries c.make_room.ensures.moves c.fetch.ensures.moves
 
 pub returns-clause-fails : goal.returns-clause-fails
 returns-clause-fails g c =

@@ -1,6 +1,9 @@
-use Rattle.std.proofs.Common.{◌∙◌}
-use Rattle.block_cache.proofs.Steps.{moves_both}
+use Rattle.std.proofs.Common.{refl, ◌∙◌}
+use Rattle.block_cache.proofs.Steps.{moves_both, moves_none}
 use Rattle.block_cache.proofs.loading.flush.Goals as goal
+
+pub loop-block-init : goal.loop-block-init
+loop-block-init g c = (moves_none g.S.Store.facts c.args.file.now c.args.frames.now.entries c.requires.kept, refl, refl)
 
 pub loop-block-preserved : goal.loop-block-preserved
 loop-block-preserved g c =

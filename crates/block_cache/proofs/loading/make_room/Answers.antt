@@ -1,7 +1,14 @@
 use Rattle.std.proofs.Common.{◌≤◌, length, arith}
 use Rattle.block_cache.specs.Frames.{seats}
 use Rattle.block_cache.proofs.Seats.{has_victim, seats-length}
+use Rattle.block_cache.proofs.Steps.{moves_none}
 use Rattle.block_cache.proofs.loading.make_room.Goals as goal
+
+pub returns-in_err-new-clause-moves : goal.returns-in_err-new-clause-moves
+returns-in_err-new-clause-moves g c = moves_none g.S.Store.facts c.args.file.now c.args.frames.now.entries c.requires.kept
+
+pub returns-then-len-get-clause-moves : goal.returns-then-len-get-clause-moves
+returns-then-len-get-clause-moves g c = moves_none g.S.Store.facts c.args.file.now c.args.frames.now.entries c.requires.kept
 
 pub evict-requires-clause-some : goal.evict-requires-clause-some
 evict-requires-clause-some g c =

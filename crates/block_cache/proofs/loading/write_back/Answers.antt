@@ -9,12 +9,18 @@ use Rattle.block_cache.specs.Bodies.{body_of}
 use Rattle.block_cache.specs.Frames.{held, seats, with_frame, some_changed}
 use Rattle.block_cache.specs.declared.frame.Frame.{Frame}
 use Rattle.block_cache.proofs.Seats.{seats_kept, fewer_changed}
-use Rattle.block_cache.proofs.Steps.{moves_drift, kept_passes}
+use Rattle.block_cache.proofs.Steps.{moves_drift, moves_none, kept_passes}
 use Rattle.block_cache.proofs.Overlay.{written, written_kept, held-with_frame}
 use Rattle.block_cache.proofs.loading.write_back.Goals as goal
 
 pub put_of-requires : goal.put_of-requires
 put_of-requires g c = (c.requires.kept.each c.args.block.0 c.in-Some.ensures.frame c.in-Some.ensures.here).live
+
+pub returns-in_err-put_of-in-Some-clause-moves : goal.returns-in_err-put_of-in-Some-clause-moves
+returns-in_err-put_of-in-Some-clause-moves g c = moves_none g.S.Store.facts c.args.file.now c.args.frames.now.entries c.requires.kept
+
+pub returns-in-None-clause-moves : goal.returns-in-None-clause-moves
+returns-in-None-clause-moves g c = moves_none g.S.Store.facts c.args.file.now c.args.frames.now.entries c.requires.kept
 
 pub returns-in_err-put_blocks-in-Some-clause-moves : goal.returns-in_err-put_blocks-in-Some-clause-moves
 returns-in_err-put_blocks-in-Some-clause-moves g c =

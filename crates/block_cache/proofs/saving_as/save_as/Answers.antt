@@ -8,8 +8,12 @@ use Rattle.vm_file.specs.Effects.{Follows}
 use Rattle.block_cache.specs.SavingAs.{IsSavedAs}
 use Rattle.block_cache.specs.Frames.{overlay, covered, AreKept}
 use Rattle.block_cache.proofs.Commits.{kept_after}
-use Rattle.block_cache.proofs.SavedAs.{kept_for_none, copied_handles, not_flushed, not_copied, not_reverted, saved}
+use Rattle.block_cache.proofs.SavedAs.{refused_early, kept_for_none, copied_handles, not_flushed, not_copied, not_reverted, saved}
 use Rattle.block_cache.proofs.saving_as.save_as.Goals as goal
+
+-- the number can't rise
+pub returns-then-is_worn-clause-saved_as : goal.returns-then-is_worn-clause-saved_as
+returns-then-is_worn-clause-saved_as g c = refused_early g.S.Store.facts c.args.file.now c.args.frames.now.entries c.args.target c.validity.ensures.settled
 
 -- what is in memory couldn't be written
 pub returns-in-Err-clause-saved_as : goal.returns-in-Err-clause-saved_as

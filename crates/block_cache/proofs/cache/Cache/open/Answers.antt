@@ -12,6 +12,7 @@ returns-in-Ok-open-clause-opened g c =
       follows = found.store;
       rests = found.rests;
       documents = found.stands;
+      unmarked = found.unmarked;
       now = λ _. found.document;
       sequence = found.numbered;
       numbered = found.numbered_now;

@@ -1,0 +1,137 @@
+// Changes of four blocks, of which one may be in memory: all of them are made, or none.
+ghost use Rattle.std.specs.Prelude.{◌≡◌, None, true, IsTrue, IfOk};
+ghost use Rattle.geos_model.specs.Document.{is_live};
+ghost use Rattle.vm_blocks.specs.declared.change.PartChange.{PartChange};
+
+use crate::calls::put;
+use chunk_edits::copied;
+use geos_model::{ChunkHandle, Fault, VmHandle};
+use std::alloc::{AllocError, Global};
+use std::test::Fail;
+use vm_blocks::{Change, Content, Direction, FileBlocks, PartChange, saved_block};
+use vm_store::{FuseStore, MemStore};
+
+type Blocks = FileBlocks<FuseStore<MemStore>>;
+
+// How many bytes the image of a heap has that is empty, and of one with a chunk of four bytes.
+const EMPTY: usize = 3;
+const FULL: usize = 11;
+
+// A file of four empty heaps in a store of which one call fails, the one after so many.
+fn four(alloc: Global, passes: u64) -> Result<Blocks, Fault>
+    ensures { IfOk result (λ blocks. blocks.disk.marked ≡ None) }
+{
+    let store = FuseStore::new(MemStore::new(alloc), passes, false);
+    let mut blocks = FileBlocks::create(alloc, store, 1).map_err(|it| it.fault)?;
+    for _ in 0..4 {
+        put(alloc, &mut blocks)?;
+    }
+    blocks.save()?;
+    match FileBlocks::open(alloc, blocks.close(), 1) {
+        Ok(blocks) => Ok(blocks),
+        Err(refused) => Err(refused.fault),
+    }
+}
+
+// A chunk comes into a heap.
+fn chunk_in(alloc: Global, handle: VmHandle) -> Result<Change, AllocError>
+    ensures { IfOk result (λ change. (part : PartChange) × (change ≡ Change.Part handle part)) }
+{
+    let bytes = Content::Bytes(copied(alloc, b"four")?);
+    Ok(Change::Part(handle, PartChange::ChunkIn(ChunkHandle(16), bytes)))
+}
+
+// Whether the four blocks are there.
+fn are_live(blocks: &Blocks) -> bool
+    ensures first { IsTrue result → is_live blocks.now.document 1 ≡ true }
+    ensures second { IsTrue result → is_live blocks.now.document 2 ≡ true }
+    ensures third { IsTrue result → is_live blocks.now.document 3 ≡ true }
+    ensures fourth { IsTrue result → is_live blocks.now.document 4 ≡ true }
+{
+    blocks.is_live(VmHandle(1))
+        && blocks.is_live(VmHandle(2))
+        && blocks.is_live(VmHandle(3))
+        && blocks.is_live(VmHandle(4))
+}
+
+// A chunk comes into each heap, or goes from each.
+fn turn(alloc: Global, blocks: &mut Blocks, direction: Direction) -> Result<(), Fault>
+    requires { blocks.old.disk.marked ≡ None }
+    ensures { blocks.new.disk.marked ≡ None }
+{
+    let changes = [
+        chunk_in(alloc, VmHandle(1))?,
+        chunk_in(alloc, VmHandle(2))?,
+        chunk_in(alloc, VmHandle(3))?,
+        chunk_in(alloc, VmHandle(4))?,
+    ];
+    if blocks.has_locks() || !are_live(blocks) {
+        return Err(Fault::Range);
+    }
+    blocks.change_all(&changes, direction)
+}
+
+// How many bytes the image of a heap has.
+fn size(alloc: Global, blocks: &mut Blocks, handle: u16) -> Result<usize, Fault>
+    requires { blocks.old.disk.marked ≡ None }
+    ensures { blocks.new.disk.marked ≡ None }
+{
+    let handle = VmHandle(handle);
+    blocks.load(handle)?;
+    Ok(saved_block(alloc, 7, blocks.body(handle))?.byte_count())
+}
+
+// Whether so many bytes have the images of all four.
+fn are_of(alloc: Global, blocks: &mut Blocks, bytes: usize) -> Result<bool, Fault>
+    requires { blocks.old.disk.marked ≡ None }
+    ensures { blocks.new.disk.marked ≡ None }
+{
+    let first = size(alloc, blocks, 1)?;
+    let second = size(alloc, blocks, 2)?;
+    let third = size(alloc, blocks, 3)?;
+    let fourth = size(alloc, blocks, 4)?;
+    Ok(first == bytes && second == bytes && third == bytes && fourth == bytes)
+}
+
+#[test]
+fn changes_of_four_blocks_take_one_frame(rt: HostRuntime) -> Result<(), Fail> {
+    let alloc = rt.alloc();
+    let mut blocks = four(alloc, u64::MAX)?;
+    turn(alloc, &mut blocks, Direction::Forwards)?;
+    assert!(rt; are_of(alloc, &mut blocks, FULL)?);
+    turn(alloc, &mut blocks, Direction::Backwards)?;
+    assert!(rt; are_of(alloc, &mut blocks, EMPTY)?);
+    Ok(())
+}
+
+// How many calls of the store are made before the chunks come in, and until they have.
+fn calls_before(alloc: Global) -> Result<u64, Fault> {
+    Ok(four(alloc, u64::MAX)?.close().calls())
+}
+
+fn calls_after(alloc: Global) -> Result<u64, Fault> {
+    let mut blocks = four(alloc, u64::MAX)?;
+    turn(alloc, &mut blocks, Direction::Forwards)?;
+    Ok(blocks.close().calls())
+}
+
+// The chunks don't come in where a call of the store fails: then nothing has changed, and they do with the next try.
+fn come_in_again(alloc: Global, passes: u64) -> Result<bool, Fault> {
+    let mut blocks = four(alloc, passes)?;
+    let refused = turn(alloc, &mut blocks, Direction::Forwards) == Err(Fault::File);
+    let still = are_of(alloc, &mut blocks, EMPTY)?;
+    turn(alloc, &mut blocks, Direction::Forwards)?;
+    Ok(refused && still && are_of(alloc, &mut blocks, FULL)?)
+}
+
+#[test]
+fn a_call_that_fails_leaves_no_change(rt: HostRuntime) -> Result<(), Fail> {
+    let alloc = rt.alloc();
+    let before = calls_before(alloc)?;
+    let after = calls_after(alloc)?;
+    assert!(rt; before + 4 < after);
+    for passes in before..after {
+        assert!(rt; come_in_again(alloc, passes)?);
+    }
+    Ok(())
+}
