@@ -1,8 +1,8 @@
 -- What comes of bringing into memory what an edit looks into.
 use Rattle.std.proofs.Common.{◌≡◌, ◌⊎◌, ◌∷◌, ℕ, Bool, true, false, Result, Err, IsOk, IfOk, IfErr, Some, refl, sym, ap, subst, ◌∙◌}
 use Rattle.geos_model.specs.Document.{Document, is_heap, is_live, is_raw}
-use Rattle.geos_model.specs.Machine.{Needs, NoBody, OneBody, edit_needs}
-use Rattle.geos_model.specs.Meaning.{conditions, on_block, on_heap, on_raw}
+use Rattle.geos_model.specs.Machine.{Needs, OneBody, edit_needs}
+use Rattle.geos_model.specs.Meaning.{conditions}
 use Rattle.geos_model.specs.Refusal.{first_refusal}
 use Rattle.geos_model.specs.declared.command.Edit.{Edit}
 use Rattle.geos_model.specs.declared.fault.Fault.{Fault}

@@ -2,17 +2,19 @@
 use Rattle.std.proofs.Common.{◌≡◌, ◌⊎◌, ℕ, List, [], ◌++◌, ◌∷◌, not, false, true, Bool, Option, Some, None, is_none, unwrap_or, MatchOption, Result, Ok, Err, MatchResult, refl, sym, ap, subst, ◌∙◌, inl, inr}
 use Rattle.std.proofs.lemmas.Result.{MatchResult-weaker}
 use Rattle.std.specs.Option.{option_map, option_map_or}
+use Rattle.std.specs.Prelude.{IfErr, IsOk}
 use Rattle.std.specs.Result.{IsErrAnd}
 use Rattle.std.specs.FinMap.{contains_key}
 use Rattle.geos_model.specs.Refusal.{Conditions, first_refusal}
 use Rattle.geos_model.specs.Document.{Document, chunks_of, is_heap}
+use Rattle.geos_model.specs.Machine.{Needs, OneBody, look_up_needs}
 use Rattle.geos_model.specs.Meaning.{on_chunk, chunk_at}
 use Rattle.geos_model.specs.NameEdits.{names_in, token_of_text, find_conditions}
 use Rattle.geos_model.specs.Reply.{Reply, Refused, BytesAre, TokenIs, reply_by, look_up_conditions, look_up}
 use Rattle.geos_model.proofs.Refusals.{none_applies, or_none}
 use Rattle.geos_model.proofs.InFront.{passed}
 use Rattle.geos_model.specs.declared.fault.Fault.{Fault}
-use Rattle.geos_model.specs.declared.fault.Fault.TheVariants.{CacheFull, NoChunk, NoName}
+use Rattle.geos_model.specs.declared.fault.Fault.TheVariants.{CacheFull, Memory, NoChunk, NoName}
 use Rattle.geos_model.specs.declared.command.Command.{Command}
 use Rattle.geos_model.specs.declared.command.Command.TheVariants as commands
 use Rattle.geos_model.specs.declared.handle.ChunkHandle.{ChunkHandle}
@@ -21,12 +23,14 @@ use Rattle.geos_model.specs.declared.handle.VmHandle.{VmHandle}
 use Rattle.element_arrays.specs.Answering.{IsAnswered, IsRefused}
 use Rattle.block_cache.specs.State.{CacheState}
 use Rattle.vm_chains.specs.Answers.{Answers}
-use Rattle.vm_blocks.specs.Keeping.{LacksFrame, is_shut_out}
+use Rattle.vm_store.specs.Facts.{StoreFacts}
+use Rattle.vm_blocks.specs.Keeping.{Keeps, Lacks, LacksFrame, is_loaded, is_shut_out}
 use Rattle.vm_blocks.specs.Kinds.{IsOfOther}
 use Rattle.doc_edits.specs.Found.{AreLate, IsChunkAt}
-use Rattle.doc_edits.specs.LookUps.{answer_of, chunk_asked, LooksUp, RefusesChunk}
+use Rattle.doc_edits.specs.LookUps.{answer_of, chunk_asked, makes_list, FindsAtHand, LooksUp, LooksUpAtHand, RefusesChunk, Sees}
+use Rattle.doc_edits.specs.Room.{has_no_room, ReadsNothing}
 use Rattle.doc_edits.proofs.Refusals.{past_chunk}
-use Rattle.doc_edits.proofs.Rooms.{LooksFor, looks_for_heap, refused_for}
+use Rattle.doc_edits.proofs.Rooms.{LooksFor, looks_for_heap, refused_for, rests, room_at}
 
 module _ (lacks : Fault → Type 0) (no_room : Bool) where
   -- a look-up that is refused
@@ -187,3 +191,112 @@ module _ (lacks : Fault → Type 0) (no_room : Bool) (d : Document) (b : VmHandl
             let there = found_at x was in
             subst (λ (name : List ℕ). LooksUp lacks no_room (commands.NameFind b c name) d (Refused fault)) same
             (refused_with_room lacks no_room there.0 (commands.NameFind b c slice) d fault (past d b c (now x) (λ y. find_conditions y slice) there.1 ∙ refused))
+
+-- a chunk that isn't found refuses each look-up into it first of all
+pub first_of_chunk : {X : Type 0} (P : X → Type 0) (d : Document) (b : VmHandle) (c : ChunkHandle) (r : Result X Fault)
+    → MatchResult r P (λ fault. (rest : Conditions) → AreLate rest → first_refusal (on_chunk d b.0 c.0 ++ rest) ≡ Some fault)
+    → (command : Command) → chunk_asked command ≡ Some (b, c) → IfErr r (λ fault. first_refusal (look_up_conditions command d) ≡ Some fault)
+first_of_chunk P d b c (Ok x) found command asked = tt
+first_of_chunk P d b c (Err fault) refuses command asked =
+    let first = subst (λ (o : Option (VmHandle × ChunkHandle)). MatchOption o (Unit {0}) (FirstOfLookUp command d)) asked (look_up_cases command d) in
+    ap first_refusal first.2 ∙ refuses first.0 first.1
+
+-- What the bytes of a chunk answer by themselves.
+module _ (lacks : Fault → Type 0) (no_room : Bool) (room : no_room ≡ false) (d : Document) (b : VmHandle) (c : ChunkHandle) (bytes : List ℕ) (there : IsChunkAt d b.0 c.0 bytes) (command : Command) where
+  pub own_answered : {V T : Type 0} (own : List ℕ → Conditions) (value : List ℕ → V) (g : V → Reply) (s : Result T Fault) (v : T → V)
+      → look_up_conditions command d ≡ on_chunk d b.0 c.0 ++ own (chunk_at d b.0 c.0) → look_up command d ≡ Some (g (value (chunk_at d b.0 c.0)))
+      → MatchResult s (λ x. IsAnswered (own bytes) (value bytes) (v x)) (IsRefused (own bytes)) → LooksUp lacks no_room command d (reply_by (λ x. g (v x)) s)
+  own_answered own value g (Ok x) v conditions does answered =
+      answered_with_room lacks no_room room command d (g (v x)) (ap first_refusal conditions ∙ past d b c bytes own there ∙ answered.accepted)
+      (does ∙ ap (λ y. Some (g (value y))) (sym there.value) ∙ ap (λ y. Some (g y)) (sym answered.same))
+  own_answered own value g (Err fault) v conditions does refused = refused_with_room lacks no_room room command d fault (ap first_refusal conditions ∙ past d b c bytes own there ∙ refused)
+
+-- Where nothing has to be read.
+module _ {S : Type 0} (facts : S → StoreFacts) (a e : CacheState S) (keeps : Keeps facts a e) (command : Command) where
+  abbrev Rests : Type 0
+  Rests = (e.disk ≡ a.disk) × (e.document ≡ a.document)
+
+  -- what is refused first is answered
+  pub refusal_seen : {T : Type 0} (f : T → Reply) (r : Result T Fault) (fault : Fault) → IsErrAnd r (λ x. x ≡ fault)
+      → LooksUp (Lacks facts a.disk.store e.disk.store) (has_no_room a (look_up_needs command)) command e.document (Refused fault)
+      → (ReadsNothing a (look_up_needs command) (look_up_conditions command a.document) → (e.disk ≡ a.disk) × (e.document ≡ a.document) × (first_refusal (look_up_conditions command a.document) ≡ Some fault))
+      → Sees facts a e command (reply_by f r)
+  refusal_seen f r fault is value rests = record {
+    keeps = keeps;
+    value = refused_as (Lacks facts a.disk.store e.disk.store) (has_no_room a (look_up_needs command)) command e.document f r fault is value;
+    already = λ nothing.
+        let rest = rests nothing in
+        (rest.0, rest.1, refused_as (λ x. (x ≡ Memory) × (makes_list command ≡ true)) false command a.document f r fault is (refused_with_room (λ x. (x ≡ Memory) × (makes_list command ≡ true)) false refl command a.document fault rest.2));
+  }
+
+  -- and so is what is there, whatever may be lacking
+  pub answer_seen : (reply : Reply) → has_no_room a (look_up_needs command) ≡ false
+      → ((lacks : Fault → Type 0) (no_room : Bool) → no_room ≡ false → LooksUp lacks no_room command e.document reply)
+      → (ReadsNothing a (look_up_needs command) (look_up_conditions command a.document) → Rests)
+      → Sees facts a e command reply
+  answer_seen reply room answers rests = record {
+    keeps = keeps;
+    value = answers (Lacks facts a.disk.store e.disk.store) (has_no_room a (look_up_needs command)) room;
+    already = λ nothing.
+        let rest = rests nothing in
+        (rest.0, rest.1, subst (λ (d : Document). LooksUpAtHand command d reply) rest.1 (answers (λ x. (x ≡ Memory) × (makes_list command ≡ true)) false refl));
+  }
+
+-- Of a look-up into a block, with what came of bringing that into memory.
+module _ {S : Type 0} (facts : S → StoreFacts) (is_kind : Document → ℕ → Bool) (a e : CacheState S) (h : ℕ) (result : Result (Unit {0}) Fault) (keeps : Keeps facts a e)
+    (early : (fault : Fault) → IsOfOther is_kind a.document h fault → (result ≡ Err fault) × (e ≡ a)) (shut : is_kind a.document h ≡ true → is_shut_out a h ≡ true → (result ≡ Err CacheFull) × (e ≡ a))
+    (here : is_loaded a h ≡ true → is_kind a.document h ≡ true → IsOk result × (e.disk ≡ a.disk) × (e.document ≡ a.document))
+    (command : Command) (looks : LooksFor is_kind h (look_up_conditions command)) (needs : look_up_needs command ≡ OneBody h) where
+  pub load_rests : ReadsNothing a (look_up_needs command) (look_up_conditions command a.document) → (e.disk ≡ a.disk) × (e.document ≡ a.document) × IfErr result (λ fault. first_refusal (look_up_conditions command a.document) ≡ Some fault)
+  load_rests nothing = rests is_kind a e h result early shut (look_up_conditions command) looks here (subst (λ (n : Needs). ReadsNothing a n (look_up_conditions command a.document)) needs nothing)
+
+  pub load_missed : {T : Type 0} (f : T → Reply) (r : Result T Fault) (fault : Fault) → result ≡ Err fault → IsErrAnd r (λ x. x ≡ fault)
+      → Lacks facts a.disk.store e.disk.store fault ⊎ (IsOfOther is_kind e.document h fault ⊎ LacksFrame a h fault) → Sees facts a e command (reply_by f r)
+  load_missed f r fault was is why =
+      refusal_seen facts a e keeps command f r fault is
+      (subst (λ (n : Needs). LooksUp (Lacks facts a.disk.store e.disk.store) (has_no_room a n) command e.document (Refused fault)) (sym needs) (load_refuses is_kind a e h (Lacks facts a.disk.store e.disk.store) result early shut fault was why command looks))
+      (λ nothing. let rest = load_rests nothing in (rest.0, rest.1, subst (λ (x : Result (Unit {0}) Fault). IfErr x (λ y. first_refusal (look_up_conditions command a.document) ≡ Some y)) was rest.2))
+
+  pub load_room : (u : Unit {0}) → result ≡ Ok u → has_no_room a (look_up_needs command) ≡ false
+  load_room u was = ap (has_no_room a) needs ∙ room_at is_kind a e h result early shut (look_up_conditions command) looks u was
+
+  pub load_seen : (u : Unit {0}) → result ≡ Ok u → (reply : Reply) → ((lacks : Fault → Type 0) (no_room : Bool) → no_room ≡ false → LooksUp lacks no_room command e.document reply) → Sees facts a e command reply
+  load_seen u was reply answers = answer_seen facts a e keeps command reply (load_room u was) answers (λ nothing. let rest = load_rests nothing in (rest.0, rest.1))
+
+-- Of a look-up into a chunk, with what was found of that.
+module _ {S X : Type 0} (facts : S → StoreFacts) (a e : CacheState S) (b : VmHandle) (c : ChunkHandle) (now : X → List ℕ) (r : Result X Fault) (keeps : Keeps facts a e)
+    (found : MatchResult r (λ x. (is_shut_out a b.0 ≡ false) × IsChunkAt e.document b.0 c.0 (now x)) (RefusesChunk (Lacks facts a.disk.store e.disk.store) (is_shut_out a b.0) e.document b c))
+    (at_hand : FindsAtHand a e b c r) (command : Command) (needs : look_up_needs command ≡ OneBody b.0) (asked : chunk_asked command ≡ Some (b, c)) where
+  near : ReadsNothing a (look_up_needs command) (look_up_conditions command a.document) → (e.disk ≡ a.disk) × (e.document ≡ a.document) × IfErr r (λ fault. first_refusal (look_up_conditions command a.document) ≡ Some fault)
+  near nothing = at_hand command asked (subst (λ (n : Needs). ReadsNothing a n (look_up_conditions command a.document)) needs nothing)
+
+  pub chunk_missed : {T : Type 0} (f : T → Reply) (s : Result T Fault) (fault : Fault) → r ≡ Err fault → IsErrAnd s (λ x. x ≡ fault) → Sees facts a e command (reply_by f s)
+  chunk_missed f s fault was is =
+      let refuses : RefusesChunk (Lacks facts a.disk.store e.disk.store) (is_shut_out a b.0) e.document b c fault =
+      subst (λ (x : Result X Fault). MatchResult x (λ y. (is_shut_out a b.0 ≡ false) × IsChunkAt e.document b.0 c.0 (now y)) (RefusesChunk (Lacks facts a.disk.store e.disk.store) (is_shut_out a b.0) e.document b c)) was found in
+      refusal_seen facts a e keeps command f s fault is
+      (subst (λ (n : Needs). LooksUp (Lacks facts a.disk.store e.disk.store) (has_no_room a n) command e.document (Refused fault)) (sym needs) (refuses command asked))
+      (λ nothing. let rest = near nothing in (rest.0, rest.1, subst (λ (x : Result X Fault). IfErr x (λ y. first_refusal (look_up_conditions command a.document) ≡ Some y)) was rest.2))
+
+  module _ (x : X) (was : r ≡ Ok x) where
+    is_there : (is_shut_out a b.0 ≡ false) × IsChunkAt e.document b.0 c.0 (now x)
+    is_there = subst (λ (y : Result X Fault). MatchResult y (λ z. (is_shut_out a b.0 ≡ false) × IsChunkAt e.document b.0 c.0 (now z)) (RefusesChunk (Lacks facts a.disk.store e.disk.store) (is_shut_out a b.0) e.document b c)) was found
+
+    -- what its bytes answer is answered
+    pub chunk_seen : (reply : Reply) → ((lacks : Fault → Type 0) (no_room : Bool) → no_room ≡ false → IsChunkAt e.document b.0 c.0 (now x) → LooksUp lacks no_room command e.document reply) → Sees facts a e command reply
+    chunk_seen reply answers =
+        answer_seen facts a e keeps command reply (ap (has_no_room a) needs ∙ is_there.0) (λ lacks no_room room. answers lacks no_room room is_there.1) (λ nothing. let rest = near nothing in (rest.0, rest.1))
+
+    pub own_seen : {V T : Type 0} (own : List ℕ → Conditions) (value : List ℕ → V) (g : V → Reply) (s : Result T Fault) (v : T → V)
+        → look_up_conditions command e.document ≡ on_chunk e.document b.0 c.0 ++ own (chunk_at e.document b.0 c.0) → look_up command e.document ≡ Some (g (value (chunk_at e.document b.0 c.0)))
+        → MatchResult s (λ y. IsAnswered (own (now x)) (value (now x)) (v y)) (IsRefused (own (now x))) → Sees facts a e command (reply_by (λ y. g (v y)) s)
+    own_seen own value g s v conditions does answered =
+        chunk_seen (reply_by (λ y. g (v y)) s) (λ lacks no_room room there. own_answered lacks no_room room e.document b c (now x) there command own value g s v conditions does answered)
+
+-- the bytes of a chunk are answered as they are
+pub read_seen : {S X : Type 0} (facts : S → StoreFacts) (a e : CacheState S) (b : VmHandle) (c : ChunkHandle) (now : X → List ℕ) (r : Result X Fault) → Keeps facts a e
+    → MatchResult r (λ x. (is_shut_out a b.0 ≡ false) × IsChunkAt e.document b.0 c.0 (now x)) (RefusesChunk (Lacks facts a.disk.store e.disk.store) (is_shut_out a b.0) e.document b c)
+    → FindsAtHand a e b c r → Sees facts a e (commands.Read b c) (reply_by (λ x. BytesAre (now x)) r)
+read_seen facts a e b c now (Err fault) keeps found at_hand = chunk_missed facts a e b c now (Err fault) keeps found at_hand (commands.Read b c) refl refl (λ x. BytesAre (now x)) (Err fault) fault refl refl
+read_seen facts a e b c now (Ok x) keeps found at_hand = chunk_seen facts a e b c now (Ok x) keeps found at_hand (commands.Read b c) refl refl x refl (BytesAre (now x))
+    (λ lacks no_room room there. bytes_answered lacks no_room e.document b c now (Ok x) (room, there))

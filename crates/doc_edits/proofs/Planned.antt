@@ -1,5 +1,5 @@
 -- What is known of a plan over any store.
-use Rattle.std.proofs.Common.{◌≡◌, ◌⊎◌, Option, Some, None, true, Result, Ok, Err, IfOk, IfErr, MatchOption, MatchResult, refl, sym, ap, subst, ◌∙◌, inl, inr}
+use Rattle.std.proofs.Common.{◌≡◌, true, Result, Ok, Err, IfOk, IfErr, MatchResult, sym, ap, subst}
 use Rattle.std.specs.Option.{option_map_or}
 use Rattle.geos_model.specs.Document.{Document}
 use Rattle.geos_model.specs.Machine.{kind_of}

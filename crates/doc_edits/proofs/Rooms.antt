@@ -1,5 +1,5 @@
 -- What is answered where there may be no room in memory for the block into which a command looks.
-use Rattle.std.proofs.Common.{◌≡◌, ◌⊎◌, ◌++◌, ◌∷◌, ℕ, Bool, true, false, Result, Ok, Err, IsOk, IfOk, IfErr, OnOk, Some, None, is_none, [], refl, sym, ap, subst, ◌∙◌, inl, inr}
+use Rattle.std.proofs.Common.{◌≡◌, ◌⊎◌, ◌++◌, ◌∷◌, ℕ, Bool, true, false, Result, Ok, Err, IsOk, IfOk, IfErr, Some, is_none, [], refl, sym, ap, subst, ◌∙◌, inl, inr}
 use Rattle.std.proofs.lemmas.Bool.{cases_Bool, true≢false}
 use Rattle.vm_store.specs.Facts.{StoreFacts}
 use Rattle.geos_model.specs.Document.{Document, is_heap, is_live, is_raw}

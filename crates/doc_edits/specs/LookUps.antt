@@ -1,13 +1,13 @@
 -- What a look-up may answer of a document, and what it leaves of it.
-use Rattle.std.specs.Prelude.{◌≡◌, ◌⊎◌, ⊤, Bool, false, ◌∷◌, Option, None, Some}
+use Rattle.std.specs.Prelude.{◌≡◌, ◌⊎◌, ⊤, Bool, true, false, ◌∷◌, Option, None, Some, Result, IfErr}
 use Rattle.std.specs.Option.{option_map_or}
 use Rattle.std.specs.Borrow.{follows_so, Fml, RattleType, MutBor}
 use Rattle.geos_model.specs.Refusal.{first_refusal}
 use Rattle.geos_model.specs.Document.{Document}
-use Rattle.geos_model.specs.Machine.{look_up_needs}
+use Rattle.geos_model.specs.Machine.{OneBody, look_up_needs}
 use Rattle.geos_model.specs.Reply.{Reply, Refused, look_up_conditions, look_up}
 use Rattle.geos_model.specs.declared.fault.Fault.{Fault}
-use Rattle.geos_model.specs.declared.fault.Fault.TheVariants.{CacheFull}
+use Rattle.geos_model.specs.declared.fault.Fault.TheVariants.{CacheFull, Memory}
 use Rattle.geos_model.specs.declared.command.Command.{Command}
 use Rattle.geos_model.specs.declared.command.Command.TheVariants as commands
 use Rattle.geos_model.specs.declared.handle.ChunkHandle.{ChunkHandle}
@@ -15,7 +15,7 @@ use Rattle.geos_model.specs.declared.handle.VmHandle.{VmHandle}
 use Rattle.vm_store.specs.Facts.{StoreFacts}
 use Rattle.block_cache.specs.State.{CacheState}
 use Rattle.vm_blocks.specs.Keeping.{Keeps, Lacks}
-use Rattle.doc_edits.specs.Room.{has_no_room}
+use Rattle.doc_edits.specs.Room.{has_no_room, ReadsNothing}
 use mathlib.Core.Option.{none}
 
 -- the first refusal of a look-up, for which there may be no room, or what it answers where nothing refuses it
@@ -46,10 +46,26 @@ chunk_asked command = None
 abbrev pub RefusesChunk : (Fault → Type 0) → Bool → Document → VmHandle → ChunkHandle → Fault → Type 0
 RefusesChunk lacks no_room d b c fault = (command : Command) → chunk_asked command ≡ Some (b, c) → LooksUp lacks no_room command d (Refused fault)
 
+-- whether a look-up into one block makes a list, for which memory may be wanting though the block is there
+abbrev pub makes_list : Command → Bool
+makes_list (commands.Chunks b) = true
+makes_list command = false
+
+-- it answers by its rules alone, but for want of memory for a list
+abbrev pub LooksUpAtHand : Command → Document → Reply → Type 0
+LooksUpAtHand command d reply = LooksUp (λ fault. (fault ≡ Memory) × (makes_list command ≡ true)) false command d reply
+
 -- What a look-up into one block comes to: the file is kept, and the document as it is held from then on is looked up, as far as there was
--- room for the block.
-abbrev pub Sees : {S : Type 0} → (S → StoreFacts) → CacheState S → CacheState S → Command → Reply → Type 0
-Sees facts old new command reply = Keeps facts old new × LooksUp (Lacks facts old.disk.store new.disk.store) (has_no_room old (look_up_needs command)) command new.document reply
+-- room for the block. Where no body has to be read no store is called, and the answer is that of the document before.
+pub record Sees {S : Type 0} (facts : S → StoreFacts) (old new : CacheState S) (command : Command) (reply : Reply) : Type 0 where
+  pub keeps : Keeps facts old new
+  pub value : LooksUp (Lacks facts old.disk.store new.disk.store) (has_no_room old (look_up_needs command)) command new.document reply
+  pub already : ReadsNothing old (look_up_needs command) (look_up_conditions command old.document) → (new.disk ≡ old.disk) × (new.document ≡ old.document) × LooksUpAtHand command old.document reply
+
+-- A chunk is looked for without the store where no body has to be read for a look-up into it, which is then refused by the rules alone.
+abbrev pub FindsAtHand : {S T : Type 0} → CacheState S → CacheState S → VmHandle → ChunkHandle → Result T Fault → Type 0
+FindsAtHand old new b c result = (command : Command) → chunk_asked command ≡ Some (b, c) → ReadsNothing old (OneBody b.0) (look_up_conditions command old.document)
+    → (new.disk ≡ old.disk) × (new.document ≡ old.document) × IfErr result (λ fault. first_refusal (look_up_conditions command old.document) ≡ Some fault)
 
 -- What is behind a `&mut` is again what the call left there, once what was lent of it is given back, and this holds of that.
 abbrev pub Leaves : (R : RattleType) → MutBor R.Denot → (R.Denot → Type 0) → Fml

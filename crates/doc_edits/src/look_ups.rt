@@ -2,7 +2,8 @@
 //! is that of the document as it is held from then on. Of a chain each block is, one after another. Each call answers its first
 //! refusal: NoBlock or WrongKind, which are known without the block; then CacheFull where it can't be brought into memory, since
 //! each frame has a locked block and it is none of them, and of a chain wherever each frame has one; then what its body refuses.
-//! Memory, File or Damaged may come in place of what follows CacheFull.
+//! Memory, File or Damaged may come in place of what follows CacheFull; not where the block is in memory: then no store is called, and
+//! memory is taken for a list alone.
 ghost use Rattle.std.specs.Prelude.{◌≡◌, [], true, false, IfErr, MatchResult, Some, get_or, length};
 ghost use Rattle.std.specs.Borrow.{sem};
 ghost use Rattle.geos_model.specs.ArrayEdits.{array_in, on_array, on_element};
@@ -12,7 +13,7 @@ ghost use Rattle.vm_blocks.specs.contracts.file_blocks.FileBlocks.{the_row};
 ghost use Rattle.vm_blocks.specs.Keeping.{Keeps, IsSteady, Lacks, is_full, is_shut_out};
 ghost use Rattle.element_arrays.specs.Answering.{IsAnswered, IsRefused};
 ghost use Rattle.doc_edits.specs.Found.{IsChunkAt};
-ghost use Rattle.doc_edits.specs.LookUps.{Leaves, LooksUp, RefusesChunk, Sees, answer_of};
+ghost use Rattle.doc_edits.specs.LookUps.{FindsAtHand, Leaves, LooksUp, RefusesChunk, Sees, answer_of};
 ghost use Rattle.doc_edits.specs.Room.{IsChainRefusal};
 
 use crate::found::{bytes_in, heap_at, raw_at};
@@ -24,8 +25,7 @@ use vm_store::Store;
 
 /// A block's user ID and size.
 pub fn info<S: Store>(blocks: &mut FileBlocks<S>, block: VmHandle) -> Result<Info, Fault>
-    ensures keeps { Keeps S.facts blocks.old blocks.new }
-    ensures value { LooksUp (Lacks S.facts blocks.old.disk.store blocks.new.disk.store) (is_shut_out blocks.old block.0) (commands.Info block) blocks.new.document (reply_by info_is result) }
+    ensures { Sees S.facts blocks.old blocks.new (commands.Info block) (reply_by info_is result) }
 {
     blocks.load(block)?;
     let user_id = blocks.user_id(block);
@@ -48,8 +48,7 @@ pub fn chunks<S: Store>(
     blocks: &mut FileBlocks<S>,
     block: VmHandle,
 ) -> Result<Vec<ChunkHandle>, Fault>
-    ensures keeps { Keeps S.facts blocks.old blocks.new }
-    ensures value { LooksUp (Lacks S.facts blocks.old.disk.store blocks.new.disk.store) (is_shut_out blocks.old block.0) (commands.Chunks block) blocks.new.document (reply_by (λ handles. chunks_are handles.items) result) }
+    ensures { Sees S.facts blocks.old blocks.new (commands.Chunks block) (reply_by (λ handles. chunks_are handles.items) result) }
 {
     blocks.load_heap(block)?;
     Ok(heap_at(blocks, block).handles()?)
@@ -63,7 +62,8 @@ fn chunk_at<S: Store>(
 ) -> Result<&[u8], Fault>
     ensures* leaves { sem 𝓛 (Leaves (the_row S.row S.Store) blocks.entry (λ loaded. Keeps S.facts blocks.old loaded
         × MatchResult result (λ bytes. (is_shut_out blocks.old block.0 ≡ false) × IsChunkAt loaded.document block.0 chunk.0 bytes.now)
-        (RefusesChunk (Lacks S.facts blocks.old.disk.store loaded.disk.store) (is_shut_out blocks.old block.0) loaded.document block chunk))) }
+        (RefusesChunk (Lacks S.facts blocks.old.disk.store loaded.disk.store) (is_shut_out blocks.old block.0) loaded.document block chunk)
+        × FindsAtHand blocks.old loaded block chunk result)) }
 {
     blocks.load_heap(block)?;
     bytes_in(heap_at(blocks, block), chunk)
@@ -86,8 +86,7 @@ pub fn array_count<S: Store>(
     block: VmHandle,
     chunk: ChunkHandle,
 ) -> Result<usize, Fault>
-    ensures keeps { Keeps S.facts blocks.old blocks.new }
-    ensures value { LooksUp (Lacks S.facts blocks.old.disk.store blocks.new.disk.store) (is_shut_out blocks.old block.0) (commands.ArrayCount block chunk) blocks.new.document (reply_by NumberIs result) }
+    ensures { Sees S.facts blocks.old blocks.new (commands.ArrayCount block chunk) (reply_by NumberIs result) }
 {
     let bytes = chunk_at(blocks, block, chunk)?;
     count_in(bytes)
@@ -133,8 +132,7 @@ pub fn element_refs<S: Store>(
     chunk: ChunkHandle,
     token: Token,
 ) -> Result<u32, Fault>
-    ensures keeps { Keeps S.facts blocks.old blocks.new }
-    ensures value { LooksUp (Lacks S.facts blocks.old.disk.store blocks.new.disk.store) (is_shut_out blocks.old block.0) (commands.ElementReferences block chunk token) blocks.new.document (reply_by NumberIs result) }
+    ensures { Sees S.facts blocks.old blocks.new (commands.ElementReferences block chunk token) (reply_by NumberIs result) }
 {
     let bytes = chunk_at(blocks, block, chunk)?;
     element_arrays::count_of(bytes, token)
@@ -159,8 +157,7 @@ pub fn elements_used<S: Store>(
     block: VmHandle,
     chunk: ChunkHandle,
 ) -> Result<usize, Fault>
-    ensures keeps { Keeps S.facts blocks.old blocks.new }
-    ensures value { LooksUp (Lacks S.facts blocks.old.disk.store blocks.new.disk.store) (is_shut_out blocks.old block.0) (commands.ElementsUsed block chunk) blocks.new.document (reply_by NumberIs result) }
+    ensures { Sees S.facts blocks.old blocks.new (commands.ElementsUsed block chunk) (reply_by NumberIs result) }
 {
     let bytes = chunk_at(blocks, block, chunk)?;
     element_arrays::used_count(bytes)
@@ -173,8 +170,7 @@ pub fn token_of_used<S: Store>(
     chunk: ChunkHandle,
     k: u32,
 ) -> Result<Token, Fault>
-    ensures keeps { Keeps S.facts blocks.old blocks.new }
-    ensures value { LooksUp (Lacks S.facts blocks.old.disk.store blocks.new.disk.store) (is_shut_out blocks.old block.0) (commands.TokenOfUsed block chunk k) blocks.new.document (reply_by (λ token. TokenIs token.0) result) }
+    ensures { Sees S.facts blocks.old blocks.new (commands.TokenOfUsed block chunk k) (reply_by (λ token. TokenIs token.0) result) }
 {
     let bytes = chunk_at(blocks, block, chunk)?;
     element_arrays::token_of_used(bytes, k)
@@ -187,8 +183,7 @@ pub fn used_of_token<S: Store>(
     chunk: ChunkHandle,
     token: Token,
 ) -> Result<usize, Fault>
-    ensures keeps { Keeps S.facts blocks.old blocks.new }
-    ensures value { LooksUp (Lacks S.facts blocks.old.disk.store blocks.new.disk.store) (is_shut_out blocks.old block.0) (commands.UsedOfToken block chunk token) blocks.new.document (reply_by NumberIs result) }
+    ensures { Sees S.facts blocks.old blocks.new (commands.UsedOfToken block chunk token) (reply_by NumberIs result) }
 {
     let bytes = chunk_at(blocks, block, chunk)?;
     element_arrays::used_of_token(bytes, token)
@@ -201,8 +196,7 @@ pub fn name_find<S: Store>(
     chunk: ChunkHandle,
     name: &Bytes,
 ) -> Result<Token, Fault>
-    ensures keeps { Keeps S.facts blocks.old blocks.new }
-    ensures value { LooksUp (Lacks S.facts blocks.old.disk.store blocks.new.disk.store) (is_shut_out blocks.old block.0) (commands.NameFind block chunk name.now) blocks.new.document (reply_by (λ token. TokenIs token.0) result) }
+    ensures { Sees S.facts blocks.old blocks.new (commands.NameFind block chunk name.now) (reply_by (λ token. TokenIs token.0) result) }
 {
     let bytes = chunk_at(blocks, block, chunk)?;
     name_arrays::find(bytes, name.as_slice())
@@ -215,8 +209,7 @@ pub fn name_refs<S: Store>(
     chunk: ChunkHandle,
     token: Token,
 ) -> Result<u32, Fault>
-    ensures keeps { Keeps S.facts blocks.old blocks.new }
-    ensures value { LooksUp (Lacks S.facts blocks.old.disk.store blocks.new.disk.store) (is_shut_out blocks.old block.0) (commands.NameReferences block chunk token) blocks.new.document (reply_by NumberIs result) }
+    ensures { Sees S.facts blocks.old blocks.new (commands.NameReferences block chunk token) (reply_by NumberIs result) }
 {
     let bytes = chunk_at(blocks, block, chunk)?;
     name_arrays::count_of(bytes, token)

@@ -271,3 +271,8 @@ module _ {S : Type 0} (edit : Edit) (old new : SessionState S) (disk : new.disk 
   pub refused_at_hand : (fault : Fault) (result : Result Done Fault) → IsErrAnd result (λ e. e ≡ fault) → new.document ≡ old.document → IsBarred edit old fault ⊎ RefusesAtHand edit old.document fault → EditsAtHand edit old new result
   refused_at_hand fault (Ok done) is document why = absurd is
   refused_at_hand fault (Err e) is document why = record { disk = disk; ok = tt; err = (document, subst (λ (f : Fault). IsBarred edit old f ⊎ RefusesAtHand edit old.document f) (sym is) why) }
+
+-- the fault that `?` hands on
+pub carried_fault : {A : Type 0} (result : Result A Fault) (P : Fault → Type 0) (fault : Fault) → IsErrAnd result (λ e. e ≡ fault) → P fault → IsErrAnd result P
+carried_fault (Ok x) P fault is holds = absurd is
+carried_fault (Err e) P fault is holds = subst P (sym is) holds

@@ -12,10 +12,10 @@ use Rattle.geos_model.specs.declared.command.Command.{Command}
 use Rattle.geos_model.specs.Document.{Document}
 use Rattle.vm_store.specs.Facts.{StoreFacts}
 use Rattle.block_cache.specs.State.{CacheState}
-use Rattle.vm_blocks.specs.Keeping.{Keeps, Lacks, IsSteady}
+use Rattle.vm_blocks.specs.Keeping.{Keeps, Lacks, IsSteady, is_full}
 use Rattle.vm_blocks.specs.declared.change.Change.{Change}
 use Rattle.vm_blocks.proofs.KeepingLaws.{honest-steady}
-use Rattle.doc_edits.specs.LookUps.{LooksUp}
+use Rattle.doc_edits.specs.LookUps.{LooksUp, Sees}
 use Rattle.doc_edits.specs.Room.{has_no_room}
 use Rattle.undo_log.specs.Records.{SessionState, blocks_of, machine_of, has_failed, IsStep, KeepsSession, Looks}
 use Rattle.undo_log.proofs.Keeping.{gives_up, kept_exact, kept_machine, kept_document}
@@ -57,8 +57,8 @@ module _ {S : Type 0} (facts : S → StoreFacts) (old new : SessionState S) (kee
             ],
       )
 
-  pub looked : (c : Command) (reply : Reply) → IsLookUp c → LooksUp (Lacks facts old.disk.store new.disk.store) (has_no_room (blocks_of old) (look_up_needs c)) c new.document reply → Looks facts old new c reply
-  looked c reply is value = record { keeps = keeps; step = look_up_step c reply is (λ _. value); value = value }
+  pub looked : (c : Command) (reply : Reply) → IsLookUp c → Sees facts (blocks_of old) (blocks_of new) c reply → Looks facts old new c reply
+  looked c reply is sees = record { keeps = keeps; step = look_up_step c reply is (λ _. sees.value); sees = sees }
 
   -- of a chain
   pub chain_step : (c : Command) (reply : Reply) → IsLookUp c → (IsSteady facts old.disk.store → LooksUp (Lacks facts old.disk.store new.disk.store) (has_no_room (blocks_of old) (look_up_needs c)) c new.document reply) → IsStep facts old new c reply
@@ -70,10 +70,20 @@ module _ {S : Type 0} (facts : S → StoreFacts) (old new : CacheState S) (undo 
   kept_session = subst (λ (x : SessionState S). KeepsSession facts x (session_with new undo redo)) is (record { blocks = keeps; undo = refl; redo = refl })
 
   module _ (distinct : all_distinct (map (λ s. s.0) old.resident) ≡ true) (c : Command) (reply : Reply) (asks : IsLookUp c) where
-    pub looked_at : LooksUp (Lacks facts old.disk.store new.disk.store) (has_no_room old (look_up_needs c)) c new.document reply → Looks facts s (session_with new undo redo) c reply
-    looked_at value =
-        subst (λ (x : SessionState S). Looks facts x (session_with new undo redo) c reply) is (looked facts (session_with old undo redo) (session_with new undo redo) (record { blocks = keeps; undo = refl; redo = refl }) distinct c reply asks value)
+    pub looked_at : Sees facts old new c reply → Looks facts s (session_with new undo redo) c reply
+    looked_at sees =
+        subst (λ (x : SessionState S). Looks facts x (session_with new undo redo) c reply) is (looked facts (session_with old undo redo) (session_with new undo redo) (record { blocks = keeps; undo = refl; redo = refl }) distinct c reply asks sees)
 
     pub chain_stepped : (IsSteady facts old.disk.store → LooksUp (Lacks facts old.disk.store new.disk.store) (has_no_room old (look_up_needs c)) c new.document reply) → IsStep facts s (session_with new undo redo) c reply
     chain_stepped value =
         subst (λ (x : SessionState S). IsStep facts x (session_with new undo redo) c reply) is (chain_step facts (session_with old undo redo) (session_with new undo redo) (record { blocks = keeps; undo = refl; redo = refl }) distinct c reply asks value)
+
+-- sessions of the same parts are the same
+pub same_session : {S : Type 0} (old new : CacheState S) (undo redo undo' redo' : List Change) → new ≡ old → undo' ≡ undo → redo' ≡ redo → session_with new undo' redo' ≡ session_with old undo redo
+same_session old new undo redo undo' redo' p q r = λ i. session_with (p i) (q i) (r i)
+
+-- A chain isn't followed where each frame has a locked block.
+pub chain_shut : {S : Type 0} (old new : CacheState S) (undo redo : List Change) (s : SessionState S) (is : session_with old undo redo ≡ s) (P : Document → Type 0)
+    → (is_full old ≡ true → (new ≡ old) × P old.document) → is_full (blocks_of s) ≡ true → (session_with new undo redo ≡ s) × P s.document
+chain_shut old new undo redo s is P shut = subst (λ x. is_full (blocks_of x) ≡ true → (session_with new undo redo ≡ x) × P x.document) is
+    (λ full. let kept = shut full in (same_session old new undo redo undo redo kept.0 refl refl, kept.1))

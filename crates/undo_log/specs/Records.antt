@@ -4,7 +4,7 @@ use Rattle.std.specs.FinMap.{FinMap, empty, insert, remove, len}
 use Rattle.std.specs.List.{sum_by}
 use Rattle.std.specs.Ordering.{nat_cmp}
 use Rattle.geos_model.specs.Document.{Document, IsValid}
-use Rattle.geos_model.specs.Machine.{Machine, UndoStep, Step, look_up_needs}
+use Rattle.geos_model.specs.Machine.{Machine, UndoStep, Step}
 use Rattle.geos_model.specs.Reply.{Reply}
 use Rattle.geos_model.specs.declared.command.Command.{Command}
 use Rattle.geos_model.specs.declared.command.Done.{Done}
@@ -13,14 +13,13 @@ use Rattle.vm_store.specs.Facts.{StoreFacts, raised}
 use Rattle.vm_file.specs.Disk.{Disk, FileState}
 use Rattle.block_cache.specs.State.{CacheState, Seat, is_locked, seen}
 use Rattle.vm_blocks.specs.Changes.{after, turned, weight, Applies}
-use Rattle.vm_blocks.specs.Keeping.{Keeps, Lacks}
+use Rattle.vm_blocks.specs.Keeping.{Keeps}
 use Rattle.vm_blocks.specs.Preparing.{AllListed}
 use Rattle.vm_blocks.specs.declared.change.Change.{Change}
 use Rattle.vm_blocks.specs.declared.change.Direction.{Direction}
 use Rattle.vm_blocks.specs.declared.change.Direction.TheVariants.{Forwards, Backwards}
-use Rattle.doc_edits.specs.LookUps.{LooksUp}
+use Rattle.doc_edits.specs.LookUps.{Sees}
 use Rattle.doc_edits.specs.Planning.{kind_of_change, change_cost}
-use Rattle.doc_edits.specs.Room.{has_no_room}
 use Rattle.undo_log.specs.Making.{IsMade}
 
 abbrev pub opposite : Direction → Direction
@@ -114,12 +113,12 @@ pub record KeepsSession {S : Type 0} (facts : S → StoreFacts) (old new : Sessi
   pub undo : new.undo ≡ old.undo
   pub redo : new.redo ≡ old.redo
 
--- What a look-up into one block comes to: the session is kept, and what is answered is looked up of the document as it is held from then
--- on, or a fault of what the call may lack.
+-- What a look-up into one block comes to: a step of the machine that keeps the session. What is answered is looked up of the document as it is
+-- held from then on, or of the one before where no body has to be read, for which no store is called.
 pub record Looks {S : Type 0} (facts : S → StoreFacts) (old new : SessionState S) (command : Command) (reply : Reply) : Type 0 where
   pub keeps : KeepsSession facts old new
   pub step : IsStep facts old new command reply
-  pub value : LooksUp (Lacks facts old.disk.store new.disk.store) (has_no_room (blocks_of old) (look_up_needs command)) command new.document reply
+  pub sees : Sees facts (blocks_of old) (blocks_of new) command reply
 
 -- The edit's change is made, and its record is the newest; nothing is left to redo.
 pub record Records {S : Type 0} (facts : S → StoreFacts) (edit : Edit) (done : Done) (old new : SessionState S) : Type 0 where

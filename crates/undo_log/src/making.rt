@@ -1,7 +1,10 @@
-ghost use Rattle.std.specs.Prelude.{◌≡◌, ◌≢◌, ◌⊎◌, false, IsTrue, IfOk, IfErr, MatchResult, OnErr};
+ghost use Rattle.std.specs.Prelude.{◌≡◌, ◌≢◌, ◌⊎◌, ◌∷◌, true, false, Some, IsTrue, IfOk, IfErr, MatchResult, OnErr};
+ghost use Rattle.std.specs.Result.{IsErrAnd};
 ghost use Rattle.geos_model.specs.Machine.{edit_needs, kind_of};
 ghost use Rattle.geos_model.specs.Meaning.{conditions, effect};
+ghost use Rattle.geos_model.specs.Refusal.{first_refusal};
 ghost use Rattle.geos_model.specs.declared.command.Kind.TheVariants.{Made, Plain};
+ghost use Rattle.geos_model.specs.declared.fault.Fault.TheVariants.{CacheFull};
 ghost use Rattle.vm_blocks.specs.Keeping.{Keeps, Lacks};
 ghost use Rattle.doc_edits.specs.Planning.{IsChainEditFault, Refuses, RefusesAtHand};
 ghost use Rattle.doc_edits.specs.Room.{has_no_room, ReadsNothing};
@@ -37,6 +40,8 @@ pub fn make<S: Store>(
     ensures refusals { IfErr result (λ fault. Refuses (Lacks S.facts blocks.old.disk.store blocks.new.disk.store) (has_no_room blocks.old (edit_needs edit.now)) edit.now blocks.new.document fault ⊎ IsChainEditFault edit.now fault) }
     ensures rules { IsTrue (S.facts blocks.old.disk.store).honest → IfErr result (Refuses (Lacks S.facts blocks.old.disk.store blocks.new.disk.store) (has_no_room blocks.old (edit_needs edit.now)) edit.now blocks.new.document) }
     ensures plain { kind_of edit.now ≡ Plain → (blocks.new.disk ≡ blocks.old.disk) × IfErr result (RefusesAtHand edit.now blocks.new.document) }
+    ensures shut { has_no_room blocks.old (edit_needs edit.now) ≡ true → (blocks.new ≡ blocks.old)
+        × IsErrAnd result (λ fault. first_refusal ((CacheFull, true) ∷ conditions edit.now blocks.old.document) ≡ Some fault) }
     ensures already { kind_of edit.now ≢ Made → ReadsNothing blocks.old (edit_needs edit.now) (conditions edit.now blocks.old.document)
         → (blocks.new.disk ≡ blocks.old.disk)
         × MatchResult result (λ p. (blocks.new.document ≡ (effect edit.now blocks.old.document).0) × (p.1 ≡ (effect edit.now blocks.old.document).1))

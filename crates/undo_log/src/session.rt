@@ -22,7 +22,7 @@ ghost use Rattle.vm_blocks.specs.Keeping.{IsSteady, Lacks, is_full, is_loaded};
 ghost use Rattle.vm_blocks.specs.Locking.{CantLock, GainsLock, HasNoLock, LosesLock};
 ghost use Rattle.vm_blocks.specs.Opening.{IsOpenedFrom, IsNotOpened, IsMadeIn, IsNotMade};
 ghost use Rattle.vm_blocks.specs.declared.change.Direction.TheVariants.{Backwards, Forwards};
-ghost use Rattle.doc_edits.specs.LookUps.{Leaves, LooksUp};
+ghost use Rattle.doc_edits.specs.LookUps.{Leaves, LooksUp, answer_of};
 ghost use Rattle.doc_edits.specs.Planning.{IsChainEditFault, Refuses};
 ghost use Rattle.doc_edits.specs.Room.{has_no_room, IsChainRefusal, ReadsNothing};
 ghost use Rattle.undo_log.specs.Editing.{EditsAtHand};
@@ -233,6 +233,8 @@ impl<S: Store> Session<S> {
             ⊎ (Refuses (Lacks S.facts self.old.disk.store self.new.disk.store) (has_no_room (blocks_of self.old) (edit_needs edit.now)) edit.now self.new.document fault
             ⊎ IsChainEditFault edit.now fault)) }
         ensures locked { ((target : Bool) → is_barred edit.now (machine_of target self.old) ≡ true) → (result ≡ Err Fault.Locked) × (self.new ≡ self.old) }
+        ensures shut { has_no_room (blocks_of self.old) (edit_needs edit.now) ≡ true → (self.new ≡ self.old)
+            × IsErrAnd result (λ fault. IsBarred edit.now self.old fault ⊎ Refuses (λ f. f ≡ Fault.Memory) true edit.now self.old.document fault) }
         ensures at_hand { OnOk result ((b : VmHandle) → kind_of edit.now ≡ In b → is_loaded (blocks_of self.new) b.0 ≡ true) }
         ensures passes { Passes S.facts self.old.disk self.new.disk }
         // No store is called where no block comes in and no body has to be read.
@@ -630,6 +632,7 @@ impl<S: Store> Session<S> {
         ensures keeps { KeepsSession S.facts self.old self.new }
         ensures step { IsStep S.facts self.old self.new (commands.Walk root) (reply_by (λ handles. blocks_are handles.items) result) }
         ensures value { IsSteady S.facts self.old.disk.store → LooksUp (Lacks S.facts self.old.disk.store self.new.disk.store) (is_full (blocks_of self.old)) (commands.Walk root) self.new.document (reply_by (λ handles. blocks_are handles.items) result) }
+        ensures shut { is_full (blocks_of self.old) ≡ true → (self.new ≡ self.old) × (answer_of true (commands.Walk root) self.old.document ≡ Some (reply_by (λ handles. blocks_are handles.items) result)) }
         ensures refusals { IfErr result (IsChainRefusal (Lacks S.facts self.old.disk.store self.new.disk.store) (is_full (blocks_of self.old))) }
     {
         self.blocks.validity();
@@ -641,6 +644,7 @@ impl<S: Store> Session<S> {
         ensures keeps { KeepsSession S.facts self.old self.new }
         ensures step { IsStep S.facts self.old self.new (commands.ChainSize root) (reply_by NumberIs result) }
         ensures value { IsSteady S.facts self.old.disk.store → LooksUp (Lacks S.facts self.old.disk.store self.new.disk.store) (is_full (blocks_of self.old)) (commands.ChainSize root) self.new.document (reply_by NumberIs result) }
+        ensures shut { is_full (blocks_of self.old) ≡ true → (self.new ≡ self.old) × (answer_of true (commands.ChainSize root) self.old.document ≡ Some (reply_by NumberIs result)) }
         ensures refusals { IfErr result (IsChainRefusal (Lacks S.facts self.old.disk.store self.new.disk.store) (is_full (blocks_of self.old))) }
     {
         self.blocks.validity();
@@ -652,6 +656,7 @@ impl<S: Store> Session<S> {
         ensures keeps { KeepsSession S.facts self.old self.new }
         ensures step { IsStep S.facts self.old self.new (commands.ChainEqual first second) (reply_by AreEqual result) }
         ensures value { IsSteady S.facts self.old.disk.store → LooksUp (Lacks S.facts self.old.disk.store self.new.disk.store) (is_full (blocks_of self.old)) (commands.ChainEqual first second) self.new.document (reply_by AreEqual result) }
+        ensures shut { is_full (blocks_of self.old) ≡ true → (self.new ≡ self.old) × (answer_of true (commands.ChainEqual first second) self.old.document ≡ Some (reply_by AreEqual result)) }
         ensures refusals { IfErr result (IsChainRefusal (Lacks S.facts self.old.disk.store self.new.disk.store) (is_full (blocks_of self.old))) }
     {
         self.blocks.validity();

@@ -1,7 +1,4 @@
-use Rattle.std.proofs.Common.{[], ◌∷◌, not, refl, inr}
-use Rattle.std.specs.FinMap.{contains_key}
-use Rattle.geos_model.specs.Document.{chunks_of}
-use Rattle.geos_model.specs.declared.fault.Fault.TheVariants.{NoChunk}
+use Rattle.std.proofs.Common.{[], refl, inr}
 use Rattle.doc_edits.proofs.Refusals.{carried}
 use Rattle.doc_edits.proofs.chunk_plans.plan_free_chunk.Goals as goal
 

@@ -1,11 +1,12 @@
-use Rattle.std.proofs.Common.{refl}
+use Rattle.std.proofs.Common.{get_or, [], refl}
+use Rattle.geos_model.specs.ArrayEdits.{array_in, on_element}
+use Rattle.geos_model.specs.Reply.{BytesAre}
 use Rattle.geos_model.specs.declared.command.Command.TheVariants as commands
-use Rattle.vm_blocks.specs.Keeping.{Lacks, is_shut_out}
-use Rattle.doc_edits.proofs.LookUps.{refused_so}
+use Rattle.doc_edits.proofs.LookUps.{chunk_missed, own_seen}
 use Rattle.doc_edits.proofs.look_ups.array_element.Goals as goal
 
 pub returns-in_err-bytes : goal.returns-in_err-bytes
-returns-in_err-bytes g c =
-    let loaded = c.chunk_at.follows.lender-at-none in
-    let value = refused_so (Lacks g.S.Store.facts c.args.blocks.now.disk.store loaded.disk.store) (is_shut_out c.args.blocks.now c.args.block.0) loaded.document c.args.block c.args.chunk (λ bytes. bytes.now) c.chunk_at.result c.chunk_at.follows.holds-at-none.1 (commands.ArrayElement c.args.block c.args.chunk c.args.i) _ c.from_residual.result _ c.in_err-bytes.was refl c.from_residual.ensures.1 in
-    ((refl, (λ _. tt), (c.chunk_at.follows.holds-at-none.0, value)), record { leaves = tt })
+returns-in_err-bytes g c = ((refl, (λ _. tt), chunk_missed g.S.Store.facts c.args.blocks.now c.chunk_at.follows.lender-at-none c.args.block c.args.chunk (λ bytes. bytes.now) c.chunk_at.result c.chunk_at.follows.holds-at-none.0 c.chunk_at.follows.holds-at-none.1 c.chunk_at.follows.holds-at-none.2 (commands.ArrayElement c.args.block c.args.chunk c.args.i) refl refl _ c.from_residual.result _ c.in_err-bytes.was c.from_residual.ensures.1), record { leaves = tt })
+
+pub returns : goal.returns
+returns g c = ((refl, (λ _. tt), own_seen g.S.Store.facts c.args.blocks.now c.chunk_at.follows.lender-at-none c.args.block c.args.chunk (λ bytes. bytes.now) c.chunk_at.result c.chunk_at.follows.holds-at-none.0 c.chunk_at.follows.holds-at-none.1 c.chunk_at.follows.holds-at-none.2 (commands.ArrayElement c.args.block c.args.chunk c.args.i) refl refl c.in_ok-bytes.bytes c.in_ok-bytes.was (λ y. on_element y c.args.i) (λ y. get_or (array_in y).elements c.args.i []) BytesAre c.element_in.result (λ x. x.now) refl refl c.element_in.ensures), record { leaves = tt })

@@ -1,11 +1,12 @@
 use Rattle.std.proofs.Common.{refl}
+use Rattle.geos_model.specs.ElementEdits.{bytes_at, elements_in, on_token}
+use Rattle.geos_model.specs.Reply.{BytesAre}
 use Rattle.geos_model.specs.declared.command.Command.TheVariants as commands
-use Rattle.vm_blocks.specs.Keeping.{Lacks, is_shut_out}
-use Rattle.doc_edits.proofs.LookUps.{refused_so}
+use Rattle.doc_edits.proofs.LookUps.{chunk_missed, own_seen}
 use Rattle.doc_edits.proofs.look_ups.element_bytes.Goals as goal
 
 pub returns-in_err-bytes : goal.returns-in_err-bytes
-returns-in_err-bytes g c =
-    let loaded = c.chunk_at.follows.lender-at-none in
-    let value = refused_so (Lacks g.S.Store.facts c.args.blocks.now.disk.store loaded.disk.store) (is_shut_out c.args.blocks.now c.args.block.0) loaded.document c.args.block c.args.chunk (λ bytes. bytes.now) c.chunk_at.result c.chunk_at.follows.holds-at-none.1 (commands.ElementBytes c.args.block c.args.chunk c.args.token) _ c.from_residual.result _ c.in_err-bytes.was refl c.from_residual.ensures.1 in
-    ((refl, (λ _. tt), (c.chunk_at.follows.holds-at-none.0, value)), record { leaves = tt })
+returns-in_err-bytes g c = ((refl, (λ _. tt), chunk_missed g.S.Store.facts c.args.blocks.now c.chunk_at.follows.lender-at-none c.args.block c.args.chunk (λ bytes. bytes.now) c.chunk_at.result c.chunk_at.follows.holds-at-none.0 c.chunk_at.follows.holds-at-none.1 c.chunk_at.follows.holds-at-none.2 (commands.ElementBytes c.args.block c.args.chunk c.args.token) refl refl _ c.from_residual.result _ c.in_err-bytes.was c.from_residual.ensures.1), record { leaves = tt })
+
+pub returns : goal.returns
+returns g c = ((refl, (λ _. tt), own_seen g.S.Store.facts c.args.blocks.now c.chunk_at.follows.lender-at-none c.args.block c.args.chunk (λ bytes. bytes.now) c.chunk_at.result c.chunk_at.follows.holds-at-none.0 c.chunk_at.follows.holds-at-none.1 c.chunk_at.follows.holds-at-none.2 (commands.ElementBytes c.args.block c.args.chunk c.args.token) refl refl c.in_ok-bytes.bytes c.in_ok-bytes.was (λ y. on_token y c.args.token.0) (λ y. bytes_at (elements_in y) c.args.token.0) BytesAre c.data_of.result (λ x. x.now) refl refl c.data_of.ensures), record { leaves = tt })

@@ -1,10 +1,12 @@
 use Rattle.std.proofs.Common.{refl}
+use Rattle.geos_model.specs.ElementEdits.{elements_in, on_elements, used_in}
+use Rattle.geos_model.specs.Reply.{NumberIs}
 use Rattle.geos_model.specs.declared.command.Command.TheVariants as commands
-use Rattle.vm_blocks.specs.Keeping.{Lacks, is_shut_out}
-use Rattle.doc_edits.proofs.LookUps.{refused_so}
+use Rattle.doc_edits.proofs.LookUps.{chunk_missed, own_seen}
 use Rattle.doc_edits.proofs.look_ups.elements_used.Goals as goal
 
-pub returns-in_err-bytes-clause-value : goal.returns-in_err-bytes-clause-value
-returns-in_err-bytes-clause-value g c =
-    let loaded = c.chunk_at.follows.lender-at-none in
-    refused_so (Lacks g.S.Store.facts c.args.blocks.now.disk.store loaded.disk.store) (is_shut_out c.args.blocks.now c.args.block.0) loaded.document c.args.block c.args.chunk (λ bytes. bytes.now) c.chunk_at.result c.chunk_at.follows.holds-at-none.1 (commands.ElementsUsed c.args.block c.args.chunk) _ c.from_residual.result _ c.in_err-bytes.was refl c.from_residual.ensures.1
+pub returns-in_err-bytes : goal.returns-in_err-bytes
+returns-in_err-bytes g c = chunk_missed g.S.Store.facts c.args.blocks.now c.chunk_at.follows.lender-at-none c.args.block c.args.chunk (λ bytes. bytes.now) c.chunk_at.result c.chunk_at.follows.holds-at-none.0 c.chunk_at.follows.holds-at-none.1 c.chunk_at.follows.holds-at-none.2 (commands.ElementsUsed c.args.block c.args.chunk) refl refl _ c.from_residual.result _ c.in_err-bytes.was c.from_residual.ensures.1
+
+pub returns : goal.returns
+returns g c = own_seen g.S.Store.facts c.args.blocks.now c.chunk_at.follows.lender-at-none c.args.block c.args.chunk (λ bytes. bytes.now) c.chunk_at.result c.chunk_at.follows.holds-at-none.0 c.chunk_at.follows.holds-at-none.1 c.chunk_at.follows.holds-at-none.2 (commands.ElementsUsed c.args.block c.args.chunk) refl refl c.in_ok-bytes.bytes c.in_ok-bytes.was on_elements (λ y. used_in (elements_in y)) NumberIs c.used_count.result (λ n. n) refl refl c.used_count.ensures

@@ -1,10 +1,7 @@
 use Rattle.std.proofs.Common.{◌≡◌, false, true, sym, ◌∙◌}
-use Rattle.geos_model.specs.Machine.{edit_needs}
 use Rattle.vm_blocks.specs.Keeping.{Lacks}
 use Rattle.vm_blocks.proofs.KeepingLaws.{keeps-refl}
-use Rattle.doc_edits.specs.Room.{has_no_room}
 use Rattle.doc_edits.proofs.Loads.{any_brought, heap_brought, nothing_lacks, raw_brought}
-use Rattle.doc_edits.proofs.Planned.{plain_wants}
 use Rattle.doc_edits.proofs.planning.load_wanted.Goals as goal
 
 pub returns-in-Nothing-clause-keeps : goal.returns-in-Nothing-clause-keeps

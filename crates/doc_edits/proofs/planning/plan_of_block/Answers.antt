@@ -1,4 +1,4 @@
-use Rattle.std.proofs.Common.{◌≡◌, true, false, IfErr, inr, subst, sym, ◌∙◌}
+use Rattle.std.proofs.Common.{◌≡◌, true, false, IfErr, inr, subst}
 use Rattle.geos_model.specs.Document.{Document}
 use Rattle.geos_model.specs.Machine.{edit_needs}
 use Rattle.vm_blocks.specs.Keeping.{Lacks}

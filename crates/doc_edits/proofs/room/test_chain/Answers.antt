@@ -1,4 +1,4 @@
-use Rattle.std.proofs.Common.{inl, inr}
+use Rattle.std.proofs.Common.{inr}
 use Rattle.std.proofs.lemmas.Result.{MatchResult-weaker}
 use Rattle.vm_blocks.specs.Keeping.{is_full}
 use Rattle.doc_edits.proofs.Refusals.{carried, carried_so, refused_then}

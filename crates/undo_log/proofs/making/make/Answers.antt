@@ -1,10 +1,13 @@
-use Rattle.std.proofs.Common.{inl, sym, subst}
+use Rattle.std.proofs.Common.{◌≡◌, ◌∷◌, true, Some, inl, sym, subst, ◌∙◌}
+use Rattle.std.proofs.lemmas.Bool.{true≢false}
 use Rattle.geos_model.specs.Meaning.{conditions}
+use Rattle.geos_model.specs.Refusal.{first_refusal}
+use Rattle.geos_model.specs.declared.fault.Fault.TheVariants.{CacheFull}
 use Rattle.std.specs.Prelude.{OnErr}
 use Rattle.std.proofs.lemmas.Result.{err_from_is_err_and}
 use Rattle.vm_blocks.specs.Keeping.{Keeps}
 use Rattle.vm_blocks.proofs.KeepingLaws.{honest-steady, keeps-locks, keeps-trans}
-use Rattle.undo_log.proofs.Edited.{made_at_rest, made_of_plan, never_refused, reads_chain, unlocked_change, unready_lacks}
+use Rattle.undo_log.proofs.Edited.{carried_fault, made_at_rest, made_of_plan, never_refused, reads_chain, unlocked_change, unready_lacks}
 use Rattle.undo_log.proofs.making.make.Goals as goal
 
 pub returns-in_err-change-clause-rules : goal.returns-in_err-change-clause-rules
@@ -45,6 +48,17 @@ returns-clause-already g c = λ other nothing.
     let rests = plan.already nothing in
     let planned = plan.planned (λ chain. absurd (reads_chain a c.args.edit.now (conditions c.args.edit.now a.document) nothing chain)) in
     made_at_rest g.S.Store.facts a c.plan.new.blocks c.plan.ensures.keeps c.args.edit.now c.in_ok-change.change c.in_ok-change.done c.change.new.self c.change.result rests.0 rests.1 other plan.ready planned c.change.ensures.sure
+
+pub returns-in_err-change-clause-shut : goal.returns-in_err-change-clause-shut
+returns-in_err-change-clause-shut g c = λ out.
+    let kept = c.in_err-change.ensures.shut out in
+    (kept.0, carried_fault c.from_residual.result (λ fault. first_refusal ((CacheFull, true) ∷ conditions c.args.edit.now c.args.blocks.now.document) ≡ Some fault) c.in_err-change.field-0.0 c.from_residual.ensures.1 kept.1)
+
+pub returns-in_err-change-2-clause-shut : goal.returns-in_err-change-2-clause-shut
+returns-in_err-change-2-clause-shut g c = λ out. absurd (true≢false (sym out ∙ c.in_ok-change.ensures.room))
+
+pub returns-clause-shut : goal.returns-clause-shut
+returns-clause-shut g c = λ out. absurd (true≢false (sym out ∙ c.in_ok-change.ensures.room))
 
 pub returns-clause-ok : goal.returns-clause-ok
 returns-clause-ok g c =

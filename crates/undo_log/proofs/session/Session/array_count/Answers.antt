@@ -8,7 +8,7 @@ use Rattle.undo_log.proofs.session.Session.array_count.Goals as goal
 pub returns : goal.returns
 returns g c =
     looked_at g.S.Store.facts _ _ (reverse c.self.inside.undo.items) (reverse c.self.inside.redo.items) c.array_count.ensures.keeps _ c.self.view_is c.validity.ensures.distinct (commands.ArrayCount c.args.block c.args.chunk) _
-    (record { takes = λ _. refl; calls = λ _. refl; refuses = λ _. refl; answers = λ _. refl }) c.array_count.ensures.value
+    (record { takes = λ _. refl; calls = λ _. refl; refuses = λ _. refl; answers = λ _. refl }) c.array_count.ensures
 
 pub invariant_of-self : goal.invariant_of-self
 invariant_of-self g c = (

@@ -10,8 +10,8 @@ returns g c = (
   (
     refl,
     λ _. tt,
-    looked_at g.S.Store.facts _ _ (reverse c.self.inside.undo.items) (reverse c.self.inside.redo.items) c.array_element.follows.holds-at-none.0 _ c.self.view_is c.validity.ensures.distinct (commands.ArrayElement c.args.block c.args.chunk c.args.i) _
-        (record { takes = λ _. refl; calls = λ _. refl; refuses = λ _. refl; answers = λ _. refl }) c.array_element.follows.holds-at-none.1,
+    looked_at g.S.Store.facts _ _ (reverse c.self.inside.undo.items) (reverse c.self.inside.redo.items) c.array_element.follows.holds-at-none.keeps _ c.self.view_is c.validity.ensures.distinct (commands.ArrayElement c.args.block c.args.chunk c.args.i) _
+        (record { takes = λ _. refl; calls = λ _. refl; refuses = λ _. refl; answers = λ _. refl }) c.array_element.follows.holds-at-none,
   ),
   record { leaves = tt },
 )
@@ -20,5 +20,5 @@ pub invariant_of-self : goal.invariant_of-self
 invariant_of-self g c = (
   search rules,
   search rules,
-  drifted_listed _ _ _ (reverse c.self.inside.undo.items) (reverse c.self.inside.redo.items) (keeps-drifts g.S.Store.facts _ _ c.array_element.follows.holds-at-none.0) c.self.invariant.2,
+  drifted_listed _ _ _ (reverse c.self.inside.undo.items) (reverse c.self.inside.redo.items) (keeps-drifts g.S.Store.facts _ _ c.array_element.follows.holds-at-none.keeps) c.self.invariant.2,
 )

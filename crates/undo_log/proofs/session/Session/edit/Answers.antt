@@ -1,5 +1,6 @@
 use Rattle.std.proofs.Common.{◌≡◌, ◌⊎◌, Bool, true, Ok, Err, List, ◌∷◌, reverse, inl, inr, refl, ap, sym, subst, ◌∙◌, rules}
 use Rattle.std.specs.Prelude.{◌≢◌, IfErr, OnErr}
+use Rattle.std.specs.Result.{IsErrAnd}
 use Rattle.std.proofs.lemmas.Result.{err_from_is_err_and}
 use Rattle.geos_model.specs.Machine.{edit_needs, is_barred, kind_of}
 use Rattle.geos_model.specs.Meaning.{conditions}
@@ -17,11 +18,11 @@ use Rattle.doc_edits.specs.Room.{has_no_room, ReadsNothing}
 use Rattle.undo_log.specs.Editing.{EditsAtHand}
 use Rattle.undo_log.specs.Locking.{IsBarred}
 use Rattle.undo_log.specs.Records.{SessionState, blocks_of, machine_of, AreListed, IsStep, KeepsSession, Records}
-use Rattle.undo_log.proofs.Edited.{barred_fault, barred_step, edit_step, edit_refused, made_at_hand, not_barred, refused_at_hand}
+use Rattle.undo_log.proofs.Edited.{barred_fault, barred_step, edit_step, edit_refused, carried_fault, made_at_hand, not_barred, refused_at_hand}
 use Rattle.undo_log.proofs.Keeping.{drifted_listed, keeps_refl}
 use Rattle.undo_log.proofs.Listing.{drifted, edited_listed}
 use Rattle.undo_log.proofs.Lists.{pushed_first}
-use Rattle.undo_log.proofs.LookUps.{session_with}
+use Rattle.undo_log.proofs.LookUps.{same_session, session_with}
 use Rattle.undo_log.proofs.session.Session.edit.Goals as goal
 
 -- a lock bars the edit
@@ -47,6 +48,12 @@ returns-then-is_barred-clause-already g c = λ other nothing.
     let old = session_with c.self.inside.blocks (reverse c.self.inside.undo.items) (reverse c.self.inside.redo.items) in
     subst (λ (s : SessionState g.row.S.Denot). EditsAtHand c.args.edit.now s s (Err Locked)) c.self.view_is
     (record { disk = refl; ok = tt; err = (refl, inl (barred_fault facts old c.args.edit.now c.validity.ensures.distinct (sym c.is_barred.ensures ∙ c.if-is_barred.true))) })
+
+pub returns-then-is_barred-clause-shut : goal.returns-then-is_barred-clause-shut
+returns-then-is_barred-clause-shut g c = λ out.
+    let facts = g.S.Store.facts in
+    let old = session_with c.self.inside.blocks (reverse c.self.inside.undo.items) (reverse c.self.inside.redo.items) in
+    (refl, inl (subst (λ (s : SessionState g.row.S.Denot). IsBarred c.args.edit.now s Locked) c.self.view_is (barred_fault facts old c.args.edit.now c.validity.ensures.distinct (sym c.is_barred.ensures ∙ c.if-is_barred.true))))
 
 -- no lock does
 
@@ -137,6 +144,20 @@ returns-in_err-reserve-2-clause-already g c =
     subst (λ (s : SessionState g.row.S.Denot). kind_of c.args.edit.now ≢ Made → ReadsNothing (blocks_of s) (edit_needs c.args.edit.now) (conditions c.args.edit.now s.document) → EditsAtHand c.args.edit.now s new c.from_residual-in_err-reserve-2.result) c.self.view_is
     (λ other nothing. refused_at_hand c.args.edit.now old new refl Memory c.from_residual-in_err-reserve-2.result c.from_residual-in_err-reserve-2.ensures.1 refl (inr (inl refl)))
 
+pub returns-in_err-reserve-clause-shut : goal.returns-in_err-reserve-clause-shut
+returns-in_err-reserve-clause-shut g c =
+    let old = session_with c.self.inside.blocks (reverse c.self.inside.undo.items) (reverse c.self.inside.redo.items) in
+    let new = session_with c.self.inside.blocks (reverse c.reserve.new.self.items) (reverse c.self.inside.redo.items) in
+    subst (λ (s : SessionState g.row.S.Denot). has_no_room (blocks_of s) (edit_needs c.args.edit.now) ≡ true → (new ≡ s) × IsErrAnd c.from_residual.result (λ fault. IsBarred c.args.edit.now s fault ⊎ Refuses (λ f. f ≡ Memory) true c.args.edit.now s.document fault)) c.self.view_is
+    (λ out. (same_session c.self.inside.blocks c.self.inside.blocks _ _ _ _ refl (ap reverse c.in_err-reserve.ensures.items) refl, carried_fault c.from_residual.result (λ fault. IsBarred c.args.edit.now old fault ⊎ Refuses (λ f. f ≡ Memory) true c.args.edit.now old.document fault) Memory c.from_residual.ensures.1 (inr (inl refl))))
+
+pub returns-in_err-reserve-2-clause-shut : goal.returns-in_err-reserve-2-clause-shut
+returns-in_err-reserve-2-clause-shut g c =
+    let old = session_with c.self.inside.blocks (reverse c.self.inside.undo.items) (reverse c.self.inside.redo.items) in
+    let new = session_with c.self.inside.blocks (reverse c.reserve.new.self.items) (reverse c.reserve-2.new.self.items) in
+    subst (λ (s : SessionState g.row.S.Denot). has_no_room (blocks_of s) (edit_needs c.args.edit.now) ≡ true → (new ≡ s) × IsErrAnd c.from_residual-in_err-reserve-2.result (λ fault. IsBarred c.args.edit.now s fault ⊎ Refuses (λ f. f ≡ Memory) true c.args.edit.now s.document fault)) c.self.view_is
+    (λ out. (same_session c.self.inside.blocks c.self.inside.blocks _ _ _ _ refl (ap reverse c.in_ok-reserve.ensures.items) (ap reverse c.in_err-reserve-2.ensures.items), carried_fault c.from_residual-in_err-reserve-2.result (λ fault. IsBarred c.args.edit.now old fault ⊎ Refuses (λ f. f ≡ Memory) true c.args.edit.now old.document fault) Memory c.from_residual-in_err-reserve-2.ensures.1 (inr (inl refl))))
+
 -- the edit is refused
 pub invariant_of-self-in_err-change : goal.invariant_of-self-in_err-change
 invariant_of-self-in_err-change g c = (
@@ -190,6 +211,15 @@ returns-in_err-change-clause-already g c =
     let rests = c.in_err-change.ensures.already other nothing in
     refused_at_hand c.args.edit.now old new rests.0 c.in_err-change.field-0.0 c.from_residual-in_err-change.result c.from_residual-in_err-change.ensures.1 rests.1.0 (inr rests.1.1))
 
+pub returns-in_err-change-clause-shut : goal.returns-in_err-change-clause-shut
+returns-in_err-change-clause-shut g c =
+    let old = session_with c.self.inside.blocks (reverse c.self.inside.undo.items) (reverse c.self.inside.redo.items) in
+    let new = session_with c.make.new.blocks (reverse c.reserve.new.self.items) (reverse c.reserve-2.new.self.items) in
+    subst (λ (s : SessionState g.row.S.Denot). has_no_room (blocks_of s) (edit_needs c.args.edit.now) ≡ true → (new ≡ s) × IsErrAnd c.from_residual-in_err-change.result (λ fault. IsBarred c.args.edit.now s fault ⊎ Refuses (λ f. f ≡ Memory) true c.args.edit.now s.document fault)) c.self.view_is
+    (λ out.
+    let kept = c.in_err-change.ensures.shut out in
+    (same_session c.self.inside.blocks c.make.new.blocks _ _ _ _ kept.0 (ap reverse c.in_ok-reserve.ensures.items) (ap reverse c.in_ok-reserve-2.ensures.items), carried_fault c.from_residual-in_err-change.result (λ fault. IsBarred c.args.edit.now old fault ⊎ Refuses (λ f. f ≡ Memory) true c.args.edit.now old.document fault) c.in_err-change.field-0.0 c.from_residual-in_err-change.ensures.1 (inr (inr kept.1))))
+
 -- the edit is made
 pub invariant_of-self-2 : goal.invariant_of-self-2
 invariant_of-self-2 g c =
@@ -232,3 +262,7 @@ returns-clause-already g c =
     let new = session_with c.make.new.blocks (reverse c.push_reserved.new.self.items) (reverse c.clear.new.self.items) in
     subst (λ (s : SessionState g.row.S.Denot). kind_of c.args.edit.now ≢ Made → ReadsNothing (blocks_of s) (edit_needs c.args.edit.now) (conditions c.args.edit.now s.document) → EditsAtHand c.args.edit.now s new (Ok c.in_ok-change.done)) c.self.view_is
     (λ other nothing. let rests = c.in_ok-change.ensures.already other nothing in record { disk = rests.0; ok = rests.1; err = tt })
+
+pub returns-clause-shut : goal.returns-clause-shut
+returns-clause-shut g c = λ out.
+    absurd (c.in_ok-change.ensures.shut (subst (λ (s : SessionState g.row.S.Denot). has_no_room (blocks_of s) (edit_needs c.args.edit.now) ≡ true) (sym c.self.view_is) out)).1

@@ -8,7 +8,7 @@ use Rattle.undo_log.proofs.session.Session.name_find.Goals as goal
 pub returns : goal.returns
 returns g c =
     looked_at g.S.Store.facts _ _ (reverse c.self.inside.undo.items) (reverse c.self.inside.redo.items) c.name_find.ensures.keeps _ c.self.view_is c.validity.ensures.distinct (commands.NameFind c.args.block c.args.chunk c.args.name.now) _
-    (record { takes = λ _. refl; calls = λ _. refl; refuses = λ _. refl; answers = λ _. refl }) c.name_find.ensures.value
+    (record { takes = λ _. refl; calls = λ _. refl; refuses = λ _. refl; answers = λ _. refl }) c.name_find.ensures
 
 pub invariant_of-self : goal.invariant_of-self
 invariant_of-self g c = (
