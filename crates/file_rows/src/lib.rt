@@ -16,6 +16,8 @@ mod limits;
 #[cfg(test)]
 mod listing;
 #[cfg(test)]
+mod marking;
+#[cfg(test)]
 mod opening;
 #[cfg(test)]
 mod real;
