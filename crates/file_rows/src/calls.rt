@@ -240,3 +240,17 @@ pub(crate) fn is_worn_out<S: Store>(file: &mut VmFile<S>) -> bool {
         && save(file) == Err(Fault::Worn)
         && revert(file) == Err(Fault::Worn)
 }
+
+/// The first place at which these bytes are other ones than those, or at which one of them ends.
+pub(crate) fn first_other_byte(bytes: &[u8], those: &[u8]) -> Option<usize> {
+    for (at, (byte, that)) in bytes.iter().zip(those).enumerate() {
+        if byte != that {
+            return Some(at);
+        }
+    }
+    if bytes.len() == those.len() {
+        None
+    } else {
+        Some(bytes.len().min(those.len()))
+    }
+}

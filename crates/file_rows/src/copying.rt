@@ -1,5 +1,5 @@
 // A document that is copied into another store.
-use crate::calls::{copy, create, why};
+use crate::calls::{copy, create, first_other_byte, why};
 use crate::steps::Step::{Has, HasUserId, Lives, MapBlock, Put, Revert, Save, SetMap, Update};
 use crate::steps::{Departure, Step, closed, given_back, made, read, take};
 use geos_model::Fault;
@@ -91,7 +91,8 @@ fn a_copy_is_a_file_of_the_document_as_it_is(rt: HostRuntime) -> Result<(), Fail
     let (_, store) = both_files(alloc, &[])?;
     // The length, two images, the directory, two slots, the gate, and two syncs.
     assert_eq!(rt; store.calls(), 9);
-    assert_eq!(rt; store.inner().bytes(), copied(alloc)?.as_slice());
+    let copied = copied(alloc)?;
+    assert_eq!(rt; first_other_byte(store.inner().bytes(), &copied), None);
     Ok(())
 }
 
@@ -106,29 +107,32 @@ fn what_is_copied_stays(rt: HostRuntime) -> Result<(), Fail> {
     let alloc = rt.alloc();
     let before = source(alloc)?;
     let (after, _) = both_files(alloc, &COPIED)?;
-    assert_eq!(rt; after.inner().bytes(), before.inner().bytes());
+    let other = first_other_byte(after.inner().bytes(), before.inner().bytes());
+    assert_eq!(rt; other, None);
     Ok(())
 }
+
+// What a crash leaves of a copy, and what is saved there.
+const LEFT: [Step; 11] = [
+    Lives(&[1, 3]),
+    HasUserId(1, 7),
+    HasUserId(3, 9),
+    Has(1, b"\0ab"),
+    MapBlock(3),
+    Revert,
+    Lives(&[1, 3]),
+    HasUserId(1, 7),
+    HasUserId(3, 9),
+    Has(1, b"\0ab"),
+    MapBlock(3),
+];
 
 #[test]
 fn a_copy_is_whole_after_a_crash(rt: HostRuntime) -> Result<(), Fail> {
     let alloc = rt.alloc();
     let (_, store) = both_files(alloc, &[])?;
     let left = store.inner().crashed(0, 255)?;
-    let steps = [
-        Lives(&[1, 3]),
-        HasUserId(1, 7),
-        HasUserId(3, 9),
-        Has(1, b"\0ab"),
-        MapBlock(3),
-        Revert,
-        Lives(&[1, 3]),
-        HasUserId(1, 7),
-        HasUserId(3, 9),
-        Has(1, b"\0ab"),
-        MapBlock(3),
-    ];
-    read(alloc, left.bytes(), &steps)?;
+    read(alloc, left.bytes(), &LEFT)?;
     Ok(())
 }
 
@@ -159,27 +163,35 @@ fn refused_files(
     Ok((store, target?))
 }
 
-// The document is there, and can be saved.
+// The calls of the target that is given back, while the document is there and can be saved.
+fn refused_and_saved(alloc: Global, passes: u64) -> Result<u64, Departure> {
+    let (store, target) = refused_files(alloc, u64::MAX, passes, &[Lives(&[1, 3]), Save])?;
+    read(alloc, store.inner().bytes(), &[Lives(&[1, 3])])?;
+    Ok(target.calls())
+}
+
 #[test]
 fn a_refused_copy_gives_the_target_back(rt: HostRuntime) -> Result<(), Fail> {
-    let alloc = rt.alloc();
     for passes in 0..9 {
-        let (store, target) = refused_files(alloc, u64::MAX, passes, &[Lives(&[1, 3]), Save])?;
-        assert_eq!(rt; target.calls(), passes + 1);
-        read(alloc, store.inner().bytes(), &[Lives(&[1, 3])])?;
+        assert_eq!(rt; refused_and_saved(rt.alloc(), passes)?, passes + 1);
     }
     Ok(())
+}
+
+// The calls of the target where the source fails so many calls later than those that made it.
+fn refused_later(alloc: Global, later: u64) -> Result<u64, Departure> {
+    let calls = source(alloc)?.calls();
+    let passes = calls.saturating_add(later);
+    let (_, target) = refused_files(alloc, passes, u64::MAX, &[])?;
+    Ok(target.calls())
 }
 
 // The source fails, at the first image or the second.
 #[test]
 fn a_copy_of_what_cannot_be_read_is_refused(rt: HostRuntime) -> Result<(), Fail> {
-    let alloc = rt.alloc();
-    let calls = source(alloc)?.calls();
     for images in 0..2 {
-        let (_, target) = refused_files(alloc, calls.saturating_add(images), u64::MAX, &[])?;
         // Its length, and the images that were read.
-        assert_eq!(rt; target.calls(), 1 + images);
+        assert_eq!(rt; refused_later(rt.alloc(), images)?, 1 + images);
     }
     Ok(())
 }

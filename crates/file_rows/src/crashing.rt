@@ -240,22 +240,33 @@ fn all_calls(alloc: Global) -> Result<u64, Fault> {
     Ok(store.calls())
 }
 
-// The documents that a crash leaves which it may not leave, behind so many commits, and how many writes it keeps and what it fills in.
+// What a crash may not leave: the documents, behind so many commits, where it keeps so many writes and fills in a byte.
+type Left = (Pair, usize, usize, u8);
+
+// What a crash wrongly leaves of a store.
 fn wrongly_left(
     alloc: Global,
     store: &MemStore,
     commits: usize,
     is_tried: bool,
-) -> Result<Option<(Pair, usize, u8)>, Fault> {
+) -> Result<Option<Left>, Fault> {
     for keep in 0..=MOST_PENDING {
         for fill in [0, 1, 255] {
             let left = crashed(store, alloc, keep, fill)?;
             if !may_be_left(left, commits, is_tried) {
-                return Ok(Some((left, keep, fill)));
+                return Ok(Some((left, commits, keep, fill)));
             }
         }
     }
     Ok(None)
+}
+
+// What a crash wrongly leaves where all calls after so many fail, and whether it could keep more writes.
+fn left_after(alloc: Global, passes: u64) -> Result<(Option<Left>, bool), Fault> {
+    let (store, commits, is_tried) = played_up(alloc, passes)?;
+    let are_more = !are_all(store.inner(), MOST_PENDING)?;
+    let left = wrongly_left(alloc, store.inner(), commits, is_tried)?;
+    Ok((left, are_more))
 }
 
 #[test]
@@ -264,13 +275,9 @@ fn a_crash_of_a_failing_store_leaves_the_last_documents_or_the_next(
 ) -> Result<(), Fail> {
     let alloc = rt.alloc();
     for passes in MAKING..=all_calls(alloc)? {
-        let (store, commits, is_tried) = played_up(alloc, passes)?;
-        assert!(rt; are_all(store.inner(), MOST_PENDING)?);
-        assert_eq!(rt;
-            wrongly_left(alloc, store.inner(), commits, is_tried)?,
-            None,
-            "after {passes} calls, {commits} commits"
-        );
+        let (left, are_more) = left_after(alloc, passes)?;
+        assert!(rt; !are_more, "after {passes} calls");
+        assert_eq!(rt; left, None, "after {passes} calls");
     }
     Ok(())
 }

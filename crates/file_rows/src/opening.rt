@@ -1,7 +1,7 @@
 // What opens, and to which documents.
 ghost use Rattle.std.specs.Prelude.{◌<◌, ◌≤◌};
 
-use crate::calls::{has_no_block, image_of, open, revert, user_id_of};
+use crate::calls::{first_other_byte, has_no_block, image_of, open, revert, user_id_of};
 use crate::example::{LENGTH, example};
 use crate::steps::Step::{Has, HasUserId, IsEmpty, Lives, MapBlock, Revert, Update};
 use crate::steps::{Departure, given_back, kept, read};
@@ -50,7 +50,8 @@ fn updated(alloc: Global) -> Result<Vec<u8>, Fault> {
 fn an_update_writes_the_other_slot(rt: HostRuntime) -> Result<(), Fail> {
     let alloc = rt.alloc();
     let store = read(alloc, &example(), &[Update])?;
-    assert_eq!(rt; store.bytes(), updated(alloc)?.as_slice());
+    let updated = updated(alloc)?;
+    assert_eq!(rt; first_other_byte(store.bytes(), &updated), None);
     Ok(())
 }
 
@@ -145,116 +146,110 @@ fn first_wrong_value(alloc: Global, at: usize) -> Result<Option<u8>, Fault>
     Ok(None)
 }
 
-// The first of these places at which a byte has another answer, and that byte.
-fn first_wrong(alloc: Global, from: usize, to: usize) -> Result<Option<(usize, u8)>, Fault>
+// Why the bytes of some places have not the answers that they are to have.
+#[derive(Debug, Drop)]
+enum Wrong {
+    Fault(Fault),
+    // A place, and a byte that has another answer there.
+    Byte(usize, u8),
+}
+
+// Whether each byte at these places has its answer.
+fn have_answers(alloc: Global, from: usize, to: usize) -> Result<(), Wrong>
     requires { to ≤ 2051 }
 {
     for at in from..to {
-        if let Some(value) = first_wrong_value(alloc, at)? {
-            return Ok(Some((at, value)));
+        match first_wrong_value(alloc, at) {
+            Ok(None) => {}
+            Ok(Some(value)) => return Err(Wrong::Byte(at, value)),
+            Err(fault) => return Err(Wrong::Fault(fault)),
         }
     }
-    Ok(None)
-}
-
-#[test]
-fn each_byte_from_0_on_is_set_to_each_value(rt: HostRuntime) -> Result<(), Fail> {
-    assert_eq!(rt; first_wrong(rt.alloc(), 0, 128)?, None);
     Ok(())
 }
 
 #[test]
-fn each_byte_from_128_on_is_set_to_each_value(rt: HostRuntime) -> Result<(), Fail> {
-    assert_eq!(rt; first_wrong(rt.alloc(), 128, 256)?, None);
-    Ok(())
+fn each_byte_from_0_on_is_set_to_each_value(rt: HostRuntime) -> Result<(), Wrong> {
+    have_answers(rt.alloc(), 0, 128)
 }
 
 #[test]
-fn each_byte_from_256_on_is_set_to_each_value(rt: HostRuntime) -> Result<(), Fail> {
-    assert_eq!(rt; first_wrong(rt.alloc(), 256, 384)?, None);
-    Ok(())
+fn each_byte_from_128_on_is_set_to_each_value(rt: HostRuntime) -> Result<(), Wrong> {
+    have_answers(rt.alloc(), 128, 256)
 }
 
 #[test]
-fn each_byte_from_384_on_is_set_to_each_value(rt: HostRuntime) -> Result<(), Fail> {
-    assert_eq!(rt; first_wrong(rt.alloc(), 384, 512)?, None);
-    Ok(())
+fn each_byte_from_256_on_is_set_to_each_value(rt: HostRuntime) -> Result<(), Wrong> {
+    have_answers(rt.alloc(), 256, 384)
 }
 
 #[test]
-fn each_byte_from_512_on_is_set_to_each_value(rt: HostRuntime) -> Result<(), Fail> {
-    assert_eq!(rt; first_wrong(rt.alloc(), 512, 640)?, None);
-    Ok(())
+fn each_byte_from_384_on_is_set_to_each_value(rt: HostRuntime) -> Result<(), Wrong> {
+    have_answers(rt.alloc(), 384, 512)
 }
 
 #[test]
-fn each_byte_from_640_on_is_set_to_each_value(rt: HostRuntime) -> Result<(), Fail> {
-    assert_eq!(rt; first_wrong(rt.alloc(), 640, 768)?, None);
-    Ok(())
+fn each_byte_from_512_on_is_set_to_each_value(rt: HostRuntime) -> Result<(), Wrong> {
+    have_answers(rt.alloc(), 512, 640)
 }
 
 #[test]
-fn each_byte_from_768_on_is_set_to_each_value(rt: HostRuntime) -> Result<(), Fail> {
-    assert_eq!(rt; first_wrong(rt.alloc(), 768, 896)?, None);
-    Ok(())
+fn each_byte_from_640_on_is_set_to_each_value(rt: HostRuntime) -> Result<(), Wrong> {
+    have_answers(rt.alloc(), 640, 768)
 }
 
 #[test]
-fn each_byte_from_896_on_is_set_to_each_value(rt: HostRuntime) -> Result<(), Fail> {
-    assert_eq!(rt; first_wrong(rt.alloc(), 896, 1_024)?, None);
-    Ok(())
+fn each_byte_from_768_on_is_set_to_each_value(rt: HostRuntime) -> Result<(), Wrong> {
+    have_answers(rt.alloc(), 768, 896)
 }
 
 #[test]
-fn each_byte_from_1024_on_is_set_to_each_value(rt: HostRuntime) -> Result<(), Fail> {
-    assert_eq!(rt; first_wrong(rt.alloc(), 1_024, 1_152)?, None);
-    Ok(())
+fn each_byte_from_896_on_is_set_to_each_value(rt: HostRuntime) -> Result<(), Wrong> {
+    have_answers(rt.alloc(), 896, 1_024)
 }
 
 #[test]
-fn each_byte_from_1152_on_is_set_to_each_value(rt: HostRuntime) -> Result<(), Fail> {
-    assert_eq!(rt; first_wrong(rt.alloc(), 1_152, 1_280)?, None);
-    Ok(())
+fn each_byte_from_1024_on_is_set_to_each_value(rt: HostRuntime) -> Result<(), Wrong> {
+    have_answers(rt.alloc(), 1_024, 1_152)
 }
 
 #[test]
-fn each_byte_from_1280_on_is_set_to_each_value(rt: HostRuntime) -> Result<(), Fail> {
-    assert_eq!(rt; first_wrong(rt.alloc(), 1_280, 1_408)?, None);
-    Ok(())
+fn each_byte_from_1152_on_is_set_to_each_value(rt: HostRuntime) -> Result<(), Wrong> {
+    have_answers(rt.alloc(), 1_152, 1_280)
 }
 
 #[test]
-fn each_byte_from_1408_on_is_set_to_each_value(rt: HostRuntime) -> Result<(), Fail> {
-    assert_eq!(rt; first_wrong(rt.alloc(), 1_408, 1_536)?, None);
-    Ok(())
+fn each_byte_from_1280_on_is_set_to_each_value(rt: HostRuntime) -> Result<(), Wrong> {
+    have_answers(rt.alloc(), 1_280, 1_408)
 }
 
 #[test]
-fn each_byte_from_1536_on_is_set_to_each_value(rt: HostRuntime) -> Result<(), Fail> {
-    assert_eq!(rt; first_wrong(rt.alloc(), 1_536, 1_664)?, None);
-    Ok(())
+fn each_byte_from_1408_on_is_set_to_each_value(rt: HostRuntime) -> Result<(), Wrong> {
+    have_answers(rt.alloc(), 1_408, 1_536)
 }
 
 #[test]
-fn each_byte_from_1664_on_is_set_to_each_value(rt: HostRuntime) -> Result<(), Fail> {
-    assert_eq!(rt; first_wrong(rt.alloc(), 1_664, 1_792)?, None);
-    Ok(())
+fn each_byte_from_1536_on_is_set_to_each_value(rt: HostRuntime) -> Result<(), Wrong> {
+    have_answers(rt.alloc(), 1_536, 1_664)
 }
 
 #[test]
-fn each_byte_from_1792_on_is_set_to_each_value(rt: HostRuntime) -> Result<(), Fail> {
-    assert_eq!(rt; first_wrong(rt.alloc(), 1_792, 1_920)?, None);
-    Ok(())
+fn each_byte_from_1664_on_is_set_to_each_value(rt: HostRuntime) -> Result<(), Wrong> {
+    have_answers(rt.alloc(), 1_664, 1_792)
 }
 
 #[test]
-fn each_byte_from_1920_on_is_set_to_each_value(rt: HostRuntime) -> Result<(), Fail> {
-    assert_eq!(rt; first_wrong(rt.alloc(), 1_920, LENGTH)?, None);
-    Ok(())
+fn each_byte_from_1792_on_is_set_to_each_value(rt: HostRuntime) -> Result<(), Wrong> {
+    have_answers(rt.alloc(), 1_792, 1_920)
 }
 
 #[test]
-fn a_file_that_is_cut_is_refused(rt: HostRuntime) -> Result<(), Fail> {
+fn each_byte_from_1920_on_is_set_to_each_value(rt: HostRuntime) -> Result<(), Wrong> {
+    have_answers(rt.alloc(), 1_920, LENGTH)
+}
+
+#[test]
+fn a_file_that_is_cut_is_refused(rt: HostRuntime) {
     let alloc = rt.alloc();
     for len in 0..LENGTH {
         let fault = if len < 1_024 {
@@ -262,13 +257,9 @@ fn a_file_that_is_cut_is_refused(rt: HostRuntime) -> Result<(), Fail> {
         } else {
             Fault::Damaged
         };
-        assert_eq!(rt;
-            look(alloc, &example()[..len])?,
-            Answer::Refused(fault),
-            "{len} bytes"
-        );
+        let answer = look(alloc, &example()[..len]);
+        assert_eq!(rt; answer, Ok(Answer::Refused(fault)), "{len} bytes");
     }
-    Ok(())
 }
 
 // The example with so many bytes behind it.
@@ -280,13 +271,19 @@ fn extended(alloc: Global, more: usize, value: u8) -> Result<Vec<u8>, Fault> {
     Ok(bytes)
 }
 
+fn look_at_extended(alloc: Global, more: usize, value: u8) -> Result<Answer, Fault> {
+    let bytes = extended(alloc, more, value)?;
+    look(alloc, &bytes)
+}
+
 #[test]
 fn a_file_with_bytes_appended_is_the_same(rt: HostRuntime) -> Result<(), Fail> {
     let alloc = rt.alloc();
     for value in VALUES {
         for more in [1, 509, 510, 1_100] {
-            let bytes = extended(alloc, more, value)?;
-            assert_eq!(rt; look(alloc, &bytes)?, same(alloc)?, "{more} bytes");
+            let want = same(alloc)?;
+            let answer = look_at_extended(alloc, more, value);
+            assert_eq!(rt; answer, Ok(want), "{more} bytes");
         }
     }
     Ok(())
@@ -302,14 +299,18 @@ fn with_two_slots(number: u8) -> [u8; LENGTH] {
     bytes
 }
 
+fn look_at_two_slots(alloc: Global, number: u8) -> Result<Answer, Fault> {
+    look(alloc, &with_two_slots(number))
+}
+
 #[test]
 fn of_two_open_slots_the_greater_number_counts(rt: HostRuntime) -> Result<(), Fail> {
     let alloc = rt.alloc();
-    assert_eq!(rt; look(alloc, &with_two_slots(4))?, same(alloc)?);
-    assert_eq!(rt;
-        look(alloc, &with_two_slots(5))?,
-        Answer::Refused(Fault::Damaged)
-    );
+    let want = same(alloc)?;
+    let lower = look_at_two_slots(alloc, 4);
+    assert_eq!(rt; lower, Ok(want));
+    let equal = look_at_two_slots(alloc, 5);
+    assert_eq!(rt; equal, Ok(Answer::Refused(Fault::Damaged)));
     let steps = [IsEmpty, Revert, Has(1, b"\0ab")];
     read(alloc, &with_two_slots(6), &steps)?;
     Ok(())
@@ -321,16 +322,24 @@ fn refused(alloc: Global, passes: u64) -> Result<FuseStore<MemStore>, Departure>
     given_back(VmFile::open(alloc, store))
 }
 
+// The calls of that store when it is given back and when it is opened then, and where it has other bytes than the example.
+fn given_back_and_opened(
+    alloc: Global,
+    passes: u64,
+) -> Result<(u64, u64, Option<usize>), Departure> {
+    let store = refused(alloc, passes)?;
+    let before = store.calls();
+    let store = kept(alloc, store, &[])?;
+    let other = first_other_byte(store.inner().bytes(), &example());
+    Ok((before, store.calls(), other))
+}
+
 // The length, two slots, two directories, one image, and a sync.
 #[test]
 fn a_refused_opening_gives_the_store_back(rt: HostRuntime) -> Result<(), Fail> {
-    let alloc = rt.alloc();
     for passes in 0..7 {
-        let store = refused(alloc, passes)?;
-        assert_eq!(rt; store.calls(), passes + 1);
-        let store = kept(alloc, store, &[])?;
-        assert_eq!(rt; store.calls(), passes + 1 + 7);
-        assert_eq!(rt; store.inner().bytes(), example().as_slice());
+        let answer = given_back_and_opened(rt.alloc(), passes)?;
+        assert_eq!(rt; answer, (passes + 1, passes + 1 + 7, None));
     }
     Ok(())
 }

@@ -1,9 +1,10 @@
 // A file whose number is at its last value.
+use crate::calls::first_other_byte;
 use crate::example::{LENGTH, example};
 use crate::steps::Step::{
     Has, HasNoBlock, HasUserId, IsNotWorn, IsWornOut, Put, Remove, Save, SetUserId,
 };
-use crate::steps::read;
+use crate::steps::{Step, read};
 use std::test::Fail;
 
 fn worn() -> [u8; LENGTH] {
@@ -12,22 +13,24 @@ fn worn() -> [u8; LENGTH] {
     bytes
 }
 
+// An edit, and the same taken back.
+const EDITED: [Step; 10] = [
+    IsWornOut,
+    SetUserId(1, 9),
+    HasUserId(1, 9),
+    SetUserId(1, 7),
+    HasUserId(1, 7),
+    IsWornOut,
+    SetUserId(1, 9),
+    HasUserId(1, 9),
+    SetUserId(1, 7),
+    HasUserId(1, 7),
+];
+
 #[test]
 fn a_worn_file_is_edited_and_not_committed(rt: HostRuntime) -> Result<(), Fail> {
-    let steps = [
-        IsWornOut,
-        SetUserId(1, 9),
-        HasUserId(1, 9),
-        SetUserId(1, 7),
-        HasUserId(1, 7),
-        IsWornOut,
-        SetUserId(1, 9),
-        HasUserId(1, 9),
-        SetUserId(1, 7),
-        HasUserId(1, 7),
-    ];
-    let store = read(rt.alloc(), &worn(), &steps)?;
-    assert_eq!(rt; store.bytes(), worn().as_slice());
+    let store = read(rt.alloc(), &worn(), &EDITED)?;
+    assert_eq!(rt; first_other_byte(store.bytes(), &worn()), None);
     Ok(())
 }
 
