@@ -1,5 +1,5 @@
 -- Changes that are carried out one after another.
-use Rattle.std.proofs.Common.{◌≡◌, ◌≤◌, ◌<◌, ◌+◌, nat_lt, ℕ, Bool, List, [], ◌∷◌, map, length, reverse, get_or, drop, Option, None, Some, is_some, true, inl, inr, refl, sym, ap, subst, ◌∙◌}
+use Rattle.std.proofs.Common.{◌≡◌, ◌≤◌, ◌<◌, ◌+◌, nat_lt, ℕ, Bool, List, [], ◌∷◌, map, length, reverse, get_or, drop, Option, None, Some, inl, inr, refl, sym, ap, subst, ◌∙◌}
 use Rattle.std.specs.Prelude.{Result, Ok, Err, IfErr, OnOk, OnErr}
 use Rattle.std.proofs.lemmas.List.{drop_more, at_drop_all}
 use Rattle.vm_store.specs.Facts.{StoreFacts}
@@ -9,7 +9,7 @@ use Rattle.vm_file.specs.Disk.{Disk, Drifts, MarkDrifts, Passes, unmarked}
 use Rattle.vm_file.specs.Effects.{Fails, NoFault}
 use Rattle.vm_file.specs.Members.{saved_blocks}
 use Rattle.vm_file.proofs.Passing.{Passes-refl, Passes-trans, Drifts-refl, Drifts-trans}
-use Rattle.block_cache.specs.State.{CacheState, Seat, locks_of, locked_count, KeepsLocks, Marks, Stays}
+use Rattle.block_cache.specs.State.{CacheState, Seat, locks_of, locked_count, KeepsLocks, Marks}
 use Rattle.block_cache.proofs.Locks.{keeps_refl, none_locked}
 use Rattle.block_cache.proofs.Marking.{none_marked}
 use Rattle.vm_blocks.specs.Changes.{made, turned}
@@ -20,7 +20,7 @@ use Rattle.vm_blocks.specs.declared.change.Change.TheVariants as changes
 use Rattle.vm_blocks.specs.declared.change.Direction.{Direction}
 use Rattle.vm_blocks.proofs.KeepingLaws.{keeps-by, keeps-passes, lacks-since, none-open, shut-full, steady-honest, steady-on}
 use Rattle.vm_blocks.proofs.Preparing.{all_listed_on, made_on}
-use Rattle.vm_blocks.proofs.Turned.{lacks_of, same_locks}
+use Rattle.vm_blocks.proofs.Turned.{lacks_of}
 
 pub made_all_on : (cs : List Change) (honest : Bool) (a b : Document) → Drifts honest a b → Drifts honest (made_all cs a) (made_all cs b)
 made_all_on [] honest a b drifts = drifts
@@ -135,10 +135,6 @@ module _ {S : Type 0} (facts : S → StoreFacts) where
   not_marked all (Err fault) old new fails =
       inl (lacks_of facts (Err fault) old.disk.store new.disk.store (record { file = fails.file; faults = elim fails.faults [ inl supply ↦ inl supply | inr never ↦ absurd never ] }))
 
-  pub stays_keeps : (r : Result (Unit {0}) Fault) (old new : CacheState S) → OnErr r (Stays facts old new) → new.resident ≡ old.resident → OnErr r (Keeps facts old new)
-  stays_keeps (Ok done) old new stays same = tt
-  stays_keeps (Err fault) old new stays same = keeps-by facts old new stays (same_locks old.resident new.resident same)
-
   module _ (all : List Change) (old mid : CacheState S) (marks : Marks facts old mid) (same : mid.resident ≡ old.resident) where
     pub listed_marked : AllListed all old.document → AllListed all mid.document
     listed_marked listed = all_listed_on (facts old.disk.store).honest all old.document mid.document marks.document listed
@@ -162,9 +158,6 @@ module _ {S : Type 0} (facts : S → StoreFacts) where
       marked_last : Passes facts mid.disk last.disk → MarkDrifts (facts old.disk.store).honest (Some marks.marked.0) last.disk.marked
       marked_last p = subst (λ (m : Option Document). MarkDrifts (facts old.disk.store).honest m last.disk.marked) marks.marked.1 (subst (λ (t : Bool). MarkDrifts t mid.disk.marked last.disk.marked) marks.passes.honest p.marked)
 
-      pub still_marked : Passes facts mid.disk last.disk → is_some last.disk.marked ≡ true
-      still_marked p = ap is_some (marked_last p).1
-
       pub unready_through : (new : CacheState S) (fault : Fault) → new.disk ≡ unmarked last.disk → AreUnready facts all mid last fault → AreUnready facts all old new fault
       unready_through new fault disk unready = elim unready as (λ _. AreUnready facts all old new fault) [
         | inl lacks ↦ inl (subst (λ (d : Disk S). Lacks facts old.disk.store d.store fault) (sym disk) (lacks-since facts old.disk.store mid.disk.store last.disk.store fault marks.passes.honest marks.passes.failures lacks))
@@ -173,7 +166,7 @@ module _ {S : Type 0} (facts : S → StoreFacts) where
 
       -- and the marked document was brought back
       module _ (new : CacheState S) (back : Some new.document ≡ last.disk.marked) (p : Passes facts mid.disk last.disk) where
-        pub document_back : Drifts (facts old.disk.store).honest old.document new.document
+        document_back : Drifts (facts old.disk.store).honest old.document new.document
         document_back =
             let m = marked_last p in
             let is : m.0 ≡ new.document = cc (back ∙ m.1) in

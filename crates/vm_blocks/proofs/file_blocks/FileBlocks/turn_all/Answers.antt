@@ -1,12 +1,11 @@
-use Rattle.std.proofs.Common.{◌≡◌, ◌≤◌, ◌∷◌, List, length, reverse, refl, ap, sym, subst, ◌∙◌, arith}
-use Rattle.std.specs.Prelude.{Result, Err, IfErr}
+use Rattle.std.proofs.Common.{◌≤◌, List, length, reverse, ap, sym, subst, ◌∙◌, arith}
+use Rattle.std.specs.Prelude.{◌+◌, Result, Err, IfErr}
 use Rattle.std.proofs.lemmas.List.{length_push}
 use Rattle.std.proofs.lemmas.Result.{err_from_is_err_and}
 use Rattle.std.proofs.lemmas.Iterator.Adapters.{YieldsList-from_rev_slice}
 use Rattle.std.proofs.lemmas.Iterator.Consumers.{YieldsList-turn, YieldsList-end}
 use Rattle.geos_model.specs.declared.fault.Fault.{Fault}
 use Rattle.vm_file.proofs.Passing.{Passes-trans}
-use Rattle.block_cache.specs.State.{locked_count}
 use Rattle.vm_blocks.specs.Changes.{turned, turned_all}
 use Rattle.vm_blocks.specs.Preparing.{AreUnready}
 use Rattle.vm_blocks.specs.declared.change.Change.{Change}
@@ -42,7 +41,18 @@ loop-change-preserved g c =
     (carries_more facts all change (left c.args.direction c.args.changes.now (n + 1)) c.args.self.now l.self c.turn.new.self p c.in_ok-turn.ensures.ok)
 
 pub returns-in_err-turn-clause-refusals : goal.returns-in_err-turn-clause-refusals
-returns-in_err-turn-clause-refusals g c = ?
+returns-in_err-turn-clause-refusals g c =
+    let facts = g.S.Store.facts in
+    let l = c.loop-change in
+    let all = turned_all c.args.direction c.args.changes.now in
+    let n = length l.yielded in
+    let change = turned c.args.direction c.in-Some.change.now in
+    let t = YieldsList-turn (YieldsList-from_rev_slice c.args.changes.now cc) l.yielded _ l.yielded_by _ _ c.in-Some.change c.in-Some.is c.next.ensures.steps in
+    let p = subst (λ (rest : List Change). Carries facts all rest c.args.self.now l.self) (left_more c.args.direction c.args.changes.now n c.in-Some.change.now t) l.invariant in
+    let near = in_reach l.self (l.invariant.locks.count ∙ c.requires.unlocked) (subst (λ k. 1 ≤ k) (sym l.invariant.frames) c.validity.ensures.some) change in
+    let e = err_from_is_err_and c.from_residual.result c.from_residual.ensures.1 in
+    subst (λ (r : Result (Unit {0}) Fault). IfErr r (AreUnready facts all c.args.self.now c.turn.new.self)) (sym (e.1 ∙ ap Err e.2))
+    (carries_unready facts all change (left c.args.direction c.args.changes.now (n + 1)) c.args.self.now l.self c.turn.new.self p c.in_err-turn.field-0.0 near c.in_err-turn.ensures.refusals)
 
 pub returns-in_err-turn-clause-passes : goal.returns-in_err-turn-clause-passes
 returns-in_err-turn-clause-passes g c =
