@@ -15,7 +15,8 @@ type Blocks = FileBlocks<FuseStore<MemStore>>;
 
 // How many bytes the image of a heap has that is empty, and of one with a chunk of four bytes.
 const EMPTY: usize = 3;
-const FULL: usize = 11;
+
+const FULL: usize = 9;
 
 // A file of four empty heaps in a store of which one call fails, the one after so many.
 fn four(alloc: Global, passes: u64) -> Result<Blocks, Fault>
