@@ -20,7 +20,6 @@ use Rattle.vm_file.specs.Effects.{IsCommit, Fails, IsWorn}
 use Rattle.vm_file.specs.Documents.{Documents}
 use Rattle.vm_blocks.specs.declared.change.Change.{Change}
 use Rattle.vm_blocks.specs.declared.change.Direction.TheVariants.{Backwards}
-use Rattle.vm_blocks.specs.Committing.{IsRevertFault}
 use Rattle.undo_log.specs.Locking.{IsHeld, TriesCommit}
 use Rattle.undo_log.specs.Records.{SessionState, file_of, has_locks, locks_in, machine_of, has_failed, AreListed, AreSteps, IsExact, IsStep}
 use Rattle.undo_log.proofs.Keeping.{drifted_listed, failed_true, machine_is, same_exact}
@@ -76,9 +75,9 @@ module _ {S : Type 0} (facts : S → StoreFacts) (target : Bool) (old new : Sess
       refused_commit _ (machine_of target old) (machine_of target new) commands.Save fault (stays fault _ commit.commits (commit.document.same so) lists.0 lists.1 lists.2) refl none refl refl
       (λ is. commit.worn.0 (ap Err is)) (λ is. failed_true (facts old.disk.store) (facts new.disk.store) (fails.file (ap Err is))) fails.faults
 
-  -- a revert, which over an honest store never finds a damaged image
+  -- a revert
   pub revert_step : (result : Result (Unit {0}) Fault) → IsCommit facts (old.disk.saved, old.disk.saved) old.disk.saved (file_of old) (file_of new) result
-      → Fails facts (IsRevertFault (facts old.disk.store).honest) old.disk.store new.disk.store result
+      → Fails facts IsWorn old.disk.store new.disk.store result
       → MatchResult result (λ _. (new.undo ≡ []) × (new.redo ≡ [])) (λ _. (new.undo ≡ old.undo) × (new.redo ≡ old.redo)) → new.frames ≡ old.frames
       → Step (has_failed (facts old.disk.store) (facts new.disk.store)) (machine_of target old) (Some commands.Revert) (reply_by (λ _. Accepted) result) (machine_of target new)
   revert_step (Ok x) commit fails lists frames =
@@ -86,9 +85,8 @@ module _ {S : Type 0} (facts : S → StoreFacts) (target : Bool) (old new : Sess
       let fresh = not_worn (Ok x) commit.worn refl in
       inl (rw (none, fresh, ← machine_is target old.disk.saved old.disk.saved old.disk.saved [] [] (locks_in old.resident) old.frames (old.disk.sequence + 1) new (sym (commit.document.same so)) (sym lists.0) (sym lists.1) (sym (ap (λ p. p.0) is.0)) (sym (ap (λ p. p.1) is.0)) (sym locks) (sym frames) (sym commit.commits.sequence)) refl)
   revert_step (Err fault) commit fails lists frames =
-      let refusal : IsCommitRefusal fault = elim fails.faults [ inl supply ↦ inl supply | inr (inl worn) ↦ inr worn | inr (inr damage) ↦ absurd (damage.1 so) ] in
       refused_commit _ (machine_of target old) (machine_of target new) commands.Revert fault (stays fault _ commit.commits (commit.document.same so) lists.0 lists.1 frames) refl none refl refl
-      (λ is. commit.worn.0 (ap Err is)) (λ is. failed_true (facts old.disk.store) (facts new.disk.store) (fails.file (ap Err is))) refusal
+      (λ is. commit.worn.0 (ap Err is)) (λ is. failed_true (facts old.disk.store) (facts new.disk.store) (fails.file (ap Err is))) fails.faults
 
 -- the document stays, whether it is refused or not
 kept_document : (honest : Bool) (a b : Document) (result : Result (Unit {0}) Fault) → MatchResult result (λ _. Drifts honest a b) (λ _. Drifts honest a b) → Drifts honest a b
@@ -112,7 +110,7 @@ module _ {S : Type 0} (facts : S → StoreFacts) (old new : SessionState S) (non
   )
 
   pub revert_is : (result : Result (Unit {0}) Fault) → IsCommit facts (old.disk.saved, old.disk.saved) old.disk.saved (file_of old) (file_of new) result
-      → Fails facts (IsRevertFault (facts old.disk.store).honest) old.disk.store new.disk.store result
+      → Fails facts IsWorn old.disk.store new.disk.store result
       → MatchResult result (λ _. (new.undo ≡ []) × (new.redo ≡ [])) (λ _. (new.undo ≡ old.undo) × (new.redo ≡ old.redo)) → new.frames ≡ old.frames
       → MatchResult result (λ _. new.resident ≡ []) (λ _. new.resident ≡ old.resident)
       → IfOk result (λ _. IsTrue (facts new.disk.store).honest → IsValid new.document) → IsStep facts old new commands.Revert (reply_by (λ _. Accepted) result)

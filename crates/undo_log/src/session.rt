@@ -17,7 +17,7 @@ ghost use Rattle.vm_file.specs.Documents.{sequence_in};
 ghost use Rattle.vm_file.specs.Effects.{IsCommit, Fails, IsWorn};
 ghost use Rattle.block_cache.specs.Bodies.{body_of};
 ghost use Rattle.block_cache.specs.State.{locks_of, locked_count};
-ghost use Rattle.vm_blocks.specs.Committing.{IsRevertFault, IsSavedAs};
+ghost use Rattle.vm_blocks.specs.Committing.{IsSavedAs};
 ghost use Rattle.vm_blocks.specs.Keeping.{IsSteady, Lacks, is_full, is_loaded};
 ghost use Rattle.vm_blocks.specs.Locking.{CantLock, GainsLock, HasNoLock, LosesLock};
 ghost use Rattle.vm_blocks.specs.Opening.{IsOpenedFrom, IsNotOpened, IsMadeIn, IsNotMade};
@@ -167,12 +167,11 @@ impl<S: Store> Session<S> {
     }
 
     /// Makes the saved document the updated one and the document as it is now, with nothing to undo. Where it is refused the
-    /// document, over an honest store, and both lists stay. Refused as an update is; over a store that isn't honest what is read may
-    /// be no image, which is Damaged.
+    /// document, over an honest store, and both lists stay. Refused as an update is.
     pub fn revert(&mut self) -> Result<(), Fault>
         ensures step { IsStep S.facts self.old self.new commands.Revert (reply_by (λ _. Accepted) result) }
         ensures commit { TriesCommit S.facts (self.old.disk.saved, self.old.disk.saved) self.old.disk.saved self.old self.new result }
-        ensures fails { Fails S.facts (λ fault. IsRevertFault (S.facts self.old.disk.store).honest fault ⊎ IsHeld self.old fault) self.old.disk.store self.new.disk.store result }
+        ensures fails { Fails S.facts (λ fault. IsWorn fault ⊎ IsHeld self.old fault) self.old.disk.store self.new.disk.store result }
         ensures exact { OnOk result (IsTrue (S.facts self.old.disk.store).honest → IsExact S.facts self.new) }
         ensures lists { MatchResult result (λ _. (self.new.undo ≡ []) × (self.new.redo ≡ [])) (λ _. (self.new.undo ≡ self.old.undo) × (self.new.redo ≡ self.old.redo)) × (self.new.frames ≡ self.old.frames) }
         ensures resident { MatchResult result (λ _. self.new.resident ≡ []) (λ _. self.new.resident ≡ self.old.resident) }

@@ -20,7 +20,6 @@ use Rattle.block_cache.specs.State.{CacheState, Seat, is_resident, seated, seen,
 use Rattle.block_cache.proofs.Locks.{keeps_refl}
 use Rattle.vm_blocks.proofs.ManyBlocks.{in_handles}
 use Rattle.vm_blocks.specs.Changes.{AreFree, made, part_made}
-use Rattle.vm_blocks.specs.Committing.{IsRevertFault}
 use Rattle.vm_blocks.specs.Keeping.{Keeps, Lacks, is_loaded}
 use Rattle.vm_blocks.specs.Parts.{body_made}
 use Rattle.vm_blocks.specs.Preparing.{BodyTakes, IsAtHand, IsOutOfReach, IsUnready, Turns}
@@ -71,10 +70,6 @@ module _ {S : Type 0} (facts : S → StoreFacts) where
     ]
     | inr damage ↦ inr (inr damage)
   ]
-
-  pub revert_fails : (r : Result (Unit {0}) Fault) (a b : S) → Fails facts IsWorn a b r → Fails facts (IsRevertFault (facts a).honest) a b r
-  revert_fails (Ok done) a b fails = record { file = fails.file; faults = tt }
-  revert_fails (Err fault) a b fails = record { file = fails.file; faults = elim fails.faults [ inl supply ↦ inl supply | inr worn ↦ inr (inl worn) ] }
 
   -- A change that is made on the same disk.
 

@@ -8,14 +8,14 @@ ghost use Rattle.std.specs.List.{All};
 ghost use Rattle.geos_model.specs.Document.{IsValid, block_at, is_heap, is_raw, next_handle, is_live, is_vm_handle, user_id_of, handles_of, without_block, without_blocks};
 ghost use Rattle.geos_model.specs.ElementArray.{all_distinct};
 ghost use Rattle.geos_model.specs.Reply.{found};
-ghost use Rattle.vm_file.specs.Calls.{IsCommitRefusal, last_sequence};
+ghost use Rattle.vm_file.specs.Calls.{last_sequence};
 ghost use Rattle.vm_file.specs.Disk.{IsListed, IsSettled, Passes};
 ghost use Rattle.vm_file.specs.Effects.{IsCommit, Fails, IsWorn};
 ghost use Rattle.vm_file.specs.Members.{saved_blocks};
 ghost use Rattle.block_cache.specs.Bodies.{body_of};
 ghost use Rattle.block_cache.specs.State.{is_resident, locks_of, locked_count, seen, KeepsLocks};
 ghost use Rattle.vm_blocks.specs.Changes.{made, part_made, turned, turned_all, turned_part, blocks_in, AreFree};
-ghost use Rattle.vm_blocks.specs.Committing.{IsRevertFault, IsSavedAs, IsNotSavedAs};
+ghost use Rattle.vm_blocks.specs.Committing.{IsSavedAs, IsNotSavedAs};
 ghost use Rattle.vm_blocks.specs.Keeping.{Keeps, Lacks, LacksFrame, is_full, is_loaded, is_shut_out};
 ghost use Rattle.vm_blocks.specs.Locking.{GainsLock, LosesLock, CantLock, HasNoLock};
 ghost use Rattle.vm_blocks.specs.Opening.{IsOpenedFrom, IsNotOpened, IsMadeIn, IsNotMade};
@@ -136,8 +136,7 @@ impl<S: Store> FileBlocks<S> {
     /// refused, as an update is, those in memory stay.
     pub fn revert(&mut self) -> Result<(), Fault>
         ensures commit { IsCommit S.facts (self.old.disk.saved, self.old.disk.saved) self.old.disk.saved (seen self.old) (seen self.new) result }
-        ensures fails { Fails S.facts (IsRevertFault (S.facts self.old.disk.store).honest) self.old.disk.store self.new.disk.store result }
-        ensures refusals { IfErr result IsCommitRefusal }
+        ensures fails { Fails S.facts IsWorn self.old.disk.store self.new.disk.store result }
         ensures ok { OnOk result (self.new.resident ≡ []) }
         ensures err { OnErr result (self.new.resident ≡ self.old.resident) }
         ensures frames { self.new.frames ≡ self.old.frames }
