@@ -9,6 +9,7 @@ use Rattle.geos_model.specs.declared.command.Command.TheVariants as commands
 use Rattle.geos_model.specs.declared.command.Kind.TheVariants.{Made}
 use Rattle.geos_model.specs.declared.fault.Fault.TheVariants.{Locked, Memory}
 use Rattle.vm_file.specs.Disk.{Passes}
+use Rattle.vm_file.proofs.Passing.{Passes-refl}
 use Rattle.vm_blocks.specs.Keeping.{Lacks}
 use Rattle.vm_blocks.specs.declared.change.Change.{Change}
 use Rattle.vm_blocks.specs.declared.change.Direction.TheVariants.{Backwards}
@@ -266,3 +267,12 @@ returns-clause-already g c =
 pub returns-clause-shut : goal.returns-clause-shut
 returns-clause-shut g c = λ out.
     absurd (c.in_ok-change.ensures.shut (subst (λ (s : SessionState g.row.S.Denot). has_no_room (blocks_of s) (edit_needs c.args.edit.now) ≡ true) (sym c.self.view_is) out)).1
+
+pub returns-then-is_barred-clause-passes : goal.returns-then-is_barred-clause-passes
+returns-then-is_barred-clause-passes g c = Passes-refl g.S.Store.facts _
+
+pub returns-in_err-reserve-clause-passes : goal.returns-in_err-reserve-clause-passes
+returns-in_err-reserve-clause-passes g c = subst (λ (s : SessionState g.row.S.Denot). Passes g.S.Store.facts s.disk c.self.inside.blocks.disk) c.self.view_is (Passes-refl g.S.Store.facts c.self.inside.blocks.disk)
+
+pub returns-in_err-reserve-2-clause-passes : goal.returns-in_err-reserve-2-clause-passes
+returns-in_err-reserve-2-clause-passes g c = subst (λ (s : SessionState g.row.S.Denot). Passes g.S.Store.facts s.disk c.self.inside.blocks.disk) c.self.view_is (Passes-refl g.S.Store.facts c.self.inside.blocks.disk)

@@ -6,6 +6,7 @@ use Rattle.geos_model.specs.Reply.{Accepted, reply_by}
 use Rattle.geos_model.specs.declared.command.Command.TheVariants as commands
 use Rattle.geos_model.specs.declared.fault.Fault.TheVariants.{NothingToRedo}
 use Rattle.vm_file.specs.Disk.{Passes}
+use Rattle.vm_file.proofs.Passing.{Passes-refl}
 use Rattle.vm_blocks.specs.declared.change.Direction.TheVariants.{Forwards}
 use Rattle.vm_blocks.proofs.KeepingLaws.{keeps-passes}
 use Rattle.undo_log.specs.Records.{SessionState, has_locks, IsStep, KeepsSession}
@@ -94,3 +95,6 @@ returns-in_err-turn-clause-sure g c =
     let new = session_with c.turn.new.blocks (reverse c.turn.new.to.items) (reverse c.turn.new.from.items) in
     subst (λ (s : SessionState g.row.S.Denot). has_locks s ≡ false → IsSure facts s Forwards s.redo → IsOk c.from_residual.result × (new.disk ≡ s.disk) × (new.document ≡ newest_made Forwards s.redo s.document)) c.self.view_is
     (λ none sure. absurd (true≢false (sym (c.in_err-turn.ensures.sure (sure_turns facts old Forwards old.redo (λ exact. exact.steps.second) sure)).0)))
+
+pub returns-then-has_locks-clause-passes : goal.returns-then-has_locks-clause-passes
+returns-then-has_locks-clause-passes g c = Passes-refl g.S.Store.facts _
