@@ -1,9 +1,9 @@
 // Sessions with one frame: which block is in memory, and how often the store is called for it.
-use crate::calls::{BLOCK, Fused, fused, hold};
+use crate::calls::{BLOCK, Fused, create_in, fused, made, tell};
+use dialogues::Departure;
 use geos_model::VmHandle;
 use std::alloc::Global;
 use std::test::Fail;
-use undo_log::Session;
 
 // Another block than the first.
 const OTHER: VmHandle = VmHandle(2);
@@ -18,22 +18,14 @@ const SAVED: &str = "
     vread 0001   = bytes 00
     ";
 
-// A session on that document with one frame, when it has answered so, over a store of which the call after so many fails, or all from
-// there on.
-fn told(alloc: Global, passes: u64, all: bool, text: &str) -> Result<Fused, Fail> {
-    let store = fused(alloc, passes, all);
-    let session = Session::create(alloc, store, 1).map_err(|refused| refused.fault)?;
-    let session = hold(alloc, session, None, SAVED)?;
-    Ok(hold(alloc, session, None, text)?)
-}
-
-// The store calls of such a session.
-fn calls(alloc: Global, text: &str) -> Result<u64, Fail> {
-    Ok(told(alloc, u64::MAX, false, text)?.close().calls())
+// The store calls of a session with one frame on that document, when it has answered so.
+fn calls(alloc: Global, text: &str) -> Result<u64, Departure> {
+    let store = fused(alloc, u64::MAX, false);
+    Ok(made(alloc, store, 1, &[SAVED, text])?.calls())
 }
 
 // Whether this takes so many store calls behind that.
-fn takes(alloc: Global, before: &str, text: &str, more: u64) -> Result<bool, Fail> {
+fn takes(alloc: Global, before: &str, text: &str, more: u64) -> Result<bool, Departure> {
     let first = calls(alloc, before)?;
     let all = calls(alloc, &format!(in alloc; "{before}\n{text}")?)?;
     Ok(first.checked_add(more) == Some(all))
@@ -41,21 +33,46 @@ fn takes(alloc: Global, before: &str, text: &str, more: u64) -> Result<bool, Fai
 
 const EDIT: &str = "vwrite 0001 0 61 = ok";
 
+// Whether the first block is in memory alone, or else the other one.
+fn is_first_alone(session: &Fused) -> Result<bool, Fail> {
+    match (session.is_resident(BLOCK), session.is_resident(OTHER)) {
+        (true, false) => Ok(true),
+        (false, true) => Ok(false),
+        _ => Err(Fail::new("none of the blocks is in memory, or both are")),
+    }
+}
+
+// Takes a step while the other block is in memory, and reads that again. Returns whether the step brings the first one in.
+fn is_brought_in(alloc: Global, session: &mut Fused, step: &str) -> Result<bool, Fail> {
+    if is_first_alone(session)? {
+        return Err(Fail::new("the first block is in memory before the step"));
+    }
+    tell(alloc, session, None, step)?;
+    let is_in = is_first_alone(session)?;
+    tell(alloc, session, None, "vread 0002 = bytes 00")?;
+    Ok(is_in)
+}
+
+// The first of the steps that does not bring the first block in.
+fn first_lost(alloc: Global, session: &mut Fused) -> Result<Option<&'static str>, Fail> {
+    tell(alloc, session, None, SAVED)?;
+    tell(alloc, session, None, "vread 0002 = bytes 00")?;
+    for step in [EDIT, "undo = ok", "redo = ok"] {
+        if !is_brought_in(alloc, session, step)? {
+            return Ok(Some(step));
+        }
+    }
+    Ok(None)
+}
+
 #[test]
 fn a_block_is_in_memory_behind_an_edit_of_it_an_undo_and_a_redo(
     rt: HostRuntime,
 ) -> Result<(), Fail> {
     let alloc = rt.alloc();
-    let mut session = told(alloc, u64::MAX, false, "vread 0002 = bytes 00")?;
-    for step in [EDIT, "undo = ok", "redo = ok"] {
-        assert!(rt; session.is_resident(OTHER) && !session.is_resident(BLOCK));
-        session = hold(alloc, session, None, step)?;
-        assert!(rt;
-            session.is_resident(BLOCK) && !session.is_resident(OTHER),
-            "{step}"
-        );
-        session = hold(alloc, session, None, "vread 0002 = bytes 00")?;
-    }
+    let mut session = create_in(alloc, fused(alloc, u64::MAX, false), 1)?;
+    let lost = first_lost(alloc, &mut session);
+    assert_eq!(rt; lost?, None);
     Ok(())
 }
 
@@ -132,12 +149,7 @@ fn an_undo_of_an_edit_in_a_block_in_memory_calls_no_store(rt: HostRuntime) -> Re
 fn such_an_undo_is_sure_while_the_store_fails(rt: HostRuntime) -> Result<(), Fail> {
     let alloc = rt.alloc();
     let passes = calls(alloc, EDIT)?;
-    let session = told(alloc, passes, true, EDIT)?;
-    hold(
-        alloc,
-        session,
-        None,
-        "undo = ok
+    let sure = "undo = ok
         vread 0001 = bytes 00
         redo = ok
         vread 0001 = bytes 61
@@ -146,7 +158,7 @@ fn such_an_undo_is_sure_while_the_store_fails(rt: HostRuntime) -> Result<(), Fai
         undo = ok
         vread 0001 = bytes 00
         undos = number 4
-        redos = number 1",
-    )?;
+        redos = number 1";
+    made(alloc, fused(alloc, passes, true), 1, &[SAVED, EDIT, sure])?;
     Ok(())
 }

@@ -1,8 +1,8 @@
 // Sessions, scripts that they answer, and what their files hold.
 use dialogues::{Departure, Dialogue};
 use geos_model::{Fault, VmHandle};
-use geos_shell::{RunFault, run};
-use std::alloc::Global;
+use geos_shell::{RunFault, run_in};
+use std::alloc::{AllocError, Global};
 use undo_log::Session;
 use vm_store::{FuseStore, MemStore, Store};
 
@@ -32,14 +32,38 @@ pub(crate) fn both(byte: u8) -> Pair {
     }
 }
 
+/// A session on a new file, with so many frames. Range where there can be none with so many.
+pub(crate) fn create_in<S: Store>(
+    alloc: Global,
+    store: S,
+    frames: usize,
+) -> Result<Session<S>, Fault> {
+    if frames == 0 || frames > 64 {
+        return Err(Fault::Range);
+    }
+    Session::create(alloc, store, frames).map_err(|refused| refused.fault)
+}
+
 pub(crate) fn create<S: Store>(alloc: Global, store: S) -> Result<Session<S>, Fault> {
-    Session::create(alloc, store, FRAMES).map_err(|refused| refused.fault)
+    create_in(alloc, store, FRAMES)
+}
+
+/// A session on the file that a store has, with so many frames. Range where there can be none with so many.
+pub(crate) fn open_in<S: Store>(
+    alloc: Global,
+    store: S,
+    frames: usize,
+) -> Result<Session<S>, Fault> {
+    if frames == 0 || frames > 64 {
+        return Err(Fault::Range);
+    }
+    Session::open(alloc, store, frames).map_err(|refused| refused.fault)
 }
 
 /// A session on a file in memory with these bytes.
 pub(crate) fn open(alloc: Global, bytes: &[u8]) -> Result<Session<MemStore>, Fault> {
     let store = MemStore::from_bytes(alloc, bytes)?;
-    Session::open(alloc, store, FRAMES).map_err(|refused| refused.fault)
+    open_in(alloc, store, FRAMES)
 }
 
 /// A file in memory, of which the call after so many fails, or all from there on.
@@ -47,28 +71,102 @@ pub(crate) fn fused(alloc: Global, passes: u64, all: bool) -> FuseStore<MemStore
     FuseStore::new(MemStore::new(alloc), passes, all)
 }
 
-/// Answers a script. Gives the session back, and the replies.
-pub(crate) fn answered<S: Store>(
+/// The replies to a script.
+pub(crate) fn answer<S: Store>(
     alloc: Global,
-    session: Session<S>,
+    session: &mut Session<S>,
     target: Option<S>,
     script: &str,
-) -> Result<(Session<S>, Vec<u8>), RunFault> {
+) -> Result<Vec<u8>, RunFault> {
+    let mut target = target;
+    let mut former = None;
     let mut replies = Vec::new(alloc);
-    let session = run(alloc, session, target, &mut script.as_bytes(), &mut replies)?;
-    Ok((session, replies))
+    run_in(
+        alloc,
+        session,
+        &mut target,
+        &mut former,
+        &mut script.as_bytes(),
+        &mut replies,
+    )?;
+    Ok(replies)
 }
 
-/// Runs a dialogue that is told in lines, and gives the session back.
-pub(crate) fn hold<S: Store>(
+// The first reply that differs.
+fn first_departure(alloc: Global, wanted: &str, given: &[u8]) -> Result<Departure, AllocError> {
+    let given = String::from_utf8_lossy(alloc, given)?;
+    for (number, (want, give)) in wanted.lines().zip(given.lines()).enumerate() {
+        if want != give {
+            return Ok(Departure::Reply {
+                number,
+                wanted: want.to_string(alloc)?,
+                given: give.to_string(alloc)?,
+            });
+        }
+    }
+    Ok(Departure::ReplyCount)
+}
+
+/// Has a dialogue with a session, told in lines, where a save-as may make a file of the target.
+pub(crate) fn tell<S: Store>(
     alloc: Global,
-    session: Session<S>,
+    session: &mut Session<S>,
     target: Option<S>,
     text: &str,
-) -> Result<Session<S>, Departure> {
+) -> Result<(), Departure> {
     let mut dialogue = Dialogue::new(alloc);
     dialogue.tell(text)?;
-    dialogue.hold_on(session, target)
+    let replies = answer(alloc, session, target, dialogue.script())?;
+    if replies.as_slice() == dialogue.replies().as_bytes() {
+        return Ok(());
+    }
+    Err(first_departure(alloc, dialogue.replies(), &replies)?)
+}
+
+/// Has one dialogue behind the other.
+pub(crate) fn tell_all<S: Store>(
+    alloc: Global,
+    session: &mut Session<S>,
+    texts: &[&str],
+) -> Result<(), Departure> {
+    for text in texts {
+        tell(alloc, session, None, text)?;
+    }
+    Ok(())
+}
+
+/// The store of a session, where all that was done with it has ended well.
+pub(crate) fn closed<S: Store, E>(session: Session<S>, end: Result<(), E>) -> Result<S, E> {
+    let store = session.close();
+    match end {
+        Ok(()) => Ok(store),
+        Err(departure) => Err(departure),
+    }
+}
+
+/// The store of a new file behind these dialogues with so many frames.
+pub(crate) fn made<S: Store>(
+    alloc: Global,
+    store: S,
+    frames: usize,
+    texts: &[&str],
+) -> Result<S, Departure> {
+    let mut session = create_in(alloc, store, frames).map_err(Departure::Refused)?;
+    let end = tell_all(alloc, &mut session, texts);
+    closed(session, end)
+}
+
+/// The store of a file behind a dialogue with so many frames.
+pub(crate) fn kept<S: Store>(
+    alloc: Global,
+    store: S,
+    frames: usize,
+    target: Option<S>,
+    text: &str,
+) -> Result<S, Departure> {
+    let mut session = open_in(alloc, store, frames).map_err(Departure::Refused)?;
+    let end = tell(alloc, &mut session, target, text);
+    closed(session, end)
 }
 
 pub(crate) fn byte_in<S: Store>(session: &mut Session<S>) -> Result<Byte, Fault> {
@@ -80,13 +178,18 @@ pub(crate) fn byte_in<S: Store>(session: &mut Session<S>) -> Result<Byte, Fault>
     }
 }
 
+// The documents of a session's file, which is reverted.
+fn pair_of(session: &mut Session<MemStore>) -> Result<Pair, Fault> {
+    let updated = byte_in(session)?;
+    session.revert()?;
+    let saved = byte_in(session)?;
+    Ok(Pair { updated, saved })
+}
+
 /// The documents of a file.
 pub(crate) fn pair_in(alloc: Global, bytes: &[u8]) -> Result<Pair, Fault> {
     let mut session = open(alloc, bytes)?;
-    let updated = byte_in(&mut session)?;
-    session.revert()?;
-    let saved = byte_in(&mut session)?;
-    Ok(Pair { updated, saved })
+    pair_of(&mut session)
 }
 
 /// Whether the store has had no more writes since the last sync, so that a crash that keeps so many keeps all.

@@ -1,6 +1,7 @@
 // How often a session calls its store, while all blocks that it looks into are in memory: blocks that come in are written, and commits
 // write those that were changed, and no other.
-use crate::calls::{create, fused, hold};
+use crate::calls::{FRAMES, fused, made};
+use dialogues::Departure;
 use std::alloc::Global;
 use std::test::Fail;
 
@@ -51,12 +52,9 @@ const LOOK_UPS: &str = "
 
 // The calls of a store over which these edits of the saved document were made, and then a commit, with the calls that made the
 // document.
-fn calls(alloc: Global, edits: &str, commit: &str) -> Result<u64, Fail> {
-    let session = create(alloc, fused(alloc, u64::MAX, false))?;
-    let session = hold(alloc, session, None, SAVED)?;
-    let session = hold(alloc, session, None, edits)?;
-    let session = hold(alloc, session, None, commit)?;
-    Ok(session.close().calls())
+fn calls(alloc: Global, edits: &str, commit: &str) -> Result<u64, Departure> {
+    let store = fused(alloc, u64::MAX, false);
+    Ok(made(alloc, store, FRAMES, &[SAVED, edits, commit])?.calls())
 }
 
 // Whether these edits take so many calls more than those, with the same commit behind both.
@@ -66,7 +64,7 @@ fn are_more(
     those: &str,
     commit: &str,
     more: u64,
-) -> Result<bool, Fail> {
+) -> Result<bool, Departure> {
     let few = calls(alloc, those, commit)?;
     Ok(few.checked_add(more) == Some(calls(alloc, edits, commit)?))
 }

@@ -1,8 +1,10 @@
 // What a crash leaves while the store fails: the documents last acknowledged, or those of the commit that was tried next.
-use crate::calls::{Byte, Pair, answered, are_all, create, fused, pair_in};
+use crate::calls::{Byte, Pair, answer, are_all, create, fused, pair_in};
+use dialogues::Departure;
 use geos_model::Fault;
 use std::alloc::Global;
 use std::test::Fail;
+use undo_log::Session;
 use vm_store::{FuseStore, MemStore};
 
 const SCRIPT: &str =
@@ -40,12 +42,22 @@ fn commits_in(replies: &str) -> Option<usize> {
     Some(commits)
 }
 
+// How many commits are acknowledged when the script is answered.
+fn play(
+    alloc: Global,
+    session: &mut Session<FuseStore<MemStore>>,
+) -> Result<Option<usize>, Departure> {
+    let replies = answer(alloc, session, None, SCRIPT)?;
+    Ok(commits_in(String::from_utf8_lossy(alloc, &replies)?.as_str()))
+}
+
 // A store that fails after so many calls, when the script has been answered over it, and how many commits were acknowledged.
 fn played(alloc: Global, passes: u64) -> Result<(FuseStore<MemStore>, usize), Fail> {
-    let session = create(alloc, fused(alloc, passes, true))?;
-    let (session, replies) = answered(alloc, session, None, SCRIPT)?;
-    match commits_in(String::from_utf8_lossy(alloc, &replies)?.as_str()) {
-        Some(commits) => Ok((session.close(), commits)),
+    let mut session = create(alloc, fused(alloc, passes, true))?;
+    let commits = play(alloc, &mut session);
+    let store = session.close();
+    match commits? {
+        Some(commits) => Ok((store, commits)),
         None => Err(Fail::new("a reply is another one")),
     }
 }

@@ -1,10 +1,18 @@
 // As much as a document can hold, in a file.
-use crate::calls::{BLOCK, create, open};
+use crate::calls::{BLOCK, closed, create, open};
 use geos_model::{Bytes, ChunkHandle, Edit, Fault, VmHandle};
 use std::alloc::Global;
 use std::test::Fail;
 use undo_log::Session;
 use vm_store::MemStore;
+
+// What a document is full of.
+#[derive(Clone, Copy)]
+enum Limit {
+    Blocks,
+    Chunks,
+    Bytes,
+}
 
 // Makes the same edit so often.
 fn repeat(session: &mut Session<MemStore>, edit: &Edit, count: u32) -> Result<(), Fault> {
@@ -14,64 +22,13 @@ fn repeat(session: &mut Session<MemStore>, edit: &Edit, count: u32) -> Result<()
     Ok(())
 }
 
-// The session on the file as it is saved.
-fn saved_and_opened(
-    alloc: Global,
-    mut session: Session<MemStore>,
-) -> Result<Session<MemStore>, Fault> {
-    session.save()?;
-    open(alloc, session.close().bytes())
-}
-
-const LAST: VmHandle = VmHandle(2_048);
-
-// A block under each handle, and so many are live. The last one has a byte, 00.
-fn is_full(session: &mut Session<MemStore>) -> Result<bool, Fault> {
-    let live = session.list()?.len();
-    let byte = session.read_raw(LAST)?;
-    Ok(live == 2_048 && byte == [0].as_slice())
-}
-
-#[test]
-fn a_document_of_all_handles_is_saved_opened_and_reverted(rt: HostRuntime) -> Result<(), Fail> {
-    let alloc = rt.alloc();
-    let mut session = create(alloc, MemStore::new(alloc))?;
-    repeat(&mut session, &Edit::NewRaw(7, 1), 2_048)?;
-    assert_eq!(rt; session.edit(&Edit::NewRaw(7, 1)), Err(Fault::NoHandles));
-    let session = saved_and_opened(alloc, session)?;
-    is_opened_and_reverted(session)?;
-    Ok(())
-}
-
-// The last block is freed, which a revert takes back.
-fn is_opened_and_reverted(mut session: Session<MemStore>) -> Result<(), Fail> {
-    if !is_full(&mut session)? {
-        return Err(Fail::new("a block is missing"));
+// Fills the document with blocks, until there is no handle left.
+fn fill_blocks(session: &mut Session<MemStore>) -> Result<(), Fail> {
+    repeat(session, &Edit::NewRaw(7, 1), 2_048)?;
+    match session.edit(&Edit::NewRaw(7, 1)) {
+        Err(Fault::NoHandles) => Ok(()),
+        _ => Err(Fail::new("a block comes in under no handle")),
     }
-    session.edit(&Edit::FreeBlock(LAST))?;
-    session.revert()?;
-    if !is_full(&mut session)? {
-        return Err(Fail::new("a block is missing"));
-    }
-    Ok(())
-}
-
-fn has_all_chunks(chunks: &[ChunkHandle]) -> bool {
-    chunks.len() == 32_752
-        && chunks.first() == Some(&ChunkHandle(16))
-        && chunks.last() == Some(&ChunkHandle(65_518))
-}
-
-#[test]
-fn a_heap_of_the_most_chunks_is_saved_and_opened(rt: HostRuntime) -> Result<(), Fail> {
-    let alloc = rt.alloc();
-    let mut session = create(alloc, MemStore::new(alloc))?;
-    session.edit(&Edit::NewHeap(7))?;
-    repeat(&mut session, &Edit::Alloc(BLOCK, 0), 32_752)?;
-    let mut session = saved_and_opened(alloc, session)?;
-    let chunks = session.chunks(BLOCK)?;
-    assert!(rt; has_all_chunks(&chunks));
-    Ok(())
 }
 
 // A body of the most bytes, that differ.
@@ -83,15 +40,90 @@ fn long_body(alloc: Global) -> Result<Vec<u8>, Fault> {
     Ok(body)
 }
 
+fn fill(alloc: Global, session: &mut Session<MemStore>, limit: Limit) -> Result<(), Fail> {
+    match limit {
+        Limit::Blocks => fill_blocks(session)?,
+        Limit::Chunks => {
+            session.edit(&Edit::NewHeap(7))?;
+            repeat(session, &Edit::Alloc(BLOCK, 0), 32_752)?;
+        }
+        Limit::Bytes => {
+            session.edit(&Edit::NewRaw(7, 0))?;
+            let edit = Edit::Attach(BLOCK, Bytes::from_vec(long_body(alloc)?));
+            session.edit(&edit)?;
+        }
+    }
+    session.save()?;
+    Ok(())
+}
+
+// The file of a document that is full.
+fn full(alloc: Global, limit: Limit) -> Result<MemStore, Fail> {
+    let mut session = create(alloc, MemStore::new(alloc))?;
+    let end = fill(alloc, &mut session, limit);
+    closed(session, end)
+}
+
+const LAST: VmHandle = VmHandle(2_048);
+
+// A block under each handle, and so many are live. The last one has a byte, 00.
+fn is_full(session: &mut Session<MemStore>) -> Result<bool, Fault> {
+    let live = session.list()?.len();
+    let byte = session.read_raw(LAST)?;
+    Ok(live == 2_048 && byte == [0].as_slice())
+}
+
+// The last block is freed, which a revert takes back.
+fn is_reverted(session: &mut Session<MemStore>) -> Result<(), Fail> {
+    if !is_full(session)? {
+        return Err(Fail::new("a block is missing"));
+    }
+    session.edit(&Edit::FreeBlock(LAST))?;
+    session.revert()?;
+    if !is_full(session)? {
+        return Err(Fail::new("a block is missing behind a revert"));
+    }
+    Ok(())
+}
+
+#[test]
+fn a_document_of_all_handles_is_saved_opened_and_reverted(rt: HostRuntime) -> Result<(), Fail> {
+    let alloc = rt.alloc();
+    let store = full(alloc, Limit::Blocks)?;
+    let mut session = open(alloc, store.bytes())?;
+    is_reverted(&mut session)
+}
+
+fn has_all_chunks(session: &mut Session<MemStore>) -> Result<bool, Fault> {
+    let chunks = session.chunks(BLOCK)?;
+    Ok(
+        chunks.len() == 32_752
+            && chunks.first() == Some(&ChunkHandle(16))
+            && chunks.last() == Some(&ChunkHandle(65_518)),
+    )
+}
+
+#[test]
+fn a_heap_of_the_most_chunks_is_saved_and_opened(rt: HostRuntime) -> Result<(), Fail> {
+    let alloc = rt.alloc();
+    let store = full(alloc, Limit::Chunks)?;
+    let mut session = open(alloc, store.bytes())?;
+    let is_each = has_all_chunks(&mut session);
+    assert!(rt; is_each?);
+    Ok(())
+}
+
+fn has_long_body(alloc: Global, session: &mut Session<MemStore>) -> Result<bool, Fault> {
+    let body = long_body(alloc)?;
+    Ok(session.read_raw(BLOCK)? == body.as_slice())
+}
+
 #[test]
 fn a_raw_block_of_the_most_bytes_is_saved_and_opened(rt: HostRuntime) -> Result<(), Fail> {
     let alloc = rt.alloc();
-    let mut session = create(alloc, MemStore::new(alloc))?;
-    session.edit(&Edit::NewRaw(7, 0))?;
-    let edit = Edit::Attach(BLOCK, Bytes::from_vec(long_body(alloc)?));
-    session.edit(&edit)?;
-    let mut session = saved_and_opened(alloc, session)?;
-    let body = long_body(alloc)?;
-    assert!(rt; session.read_raw(BLOCK)? == body.as_slice());
+    let store = full(alloc, Limit::Bytes)?;
+    let mut session = open(alloc, store.bytes())?;
+    let is_each = has_long_body(alloc, &mut session);
+    assert!(rt; is_each?);
     Ok(())
 }

@@ -1,11 +1,12 @@
 // Locks: what they refuse, what they keep in memory, and the bytes that are lent of a locked block.
-use crate::calls::{BLOCK, Fused, create, fused, hold};
+use crate::calls::{BLOCK, create, create_in, fused, kept, made, tell, tell_all};
 use dialogues::{Departure, Dialogue};
 use geos_model::{ChunkHandle, Fault, VmHandle};
 use std::alloc::Global;
+use std::process::Abort;
 use std::test::Fail;
 use undo_log::Session;
-use vm_store::{MemStore, Store};
+use vm_store::{FuseStore, MemStore, Store};
 
 // Another block than the first.
 const OTHER: VmHandle = VmHandle(2);
@@ -307,12 +308,15 @@ const BOTH: &str = "
     write 0002 0010 0 78797a = ok
     ";
 
-#[test]
-fn the_bytes_of_a_locked_block_are_lent(rt: HostRuntime) -> Result<(), Fail> {
-    let alloc = rt.alloc();
-    let mut session = hold(alloc, create(alloc, MemStore::new(alloc))?, None, BOTH)?;
+// What a session on that document lends while its blocks are locked, and what not.
+fn lends_locked(
+    rt: &impl Abort,
+    alloc: Global,
+    session: &mut Session<MemStore>,
+) -> Result<(), Fail> {
+    tell(alloc, session, None, BOTH)?;
     assert!(rt; !session.has_locks());
-    assert!(rt; lends_nothing(&session, BLOCK) && lends_nothing(&session, OTHER));
+    assert!(rt; lends_nothing(session, BLOCK) && lends_nothing(session, OTHER));
     session.lock(BLOCK)?;
     session.lock(OTHER)?;
     assert!(rt; session.has_locks());
@@ -322,8 +326,17 @@ fn the_bytes_of_a_locked_block_are_lent(rt: HostRuntime) -> Result<(), Fail> {
     assert!(rt; session.locked_raw(OTHER).is_none());
     assert!(rt; session.locked_chunk(BLOCK, CHUNK).is_none());
     assert!(rt; session.locked_chunk(OTHER, ChunkHandle(18)).is_none());
-    assert!(rt; lends_nothing(&session, VmHandle(3)) && lends_nothing(&session, VmHandle(0)));
-    session = hold(
+    assert!(rt; lends_nothing(session, VmHandle(3)) && lends_nothing(session, VmHandle(0)));
+    Ok(())
+}
+
+// The same behind edits of both blocks, and while the locks go.
+fn lends_edited(
+    rt: &impl Abort,
+    alloc: Global,
+    session: &mut Session<MemStore>,
+) -> Result<(), Fail> {
+    tell(
         alloc,
         session,
         None,
@@ -332,34 +345,44 @@ fn the_bytes_of_a_locked_block_are_lent(rt: HostRuntime) -> Result<(), Fail> {
     assert_eq!(rt; session.locked_raw(BLOCK), Some(b"ac".as_slice()));
     assert_eq!(rt; session.locked_chunk(OTHER, CHUNK), Some(b"ayz".as_slice()));
     session.unlock(BLOCK)?;
-    assert!(rt; lends_nothing(&session, BLOCK) && session.has_locks());
+    assert!(rt; lends_nothing(session, BLOCK) && session.has_locks());
     session.unlock(OTHER)?;
-    assert!(rt; lends_nothing(&session, OTHER) && !session.has_locks());
+    assert!(rt; lends_nothing(session, OTHER) && !session.has_locks());
     assert_eq!(rt; session.unlock(OTHER), Err(Fault::NotLocked));
     Ok(())
 }
 
-// A session with two frames on a saved document of four blocks of one byte, over a store of which the call after so many fails, or
-// all from there on.
-fn four(alloc: Global, passes: u64, all: bool) -> Result<Fused, Fail> {
-    let store = fused(alloc, passes, all);
-    let session = Session::create(alloc, store, 2).map_err(|refused| refused.fault)?;
-    let text = "newraw 1 1 = block 0001
-        newraw 2 1 = block 0002
-        newraw 3 1 = block 0003
-        newraw 4 1 = block 0004
-        save = ok";
-    Ok(hold(alloc, session, None, text)?)
+fn lends(rt: &impl Abort, alloc: Global, session: &mut Session<MemStore>) -> Result<(), Fail> {
+    lends_locked(rt, alloc, session)?;
+    lends_edited(rt, alloc, session)
+}
+
+#[test]
+fn the_bytes_of_a_locked_block_are_lent(rt: HostRuntime) -> Result<(), Fail> {
+    let alloc = rt.alloc();
+    let mut session = create(alloc, MemStore::new(alloc))?;
+    lends(&rt, alloc, &mut session)
+}
+
+// A saved document of four blocks of one byte.
+const FOUR: &str = "newraw 1 1 = block 0001
+    newraw 2 1 = block 0002
+    newraw 3 1 = block 0003
+    newraw 4 1 = block 0004
+    save = ok";
+
+// The store of a session with two frames on that document, behind a dialogue.
+fn four(alloc: Global, text: &str) -> Result<FuseStore<MemStore>, Departure> {
+    made(alloc, fused(alloc, u64::MAX, false), 2, &[FOUR, text])
 }
 
 // The store calls after a dialogue.
-fn calls(alloc: Global, text: &str) -> Result<u64, Fail> {
-    let session = four(alloc, u64::MAX, false)?;
-    Ok(hold(alloc, session, None, text)?.close().calls())
+fn calls(alloc: Global, text: &str) -> Result<u64, Departure> {
+    Ok(four(alloc, text)?.calls())
 }
 
 // Whether this takes so many store calls behind that.
-fn takes(alloc: Global, before: &str, text: &str, more: u64) -> Result<bool, Fail> {
+fn takes(alloc: Global, before: &str, text: &str, more: u64) -> Result<bool, Departure> {
     let first = calls(alloc, before)?;
     let all = calls(alloc, &format!(in alloc; "{before}\n{text}")?)?;
     Ok(first.checked_add(more) == Some(all))
@@ -426,27 +449,29 @@ fn a_dirty_block_is_written_by_the_next_update(rt: HostRuntime) -> Result<(), Fa
     Ok(())
 }
 
+// A lock that the store fails, and then one that it serves.
+const LOCKED_AGAIN: &str = "lock 0001 = no 2 File
+    locks 0001 = number 0
+    unlock 0001 = no 20 NotLocked
+    lock 0001 = ok
+    locks 0001 = number 1";
+
 #[test]
 fn a_lock_that_the_store_fails_locks_nothing(rt: HostRuntime) -> Result<(), Fail> {
     let alloc = rt.alloc();
     let passes = calls(alloc, "")?;
-    let session = four(alloc, passes, false)?;
-    let text = "lock 0001 = no 2 File
-        locks 0001 = number 0
-        unlock 0001 = no 20 NotLocked
-        lock 0001 = ok
-        locks 0001 = number 1";
-    let session = hold(alloc, session, None, text)?;
-    assert!(rt; session.is_resident(BLOCK));
+    let mut session = create_in(alloc, fused(alloc, passes, false), 2)?;
+    let end = tell_all(alloc, &mut session, &[FOUR, LOCKED_AGAIN]);
+    let is_resident = session.is_resident(BLOCK);
+    end?;
+    assert!(rt; is_resident);
     Ok(())
 }
 
 #[test]
 fn locks_are_gone_once_a_file_is_opened_again(rt: HostRuntime) -> Result<(), Fail> {
     let alloc = rt.alloc();
-    let session = four(alloc, u64::MAX, false)?;
-    let session = hold(alloc, session, None, "lock 0001 = ok")?;
-    let session = Session::open(alloc, session.close(), 2).map_err(|refused| refused.fault)?;
-    hold(alloc, session, None, "locks 0001 = number 0\nupdate = ok")?;
+    let store = four(alloc, "lock 0001 = ok")?;
+    kept(alloc, store, 2, None, "locks 0001 = number 0\nupdate = ok")?;
     Ok(())
 }

@@ -2,7 +2,7 @@
 ghost use Rattle.std.specs.Prelude.{◌≡◌};
 ghost use Rattle.session_rows.specs.Lying.{lying_facts, lying_timely};
 
-use crate::calls::{FRAMES, answered, create, hold};
+use crate::calls::{FRAMES, answer, made, open_in};
 use geos_model::Fault;
 use std::alloc::Global;
 use std::test::Fail;
@@ -64,24 +64,15 @@ impl Store for Liar {
     }
 }
 
-// A file whose updated document has two blocks, one of them the map block, and whose saved one has one more.
-fn file(alloc: Global) -> Result<MemStore, Fail> {
-    let session = create(alloc, MemStore::new(alloc))?;
-    let session = hold(
-        alloc,
-        session,
-        None,
-        "newraw 7 1 = block 0001
-        newheap 8 = block 0002
-        alloc 0002 3 = chunk 0010
-        newraw 9 3 = block 0003
-        map 0002 = ok
-        save = ok
-        vfree 0003 = ok
-        update = ok",
-    )?;
-    Ok(session.close())
-}
+// An updated document of two blocks, one of them the map block, and a saved one with one more.
+const BLOCKS: &str = "newraw 7 1 = block 0001
+    newheap 8 = block 0002
+    alloc 0002 3 = chunk 0010
+    newraw 9 3 = block 0003
+    map 0002 = ok
+    save = ok
+    vfree 0003 = ok
+    update = ok";
 
 const COMMANDS: [&str; 10] = [
     "newraw 6 1\n",
@@ -121,20 +112,20 @@ fn may_be_refused(command: &str, reply: &[u8]) -> bool {
 // Gives a command. Returns whether it was refused, in which it may change nothing.
 fn give(
     alloc: Global,
-    session: Session<Liar>,
-    target: Option<Liar>,
+    session: &mut Session<Liar>,
+    target: Liar,
     command: &str,
-) -> Result<(Session<Liar>, bool), Fail> {
-    let (session, before) = answered(alloc, session, None, QUESTIONS)?;
-    let (session, reply) = answered(alloc, session, target, command)?;
-    let (session, after) = answered(alloc, session, None, QUESTIONS)?;
+) -> Result<bool, Fail> {
+    let before = answer(alloc, session, None, QUESTIONS)?;
+    let reply = answer(alloc, session, Some(target), command)?;
+    let after = answer(alloc, session, None, QUESTIONS)?;
     if !is_refusal(&reply) {
-        return Ok((session, false));
+        return Ok(false);
     }
     if !may_be_refused(command, &reply) || before.as_slice() != after.as_slice() {
         return Err(Fail::new("a refusal is wrong, or changed something"));
     }
-    Ok((session, true))
+    Ok(true)
 }
 
 fn lying(store: MemStore, passes: u64, byte: u8) -> Liar {
@@ -147,13 +138,11 @@ fn lying(store: MemStore, passes: u64, byte: u8) -> Liar {
 }
 
 // Gives each command, each with a target that lies too. Returns how many were refused.
-fn give_all(alloc: Global, session: Session<Liar>, byte: u8) -> Result<u32, Fail> {
-    let mut session = session;
+fn give_all(alloc: Global, session: &mut Session<Liar>, byte: u8) -> Result<u32, Fail> {
     let mut refusals = 0_u32;
     for command in COMMANDS {
         let target = lying(MemStore::new(alloc), 0, byte);
-        let (next, is_refused) = give(alloc, session, Some(target), command)?;
-        session = next;
+        let is_refused = give(alloc, session, target, command)?;
         refusals = refusals.saturating_add(u32::from(is_refused));
     }
     Ok(refusals)
@@ -171,15 +160,15 @@ fn is_no_file(fault: Fault) -> Result<Option<u32>, Fail> {
 // `None` where no file is found.
 fn played(alloc: Global, bytes: &[u8], passes: u64, byte: u8) -> Result<Option<u32>, Fail> {
     let store = lying(MemStore::from_bytes(alloc, bytes)?, passes, byte);
-    match Session::open(alloc, store, FRAMES) {
-        Ok(session) => Ok(Some(give_all(alloc, session, byte)?)),
-        Err(refused) => is_no_file(refused.fault),
+    match open_in(alloc, store, FRAMES) {
+        Ok(mut session) => give_all(alloc, &mut session, byte).map(Some),
+        Err(fault) => is_no_file(fault),
     }
 }
 
 // Lies from each of the first calls on. Returns how many files weren't opened, and how many commands were refused.
 fn all_refusals(alloc: Global, byte: u8) -> Result<(u32, u32), Fail> {
-    let file = file(alloc)?;
+    let file = made(alloc, MemStore::new(alloc), FRAMES, &[BLOCKS])?;
     let mut unopened = 0_u32;
     let mut refusals = 0_u32;
     for passes in 0..80 {

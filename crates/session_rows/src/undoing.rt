@@ -1,37 +1,46 @@
 // Undo over commits.
-use crate::calls::{both, create, hold, pair_in};
+use crate::calls::{both, closed, create, pair_in, tell};
+use dialogues::Departure;
 use std::alloc::Global;
 use std::test::Fail;
 use undo_log::Session;
 use vm_store::MemStore;
 
-// A session with five edits, and commits between them.
-fn edited(alloc: Global) -> Result<Session<MemStore>, Fail> {
-    let session = create(alloc, MemStore::new(alloc))?;
-    let session = hold(
-        alloc,
-        session,
-        None,
-        "newraw 7 1 = block 0001
-        save = ok
-        vwrite 0001 0 61 = ok
-        update = ok
-        newheap 8 = block 0002
-        alloc 0002 3 = chunk 0010
-        save = ok
-        uid 0001 9 = ok
-        undos = number 5
-        redos = number 0",
-    )?;
-    Ok(session)
+// Five edits, and commits between them.
+const EDITED: &str = "newraw 7 1 = block 0001
+    save = ok
+    vwrite 0001 0 61 = ok
+    update = ok
+    newheap 8 = block 0002
+    alloc 0002 3 = chunk 0010
+    save = ok
+    uid 0001 9 = ok
+    undos = number 5
+    redos = number 0";
+
+// Has this dialogue behind those edits.
+fn tell_behind(
+    alloc: Global,
+    session: &mut Session<MemStore>,
+    target: Option<MemStore>,
+    text: &str,
+) -> Result<(), Departure> {
+    tell(alloc, session, None, EDITED)?;
+    tell(alloc, session, target, text)
+}
+
+// The file of a session that had this dialogue behind those edits.
+fn edited(alloc: Global, target: Option<MemStore>, text: &str) -> Result<MemStore, Departure> {
+    let mut session = create(alloc, MemStore::new(alloc)).map_err(Departure::Refused)?;
+    let end = tell_behind(alloc, &mut session, target, text);
+    closed(session, end)
 }
 
 #[test]
 fn edits_before_commits_are_undone_and_made_again(rt: HostRuntime) -> Result<(), Fail> {
     let alloc = rt.alloc();
-    let session = hold(
+    let store = edited(
         alloc,
-        edited(alloc)?,
         None,
         "undo = ok
         info 0001 = raw 7 1
@@ -60,16 +69,15 @@ fn edits_before_commits_are_undone_and_made_again(rt: HostRuntime) -> Result<(),
         info 0001 = raw 9 1
         undos = number 5",
     )?;
-    assert_eq!(rt; pair_in(alloc, session.close().bytes())?, both(0x61));
+    assert_eq!(rt; pair_in(alloc, store.bytes())?, both(0x61));
     Ok(())
 }
 
 #[test]
 fn an_update_keeps_what_can_be_undone_and_a_revert_drops_it(rt: HostRuntime) -> Result<(), Fail> {
     let alloc = rt.alloc();
-    hold(
+    edited(
         alloc,
-        edited(alloc)?,
         None,
         "undo = ok
         update = ok
@@ -97,9 +105,8 @@ fn an_update_keeps_what_can_be_undone_and_a_revert_drops_it(rt: HostRuntime) -> 
 fn edits_on_both_sides_of_a_save_as_are_undone(rt: HostRuntime) -> Result<(), Fail> {
     let alloc = rt.alloc();
     let target = Some(MemStore::new(alloc));
-    let session = hold(
+    let store = edited(
         alloc,
-        edited(alloc)?,
         target,
         "saveas = ok
         vwrite 0001 0 62 = ok
@@ -123,6 +130,6 @@ fn edits_on_both_sides_of_a_save_as_are_undone(rt: HostRuntime) -> Result<(), Fa
         chunks 0002 = chunks 0010
         redos = number 0",
     )?;
-    assert_eq!(rt; pair_in(alloc, session.close().bytes())?, both(0x61));
+    assert_eq!(rt; pair_in(alloc, store.bytes())?, both(0x61));
     Ok(())
 }

@@ -1,6 +1,7 @@
 // Files that were written elsewhere.
-use crate::calls::{hold, open};
+use crate::calls::{FRAMES, kept};
 use dialogues::Departure;
+use std::alloc::Global;
 use std::test::Fail;
 use vm_store::MemStore;
 
@@ -32,13 +33,27 @@ fn worn_example() -> [u8; LENGTH] {
     bytes
 }
 
+// The file of a session that had a dialogue over these bytes.
+fn read(
+    alloc: Global,
+    bytes: &[u8],
+    target: Option<MemStore>,
+    text: &str,
+) -> Result<MemStore, Departure> {
+    kept(
+        alloc,
+        MemStore::from_bytes(alloc, bytes)?,
+        FRAMES,
+        target,
+        text,
+    )
+}
+
 #[test]
 fn a_file_of_two_documents_is_read_and_reverted(rt: HostRuntime) -> Result<(), Fail> {
-    let alloc = rt.alloc();
-    let session = open(alloc, example().as_slice())?;
-    hold(
-        alloc,
-        session,
+    read(
+        rt.alloc(),
+        example().as_slice(),
         None,
         "info 0001 = raw 7 2
         vread 0001 = bytes 6162
@@ -54,10 +69,9 @@ fn a_file_of_two_documents_is_read_and_reverted(rt: HostRuntime) -> Result<(), F
 #[test]
 fn a_worn_file_takes_edits_and_no_commit(rt: HostRuntime) -> Result<(), Fail> {
     let alloc = rt.alloc();
-    let session = open(alloc, worn_example().as_slice())?;
-    let session = hold(
+    let store = read(
         alloc,
-        session,
+        worn_example().as_slice(),
         Some(MemStore::new(alloc)),
         "update = no 27 Worn
         uid 0001 8 = ok
@@ -69,14 +83,18 @@ fn a_worn_file_takes_edits_and_no_commit(rt: HostRuntime) -> Result<(), Fail> {
         redos = number 1
         info 0001 = raw 7 2",
     )?;
-    assert_eq!(rt; session.close().bytes(), worn_example().as_slice());
+    assert_eq!(rt; store.bytes(), worn_example().as_slice());
     Ok(())
 }
 
 #[test]
 fn a_worn_file_without_a_target_has_none(rt: HostRuntime) -> Result<(), Fail> {
-    let alloc = rt.alloc();
-    let session = open(alloc, worn_example().as_slice())?;
-    hold(alloc, session, None, "saveas = no 24 NoTarget")?;
+    let bytes = worn_example();
+    read(
+        rt.alloc(),
+        bytes.as_slice(),
+        None,
+        "saveas = no 24 NoTarget",
+    )?;
     Ok(())
 }
