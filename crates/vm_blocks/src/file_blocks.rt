@@ -430,8 +430,9 @@ impl<S: Store> FileBlocks<S> {
         self.turn(change, direction)
     }
 
-    /// Carries changes out in a direction one after another, the last one first: all of them or none. What is changed in memory is first written to the file.
-    /// Damaged where a body doesn't take its change; otherwise refused as `load` is. Where it is refused no block is in memory then.
+    /// Carries changes out in a direction one after another, the last one first: all of them or none. What is changed in memory is
+    /// first written to the file. Damaged where a body doesn't take its change; otherwise refused as `load` is, but never CacheFull.
+    /// Where it is refused after that no block is in memory.
     pub fn change_all(&mut self, changes: &[Change], direction: Direction) -> Result<(), Fault>
         requires unmarked { self.old.disk.marked ≡ None }
         requires listed { AllListed (turned_all direction changes.now) self.old.document }
