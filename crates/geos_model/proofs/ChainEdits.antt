@@ -6,7 +6,7 @@ use Rattle.std.proofs.lemmas.List.Elements.{All-map, All-weaker, All-contains_it
 use Rattle.std.specs.List.{All, Contains, zip}
 use Rattle.std.specs.FinMap.{get}
 use Rattle.geos_model.specs.Refusal.{Conditions, first_refusal}
-use Rattle.geos_model.specs.Document.{Block, Document, IsValid, is_live, block_at, handles_of, without_blocks}
+use Rattle.geos_model.specs.Document.{Block, Document, IsValid, is_live, block_at, handles_of, without_blocks, no_block}
 use Rattle.geos_model.specs.Meaning.{copies_blocks}
 use Rattle.geos_model.specs.Chain.{chain, chain_blocks, blocks_of, name_of, free_handles, new_handles, relinked_block, copies_of, free_conditions, copy_conditions}
 use Rattle.geos_model.specs.ChainLaws.{IsFreed, CopiesChain, FreesChain}
@@ -24,7 +24,7 @@ pub blocks_of-handles : (d : Document) (hs : List ℕ) → handles_of (blocks_of
 blocks_of-handles d [] = refl
 blocks_of-handles d (h ∷ hs) = ap (λ (xs : List ℕ). h ∷ xs) (blocks_of-handles d hs)
 
-live_block : (o : Option Block) → is_some o ≡ true → o ≡ Some (unwrap_or o (record { user_id = 0; body = Raw [] }))
+live_block : (o : Option Block) → is_some o ≡ true → o ≡ Some (unwrap_or o no_block)
 live_block None live = absurd (cc live)
 live_block (Some b) live = refl
 

@@ -6,7 +6,7 @@ use Rattle.std.specs.Option.{option_map_or}
 use Rattle.std.specs.FinMap.{insert, empty, contains_key}
 use Rattle.geos_model.specs.Refusal.{Conditions, number_of_fault, one_order, applies, first_refusal}
 use Rattle.geos_model.specs.Heap.{is_chunk_handle, chunk_bytes, fits_with, fits_new, longest_chunk}
-use Rattle.geos_model.specs.Document.{Block, Document, chunks_of_body, chunks_of, is_heap, user_id_of, IsValid}
+use Rattle.geos_model.specs.Document.{Block, Document, chunks_of_body, chunks_of, is_heap, attributes_of, IsValid}
 use Rattle.geos_model.specs.Meaning.{chunk_at, with_chunk, new_chunk, makes_chunk, no_place, no_room, on_heap, on_chunk, on_new_chunk, on_new_bytes}
 use Rattle.geos_model.specs.EditLaws.{HasBytes, ChunkEditsLaw}
 use Rattle.geos_model.specs.declared.fault.Fault.{Fault}
@@ -36,7 +36,7 @@ module _ (d : Document) (valid : IsValid d) (b c : ℕ) (own : Conditions) (byte
   -- the bytes stand in the chunk
   there : chunk_at (with_chunk d b c bytes) b c ≡ bytes
   there =
-      let block : Block = record { user_id = user_id_of d b; body = Heap (insert (chunks_of d b) c bytes) } in
+      let block : Block = record { attributes = attributes_of d b; body = Heap (insert (chunks_of d b) c bytes) } in
       ap (λ (o : Option Block). chunk_bytes (option_map_or (λ x. chunks_of_body x.body) o empty) c) (get-put_same d.blocks b block b refl)
       ∙ ap (λ (o : Option (List ℕ)). unwrap_or o []) (get-put_same (chunks_of d b) c bytes c refl)
 

@@ -5,6 +5,8 @@ use Rattle.std.specs.Ordering.{nat_cmp}
 use Rattle.std.specs.FinMap.{FinMap, code}
 use Rattle.geos_model.specs.Document.{Block, Document}
 use Rattle.geos_model.specs.Machine.{UndoStep, Machine}
+use Rattle.geos_model.specs.declared.block.Attributes.{Attributes}
+use Rattle.geos_model.specs.contracts.block.Attributes as attributes_type
 use Rattle.geos_model.specs.declared.command.Body.{Body}
 use Rattle.geos_model.specs.contracts.command.Body as body_type
 use Rattle.geos_model.specs.declared.command.Kind.{Kind}
@@ -14,7 +16,7 @@ abbrev pub body_code : Coded Body
 body_code = body_type.the_row.coded
 
 abbrev pub block_code : Coded Block
-block_code = code_by (ℕ × Body) (coded× coded_ℕ body_code) (λ b. (b.user_id, b.body)) (λ p. record { user_id = p.0; body = p.1 }) (λ _. refl)
+block_code = code_by (Attributes × Body) (coded× attributes_type.the_row.coded body_code) (λ b. (b.attributes, b.body)) (λ p. record { attributes = p.0; body = p.1 }) (λ _. refl)
 
 abbrev pub document_code : Coded Document
 document_code =

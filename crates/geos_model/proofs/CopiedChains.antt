@@ -11,7 +11,7 @@ use lib.Pointwise.{bytes_decides, pointwise_decides}
 use Rattle.geos_model.specs.Words.{word_at}
 use Rattle.geos_model.specs.ElementArray.{all_distinct}
 use Rattle.geos_model.specs.Heap.{capacity}
-use Rattle.geos_model.specs.Document.{Block, Document, IsValid, IsValidBlock, most_blocks, is_vm_handle, is_live, is_raw, is_heap_body, bytes_of_body, raw_bytes_of, user_id_of, block_at, handles_of, with_blocks}
+use Rattle.geos_model.specs.Document.{Block, Document, IsValid, IsValidBlock, most_blocks, is_vm_handle, is_live, is_raw, is_heap_body, bytes_of_body, raw_bytes_of, attributes_of, no_attributes, no_block, FitAttributes, block_at, handles_of, with_blocks}
 use Rattle.geos_model.specs.Chain.{tree_mark, is_linked, link_count, link_place, links, relinked, is_member, chain, name_of, shape, relinked_block, renamed_blocks, free_handles, new_handles, copies_of}
 use Rattle.geos_model.specs.ChainLaws.{IsForest, nothing, block, link_words, IsCopied}
 use Rattle.geos_model.specs.declared.command.Body.TheVariants.{Raw}
@@ -84,14 +84,14 @@ module _ (named : ℕ → Block) where
 block-bytes : (d : Document) (h : ℕ) → bytes_of_body (block_at d h).body ≡ raw_bytes_of d h
 block-bytes d h = by_block (get d.blocks h)
   where
-    by_block : (o : Option Block) → bytes_of_body (unwrap_or o (record { user_id = 0; body = Raw [] })).body ≡ option_map_or (λ b. bytes_of_body b.body) o []
+    by_block : (o : Option Block) → bytes_of_body (unwrap_or o no_block).body ≡ option_map_or (λ b. bytes_of_body b.body) o []
     by_block None = refl
     by_block (Some b) = refl
 
-block-user_id : (d : Document) (h : ℕ) → (block_at d h).user_id ≡ user_id_of d h
-block-user_id d h = by_block (get d.blocks h)
+block-attributes : (d : Document) (h : ℕ) → (block_at d h).attributes ≡ attributes_of d h
+block-attributes d h = by_block (get d.blocks h)
   where
-    by_block : (o : Option Block) → (unwrap_or o (record { user_id = 0; body = Raw [] })).user_id ≡ option_map_or (λ b. b.user_id) o 0
+    by_block : (o : Option Block) → (unwrap_or o no_block).attributes ≡ option_map_or (λ b. b.attributes) o no_attributes
     by_block None = refl
     by_block (Some b) = refl
 
@@ -208,8 +208,8 @@ module _ (d : Document) (hs new : List ℕ) (valid : IsValid d) (members : (x : 
   valid_copied : IsValid copied
   valid_copied = put_valid d (renamed_blocks d hs new) valid (all-named named (λ p. IsValidBlock p.0 p.1) hs new (λ h n there fresh. record {
     handle = new_handle n fresh;
-    user_id = (let found = raw_block (get d.blocks h) (member-raw d h (members h there)) in
-        subst (λ (o : Option Block). (unwrap_or o (record { user_id = 0; body = Raw [] })).user_id < 65536) (sym found.1) (valid.blocks h found.0 found.1).user_id);
+    attributes = (let found = raw_block (get d.blocks h) (member-raw d h (members h there)) in
+        subst (λ (o : Option Block). FitAttributes (unwrap_or o no_block).attributes) (sym found.1) (valid.blocks h found.0 found.1).attributes);
     body = (let same = (relinked-relinked rename (raw_bytes_of d h) (is_body h there) few).long in
         let few_bytes = raw_bytes-few d h valid in
         ap (λ (bytes : List ℕ). nat_le (length (relinked rename bytes)) capacity) (block-bytes d h)
@@ -251,9 +251,9 @@ module _ (d : Document) (hs new : List ℕ) (valid : IsValid d) (members : (x : 
       ap (λ (xs : List ℕ). chain copied (get_or xs 0 0)) first
       ∙ walk-chain copied h hs valid_copied (record { forest = forest_kept (h ∷ []) hs forest (λ x at. at); once = once })
 
-  user_id_copied : (i : ℕ) → i < length hs → user_id_of copied (get_or new i 0) ≡ user_id_of d (get_or hs i 0)
-  user_id_copied i low =
-      ap (λ (o : Option Block). option_map_or (λ b. b.user_id) o 0) (put_there i low) ∙ block-user_id d (get_or hs i 0)
+  attributes_copied : (i : ℕ) → i < length hs → attributes_of copied (get_or new i 0) ≡ attributes_of d (get_or hs i 0)
+  attributes_copied i low =
+      ap (λ (o : Option Block). option_map_or (λ b. b.attributes) o no_attributes) (put_there i low) ∙ block-attributes d (get_or hs i 0)
 
   -- places of the old blocks and of the new
   abbrev place_of : ℕ → ℕ
@@ -310,7 +310,7 @@ module _ (d : Document) (hs new : List ℕ) (valid : IsValid d) (members : (x : 
     valid = valid_copied;
     map_block = put_map_block d (renamed_blocks d hs new);
     others = put_others;
-    user_ids = user_id_copied;
+    attributes = attributes_copied;
     kept = chain_kept h rest first forest;
     chained = chained_copied h rest first forest;
     same = (pointwise_decides bytes_decides (shape copied hs) (shape copied new)).1 same_shapes;

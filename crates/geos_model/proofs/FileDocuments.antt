@@ -8,9 +8,10 @@ use Rattle.std.specs.List.{list_all, list_any}
 use Rattle.std.specs.Option.{option_and_then, option_map}
 use Rattle.std.specs.Ordering.{nat_cmp}
 use Rattle.std.specs.FinMap.{FinMap, get, get-empty, insert, from_entries}
-use Rattle.geos_model.specs.Document.{Block, Document, is_vm_handle, IsValidBlock, IsValid}
+use Rattle.geos_model.specs.declared.block.Attributes.{Attributes}
+use Rattle.geos_model.specs.Document.{Block, Document, is_vm_handle, IsValidBlock, IsValid, most_blocks, FitAttributes}
 use Rattle.geos_model.specs.Image.{body_of}
-use Rattle.geos_model.specs.File.{Directory, bytes_in, is_in_file, directory_text, is_rising, is_entry, is_directory, directory_in, directory_of, prepended, block_of, blocks_of, document_of, document_at}
+use Rattle.geos_model.specs.File.{Directory, bytes_in, is_in_file, directory_text, is_rising, is_entry, is_directory, directory_in, directory_of, prepended, block_of, blocks_of, document_of, document_at, longest_image, last_page}
 use Rattle.geos_model.specs.FileLaws.{Keeps}
 use Rattle.geos_model.specs.declared.command.Body.{Body}
 use Rattle.geos_model.specs.declared.file.Extent.{Extent}
@@ -36,17 +37,17 @@ prepended-some None others blocks e = absurd (cc e)
 prepended-some (Some b) None blocks e = absurd (cc e)
 prepended-some (Some b) (Some bs) blocks e = record { block = b; rest = bs; first_is = refl; others_are = refl; all = cc e }
 
-body_there : (h u : ℕ) (o : Option Body) (b : Numbered) → option_map (λ body. let made : Numbered = (h, record { user_id = u; body = body }) in made) o ≡ Some b → (body : Body) × ((o ≡ Some body) × (b ≡ (let made : Numbered = (h, record { user_id = u; body = body }) in made)))
-body_there h u None b e = absurd (cc e)
-body_there h u (Some body) b e = (body, (refl, cc e))
+body_there : (h : ℕ) (a : Attributes) (o : Option Body) (b : Numbered) → option_map (λ body. let made : Numbered = (h, record { attributes = a; body = body }) in made) o ≡ Some b → (body : Body) × ((o ≡ Some body) × (b ≡ (let made : Numbered = (h, record { attributes = a; body = body }) in made)))
+body_there h a None b e = absurd (cc e)
+body_there h a (Some body) b e = (body, (refl, cc e))
 
 -- the block that an entry has is valid
-block_valid : (file : List ℕ) (e : Entry) (b : Numbered) → block_of file e ≡ Some b → 1 ≤ e.handle.0 → e.handle.0 ≤ 2048 → e.user_id < 65536 → (b.0 ≡ e.handle.0) × IsValidBlock e.handle.0 b.1
-block_valid file e b is some low user =
-    let body = body_there e.handle.0 e.user_id (body_of (bytes_in file e.extent)) b is in
+block_valid : (file : List ℕ) (e : Entry) (b : Numbered) → block_of file e ≡ Some b → 1 ≤ e.handle.0 → e.handle.0 ≤ most_blocks → FitAttributes e.attributes → (b.0 ≡ e.handle.0) × IsValidBlock e.handle.0 b.1
+block_valid file e b is some low fit =
+    let body = body_there e.handle.0 e.attributes (body_of (bytes_in file e.extent)) b is in
     let good = (body_of-some (bytes_in file e.extent) body.0 body.1.0).0 in
-    let handle : is_vm_handle e.handle.0 ≡ true = and_from (nat_le 1 e.handle.0) (nat_le e.handle.0 2048) (le-leb 1 e.handle.0 some) (le-leb e.handle.0 2048 low) in
-    subst (λ (x : Numbered). (x.0 ≡ e.handle.0) × IsValidBlock e.handle.0 x.1) (sym body.1.1) (refl, record { handle = handle; user_id = user; body = good })
+    let handle : is_vm_handle e.handle.0 ≡ true = and_from (nat_le 1 e.handle.0) (nat_le e.handle.0 most_blocks) (le-leb 1 e.handle.0 some) (le-leb e.handle.0 most_blocks low) in
+    subst (λ (x : Numbered). (x.0 ≡ e.handle.0) × IsValidBlock e.handle.0 x.1) (sym body.1.1) (refl, record { handle = handle; attributes = fit; body = good })
 
 -- each of these blocks is valid, under its entry's handle, and each entry has one
 pub record AreBlocks (entries : List Entry) (blocks : List Numbered) : Type 0 where
@@ -64,7 +65,7 @@ live_at : (m : FinMap nat_cmp Block) (b : Numbered) (e : Entry) (es : List Entry
 live_at m b e es same rest zero l = ap is_some (get-put_same m b.0 b.1 e.handle.0 (sym same))
 live_at m b e es same rest (suc k) l = under m b.0 (get_or es k no_entry).handle.0 b.1 (rest k (omega (arith, l)))
 
-blocks_are : (n : ℕ) (file : List ℕ) (last : ℕ) (es : List Entry) (blocks : List Numbered) → blocks_of file es ≡ Some blocks → is_rising last es ≡ true → list_all (is_entry n) es ≡ true → All (λ e. e.user_id < 65536) es → AreBlocks es blocks
+blocks_are : (n : ℕ) (file : List ℕ) (last : ℕ) (es : List Entry) (blocks : List Numbered) → blocks_of file es ≡ Some blocks → is_rising last es ≡ true → list_all (is_entry n) es ≡ true → All (λ e. FitAttributes e.attributes) es → AreBlocks es blocks
 blocks_are n file last [] blocks is rising all users =
     let none : [] ≡ blocks = cc is in
     subst (λ (bs : List Numbered). AreBlocks [] bs) none (record { valid = λ q c there. absurd (cc (sym (get-empty nat_cmp q) ∙ there)); live = λ k l. absurd (omega (arith, l)) })
@@ -109,7 +110,7 @@ document_at-valid file e document is =
     let stands = directory_in-some (length file) (bytes_in file e) d (directory_of-some file e d found.1.0).1 in
     let parts = is_directory-parts (length file) d stands.0 in
     let made = document_there d (blocks_of file d.entries) document found.1.1 in
-    let are = blocks_are (length file) file 0 d.entries made.0 made.1.0 parts.rising parts.entries (λ k x l. (stands.2.entries k x l).user_id) in
+    let are = blocks_are (length file) file 0 d.entries made.0 made.1.0 parts.rising parts.entries (λ k x l. (stands.2.entries k x l).attributes) in
     subst IsValid made.1.1 (record {
       blocks = are.valid;
       map_block = λ some.
@@ -131,27 +132,27 @@ bytes_in-keeps old new e keeps inside =
     ∙ sym (get_or-take e.length (drop at old) k 0 below ∙ get_or-drop at old k 0))
 
 -- behind the slots and in reach, in a file that has its bytes
-pub is_in_file-from : (n : ℕ) (e : Extent) → 2 ≤ e.page → 512 * e.page + e.length ≤ n → e.page + (e.length + 511) / 512 ≤ 4194304 → is_in_file n e ≡ true
+pub is_in_file-from : (n : ℕ) (e : Extent) → 2 ≤ e.page → 512 * e.page + e.length ≤ n → e.page + (e.length + 511) / 512 ≤ last_page → is_in_file n e ≡ true
 is_in_file-from n e behind within reach =
-    and_from (nat_le 2 e.page && nat_le (512 * e.page + e.length) n) (nat_le (e.page + (e.length + 511) / 512) 4194304)
-    (and_from (nat_le 2 e.page) (nat_le (512 * e.page + e.length) n) (le-leb 2 e.page behind) (le-leb (512 * e.page + e.length) n within)) (le-leb (e.page + (e.length + 511) / 512) 4194304 reach)
+    and_from (nat_le 2 e.page && nat_le (512 * e.page + e.length) n) (nat_le (e.page + (e.length + 511) / 512) last_page)
+    (and_from (nat_le 2 e.page) (nat_le (512 * e.page + e.length) n) (le-leb 2 e.page behind) (le-leb (512 * e.page + e.length) n within)) (le-leb (e.page + (e.length + 511) / 512) last_page reach)
 
 -- Of an extent in a file of n bytes.
 pub record IsInFile (n : ℕ) (e : Extent) : Type 0 where
   pub behind_slots : 2 ≤ e.page
   pub within : 512 * e.page + e.length ≤ n
-  pub in_reach : e.page + (e.length + 511) / 512 ≤ 4194304
+  pub in_reach : e.page + (e.length + 511) / 512 ≤ last_page
 
 pub is_in_file-parts : (n : ℕ) (e : Extent) → is_in_file n e ≡ true → IsInFile n e
 is_in_file-parts n e h =
-    let parts = and_parts (nat_le 2 e.page && nat_le (512 * e.page + e.length) n) (nat_le (e.page + (e.length + 511) / 512) 4194304) h in
+    let parts = and_parts (nat_le 2 e.page && nat_le (512 * e.page + e.length) n) (nat_le (e.page + (e.length + 511) / 512) last_page) h in
     let first = and_parts (nat_le 2 e.page) (nat_le (512 * e.page + e.length) n) parts.0 in
-    record { behind_slots = leb-true 2 e.page first.0; within = leb-true (512 * e.page + e.length) n first.1; in_reach = leb-true (e.page + (e.length + 511) / 512) 4194304 parts.1 }
+    record { behind_slots = leb-true 2 e.page first.0; within = leb-true (512 * e.page + e.length) n first.1; in_reach = leb-true (e.page + (e.length + 511) / 512) last_page parts.1 }
 
 pub is_entry-from : (n : ℕ) (e : Entry) → IsEntry n e → is_entry n e ≡ true
 is_entry-from n e is =
-    and_from (nat_le e.handle.0 2048 && nat_le 1 e.extent.length && nat_le e.extent.length 65521) (is_in_file n e.extent)
-    (and_from (nat_le e.handle.0 2048 && nat_le 1 e.extent.length) (nat_le e.extent.length 65521) (and_from (nat_le e.handle.0 2048) (nat_le 1 e.extent.length) (le-leb e.handle.0 2048 is.handle) (le-leb 1 e.extent.length is.some)) (le-leb e.extent.length 65521 is.short))
+    and_from (nat_le e.handle.0 most_blocks && nat_le 1 e.extent.length && nat_le e.extent.length longest_image) (is_in_file n e.extent)
+    (and_from (nat_le e.handle.0 most_blocks && nat_le 1 e.extent.length) (nat_le e.extent.length longest_image) (and_from (nat_le e.handle.0 most_blocks) (nat_le 1 e.extent.length) (le-leb e.handle.0 most_blocks is.handle) (le-leb 1 e.extent.length is.some)) (le-leb e.extent.length longest_image is.short))
     (is_in_file-from n e.extent is.behind_slots is.within is.in_reach)
 
 -- an entry stays one in a file that has its bytes
@@ -175,7 +176,7 @@ blocks_of-kept n old new [] l all keeps = refl
 blocks_of-kept n old new (e ∷ es) l all keeps =
     let each = and_parts (is_entry n e) (list_all (is_entry n) es) all in
     let inside = (is_entry-parts n e each.0).within in
-    let first : block_of new e ≡ block_of old e = ap (λ (bytes : List ℕ). option_map (λ body. let made : Numbered = (e.handle.0, record { user_id = e.user_id; body = body }) in made) (body_of bytes)) (bytes_in-keeps old new e.extent (keeps 0 e (omega arith)) (omega (arith, inside, l))) in
+    let first : block_of new e ≡ block_of old e = ap (λ (bytes : List ℕ). option_map (λ body. let made : Numbered = (e.handle.0, record { attributes = e.attributes; body = body }) in made) (body_of bytes)) (bytes_in-keeps old new e.extent (keeps 0 e (omega arith)) (omega (arith, inside, l))) in
     ap₂ prepended first (blocks_of-kept n old new es l each.1 (λ k d below. keeps (suc k) d (omega (arith, below))))
 
 pub directory_of-kept : (old new : List ℕ) (e : Extent) (d : Directory) → directory_of old e ≡ Some d → Keeps old new e → All (λ entry. Keeps old new entry.extent) d.entries → directory_of new e ≡ Some d
@@ -186,7 +187,7 @@ directory_of-kept old new e d is keeps all =
     let inside : is_in_file (length new) e ≡ true = is_in_file-from (length new) e place.behind_slots keeps.within place.in_reach in
     let same : bytes_in new e ≡ directory_text d = bytes_in-keeps old new e keeps place.within ∙ sym stands.1 in
     let good : is_directory (length new) d ≡ true = directory-kept (length old) (length new) d stands.0 (λ k x l. (all k x l).within) in
-    cond-true _ _ _ inside ∙ ap (directory_in (length new)) same ∙ directory_in-text (length new) d good (λ k x l. (stands.2.entries k x l).user_id)
+    cond-true _ _ _ inside ∙ ap (directory_in (length new)) same ∙ directory_in-text (length new) d good (λ k x l. (stands.2.entries k x l).attributes)
 
 pub document_at-kept : (old new : List ℕ) (e : Extent) (d : Directory) → directory_of old e ≡ Some d → Keeps old new e → All (λ entry. Keeps old new entry.extent) d.entries → document_at new e ≡ document_at old e
 document_at-kept old new e d is keeps all =

@@ -29,7 +29,7 @@ one_block =
     ++ replicate 480 0 ++ no_blocks ++ replicate 496 0 ++ (0 ∷ 0x61 ∷ 0x62 ∷ [])
 
 one_document : Document
-one_document = record { blocks = from_entries ((1, record { user_id = 7; body = Raw (0x61 ∷ 0x62 ∷ []) }) ∷ []); map_block = 1 }
+one_document = record { blocks = from_entries ((1, record { attributes = record { user_id = 7 }; body = Raw (0x61 ∷ 0x62 ∷ []) }) ∷ []); map_block = 1 }
 
 one_block-stands : stands one_block ≡ Ok (one_document, empty_document)
 unfolding one_block one_document no_blocks body_of body_read image

@@ -9,9 +9,9 @@ use Rattle.byteorder.specs.Endian.{little_number}
 use Rattle.byteorder.specs.Numbers.{little_number-reads_back}
 use Rattle.geos_model.specs.Words.{word, double_word, quad_word, word_at, quad_word_at}
 use Rattle.geos_model.specs.Bytes.{same_bytes}
-use Rattle.geos_model.specs.Document.{is_valid_body}
+use Rattle.geos_model.specs.Document.{is_valid_body, most_blocks, FitAttributes}
 use Rattle.geos_model.specs.Image.{image, body_read, body_of}
-use Rattle.geos_model.specs.File.{Directory, extent_text, extent_at, slot_text, slot_read, slot_of, entry_text, directory_text, entry_read, directory_read, is_in_file, is_rising, is_entry, is_map_block, is_directory, directory_in}
+use Rattle.geos_model.specs.File.{Directory, extent_text, extent_at, slot_text, slot_read, slot_of, entry_text, directory_text, entry_read, directory_read, is_in_file, is_rising, is_entry, is_map_block, is_directory, directory_in, longest_image, last_page}
 use Rattle.geos_model.specs.FileLaws.{FitsExtent, FitsSlot, FitsEntry, FitsDirectory}
 use Rattle.geos_model.specs.declared.command.Body.{Body}
 use Rattle.geos_model.specs.declared.file.Extent.{Extent}
@@ -95,15 +95,15 @@ length-directory d = let rest = length-entries d.entries in omega (arith, rest)
 pub entry-reads_back : (e : Entry) (rest : List ℕ) → FitsEntry e → entry_read (entry_text e ++ rest) ≡ e
 entry-reads_back e rest fits =
     let zeros : List ℕ = 0 ∷ 0 ∷ 0 ∷ 0 ∷ rest in
-    let handle : little_number 2 (word e.handle.0 ++ word e.user_id ++ extent_text e.extent ++ zeros) ≡ e.handle.0 = word-reads_back e.handle.0 (word e.user_id ++ extent_text e.extent ++ zeros) fits.handle in
-    let user : little_number 2 (word e.user_id ++ extent_text e.extent ++ zeros) ≡ e.user_id = word-reads_back e.user_id (extent_text e.extent ++ zeros) fits.user_id in
+    let handle : little_number 2 (word e.handle.0 ++ word e.attributes.user_id ++ extent_text e.extent ++ zeros) ≡ e.handle.0 = word-reads_back e.handle.0 (word e.attributes.user_id ++ extent_text e.extent ++ zeros) fits.handle in
+    let user : little_number 2 (word e.attributes.user_id ++ extent_text e.extent ++ zeros) ≡ e.attributes.user_id = word-reads_back e.attributes.user_id (extent_text e.extent ++ zeros) fits.attributes in
     let place : extent_at (extent_text e.extent ++ zeros) 0 ≡ e.extent = extent-reads_back e.extent zeros fits.extent in
-    let made : ℕ → ℕ → Extent → Entry = λ h u x. record { handle = record { 0 = h }; user_id = u; extent = x } in
-    ap₂ (λ (h u : ℕ). made h u (extent_at (extent_text e.extent ++ zeros) 0)) handle user ∙ ap (λ (x : Extent). made e.handle.0 e.user_id x) place
+    let made : ℕ → ℕ → Extent → Entry = λ h u x. record { handle = record { 0 = h }; attributes = record { user_id = u }; extent = x } in
+    ap₂ (λ (h u : ℕ). made h u (extent_at (extent_text e.extent ++ zeros) 0)) handle user ∙ ap (λ (x : Extent). made e.handle.0 e.attributes.user_id x) place
 
 -- some entry, where lists are asked past their end
 abbrev pub no_entry : Entry
-no_entry = record { handle = record { 0 = 0 }; user_id = 0; extent = record { page = 0; length = 0 } }
+no_entry = record { handle = record { 0 = 0 }; attributes = record { user_id = 0 }; extent = record { page = 0; length = 0 } }
 
 sixteen : (n : ℕ) → 16 * suc n ≡ suc (suc (suc (suc (suc (suc (suc (suc (suc (suc (suc (suc (suc (suc (suc (suc (16 * n))))))))))))))))
 sixteen n = omega arith
@@ -146,31 +146,31 @@ each_entry n es all k l = AllPass-from_list_all (is_entry n) es all k no_entry l
 
 -- Of an entry that can stand in a file of n bytes.
 pub record IsEntry (n : ℕ) (e : Entry) : Type 0 where
-  pub handle : e.handle.0 ≤ 2048
+  pub handle : e.handle.0 ≤ most_blocks
   pub some : 1 ≤ e.extent.length
-  pub short : e.extent.length ≤ 65521
+  pub short : e.extent.length ≤ longest_image
   pub behind_slots : 2 ≤ e.extent.page
   pub within : 512 * e.extent.page + e.extent.length ≤ n
-  pub in_reach : e.extent.page + (e.extent.length + 511) / 512 ≤ 4194304
+  pub in_reach : e.extent.page + (e.extent.length + 511) / 512 ≤ last_page
 
 pub is_entry-parts : (n : ℕ) (e : Entry) → is_entry n e ≡ true → IsEntry n e
 is_entry-parts n e h =
-    let parts = and_parts (nat_le e.handle.0 2048 && nat_le 1 e.extent.length && nat_le e.extent.length 65521) (is_in_file n e.extent) h in
-    let sizes = and_parts (nat_le e.handle.0 2048 && nat_le 1 e.extent.length) (nat_le e.extent.length 65521) parts.0 in
-    let first = and_parts (nat_le e.handle.0 2048) (nat_le 1 e.extent.length) sizes.0 in
-    let place = and_parts (nat_le 2 e.extent.page && nat_le (512 * e.extent.page + e.extent.length) n) (nat_le (e.extent.page + (e.extent.length + 511) / 512) 4194304) parts.1 in
+    let parts = and_parts (nat_le e.handle.0 most_blocks && nat_le 1 e.extent.length && nat_le e.extent.length longest_image) (is_in_file n e.extent) h in
+    let sizes = and_parts (nat_le e.handle.0 most_blocks && nat_le 1 e.extent.length) (nat_le e.extent.length longest_image) parts.0 in
+    let first = and_parts (nat_le e.handle.0 most_blocks) (nat_le 1 e.extent.length) sizes.0 in
+    let place = and_parts (nat_le 2 e.extent.page && nat_le (512 * e.extent.page + e.extent.length) n) (nat_le (e.extent.page + (e.extent.length + 511) / 512) last_page) parts.1 in
     let inside = and_parts (nat_le 2 e.extent.page) (nat_le (512 * e.extent.page + e.extent.length) n) place.0 in
     record {
-      handle = leb-true e.handle.0 2048 first.0;
+      handle = leb-true e.handle.0 most_blocks first.0;
       some = leb-true 1 e.extent.length first.1;
-      short = leb-true e.extent.length 65521 sizes.1;
+      short = leb-true e.extent.length longest_image sizes.1;
       behind_slots = leb-true 2 e.extent.page inside.0;
       within = leb-true (512 * e.extent.page + e.extent.length) n inside.1;
-      in_reach = leb-true (e.extent.page + (e.extent.length + 511) / 512) 4194304 place.1;
+      in_reach = leb-true (e.extent.page + (e.extent.length + 511) / 512) last_page place.1;
     }
 
 -- handles that rise up to 2,048 are few
-rising_few : (n last : ℕ) (es : List Entry) → last ≤ 2048 → is_rising last es ≡ true → list_all (is_entry n) es ≡ true → last + length es ≤ 2048
+rising_few : (n last : ℕ) (es : List Entry) → last ≤ most_blocks → is_rising last es ≡ true → list_all (is_entry n) es ≡ true → last + length es ≤ most_blocks
 rising_few n last [] l rising all = omega (arith, l)
 rising_few n last (e ∷ es) l rising all =
     let here = and_parts (nat_lt last e.handle.0) (is_rising e.handle.0 es) rising in
@@ -196,7 +196,7 @@ is_directory-from n d is =
     and_from (is_rising 0 d.entries && list_all (is_entry n) d.entries) (is_map_block d.map_block d.entries)
     (and_from (is_rising 0 d.entries) (list_all (is_entry n) d.entries) is.rising is.entries) is.map_block
 
-pub directory_few : (n : ℕ) (d : Directory) → is_directory n d ≡ true → length d.entries ≤ 2048
+pub directory_few : (n : ℕ) (d : Directory) → is_directory n d ≡ true → length d.entries ≤ most_blocks
 directory_few n d h =
     let is = is_directory-parts n d h in
     let few = rising_few n 0 d.entries (omega arith) is.rising is.entries in
@@ -227,33 +227,33 @@ map_block_fits n d h =
 extent_fits : (n : ℕ) (e : Entry) → IsEntry n e → FitsExtent e.extent
 extent_fits n e is = (omega (arith, is.in_reach), omega (arith, is.short))
 
--- a directory that can stand in a file fits its text, user IDs aside
-pub directory_fits : (n : ℕ) (d : Directory) → is_directory n d ≡ true → All (λ e. e.user_id < 65536) d.entries → FitsDirectory d
-directory_fits n d h user_ids = record {
+-- a directory that can stand in a file fits its text, attributes aside
+pub directory_fits : (n : ℕ) (d : Directory) → is_directory n d ≡ true → All (λ e. FitAttributes e.attributes) d.entries → FitsDirectory d
+directory_fits n d h fit = record {
   map_block = map_block_fits n d h;
   count = (let few = directory_few n d h in omega (arith, few));
   entries = λ k _ l.
       let is = is_entry-parts n (get_or d.entries k no_entry) (each_entry n d.entries (is_directory-parts n d h).entries k l) in
       subst (λ e. FitsEntry e) (get_or_same d.entries k no_entry _ l) (record {
         handle = (let low = is.handle in omega (arith, low));
-        user_id = user_ids k no_entry l;
+        attributes = fit k no_entry l;
         extent = extent_fits n (get_or d.entries k no_entry) is;
       });
 }
 
-pub directory_in-text : (n : ℕ) (d : Directory) → is_directory n d ≡ true → All (λ e. e.user_id < 65536) d.entries → directory_in n (directory_text d) ≡ Some d
-directory_in-text n d h user_ids =
+pub directory_in-text : (n : ℕ) (d : Directory) → is_directory n d ≡ true → All (λ e. FitAttributes e.attributes) d.entries → directory_in n (directory_text d) ≡ Some d
+directory_in-text n d h fit =
     let text : List ℕ = directory_text d in
-    let read : directory_read text ≡ d = directory_read-text d (directory_fits n d h user_ids) in
+    let read : directory_read text ≡ d = directory_read-text d (directory_fits n d h fit) in
     let tests : (is_directory n d && same_bytes text text) ≡ true = and_from (is_directory n d) (same_bytes text text) h (same_bytes-refl text) in
     ap (λ (r : Directory). cond (is_directory n r && same_bytes (directory_text r) text) (Some r) None) read ∙ cond-true _ _ _ tests
 
 -- a word in a text
-user_id_lt : (u : ℕ) (e : Entry) (rest : List ℕ) → u ≡ (entry_read (entry_text e ++ rest)).user_id → u < 65536
+user_id_lt : (u : ℕ) (e : Entry) (rest : List ℕ) → u ≡ (entry_read (entry_text e ++ rest)).attributes.user_id → u < 65536
 user_id_lt u e rest is = omega (arith, is)
 
 pub directory_in-some : (n : ℕ) (bytes : List ℕ) (d : Directory) → directory_in n bytes ≡ Some d
-    → (is_directory n d ≡ true) × (directory_text d ≡ bytes) × FitsDirectory d × (length d.entries ≤ 2048)
+    → (is_directory n d ≡ true) × (directory_text d ≡ bytes) × FitsDirectory d × (length d.entries ≤ most_blocks)
 directory_in-some n bytes d e =
     let r : Directory = directory_read bytes in
     let here = some_if (is_directory n r && same_bytes (directory_text r) bytes) r d e in
@@ -262,10 +262,10 @@ directory_in-some n bytes d e =
     let read : directory_read (directory_text d) ≡ d = ap directory_read text ∙ here.1 in
     let few = directory_few n d parts.0 in
     let count : word_at (directory_text d) 6 ≡ length d.entries = word-reads_back (length d.entries) (drop 8 (directory_text d)) (omega (arith, few)) in
-    let user_ids : All (λ e. e.user_id < 65536) d.entries = λ k x l.
+    let fit : All (λ e. FitAttributes e.attributes) d.entries = λ k x l.
     let at : get_or (directory_read (directory_text d)).entries k x ≡ entry_read (drop (16 + 16 * k) (directory_text d)) =
     get_or-map-range_with_len (λ i. entry_read (drop (16 + 16 * i) (directory_text d))) 0 (word_at (directory_text d) 6) k k x (subst (λ m. k < m) (sym count) l) (omega arith) in
     let is : get_or d.entries k x ≡ entry_read (entry_text (get_or d.entries k no_entry) ++ flat_map entry_text (drop (suc k) d.entries)) =
     ap (λ (r : Directory). get_or r.entries k x) (sym read) ∙ at ∙ ap entry_read (drop-directory_at d k l) in
-    user_id_lt (get_or d.entries k x).user_id (get_or d.entries k no_entry) (flat_map entry_text (drop (suc k) d.entries)) (ap (λ (e : Entry). e.user_id) is) in
-    (parts.0, text, directory_fits n d parts.0 user_ids, few)
+    user_id_lt (get_or d.entries k x).attributes.user_id (get_or d.entries k no_entry) (flat_map entry_text (drop (suc k) d.entries)) (ap (λ (e : Entry). e.attributes.user_id) is) in
+    (parts.0, text, directory_fits n d parts.0 fit, few)

@@ -4,8 +4,9 @@ use Rattle.std.proofs.lemmas.Bool.{cases_Bool, cases_eq, cond-true, cond-false, 
 use Rattle.std.specs.Option.{option_map_or}
 use Rattle.std.specs.Cmp.{nat_cmp_total}
 use Rattle.std.specs.FinMap.{FinMap, get, empty, get-empty, insert, remove, contains_key, len, len-empty, len-insert, len-remove, empty_of_len}
+use Rattle.geos_model.specs.declared.block.Attributes.{Attributes}
 use Rattle.geos_model.specs.Refusal.{Conditions, first_refusal}
-use Rattle.geos_model.specs.Document.{Block, Document, is_live, with_block, with_user_id}
+use Rattle.geos_model.specs.Document.{Block, Document, is_live, attributes_of, with_block, with_attributes}
 use Rattle.geos_model.specs.Meaning.{effect}
 use Rattle.geos_model.specs.Machine.{Machine, AreValidLocks, most_locks, lock_count, is_locked, has_locks, all_locked, is_shut_out, after_lock, after_unlock, is_barred, command_conditions}
 use Rattle.geos_model.specs.declared.fault.Fault.TheVariants.{NoBlock, NotLocked, LockLimit, CacheFull}
@@ -65,12 +66,12 @@ put-live d h b q live = elim (cases_eq q h) [
   | inr other ↦ ap is_some (get-put_other d.blocks h b q other) ∙ live
 ]
 
-user_id-live : (d : Document) (h uid q : ℕ) → is_live d q ≡ true → is_live (with_user_id d h uid) q ≡ true
-user_id-live d h uid q live = by_block (get d.blocks h)
+attributes-live : (d : Document) (h : ℕ) (a : Attributes) (q : ℕ) → is_live d q ≡ true → is_live (with_attributes d h a) q ≡ true
+attributes-live d h a q live = by_block (get d.blocks h)
   where
-    by_block : (o : Option Block) → is_live (option_map_or (λ b. with_block d h (record b { user_id = uid })) o d) q ≡ true
+    by_block : (o : Option Block) → is_live (option_map_or (λ b. with_block d h (record b { attributes = a })) o d) q ≡ true
     by_block None = live
-    by_block (Some b) = put-live d h (record b { user_id = uid }) q live
+    by_block (Some b) = put-live d h (record b { attributes = a }) q live
 
 -- nothing is locked and one block is
 locked_none : (m : Machine) (q : ℕ) → is_locked m q ≡ true → has_locks m ≡ false → ⊥
@@ -79,7 +80,7 @@ locked_none m q locked none = true≢false (sym locked ∙ none_locked m none q)
 pub locked-live : (e : Edit) (m : Machine) → is_barred e m ≡ false → (q : ℕ) → is_locked m q ≡ true → is_live m.document q ≡ true → is_live (effect e m.document).0 q ≡ true
 locked-live (edits.FreeBlock b) m free q locked live =
     ap is_some (get-taken_other m.document.blocks b.0 q (λ is. true≢false (sym locked ∙ ap (is_locked m) is ∙ free))) ∙ live
-locked-live (edits.SetUserId b uid) m free q locked live = user_id-live m.document b.0 uid q live
+locked-live (edits.SetUserId b uid) m free q locked live = attributes-live m.document b.0 (record (attributes_of m.document b.0) { user_id = uid }) q live
 locked-live (edits.SetMap b) m free q locked live = live
 locked-live (edits.CopyChain b) m free q locked live = absurd (locked_none m q locked free)
 locked-live (edits.FreeChain b) m free q locked live = absurd (locked_none m q locked free)

@@ -8,7 +8,7 @@ use Rattle.std.specs.FinMap.{get, entries, keys, values, insert, remove, empty, 
 use Rattle.std.specs.FinMap.Entries.{is_sorted, below_all}
 use Rattle.geos_model.proofs.Table.{table_entries, table_map, first_gap}
 use Rattle.geos_model.specs.Heap.{next_chunk, chunk_handles}
-use Rattle.geos_model.specs.Document.{Block, next_handle, vm_handles}
+use Rattle.geos_model.specs.Document.{Block, next_handle, vm_handles, most_blocks}
 
 -- the slot at a place, and none past the end
 abbrev pub slot_at : {X : Type 0} → List (Option X) → ℕ → Option X
@@ -290,9 +290,9 @@ find-blocks n t =
     ∙ find-first_gap (λ q. not (contains_key (table_map 1 1 t) q)) (λ q. q) n 1 t (λ i. ap (λ (k : ℕ). not (contains_key (table_map 1 1 t) k)) (twice i) ∙ ap not (contains_key-table_map (omega arith) 1 t i))
 
 -- the least free block handle
-pub next_handle-table : (t : List (Option Block)) (m : ℕ) → next_handle (record { blocks = table_map 1 1 t; map_block = m }) ≡ (if nat_lt (first_gap t) 2048 then Some (1 + first_gap t) else None)
+pub next_handle-table : (t : List (Option Block)) (m : ℕ) → next_handle (record { blocks = table_map 1 1 t; map_block = m }) ≡ (if nat_lt (first_gap t) most_blocks then Some (1 + first_gap t) else None)
 unfolding next_handle vm_handles
-next_handle-table t m = find-blocks 2048 t
+next_handle-table t m = find-blocks most_blocks t
 
 module _ {X : Type 0} where
   -- below the first gap each slot has a value

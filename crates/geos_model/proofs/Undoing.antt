@@ -43,9 +43,9 @@ abbrev pub IsAnswer : Reply → Machine → Type 0
 IsAnswer reply new = is_refused reply ≡ false
 
 -- that of a block isn't, whether it is there or not, nor that of a name
-info-answers : (m : Machine) (block : Option Block) → OnDone IsAnswer (option_map (λ reply. (reply, m)) (option_map (λ b. body_info b.user_id b.body) block))
+info-answers : (m : Machine) (block : Option Block) → OnDone IsAnswer (option_map (λ reply. (reply, m)) (option_map (λ b. body_info b.attributes.user_id b.body) block))
 info-answers m None = tt
-info-answers m (Some block) = body_info-answers block.user_id block.body
+info-answers m (Some block) = body_info-answers block.attributes.user_id block.body
 
 name-answers : (m : Machine) (token : Option ℕ) → OnDone IsAnswer (option_map (λ reply. (reply, m)) (option_map TokenIs token))
 name-answers m None = tt

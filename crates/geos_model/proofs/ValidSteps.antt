@@ -14,7 +14,7 @@ use Rattle.geos_model.specs.ElementEdits.{no_slots, element_added, reference_add
 use Rattle.geos_model.specs.NameArray.{name_bytes}
 use Rattle.geos_model.specs.NameEdits.{no_names, name_added, name_changed, name_reference_removed, on_name_token, create_names_conditions, add_name_conditions, change_name_conditions}
 use Rattle.geos_model.specs.Cost.{cost}
-use Rattle.geos_model.specs.Document.{Block, Document, empty_document, is_valid_body, is_live, raw_bytes_of, block_at, IsValid}
+use Rattle.geos_model.specs.Document.{Block, Document, empty_document, is_valid_body, is_live, raw_bytes_of, block_at, IsValid, attributes_of, no_block, FitAttributes}
 use Rattle.geos_model.specs.Meaning.{chunk_at, past_end, conditions, effect}
 use Rattle.geos_model.specs.Reply.{Reply, Accepted, Refused}
 use Rattle.geos_model.specs.Machine.{UndoStep, Machine, Request, Call, IsValidMachine, Step, Run, opened_machine, has_locks, is_barred, command_conditions, done_by, edited, undone, redone, after_update, after_save, after_revert, after_save_as, kind_of}
@@ -31,7 +31,7 @@ use Rattle.geos_model.proofs.InFront.{edit-accepted}
 use Rattle.geos_model.proofs.Locks.{no_locks-valid, kept_locks-valid, empty_locks-valid, locked-live, lock-valid, unlock-valid}
 use Rattle.geos_model.proofs.ChainEdits.{chain-copy, chain-free}
 use Rattle.geos_model.proofs.Undoing.{OnDone, IsAt, on_done, done_by-stays, same_machine}
-use Rattle.geos_model.proofs.Validity.{not_false, without_block-valid, with_body-valid, with_user_id-valid, with_map-valid, block_there, makes_block-valid, raw_bytes-few, length-written, length-deleted, new_chunk-valid, new_bytes-valid, fewer_bytes-valid, without_chunk-valid, empty-heap, empty_document-valid}
+use Rattle.geos_model.proofs.Validity.{not_false, without_block-valid, with_body-valid, with_attributes-valid, with_map-valid, block_there, makes_block-valid, raw_bytes-few, length-written, length-deleted, new_chunk-valid, new_bytes-valid, fewer_bytes-valid, without_chunk-valid, empty-heap, empty_document-valid}
 
 -- An edit that nothing refuses keeps validity.
 pub effect-valid : (e : Edit) (d : Document) → user_id_given e < 65536 → IsValid d → first_refusal (conditions e d) ≡ None → IsValid (effect e d).0
@@ -39,11 +39,11 @@ effect-valid (edits.NewRaw uid size) d low valid none =
     let cs : Conditions = conditions (edits.NewRaw uid size) d in
     let few : size ≤ 65520 = ltb-false 65520 size (or_none (none_applies cs none TooBig refl)).0 in
     let long = length-replicate {A = ℕ} size 0 in
-    makes_block-valid d (record { user_id = uid; body = Raw (replicate size 0) }) valid (or_none (none_applies cs none NoHandles refl)).0 low
+    makes_block-valid d (record { attributes = record { user_id = uid }; body = Raw (replicate size 0) }) valid (or_none (none_applies cs none NoHandles refl)).0 low
     (le-leb (length (replicate size 0)) 65520 (omega (arith, few, long)))
 effect-valid (edits.NewHeap uid) d low valid none =
     let cs : Conditions = conditions (edits.NewHeap uid) d in
-    makes_block-valid d (record { user_id = uid; body = Heap empty }) valid (or_none (none_applies cs none NoHandles refl)).0 low empty-heap
+    makes_block-valid d (record { attributes = record { user_id = uid }; body = Heap empty }) valid (or_none (none_applies cs none NoHandles refl)).0 low empty-heap
 effect-valid (edits.FreeBlock b) d low valid none =
     let cs : Conditions = conditions (edits.FreeBlock b) d in
     without_block-valid d b.0 valid (eqb-false d.map_block b.0 (or_none (none_applies cs none IsMap refl)).0)
@@ -51,9 +51,9 @@ effect-valid (edits.CopyBlock b) d low valid none =
     let cs : Conditions = conditions (edits.CopyBlock b) d in
     let there = block_there (get d.blocks b.0) (not_false (is_live d b.0) (or_none (none_applies cs none NoBlock refl)).0) in
     let old = valid.blocks b.0 there.0 there.1 in
-    let same : block_at d b.0 ≡ there.0 = ap (λ (o : Option Block). unwrap_or o (record { user_id = 0; body = Raw [] })) there.1 in
+    let same : block_at d b.0 ≡ there.0 = ap (λ (o : Option Block). unwrap_or o no_block) there.1 in
     makes_block-valid d (block_at d b.0) valid (or_none (none_applies cs none NoHandles refl)).0
-    (subst (λ (x : Block). x.user_id < 65536) (sym same) old.user_id) (subst (λ (x : Block). is_valid_body x.body ≡ true) (sym same) old.body)
+    (subst (λ (x : Block). FitAttributes x.attributes) (sym same) old.attributes) (subst (λ (x : Block). is_valid_body x.body ≡ true) (sym same) old.body)
 effect-valid (edits.WriteRaw b at bytes) d low valid none =
     let cs : Conditions = conditions (edits.WriteRaw b at bytes) d in
     let live = not_false (is_live d b.0) (or_none (none_applies cs none NoBlock refl)).0 in
@@ -66,7 +66,7 @@ effect-valid (edits.Attach b bytes) d low valid none =
     let cs : Conditions = conditions (edits.Attach b bytes) d in
     let live = not_false (is_live d b.0) (or_none (none_applies cs none NoBlock refl)).0 in
     with_body-valid d b.0 (Raw bytes) valid live (le-leb (length bytes) 65520 (ltb-false 65520 (length bytes) (or_none (none_applies cs none TooBig refl)).0))
-effect-valid (edits.SetUserId b uid) d low valid none = with_user_id-valid d b.0 uid valid low
+effect-valid (edits.SetUserId b uid) d low valid none = with_attributes-valid d b.0 (record (attributes_of d b.0) { user_id = uid }) valid low
 effect-valid (edits.SetMap b) d low valid none =
     let cs : Conditions = conditions (edits.SetMap b) d in
     with_map-valid d b.0 valid (or_none (none_applies cs none NoBlock refl)).0

@@ -8,9 +8,10 @@ use Rattle.std.specs.FinMap.{get, empty, get-empty, insert, remove, contains_key
 use Rattle.geos_model.specs.Refusal.{Conditions, number_of_fault, applies, first_refusal}
 use Rattle.geos_model.specs.Bytes.{written, deleted}
 use Rattle.geos_model.specs.Heap.{capacity, is_chunk_handle, is_heap_map, fits_with, fits_new}
-use Rattle.geos_model.specs.Document.{Block, Document, empty_document, is_vm_handle, vm_handles, next_handle, is_valid_body, is_heap_body, chunks_of_body, bytes_of_body, is_live, is_heap, chunks_of, raw_bytes_of, user_id_of, with_block, without_block, with_body, with_user_id, IsValidBlock, IsValid}
+use Rattle.geos_model.specs.Document.{Block, Document, empty_document, is_vm_handle, vm_handles, next_handle, is_valid_body, is_heap_body, chunks_of_body, bytes_of_body, is_live, is_heap, chunks_of, raw_bytes_of, attributes_of, with_block, without_block, with_body, with_attributes, no_attributes, most_blocks, FitAttributes, IsValidBlock, IsValid}
 use Rattle.geos_model.specs.Meaning.{chunk_at, with_chunk, without_chunk, past_end, new_chunk, makes_block, makes_chunk, on_chunk, on_new_chunk, on_new_bytes}
 use Rattle.geos_model.specs.declared.fault.Fault.TheVariants.{NoBlock, NoChunk, WrongKind, Full, Range}
+use Rattle.geos_model.specs.declared.block.Attributes.{Attributes}
 use Rattle.geos_model.specs.declared.command.Body.{Body}
 use Rattle.geos_model.specs.declared.command.Body.TheVariants.{Raw, Heap}
 use Rattle.geos_model.proofs.Refusals.{none_applies, or_none}
@@ -64,21 +65,21 @@ pub with_body-valid : (d : Document) (h : ℕ) (body : Body) → IsValid d → i
 with_body-valid d h body valid live good =
     let there = block_there (get d.blocks h) live in
     let old = valid.blocks h there.0 there.1 in
-    with_block-valid d h (record { user_id = user_id_of d h; body = body }) valid (record {
+    with_block-valid d h (record { attributes = attributes_of d h; body = body }) valid (record {
       handle = old.handle;
-      user_id = subst (λ (o : Option Block). option_map_or (λ b. b.user_id) o 0 < 65536) (sym there.1) old.user_id;
+      attributes = subst (λ (o : Option Block). FitAttributes (option_map_or (λ b. b.attributes) o no_attributes)) (sym there.1) old.attributes;
       body = good;
     })
 
--- with a user ID of a block, if it is live
-pub with_user_id-valid : (d : Document) (h uid : ℕ) → IsValid d → uid < 65536 → IsValid (with_user_id d h uid)
-with_user_id-valid d h uid valid low = by_block (get d.blocks h) refl
+-- with attributes of a block, if it is live
+pub with_attributes-valid : (d : Document) (h : ℕ) (a : Attributes) → IsValid d → FitAttributes a → IsValid (with_attributes d h a)
+with_attributes-valid d h a valid fit = by_block (get d.blocks h) refl
   where
-    by_block : (o : Option Block) → get d.blocks h ≡ o → IsValid (option_map_or (λ b. with_block d h (record b { user_id = uid })) o d)
+    by_block : (o : Option Block) → get d.blocks h ≡ o → IsValid (option_map_or (λ b. with_block d h (record b { attributes = a })) o d)
     by_block None is = valid
     by_block (Some b) is =
         let old = valid.blocks h b is in
-        with_block-valid d h (record b { user_id = uid }) valid (record { handle = old.handle; user_id = low; body = old.body })
+        with_block-valid d h (record b { attributes = a }) valid (record { handle = old.handle; attributes = fit; body = old.body })
 
 -- with another map block
 pub with_map-valid : (d : Document) (h : ℕ) → IsValid d → (not (h == 0) && not (is_live d h)) ≡ false → IsValid (record d { map_block = h })
@@ -103,13 +104,13 @@ find-within p (suc n) a h is = elim (cases_Bool (p a)) [
 next_handle-valid : (d : Document) (h : ℕ) → next_handle d ≡ Some h → is_vm_handle h ≡ true
 unfolding next_handle vm_handles
 next_handle-valid d h is =
-    let within = find-within (λ q. not (contains_key d.blocks q)) 2048 1 h is in
-    and_from _ _ (le-leb 1 h within.0) (le-leb h 2048 (omega (arith, within.1)))
+    let within = find-within (λ q. not (contains_key d.blocks q)) most_blocks 1 h is in
+    and_from _ _ (le-leb 1 h within.0) (le-leb h most_blocks (omega (arith, within.1)))
 
 -- with a block that is made
-pub makes_block-valid : (d : Document) (b : Block) → IsValid d → is_none (next_handle d) ≡ false → b.user_id < 65536 → is_valid_body b.body ≡ true → IsValid (makes_block d b).0
+pub makes_block-valid : (d : Document) (b : Block) → IsValid d → is_none (next_handle d) ≡ false → FitAttributes b.attributes → is_valid_body b.body ≡ true → IsValid (makes_block d b).0
 makes_block-valid d b valid free low good =
-    with_block-valid d (unwrap_or (next_handle d) 0) b valid (record { handle = by_next (next_handle d) (next_handle-valid d) free; user_id = low; body = good })
+    with_block-valid d (unwrap_or (next_handle d) 0) b valid (record { handle = by_next (next_handle d) (next_handle-valid d) free; attributes = low; body = good })
   where
     by_next : (o : Option ℕ) → ((h : ℕ) → o ≡ Some h → is_vm_handle h ≡ true) → is_none o ≡ false → is_vm_handle (unwrap_or o 0) ≡ true
     by_next None handle free = absurd (cc free)

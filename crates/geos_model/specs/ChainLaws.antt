@@ -5,7 +5,7 @@ use Rattle.std.specs.FinMap.{get}
 use Rattle.geos_model.specs.Words.{word_at}
 use Rattle.geos_model.specs.Refusal.{first_refusal}
 use Rattle.geos_model.specs.ElementArray.{all_distinct}
-use Rattle.geos_model.specs.Document.{Document, IsValid, is_vm_handle, is_live, is_raw, raw_bytes_of, user_id_of, with_blocks}
+use Rattle.geos_model.specs.Document.{Document, IsValid, is_vm_handle, is_live, is_raw, raw_bytes_of, attributes_of, with_blocks}
 use Rattle.geos_model.specs.Chain.{tree_mark, is_linked, link_count, first_link, link_place, links, relinked, is_member, chain, same_shape, free_handles, new_handles, copies_of}
 use Rattle.geos_model.specs.Meaning.{conditions, effect}
 use Rattle.geos_model.specs.declared.handle.VmHandle.{VmHandle}
@@ -66,13 +66,13 @@ pub record IsRelinked (rename : ℕ → ℕ) (old new : List ℕ) : Type 0 where
   pub words : link_words new ≡ map rename (link_words old)
   pub others : (k : ℕ) → IsOfNoLink old k → get_or new k 0 ≡ get_or old k 0
 
--- A document with a copy of these blocks under new handles: it is valid, all else is as it was, each copy has the user ID of its
+-- A document with a copy of these blocks under new handles: it is valid, all else is as it was, each copy has the attributes of its
 -- block, the copy of the first block begins a chain of the new handles in the same order, and the two chains have the same shape.
 pub record IsCopied (old : Document) (hs new : List ℕ) (copied : Document) : Type 0 where
   pub valid : IsValid copied
   pub map_block : copied.map_block ≡ old.map_block
   pub others : (x : ℕ) → (Contains new x → ⊥) → get copied.blocks x ≡ get old.blocks x
-  pub user_ids : (i : ℕ) → i < length hs → user_id_of copied (get_or new i 0) ≡ user_id_of old (get_or hs i 0)
+  pub attributes : (i : ℕ) → i < length hs → attributes_of copied (get_or new i 0) ≡ attributes_of old (get_or hs i 0)
   pub kept : chain copied (get_or hs 0 0) ≡ Some hs
   pub chained : chain copied (get_or new 0 0) ≡ Some new
   pub same : same_shape copied hs new ≡ true

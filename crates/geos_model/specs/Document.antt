@@ -1,16 +1,25 @@
--- A document: blocks under handles, each with a user ID and a body, and a map block.
+-- A document: blocks under handles, each with attributes and a body, and a map block.
 use Rattle.std.specs.Prelude.{◌≡◌, ◌<◌, ℕ, List, [], ◌∷◌, Bool, true, false, not, ◌&&◌, nat_le, length, map, Option, Some, find, unwrap_or}
 use Rattle.std.specs.List.{range_with_len}
 use Rattle.std.specs.Ordering.{nat_cmp}
 use Rattle.std.specs.Option.{option_map_or}
 use Rattle.std.specs.FinMap.{FinMap, get, insert, remove, contains_key, empty}
+use Rattle.geos_model.specs.declared.limit.TheConstants.{MOST_BLOCKS}
 use Rattle.geos_model.specs.Heap.{ChunkMap, is_heap_map, capacity}
+use Rattle.geos_model.specs.declared.block.Attributes.{Attributes}
 use Rattle.geos_model.specs.declared.command.Body.{Body}
 use Rattle.geos_model.specs.declared.command.Body.TheVariants.{Raw, Heap}
 
 pub record Block : Type 0 where
-  pub user_id : ℕ
+  pub attributes : Attributes
   pub body : Body
+
+-- those of no block, and an empty raw block with them
+abbrev pub no_attributes : Attributes
+no_attributes = record { user_id = 0 }
+
+abbrev pub no_block : Block
+no_block = record { attributes = no_attributes; body = Raw [] }
 
 pub record Document : Type 0 where
   pub blocks : FinMap nat_cmp Block
@@ -21,7 +30,7 @@ empty_document = record { blocks = empty; map_block = 0 }
 
 -- how many blocks a document can have
 abbrev pub most_blocks : ℕ
-most_blocks = 2048
+most_blocks = MOST_BLOCKS
 
 -- every VM handle
 unfoldable pub vm_handles : List ℕ
@@ -42,10 +51,14 @@ next_handle d = find (λ h. not (contains_key d.blocks h)) vm_handles
 abbrev pub is_live : Document → ℕ → Bool
 is_live d h = contains_key d.blocks h
 
+-- attributes whose numbers are words
+abbrev pub FitAttributes : Attributes → Type 0
+FitAttributes a = a.user_id < 65536
+
 -- a block that can be under a handle
 pub record IsValidBlock (h : ℕ) (b : Block) : Type 0 where
   pub handle : is_vm_handle h ≡ true
-  pub user_id : b.user_id < 65536
+  pub attributes : FitAttributes b.attributes
   pub body : is_valid_body b.body ≡ true
 
 -- A document that can be: each block is valid, and the map block is 0 or live.
@@ -80,12 +93,15 @@ chunks_of d h = option_map_or (λ b. chunks_of_body b.body) (get d.blocks h) emp
 abbrev pub raw_bytes_of : Document → ℕ → List ℕ
 raw_bytes_of d h = option_map_or (λ b. bytes_of_body b.body) (get d.blocks h) []
 
+abbrev pub attributes_of : Document → ℕ → Attributes
+attributes_of d h = option_map_or (λ b. b.attributes) (get d.blocks h) no_attributes
+
 abbrev pub user_id_of : Document → ℕ → ℕ
-user_id_of d h = option_map_or (λ b. b.user_id) (get d.blocks h) 0
+user_id_of d h = (attributes_of d h).user_id
 
 -- the block under a handle; where none is live, an empty raw one
 abbrev pub block_at : Document → ℕ → Block
-block_at d h = unwrap_or (get d.blocks h) (record { user_id = 0; body = Raw [] })
+block_at d h = unwrap_or (get d.blocks h) no_block
 
 -- the document with this block under a handle, and with none there
 abbrev pub with_block : Document → ℕ → Block → Document
@@ -109,8 +125,11 @@ without_blocks d (h ∷ hs) = without_blocks (without_block d h) hs
 
 -- the document with this body of a block
 abbrev pub with_body : Document → ℕ → Body → Document
-with_body d h body = with_block d h (record { user_id = user_id_of d h; body = body })
+with_body d h body = with_block d h (record { attributes = attributes_of d h; body = body })
 
--- the document with this user ID of a block, if it is live
+-- the document with these attributes of a block, if it is live, and with this user ID
+abbrev pub with_attributes : Document → ℕ → Attributes → Document
+with_attributes d h attributes = option_map_or (λ b. with_block d h (record b { attributes = attributes })) (get d.blocks h) d
+
 abbrev pub with_user_id : Document → ℕ → ℕ → Document
-with_user_id d h uid = option_map_or (λ b. with_block d h (record b { user_id = uid })) (get d.blocks h) d
+with_user_id d h uid = with_attributes d h (record (attributes_of d h) { user_id = uid })

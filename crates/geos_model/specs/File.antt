@@ -8,6 +8,7 @@ use Rattle.geos_model.specs.Words.{word, double_word, quad_word, word_at, double
 use Rattle.geos_model.specs.Heap.{capacity}
 use Rattle.geos_model.specs.Document.{Block, Document, most_blocks}
 use Rattle.geos_model.specs.Image.{body_of}
+use Rattle.geos_model.specs.declared.limit.TheConstants.{LAST_PAGE}
 use Rattle.geos_model.specs.declared.fault.Fault.{Fault}
 use Rattle.geos_model.specs.declared.fault.Fault.TheVariants.{NotDocument, Damaged}
 use Rattle.geos_model.specs.declared.file.Extent.{Extent}
@@ -26,7 +27,7 @@ end_page e = e.page + pages_of e.length
 
 -- the first page that can't be used
 abbrev pub last_page : ℕ
-last_page = 4194304
+last_page = LAST_PAGE
 
 -- the bytes of an extent
 abbrev pub bytes_in : List ℕ → Extent → List ℕ
@@ -89,7 +90,7 @@ directory_mark = 0x47 ∷ 0x44 ∷ 0x49 ∷ 0x52 ∷ []
 
 -- 16 bytes
 abbrev pub entry_text : Entry → List ℕ
-entry_text e = word e.handle.0 ++ word e.user_id ++ extent_text e.extent ++ 0 ∷ 0 ∷ 0 ∷ 0 ∷ []
+entry_text e = word e.handle.0 ++ word e.attributes.user_id ++ extent_text e.extent ++ 0 ∷ 0 ∷ 0 ∷ 0 ∷ []
 
 -- before the entries: 16 bytes, with a version, the count of the entries and the map block
 abbrev pub header_text : ℕ → ℕ → List ℕ
@@ -100,7 +101,7 @@ directory_text d = header_text (length d.entries) d.map_block ++ flat_map entry_
 
 -- the fields of an entry's text
 abbrev pub entry_read : List ℕ → Entry
-entry_read bytes = record { handle = record { 0 = word_at bytes 0 }; user_id = word_at bytes 2; extent = extent_at bytes 4 }
+entry_read bytes = record { handle = record { 0 = word_at bytes 0 }; attributes = record { user_id = word_at bytes 2 }; extent = extent_at bytes 4 }
 
 -- the fields of a directory's text
 abbrev pub directory_read : List ℕ → Directory
@@ -115,10 +116,17 @@ abbrev pub is_rising : ℕ → List Entry → Bool
 is_rising last [] = true
 is_rising last (e ∷ es) = nat_lt last e.handle.0 && is_rising e.handle.0 es
 
--- an entry that can stand in a file of so many bytes: an image has 1 to 65,521 bytes
+-- how many bytes an image has at most, and a directory
+abbrev pub longest_image : ℕ
+longest_image = capacity + 1
+
+abbrev pub longest_directory : ℕ
+longest_directory = 16 + 16 * most_blocks
+
+-- an entry that can stand in a file of so many bytes
 abbrev pub is_entry : ℕ → Entry → Bool
 is_entry file_length e =
-    nat_le e.handle.0 most_blocks && nat_le 1 e.extent.length && nat_le e.extent.length (capacity + 1) && is_in_file file_length e.extent
+    nat_le e.handle.0 most_blocks && nat_le 1 e.extent.length && nat_le e.extent.length longest_image && is_in_file file_length e.extent
 
 -- the map block is none or listed
 abbrev pub is_map_block : ℕ → List Entry → Bool
@@ -145,7 +153,7 @@ prepended block blocks = option_and_then (λ b. option_map (λ bs. b ∷ bs) blo
 
 -- the block of an entry, where its extent has the image of a body
 abbrev pub block_of : List ℕ → Entry → Option (ℕ × Block)
-block_of file e = option_map (λ body. (e.handle.0, record { user_id = e.user_id; body = body })) (body_of (bytes_in file e.extent))
+block_of file e = option_map (λ body. (e.handle.0, record { attributes = e.attributes; body = body })) (body_of (bytes_in file e.extent))
 
 -- the blocks of these entries, where each of them has one
 abbrev pub blocks_of : List ℕ → List Entry → Option (List (ℕ × Block))

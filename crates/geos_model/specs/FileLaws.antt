@@ -1,6 +1,6 @@
 -- Laws of document files.
 use Rattle.std.specs.Prelude.{◌≡◌, ◌+◌, ◌*◌, ◌^◌, ◌<◌, ◌≤◌, ℕ, List, All, true, Some, length, slice_index}
-use Rattle.geos_model.specs.Document.{Document, IsValid, is_valid_body}
+use Rattle.geos_model.specs.Document.{Document, IsValid, FitAttributes, is_valid_body, most_blocks}
 use Rattle.geos_model.specs.Image.{image, body_of}
 use Rattle.geos_model.specs.File.{Directory, slot_text, slot_of, directory_text, directory_read, is_directory, directory_in, directory_of, document_at}
 use Rattle.geos_model.specs.declared.command.Body.{Body}
@@ -23,7 +23,7 @@ pub record FitsSlot (s : Slot) : Type 0 where
 
 pub record FitsEntry (e : Entry) : Type 0 where
   pub handle : e.handle.0 < 65536
-  pub user_id : e.user_id < 65536
+  pub attributes : FitAttributes e.attributes
   pub extent : FitsExtent e.extent
 
 pub record FitsDirectory (d : Directory) : Type 0 where
@@ -46,10 +46,10 @@ pub record FileLaw : Type 0 where
   -- A directory's text has 16 bytes and 16 for each entry, and is that of no other directory.
   pub directory_size : (d : Directory) → length (directory_text d) ≡ 16 + 16 * length d.entries
   pub directory_back : (d : Directory) → FitsDirectory d → directory_read (directory_text d) ≡ d
-  -- What is read as a directory can stand in the file, has numbers that fit and at most 2,048 entries, and is read from its text alone.
+  -- What is read as a directory can stand in the file, has numbers that fit and at most as many entries as a document can have blocks, and is read from its text alone.
   pub directory : (n : ℕ) (bytes : List ℕ) (d : Directory) → directory_in n bytes ≡ Some d
-      → (is_directory n d ≡ true) × (directory_text d ≡ bytes) × FitsDirectory d × (length d.entries ≤ 2048)
-  pub directory_reads : (n : ℕ) (d : Directory) → is_directory n d ≡ true → All (λ e. e.user_id < 65536) d.entries → directory_in n (directory_text d) ≡ Some d
+      → (is_directory n d ≡ true) × (directory_text d ≡ bytes) × FitsDirectory d × (length d.entries ≤ most_blocks)
+  pub directory_reads : (n : ℕ) (d : Directory) → is_directory n d ≡ true → All (λ e. FitAttributes e.attributes) d.entries → directory_in n (directory_text d) ≡ Some d
   -- A document that stands in a file is valid.
   pub valid : (file : List ℕ) (e : Extent) (d : Document) → document_at file e ≡ Some d → IsValid d
   -- It stands for as long as the bytes of its directory and of its blocks stay.

@@ -4,6 +4,7 @@ use Rattle.std.specs.List.{range_with_len, list_all}
 use Rattle.std.specs.Ordering.{nat_cmp}
 use Rattle.std.specs.Option.{option_map_or}
 use Rattle.std.specs.FinMap.{FinMap, entries, keys, get, insert, contains_key}
+use Rattle.geos_model.specs.declared.limit.TheConstants.{CAPACITY, LONGEST_CHUNK}
 
 abbrev pub ChunkMap : Type 0
 ChunkMap = FinMap nat_cmp (List ℕ)
@@ -41,11 +42,11 @@ need m = 16 + 4 * ((table_len (keys m) + 1) / 2) + sum_by (λ c. space_of (lengt
 
 -- how many bytes a heap, or a raw body, has room for
 abbrev pub capacity : ℕ
-capacity = 65520
+capacity = CAPACITY
 
 -- the bytes of the greatest chunk: alone in a heap, it fills it
 abbrev pub longest_chunk : ℕ
-longest_chunk = 65498
+longest_chunk = LONGEST_CHUNK
 
 unfoldable pub fits : ChunkMap → Bool
 fits m = nat_le (need m) capacity

@@ -130,8 +130,8 @@ copies_blocks d hs = (with_blocks d (copies_of d hs), done.Block (record { 0 = g
 
 -- what an edit does that nothing refuses
 abbrev pub effect : Edit → Document → Document × Done
-effect (edits.NewRaw uid size) d = makes_block d (record { user_id = uid; body = Raw (replicate size 0) })
-effect (edits.NewHeap uid) d = makes_block d (record { user_id = uid; body = Heap empty })
+effect (edits.NewRaw uid size) d = makes_block d (record { attributes = record { user_id = uid }; body = Raw (replicate size 0) })
+effect (edits.NewHeap uid) d = makes_block d (record { attributes = record { user_id = uid }; body = Heap empty })
 effect (edits.FreeBlock b) d = (without_block d b.0, done.Nothing)
 effect (edits.CopyBlock b) d = makes_block d (block_at d b.0)
 effect (edits.WriteRaw b at bytes) d = (with_body d b.0 (Raw (written (raw_bytes_of d b.0) at bytes)), done.Nothing)

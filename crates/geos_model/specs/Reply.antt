@@ -87,11 +87,11 @@ body_info uid (Heap m) = HeapIs uid (need m)
 
 -- the least handle above the start that has this user ID
 abbrev pub found : Document → ℕ → ℕ → Option ℕ
-found d uid start = option_map (λ e. e.0) (find (λ e. nat_lt start e.0 && (e.1.user_id == uid)) (entries d.blocks))
+found d uid start = option_map (λ e. e.0) (find (λ e. nat_lt start e.0 && (e.1.attributes.user_id == uid)) (entries d.blocks))
 
 -- what a look-up that nothing refuses answers of the document; what is no look-up, or asks of more than the document, has no answer here
 abbrev pub look_up : Command → Document → Option Reply
-look_up (commands.Info b) d = option_map (λ block. body_info block.user_id block.body) (get d.blocks b.0)
+look_up (commands.Info b) d = option_map (λ block. body_info block.attributes.user_id block.body) (get d.blocks b.0)
 look_up commands.List d = Some (BlocksAre (keys d.blocks))
 look_up (commands.Find uid start) d = Some (BlockIs (unwrap_or (found d uid start.0) 0))
 look_up commands.MapBlock d = Some (BlockIs d.map_block)

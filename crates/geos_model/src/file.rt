@@ -1,4 +1,4 @@
-use crate::VmHandle;
+use crate::{Attributes, VmHandle};
 
 /// How many bytes of a file make a page.
 pub const PAGE: u32 = 512;
@@ -16,7 +16,7 @@ pub struct Extent {
 #[derive(Clone, Copy, Debug, PartialEq, Eq)]
 pub struct Entry {
     pub handle: VmHandle,
-    pub user_id: u16,
+    pub attributes: Attributes,
     /// Where the image of its body lies.
     pub extent: Extent,
 }

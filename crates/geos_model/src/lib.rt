@@ -2,13 +2,16 @@
 //! definitions that their contracts cite.
 #![tactic(auto)]
 
+mod block;
 mod bytes;
 mod command;
 mod fault;
 mod file;
 mod handle;
 mod law;
+mod limit;
 
+pub use block::Attributes;
 pub use bytes::{Bytes, Chunks};
 pub use command::{Body, Command, Done, Edit, Info, Kind};
 pub use fault::Fault;
@@ -19,3 +22,4 @@ pub use law::{
     element_array_law, element_edits_law, failing_law, file_law, image_law, name_array_law,
     name_edits_law, number_law, redo_law, save_law, undo_law, validity_law, word_law,
 };
+pub use limit::{CAPACITY, LAST_PAGE, LONGEST_CHUNK, MOST_BLOCKS};

@@ -1,0 +1,6 @@
+/// What a block has beside its body.
+#[derive(Clone, Copy, Debug, PartialEq, Eq)]
+pub struct Attributes {
+    /// The number that its user gave it.
+    pub user_id: u16,
+}

@@ -1,0 +1,11 @@
+/// How many blocks a document can have: their handles are 1 to this number.
+pub const MOST_BLOCKS: u16 = 2_048;
+
+/// How many bytes a heap needs at most, and a raw body has.
+pub const CAPACITY: usize = 65_520;
+
+/// How many bytes the longest chunk has, alone in its heap.
+pub const LONGEST_CHUNK: usize = 65_498;
+
+/// The first page of a file that can't be used, in pages of 512 bytes.
+pub const LAST_PAGE: u32 = 4_194_304;
