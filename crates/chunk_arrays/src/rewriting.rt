@@ -8,11 +8,8 @@ ghost use Rattle.chunk_arrays.specs.Replacing.{Replaces, RefusesToReplace};
 
 use crate::View;
 use chunk_edits::{Splice, copied};
-use geos_model::{Bytes, Fault};
+use geos_model::{Bytes, Fault, LONGEST_CHUNK};
 use std::alloc::{AllocError, Global};
-
-/// How many bytes a chunk has at most.
-const LONGEST: usize = 65_498;
 
 /// The bytes of an element that comes into an array: three parts, one after another, and so many zeros behind them.
 #[derive(Clone, Copy)]
@@ -42,7 +39,7 @@ pub fn rewrite(
         (RefusesToReplace [] (array_bytes (rewritten view.now.array (extra_after view.now.array first.now) from to new.entry))) }
 {
     let len = length_after(view, from, to, new);
-    if len > LONGEST {
+    if len > LONGEST_CHUNK {
         return Err(Fault::Full);
     }
     let bytes = bytes_after(alloc, view, first, from, to, new, len)?;

@@ -2,10 +2,11 @@ ghost use Rattle.std.specs.Prelude.{◌≡◌, ◌+◌, ◌*◌, ◌≤◌, ◌<
 ghost use Rattle.lmem_heap.specs.Pieces.{entry, word_in};
 ghost use Rattle.lmem_heap.specs.Edits.{IsSet, IsSlid, IsZeroed, IsSized, IsCopied};
 
+use geos_model::CAPACITY;
 use raw_region::Region;
 
 /// How many bytes a region has.
-pub(crate) const SIZE: usize = 65_520;
+pub(crate) const SIZE: usize = CAPACITY;
 
 /// The bytes of the header.
 pub(crate) const HEADER: usize = 16;

@@ -7,7 +7,8 @@ mod raw;
 mod region;
 
 pub use body::RawBody;
+use geos_model::CAPACITY;
 pub use region::Region;
 
 /// How many bytes a region has.
-pub const SIZE: usize = 65_520;
+pub const SIZE: usize = CAPACITY;

@@ -11,8 +11,8 @@ as_long : (a : Array) (first : List ℕ) (from to : ℕ) (new : Option NewElemen
     → length (array_bytes (rewritten a (extra_after a first) from to new)) ≡ length (array_bytes (rewritten a a.extra from to new))
 as_long a first from to new short = length-other_extra (rewritten a a.extra from to new) (extra_after a first) (length-extra_after a first short)
 
-pub returns-then-len-gt-LONGEST : goal.returns-then-len-gt-LONGEST
-returns-then-len-gt-LONGEST c =
+pub returns-then-len-gt-LONGEST_CHUNK : goal.returns-then-len-gt-LONGEST_CHUNK
+returns-then-len-gt-LONGEST_CHUNK c =
     let a : Array = c.args.view.now.array in
     let same = as_long a c.args.first.now c.args.from c.args.to c.args.new c.requires.extra in
     inr (refused-long (array_bytes (rewritten a (extra_after a c.args.first.now) c.args.from c.args.to c.args.new)) (omega (arith, same)))
