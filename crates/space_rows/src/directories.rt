@@ -1,5 +1,5 @@
 // A directory's bytes, as files have them.
-use geos_model::{Entry, Extent, Fault, VmHandle};
+use geos_model::{Attributes, Entry, Extent, Fault, VmHandle};
 use std::test::Fail;
 use vm_space::{MOST_ENTRIES, read_dir, write_dir};
 
@@ -10,7 +10,7 @@ const TEXT: &[u8; 32] =
 fn entry(handle: u16) -> Entry {
     Entry {
         handle: VmHandle(handle),
-        user_id: 7,
+        attributes: Attributes { user_id: 7 },
         extent: Extent { page: 4, length: 3 },
     }
 }

@@ -66,7 +66,7 @@ field a n m xs l = ap (little_number n) (drop-take a m xs) ∙ little_from-take 
 -- an entry is read from 16 bytes
 pub entry_read-take : (xs : List ℕ) → entry_read (take 16 xs) ≡ entry_read xs
 entry_read-take xs =
-    let made : ℕ → ℕ → ℕ → ℕ → Entry = λ h u p n. record { handle = record { 0 = h }; user_id = u; extent = record { page = p; length = n } } in
+    let made : ℕ → ℕ → ℕ → ℕ → Entry = λ h u p n. record { handle = record { 0 = h }; attributes = record { user_id = u }; extent = record { page = p; length = n } } in
     let ys : List ℕ = take 16 xs in
     ap₂ (λ (h u : ℕ). made h u (little_number 4 (drop 4 ys)) (little_number 4 (drop 8 ys))) (field 0 2 16 xs (omega arith)) (field 2 2 14 xs (omega arith))
     ∙ ap₂ (λ (p n : ℕ). made (little_number 2 (drop 0 xs)) (little_number 2 (drop 2 xs)) p n) (field 4 4 12 xs (omega arith)) (field 8 4 8 xs (omega arith))

@@ -7,7 +7,7 @@ ghost use Rattle.vm_space.specs.Listed.{shown, HasHeader, IsNext, entries_read, 
 use crate::pages::is_in_file;
 use crate::words::{read_extent, write_extent};
 use byteorder::{ByteOrder, LittleEndian};
-use geos_model::{Entry, Fault, VmHandle};
+use geos_model::{Attributes, CAPACITY, Entry, Fault, MOST_BLOCKS, VmHandle};
 use std::alloc::{AllocError, Global};
 
 /// What a directory says of a document.
@@ -19,16 +19,19 @@ pub struct Directory {
     pub entries: Vec<Entry>,
 }
 
-/// How many entries a directory can have.
-pub const MOST_ENTRIES: usize = 2_048;
+/// How many entries a directory can have: one for each block.
+pub const MOST_ENTRIES: usize = MOST_BLOCKS as usize;
 
 // The bytes before the entries, and those of each entry.
 const HEADER_LENGTH: usize = 16;
 
 const ENTRY_LENGTH: usize = 16;
 
-// The bytes of the image of the greatest raw body.
-const LONGEST_IMAGE: u32 = 65_521;
+/// How many bytes a directory of that many entries has.
+pub const LONGEST_DIRECTORY: usize = HEADER_LENGTH + ENTRY_LENGTH * MOST_ENTRIES;
+
+/// How many bytes an image has at most: a byte for its kind before those of a raw body.
+pub const LONGEST_IMAGE: usize = CAPACITY + 1;
 
 /// The text of a directory: 16 bytes, and 16 for each entry.
 pub fn write_dir(
@@ -63,7 +66,7 @@ fn entry_bytes(entry: &Entry) -> [u8; ENTRY_LENGTH]
 {
     let mut text = [0; ENTRY_LENGTH];
     LittleEndian::write_u16(&mut text, entry.handle.0);
-    LittleEndian::write_u16(&mut text[2..], entry.user_id);
+    LittleEndian::write_u16(&mut text[2..], entry.attributes.user_id);
     write_extent(&mut text[4..], entry.extent);
     text
 }
@@ -127,7 +130,9 @@ fn read_entry(text: &[u8]) -> Entry
 {
     Entry {
         handle: VmHandle(LittleEndian::read_u16(text)),
-        user_id: LittleEndian::read_u16(&text[2..]),
+        attributes: Attributes {
+            user_id: LittleEndian::read_u16(&text[2..]),
+        },
         extent: read_extent(&text[4..]),
     }
 }
@@ -146,7 +151,7 @@ fn is_entry_in(entry: Entry, file_length: u64) -> bool
 {
     usize::from(entry.handle.0) <= MOST_ENTRIES
         && entry.extent.length >= 1
-        && entry.extent.length <= LONGEST_IMAGE
+        && entry.extent.length as usize <= LONGEST_IMAGE
         && is_in_file(entry.extent, file_length)
 }
 

@@ -3,13 +3,10 @@ ghost use Rattle.std.specs.Prelude.{◌≡◌, ◌^◌, ◌<◌};
 ghost use Rattle.geos_model.specs.File as file;
 ghost use Rattle.geos_model.specs.File.{pages_of, end_page};
 
-use geos_model::{Extent, PAGE};
+use geos_model::{Extent, LAST_PAGE, PAGE};
 
 // The first page behind the slots.
 pub(crate) const FIRST_PAGE: u32 = 2;
-
-// The first page that can't be used.
-const LAST_PAGE: u64 = 4_194_304;
 
 pub(crate) fn page_count(len: u32) -> u32
     ensures { result ≡ pages_of len }
@@ -31,12 +28,12 @@ pub(crate) fn page_behind(extent: Extent) -> u64
     u64::from(extent.page) + u64::from(page_count(extent.length))
 }
 
-/// Whether an extent lies behind the slots of a file of `file_length` bytes, within the file, and below page 4,194,304.
+/// Whether an extent lies behind the slots of a file of `file_length` bytes, within the file, and below `LAST_PAGE`.
 pub fn is_in_file(extent: Extent, file_length: u64) -> bool
     ensures { result ≡ file.is_in_file file_length extent }
 {
     let start = u64::from(PAGE) * u64::from(extent.page);
     extent.page >= FIRST_PAGE
         && start + u64::from(extent.length) <= file_length
-        && page_behind(extent) <= LAST_PAGE
+        && page_behind(extent) <= u64::from(LAST_PAGE)
 }

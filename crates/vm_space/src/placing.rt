@@ -4,7 +4,7 @@ ghost use Rattle.vm_space.specs.Placing.{AreExtents, AreInOrder, IsFirstFit, IsL
 use crate::pages::{FIRST_PAGE, page_behind, page_count};
 use geos_model::Extent;
 
-/// How many extents may be taken: whichever they are, the first fit lies below page 4,194,304.
+/// How many extents may be taken: whichever they are, the first fit lies below `LAST_PAGE`.
 pub const MOST_EXTENTS: usize = 16_384;
 
 /// The first free extent of `len` bytes, behind the slots: in one pass over the extents that are taken, with no memory.

@@ -8,12 +8,15 @@ use geos_model::Slot;
 /// How many bytes a slot's text has.
 pub const SLOT_LENGTH: usize = 32;
 
+/// What a slot's text begins with.
+pub const SLOT_MARK: [u8; 4] = *b"GVMF";
+
 /// A slot's text.
 pub fn write_slot(slot: &Slot) -> [u8; SLOT_LENGTH]
     ensures { result ≡ slot_text slot.now }
 {
     let mut text = [0; SLOT_LENGTH];
-    text[..4].copy_from_slice(b"GVMF");
+    text[..4].copy_from_slice(&SLOT_MARK);
     text[4] = slot.gate;
     text[5] = slot.version;
     LittleEndian::write_u16(&mut text[6..], slot.reserved);
@@ -28,7 +31,7 @@ pub fn read_slot(bytes: &[u8]) -> Option<Slot>
     requires { length bytes.now ≡ SLOT_LENGTH }
     ensures { result ≡ slot_of bytes.now }
 {
-    if !bytes.starts_with(b"GVMF") {
+    if !bytes.starts_with(&SLOT_MARK) {
         return None;
     }
     Some(Slot {
