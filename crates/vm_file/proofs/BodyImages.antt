@@ -7,6 +7,8 @@ use Rattle.geos_model.specs.declared.command.Body.{Body}
 use Rattle.geos_model.specs.declared.command.Body.TheVariants.{Raw, Heap}
 use Rattle.geos_model.proofs.Files.{some_if, body_of-some, body_of-image}
 use Rattle.geos_model.proofs.Images.{length_image_body_le}
+use Rattle.geos_model.specs.File.{longest_image}
+use Rattle.geos_model.specs.Heap.{capacity}
 use Rattle.std.proofs.lemmas.Bool.{cond-true}
 use Rattle.lmem_heap.specs.HeapImage.{IsHeapImage}
 use Rattle.vm_file.specs.Opened.{IsImageOf}
@@ -44,14 +46,14 @@ unfolding image
 length_raw rest = omega arith
 
 -- 0 and at most 65,520 bytes
-pub raw_image : (bytes : List ℕ) → 1 ≤ length bytes → slice_index bytes 0 ≡ 0 → length bytes ≤ 65521 → IsImageOf false bytes
+pub raw_image : (bytes : List ℕ) → 1 ≤ length bytes → slice_index bytes 0 ≡ 0 → length bytes ≤ longest_image → IsImageOf false bytes
 raw_image bytes some first short =
     let raw = raw_bytes bytes some first in
     let long = length_raw raw.0 in
     let same = ap length raw.1 in
-    image_of bytes (Raw raw.0) false (le-leb (length raw.0) 65520 (omega (arith, long, same, short))) raw.1 refl
+    image_of bytes (Raw raw.0) false (le-leb (length raw.0) capacity (omega (arith, long, same, short))) raw.1 refl
 
-pub long_none : (bytes : List ℕ) → 65521 < length bytes → body_of bytes ≡ None
+pub long_none : (bytes : List ℕ) → longest_image < length bytes → body_of bytes ≡ None
 long_none bytes long = none_if (body_of bytes) (λ b e.
     let some = body_of-some bytes b e in
     let short = length_image_body_le b some.0 in

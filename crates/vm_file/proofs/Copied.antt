@@ -86,4 +86,4 @@ pub copy_drifts : (honest : Bool) (file c : List ℕ) (copy table : Table) → I
 copy_drifts honest file c copy table is same =
     let nothing : IsTrue false → blocks_in c table.places.items ≡ blocks_in file table.places.items = λ no. absurd (cc no) in
     let drift = subst (λ d. Drifts false (document_in file table) d) (sym (copy_document c copy table is)) (places_drift false file c table.places.items table.map_block nothing) in
-    record { live = drift.live; user_ids = drift.user_ids; kinds = drift.kinds; map_block = drift.map_block; same = same }
+    record { live = drift.live; attributes = drift.attributes; kinds = drift.kinds; map_block = drift.map_block; same = same }

@@ -8,6 +8,7 @@ use Rattle.vm_file.proofs.Found.{apart_out}
 use Rattle.vm_store.specs.Facts.{StoreFacts, Torn, Holds}
 use Rattle.geos_model.specs.declared.file.Extent.{Extent}
 use Rattle.geos_model.proofs.Table.{table_map}
+use Rattle.geos_model.specs.File.{longest_image}
 use Rattle.vm_file.specs.Ranges.{IsPlaced, KeepsAll, start_of, end_of, IsOut, IsClear}
 use Rattle.vm_file.specs.Slots.{Leaves, Outlives, block_extents, stored_extents, pair_extents, marked_extents, kept_extents}
 use Rattle.vm_file.specs.Documents.{document_in, documents_in, AreImaged, IsStored, AreStored}
@@ -76,7 +77,7 @@ module _ {S : Type 0} (facts : S → StoreFacts) (a b : S) (live : Table) (slots
       (All-cons IsPlaced draft.stored.directory (block_extents draft.stored.table.places.items) call.is_draft.placed (subst (λ ps. All IsPlaced (block_extents ps)) (sym copy.places) call.sound.formed.placed))
       (subst (AreImaged (facts b).content) (sym copy.places) (live_images so))
       (subst (λ ps. All (λ e. end_of e ≤ length (facts b).content) (block_extents ps)) (sym copy.places) (live_within so))
-      call.is_draft.user_ids (call.is_draft.size ∙ ap length call.is_draft.text) (subst (Holds (facts b).content (start_of draft.stored.directory)) call.is_draft.text holds)
+      call.is_draft.attributes (call.is_draft.size ∙ ap length call.is_draft.text) (subst (Holds (facts b).content (start_of draft.stored.directory)) call.is_draft.text holds)
 
 -- The pair of the document as it is now, and of a saved one: the one that is committed, or the same.
 
@@ -133,5 +134,5 @@ room_clear all taken n e perm fits =
     All-permutation (λ x. IsOut (start_of e) e.length (start_of x) (end_of x)) taken all (IsPermutation-sym all taken perm)
     (λ k d inside. subst (λ m. IsOut (start_of e) m (start_of (get_or taken k d)) (end_of (get_or taken k d))) (sym fits.length_is) (apart_out e.page n (get_or taken k d) (fits.free k d inside)))
 
-pub room_placed : (taken : List Extent) (n : ℕ) (e : Extent) → 1 ≤ n → n ≤ 65521 → IsFirstFit taken n e → IsPlaced e
-room_placed taken n e some short fits = record { behind = fits.behind_slots; within = fits.in_reach; some = subst (λ m. 1 ≤ m) (sym fits.length_is) some; short = subst (λ m. m ≤ 65521) (sym fits.length_is) short }
+pub room_placed : (taken : List Extent) (n : ℕ) (e : Extent) → 1 ≤ n → n ≤ longest_image → IsFirstFit taken n e → IsPlaced e
+room_placed taken n e some short fits = record { behind = fits.behind_slots; within = fits.in_reach; some = subst (λ m. 1 ≤ m) (sym fits.length_is) some; short = subst (λ m. m ≤ longest_image) (sym fits.length_is) short }

@@ -6,7 +6,7 @@ use Rattle.std.specs.List.{list_any, list_all}
 use Rattle.std.proofs.lemmas.Bool.{and_parts, cases_Bool}
 use Rattle.std.proofs.lemmas.List.{get_or-set_other, take_more}
 use Rattle.std.specs.FinMap.{from_entries}
-use Rattle.geos_model.specs.Document.{Block, Document}
+use Rattle.geos_model.specs.Document.{Block, Document, most_blocks}
 use Rattle.geos_model.specs.declared.command.Body.{Body}
 use Rattle.geos_model.specs.File.{Directory, directory_of, document_at, document_of, both, is_rising, is_entry, is_map_block, is_directory, blocks_of, block_of, prepended, bytes_in}
 use Rattle.geos_model.specs.Image.{body_of}
@@ -37,7 +37,7 @@ nones h (Some place ∷ places) none = absurd (cc (none 0))
 
 -- the entry of a place
 abbrev pub entry_at : ℕ → Place → Entry
-entry_at h place = record { handle = record { 0 = h }; user_id = place.user_id; extent = place.extent }
+entry_at h place = record { handle = record { 0 = h }; attributes = place.attributes; extent = place.extent }
 
 -- a place above all others
 pub entries_more : (h k : ℕ) (places : List (Option Place)) (place : Place) → k < length places → ((j : ℕ) → k ≤ j → slot_at places j ≡ None)
@@ -98,31 +98,31 @@ imaged_more file (o ∷ places) (suc k) place one all (suc i) d within = imaged_
 
 -- The places of the first i entries, and no others.
 pub record IsPartRead (i : ℕ) (es : List Entry) (places : List (Option Place)) : Type 0 where
-  pub size : length places ≡ 2048
+  pub size : length places ≡ most_blocks
   pub entries : entries_of 1 places ≡ take i es
   pub free : IsFreeFrom i es places
 
-pub part_start : (es : List Entry) (places : List (Option Place)) → length places ≡ 2048 → ((j : ℕ) → slot_at places j ≡ None) → IsPartRead 0 es places
+pub part_start : (es : List Entry) (places : List (Option Place)) → length places ≡ most_blocks → ((j : ℕ) → slot_at places j ≡ None) → IsPartRead 0 es places
 part_start es places size none = record { size = size; entries = nones 1 places none; free = λ k j d le below above. none j }
 
 pub imaged_start : (file : List ℕ) (places : List (Option Place)) → ((j : ℕ) → slot_at places j ≡ None) → AreImaged file places
 imaged_start file places none k d within = subst (λ o. IfSome o (IsImaged file)) (sym (files.get_or_same places k d None within ∙ none k)) tt
 
 -- the entry is that of its place
-same_entry : (e : Entry) (h : ℕ) (place : Place) → e.handle.0 ≡ h → place.user_id ≡ e.user_id → place.extent ≡ e.extent → entry_at h place ≡ e
-same_entry e h place handle user_id extent = λ i. record { handle = record { 0 = sym handle i }; user_id = user_id i; extent = extent i }
+same_entry : (e : Entry) (h : ℕ) (place : Place) → e.handle.0 ≡ h → place.attributes ≡ e.attributes → place.extent ≡ e.extent → entry_at h place ≡ e
+same_entry e h place handle attributes extent = λ i. record { handle = record { 0 = sym handle i }; attributes = attributes i; extent = extent i }
 
-pub part_more : (last i : ℕ) (es : List Entry) (places : List (Option Place)) (e : Entry) (place : Place) → is_rising last es ≡ true → All (λ x. x.handle.0 ≤ 2048) es → i < length es → get_or es i e ≡ e
-    → place.user_id ≡ e.user_id → place.extent ≡ e.extent → IsPartRead i es places → IsPartRead (i + 1) es (set places (e.handle.0 - 1) (Some place))
-part_more last i es places e place rising low inside is user_id extent part =
+pub part_more : (last i : ℕ) (es : List Entry) (places : List (Option Place)) (e : Entry) (place : Place) → is_rising last es ≡ true → All (λ x. x.handle.0 ≤ most_blocks) es → i < length es → get_or es i e ≡ e
+    → place.attributes ≡ e.attributes → place.extent ≡ e.extent → IsPartRead i es places → IsPartRead (i + 1) es (set places (e.handle.0 - 1) (Some place))
+part_more last i es places e place rising low inside is attributes extent part =
     let above : last < (get_or es i e).handle.0 = rising_above last es i e rising inside in
     let same = ap (λ x. x.handle.0) is in
-    let short : (get_or es i e).handle.0 ≤ 2048 = low i e inside in
+    let short : (get_or es i e).handle.0 ≤ most_blocks = low i e inside in
     let handle : e.handle.0 ≡ 1 + (e.handle.0 - 1) = omega (arith, above, same) in
     record {
       size = length-set places (e.handle.0 - 1) (Some place) ∙ part.size;
       entries = entries_more 1 (e.handle.0 - 1) places place (omega (arith, part.size, short, same, above)) (λ j le. part.free i j e (omega arith) inside (omega (arith, le, same, above)))
-          ∙ ap₂ (λ es x. es ++ x ∷ []) part.entries (same_entry e (1 + (e.handle.0 - 1)) place handle user_id extent ∙ sym is)
+          ∙ ap₂ (λ es x. es ++ x ∷ []) part.entries (same_entry e (1 + (e.handle.0 - 1)) place handle attributes extent ∙ sym is)
           ∙ sym (take_more es i e inside);
       free = subst (λ x. IsFreeFrom (i + 1) es (set places (x.handle.0 - 1) (Some place))) is (free_more last i es places e place rising inside part.free);
     }
@@ -134,7 +134,7 @@ none_prepended None = refl
 none_prepended (Some b) = refl
 
 abbrev numbered : Entry → Body → ℕ × Block
-numbered e body = (e.handle.0, record { user_id = e.user_id; body = body })
+numbered e body = (e.handle.0, record { attributes = e.attributes; body = body })
 
 pub no_blocks : (file : List ℕ) (es : List Entry) (i : ℕ) (d : Entry) → i < length es → body_of (bytes_in file (get_or es i d).extent) ≡ None → blocks_of file es ≡ None
 no_blocks file [] i d inside none = absurd (omega arith)
@@ -182,11 +182,11 @@ each_entry : (P : Entry → Type 0) (n : ℕ) (es : List Entry) → list_all (is
 each_entry P n es all has k d inside =
     subst P (files.get_or_same es k files.no_entry d inside) (has (get_or es k files.no_entry) (files.is_entry-parts n (get_or es k files.no_entry) (files.each_entry n es all k inside)))
 
-pub handles_low : (n : ℕ) (es : List Entry) → list_all (is_entry n) es ≡ true → All (λ e. e.handle.0 ≤ 2048) es
-handles_low n es all = each_entry (λ e. e.handle.0 ≤ 2048) n es all (λ e is. is.handle)
+pub handles_low : (n : ℕ) (es : List Entry) → list_all (is_entry n) es ≡ true → All (λ e. e.handle.0 ≤ most_blocks) es
+handles_low n es all = each_entry (λ e. e.handle.0 ≤ most_blocks) n es all (λ e is. is.handle)
 
 pub read_formed : (n : ℕ) (d : Directory) (s : Stored) → is_directory n d ≡ true → IsDirectoryPlace n s.directory → entries_of 1 s.table.places.items ≡ d.entries
-    → length s.table.places.items ≡ 2048 → s.table.map_block ≡ d.map_block → IsRead n s
+    → length s.table.places.items ≡ most_blocks → s.table.map_block ≡ d.map_block → IsRead n s
 read_formed n d s good place entries long map =
     let parts = files.is_directory-parts n d good in
     let all : list_all (is_entry n) (entries_of 1 s.table.places.items) ≡ true = ap (list_all (is_entry n)) entries ∙ parts.entries in

@@ -6,7 +6,7 @@ use Rattle.std.specs.FinMap.{FinMap, get, remove, get-insert, get-remove, same_m
 use Rattle.std.specs.Ordering.{nat_cmp}
 use Rattle.std.proofs.lemmas.Bool.{cases_Bool, cases_lt, cond-true, cond-false, eqb-true}
 use Rattle.std.proofs.lemmas.List.{get_or-set_other, set_past}
-use Rattle.geos_model.specs.Document.{Block, Document, is_heap, is_heap_body, is_live, user_id_of, with_block, without_block}
+use Rattle.geos_model.specs.Document.{Block, Document, is_heap, is_heap_body, is_live, attributes_of, with_block, without_block, no_attributes, most_blocks}
 use Rattle.geos_model.specs.Image.{image, body_read}
 use Rattle.geos_model.specs.File.{bytes_in}
 use Rattle.geos_model.specs.declared.file.Extent.{Extent}
@@ -33,10 +33,10 @@ module _ (d : Document) (h : ℕ) where
       ap is_some (get-insert nat_cmp_total d.blocks h b q ∙ ap (λ t. cond t (Some b) (get d.blocks q)) (unsigned_tied q h))
       ∙ elim (q == h) as (λ t. is_some (cond t (Some b) (get d.blocks q)) ≡ cond t true (is_some (get d.blocks q))) [ true ↦ refl | false ↦ refl ]
 
-  user_id_with : (b : Block) (q : ℕ) → user_id_of (with_block d h b) q ≡ cond (q == h) b.user_id (user_id_of d q)
-  user_id_with b q =
-      ap (λ o. option_map_or (λ (x : Block). x.user_id) o 0) (get-insert nat_cmp_total d.blocks h b q ∙ ap (λ t. cond t (Some b) (get d.blocks q)) (unsigned_tied q h))
-      ∙ elim (q == h) as (λ t. option_map_or (λ (x : Block). x.user_id) (cond t (Some b) (get d.blocks q)) 0 ≡ cond t b.user_id (option_map_or (λ (x : Block). x.user_id) (get d.blocks q) 0)) [ true ↦ refl | false ↦ refl ]
+  attributes_with : (b : Block) (q : ℕ) → attributes_of (with_block d h b) q ≡ cond (q == h) b.attributes (attributes_of d q)
+  attributes_with b q =
+      ap (λ o. option_map_or (λ (x : Block). x.attributes) o no_attributes) (get-insert nat_cmp_total d.blocks h b q ∙ ap (λ t. cond t (Some b) (get d.blocks q)) (unsigned_tied q h))
+      ∙ elim (q == h) as (λ t. option_map_or (λ (x : Block). x.attributes) (cond t (Some b) (get d.blocks q)) no_attributes ≡ cond t b.attributes (option_map_or (λ (x : Block). x.attributes) (get d.blocks q) no_attributes)) [ true ↦ refl | false ↦ refl ]
 
   heap_with : (b : Block) (q : ℕ) → is_heap (with_block d h b) q ≡ cond (q == h) (is_heap_body b.body) (is_heap d q)
   heap_with b q =
@@ -48,20 +48,20 @@ module _ (d : Document) (h : ℕ) where
       ap is_some (get-remove nat_cmp_total d.blocks h q ∙ ap (λ t. cond t None (get d.blocks q)) (unsigned_tied q h))
       ∙ elim (q == h) as (λ t. is_some (cond t None (get d.blocks q)) ≡ cond t false (is_some (get d.blocks q))) [ true ↦ refl | false ↦ refl ]
 
-  user_id_without : (q : ℕ) → user_id_of (without_block d h) q ≡ cond (q == h) 0 (user_id_of d q)
-  user_id_without q =
-      ap (λ o. option_map_or (λ (x : Block). x.user_id) o 0) (get-remove nat_cmp_total d.blocks h q ∙ ap (λ t. cond t None (get d.blocks q)) (unsigned_tied q h))
-      ∙ elim (q == h) as (λ t. option_map_or (λ (x : Block). x.user_id) (cond t None (get d.blocks q)) 0 ≡ cond t 0 (option_map_or (λ (x : Block). x.user_id) (get d.blocks q) 0)) [ true ↦ refl | false ↦ refl ]
+  attributes_without : (q : ℕ) → attributes_of (without_block d h) q ≡ cond (q == h) no_attributes (attributes_of d q)
+  attributes_without q =
+      ap (λ o. option_map_or (λ (x : Block). x.attributes) o no_attributes) (get-remove nat_cmp_total d.blocks h q ∙ ap (λ t. cond t None (get d.blocks q)) (unsigned_tied q h))
+      ∙ elim (q == h) as (λ t. option_map_or (λ (x : Block). x.attributes) (cond t None (get d.blocks q)) no_attributes ≡ cond t no_attributes (option_map_or (λ (x : Block). x.attributes) (get d.blocks q) no_attributes)) [ true ↦ refl | false ↦ refl ]
 
   heap_without : (q : ℕ) → is_heap (without_block d h) q ≡ cond (q == h) false (is_heap d q)
   heap_without q =
       ap (λ o. option_map_or (λ (x : Block). is_heap_body x.body) o false) (get-remove nat_cmp_total d.blocks h q ∙ ap (λ t. cond t None (get d.blocks q)) (unsigned_tied q h))
       ∙ elim (q == h) as (λ t. option_map_or (λ (x : Block). is_heap_body x.body) (cond t None (get d.blocks q)) false ≡ cond t false (option_map_or (λ (x : Block). is_heap_body x.body) (get d.blocks q) false)) [ true ↦ refl | false ↦ refl ]
 
-drifts_with : (honest : Bool) (a b : Document) (h : ℕ) (x y : Block) → Drifts honest a b → y.user_id ≡ x.user_id → is_heap_body y.body ≡ is_heap_body x.body → (IsTrue honest → y ≡ x) → Drifts honest (with_block a h x) (with_block b h y)
+drifts_with : (honest : Bool) (a b : Document) (h : ℕ) (x y : Block) → Drifts honest a b → y.attributes ≡ x.attributes → is_heap_body y.body ≡ is_heap_body x.body → (IsTrue honest → y ≡ x) → Drifts honest (with_block a h x) (with_block b h y)
 drifts_with honest a b h x y drifts same kind is = record {
   live = λ q. live_with b h y q ∙ ap (cond (q == h) true) (drifts.live q) ∙ sym (live_with a h x q);
-  user_ids = λ q. user_id_with b h y q ∙ ap₂ (cond (q == h)) same (drifts.user_ids q) ∙ sym (user_id_with a h x q);
+  attributes = λ q. attributes_with b h y q ∙ ap₂ (cond (q == h)) same (drifts.attributes q) ∙ sym (attributes_with a h x q);
   kinds = λ q. heap_with b h y q ∙ ap₂ (cond (q == h)) kind (drifts.kinds q) ∙ sym (heap_with a h x q);
   map_block = drifts.map_block;
   same = λ so. ap₂ (λ d z. with_block d h z) (drifts.same so) (is so);
@@ -70,7 +70,7 @@ drifts_with honest a b h x y drifts same kind is = record {
 drifts_without : (honest : Bool) (a b : Document) (h : ℕ) → Drifts honest a b → Drifts honest (without_block a h) (without_block b h)
 drifts_without honest a b h drifts = record {
   live = λ q. live_without b h q ∙ ap (cond (q == h) false) (drifts.live q) ∙ sym (live_without a h q);
-  user_ids = λ q. user_id_without b h q ∙ ap (cond (q == h) 0) (drifts.user_ids q) ∙ sym (user_id_without a h q);
+  attributes = λ q. attributes_without b h q ∙ ap (cond (q == h) no_attributes) (drifts.attributes q) ∙ sym (attributes_without a h q);
   kinds = λ q. heap_without b h q ∙ ap (cond (q == h) false) (drifts.kinds q) ∙ sym (heap_without a h q);
   map_block = drifts.map_block;
   same = λ so. ap (λ d. without_block d h) (drifts.same so);
@@ -104,7 +104,7 @@ full_with [] extents places k full = full
 full_with (p ∷ puts) [] places k full = full
 full_with (p ∷ puts) (e ∷ extents) places k full = full_with puts extents (set places (p.handle.0 - 1) (Some (placed_at p e))) k (full_set places (p.handle.0 - 1) k (placed_at p e) full)
 
-pub filled_drifts : (honest : Bool) (file : List ℕ) (puts : List Member) (extents : List Extent) (places : List (Option Place)) (map_block : ℕ) → length places ≡ 2048 → All IsPut puts → length extents ≡ length puts
+pub filled_drifts : (honest : Bool) (file : List ℕ) (puts : List Member) (extents : List Extent) (places : List (Option Place)) (map_block : ℕ) → length places ≡ most_blocks → All IsPut puts → length extents ≡ length puts
     → ((k : ℕ) (p : Member) (e : Extent) → k < length puts → IsTrue honest → bytes_in file (get_or extents k e) ≡ image (get_or puts k p).block.image)
     → Drifts honest (put_all puts (shown file places map_block)) (shown file (with_places puts extents places) map_block)
 filled_drifts honest file [] extents places map_block size are long images = Drifts-refl honest (shown file places map_block)
@@ -120,8 +120,8 @@ filled_drifts honest file (p ∷ puts) (e ∷ extents) places map_block size are
     let next = set places (h - 1) (Some one) in
     let made : shown file next map_block ≡ with_block d h (block_in file one) = shown_put file places map_block h one bounds.0 (omega (arith, bounds.0, bounds.1, size)) in
     let there : IsTrue honest → block_in file one ≡ block = λ so.
-    ap (λ b. record { user_id = p.block.user_id; body = of_kind one.is_heap b }) (ap body_read (images 0 p e (omega arith) so) ∙ body_read-body body p.block.valid)
-    ∙ ap (λ b. record { user_id = p.block.user_id; body = b }) (of_kind-same one.is_heap body refl) in
+    ap (λ b. record { attributes = p.block.attributes; body = of_kind one.is_heap b }) (ap body_read (images 0 p e (omega arith) so) ∙ body_read-body body p.block.valid)
+    ∙ ap (λ b. record { attributes = p.block.attributes; body = b }) (of_kind-same one.is_heap body refl) in
     let kind_here : (b : Body) → is_heap_body (of_kind one.is_heap b) ≡ one.is_heap = of_kind-kind one.is_heap in
     let first : Drifts honest (with_block d h block) (shown file next map_block) =
     subst (Drifts honest (with_block d h block)) (sym made) (drifts_with honest d d h block (block_in file one) (Drifts-refl honest d) refl (kind_here (body_read (bytes_in file e))) there) in

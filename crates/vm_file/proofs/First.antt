@@ -6,7 +6,7 @@ use Rattle.std.proofs.lemmas.List.{append-nil, length-replicate}
 use Rattle.std.proofs.lemmas.List.Elements.{All-nil, All-cons, All-append, All-replicate}
 use Rattle.vm_store.specs.Facts.{StoreFacts, byte, Holds, Puts, IsDurable}
 use Rattle.vm_store.specs.Laws.{Holds-Puts}
-use Rattle.geos_model.specs.Document.{empty_document}
+use Rattle.geos_model.specs.Document.{empty_document, FitAttributes, most_blocks}
 use Rattle.geos_model.proofs.Table.{table_entries, table_map}
 use Rattle.geos_model.specs.File.{slot_mark, directory_of, directory_text}
 use Rattle.geos_model.specs.declared.file.Extent.{Extent}
@@ -144,7 +144,7 @@ module _ (directory : Extent) (text : List ℕ) (live : Table) (slots : Slots) (
     one_stored : IsStored file (record { directory = directory; table = live })
     one_stored = directory_written file (record { directory = directory; table = live }) founding.table
         (All-cons IsPlaced directory es founding.directory_placed founding.placed)
-        images within founding.user_ids (sym founding.size ∙ ap length founding.text_is) (subst (λ t. Holds file (start_of directory) t) founding.text_is laid.there)
+        images within founding.attributes (sym founding.size ∙ ap length founding.text_is) (subst (λ t. Holds file (start_of directory) t) founding.text_is laid.there)
 
     leads : Leads 0 1 slots.committed file file
     leads = record {
@@ -213,7 +213,7 @@ empty_listed n live is =
     let no_entries : entries_of 1 live.places.items ≡ [] = ap (entries_of 1) is.places ∙ none_entries 1 n in
     λ i. record { map_block = is.map_block i; entries = no_entries i }
 
-pub empty_founding : (text : List ℕ) (n : ℕ) (live : Table) → n ≡ 2048 → IsEmpty n live → text ≡ directory_text no_blocks → IsFounding first_directory text live
+pub empty_founding : (text : List ℕ) (n : ℕ) (live : Table) → n ≡ most_blocks → IsEmpty n live → text ≡ directory_text no_blocks → IsFounding first_directory text live
 empty_founding text n live all is text_is =
     let no_extents : block_extents live.places.items ≡ [] = ap block_extents is.places ∙ none_extents n in
     let no_entries = ap (λ d. d.entries) (empty_listed n live is) in
@@ -223,7 +223,7 @@ empty_founding text n live all is text_is =
       placed = subst (All IsPlaced) (sym no_extents) (All-nil IsPlaced);
       directory_placed = record { behind = omega arith; within = omega arith; some = omega arith; short = omega arith };
       clear = subst (IsClear 1024 16) (sym no_extents) (All-nil (λ e. IsOut 1024 16 (start_of e) (end_of e)));
-      user_ids = subst (All (λ e. e.user_id < 65536)) (sym no_entries) (All-nil (λ e. e.user_id < 65536));
+      attributes = subst (All (λ e. FitAttributes e.attributes)) (sym no_entries) (All-nil (λ e. FitAttributes e.attributes));
       text_is = text_is ∙ sym (ap directory_text same);
       size = ap length text_is;
     }

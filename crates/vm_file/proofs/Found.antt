@@ -4,7 +4,7 @@ use Rattle.std.proofs.lemmas.Bool.{cases_eq}
 use Rattle.std.proofs.Math.Nat.{div-add-mod, mod-lt}
 use Rattle.std.proofs.lemmas.List.{append-nil, take_more, get_or_append_left}
 use Rattle.std.proofs.lemmas.List.Elements.{All-nil, All-cons, All-head, All-tail, All-append}
-use Rattle.geos_model.specs.File.{pages_of}
+use Rattle.geos_model.specs.File.{pages_of, longest_image}
 use Rattle.geos_model.specs.Image.{image}
 use Rattle.geos_model.specs.declared.file.Extent.{Extent}
 use Rattle.vm_space.specs.Placing.{IsApart, IsFirstFit}
@@ -64,7 +64,7 @@ apart_out page n e apart =
     elim apart as (λ _. IsOut (512 * page) n (start_of e) (end_of e)) [ inl before ↦ inr (omega (arith, mine, before)) | inr behind ↦ inl (omega (arith, other, behind)) ]
 
 -- one image more
-module _ (taken extents : List Extent) (puts : List Member) (n : ℕ) (r : Extent) (p : Member) (is : (d : Member) → get_or puts n d ≡ p) (size : (1 ≤ length (image p.block.image)) × (length (image p.block.image) ≤ 65521)) (fit : IsFirstFit (taken_with taken extents) (length (image p.block.image)) r) where
+module _ (taken extents : List Extent) (puts : List Member) (n : ℕ) (r : Extent) (p : Member) (is : (d : Member) → get_or puts n d ≡ p) (size : (1 ≤ length (image p.block.image)) × (length (image p.block.image) ≤ longest_image)) (fit : IsFirstFit (taken_with taken extents) (length (image p.block.image)) r) where
   out : (e : Extent) → IsApart (record { page = r.page; length = length (image p.block.image) }) e → IsOut (start_of r) r.length (start_of e) (end_of e)
   out e apart = subst (λ m. IsOut (start_of r) m (start_of e) (end_of e)) (sym fit.length_is) (apart_out r.page (length (image p.block.image)) e apart)
 

@@ -5,7 +5,7 @@ use Rattle.std.specs.FinMap.{get, keys}
 use Rattle.std.proofs.Math.Bool.{and-false}
 use Rattle.std.proofs.lemmas.Bool.{lt-ltb, le-ltb, eq-eqb, ne_eqb, cases_lt}
 use Rattle.std.proofs.lemmas.List.{take_more, drop_more, length-take-le, append-nil, map-append, drop_all, get_or-set_other}
-use Rattle.geos_model.specs.Document.{Block, next_handle}
+use Rattle.geos_model.specs.Document.{Block, next_handle, most_blocks}
 use Rattle.geos_model.specs.Reply.{found}
 use Rattle.geos_model.specs.declared.file.Extent.{Extent}
 use Rattle.geos_model.specs.declared.handle.VmHandle.{VmHandle}
@@ -40,21 +40,21 @@ entries_past (suc n) h (Some place ∷ places) past = ap (λ (t : List (ℕ × P
 pub keys_shown : (file : List ℕ) (places : List (Option Place)) (map_block : ℕ) → keys (shown file places map_block).blocks ≡ map (λ e. e.0) (table_entries 1 1 places)
 keys_shown file places map_block = keys-table_map (let up : 0 < 1 = omega arith in up) 1 (blocks_in file places) ∙ entries_here file 1 places
 
-pub found_here : (file : List ℕ) (uid start h : ℕ) (places : List (Option Place)) → option_map (λ e. e.0) (find (λ e. nat_lt start e.0 && (e.1.user_id == uid)) (table_entries 1 h (blocks_in file places)))
-    ≡ option_map (λ e. e.0) (find (λ e. nat_lt start e.0 && (e.1.user_id == uid)) (table_entries 1 h places))
+pub found_here : (file : List ℕ) (uid start h : ℕ) (places : List (Option Place)) → option_map (λ e. e.0) (find (λ e. nat_lt start e.0 && (e.1.attributes.user_id == uid)) (table_entries 1 h (blocks_in file places)))
+    ≡ option_map (λ e. e.0) (find (λ e. nat_lt start e.0 && (e.1.attributes.user_id == uid)) (table_entries 1 h places))
 found_here file uid start h [] = refl
 found_here file uid start h (None ∷ places) = found_here file uid start (h + 1) places
 found_here file uid start h (Some place ∷ places) =
     let more : List (ℕ × Block) = table_entries 1 (h + 1) (blocks_in file places) in
     let rest : List (ℕ × Place) = table_entries 1 (h + 1) places in
-    elim (nat_lt start h && (place.user_id == uid)) as (λ b. option_map (λ (e : ℕ × Block). e.0) (cond b (Some (h, block_in file place)) (find (λ e. nat_lt start e.0 && (e.1.user_id == uid)) more)) ≡ option_map (λ (e : ℕ × Place). e.0) (cond b (Some (h, place)) (find (λ e. nat_lt start e.0 && (e.1.user_id == uid)) rest))) [
+    elim (nat_lt start h && (place.attributes.user_id == uid)) as (λ b. option_map (λ (e : ℕ × Block). e.0) (cond b (Some (h, block_in file place)) (find (λ e. nat_lt start e.0 && (e.1.attributes.user_id == uid)) more)) ≡ option_map (λ (e : ℕ × Place). e.0) (cond b (Some (h, place)) (find (λ e. nat_lt start e.0 && (e.1.attributes.user_id == uid)) rest))) [
       | true ↦ refl
       | false ↦ found_here file uid start (h + 1) places
     ]
 
 pub found_shown : (file : List ℕ) (places : List (Option Place)) (map_block uid start : ℕ) → found (shown file places map_block) uid start ≡ found_in places uid start
 found_shown file places map_block uid start =
-    ap (λ (es : List (ℕ × Block)). option_map (λ e. e.0) (find (λ e. nat_lt start e.0 && (e.1.user_id == uid)) es)) (entries-table_map (let up : 0 < 1 = omega arith in up) 1 (blocks_in file places))
+    ap (λ (es : List (ℕ × Block)). option_map (λ e. e.0) (find (λ e. nat_lt start e.0 && (e.1.attributes.user_id == uid)) es)) (entries-table_map (let up : 0 < 1 = omega arith in up) 1 (blocks_in file places))
     ∙ found_here file uid start 1 places
 
 pub first_gap-blocks : (file : List ℕ) (places : List (Option Place)) → first_gap (blocks_in file places) ≡ first_gap places
@@ -68,18 +68,18 @@ first_gap-bound (None ∷ t) = omega arith
 first_gap-bound (Some x ∷ t) = omega (arith, first_gap-bound t)
 
 -- the least free handle, by the first gap
-pub next_some : (file : List ℕ) (places : List (Option Place)) (map_block gap : ℕ) → gap ≡ first_gap places → gap < 2048 → next_handle (shown file places map_block) ≡ Some (gap + 1)
+pub next_some : (file : List ℕ) (places : List (Option Place)) (map_block gap : ℕ) → gap ≡ first_gap places → gap < most_blocks → next_handle (shown file places map_block) ≡ Some (gap + 1)
 next_some file places map_block gap e l =
     next_handle-table (blocks_in file places) map_block
-    ∙ ap (λ (n : ℕ). cond (nat_lt n 2048) (Some (1 + n)) None) (first_gap-blocks file places ∙ sym e)
-    ∙ ap (λ (b : Bool). cond b (Some (1 + gap)) None) (lt-ltb gap 2048 l)
+    ∙ ap (λ (n : ℕ). cond (nat_lt n most_blocks) (Some (1 + n)) None) (first_gap-blocks file places ∙ sym e)
+    ∙ ap (λ (b : Bool). cond b (Some (1 + gap)) None) (lt-ltb gap most_blocks l)
     ∙ ap (λ (n : ℕ). Some n) (let c : 1 + gap ≡ gap + 1 = omega arith in c)
 
-pub next_none : (file : List ℕ) (places : List (Option Place)) (map_block gap : ℕ) → gap ≡ first_gap places → 2048 ≤ gap → next_handle (shown file places map_block) ≡ None
+pub next_none : (file : List ℕ) (places : List (Option Place)) (map_block gap : ℕ) → gap ≡ first_gap places → most_blocks ≤ gap → next_handle (shown file places map_block) ≡ None
 next_none file places map_block gap e l =
     next_handle-table (blocks_in file places) map_block
-    ∙ ap (λ (n : ℕ). cond (nat_lt n 2048) (Some (1 + n)) None) (first_gap-blocks file places ∙ sym e)
-    ∙ ap (λ (b : Bool). cond b (Some (1 + gap)) None) (le-ltb gap 2048 l)
+    ∙ ap (λ (n : ℕ). cond (nat_lt n most_blocks) (Some (1 + n)) None) (first_gap-blocks file places ∙ sym e)
+    ∙ ap (λ (b : Bool). cond b (Some (1 + gap)) None) (le-ltb gap most_blocks l)
 
 pub next_free : (file : List ℕ) (places : List (Option Place)) (map_block gap : ℕ) → gap ≡ first_gap places → get (shown file places map_block).blocks (gap + 1) ≡ None
 next_free file places map_block gap e =
@@ -114,7 +114,7 @@ empty_without [] places k none = none
 empty_without (h ∷ handles) places k none = empty_without handles (without_place h.0 places) k (empty_without_one h.0 places k none)
 
 -- a table in which blocks were put, and from which others were taken
-pub bounds_changed : (puts : List Member) (extents : List Extent) (removals : List VmHandle) (places : List (Option Place)) (old new : Bounds) → length places ≡ 2048 → All IsPut puts → AreBounds places old → IsWidened puts removals old new
+pub bounds_changed : (puts : List Member) (extents : List Extent) (removals : List VmHandle) (places : List (Option Place)) (old new : Bounds) → length places ≡ most_blocks → All IsPut puts → AreBounds places old → IsWidened puts removals old new
     → AreBounds (without_places removals (with_places puts extents places)) new
 bounds_changed puts extents removals places old new size are bounds wide =
     let filled = with_places puts extents places in
@@ -185,39 +185,39 @@ listed_free places i l o e free old before =
 
 -- the least handle past the start, of the places from the place i on, whose block has the user ID
 abbrev pub found_from : ℕ → ℕ → ℕ → List (Option Place) → Option ℕ
-found_from uid start i rest = option_map (λ e. e.0) (find (λ e. nat_lt start e.0 && (e.1.user_id == uid)) (table_entries 1 (1 + i) rest))
+found_from uid start i rest = option_map (λ e. e.0) (find (λ e. nat_lt start e.0 && (e.1.attributes.user_id == uid)) (table_entries 1 (1 + i) rest))
 
 -- a place that is free, or whose block isn't meant, is passed over
-pub found_past : (uid start i : ℕ) (o : Option Place) (rest : List (Option Place)) → ((b : Place) → o ≡ Some b → (nat_lt start (1 + i) && (b.user_id == uid)) ≡ false) → found_from uid start i (o ∷ rest) ≡ found_from uid start (i + 1) rest
-found_past uid start i None rest other = ap (λ (h : ℕ). option_map (λ e. e.0) (find (λ e. nat_lt start e.0 && (e.1.user_id == uid)) (table_entries 1 h rest))) (add_assoc 1 i 1)
+pub found_past : (uid start i : ℕ) (o : Option Place) (rest : List (Option Place)) → ((b : Place) → o ≡ Some b → (nat_lt start (1 + i) && (b.attributes.user_id == uid)) ≡ false) → found_from uid start i (o ∷ rest) ≡ found_from uid start (i + 1) rest
+found_past uid start i None rest other = ap (λ (h : ℕ). option_map (λ e. e.0) (find (λ e. nat_lt start e.0 && (e.1.attributes.user_id == uid)) (table_entries 1 h rest))) (add_assoc 1 i 1)
 found_past uid start i (Some b) rest other =
-    ap (λ (t : Bool). option_map (λ e. e.0) (cond t (Some (1 + i, b)) (find (λ e. nat_lt start e.0 && (e.1.user_id == uid)) (table_entries 1 (1 + i + 1) rest)))) (other b refl)
-    ∙ ap (λ (h : ℕ). option_map (λ e. e.0) (find (λ e. nat_lt start e.0 && (e.1.user_id == uid)) (table_entries 1 h rest))) (add_assoc 1 i 1)
+    ap (λ (t : Bool). option_map (λ e. e.0) (cond t (Some (1 + i, b)) (find (λ e. nat_lt start e.0 && (e.1.attributes.user_id == uid)) (table_entries 1 (1 + i + 1) rest)))) (other b refl)
+    ∙ ap (λ (h : ℕ). option_map (λ e. e.0) (find (λ e. nat_lt start e.0 && (e.1.attributes.user_id == uid)) (table_entries 1 h rest))) (add_assoc 1 i 1)
 
 -- handles up to the start are passed over
 pub found_front : (uid start : ℕ) (places : List (Option Place)) (i k : ℕ) → i + k ≤ start → found_from uid start i places ≡ found_from uid start (i + k) (drop k places)
 found_front uid start places i zero le = ap (λ (j : ℕ). found_from uid start j places) (let e : i ≡ i + 0 = omega arith in e)
 found_front uid start [] i (suc k) le = refl
 found_front uid start (o ∷ rest) i (suc k) le =
-    found_past uid start i o rest (λ b is. ap (λ (t : Bool). t && (b.user_id == uid)) (le-ltb start (1 + i) (omega arith)))
+    found_past uid start i o rest (λ b is. ap (λ (t : Bool). t && (b.attributes.user_id == uid)) (le-ltb start (1 + i) (omega arith)))
     ∙ found_front uid start rest (i + 1) k (omega arith)
     ∙ ap (λ (j : ℕ). found_from uid start j (drop k rest)) (let e : i + 1 + k ≡ i + suc k = omega arith in e)
 
-found_one : (uid start i : ℕ) (b : Place) (rest : List (Option Place)) → start ≤ i → b.user_id ≡ uid → found_from uid start i (Some b ∷ rest) ≡ Some (i + 1)
+found_one : (uid start i : ℕ) (b : Place) (rest : List (Option Place)) → start ≤ i → b.attributes.user_id ≡ uid → found_from uid start i (Some b ∷ rest) ≡ Some (i + 1)
 found_one uid start i b rest le same =
-    ap (λ (t : Bool). option_map (λ e. e.0) (cond t (Some (1 + i, b)) (find (λ e. nat_lt start e.0 && (e.1.user_id == uid)) (table_entries 1 (1 + i + 1) rest))))
-    (ap (λ (t : Bool). t && (b.user_id == uid)) (lt-ltb start (1 + i) (omega arith)) ∙ eq-eqb b.user_id uid same)
+    ap (λ (t : Bool). option_map (λ e. e.0) (cond t (Some (1 + i, b)) (find (λ e. nat_lt start e.0 && (e.1.attributes.user_id == uid)) (table_entries 1 (1 + i + 1) rest))))
+    (ap (λ (t : Bool). t && (b.attributes.user_id == uid)) (lt-ltb start (1 + i) (omega arith)) ∙ eq-eqb b.attributes.user_id uid same)
     ∙ ap (λ (n : ℕ). Some n) (let e : 1 + i ≡ i + 1 = omega arith in e)
 
-pub found_at : (uid start i : ℕ) (b : Place) (places : List (Option Place)) → i < length places → Some b ≡ get_or places i None → start ≤ i → b.user_id ≡ uid → found_from uid start i (drop i places) ≡ Some (i + 1)
+pub found_at : (uid start i : ℕ) (b : Place) (places : List (Option Place)) → i < length places → Some b ≡ get_or places i None → start ≤ i → b.attributes.user_id ≡ uid → found_from uid start i (drop i places) ≡ Some (i + 1)
 found_at uid start i b places within here le same =
     ap (found_from uid start i) (drop-cons places i None within ∙ ap (λ (o : Option Place). o ∷ drop (suc i) places) (sym here)) ∙ found_one uid start i b (drop (suc i) places) le same
 
 -- the place at i is passed over where its block hasn't the user ID
-pub found_next : (uid start i : ℕ) (places : List (Option Place)) → i < length places → ((b : Place) → get_or places i None ≡ Some b → b.user_id ≢ uid) → found_from uid start i (drop i places) ≡ found_from uid start (i + 1) (drop (i + 1) places)
+pub found_next : (uid start i : ℕ) (places : List (Option Place)) → i < length places → ((b : Place) → get_or places i None ≡ Some b → b.attributes.user_id ≢ uid) → found_from uid start i (drop i places) ≡ found_from uid start (i + 1) (drop (i + 1) places)
 found_next uid start i places within other =
     ap (found_from uid start i) (drop_more places i None within)
-    ∙ found_past uid start i (get_or places i None) (drop (i + 1) places) (λ b is. ap (λ (t : Bool). nat_lt start (1 + i) && t) (ne_eqb b.user_id uid (other b is)) ∙ and-false (nat_lt start (1 + i)))
+    ∙ found_past uid start i (get_or places i None) (drop (i + 1) places) (λ b is. ap (λ (t : Bool). nat_lt start (1 + i) && t) (ne_eqb b.attributes.user_id uid (other b is)) ∙ and-false (nat_lt start (1 + i)))
 
 pub found_end : (uid start i : ℕ) (places : List (Option Place)) → length places ≤ i → found_from uid start i (drop i places) ≡ None
 found_end uid start i places past = ap (found_from uid start i) (drop_all i places past)

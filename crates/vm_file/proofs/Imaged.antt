@@ -11,7 +11,7 @@ use Rattle.geos_model.proofs.Arrays.{same_bytes-is}
 use Rattle.geos_model.proofs.Images.{length_image_body_le}
 use Rattle.geos_model.proofs.Tables.{slot_at}
 use Rattle.geos_model.specs.Document.{block_at}
-use Rattle.geos_model.specs.File.{bytes_in}
+use Rattle.geos_model.specs.File.{bytes_in, longest_image}
 use Rattle.geos_model.specs.declared.file.Extent.{Extent}
 use Rattle.vm_store.specs.Facts.{Holds}
 use Rattle.vm_file.specs.Ranges.{start_of, IsPlaced}
@@ -48,7 +48,7 @@ image_some (Raw bytes) = omega arith
 image_some (Heap m) = omega arith
 
 -- an image has 1 to 65,521 bytes
-pub image_length : (body : Body) → is_valid_body body ≡ true → (1 ≤ length (image body)) × (length (image body) ≤ 65521)
+pub image_length : (body : Body) → is_valid_body body ≡ true → (1 ≤ length (image body)) × (length (image body) ≤ longest_image)
 image_length body valid = (image_some body, length_image_body_le body valid)
 
 -- its first byte tells the kind

@@ -25,9 +25,9 @@ entries_within : (n h : ℕ) (places : List (Option Place)) → list_all (is_ent
 entries_within n h [] all k d inside = absurd (omega arith)
 entries_within n h (None ∷ places) all k d inside = entries_within n (h + 1) places all k d inside
 entries_within n h (Some place ∷ places) all zero d inside =
-    (is_entry-parts n (record { handle = record { 0 = h }; user_id = place.user_id; extent = place.extent }) (and_parts (is_entry n (record { handle = record { 0 = h }; user_id = place.user_id; extent = place.extent })) (list_all (is_entry n) (entries_of (h + 1) places)) all).0).within
+    (is_entry-parts n (record { handle = record { 0 = h }; attributes = place.attributes; extent = place.extent }) (and_parts (is_entry n (record { handle = record { 0 = h }; attributes = place.attributes; extent = place.extent })) (list_all (is_entry n) (entries_of (h + 1) places)) all).0).within
 entries_within n h (Some place ∷ places) all (suc k) d inside =
-    entries_within n (h + 1) places (and_parts (is_entry n (record { handle = record { 0 = h }; user_id = place.user_id; extent = place.extent })) (list_all (is_entry n) (entries_of (h + 1) places)) all).1 k d (omega arith)
+    entries_within n (h + 1) places (and_parts (is_entry n (record { handle = record { 0 = h }; attributes = place.attributes; extent = place.extent })) (list_all (is_entry n) (entries_of (h + 1) places)) all).1 k d (omega arith)
 
 pub stored_within : (file : List ℕ) (s : Stored) → IsStored file s → (end_of s.directory ≤ length file) × All (λ e. end_of e ≤ length file) (block_extents s.table.places.items)
 stored_within file s stored =

@@ -6,10 +6,10 @@ use Rattle.std.proofs.lemmas.List.Elements.{All-nil, All-cons, All-head, All-tai
 use Rattle.std.proofs.lemmas.List.{map-append, take_more}
 use Rattle.vm_store.specs.Facts.{byte, Puts}
 use Rattle.vm_store.specs.Laws.{Holds-Puts}
-use Rattle.geos_model.specs.Document.{Block, is_heap, is_heap_body, is_live, user_id_of}
+use Rattle.geos_model.specs.Document.{Block, is_heap, is_heap_body, is_live, attributes_of, no_attributes, FitAttributes}
 use Rattle.geos_model.proofs.Table.{table_map}
 use Rattle.geos_model.specs.Image.{body_of, body_read}
-use Rattle.geos_model.specs.File.{bytes_in, pages_of, directory_text}
+use Rattle.geos_model.specs.File.{bytes_in, pages_of, directory_text, last_page}
 use Rattle.geos_model.proofs.Files.{length-directory}
 use Rattle.geos_model.specs.declared.file.Extent.{Extent}
 use Rattle.vm_file.specs.Ranges.{IsPlaced, end_of, KeepsAll}
@@ -21,7 +21,7 @@ use Rattle.vm_file.specs.Making.{moved_to, pages_taken, laid_out, page_behind, I
 use Rattle.vm_file.specs.declared.table.Table.{Table}
 use Rattle.vm_file.proofs.First.{AreLying}
 use Rattle.vm_file.specs.declared.table.Place.{Place}
-use Rattle.vm_file.proofs.Tables.{EachPlace, shown, not_live, live_is, get_none, heap_is, user_id_is, extents_of, places_of, blocks_same, images_same}
+use Rattle.vm_file.proofs.Tables.{EachPlace, shown, not_live, live_is, get_none, heap_is, attributes_is, extents_of, places_of, blocks_same, images_same}
 use Rattle.vm_file.proofs.KeptBytes.{bytes_held}
 use Rattle.vm_file.proofs.Written.{entries_few}
 
@@ -90,7 +90,7 @@ module _ (source old c d : List ℕ) (honest : Type 0) (ps : List (Option Place)
     }
 
     new_block : honest → block_in d new ≡ block_in source place
-    new_block so = ap (λ b. record { user_id = place.user_id; body = of_kind place.is_heap (body_read b) }) (image_there ∙ written.same so)
+    new_block so = ap (λ b. record { attributes = place.attributes; body = of_kind place.is_heap (body_read b) }) (image_there ∙ written.same so)
 
     longer : EachPlace (λ p. end_of p.extent ≤ length d) ls
     longer k x inside = elim (get_or ls k x) as (λ o. IfSome o (λ p. end_of p.extent ≤ length c) → IfSome o (λ p. end_of p.extent ≤ length d)) [
@@ -192,11 +192,11 @@ behind_high page (o ∷ ps) placed =
     let few = pages_few o (All-head P o ps placed) in
     omega (arith, few, behind_high (page + pages_taken o) ps (All-tail P o ps placed))
 
-one_laid : (page last : ℕ) (o : Option Place) → 2 ≤ page → page + pages_taken o ≤ last → last ≤ 4194304 → IfSome o (λ p. IsPlaced p.extent) → IfSome (moved_to page o) (λ p. IsPlaced p.extent)
+one_laid : (page last : ℕ) (o : Option Place) → 2 ≤ page → page + pages_taken o ≤ last → last ≤ last_page → IfSome o (λ p. IsPlaced p.extent) → IfSome (moved_to page o) (λ p. IsPlaced p.extent)
 one_laid page last None low l high placed = tt
 one_laid page last (Some place) low l high placed = record { behind = low; within = omega (arith, l, high); some = placed.some; short = placed.short }
 
-laid_placed : (page last : ℕ) (ps : List (Option Place)) → 2 ≤ page → page_behind page ps ≤ last → last ≤ 4194304 → EachPlace (λ p. IsPlaced p.extent) ps → EachPlace (λ p. IsPlaced p.extent) (laid_out page ps)
+laid_placed : (page last : ℕ) (ps : List (Option Place)) → 2 ≤ page → page_behind page ps ≤ last → last ≤ last_page → EachPlace (λ p. IsPlaced p.extent) ps → EachPlace (λ p. IsPlaced p.extent) (laid_out page ps)
 laid_placed page last [] low l high placed = All-nil (λ o. IfSome o (λ p. IsPlaced p.extent))
 laid_placed page last (o ∷ ps) low l high placed =
     let P : Option Place → Type 0 = λ o. IfSome o (λ p. IsPlaced p.extent) in
@@ -219,8 +219,8 @@ laid_table live new is map_block places =
     }
 
 pub plan_founding : (live new : Table) (directory : Extent) (text : List ℕ) → IsTable live → All IsPlaced (block_extents live.places.items) → new.map_block ≡ live.map_block → new.places.items ≡ laid_out 2 live.places.items
-    → directory.page ≡ page_behind 2 live.places.items → directory.length ≡ length text → text ≡ directory_text (directory_of_table new) → All (λ e. e.user_id < 65536) (entries_of 1 new.places.items) → IsFounding directory text new
-plan_founding live new directory text is placed map_block places page size text_is user_ids =
+    → directory.page ≡ page_behind 2 live.places.items → directory.length ≡ length text → text ≡ directory_text (directory_of_table new) → All (λ e. FitAttributes e.attributes) (entries_of 1 new.places.items) → IsFounding directory text new
+plan_founding live new directory text is placed map_block places page size text_is attributes =
     let ps = live.places.items in
     let each = places_of IsPlaced ps placed in
     let low = behind_low 2 ps in
@@ -236,7 +236,7 @@ plan_founding live new directory text is placed map_block places page size text_
       placed = subst (λ qs. All IsPlaced (block_extents qs)) (sym places) laid;
       directory_placed = record { behind = omega (arith, low, page); within = omega (arith, page, high, is.size, size, long, count, all); some = omega (arith, size, long); short = omega (arith, size, long, count, all) };
       clear = λ k x inside. inl (omega (arith, behind k x inside, page));
-      user_ids = user_ids;
+      attributes = attributes;
       text_is = text_is;
       size = sym size;
     }
@@ -251,11 +251,11 @@ copied_lying honest source old file ps new none places copied = record {
 
 -- The document that is laid out.
 
-laid_user_id : (page k : ℕ) (ps : List (Option Place)) → option_map_or (λ (p : Place). p.user_id) (get_or (laid_out page ps) k None) 0 ≡ option_map_or (λ (p : Place). p.user_id) (get_or ps k None) 0
-laid_user_id page k [] = refl
-laid_user_id page zero (None ∷ ps) = refl
-laid_user_id page zero (Some place ∷ ps) = refl
-laid_user_id page (suc k) (o ∷ ps) = laid_user_id (page + pages_taken o) k ps
+laid_attributes : (page k : ℕ) (ps : List (Option Place)) → option_map_or (λ (p : Place). p.attributes) (get_or (laid_out page ps) k None) no_attributes ≡ option_map_or (λ (p : Place). p.attributes) (get_or ps k None) no_attributes
+laid_attributes page k [] = refl
+laid_attributes page zero (None ∷ ps) = refl
+laid_attributes page zero (Some place ∷ ps) = refl
+laid_attributes page (suc k) (o ∷ ps) = laid_attributes (page + pages_taken o) k ps
 
 laid_kind : (page k : ℕ) (ps : List (Option Place)) → option_map_or (λ (p : Place). p.is_heap) (get_or (laid_out page ps) k None) false ≡ option_map_or (λ (p : Place). p.is_heap) (get_or ps k None) false
 laid_kind page k [] = refl
@@ -268,9 +268,9 @@ module _ (file c : List ℕ) (ps : List (Option Place)) (m : ℕ) where
   live_laid zero = not_live c (laid_out 2 ps) m ∙ sym (not_live file ps m)
   live_laid (suc n) = live_is c (laid_out 2 ps) m (suc n) (omega arith) ∙ laid_some 2 (suc n - 1) ps ∙ sym (live_is file ps m (suc n) (omega arith))
 
-  user_ids_laid : (h : ℕ) → user_id_of (shown c (laid_out 2 ps) m) h ≡ user_id_of (shown file ps m) h
-  user_ids_laid zero = ap (λ o. option_map_or (λ (b : Block). b.user_id) o 0) (get_none c (laid_out 2 ps) m ∙ sym (get_none file ps m))
-  user_ids_laid (suc n) = user_id_is c (laid_out 2 ps) m (suc n) (omega arith) ∙ laid_user_id 2 (suc n - 1) ps ∙ sym (user_id_is file ps m (suc n) (omega arith))
+  attributes_laid : (h : ℕ) → attributes_of (shown c (laid_out 2 ps) m) h ≡ attributes_of (shown file ps m) h
+  attributes_laid zero = ap (λ o. option_map_or (λ (b : Block). b.attributes) o no_attributes) (get_none c (laid_out 2 ps) m ∙ sym (get_none file ps m))
+  attributes_laid (suc n) = attributes_is c (laid_out 2 ps) m (suc n) (omega arith) ∙ laid_attributes 2 (suc n - 1) ps ∙ sym (attributes_is file ps m (suc n) (omega arith))
 
   kinds_laid : (h : ℕ) → is_heap (shown c (laid_out 2 ps) m) h ≡ is_heap (shown file ps m) h
   kinds_laid zero = ap (λ o. option_map_or (λ (b : Block). is_heap_body b.body) o false) (get_none c (laid_out 2 ps) m ∙ sym (get_none file ps m))
@@ -281,7 +281,7 @@ module _ (file c : List ℕ) (ps : List (Option Place)) (m : ℕ) where
       let old_is : shown file ps m ≡ document_in file live = λ i. record { blocks = table_map 1 1 (blocks_in file ((sym from) i)); map_block = (sym from_map) i } in
       let new_is : shown c (laid_out 2 ps) m ≡ document_in c new = λ i. record { blocks = table_map 1 1 (blocks_in c ((sym places) i)); map_block = (sym map_block) i } in
       subst (λ d. Drifts false d (document_in c new)) old_is (subst (λ d. Drifts false (shown file ps m) d) new_is
-      (record { live = live_laid; user_ids = user_ids_laid; kinds = kinds_laid; map_block = refl; same = λ so. absurd (cc so) }))
+      (record { live = live_laid; attributes = attributes_laid; kinds = kinds_laid; map_block = refl; same = λ so. absurd (cc so) }))
 
 pub laid_same : (file c : List ℕ) (live new : Table) → new.map_block ≡ live.map_block → blocks_in c new.places.items ≡ blocks_in file live.places.items → document_in c new ≡ document_in file live
 laid_same file c live new map_block blocks = λ i. record { blocks = table_map 1 1 (blocks i); map_block = map_block i }

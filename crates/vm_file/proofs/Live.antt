@@ -5,6 +5,7 @@ use Rattle.std.proofs.lemmas.List.Elements.{All-nil}
 use Rattle.vm_store.specs.Facts.{StoreFacts}
 use Rattle.geos_model.specs.declared.file.Extent.{Extent}
 use Rattle.geos_model.proofs.Tables.{slot_at}
+use Rattle.geos_model.specs.declared.block.Attributes.{Attributes}
 use Rattle.vm_file.specs.Ranges.{IsPlaced, end_of}
 use Rattle.vm_file.specs.Slots.{block_extents, marked_extents}
 use Rattle.vm_file.specs.Documents.{IsImaged, AreImaged}
@@ -77,12 +78,12 @@ table_set live new i place was map_block is = record {
 }
 
 -- a block has another user ID
-pub sound_user_id : (store : StoreFacts) (live new : Table) (slots : Slots) (h user_id : ℕ) (place : Place) → IsSound store live slots → slot_at live.places.items (h - 1) ≡ Some place → new.map_block ≡ live.map_block
-    → new.places.items ≡ set live.places.items (h - 1) (Some (record place { user_id = user_id })) → IsSound store new slots
-sound_user_id store live new slots h user_id place sound at map_block is =
+pub sound_attributes : (store : StoreFacts) (live new : Table) (slots : Slots) (h : ℕ) (attributes : Attributes) (place : Place) → IsSound store live slots → slot_at live.places.items (h - 1) ≡ Some place → new.map_block ≡ live.map_block
+    → new.places.items ≡ set live.places.items (h - 1) (Some (record place { attributes = attributes })) → IsSound store new slots
+sound_attributes store live new slots h attributes place sound at map_block is =
     let i = h - 1 in
     let old = live.places.items in
-    let one : Place = record place { user_id = user_id } in
+    let one : Place = record place { attributes = attributes } in
     let kept = λ (Q : Extent → Type 0) (all : All Q (block_extents old)).
     subst (λ ps. All Q (block_extents ps)) (sym is) (extents_of Q (set old i (Some one)) (each_set (λ p. Q p.extent) old i (Some one) (each_at (λ p. Q p.extent) old i place at (places_of Q old all)) (places_of Q old all))) in
     sound_live store live new slots sound (table_set live new i one sound.formed.table map_block is) (kept IsPlaced sound.formed.placed)

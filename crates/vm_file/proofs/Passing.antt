@@ -11,12 +11,12 @@ use Rattle.vm_file.specs.Passing.{PassingLaw}
 use Rattle.vm_file.proofs.Results.{on_ok_both, on_err_both}
 
 pub Drifts-refl : (honest : Bool) (d : Document) → Drifts honest d d
-Drifts-refl honest d = record { live = λ h. refl; user_ids = λ h. refl; kinds = λ h. refl; map_block = refl; same = λ _. refl }
+Drifts-refl honest d = record { live = λ h. refl; attributes = λ h. refl; kinds = λ h. refl; map_block = refl; same = λ _. refl }
 
 pub Drifts-trans : (honest : Bool) (a b c : Document) → Drifts honest a b → Drifts honest b c → Drifts honest a c
 Drifts-trans honest a b c p q = record {
   live = λ h. q.live h ∙ p.live h;
-  user_ids = λ h. q.user_ids h ∙ p.user_ids h;
+  attributes = λ h. q.attributes h ∙ p.attributes h;
   kinds = λ h. q.kinds h ∙ p.kinds h;
   map_block = q.map_block ∙ p.map_block;
   same = λ so. q.same so ∙ p.same so;

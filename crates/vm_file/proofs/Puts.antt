@@ -3,7 +3,7 @@ use Rattle.std.proofs.Common.{◌≡◌, ◌≢◌, ◌⊎◌, ℕ, ◌+◌, ◌
 use Rattle.std.specs.Prelude.{IfSome}
 use Rattle.std.proofs.lemmas.List.Elements.{All-append}
 use Rattle.vm_store.specs.Facts.{StoreFacts}
-use Rattle.geos_model.specs.Document.{Document}
+use Rattle.geos_model.specs.Document.{Document, most_blocks}
 use Rattle.geos_model.specs.Image.{image, body_of, body_read}
 use Rattle.geos_model.specs.Document.{is_heap_body}
 use Rattle.geos_model.specs.File.{bytes_in}
@@ -51,7 +51,7 @@ held_few sequence Shut formed = omega arith
 held_few sequence Stale formed = omega arith
 held_few sequence (Held pair) formed = pair_few pair formed.0
 
-marked_few : (marked : Option Table) → IfSome marked IsTable → length (marked_extents marked) ≤ 2048
+marked_few : (marked : Option Table) → IfSome marked IsTable → length (marked_extents marked) ≤ most_blocks
 marked_few None formed = omega arith
 marked_few (Some table) formed = let few = length-block_extents table.places.items in let size = formed.size in omega (arith, few, size)
 

@@ -53,7 +53,7 @@ table_blocks file h (Some place ∷ places) are =
     let one : IfSome (Some place) (IsImaged file) = are 0 None (omega arith) in
     let image : body_of (bytes_in file place.extent) ≡ Some (body_read (bytes_in file place.extent)) = one.image in
     let body = body_read (bytes_in file place.extent) in
-    ap₂ prepended (ap (option_map (λ b. numbered h (record { user_id = place.user_id; body = b }))) (image ∙ ap (λ b. Some b) (sym (of_kind-same place.is_heap body one.kind)))) more
+    ap₂ prepended (ap (option_map (λ b. numbered h (record { attributes = place.attributes; body = b }))) (image ∙ ap (λ b. Some b) (sym (of_kind-same place.is_heap body one.kind)))) more
 
 -- the directory's document
 pub stored_document : (file : List ℕ) (s : Stored) → IsStored file s → document_at file s.directory ≡ Some (document_in file s.table)

@@ -7,14 +7,14 @@ use Rattle.std.proofs.lemmas.Bool.Decides.{nat_tests}
 use Rattle.std.proofs.lemmas.Bool.{and_parts, leb-true}
 use Rattle.std.specs.Prelude.{nat_le}
 use Rattle.std.proofs.lemmas.List.{append-nil, drop_all, take_all}
-use Rattle.geos_model.specs.Document.{Block, Document, is_heap, is_heap_body, is_live, is_vm_handle, user_id_of, block_at, with_block, without_block, with_user_id}
-use Rattle.geos_model.specs.declared.command.Body.TheVariants.{Raw}
+use Rattle.geos_model.specs.Document.{Block, Document, is_heap, is_heap_body, is_live, is_vm_handle, attributes_of, block_at, with_block, without_block, with_attributes, no_attributes, no_block, most_blocks}
 use Rattle.geos_model.specs.Image.{body_of, body_read}
 use Rattle.geos_model.specs.File.{bytes_in}
 use Rattle.geos_model.specs.declared.file.Extent.{Extent}
 use Rattle.geos_model.proofs.FileDocuments.{bytes_in-keeps}
 use Rattle.geos_model.proofs.Table.{table_map}
 use Rattle.geos_model.proofs.Tables.{slot_at, slot_at_within, get-table_map_at, get-table_map_below, table_map-set, table_map-clear}
+use Rattle.geos_model.specs.declared.block.Attributes.{Attributes}
 use Rattle.vm_file.specs.Ranges.{end_of, KeepsAll}
 use Rattle.vm_file.specs.Slots.{block_extents}
 use Rattle.vm_file.specs.Documents.{block_in, blocks_in, of_kind, IsImaged, AreImaged}
@@ -47,11 +47,11 @@ blocks_in-set file (x ∷ xs) (suc i) o = ap (λ t. option_map (block_in file) x
 up : 0 < 1
 up = omega arith
 
-pub handle_in : (h : ℕ) → 1 ≤ h → h ≤ 2048 → is_vm_handle h ≡ true
+pub handle_in : (h : ℕ) → 1 ≤ h → h ≤ most_blocks → is_vm_handle h ≡ true
 handle_in h low high = grind (arith, nat_tests)
 
-pub handle_within : (h : ℕ) → is_vm_handle h ≡ true → (1 ≤ h) × (h ≤ 2048)
-handle_within h is = let parts = and_parts (nat_le 1 h) (nat_le h 2048) is in (leb-true 1 h parts.0, leb-true h 2048 parts.1)
+pub handle_within : (h : ℕ) → is_vm_handle h ≡ true → (1 ≤ h) × (h ≤ most_blocks)
+handle_within h is = let parts = and_parts (nat_le 1 h) (nat_le h most_blocks) is in (leb-true 1 h parts.0, leb-true h most_blocks parts.1)
 
 -- What is under a handle of the document is in the place before.
 module _ (file : List ℕ) (places : List (Option Place)) (map_block : ℕ) where
@@ -77,9 +77,9 @@ is_some-map : {A B : Type 0} (f : A → B) (o : Option A) → is_some (option_ma
 is_some-map f None = refl
 is_some-map f (Some x) = refl
 
-user_id-map : (file : List ℕ) (o : Option Place) → option_map_or (λ (b : Block). b.user_id) (option_map (block_in file) o) 0 ≡ option_map_or (λ (p : Place). p.user_id) o 0
-user_id-map file None = refl
-user_id-map file (Some x) = refl
+attributes-map : (file : List ℕ) (o : Option Place) → option_map_or (λ (b : Block). b.attributes) (option_map (block_in file) o) no_attributes ≡ option_map_or (λ (p : Place). p.attributes) o no_attributes
+attributes-map file None = refl
+attributes-map file (Some x) = refl
 
 kind-map : (file : List ℕ) (o : Option Place) → option_map_or (λ (b : Block). is_heap_body b.body) (option_map (block_in file) o) false ≡ option_map_or (λ (p : Place). p.is_heap) o false
 kind-map file None = refl
@@ -92,8 +92,8 @@ live_is file places map_block h low = ap is_some (get_at file places map_block h
 pub not_live : (file : List ℕ) (places : List (Option Place)) (map_block : ℕ) → is_live (shown file places map_block) 0 ≡ false
 not_live file places map_block = ap is_some (get_none file places map_block)
 
-pub user_id_is : (file : List ℕ) (places : List (Option Place)) (map_block h : ℕ) → 1 ≤ h → user_id_of (shown file places map_block) h ≡ option_map_or (λ (p : Place). p.user_id) (slot_at places (h - 1)) 0
-user_id_is file places map_block h low = ap (λ o. option_map_or (λ (b : Block). b.user_id) o 0) (get_at file places map_block h low) ∙ user_id-map file (slot_at places (h - 1))
+pub attributes_is : (file : List ℕ) (places : List (Option Place)) (map_block h : ℕ) → 1 ≤ h → attributes_of (shown file places map_block) h ≡ option_map_or (λ (p : Place). p.attributes) (slot_at places (h - 1)) no_attributes
+attributes_is file places map_block h low = ap (λ o. option_map_or (λ (b : Block). b.attributes) o no_attributes) (get_at file places map_block h low) ∙ attributes-map file (slot_at places (h - 1))
 
 pub heap_is : (file : List ℕ) (places : List (Option Place)) (map_block h : ℕ) → 1 ≤ h → is_heap (shown file places map_block) h ≡ option_map_or (λ (p : Place). p.is_heap) (slot_at places (h - 1)) false
 heap_is file places map_block h low = ap (λ o. option_map_or (λ (b : Block). is_heap_body b.body) o false) (get_at file places map_block h low) ∙ kind-map file (slot_at places (h - 1))
@@ -124,9 +124,9 @@ drifts_live : (file c : List ℕ) (places : List (Option Place)) (map_block h : 
 drifts_live file c places map_block zero = not_live c places map_block ∙ sym (not_live file places map_block)
 drifts_live file c places map_block (suc n) = live_is c places map_block (suc n) (omega arith) ∙ sym (live_is file places map_block (suc n) (omega arith))
 
-drifts_user_ids : (file c : List ℕ) (places : List (Option Place)) (map_block h : ℕ) → user_id_of (shown c places map_block) h ≡ user_id_of (shown file places map_block) h
-drifts_user_ids file c places map_block zero = ap (λ o. option_map_or (λ (b : Block). b.user_id) o 0) (get_none c places map_block ∙ sym (get_none file places map_block))
-drifts_user_ids file c places map_block (suc n) = user_id_is c places map_block (suc n) (omega arith) ∙ sym (user_id_is file places map_block (suc n) (omega arith))
+drifts_attributes : (file c : List ℕ) (places : List (Option Place)) (map_block h : ℕ) → attributes_of (shown c places map_block) h ≡ attributes_of (shown file places map_block) h
+drifts_attributes file c places map_block zero = ap (λ o. option_map_or (λ (b : Block). b.attributes) o no_attributes) (get_none c places map_block ∙ sym (get_none file places map_block))
+drifts_attributes file c places map_block (suc n) = attributes_is c places map_block (suc n) (omega arith) ∙ sym (attributes_is file places map_block (suc n) (omega arith))
 
 drifts_kinds : (file c : List ℕ) (places : List (Option Place)) (map_block h : ℕ) → is_heap (shown c places map_block) h ≡ is_heap (shown file places map_block) h
 drifts_kinds file c places map_block zero = ap (λ o. option_map_or (λ (b : Block). is_heap_body b.body) o false) (get_none c places map_block ∙ sym (get_none file places map_block))
@@ -135,7 +135,7 @@ drifts_kinds file c places map_block (suc n) = heap_is c places map_block (suc n
 pub places_drift : (honest : Bool) (file c : List ℕ) (places : List (Option Place)) (map_block : ℕ) → (IsTrue honest → blocks_in c places ≡ blocks_in file places) → Drifts honest (shown file places map_block) (shown c places map_block)
 places_drift honest file c places map_block same = record {
   live = λ h. drifts_live file c places map_block h;
-  user_ids = λ h. drifts_user_ids file c places map_block h;
+  attributes = λ h. drifts_attributes file c places map_block h;
   kinds = λ h. drifts_kinds file c places map_block h;
   map_block = refl;
   same = λ so. ap (λ (t : List (Option Block)). record { blocks = table_map 1 1 t; map_block = map_block }) (same so);
@@ -146,7 +146,7 @@ pub blocks_same : (file c : List ℕ) (places : List (Option Place)) → All (λ
 blocks_same file c [] within keeps = refl
 blocks_same file c (None ∷ places) within keeps = ap (λ (t : List (Option Block)). None ∷ t) (blocks_same file c places within keeps)
 blocks_same file c (Some place ∷ places) within keeps =
-    let here : block_in c place ≡ block_in file place = ap (λ bytes. record { user_id = place.user_id; body = of_kind place.is_heap (body_read bytes) }) (bytes_in-keeps file c place.extent (keeps 0 place.extent (omega arith)) (within 0 place.extent (omega arith))) in
+    let here : block_in c place ≡ block_in file place = ap (λ bytes. record { attributes = place.attributes; body = of_kind place.is_heap (body_read bytes) }) (bytes_in-keeps file c place.extent (keeps 0 place.extent (omega arith)) (within 0 place.extent (omega arith))) in
     let more = blocks_same file c places (λ i x inside. within (suc i) x (omega arith)) (λ i x inside. keeps (suc i) x (omega arith)) in
     ap (λ (b : Block). Some b ∷ blocks_in c places) here ∙ ap (λ (t : List (Option Block)). Some (block_in file place) ∷ t) more
 
@@ -213,11 +213,11 @@ pub entry_lies : (places : List (Option Place)) (h : ℕ) (place : Place) → Is
 entry_lies places zero place is = absurd (cc (is.nothing refl))
 entry_lies places (suc n) place is = (omega arith, sym (is.place (omega arith)))
 
-pub entry_user_id : (file : List ℕ) (places : List (Option Place)) (map_block h : ℕ) (result : Option Place) → IsPlaceOf places h result → IfSome result (λ place. place.user_id ≡ user_id_of (shown file places map_block) h)
-entry_user_id file places map_block h None is = tt
-entry_user_id file places map_block h (Some place) is =
+pub entry_attributes : (file : List ℕ) (places : List (Option Place)) (map_block h : ℕ) (result : Option Place) → IsPlaceOf places h result → IfSome result (λ place. place.attributes ≡ attributes_of (shown file places map_block) h)
+entry_attributes file places map_block h None is = tt
+entry_attributes file places map_block h (Some place) is =
     let at = entry_lies places h place is in
-    sym (user_id_is file places map_block h at.0 ∙ ap (λ o. option_map_or (λ (p : Place). p.user_id) o 0) at.1)
+    sym (attributes_is file places map_block h at.0 ∙ ap (λ o. option_map_or (λ (p : Place). p.attributes) o no_attributes) at.1)
 
 -- what holds of all extents
 pub entry_extent : (P : Extent → Type 0) (places : List (Option Place)) (h : ℕ) (result : Option Place) → All P (block_extents places) → IsPlaceOf places h result → IfSome result (λ place. P place.extent)
@@ -226,7 +226,7 @@ entry_extent P places h (Some place) all is = each_at (λ p. P p.extent) places 
 
 -- the block under a handle, by its place
 pub block_at_is : (file : List ℕ) (places : List (Option Place)) (map_block h : ℕ) (place : Place) → 1 ≤ h → slot_at places (h - 1) ≡ Some place → block_at (shown file places map_block) h ≡ block_in file place
-block_at_is file places map_block h place low at = ap (λ o. unwrap_or o (record { user_id = 0; body = Raw [] })) (block_is file places map_block h place low at)
+block_at_is file places map_block h place low at = ap (λ o. unwrap_or o no_block) (block_is file places map_block h place low at)
 
 pub entry_kind : (file : List ℕ) (places : List (Option Place)) (map_block h : ℕ) (result : Option Place) → IsPlaceOf places h result → IfSome result (λ place. place.is_heap ≡ is_heap (shown file places map_block) h)
 entry_kind file places map_block h None is = tt
@@ -234,7 +234,7 @@ entry_kind file places map_block h (Some place) is =
     let at = entry_lies places h place is in
     sym (heap_is file places map_block h at.0 ∙ ap (λ o. option_map_or (λ (p : Place). p.is_heap) o false) at.1)
 
-pub entry_handle : (places : List (Option Place)) (h : ℕ) (result : Option Place) → length places ≡ 2048 → IsPlaceOf places h result → IfSome result (λ place. is_vm_handle h ≡ true)
+pub entry_handle : (places : List (Option Place)) (h : ℕ) (result : Option Place) → length places ≡ most_blocks → IsPlaceOf places h result → IfSome result (λ place. is_vm_handle h ≡ true)
 entry_handle places h None size is = tt
 entry_handle places h (Some place) size is =
     let at = entry_lies places h place is in
@@ -243,13 +243,13 @@ entry_handle places h (Some place) size is =
 
 -- Changes of a place.
 
-pub shown_user_id : (file : List ℕ) (places : List (Option Place)) (map_block h user_id : ℕ) (place : Place) → 1 ≤ h → slot_at places (h - 1) ≡ Some place
-    → shown file (set places (h - 1) (Some (record place { user_id = user_id }))) map_block ≡ with_user_id (shown file places map_block) h user_id
-shown_user_id file places map_block h user_id place low at =
+pub shown_attributes : (file : List ℕ) (places : List (Option Place)) (map_block h : ℕ) (attributes : Attributes) (place : Place) → 1 ≤ h → slot_at places (h - 1) ≡ Some place
+    → shown file (set places (h - 1) (Some (record place { attributes = attributes }))) map_block ≡ with_attributes (shown file places map_block) h attributes
+shown_attributes file places map_block h attributes place low at =
     let within = slot_at_within places (h - 1) (ap is_some at) in
     let d = shown file places map_block in
-    shown_put file places map_block h (record place { user_id = user_id }) low within
-    ∙ sym (ap (λ o. option_map_or (λ (b : Block). with_block d h (record b { user_id = user_id })) o d) (block_is file places map_block h place low at))
+    shown_put file places map_block h (record place { attributes = attributes }) low within
+    ∙ sym (ap (λ o. option_map_or (λ (b : Block). with_block d h (record b { attributes = attributes })) o d) (block_is file places map_block h place low at))
 
 -- a place that is filled stays so where another is set to one
 pub full_set : (places : List (Option Place)) (i k : ℕ) (place : Place) → is_some (slot_at places k) ≡ true → is_some (slot_at (set places i (Some place)) k) ≡ true

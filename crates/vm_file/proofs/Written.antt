@@ -7,11 +7,12 @@ use Rattle.std.proofs.lemmas.List.{get_or_past, take_more, append-nil}
 use Rattle.std.proofs.lemmas.List.Elements.{All-nil, All-cons, All-append}
 use Rattle.vm_store.specs.Facts.{Holds}
 use Rattle.geos_model.specs.Image.{body_read}
-use Rattle.geos_model.specs.File.{bytes_in, directory_in, directory_text, is_in_file, is_rising, is_entry, is_map_block, is_directory}
+use Rattle.geos_model.specs.File.{bytes_in, directory_in, directory_text, is_in_file, is_rising, is_entry, is_map_block, is_directory, longest_image}
 use Rattle.geos_model.specs.declared.file.Entry.{Entry}
 use Rattle.geos_model.proofs.Images.{length_image_body_le}
 use Rattle.geos_model.proofs.Files.{body_of-some, is_directory-from, directory_in-text}
 use Rattle.geos_model.proofs.FileDocuments.{is_in_file-from, is_entry-from}
+use Rattle.geos_model.specs.Document.{FitAttributes}
 use Rattle.vm_file.specs.Ranges.{IsPlaced, start_of, end_of}
 use Rattle.vm_file.specs.Slots.{block_extents, stored_extents}
 use Rattle.vm_file.specs.Documents.{entries_of, directory_of_table, IsImaged, AreImaged, IsStored}
@@ -34,7 +35,7 @@ rising last h (None ∷ places) low = rising last (h + 1) places (omega arith)
 rising last h (Some place ∷ places) low = and_from (nat_lt last h) (is_rising h (entries_of (h + 1) places)) (lt-ltb last h low) (rising h (h + 1) places (omega arith))
 
 -- an image is short
-image_short : (file : List ℕ) (place : Place) → IsImaged file place → end_of place.extent ≤ length file → place.extent.length ≤ 65521
+image_short : (file : List ℕ) (place : Place) → IsImaged file place → end_of place.extent ≤ length file → place.extent.length ≤ longest_image
 image_short file place imaged within =
     let body = body_of-some (bytes_in file place.extent) (body_read (bytes_in file place.extent)) imaged.image in
     let low = length_image_body_le (body_read (bytes_in file place.extent)) body.0 in
@@ -48,8 +49,8 @@ entries_can_be file h (Some place ∷ places) low imaged placed within =
     let one : IfSome (Some place) (IsImaged file) = imaged 0 None (omega arith) in
     let there = placed 0 place.extent (omega arith) in
     let short = image_short file place one (within 0 place.extent (omega arith)) in
-    and_from (is_entry (length file) (record { handle = record { 0 = h }; user_id = place.user_id; extent = place.extent })) (list_all (is_entry (length file)) (entries_of (h + 1) places))
-    (is_entry-from (length file) (record { handle = record { 0 = h }; user_id = place.user_id; extent = place.extent }) (record { handle = omega (arith, low); some = there.some; short = short; behind_slots = there.behind; within = within 0 place.extent (omega arith); in_reach = there.within }))
+    and_from (is_entry (length file) (record { handle = record { 0 = h }; attributes = place.attributes; extent = place.extent })) (list_all (is_entry (length file)) (entries_of (h + 1) places))
+    (is_entry-from (length file) (record { handle = record { 0 = h }; attributes = place.attributes; extent = place.extent }) (record { handle = omega (arith, low); some = there.some; short = short; behind_slots = there.behind; within = within 0 place.extent (omega arith); in_reach = there.within }))
     (entries_can_be file (h + 1) places (omega (arith, low)) (λ i d inside. imaged (suc i) d (omega arith)) (λ i d inside. placed (suc i) d (omega arith)) (λ i d inside. within (suc i) d (omega arith)))
 
 -- a handle with a place is listed
@@ -72,8 +73,8 @@ map_listed table is = elim is.map_block as (λ _. is_map_block table.map_block (
 
 -- A directory whose text stands in the file is that of its table.
 pub directory_written : (file : List ℕ) (s : Stored) → IsTable s.table → All IsPlaced (stored_extents s) → AreImaged file s.table.places.items → All (λ e. end_of e ≤ length file) (block_extents s.table.places.items)
-    → All (λ e. e.user_id < 65536) (entries_of 1 s.table.places.items) → s.directory.length ≡ length (directory_text (directory_of_table s.table)) → Holds file (start_of s.directory) (directory_text (directory_of_table s.table)) → IsStored file s
-directory_written file s is placed imaged within user_ids size holds =
+    → All (λ e. FitAttributes e.attributes) (entries_of 1 s.table.places.items) → s.directory.length ≡ length (directory_text (directory_of_table s.table)) → Holds file (start_of s.directory) (directory_text (directory_of_table s.table)) → IsStored file s
+directory_written file s is placed imaged within attributes size holds =
     let d = directory_of_table s.table in
     let here = placed 0 s.directory (omega arith) in
     let good : is_directory (length file) d ≡ true = is_directory-from (length file) d (record {
@@ -83,7 +84,7 @@ directory_written file s is placed imaged within user_ids size holds =
     }) in
     let inside : is_in_file (length file) s.directory ≡ true = is_in_file-from (length file) s.directory here.behind (omega (arith, holds.within, size)) here.within in
     record {
-      directory = cond-true _ _ _ inside ∙ ap (directory_in (length file)) (bytes_held file (directory_text d) s.directory (sym size) holds) ∙ directory_in-text (length file) d good user_ids;
+      directory = cond-true _ _ _ inside ∙ ap (directory_in (length file)) (bytes_held file (directory_text d) s.directory (sym size) holds) ∙ directory_in-text (length file) d good attributes;
       images = imaged;
     }
 
@@ -93,7 +94,7 @@ entries_append : (h : ℕ) (xs ys : List (Option Place)) → entries_of h (xs ++
 entries_append h [] ys = ap (λ n. entries_of n ys) (let same : h ≡ h + 0 = omega arith in same)
 entries_append h (None ∷ xs) ys = entries_append (h + 1) xs ys ∙ ap (λ n. entries_of (h + 1) xs ++ entries_of n ys) (let same : h + 1 + length xs ≡ h + suc (length xs) = omega arith in same)
 entries_append h (Some place ∷ xs) ys =
-    ap (λ (es : List Entry). record { handle = record { 0 = h }; user_id = place.user_id; extent = place.extent } ∷ es)
+    ap (λ (es : List Entry). record { handle = record { 0 = h }; attributes = place.attributes; extent = place.extent } ∷ es)
     (entries_append (h + 1) xs ys ∙ ap (λ n. entries_of (h + 1) xs ++ entries_of n ys) (let same : h + 1 + length xs ≡ h + suc (length xs) = omega arith in same))
 
 -- one place more
@@ -109,10 +110,10 @@ pub entries_none : (places : List (Option Place)) (i : ℕ) (entries : List Entr
 entries_none places i entries within is so = so ∙ sym (append-nil (entries_of 1 (take i places))) ∙ sym (entries_next places i None within is)
 
 pub entries_some : (places : List (Option Place)) (i : ℕ) (place : Place) (entries new : List Entry) (e : Entry) → i < length places → get_or places i None ≡ Some place → entries ≡ entries_of 1 (take i places) → new ≡ entries ++ e ∷ []
-    → e ≡ record { handle = record { 0 = i + 1 }; user_id = place.user_id; extent = place.extent } → new ≡ entries_of 1 (take (i + 1) places)
+    → e ≡ record { handle = record { 0 = i + 1 }; attributes = place.attributes; extent = place.extent } → new ≡ entries_of 1 (take (i + 1) places)
 entries_some places i place entries new e within is so pushed one =
     pushed ∙ ap₂ (λ (es : List Entry) (x : Entry). es ++ x ∷ []) so one ∙ sym (entries_next places i (Some place) within is)
 
-pub user_ids_more : (entries new : List Entry) (e : Entry) → new ≡ entries ++ e ∷ [] → All (λ x. x.user_id < 65536) entries → e.user_id < 65536 → All (λ x. x.user_id < 65536) new
-user_ids_more entries new e pushed all low =
-    subst (All (λ x. x.user_id < 65536)) (sym pushed) (All-append (λ x. x.user_id < 65536) entries (e ∷ []) all (All-cons (λ x. x.user_id < 65536) e [] low (All-nil (λ x. x.user_id < 65536))))
+pub attributes_more : (entries new : List Entry) (e : Entry) → new ≡ entries ++ e ∷ [] → All (λ x. FitAttributes x.attributes) entries → FitAttributes e.attributes → All (λ x. FitAttributes x.attributes) new
+attributes_more entries new e pushed all low =
+    subst (All (λ x. FitAttributes x.attributes)) (sym pushed) (All-append (λ x. FitAttributes x.attributes) entries (e ∷ []) all (All-cons (λ x. FitAttributes x.attributes) e [] low (All-nil (λ x. FitAttributes x.attributes))))

@@ -4,6 +4,7 @@ use Rattle.geos_model.specs.Document.{Document, is_vm_handle, with_blocks, witho
 use Rattle.geos_model.specs.declared.fault.Fault.{Fault}
 use Rattle.geos_model.specs.declared.fault.Fault.TheVariants.{Memory, File, Damaged, NotDocument, Worn}
 use Rattle.geos_model.specs.declared.handle.VmHandle.{VmHandle}
+use Rattle.geos_model.specs.File.{longest_image}
 use Rattle.vm_file.specs.Members.{saved_blocks}
 use Rattle.vm_file.specs.declared.member.Member.{Member}
 
@@ -21,7 +22,7 @@ remove_all (h ∷ handles) d = remove_all handles (without_block d h.0)
 
 -- so many bytes can be an image: one for its kind, and at most 65,520 behind it
 abbrev pub IsImageLength : ℕ → Type 0
-IsImageLength n = (1 ≤ n) × (n ≤ 65521)
+IsImageLength n = (1 ≤ n) × (n ≤ longest_image)
 
 -- Refusals that no rule of the document decides.
 

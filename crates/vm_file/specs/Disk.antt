@@ -3,7 +3,7 @@ use Rattle.std.specs.Prelude.{◌≡◌, ◌⊎◌, ℕ, ◌+◌, ◌*◌, ◌�
 use Rattle.std.specs.Coded.{Coded, code_by, coded×, coded_ℕ, coded_list, coded_option}
 use Rattle.vm_store.specs.Facts.{StoreFacts}
 use Rattle.vm_store.specs.Bytes.{put}
-use Rattle.geos_model.specs.Document.{Document, block_at, is_heap, is_live, is_valid_body, is_vm_handle, user_id_of}
+use Rattle.geos_model.specs.Document.{Document, block_at, is_heap, is_live, is_valid_body, is_vm_handle, attributes_of}
 use Rattle.geos_model.specs.File.{stands}
 use Rattle.geos_model.specs.declared.fault.Fault.{Fault}
 use Rattle.geos_model.proofs.Codes.{document_code}
@@ -85,7 +85,7 @@ pub record Crash (old new : StoreFacts) (pairs : List Documents) : Type 0 where
 -- Over any store the handles, the user IDs, the kinds and the map block stay; over an honest one the document does.
 pub record Drifts (honest : Bool) (old new : Document) : Type 0 where
   pub live : (h : ℕ) → is_live new h ≡ is_live old h
-  pub user_ids : (h : ℕ) → user_id_of new h ≡ user_id_of old h
+  pub attributes : (h : ℕ) → attributes_of new h ≡ attributes_of old h
   pub kinds : (h : ℕ) → is_heap new h ≡ is_heap old h
   pub map_block : new.map_block ≡ old.map_block
   pub same : IsTrue honest → new ≡ old

@@ -31,7 +31,7 @@ of_kind true (Heap m) = Heap m
 
 -- The block whose image lies at a place. It is of the place's kind over any store, and over an honest one so is the image.
 abbrev pub block_in : List ℕ → Place → Block
-block_in file place = record { user_id = place.user_id; body = of_kind place.is_heap (body_read (bytes_in file place.extent)) }
+block_in file place = record { attributes = place.attributes; body = of_kind place.is_heap (body_read (bytes_in file place.extent)) }
 
 abbrev pub blocks_in : List ℕ → List (Option Place) → List (Option Block)
 blocks_in file places = map (option_map (block_in file)) places
@@ -53,7 +53,7 @@ attempted_in file (Held pair) = documents_in file pair ∷ []
 abbrev pub entries_of : ℕ → List (Option Place) → List Entry
 entries_of h [] = []
 entries_of h (None ∷ places) = entries_of (h + 1) places
-entries_of h (Some place ∷ places) = record { handle = record { 0 = h }; user_id = place.user_id; extent = place.extent } ∷ entries_of (h + 1) places
+entries_of h (Some place ∷ places) = record { handle = record { 0 = h }; attributes = place.attributes; extent = place.extent } ∷ entries_of (h + 1) places
 
 abbrev pub directory_of_table : Table → Directory
 directory_of_table table = record { map_block = table.map_block; entries = entries_of 1 table.places.items }

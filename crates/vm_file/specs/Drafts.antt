@@ -1,6 +1,7 @@
 -- A directory that is to be written.
-use Rattle.std.specs.Prelude.{◌≡◌, ◌<◌, ◌++◌, All, length}
+use Rattle.std.specs.Prelude.{◌≡◌, ◌++◌, All, length}
 use Rattle.geos_model.specs.File.{directory_text}
+use Rattle.geos_model.specs.Document.{FitAttributes}
 use Rattle.vm_file.specs.Ranges.{start_of, IsPlaced, IsClear}
 use Rattle.vm_file.specs.Slots.{block_extents, kept_extents}
 use Rattle.vm_file.specs.Documents.{entries_of, directory_of_table}
@@ -16,4 +17,4 @@ pub record IsDraft (live : Table) (slots : Slots) (draft : Draft) : Type 0 where
   pub size : draft.stored.directory.length ≡ length draft.text.items
   pub placed : IsPlaced draft.stored.directory
   pub clear : IsClear (start_of draft.stored.directory) draft.stored.directory.length (block_extents live.places.items ++ kept_extents slots)
-  pub user_ids : All (λ e. e.user_id < 65536) (entries_of 1 draft.stored.table.places.items)
+  pub attributes : All (λ e. FitAttributes e.attributes) (entries_of 1 draft.stored.table.places.items)

@@ -4,6 +4,7 @@ use Rattle.vm_store.specs.Facts.{byte, Holds, Puts}
 use Rattle.geos_model.specs.File.{slot_mark, slot_text, Directory, directory_text, bytes_in, pages_of}
 use Rattle.geos_model.specs.declared.file.Extent.{Extent}
 use Rattle.geos_model.specs.declared.file.Slot.{Slot}
+use Rattle.geos_model.specs.Document.{FitAttributes}
 use Rattle.vm_file.specs.Ranges.{IsPlaced, start_of, end_of, IsClear}
 use Rattle.vm_file.specs.Slots.{gate_text, block_extents}
 use Rattle.vm_file.specs.Documents.{blocks_in, document_in, attempted_in, entries_of, directory_of_table, AreImaged}
@@ -59,7 +60,7 @@ pub record IsFounding (directory : Extent) (text : List ℕ) (live : Table) : Ty
   pub placed : All IsPlaced (block_extents live.places.items)
   pub directory_placed : IsPlaced directory
   pub clear : IsClear (start_of directory) directory.length (block_extents live.places.items)
-  pub user_ids : All (λ e. e.user_id < 65536) (entries_of 1 live.places.items)
+  pub attributes : All (λ e. FitAttributes e.attributes) (entries_of 1 live.places.items)
   pub text_is : text ≡ directory_text (directory_of_table live)
   pub size : length text ≡ directory.length
 

@@ -6,7 +6,7 @@ use Rattle.vm_file.specs.declared.member.Member.{Member}
 
 -- a saved block, as the document had it
 abbrev pub saved_block : SavedBlock → Block
-saved_block s = record { user_id = s.user_id; body = s.image }
+saved_block s = record { attributes = s.attributes; body = s.image }
 
 -- these blocks as the document had them, or has them then
 abbrev pub saved_blocks : List Member → List (ℕ × Block)

@@ -3,7 +3,7 @@ use Rattle.std.specs.Prelude.{◌≡◌, ◌⊎◌, ℕ, ◌+◌, ◌*◌, ◌/�
 use Rattle.vm_store.specs.Facts.{StoreFacts, byte, Rests}
 use Rattle.geos_model.specs.Document.{is_heap_body}
 use Rattle.geos_model.specs.Image.{body_of, body_read}
-use Rattle.geos_model.specs.File.{slot_of, open_slot, counting_slot, stands}
+use Rattle.geos_model.specs.File.{slot_of, open_slot, counting_slot, stands, longest_directory, last_page}
 use Rattle.geos_model.specs.declared.fault.Fault.{Fault}
 use Rattle.geos_model.specs.declared.fault.Fault.TheVariants.{Damaged}
 use Rattle.geos_model.specs.declared.file.Extent.{Extent}
@@ -39,9 +39,9 @@ pub record IsImageOf (is_heap : Bool) (bytes : List ℕ) : Type 0 where
 pub record IsDirectoryPlace (n : ℕ) (e : Extent) : Type 0 where
   pub behind : 2 ≤ e.page
   pub within : 512 * e.page + e.length ≤ n
-  pub in_reach : e.page + (e.length + 511) / 512 ≤ 4194304
+  pub in_reach : e.page + (e.length + 511) / 512 ≤ last_page
   pub some : 16 ≤ e.length
-  pub short : e.length ≤ 32784
+  pub short : e.length ≤ longest_directory
 
 -- a document that was read from a file of n bytes
 pub record IsRead (n : ℕ) (s : Stored) : Type 0 where

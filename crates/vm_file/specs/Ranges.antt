@@ -1,6 +1,6 @@
 -- Ranges of a file: the bytes of extents, and what a write leaves of them.
 use Rattle.std.specs.Prelude.{◌⊎◌, ℕ, ◌+◌, ◌*◌, ◌≤◌, List, All}
-use Rattle.geos_model.specs.File.{end_page, last_page}
+use Rattle.geos_model.specs.File.{end_page, last_page, longest_image}
 use Rattle.geos_model.specs.declared.file.Extent.{Extent}
 pub use Rattle.geos_model.specs.FileLaws.{Keeps}
 
@@ -17,7 +17,7 @@ pub record IsPlaced (e : Extent) : Type 0 where
   pub behind : 2 ≤ e.page
   pub within : end_page e ≤ last_page
   pub some : 1 ≤ e.length
-  pub short : e.length ≤ 65521
+  pub short : e.length ≤ longest_image
 
 -- the bytes of each of these extents stay
 abbrev pub KeepsAll : List Extent → List ℕ → List ℕ → Type 0

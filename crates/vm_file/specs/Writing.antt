@@ -43,7 +43,7 @@ pub record IsSpared (extents : List Extent) (slots : Slots) (old new : StoreFact
 
 -- where a block lies whose image is in this extent
 abbrev pub placed_at : Member → Extent → Place
-placed_at p e = record { user_id = p.block.user_id; is_heap = is_heap_body p.block.image; extent = e }
+placed_at p e = record { attributes = p.block.attributes; is_heap = is_heap_body p.block.image; extent = e }
 
 -- with these blocks, each in its extent
 abbrev pub with_places : List Member → List Extent → List (Option Place) → List (Option Place)

@@ -1,5 +1,5 @@
 // The steps of a commit.
-ghost use Rattle.std.specs.Prelude.{◌≡◌, ◌≢◌, ◌⊎◌, ◌+◌, ◌*◌, ◌<◌, ◌≤◌, ◌↔◌, ℕ, List, [], ◌∷◌, All, IsTrue, OnOk, OnErr, MatchResult, length};
+ghost use Rattle.std.specs.Prelude.{◌≡◌, ◌≢◌, ◌⊎◌, ◌++◌, ◌+◌, ◌*◌, ◌<◌, ◌≤◌, ◌↔◌, ℕ, List, [], ◌∷◌, All, IsTrue, OnOk, OnErr, MatchResult, length};
 ghost use Rattle.vm_store.specs.Facts.{raised, IsDurable, Torn, Holds, Counts};
 ghost use Rattle.vm_store.specs.Laws.{Tears};
 ghost use Rattle.geos_model.specs.File.{slot_mark};
@@ -7,15 +7,12 @@ ghost use Rattle.vm_file.specs.Ranges.{start_of, IsPlaced, KeepsAll, IsClear};
 ghost use Rattle.vm_file.specs.Slots.{gate_text, behind_gate, pair_extents, kept_extents, other_of, turned, AreKept, Leaves, Outlives, FailedEarly, Failed};
 
 use crate::slots::{Other, Pair, Slots};
-use byteorder::{ByteOrder, LittleEndian};
-use geos_model::Extent;
+use geos_model::{Extent, Slot};
+use vm_space::{SLOT_LENGTH, SLOT_MARK, write_slot};
 use vm_store::{Store, StoreFault};
 
 /// How many bytes a page has.
-pub const PAGE: u64 = 512;
-
-/// What a slot begins with.
-pub const MARK: [u8; 4] = [b'G', b'V', b'M', b'F'];
+pub const PAGE: u64 = geos_model::PAGE as u64;
 
 /// Writes these bytes, and syncs.
 pub fn write_through<S: Store>(store: &mut S, at: u64, bytes: &[u8]) -> Result<(), StoreFault>
@@ -35,13 +32,23 @@ pub fn behind_gate_bytes(sequence: u64, working: Extent, saved: Extent) -> [u8; 
     ensures { result ≡ gate_text sequence working saved }
 {
     let mut bytes = [0; 27];
-    bytes[0] = 1;
-    LittleEndian::write_u64(&mut bytes[3..], sequence);
-    LittleEndian::write_u32(&mut bytes[11..], working.page);
-    LittleEndian::write_u32(&mut bytes[15..], working.length);
-    LittleEndian::write_u32(&mut bytes[19..], saved.page);
-    LittleEndian::write_u32(&mut bytes[23..], saved.length);
+    bytes.copy_from_slice(&slot_bytes(sequence, working, saved)[5..]);
     bytes
+}
+
+/// The bytes of a slot whose gate is shut.
+#[tactic(auto, unfolding(crate::specs::Slots::gate_text))]
+pub fn slot_bytes(sequence: u64, working: Extent, saved: Extent) -> [u8; SLOT_LENGTH]
+    ensures { result ≡ slot_mark ++ 0 ∷ gate_text sequence working saved }
+{
+    write_slot(&Slot {
+        gate: 0,
+        version: 1,
+        reserved: 0,
+        sequence,
+        working,
+        saved,
+    })
 }
 
 /// Writes an image or a directory where nothing lies that the slots stand on. Doesn't sync: until something does, a crash may
@@ -129,7 +136,7 @@ fn fill_slot<S: Store>(store: &mut S, slots: &Slots, pair: &Pair) -> Result<(), 
         pair.updated.directory,
         pair.saved.directory,
     );
-    store.write_at(other_slot(slots), &MARK)?;
+    store.write_at(other_slot(slots), &SLOT_MARK)?;
     write_through(store, other_gate(slots) + 1, &rest)
 }
 

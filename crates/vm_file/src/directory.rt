@@ -1,7 +1,8 @@
 // Directories of the live table, written where nothing lies that stays.
 ghost use Rattle.std.specs.Prelude.{◌≡◌, ◌⊎◌, ◌<◌, ◌≤◌, ◌++◌, All, IsTrue, IfOk, IfErr, OnOk, IsErrOf, length};
 ghost use Rattle.vm_store.specs.Facts.{Raised};
-ghost use Rattle.geos_model.specs.File.{directory_text};
+ghost use Rattle.geos_model.specs.Document.{FitAttributes, most_blocks};
+ghost use Rattle.geos_model.specs.File.{directory_text, longest_directory};
 ghost use Rattle.vm_file.specs.Ranges.{start_of, IsPlaced, IsClear};
 ghost use Rattle.vm_file.specs.Slots.{block_extents, kept_extents};
 ghost use Rattle.vm_file.specs.Documents.{entries_of, directory_of_table, document_in, IsStored};
@@ -17,7 +18,7 @@ use crate::placing::known_space;
 use crate::settle::settle;
 use crate::slots::{Pair, Slots, Stored};
 use crate::table::{Place, Table};
-use geos_model::{Entry, Extent, Fault, VmHandle};
+use geos_model::{Attributes, Entry, Extent, Fault, VmHandle};
 use std::alloc::{AllocError, Global};
 use vm_space::{FreeSpace, write_dir};
 use vm_store::{Store, StoreFault};
@@ -29,27 +30,27 @@ pub struct Draft {
     pub text: Vec<u8>,
 }
 
-fn entry_of(handle: u16, user_id: u16, extent: Extent) -> Entry
-    ensures entry { result ≡ record { handle = record { 0 = handle }; user_id = user_id; extent = extent } }
-    ensures user_id { result.user_id < 65536 }
+fn entry_of(handle: u16, attributes: Attributes, extent: Extent) -> Entry
+    ensures entry { result ≡ record { handle = record { 0 = handle }; attributes = attributes; extent = extent } }
+    ensures attributes { FitAttributes result.attributes }
 {
     Entry {
         handle: VmHandle(handle),
-        user_id,
+        attributes,
         extent,
     }
 }
 
 /// The entries of a table, as its directory lists them.
 pub fn entries_of(alloc: Global, places: &[Option<Place>]) -> Result<Vec<Entry>, AllocError>
-    requires { length places.now ≤ 2048 }
+    requires { length places.now ≤ most_blocks }
     ensures entries { IfOk result (λ entries. entries.items ≡ entries_of 1 places.now) }
-    ensures user_ids { IfOk result (λ entries. All (λ e. e.user_id < 65536) entries.items) }
+    ensures attributes { IfOk result (λ entries. All (λ e. FitAttributes e.attributes) entries.items) }
 {
     let mut entries = Vec::new(alloc);
     for (i, place) in places.iter().enumerate() {
         if let Some(place) = place {
-            entries.push(entry_of(i as u16 + 1, place.user_id, place.extent))?;
+            entries.push(entry_of(i as u16 + 1, place.attributes, place.extent))?;
         }
     }
     Ok(entries)
@@ -65,7 +66,7 @@ fn place_directory(
 ) -> Result<Extent, AllocError>
     requires formed { IsFormed live.now slots.now }
     requires some { 1 ≤ len }
-    requires short { len ≤ 32784 }
+    requires short { len ≤ longest_directory }
     requires known { IsKnown (block_extents live.now.places.items ++ kept_extents slots.now) space }
     ensures size { IfOk result (λ extent. extent.length ≡ len) }
     ensures placed { IfOk result IsPlaced }

@@ -2,7 +2,7 @@ ghost use Rattle.std.specs.Prelude.{◌≡◌, ◌≢◌, ◌⊎◌, ◌↔◌, 
 ghost use Rattle.std.specs.Option.{option_map};
 ghost use Rattle.std.specs.FinMap.{get, keys};
 ghost use Rattle.vm_store.specs.Facts.{Raised, Rests};
-ghost use Rattle.geos_model.specs.Document.{empty_document, is_live, is_vm_handle, next_handle, user_id_of, with_user_id, block_at, is_heap};
+ghost use Rattle.geos_model.specs.Document.{empty_document, is_live, is_vm_handle, next_handle, most_blocks, attributes_of, with_attributes, block_at, is_heap};
 ghost use Rattle.geos_model.specs.Image.{image};
 ghost use Rattle.geos_model.specs.Reply.{found};
 ghost use Rattle.geos_model.specs.File.{bytes_in, directory_text, open_slot, stands};
@@ -22,9 +22,9 @@ use crate::reading::{open_slots, read_extent};
 use crate::refused::Refused;
 use crate::settle::settle;
 use crate::slots::Slots;
-use crate::table::{Place, Table, place_of, put_places, remove_places, set_user_id};
+use crate::table::{Place, Table, place_of, put_places, remove_places, set_attributes};
 use crate::writing::write_puts;
-use geos_model::{Fault, VmHandle};
+use geos_model::{Attributes, Fault, VmHandle};
 use std::alloc::{AllocError, Global};
 use std::marker::Model;
 use vm_space::FreeSpace;
@@ -127,10 +127,10 @@ impl<S: Store> VmFile<S> {
         }
     }
 
-    /// Where a block lies, its user ID and its kind; None where it isn't live.
+    /// Where a block lies, its attributes and its kind; None where it isn't live.
     pub fn entry(&self, block: VmHandle) -> Option<Place>
         ensures live { is_some result ≡ is_live self.now.document block.0 }
-        ensures user_id { IfSome result (λ place. place.user_id ≡ user_id_of self.now.document block.0) }
+        ensures attributes { IfSome result (λ place. place.attributes ≡ attributes_of self.now.document block.0) }
         ensures kind { IfSome result (λ place. place.is_heap ≡ is_heap self.now.document block.0) }
         ensures handle { IfSome result (λ place. is_vm_handle block.0 ≡ true) }
         ensures length { IfSome result (λ place. IsImageLength place.extent.length) }
@@ -148,10 +148,10 @@ impl<S: Store> VmFile<S> {
         let _ = &self.slots;
     }
 
-    /// Where a block of the saved document lies, its user ID and its kind; None where it isn't live there.
+    /// Where a block of the saved document lies, its attributes and its kind; None where it isn't live there.
     pub fn saved_entry(&self, block: VmHandle) -> Option<Place>
         ensures live { is_some result ≡ is_live self.now.disk.saved block.0 }
-        ensures user_id { IfSome result (λ place. place.user_id ≡ user_id_of self.now.disk.saved block.0) }
+        ensures attributes { IfSome result (λ place. place.attributes ≡ attributes_of self.now.disk.saved block.0) }
         ensures handle { IfSome result (λ place. is_vm_handle block.0 ≡ true) }
     {
         place_of(&self.slots.committed.saved.table.places, block)
@@ -227,12 +227,12 @@ impl<S: Store> VmFile<S> {
         }
     }
 
-    /// Sets the user ID of a block.
-    pub fn set_uid(&mut self, block: VmHandle, user_id: u16)
+    /// Sets the attributes of a block.
+    pub fn set_attributes(&mut self, block: VmHandle, attributes: Attributes)
         requires { is_live self.old.document block.0 ≡ true }
-        ensures { self.new ≡ record self.old { document = with_user_id self.old.document block.0 user_id } }
+        ensures { self.new ≡ record self.old { document = with_attributes self.old.document block.0 attributes } }
     {
-        set_user_id(&mut self.live.places, block, user_id);
+        set_attributes(&mut self.live.places, block, attributes);
     }
 
     /// Sets the map block, 0 for none.
@@ -248,7 +248,7 @@ impl<S: Store> VmFile<S> {
     /// calls no store and isn't refused.
     pub fn put_blocks(&mut self, puts: &[Member], removals: &[VmHandle]) -> Result<(), Fault>
         requires puts { All IsPut puts.now }
-        requires few { length puts.now ≤ 2048 }
+        requires few { length puts.now ≤ most_blocks }
         requires removals { All (λ h. h.0 ≢ self.old.document.map_block) removals.now }
         ensures keeps { MatchResult result
             (λ _. KeepsFile S.facts (remove_all removals.now (put_all puts.now self.old.document)) self.old self.new)

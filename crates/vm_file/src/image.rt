@@ -41,7 +41,7 @@ fn zeros(alloc: Global, count: usize) -> Result<Vec<u8>, AllocError>
 }
 
 /// What a file keeps of a body that a document can have: a byte for its kind, and the bytes of a raw body or of a heap's image
-/// behind it, at most 65,521 in all. Contracts see the body.
+/// behind it, at most `LONGEST_IMAGE` in all. Contracts see the body.
 #[derive(Drop)]
 pub struct Image {
     bytes: Bytes,

@@ -130,7 +130,7 @@ pub fn find_from(places: &[Option<Place>], user_id: u16, start: u16) -> Option<V
 {
     for i in usize::from(start)..places.len() {
         if let Some(place) = &places[i] {
-            if place.user_id == user_id {
+            if place.attributes.user_id == user_id {
                 return Some(VmHandle(i as u16 + 1));
             }
         }

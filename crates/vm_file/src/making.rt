@@ -7,19 +7,17 @@ ghost use Rattle.vm_file.specs.Calls.{IsSupply};
 ghost use Rattle.vm_file.specs.Making.{first_directory, first_slot, first_file, IsLaid, IsFirst};
 ghost use Rattle.vm_file.specs.Sound.{IsSound};
 
-use crate::commit::{MARK, PAGE, behind_gate_bytes};
+use crate::commit::{PAGE, slot_bytes};
 use crate::copies::copy_table;
 use crate::slots::{Other, Pair, Slots, Stored};
 use crate::table::Table;
-use geos_model::{Extent, Fault};
+use geos_model::{Extent, Fault, VmHandle};
 use std::alloc::{AllocError, Global};
+use vm_space::{SLOT_MARK, write_dir};
 use vm_store::{Store, StoreFault};
 
 /// How many handles there are.
-const MOST_BLOCKS: usize = 2_048;
-
-// Of a document of no block: the mark, version 1, and zeros.
-const EMPTY_DIRECTORY: [u8; 16] = [b'G', b'D', b'I', b'R', 1, 0, 0, 0, 0, 0, 0, 0, 0, 0, 0, 0];
+const MOST_BLOCKS: usize = geos_model::MOST_BLOCKS as usize;
 
 /// What is known in memory of a file that was made.
 #[derive(Drop)]
@@ -73,10 +71,7 @@ pub fn first_slots(alloc: Global, live: Table, directory: Extent) -> Result<Made
 fn first_slot_bytes(directory: Extent) -> [u8; 32]
     ensures { result ≡ first_slot directory }
 {
-    let mut bytes = [0; 32];
-    bytes[..4].copy_from_slice(&MARK);
-    bytes[5..].copy_from_slice(&behind_gate_bytes(1, directory, directory));
-    bytes
+    slot_bytes(1, directory, directory)
 }
 
 // Writes the slots, with their gates shut, into a file that has room for both.
@@ -88,7 +83,7 @@ fn write_slots<S: Store>(store: &mut S, directory: Extent) -> Result<(), StoreFa
     ensures durable { OnOk result (IsTrue (S.facts store.old).honest → IsDurable (S.facts store.new)) }
 {
     store.write_at(0, &first_slot_bytes(directory))?;
-    store.write_at(PAGE, &MARK)?;
+    store.write_at(PAGE, &SLOT_MARK)?;
     store.sync()
 }
 
@@ -162,8 +157,9 @@ pub fn make_empty<S: Store>(alloc: Global, store: &mut S) -> Result<Made, Fault>
     };
     let live = empty_table(alloc)?;
     let made = first_slots(alloc, live, directory)?;
+    let text = write_dir(alloc, VmHandle(0), &[])?;
     empty(store)?;
-    match found(store, directory, &EMPTY_DIRECTORY) {
+    match found(store, directory, &text) {
         Ok(()) => Ok(made),
         Err(_) => Err(Fault::File),
     }

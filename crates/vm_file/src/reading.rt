@@ -15,10 +15,12 @@ ghost use Rattle.vm_file.specs.Opened.{Looks, IsReadRefusal, IsImageOf, IsDirect
 use crate::copies::copy_table;
 use crate::slots::{Other, Pair, Slots, Stored};
 use crate::table::{Place, Table};
-use geos_model::{Entry, Extent, Fault, PAGE, Slot};
+use geos_model::{Entry, Extent, Fault, LAST_PAGE, PAGE, Slot};
 use lmem_heap::Heap;
 use std::alloc::{AllocError, Global};
-use vm_space::{Directory, MOST_ENTRIES, SLOT_LENGTH, read_dir, read_slot};
+use vm_space::{
+    Directory, LONGEST_DIRECTORY, LONGEST_IMAGE, MOST_ENTRIES, SLOT_LENGTH, read_dir, read_slot,
+};
 use vm_store::Store;
 
 /// The bytes of an extent. Memory, File.
@@ -37,9 +39,6 @@ pub fn read_extent<S: Store>(alloc: Global, store: &mut S, extent: Extent) -> Re
         Err(_) => Err(Fault::File),
     }
 }
-
-// The bytes of the greatest raw body and the byte before them.
-const LONGEST_IMAGE: usize = 65_521;
 
 /// Whether bytes are the image of a heap, and not of a raw body. None where they are of neither.
 pub fn image_kind(bytes: &[u8]) -> Option<bool>
@@ -94,7 +93,7 @@ fn read_place<S: Store>(
 ) -> Result<Place, Fault>
     requires { IsTrue (S.facts store.old).honest → AreImaged (S.facts store.old).content known.now }
     ensures looks { Looks (S.facts store.old) (S.facts store.new) }
-    ensures place { IfOk result (λ place. (place.user_id ≡ entry.user_id) × (place.extent ≡ entry.extent)) }
+    ensures place { IfOk result (λ place. (place.attributes ≡ entry.attributes) × (place.extent ≡ entry.extent)) }
     ensures imaged { IfOk result (λ place. IsTrue (S.facts store.old).honest → IsImaged (S.facts store.old).content place) }
     ensures damaged { IsErrOf result Fault.Damaged → IsTrue (S.facts store.old).honest → body_of (bytes_in (S.facts store.old).content entry.extent) ≡ None }
     ensures file { IsErrOf result Fault.File → Raised (S.facts store.old) (S.facts store.new) }
@@ -106,7 +105,7 @@ fn read_place<S: Store>(
         None => read_kind(alloc, store, entry.extent)?,
     };
     Ok(Place {
-        user_id: entry.user_id,
+        attributes: entry.attributes,
         is_heap,
         extent: entry.extent,
     })
@@ -146,13 +145,8 @@ fn read_places<S: Store>(
     Ok(places)
 }
 
-// The directories of no blocks and of 2,048.
+// The directory of no block.
 const SHORTEST_DIRECTORY: u32 = 16;
-
-const LONGEST_DIRECTORY: u32 = 32_784;
-
-// Pages from this one on aren't used.
-const LAST_PAGE: u64 = 4_194_304;
 
 /// Whether a directory can lie there, in a file of so many bytes.
 fn can_have_directory(extent: Extent, file_length: u64) -> bool
@@ -163,9 +157,9 @@ fn can_have_directory(extent: Extent, file_length: u64) -> bool
     let size = u64::from(PAGE);
     extent.page >= 2
         && extent.length >= SHORTEST_DIRECTORY
-        && extent.length <= LONGEST_DIRECTORY
+        && extent.length as usize <= LONGEST_DIRECTORY
         && size * page + length <= file_length
-        && page + length.div_ceil(size) <= LAST_PAGE
+        && page + length.div_ceil(size) <= u64::from(LAST_PAGE)
 }
 
 /// Reads a directory. Damaged, Memory, File.

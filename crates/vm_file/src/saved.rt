@@ -1,20 +1,21 @@
 ghost use Rattle.std.specs.Prelude.{◌≡◌, ◌≤◌, ◌<◌, ◌+◌, true, IfOk, length, replicate};
 ghost use Rattle.std.specs.FinMap.{empty};
-ghost use Rattle.geos_model.specs.Document.{is_valid_body};
+ghost use Rattle.geos_model.specs.Document.{FitAttributes, is_valid_body};
 ghost use Rattle.geos_model.specs.Heap.{capacity};
 ghost use Rattle.geos_model.specs.Image.{image};
 ghost use Rattle.geos_model.specs.declared.command.Body.TheVariants as bodies;
 
 use crate::image::Image;
+use geos_model::Attributes;
 use std::alloc::{AllocError, Global};
 
 /// A block as it was, one that a document can have, with its body as a file keeps it.
 #[derive(Drop)]
 pub struct SavedBlock {
-    pub user_id: u16,
+    pub attributes: Attributes,
     pub image: Image,
     // The law of changes has it from here, since there a number has no range.
-    ghost word: { user_id < 65536 },
+    ghost fit: { FitAttributes attributes },
     ghost valid: { is_valid_body image ≡ true },
 }
 
@@ -22,37 +23,41 @@ impl SavedBlock {
     ghost use Rattle.vm_file.specs.Members.{saved_block};
 
     /// A block with this body.
-    pub fn new(user_id: u16, image: Image) -> SavedBlock
-        ensures { saved_block result ≡ record { user_id = user_id; body = image } }
+    pub fn new(attributes: Attributes, image: Image) -> SavedBlock
+        ensures { saved_block result ≡ record { attributes = attributes; body = image } }
     {
         image.validity();
-        SavedBlock { user_id, image }
+        SavedBlock { attributes, image }
     }
 
     /// A raw block of so many zeros.
-    pub fn zeros(alloc: Global, user_id: u16, size: usize) -> Result<SavedBlock, AllocError>
+    pub fn zeros(
+        alloc: Global,
+        attributes: Attributes,
+        size: usize,
+    ) -> Result<SavedBlock, AllocError>
         requires { size ≤ capacity }
-        ensures { IfOk result (λ saved. saved_block saved ≡ record { user_id = user_id; body = bodies.Raw (replicate size 0) }) }
+        ensures { IfOk result (λ saved. saved_block saved ≡ record { attributes = attributes; body = bodies.Raw (replicate size 0) }) }
     {
-        Ok(SavedBlock::new(user_id, Image::zeros(alloc, size)?))
+        Ok(SavedBlock::new(attributes, Image::zeros(alloc, size)?))
     }
 
     /// A raw block of these bytes.
-    pub fn raw(user_id: u16, bytes: Vec<u8>) -> Result<SavedBlock, AllocError>
+    pub fn raw(attributes: Attributes, bytes: Vec<u8>) -> Result<SavedBlock, AllocError>
         requires { length bytes.items ≤ capacity }
-        ensures { IfOk result (λ saved. saved_block saved ≡ record { user_id = user_id; body = bodies.Raw bytes.items }) }
+        ensures { IfOk result (λ saved. saved_block saved ≡ record { attributes = attributes; body = bodies.Raw bytes.items }) }
     {
-        Ok(SavedBlock::new(user_id, Image::from_raw(bytes)?))
+        Ok(SavedBlock::new(attributes, Image::from_raw(bytes)?))
     }
 
     /// A block with an empty heap.
-    pub fn empty_heap(alloc: Global, user_id: u16) -> Result<SavedBlock, AllocError>
-        ensures { IfOk result (λ saved. saved_block saved ≡ record { user_id = user_id; body = bodies.Heap empty }) }
+    pub fn empty_heap(alloc: Global, attributes: Attributes) -> Result<SavedBlock, AllocError>
+        ensures { IfOk result (λ saved. saved_block saved ≡ record { attributes = attributes; body = bodies.Heap empty }) }
     {
-        Ok(SavedBlock::new(user_id, Image::empty_heap(alloc)?))
+        Ok(SavedBlock::new(attributes, Image::empty_heap(alloc)?))
     }
 
-    /// How many bytes it holds: those of the image, at most 65,521.
+    /// How many bytes it holds: those of the image.
     pub fn byte_count(&self) -> usize
         ensures value { result ≡ length (image (saved_block self.now).body) }
         ensures small { result ≤ capacity + 1 }

@@ -11,13 +11,13 @@ ghost use Rattle.vm_file.specs.Writing.{placed_at, with_places, without_place, w
 
 use crate::member::Member;
 use crate::slots::Slots;
-use geos_model::{Extent, VmHandle};
+use geos_model::{Attributes, Extent, VmHandle};
 use vm_space::FreeSpace;
 
 /// A block in the file.
 #[derive(Clone, Copy, Debug, PartialEq, Eq)]
 pub struct Place {
-    pub user_id: u16,
+    pub attributes: Attributes,
     /// Whether its image is that of a heap.
     pub is_heap: bool,
     /// Where its image lies.
@@ -46,13 +46,16 @@ pub fn place_of(places: &[Option<Place>], block: VmHandle) -> Option<Place>
     }
 }
 
-/// Sets the user ID of a block that is live.
-pub fn set_user_id(places: &mut [Option<Place>], block: VmHandle, user_id: u16)
+/// Sets the attributes of a block that is live.
+pub fn set_attributes(places: &mut [Option<Place>], block: VmHandle, attributes: Attributes)
     ensures { (place : Place) → 1 ≤ block.0 → get_or places.old (block.0 - 1) None ≡ Some place
-        → places.new ≡ slice_set places.old (block.0 - 1) (Some (record place { user_id = user_id })) }
+        → places.new ≡ slice_set places.old (block.0 - 1) (Some (record place { attributes = attributes })) }
 {
     if let Some(place) = place_of(places, block) {
-        places[usize::from(block.0) - 1] = Some(Place { user_id, ..place });
+        places[usize::from(block.0) - 1] = Some(Place {
+            attributes,
+            ..place
+        });
     }
 }
 
@@ -61,7 +64,7 @@ fn placed_at(put: &Member, extent: Extent) -> Place
     ensures { result ≡ placed_at put.now extent }
 {
     Place {
-        user_id: put.block.user_id,
+        attributes: put.block.attributes,
         is_heap: put.block.image.is_heap(),
         extent,
     }

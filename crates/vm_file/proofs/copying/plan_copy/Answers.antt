@@ -1,6 +1,7 @@
-use Rattle.std.proofs.Common.{length, ap, sym, subst, ◌∙◌, ◌<◌, All, arith}
+use Rattle.std.proofs.Common.{length, ap, sym, subst, ◌∙◌, All, arith}
 use Rattle.geos_model.specs.File.{directory_text}
 use Rattle.geos_model.proofs.Files.{length-directory}
+use Rattle.geos_model.specs.Document.{FitAttributes}
 use Rattle.vm_file.specs.Making.{laid_out, page_behind}
 use Rattle.vm_file.specs.Documents.{entries_of}
 use Rattle.vm_file.proofs.Written.{entries_few}
@@ -52,4 +53,4 @@ returns-clause-founding c =
     plan_founding live new (record { page = c.in_ok-placed.placed.end; length = c.len.result }) text c.requires.table c.requires.placed map_block places
     (c.in_ok-placed.ensures.end ∙ ap (page_behind 2) c.deref.ensures.value) (omega (arith, c.len.ensures, c.in_ok-text.text.ok.0))
     (c.in_ok-text.ensures ∙ λ i. directory_text (record { map_block = (sym map_block) i; entries = (c.deref-3.ensures.value ∙ listed) i }))
-    (subst (All (λ e. e.user_id < 65536)) listed c.in_ok-entries.ensures.user_ids)
+    (subst (All (λ e. FitAttributes e.attributes)) listed c.in_ok-entries.ensures.attributes)

@@ -1,7 +1,8 @@
-use Rattle.std.proofs.Common.{◌≡◌, ◌<◌, ◌≤◌, ℕ, List, Option, All, ap, ap₂, subst, sym, ◌∙◌, arith, length}
-use Rattle.geos_model.specs.File.{Directory, directory_text}
+use Rattle.std.proofs.Common.{◌≡◌, ◌≤◌, ℕ, List, Option, All, ap, ap₂, subst, sym, ◌∙◌, arith, length}
+use Rattle.geos_model.specs.File.{Directory, directory_text, longest_directory}
 use Rattle.geos_model.specs.declared.file.Entry.{Entry}
 use Rattle.geos_model.proofs.Files.{length-directory}
+use Rattle.geos_model.specs.Document.{FitAttributes}
 use Rattle.vm_file.specs.Documents.{entries_of}
 use Rattle.vm_file.specs.declared.table.Place.{Place}
 use Rattle.vm_file.proofs.Written.{entries_few}
@@ -14,7 +15,7 @@ entries_are : (c : goal.After-len) → c.deref-2.result.now ≡ entries_of 1 c.a
 entries_are c = c.deref-2.ensures.value ∙ c.in_ok-entries.ensures.entries ∙ ap (entries_of 1) c.deref.ensures.value
 
 -- a directory of at most 2,048 entries
-text_short : (c : goal.After-len) → c.len.result ≤ 32784
+text_short : (c : goal.After-len) → c.len.result ≤ longest_directory
 text_short c =
     let few = entries_few 1 c.args.live.now.places.items in
     let size = c.requires.formed.table.size in
@@ -50,5 +51,5 @@ returns c =
       size = c.in_ok-directory.ensures.size ∙ c.len.ensures ∙ c.in_ok-text.text.ok.0;
       placed = c.in_ok-directory.ensures.placed;
       clear = c.in_ok-directory.ensures.clear;
-      user_ids = subst (λ (es : List Entry). All (λ e. e.user_id < 65536) es) (c.in_ok-entries.ensures.entries ∙ ap (entries_of 1) (c.deref.ensures.value ∙ sym copy.places)) c.in_ok-entries.ensures.user_ids;
+      attributes = subst (λ (es : List Entry). All (λ e. FitAttributes e.attributes) es) (c.in_ok-entries.ensures.entries ∙ ap (entries_of 1) (c.deref.ensures.value ∙ sym copy.places)) c.in_ok-entries.ensures.attributes;
     }

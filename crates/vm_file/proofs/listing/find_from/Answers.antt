@@ -18,7 +18,7 @@ returns-then-place-user_id c =
 pub loop-i-preserved : goal.loop-i-preserved
 loop-i-preserved c =
     c.loop-i.invariant ∙ found_next c.args.user_id c.args.start c.loop-i.i c.args.places.now c.loop-i-test.true (λ b at.
-    elim c.match-places-i.branch as (λ _. b.user_id ≢ c.args.user_id) [
+    elim c.match-places-i.branch as (λ _. b.attributes.user_id ≢ c.args.user_id) [
       | in-Some+else-place-user_id w ↦ λ same. let one : Some b ≡ Some w.in-Some.place = sym at ∙ w.in-Some.is in w.if-place-user_id.false (cc (one, same))
       | in_default w ↦ absurd (w.in_default.not-Some b at)
     ])

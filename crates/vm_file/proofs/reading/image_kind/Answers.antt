@@ -4,6 +4,7 @@ use Rattle.vm_file.proofs.BodyImages.{empty_none, raw_image, long_none, heap_ima
 use Rattle.vm_file.proofs.Imaged.{image_kind}
 use Rattle.vm_file.proofs.reading.image_kind.Goals.{then-is_heap, else-is_heap}
 use Rattle.vm_file.proofs.reading.image_kind.Goals as goal
+use Rattle.geos_model.specs.File.{longest_image}
 
 pub returns-then-is_empty : goal.returns-then-is_empty
 returns-then-is_empty c = empty_none c.args.bytes.now (eqb-true (length c.args.bytes.now) 0 (sym c.is_empty.ensures ∙ c.if-is_empty.true))
@@ -14,7 +15,7 @@ returns-then-is_image c =
     record {
       image = elim c.if-is_heap.branch [
         | then-is_heap w ↦ (heap_image bytes (w.is_image-is_image.ensures.0 (sym w.is_image-is ∙ c.if-is_image.true))).image
-        | else-is_heap w ↦ (raw_image bytes (omega (arith, some)) w.if-is_heap.false (leb-true (length bytes) 65521 (sym w.is_image-is ∙ c.if-is_image.true))).image
+        | else-is_heap w ↦ (raw_image bytes (omega (arith, some)) w.if-is_heap.false (leb-true (length bytes) longest_image (sym w.is_image-is ∙ c.if-is_image.true))).image
       ];
       kind = sym (image_kind bytes);
     }
@@ -24,5 +25,5 @@ returns-else-is_image c =
     let bytes = c.args.bytes.now in
     elim c.if-is_heap.branch [
       | then-is_heap w ↦ heap_none bytes w.if-is_heap.true (λ is. let yes = sym w.is_image-is ∙ c.if-is_image.false in let no = w.is_image-is_image.ensures.1 is in absurd (cc (yes, no)))
-      | else-is_heap w ↦ long_none bytes (leb-false (length bytes) 65521 (sym w.is_image-is ∙ c.if-is_image.false))
+      | else-is_heap w ↦ long_none bytes (leb-false (length bytes) longest_image (sym w.is_image-is ∙ c.if-is_image.false))
     ]

@@ -1,6 +1,7 @@
 use Rattle.std.proofs.Common.{◌≡◌, ℕ, ◌+◌, ◌-◌, ◌<◌, ◌++◌, ◌∷◌, [], List, Some, None, false, get_or, set, drop, length, length-set, sym, ap, ap₂, subst, refl, ◌∙◌, arith}
 use Rattle.std.proofs.lemmas.List.{drop_more}
 use Rattle.geos_model.specs.declared.file.Extent.{Extent}
+use Rattle.geos_model.specs.Document.{no_attributes}
 use Rattle.vm_file.specs.Calls.{IsPut}
 use Rattle.vm_file.specs.Known.{IsKnown}
 use Rattle.vm_file.specs.Slots.{block_extents, kept_extents}
@@ -18,7 +19,7 @@ give_back-requires c =
     let d : Extent = record { page = 0; length = 0 } in
     let e : Extent = get_or extents i d in
     let at : ℕ = c.from-at.result - 1 in
-    let p : Place = record { user_id = 0; is_heap = false; extent = e } in
+    let p : Place = record { attributes = no_attributes; is_heap = false; extent = e } in
     let kept : List Extent = kept_extents c.args.slots.now in
     let places = c.loop-i.places in
     let put : IsPut c.index-puts-i.result = subst IsPut (sym c.index-puts-i.is) (c.requires.puts i _ c.loop-i-test.true) in

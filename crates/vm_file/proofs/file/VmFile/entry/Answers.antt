@@ -1,13 +1,13 @@
 use Rattle.std.proofs.Common.{◌≡◌, ◌-◌, IsTrue, ap, subst, ◌∙◌}
 use Rattle.std.specs.Prelude.{IfSome}
-use Rattle.geos_model.specs.Document.{is_live, user_id_of, block_at, is_heap}
+use Rattle.geos_model.specs.Document.{is_live, attributes_of, block_at, is_heap}
 use Rattle.geos_model.specs.Image.{image}
 use Rattle.geos_model.specs.File.{bytes_in}
 use Rattle.geos_model.proofs.Tables.{slot_at}
 use Rattle.vm_file.specs.Slots.{block_extents}
 use Rattle.vm_file.specs.Calls.{IsImageLength}
 use Rattle.vm_file.proofs.Imaged.{entry_image, placed_lengths}
-use Rattle.vm_file.proofs.Tables.{IsPlaceOf, entry_live, entry_user_id, entry_kind, entry_handle, entry_extent}
+use Rattle.vm_file.proofs.Tables.{IsPlaceOf, entry_live, entry_attributes, entry_kind, entry_handle, entry_extent}
 use Rattle.vm_file.proofs.file.VmFile.entry.Goals as goal
 
 pub returns-clause-live : goal.returns-clause-live
@@ -17,13 +17,13 @@ returns-clause-live g c =
     let is : IsPlaceOf live.places.items h c.place_of.result = record { nothing = c.place_of.ensures.zero; place = λ low. c.place_of.ensures.place low ∙ ap (λ ps. slot_at ps (h - 1)) c.deref.ensures.value } in
     entry_live (g.S.Store.facts c.self.inside.store).content live.places.items live.map_block h c.place_of.result is ∙ ap (λ s. is_live s.document h) c.self.view_is
 
-pub returns-clause-user_id : goal.returns-clause-user_id
-returns-clause-user_id g c =
+pub returns-clause-attributes : goal.returns-clause-attributes
+returns-clause-attributes g c =
     let live = c.self.inside.live in
     let h = c.args.block.0 in
     let is : IsPlaceOf live.places.items h c.place_of.result = record { nothing = c.place_of.ensures.zero; place = λ low. c.place_of.ensures.place low ∙ ap (λ ps. slot_at ps (h - 1)) c.deref.ensures.value } in
-    subst (λ s. IfSome c.place_of.result (λ place. place.user_id ≡ user_id_of s.document h)) c.self.view_is
-    (entry_user_id (g.S.Store.facts c.self.inside.store).content live.places.items live.map_block h c.place_of.result is)
+    subst (λ s. IfSome c.place_of.result (λ place. place.attributes ≡ attributes_of s.document h)) c.self.view_is
+    (entry_attributes (g.S.Store.facts c.self.inside.store).content live.places.items live.map_block h c.place_of.result is)
 
 pub returns-clause-kind : goal.returns-clause-kind
 returns-clause-kind g c =

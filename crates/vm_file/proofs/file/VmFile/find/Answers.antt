@@ -14,6 +14,6 @@ returns g c =
     let start = c.args.start.0 in
     c.find_from.ensures
     ∙ ap (λ ps. found_in (take i.bounds.end ps) uid start) c.deref.ensures.value
-    ∙ ap (λ (es : List (ℕ × Place)). option_map (λ e. e.0) (find (λ e. nat_lt start e.0 && (e.1.user_id == uid)) es)) (entries_past i.bounds.end 1 places c.self.invariant.bounded.past)
+    ∙ ap (λ (es : List (ℕ × Place)). option_map (λ e. e.0) (find (λ e. nat_lt start e.0 && (e.1.attributes.user_id == uid)) es)) (entries_past i.bounds.end 1 places c.self.invariant.bounded.past)
     ∙ sym (found_shown (g.S.Store.facts i.store).content places i.live.map_block uid start)
     ∙ ap (λ s. found s.document uid start) c.self.view_is

@@ -1,8 +1,8 @@
 use Rattle.std.proofs.Common.{◌≡◌, ◌-◌, ap, subst, ◌∙◌}
 use Rattle.std.specs.Prelude.{IfSome}
-use Rattle.geos_model.specs.Document.{is_live, user_id_of}
+use Rattle.geos_model.specs.Document.{is_live, attributes_of}
 use Rattle.geos_model.proofs.Tables.{slot_at}
-use Rattle.vm_file.proofs.Tables.{IsPlaceOf, entry_live, entry_user_id, entry_handle}
+use Rattle.vm_file.proofs.Tables.{IsPlaceOf, entry_live, entry_attributes, entry_handle}
 use Rattle.vm_file.proofs.file.VmFile.saved_entry.Goals as goal
 
 pub returns-clause-live : goal.returns-clause-live
@@ -12,13 +12,13 @@ returns-clause-live g c =
     let is : IsPlaceOf saved.places.items h c.place_of.result = record { nothing = c.place_of.ensures.zero; place = λ low. c.place_of.ensures.place low ∙ ap (λ ps. slot_at ps (h - 1)) c.deref.ensures.value } in
     entry_live (g.S.Store.facts c.self.inside.store).content saved.places.items saved.map_block h c.place_of.result is ∙ ap (λ s. is_live s.disk.saved h) c.self.view_is
 
-pub returns-clause-user_id : goal.returns-clause-user_id
-returns-clause-user_id g c =
+pub returns-clause-attributes : goal.returns-clause-attributes
+returns-clause-attributes g c =
     let saved = c.self.inside.slots.committed.saved.table in
     let h = c.args.block.0 in
     let is : IsPlaceOf saved.places.items h c.place_of.result = record { nothing = c.place_of.ensures.zero; place = λ low. c.place_of.ensures.place low ∙ ap (λ ps. slot_at ps (h - 1)) c.deref.ensures.value } in
-    subst (λ s. IfSome c.place_of.result (λ place. place.user_id ≡ user_id_of s.disk.saved h)) c.self.view_is
-    (entry_user_id (g.S.Store.facts c.self.inside.store).content saved.places.items saved.map_block h c.place_of.result is)
+    subst (λ s. IfSome c.place_of.result (λ place. place.attributes ≡ attributes_of s.disk.saved h)) c.self.view_is
+    (entry_attributes (g.S.Store.facts c.self.inside.store).content saved.places.items saved.map_block h c.place_of.result is)
 
 pub returns-clause-handle : goal.returns-clause-handle
 returns-clause-handle g c =
