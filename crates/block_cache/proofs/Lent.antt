@@ -7,12 +7,12 @@ use Rattle.std.specs.Map.{set_value}
 use Rattle.std.specs.Borrow.{MutBor}
 use Rattle.std.specs.Option.{IsSome, option_copied_mut}
 use Rattle.std.specs.FinMap.{get}
-use Rattle.geos_model.specs.Document.{Document, is_live, user_id_of, with_body}
+use Rattle.geos_model.specs.Document.{Document, is_live, attributes_of, with_body}
 use Rattle.geos_model.proofs.HeapEdits.{get-put_same, get-put_other}
 use Rattle.block_cache.specs.Bodies.{body_of}
 use Rattle.block_cache.specs.Frames.{held, overlay, IsKept, AreKept}
 use Rattle.block_cache.specs.declared.frame.Frame.{Frame}
-use Rattle.block_cache.proofs.Overlay.{cover, get-overlay, overlay_map, overlay_user, same_document}
+use Rattle.block_cache.proofs.Overlay.{cover, get-overlay, overlay_map, overlay_attributes, same_document}
 
 pub is_lent : (o : Option (MutBor Frame)) → is_some (option_copied_mut o) ≡ true → IsSome o
 is_lent None is = absurd (cc is)
@@ -38,10 +38,10 @@ module _ (es : List (ℕ × Frame)) (h : ℕ) (f : Frame) (here : held es h ≡ 
         same_document (with_body over h (body_of g.body)) (overlay lent d) (overlay_map lent d ∙ sym (overlay_map es d))
         (λ q. get-overlay lent d q ∙ elim (cases_eq q h) as (λ _. cover (held lent q) d q ≡ get (with_body over h (body_of g.body)).blocks q) [
           | inl at ↦ ap (λ o. cover o d q) (now_here q at)
-              ∙ ap (λ u. Some (record { user_id = u; body = body_of g.body })) (ap (user_id_of d) at ∙ sym (overlay_user es d h))
-              ∙ sym (get-put_same over.blocks h (record { user_id = user_id_of over h; body = body_of g.body }) q at)
+              ∙ ap (λ u. Some (record { attributes = u; body = body_of g.body })) (ap (attributes_of d) at ∙ sym (overlay_attributes es d h))
+              ∙ sym (get-put_same over.blocks h (record { attributes = attributes_of over h; body = body_of g.body }) q at)
           | inr other ↦ ap (λ o. cover o d q) (now_other q other) ∙ sym (get-overlay es d q)
-              ∙ sym (get-put_other over.blocks h (record { user_id = user_id_of over h; body = body_of g.body }) q other)
+              ∙ sym (get-put_other over.blocks h (record { attributes = attributes_of over h; body = body_of g.body }) q other)
         ])
 
     pub kept_lent : (honest : Bool) → g.locks ≡ f.locks → g.changed ≡ true → AreKept honest d es → AreKept honest d lent

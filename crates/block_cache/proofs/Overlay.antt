@@ -1,15 +1,15 @@
 -- The document under frames.
-use Rattle.std.proofs.Common.{◌≡◌, ◌≢◌, ◌⊎◌, ◌≤◌, ℕ, ◌<◌, nat_eq, Bool, true, false, cond, IsTrue, List, [], ◌∷◌, map, Option, None, Some, is_some, refl, sym, ap, subst, ◌∙◌, inl, inr, unwrap_or, eq-eqb}
+use Rattle.std.proofs.Common.{◌≡◌, ◌≢◌, ◌⊎◌, ◌≤◌, ℕ, nat_eq, Bool, true, false, cond, IsTrue, List, [], ◌∷◌, map, Option, None, Some, is_some, refl, sym, ap, subst, ◌∙◌, inl, inr, unwrap_or, eq-eqb}
 use Rattle.std.proofs.lemmas.Bool.{cases_eq, ne_eqb}
 use Rattle.std.specs.Option.{option_map_or, option_map}
 use Rattle.std.specs.Map.{set_value}
 use Rattle.std.specs.Cmp.{nat_cmp_total, nat_eq_equiv}
 use Rattle.std.proofs.lemmas.Map.{lookup-set_value}
 use Rattle.std.specs.FinMap.{get, same_map, nat_cmp-IsAntisymmetric}
-use Rattle.geos_model.specs.Document.{Block, Document, IsValidBlock, IsValid, block_at, is_heap, is_heap_body, is_live, is_valid_body, user_id_of, with_body}
+use Rattle.geos_model.specs.Document.{Block, Document, IsValidBlock, IsValid, block_at, is_heap, is_heap_body, is_live, is_valid_body, attributes_of, with_body, no_attributes, no_block, FitAttributes}
 use Rattle.geos_model.specs.declared.command.Body.{Body}
-use Rattle.geos_model.specs.declared.command.Body.TheVariants.{Raw}
 use Rattle.geos_model.proofs.HeapEdits.{get-put_same, get-put_other}
+use Rattle.geos_model.specs.declared.block.Attributes.{Attributes}
 use Rattle.vm_file.specs.Disk.{Drifts, IsListed}
 use Rattle.block_cache.specs.Bodies.{body_of}
 use Rattle.block_cache.specs.Frames.{held, overlay, with_frame, is_changed_in, IsKept, AreKept}
@@ -18,17 +18,17 @@ use Rattle.block_cache.specs.declared.frame.Frame.{Frame}
 -- a block as a frame covers it
 abbrev pub cover : Option Frame → Document → ℕ → Option Block
 cover None d h = get d.blocks h
-cover (Some f) d h = Some (record { user_id = user_id_of d h; body = body_of f.body })
+cover (Some f) d h = Some (record { attributes = attributes_of d h; body = body_of f.body })
 
-abbrev pub uid : Option Block → ℕ
-uid o = option_map_or (λ (b : Block). b.user_id) o 0
+abbrev pub attributes_by : Option Block → Attributes
+attributes_by o = option_map_or (λ (b : Block). b.attributes) o no_attributes
 
 abbrev pub heap_by : Option Block → Bool
 heap_by o = option_map_or (λ (b : Block). is_heap_body b.body) o false
 
-pub uid-cover : (o : Option Frame) (d : Document) (h : ℕ) → uid (cover o d h) ≡ user_id_of d h
-uid-cover None d h = refl
-uid-cover (Some f) d h = refl
+pub attributes-cover : (o : Option Frame) (d : Document) (h : ℕ) → attributes_by (cover o d h) ≡ attributes_of d h
+attributes-cover None d h = refl
+attributes-cover (Some f) d h = refl
 
 pub held_here : (e : ℕ × Frame) (es : List (ℕ × Frame)) (h : ℕ) → h ≡ e.0 → held (e ∷ es) h ≡ Some e.1
 held_here e es h here = ap (λ b. cond b (Some e.1) (held es h)) (eq-eqb h e.0 here)
@@ -40,17 +40,17 @@ pub get-overlay : (es : List (ℕ × Frame)) (d : Document) (h : ℕ) → get (o
 get-overlay [] d h = refl
 get-overlay (e ∷ es) d h =
     let body : Body = body_of e.1.body in
-    let user : user_id_of (overlay es d) e.0 ≡ user_id_of d e.0 = ap uid (get-overlay es d e.0) ∙ uid-cover (held es e.0) d e.0 in
+    let attributes : attributes_of (overlay es d) e.0 ≡ attributes_of d e.0 = ap attributes_by (get-overlay es d e.0) ∙ attributes-cover (held es e.0) d e.0 in
     elim (cases_eq h e.0) as (λ _. get (overlay (e ∷ es) d).blocks h ≡ cover (held (e ∷ es) h) d h) [
-      | inl here ↦ get-put_same (overlay es d).blocks e.0 (record { user_id = user_id_of (overlay es d) e.0; body = body }) h here
-          ∙ ap (λ u. Some (record { user_id = u; body = body })) (user ∙ ap (user_id_of d) (sym here))
+      | inl here ↦ get-put_same (overlay es d).blocks e.0 (record { attributes = attributes_of (overlay es d) e.0; body = body }) h here
+          ∙ ap (λ u. Some (record { attributes = u; body = body })) (attributes ∙ ap (attributes_of d) (sym here))
           ∙ sym (ap (λ o. cover o d h) (held_here e es h here))
-      | inr other ↦ get-put_other (overlay es d).blocks e.0 (record { user_id = user_id_of (overlay es d) e.0; body = body }) h other
+      | inr other ↦ get-put_other (overlay es d).blocks e.0 (record { attributes = attributes_of (overlay es d) e.0; body = body }) h other
           ∙ get-overlay es d h ∙ sym (ap (λ o. cover o d h) (held_on e es h other))
     ]
 
-pub overlay_user : (es : List (ℕ × Frame)) (d : Document) (h : ℕ) → user_id_of (overlay es d) h ≡ user_id_of d h
-overlay_user es d h = ap uid (get-overlay es d h) ∙ uid-cover (held es h) d h
+pub overlay_attributes : (es : List (ℕ × Frame)) (d : Document) (h : ℕ) → attributes_of (overlay es d) h ≡ attributes_of d h
+overlay_attributes es d h = ap attributes_by (get-overlay es d h) ∙ attributes-cover (held es h) d h
 
 pub overlay_map : (es : List (ℕ × Frame)) (d : Document) → (overlay es d).map_block ≡ d.map_block
 overlay_map [] d = refl
@@ -84,12 +84,12 @@ same_document d e map same =
 
 -- what holds of frames and files that show the same blocks
 pub agree : (honest : Bool) (es : List (ℕ × Frame)) (d : Document) (fs : List (ℕ × Frame)) (e : Document) → AreKept honest d es → AreKept honest e fs
-    → ((h : ℕ) → is_live e h ≡ is_live d h) → ((h : ℕ) → user_id_of e h ≡ user_id_of d h) → e.map_block ≡ d.map_block
+    → ((h : ℕ) → is_live e h ≡ is_live d h) → ((h : ℕ) → attributes_of e h ≡ attributes_of d h) → e.map_block ≡ d.map_block
     → ((h : ℕ) → heap_by (cover (held fs h) e h) ≡ heap_by (cover (held es h) d h))
     → (IsTrue honest → (h : ℕ) → cover (held fs h) e h ≡ cover (held es h) d h) → Drifts honest (overlay es d) (overlay fs e)
-agree honest es d fs e kept kept' live user map kind same = record {
+agree honest es d fs e kept kept' live attributes map kind same = record {
   live = λ h. overlay_live honest fs e h kept' ∙ live h ∙ sym (overlay_live honest es d h kept);
-  user_ids = λ h. overlay_user fs e h ∙ user h ∙ sym (overlay_user es d h);
+  attributes = λ h. overlay_attributes fs e h ∙ attributes h ∙ sym (overlay_attributes es d h);
   kinds = λ h. ap heap_by (get-overlay fs e h) ∙ kind h ∙ sym (ap heap_by (get-overlay es d h));
   map_block = overlay_map fs e ∙ map ∙ sym (overlay_map es d);
   same = λ so. same_document (overlay es d) (overlay fs e) (overlay_map fs e ∙ map ∙ sym (overlay_map es d)) (λ h. get-overlay fs e h ∙ same so h ∙ sym (get-overlay es d h));
@@ -102,7 +102,7 @@ block_by None live = absurd (cc live)
 block_by (Some b) live = (b, refl)
 
 abbrev pub body_by : Option Block → Body
-body_by o = let b : Block = unwrap_or o (record { user_id = 0; body = Raw [] }) in b.body
+body_by o = let b : Block = unwrap_or o no_block in b.body
 
 pub heap_body : (o : Option Block) → is_heap_body (body_by o) ≡ heap_by o
 heap_body None = refl
@@ -115,8 +115,8 @@ module _ (es : List (ℕ × Frame)) (d : Document) (valid : IsValid d) (kept : A
   covered_valid h (Some f) b here is =
       let under = block_by (get d.blocks h) (kept.each h f here).live in
       let was = valid.blocks h under.0 under.1 in
-      let user : user_id_of d h ≡ under.0.user_id = ap uid under.1 in
-      let now : IsValidBlock h (record { user_id = user_id_of d h; body = body_of f.body }) = record { handle = was.handle; user_id = subst (λ n. n < 65536) (sym user) was.user_id; body = bodies h f here } in
+      let attributes : attributes_of d h ≡ under.0.attributes = ap attributes_by under.1 in
+      let now : IsValidBlock h (record { attributes = attributes_of d h; body = body_of f.body }) = record { handle = was.handle; attributes = subst FitAttributes (sym attributes) was.attributes; body = bodies h f here } in
       subst (IsValidBlock h) (cc is) now
 
   pub overlay_valid : IsValid (overlay es d)
@@ -146,7 +146,7 @@ cover_kind (Some f) d e h same = refl
 
 pub overlay_drifts : (honest : Bool) (es : List (ℕ × Frame)) (d e : Document) → Drifts honest d e → AreKept honest d es → Drifts honest (overlay es d) (overlay es e)
 overlay_drifts honest es d e drifts kept =
-    agree honest es d es e kept (kept_drifts honest es d e drifts kept) drifts.live drifts.user_ids drifts.map_block
+    agree honest es d es e kept (kept_drifts honest es d e drifts kept) drifts.live drifts.attributes drifts.map_block
     (λ h. cover_kind (held es h) d e h (drifts.kinds h)) (λ so h. ap (λ (x : Document). cover (held es h) x h) (drifts.same so))
 
 -- frames in another order
@@ -161,9 +161,9 @@ kept_same honest es fs d same kept = record { each = λ h f is. kept.each h f (s
 pub covers_same : (d : Document) (h : ℕ) (f : Frame) → is_live d h ≡ true → (block_at d h).body ≡ body_of f.body → cover (Some f) d h ≡ get d.blocks h
 covers_same d h f live same =
     let b = block_by (get d.blocks h) live in
-    let user : user_id_of d h ≡ b.0.user_id = ap uid b.1 in
+    let attributes : attributes_of d h ≡ b.0.attributes = ap attributes_by b.1 in
     let body : b.0.body ≡ body_of f.body = sym (ap body_by b.1) ∙ same in
-    (λ i. Some (record { user_id = user i; body = sym body i })) ∙ sym b.1
+    (λ i. Some (record { attributes = attributes i; body = sym body i })) ∙ sym b.1
 
 -- a block is read into a frame
 pub kept_more : (honest : Bool) (es : List (ℕ × Frame)) (d : Document) (h : ℕ) (f : Frame) → AreKept honest d es → IsKept honest d h f → AreKept honest d ((h, f) ∷ es)
@@ -205,11 +205,11 @@ held-with_frame es h g q = by (held es h) refl
 
 pub cover_by : (o : Option Frame) (d e : Document) (h : ℕ) → get e.blocks h ≡ get d.blocks h → cover o e h ≡ cover o d h
 cover_by None d e h same = same
-cover_by (Some f) d e h same = ap (λ u. Some (record { user_id = u; body = body_of f.body })) (ap uid same)
+cover_by (Some f) d e h same = ap (λ u. Some (record { attributes = u; body = body_of f.body })) (ap attributes_by same)
 
 module _ (d : Document) (h : ℕ) (body : Body) (live : is_live d h ≡ true) where
   abbrev block : Block
-  block = record { user_id = user_id_of d h; body = body }
+  block = record { attributes = attributes_of d h; body = body }
 
   pub get-with_body : (q : ℕ) → q ≡ h → get (with_body d h body).blocks q ≡ Some block
   get-with_body q here = get-put_same d.blocks h block q here
@@ -223,10 +223,10 @@ module _ (d : Document) (h : ℕ) (body : Body) (live : is_live d h ≡ true) wh
     | inr other ↦ ap is_some (get-with_other q other)
   ]
 
-  pub user-with_body : (q : ℕ) → user_id_of (with_body d h body) q ≡ user_id_of d q
-  user-with_body q = elim (cases_eq q h) as (λ _. user_id_of (with_body d h body) q ≡ user_id_of d q) [
-    | inl here ↦ ap uid (get-with_body q here) ∙ ap (user_id_of d) (sym here)
-    | inr other ↦ ap uid (get-with_other q other)
+  pub attributes-with_body : (q : ℕ) → attributes_of (with_body d h body) q ≡ attributes_of d q
+  attributes-with_body q = elim (cases_eq q h) as (λ _. attributes_of (with_body d h body) q ≡ attributes_of d q) [
+    | inl here ↦ ap attributes_by (get-with_body q here) ∙ ap (attributes_of d) (sym here)
+    | inr other ↦ ap attributes_by (get-with_other q other)
   ]
 
   pub heap-with_body : (q : ℕ) → q ≡ h → is_heap (with_body d h body) q ≡ is_heap_body body
@@ -275,14 +275,14 @@ module _ (honest : Bool) (es : List (ℕ × Frame)) (d : Document) (h : ℕ) (f 
   }
 
   pub written : Drifts honest (overlay es d) (overlay fs e)
-  written = agree honest es d fs e kept written_kept (λ q. drifts.live q ∙ live-with_body d h (body_of f.body) live q) (λ q. drifts.user_ids q ∙ user-with_body d h (body_of f.body) live q) drifts.map_block
+  written = agree honest es d fs e kept written_kept (λ q. drifts.live q ∙ live-with_body d h (body_of f.body) live q) (λ q. drifts.attributes q ∙ attributes-with_body d h (body_of f.body) live q) drifts.map_block
       (λ q. elim (cases_eq q h) as (λ _. heap_by (cover (held fs q) e q) ≡ heap_by (cover (held es q) d q)) [
         | inl at ↦ ap (λ o. heap_by (cover o e q)) (at_block q at) ∙ ap is_heap_body same ∙ sym (ap (λ o. heap_by (cover o d q)) (ap (held es) at ∙ here))
         | inr other ↦ ap (λ o. heap_by (cover o e q)) (elsewhere q other) ∙ cover_kind (held es q) d e q (drifts.kinds q ∙ heap-with_other d h (body_of f.body) live q other)
       ])
       (λ so q. elim (cases_eq q h) as (λ _. cover (held fs q) e q ≡ cover (held es q) d q) [
         | inl at ↦ ap (λ o. cover o e q) (at_block q at)
-            ∙ (λ i. Some (record { user_id = (drifts.user_ids q ∙ user-with_body d h (body_of f.body) live q) i; body = same i }))
+            ∙ (λ i. Some (record { attributes = (drifts.attributes q ∙ attributes-with_body d h (body_of f.body) live q) i; body = same i }))
             ∙ sym (ap (λ o. cover o d q) (ap (held es) at ∙ here))
         | inr other ↦ ap (λ o. cover o e q) (elsewhere q other) ∙ cover_by (held es q) d e q (ap (λ (x : Document). get x.blocks q) (drifts.same so) ∙ get-with_other d h (body_of f.body) live q other)
       ])
@@ -328,7 +328,7 @@ module _ (honest : Bool) (es : List (ℕ × Frame)) (d : Document) (h : ℕ) (fs
 module _ (es : List (ℕ × Frame)) (h : ℕ) (g : Frame → Frame) (body : (f : Frame) → body_of (g f).body ≡ body_of f.body) where
   cover_changed : (o : Option Frame) (d : Document) (q : ℕ) → cover (option_map g o) d q ≡ cover o d q
   cover_changed None d q = refl
-  cover_changed (Some f) d q = ap (λ (b : Body). Some (record { user_id = user_id_of d q; body = b })) (body f)
+  cover_changed (Some f) d q = ap (λ (b : Body). Some (record { attributes = attributes_of d q; body = b })) (body f)
 
   pub overlay_with_frame : (d : Document) → overlay (with_frame es h g) d ≡ overlay es d
   overlay_with_frame d = same_document (overlay es d) (overlay (with_frame es h g) d) (overlay_map (with_frame es h g) d ∙ sym (overlay_map es d))
@@ -376,7 +376,7 @@ bare_kept honest d = record { each = λ h f is. absurd (cc is) }
 pub bare : (honest : Bool) (es : List (ℕ × Frame)) (d : Document) → AreKept honest d es → ((h : ℕ) → is_changed_in es h ≡ false) → Drifts honest (overlay es d) (overlay [] d)
 bare honest es d kept clean = record {
   live = λ h. sym (overlay_live honest es d h kept);
-  user_ids = λ h. sym (overlay_user es d h);
+  attributes = λ h. sym (overlay_attributes es d h);
   kinds = λ h. uncovered_kind honest es d h kept (clean h) (held es h) refl ∙ sym (ap heap_by (get-overlay es d h));
   map_block = sym (overlay_map es d);
   same = λ so. sym (clean_overlay honest es d so kept clean);

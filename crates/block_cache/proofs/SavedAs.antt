@@ -23,7 +23,7 @@ kept_less : (honest less : Bool) (d : Document) (es : List (ℕ × Frame)) → (
 kept_less honest less d es so kept = record { each = λ h f is. record { live = (kept.each h f is).live; few = (kept.each h f is).few; kind = (kept.each h f is).kind; clean = λ is_so. (kept.each h f is).clean (so is_so) } }
 
 drifts_less : (honest less : Bool) (d e : Document) → (IsTrue less → IsTrue honest) → Drifts honest d e → Drifts less d e
-drifts_less honest less d e so drifts = record { live = drifts.live; user_ids = drifts.user_ids; kinds = drifts.kinds; map_block = drifts.map_block; same = λ is_so. drifts.same (so is_so) }
+drifts_less honest less d e so drifts = record { live = drifts.live; attributes = drifts.attributes; kinds = drifts.kinds; map_block = drifts.map_block; same = λ is_so. drifts.same (so is_so) }
 
 pub kept_for_none : (honest : Bool) (d e : Document) (es : List (ℕ × Frame)) → Drifts false d e → AreKept honest d es → AreKept false e es
 kept_for_none honest d e es drifts kept = kept_drifts false es d e drifts (kept_less honest false d es (λ wrong. absurd (cc wrong)) kept)
@@ -129,7 +129,7 @@ module _ {S : Type 0} (facts : S → StoreFacts) where
         same so = sym (clean_overlay (facts b.disk.store).honest fs b.document (to_b so) moves.kept clean) ∙ moves.drifts.same so
 
         copy_drifts : Drifts both b.document n.document
-        copy_drifts = record { live = handles.live; user_ids = handles.user_ids; kinds = handles.kinds; map_block = handles.map_block; same = λ so. copied (to_b (of_both so).0) (of_both so).1 }
+        copy_drifts = record { live = handles.live; attributes = handles.attributes; kinds = handles.kinds; map_block = handles.map_block; same = λ so. copied (to_b (of_both so).0) (of_both so).1 }
 
         pub saved : IsNewFile facts n.document n.disk → Follows facts target n.disk.store → e.disk.store ≡ store → Commits facts (d.disk.saved, d.disk.saved) d.disk e.disk (Ok tt)
             → IsSavedAs facts target store (covered a es) (covered n gs)

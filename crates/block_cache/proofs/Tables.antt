@@ -3,14 +3,15 @@ use Rattle.std.proofs.Common.{◌≡◌, ◌≢◌, ℕ, Bool, true, List, [], �
 use Rattle.std.proofs.lemmas.Bool.{cases_eq}
 use Rattle.std.specs.Option.{option_map, option_map_or}
 use Rattle.std.specs.FinMap.{get}
-use Rattle.geos_model.specs.Document.{Block, Document, is_live, with_block, with_body, with_user_id}
+use Rattle.geos_model.specs.Document.{Block, Document, is_live, with_block, with_body, with_attributes}
 use Rattle.geos_model.specs.declared.command.Body.{Body}
 use Rattle.geos_model.proofs.HeapEdits.{get-put_same, get-put_other}
+use Rattle.geos_model.specs.declared.block.Attributes.{Attributes}
 use Rattle.block_cache.specs.Bodies.{body_of}
 use Rattle.block_cache.specs.Frames.{held, overlay, IsKept, AreKept}
 use Rattle.block_cache.specs.declared.body.BlockBody.{BlockBody}
 use Rattle.block_cache.specs.declared.frame.Frame.{Frame}
-use Rattle.block_cache.proofs.Overlay.{cover, uid, heap_by, heap_body, get-overlay, overlay_map, same_document, block_by, body_by, cover_by}
+use Rattle.block_cache.proofs.Overlay.{cover, attributes_by, heap_by, heap_body, get-overlay, overlay_map, same_document, block_by, body_by, cover_by}
 
 -- another map block
 
@@ -23,46 +24,46 @@ kept_set_map honest es d m kept = record {
   each = λ h f is. record { live = (kept.each h f is).live; few = (kept.each h f is).few; kind = (kept.each h f is).kind; clean = (kept.each h f is).clean };
 }
 
--- another user ID of a block
-module _ (u : ℕ) where
+-- other attributes of a block
+module _ (u : Attributes) where
   named : Block → Block
-  named b = record b { user_id = u }
+  named b = record b { attributes = u }
 
-  is_named : (d : Document) (h : ℕ) (live : is_live d h ≡ true) → let b = block_by (get d.blocks h) live in with_user_id d h u ≡ with_block d h (record b.0 { user_id = u })
-  is_named d h live = let b = block_by (get d.blocks h) live in ap (λ o. option_map_or (λ (b : Block). with_block d h (record b { user_id = u })) o d) b.1
+  is_named : (d : Document) (h : ℕ) (live : is_live d h ≡ true) → let b = block_by (get d.blocks h) live in with_attributes d h u ≡ with_block d h (record b.0 { attributes = u })
+  is_named d h live = let b = block_by (get d.blocks h) live in ap (λ o. option_map_or (λ (b : Block). with_block d h (record b { attributes = u })) o d) b.1
 
-  get-named : (d : Document) (h : ℕ) → is_live d h ≡ true → (q : ℕ) → q ≡ h → get (with_user_id d h u).blocks q ≡ Some (record { user_id = u; body = body_by (get d.blocks h) })
+  get-named : (d : Document) (h : ℕ) → is_live d h ≡ true → (q : ℕ) → q ≡ h → get (with_attributes d h u).blocks q ≡ Some (record { attributes = u; body = body_by (get d.blocks h) })
   get-named d h live q here =
       let b = block_by (get d.blocks h) live in
-      ap (λ (x : Document). get x.blocks q) (is_named d h live) ∙ get-put_same d.blocks h (record b.0 { user_id = u }) q here ∙ ap (λ (x : Body). Some (record { user_id = u; body = x })) (sym (ap body_by b.1))
+      ap (λ (x : Document). get x.blocks q) (is_named d h live) ∙ get-put_same d.blocks h (record b.0 { attributes = u }) q here ∙ ap (λ (x : Body). Some (record { attributes = u; body = x })) (sym (ap body_by b.1))
 
-  get-unnamed : (d : Document) (h : ℕ) → is_live d h ≡ true → (q : ℕ) → q ≢ h → get (with_user_id d h u).blocks q ≡ get d.blocks q
+  get-unnamed : (d : Document) (h : ℕ) → is_live d h ≡ true → (q : ℕ) → q ≢ h → get (with_attributes d h u).blocks q ≡ get d.blocks q
   get-unnamed d h live q other =
       let b = block_by (get d.blocks h) live in
-      ap (λ (x : Document). get x.blocks q) (is_named d h live) ∙ get-put_other d.blocks h (record b.0 { user_id = u }) q other
+      ap (λ (x : Document). get x.blocks q) (is_named d h live) ∙ get-put_other d.blocks h (record b.0 { attributes = u }) q other
 
-  map_named : (d : Document) (h : ℕ) → is_live d h ≡ true → (with_user_id d h u).map_block ≡ d.map_block
+  map_named : (d : Document) (h : ℕ) → is_live d h ≡ true → (with_attributes d h u).map_block ≡ d.map_block
   map_named d h live = ap (λ (x : Document). x.map_block) (is_named d h live)
 
-  cover_named : (o : Option Frame) (d e : Document) (h q : ℕ) → q ≡ h → get e.blocks q ≡ Some (record { user_id = u; body = body_by (get d.blocks h) }) → cover o e q ≡ Some (record { user_id = u; body = body_by (cover o d h) })
+  cover_named : (o : Option Frame) (d e : Document) (h q : ℕ) → q ≡ h → get e.blocks q ≡ Some (record { attributes = u; body = body_by (get d.blocks h) }) → cover o e q ≡ Some (record { attributes = u; body = body_by (cover o d h) })
   cover_named None d e h q here is = is
-  cover_named (Some f) d e h q here is = ap (λ n. Some (record { user_id = n; body = body_of f.body })) (ap uid is)
+  cover_named (Some f) d e h q here is = ap (λ n. Some (record { attributes = n; body = body_of f.body })) (ap attributes_by is)
 
   module _ (es : List (ℕ × Frame)) (d : Document) (h : ℕ) (live : is_live d h ≡ true) where
-    pub overlay_set_user : is_live (overlay es d) h ≡ true → overlay es (with_user_id d h u) ≡ with_user_id (overlay es d) h u
-    overlay_set_user shown =
-        let e = with_user_id d h u in
+    pub overlay_set_attributes : is_live (overlay es d) h ≡ true → overlay es (with_attributes d h u) ≡ with_attributes (overlay es d) h u
+    overlay_set_attributes shown =
+        let e = with_attributes d h u in
         let over = overlay es d in
-        same_document (with_user_id over h u) (overlay es e) (overlay_map es e ∙ map_named d h live ∙ sym (overlay_map es d) ∙ sym (map_named over h shown))
-        (λ q. get-overlay es e q ∙ elim (cases_eq q h) as (λ _. cover (held es q) e q ≡ get (with_user_id over h u).blocks q) [
+        same_document (with_attributes over h u) (overlay es e) (overlay_map es e ∙ map_named d h live ∙ sym (overlay_map es d) ∙ sym (map_named over h shown))
+        (λ q. get-overlay es e q ∙ elim (cases_eq q h) as (λ _. cover (held es q) e q ≡ get (with_attributes over h u).blocks q) [
           | inl here ↦ ap (λ k. cover (held es k) e q) here ∙ cover_named (held es h) d e h q here (get-named d h live q here)
-              ∙ ap (λ (o : Option Block). Some (record { user_id = u; body = body_by o })) (sym (get-overlay es d h)) ∙ sym (get-named over h shown q here)
+              ∙ ap (λ (o : Option Block). Some (record { attributes = u; body = body_by o })) (sym (get-overlay es d h)) ∙ sym (get-named over h shown q here)
           | inr other ↦ cover_by (held es q) d e q (get-unnamed d h live q other) ∙ sym (get-overlay es d q) ∙ sym (get-unnamed over h shown q other)
         ])
 
-    pub kept_set_user : (honest : Bool) → AreKept honest d es → AreKept honest (with_user_id d h u) es
-    kept_set_user honest kept = record {
-      each = λ q f is. elim (cases_eq q h) as (λ _. IsKept honest (with_user_id d h u) q f) [
+    pub kept_set_attributes : (honest : Bool) → AreKept honest d es → AreKept honest (with_attributes d h u) es
+    kept_set_attributes honest kept = record {
+      each = λ q f is. elim (cases_eq q h) as (λ _. IsKept honest (with_attributes d h u) q f) [
         | inl here ↦ record {
           live = ap is_some (get-named d h live q here);
           few = (kept.each q f is).few;

@@ -4,7 +4,7 @@ ghost use Rattle.std.specs.FinMap.{get, keys};
 ghost use Rattle.std.specs.Map.{set_value};
 ghost use Rattle.std.specs.Option.{option_map};
 ghost use Rattle.std.specs.Result.{IsErrAnd};
-ghost use Rattle.geos_model.specs.Document.{IsValid, is_heap, is_vm_handle, is_live, next_handle, user_id_of, with_user_id};
+ghost use Rattle.geos_model.specs.Document.{IsValid, is_heap, is_vm_handle, is_live, next_handle, most_blocks, attributes_of, with_attributes};
 ghost use Rattle.geos_model.specs.ElementArray.{all_distinct};
 ghost use Rattle.geos_model.specs.Reply.{found};
 ghost use Rattle.vm_file.specs.Calls.{IsPut, put_all, remove_all, last_sequence};
@@ -19,7 +19,7 @@ use crate::changing::drop_blocks;
 use crate::frame::{Frame, all_locked, body_in, has_locks, lock, locks_of, mark, unlock};
 use crate::loading::{bring, drop_all, flush};
 use crate::{BlockBody, committing, saving_as};
-use geos_model::{Fault, VmHandle};
+use geos_model::{Attributes, Fault, VmHandle};
 use lru::LruCache;
 use std::alloc::{AllocError, Global};
 use std::marker::Model;
@@ -157,12 +157,12 @@ impl<S: Store> Cache<S> {
         }
     }
 
-    /// The user ID of a block, in memory or not.
-    pub fn user_id(&self, block: VmHandle) -> u16
+    /// The attributes of a block, in memory or not.
+    pub fn attributes(&self, block: VmHandle) -> Attributes
         requires { is_live self.now.document block.0 ≡ true }
-        ensures { result ≡ user_id_of self.now.document block.0 }
+        ensures { result ≡ attributes_of self.now.document block.0 }
     {
-        self.file.entry(block).unwrap().user_id
+        self.file.entry(block).unwrap().attributes
     }
 
     /// The map block, 0 if there is none.
@@ -212,12 +212,12 @@ impl<S: Store> Cache<S> {
         self.frames.peek_mut(&block.0).unwrap().body_mut()
     }
 
-    /// Sets the user ID of a block, in memory or not. No memory, no store.
-    pub fn set_uid(&mut self, block: VmHandle, user_id: u16)
+    /// Sets the attributes of a block, in memory or not. No memory, no store.
+    pub fn set_attributes(&mut self, block: VmHandle, attributes: Attributes)
         requires { is_live self.old.document block.0 ≡ true }
-        ensures { self.new ≡ record self.old { document = with_user_id self.old.document block.0 user_id } }
+        ensures { self.new ≡ record self.old { document = with_attributes self.old.document block.0 attributes } }
     {
-        self.file.set_uid(block, user_id);
+        self.file.set_attributes(block, attributes);
     }
 
     /// Sets the map block, 0 for none. No memory, no store.
@@ -233,7 +233,7 @@ impl<S: Store> Cache<S> {
     /// to put it takes no memory, calls no store and isn't refused.
     pub fn put_blocks(&mut self, puts: &[Member]) -> Result<(), Fault>
         requires puts { All IsPut puts.now }
-        requires few { length puts.now ≤ 2048 }
+        requires few { length puts.now ≤ most_blocks }
         requires away { All (λ p. is_resident self.old.resident p.handle.0 ≡ false) puts.now }
         ensures keeps { MatchResult result
             (λ _. KeepsFile S.facts (put_all puts.now self.old.document) (seen self.old) (seen self.new))

@@ -30,7 +30,7 @@ fn put_of<S: Store>(
     let place = file.entry(block).unwrap();
     Ok(Member {
         handle: block,
-        block: SavedBlock::new(place.user_id, body.image(alloc)?),
+        block: SavedBlock::new(place.attributes, body.image(alloc)?),
     })
 }
 

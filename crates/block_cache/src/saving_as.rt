@@ -10,15 +10,12 @@ ghost use Rattle.block_cache.specs.SavingAs.{IsSavedAs, IsNotSavedAs};
 
 use crate::frame::{Frame, mark};
 use crate::loading::flush;
-use geos_model::Fault;
+use geos_model::{Fault, MOST_BLOCKS};
 use lru::LruCache;
 use std::alloc::Global;
 use std::mem::replace;
 use vm_file::{Refused, VmFile};
 use vm_store::Store;
-
-// The handles of blocks are 1 to this.
-const MOST_BLOCKS: u16 = 2_048;
 
 // Says of a block, if it is in memory, that the file may have another body of it.
 fn mark_one(frames: &mut LruCache<u16, Frame>, block: u16)

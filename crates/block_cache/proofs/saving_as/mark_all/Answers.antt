@@ -2,7 +2,7 @@ use Rattle.std.proofs.Common.{◌≡◌, ℕ, ◌≤◌, true, false, cond, nat_
 use Rattle.std.proofs.lemmas.Bool.{cases_eq, ne_eqb, and_parts}
 use Rattle.std.specs.Option.{option_map, IfSome}
 use Rattle.std.specs.FinMap.{get}
-use Rattle.geos_model.specs.Document.{is_valid_body, is_vm_handle}
+use Rattle.geos_model.specs.Document.{is_valid_body, is_vm_handle, most_blocks}
 use Rattle.lru.specs.LruCache.{LruCache}
 use Rattle.block_cache.specs.Bodies.{body_of}
 use Rattle.block_cache.specs.Frames.{held, seats, overlay, with_frame, AreKept}
@@ -43,8 +43,8 @@ loop-block-preserved c =
     }
 
 -- the frame of a live block is among those that were marked
-is_low : (h : ℕ) → is_vm_handle h ≡ true → h ≤ 2048
-is_low h handle = leb-true h 2048 (and_parts (nat_le 1 h) (nat_le h 2048) handle).1
+is_low : (h : ℕ) → is_vm_handle h ≡ true → h ≤ most_blocks
+is_low h handle = leb-true h most_blocks (and_parts (nat_le 1 h) (nat_le h most_blocks) handle).1
 
 pub returns-clause-valid : goal.returns-clause-valid
 returns-clause-valid c = λ d valid kept.
