@@ -1,12 +1,12 @@
 -- A change of a valid document leaves a valid one, and the same change the other way round takes it back.
-use Rattle.std.proofs.Common.{◌≡◌, ◌≢◌, ◌≤◌, ◌<◌, ◌+◌, ℕ, List, true, false, not, length, get_or, Option, Some, None, is_some, nat_cmp, refl, sym, ap, subst, ◌∙◌, arith}
+use Rattle.std.proofs.Common.{◌≡◌, ◌≢◌, ◌≤◌, ◌+◌, ℕ, List, true, false, not, length, get_or, Option, Some, None, is_some, nat_cmp, refl, sym, ap, subst, ◌∙◌, arith}
 use Rattle.std.proofs.lemmas.Bool.{and_parts, leb-true, le-leb, true≢false, not-true}
 use Rattle.std.proofs.lemmas.List.Elements.{All-map}
 use Rattle.std.specs.Option.{option_map_or}
 use Rattle.std.specs.List.{All, list_all}
 use Rattle.std.specs.FinMap.{FinMap, get, insert, remove, keys, contains_key}
 use Rattle.geos_model.specs.Heap.{ChunkMap, capacity, fits, fits_with, is_chunk_handle, is_heap_map}
-use Rattle.geos_model.specs.Document.{Block, Document, IsValid, IsValidBlock, is_heap, is_heap_body, is_live, is_raw, is_valid_body, is_vm_handle, with_block, with_user_id, with_blocks, handles_of, without_blocks}
+use Rattle.geos_model.specs.Document.{Block, Document, IsValid, IsValidBlock, is_heap, is_heap_body, is_live, is_raw, is_valid_body, is_vm_handle, with_block, with_attributes, with_blocks, handles_of, without_blocks, FitAttributes}
 use Rattle.geos_model.specs.Meaning.{chunk_at, with_chunk, without_chunk}
 use Rattle.geos_model.specs.declared.command.Body.{Body}
 use Rattle.geos_model.specs.declared.command.Body.TheVariants.{Raw, Heap}
@@ -15,6 +15,7 @@ use Rattle.geos_model.proofs.HeapEdits.{get-put_same, get-taken_same, heap-inser
 use Rattle.geos_model.proofs.HeapTables.{live_handle}
 use Rattle.geos_model.proofs.BlockLists.{put_stands, put_valid, put_map_block}
 use Rattle.geos_model.proofs.Validity.{with_block-valid}
+use Rattle.geos_model.specs.declared.block.Attributes.{Attributes}
 use Rattle.chunk_edits.specs.Splicing.{Stands, forwards, backwards}
 use Rattle.chunk_edits.specs.declared.splice.Splice.{Splice}
 use Rattle.chunk_edits.proofs.Splices.{leads_back}
@@ -27,7 +28,7 @@ use Rattle.vm_blocks.specs.declared.change.PartChange.{PartChange}
 use Rattle.vm_blocks.specs.declared.change.PartChange.TheVariants as parts
 use Rattle.vm_blocks.proofs.MapLemmas.{put_back, put_taken, taken_put}
 use Rattle.vm_blocks.proofs.ManyBlocks.{All-from_map, taken_gone, taken_valid, in_and_out, out_and_in, out_handles}
-use Rattle.vm_blocks.specs.Changes.{bytes_of, part_made, made, flipped_splice, flipped_part, flipped, IsFree, AreFree, CanAllGo, FitsRaw, FitsChunk, FitsNewChunk, HasChunk, HasUserId, HasMap, PartApplies, Applies, ChangeLaw, FlipLaw}
+use Rattle.vm_blocks.specs.Changes.{bytes_of, part_made, made, flipped_splice, flipped_part, flipped, IsFree, AreFree, CanAllGo, FitsRaw, FitsChunk, FitsNewChunk, HasChunk, HasAttributes, HasMap, PartApplies, Applies, ChangeLaw, FlipLaw}
 
 -- A change of a document leads back.
 abbrev Undone : Change → Document → Type 0
@@ -57,7 +58,7 @@ module _ (d : Document) (valid : IsValid d) where
       let each : All (λ m. IsFree d m.handle.0) ms = All-from_map (λ p. IsFree d p.0) (λ m. (m.handle.0, saved_block m.block)) ms free in
       let stands = put_stands d ps are.distinct in (
         put_valid d ps valid (All-map (λ p. IsValidBlock p.0 p.1) (λ m. (m.handle.0, saved_block m.block)) ms
-            (λ i m within. record { handle = (each i m within).handle; user_id = (get_or ms i m).block.word; body = (get_or ms i m).block.valid })),
+            (λ i m within. record { handle = (each i m within).handle; attributes = (get_or ms i m).block.fit; body = (get_or ms i m).block.valid })),
         record {
           go = λ i p within. record { stands = stands i p within; other = λ same. free_not_map (get_or ps i p).0 (free i p within) (sym (put_map_block d ps) ∙ same) };
           distinct = are.distinct;
@@ -83,25 +84,25 @@ module _ (d : Document) (b : ℕ) (old new : Block) (there : get d.blocks b ≡ 
   old_back : with_block (with_block d b new) b old ≡ d
   old_back = ap (λ (m : FinMap nat_cmp Block). record d { blocks = m }) (put_back d.blocks b old new there)
 
-  new_valid : IsValid d → new.user_id < 65536 → is_valid_body new.body ≡ true → IsValid (with_block d b new)
-  new_valid valid word good = with_block-valid d b new valid (record { handle = (valid.blocks b old there).handle; user_id = word; body = good })
+  new_valid : IsValid d → FitAttributes new.attributes → is_valid_body new.body ≡ true → IsValid (with_block d b new)
+  new_valid valid fit good = with_block-valid d b new valid (record { handle = (valid.blocks b old there).handle; attributes = fit; body = good })
 
 -- Of a raw body.
-abbrev raw_block : ℕ → List ℕ → Block
-raw_block u bytes = record { user_id = u; body = Raw bytes }
+abbrev raw_block : Attributes → List ℕ → Block
+raw_block u bytes = record { attributes = u; body = Raw bytes }
 
-raw_at : (d : Document) (b : ℕ) → is_raw d b ≡ true → (u : ℕ) × (bytes : List ℕ) × (get d.blocks b ≡ Some (raw_block u bytes))
+raw_at : (d : Document) (b : ℕ) → is_raw d b ≡ true → (u : Attributes) × (bytes : List ℕ) × (get d.blocks b ≡ Some (raw_block u bytes))
 raw_at d b raw = by_block (get d.blocks b) refl raw
   where
-    by_body : (u : ℕ) (body : Body) → get d.blocks b ≡ Some (record { user_id = u; body = body }) → is_heap_body body ≡ false → (u : ℕ) × (bytes : List ℕ) × (get d.blocks b ≡ Some (raw_block u bytes))
+    by_body : (u : Attributes) (body : Body) → get d.blocks b ≡ Some (record { attributes = u; body = body }) → is_heap_body body ≡ false → (u : Attributes) × (bytes : List ℕ) × (get d.blocks b ≡ Some (raw_block u bytes))
     by_body u (Raw bytes) is raw = (u, bytes, is)
     by_body u (Heap m) is raw = absurd (cc raw)
 
-    by_block : (o : Option Block) → get d.blocks b ≡ o → option_map_or (λ b. not (is_heap_body b.body)) o false ≡ true → (u : ℕ) × (bytes : List ℕ) × (get d.blocks b ≡ Some (raw_block u bytes))
+    by_block : (o : Option Block) → get d.blocks b ≡ o → option_map_or (λ b. not (is_heap_body b.body)) o false ≡ true → (u : Attributes) × (bytes : List ℕ) × (get d.blocks b ≡ Some (raw_block u bytes))
     by_block None is raw = absurd (cc raw)
-    by_block (Some block) is raw = by_body block.user_id block.body is (not-true (is_heap_body block.body) raw)
+    by_block (Some block) is raw = by_body block.attributes block.body is (not-true (is_heap_body block.body) raw)
 
-module _ (d : Document) (b u : ℕ) (bytes : List ℕ) (there : get d.blocks b ≡ Some (raw_block u bytes)) where
+module _ (d : Document) (b : ℕ) (u : Attributes) (bytes : List ℕ) (there : get d.blocks b ≡ Some (raw_block u bytes)) where
   raw_made : (s : Splice) → part_made b (parts.Raw s) d ≡ with_block d b (raw_block u (forwards s bytes))
   raw_made s = rw there refl
 
@@ -121,7 +122,7 @@ spliced_back s bytes stands = leads_back s bytes (forwards s bytes) (length s.ol
 raw_undone : (d : Document) (b : ℕ) (s : Splice) → IsValid d → FitsRaw d b s → PartUndone b (parts.Raw s) d
 raw_undone d b s valid fits =
     let found = raw_at d b fits.raw in
-    let u : ℕ = found.0 in
+    let u : Attributes = found.0 in
     let bytes : List ℕ = found.1 in
     let old : Block = raw_block u bytes in
     let new : Block = raw_block u (forwards s bytes) in
@@ -130,26 +131,26 @@ raw_undone d b s valid fits =
     let back = spliced_back s bytes (raw_stands d b u bytes there s fits) in
     let few : length bytes ≤ capacity = leb-true (length bytes) capacity (valid.blocks b old there).body in
     part_undone b (parts.Raw s) d (with_block d b new) (raw_made d b u bytes there s)
-    (new_valid d b old new there valid (valid.blocks b old there).user_id (le-leb _ _ (raw_few d b u bytes there s fits)))
+    (new_valid d b old new there valid (valid.blocks b old there).attributes (le-leb _ _ (raw_few d b u bytes there s fits)))
     (raw_fits (with_block d b new) b u (forwards s bytes) now (flipped_splice s) back.0 (omega (arith, few, ap length back.1)))
     (raw_made (with_block d b new) b u (forwards s bytes) now (flipped_splice s) ∙ ap (λ (x : List ℕ). with_block (with_block d b new) b (raw_block u x)) back.1 ∙ old_back d b old new there)
 
 -- Of a heap.
-abbrev heap_block : ℕ → ChunkMap → Block
-heap_block u m = record { user_id = u; body = Heap m }
+abbrev heap_block : Attributes → ChunkMap → Block
+heap_block u m = record { attributes = u; body = Heap m }
 
-heap_at : (d : Document) (b : ℕ) → is_heap d b ≡ true → (u : ℕ) × (m : ChunkMap) × (get d.blocks b ≡ Some (heap_block u m))
+heap_at : (d : Document) (b : ℕ) → is_heap d b ≡ true → (u : Attributes) × (m : ChunkMap) × (get d.blocks b ≡ Some (heap_block u m))
 heap_at d b heap = by_block (get d.blocks b) refl heap
   where
-    by_body : (u : ℕ) (body : Body) → get d.blocks b ≡ Some (record { user_id = u; body = body }) → is_heap_body body ≡ true → (u : ℕ) × (m : ChunkMap) × (get d.blocks b ≡ Some (heap_block u m))
+    by_body : (u : Attributes) (body : Body) → get d.blocks b ≡ Some (record { attributes = u; body = body }) → is_heap_body body ≡ true → (u : Attributes) × (m : ChunkMap) × (get d.blocks b ≡ Some (heap_block u m))
     by_body u (Raw bytes) is heap = absurd (cc heap)
     by_body u (Heap m) is heap = (u, m, is)
 
-    by_block : (o : Option Block) → get d.blocks b ≡ o → option_map_or (λ b. is_heap_body b.body) o false ≡ true → (u : ℕ) × (m : ChunkMap) × (get d.blocks b ≡ Some (heap_block u m))
+    by_block : (o : Option Block) → get d.blocks b ≡ o → option_map_or (λ b. is_heap_body b.body) o false ≡ true → (u : Attributes) × (m : ChunkMap) × (get d.blocks b ≡ Some (heap_block u m))
     by_block None is heap = absurd (cc heap)
-    by_block (Some block) is heap = by_body block.user_id block.body is heap
+    by_block (Some block) is heap = by_body block.attributes block.body is heap
 
-module _ (d : Document) (b u : ℕ) (m : ChunkMap) (there : get d.blocks b ≡ Some (heap_block u m)) where
+module _ (d : Document) (b : ℕ) (u : Attributes) (m : ChunkMap) (there : get d.blocks b ≡ Some (heap_block u m)) where
   chunk_made : (c : ℕ) (bytes : List ℕ) → with_chunk d b c bytes ≡ with_block d b (heap_block u (insert m c bytes))
   chunk_made c bytes = rw there refl
 
@@ -174,7 +175,7 @@ module _ (d : Document) (b u : ℕ) (m : ChunkMap) (there : get d.blocks b ≡ S
     heap_now = new_there d b (heap_block u m) (heap_block u n) there
 
     heap_valid : IsValid d → is_heap_map n ≡ true → IsValid (with_block d b (heap_block u n))
-    heap_valid valid heap = new_valid d b (heap_block u m) (heap_block u n) there valid (valid.blocks b (heap_block u m) there).user_id heap
+    heap_valid valid heap = new_valid d b (heap_block u m) (heap_block u n) there valid (valid.blocks b (heap_block u m) there).attributes heap
 
     heap_back : (k : ChunkMap) → k ≡ m → with_block (with_block d b (heap_block u n)) b (heap_block u k) ≡ d
     heap_back k is = ap (λ (x : ChunkMap). with_block (with_block d b (heap_block u n)) b (heap_block u x)) is ∙ old_back d b (heap_block u m) (heap_block u n) there
@@ -191,7 +192,7 @@ some_bytes (Some bytes) h = (bytes, refl)
 chunk_undone : (d : Document) (b : ℕ) (c : ChunkHandle) (s : Splice) → IsValid d → FitsChunk d b c.0 s → PartUndone b (parts.Chunk c s) d
 chunk_undone d b c s valid fits =
     let found = heap_at d b fits.heap in
-    let u : ℕ = found.0 in
+    let u : Attributes = found.0 in
     let m : ChunkMap = found.1 in
     let there : get d.blocks b ≡ Some (heap_block u m) = found.2 in
     let heap : is_heap_map m ≡ true = (valid.blocks b (heap_block u m) there).body in
@@ -214,7 +215,7 @@ chunk_undone d b c s valid fits =
 chunk_in_undone : (d : Document) (b : ℕ) (c : ChunkHandle) (content : Content) → IsValid d → FitsNewChunk d b c.0 (bytes_of content) → PartUndone b (parts.ChunkIn c content) d
 chunk_in_undone d b c content valid fits =
     let found = heap_at d b fits.heap in
-    let u : ℕ = found.0 in
+    let u : Attributes = found.0 in
     let m : ChunkMap = found.1 in
     let there : get d.blocks b ≡ Some (heap_block u m) = found.2 in
     let heap : is_heap_map m ≡ true = (valid.blocks b (heap_block u m) there).body in
@@ -231,7 +232,7 @@ chunk_in_undone d b c content valid fits =
 chunk_out_undone : (d : Document) (b : ℕ) (c : ChunkHandle) (content : Content) → IsValid d → HasChunk d b c.0 (bytes_of content) → PartUndone b (parts.ChunkOut c content) d
 chunk_out_undone d b c content valid has =
     let found = heap_at d b has.heap in
-    let u : ℕ = found.0 in
+    let u : Attributes = found.0 in
     let m : ChunkMap = found.1 in
     let there : get d.blocks b ≡ Some (heap_block u m) = found.2 in
     let heap : is_heap_map m ≡ true = (valid.blocks b (heap_block u m) there).body in
@@ -251,28 +252,28 @@ part_back b (parts.Chunk c s) d valid applies = chunk_undone d b c s valid appli
 part_back b (parts.ChunkIn c content) d valid applies = chunk_in_undone d b c content valid applies
 part_back b (parts.ChunkOut c content) d valid applies = chunk_out_undone d b c content valid applies
 
--- A user ID, and the map block.
-user_id_made : (d : Document) (b uid : ℕ) (block : Block) → get d.blocks b ≡ Some block → with_user_id d b uid ≡ with_block d b (record block { user_id = uid })
-user_id_made d b uid block there = rw there refl
+-- Attributes, and the map block.
+attributes_made : (d : Document) (b : ℕ) (a : Attributes) (block : Block) → get d.blocks b ≡ Some block → with_attributes d b a ≡ with_block d b (record block { attributes = a })
+attributes_made d b a block there = rw there refl
 
 some_block : (o : Option Block) → is_some o ≡ true → (block : Block) × (o ≡ Some block)
 some_block None h = absurd (cc h)
 some_block (Some block) h = (block, refl)
 
-user_id_undone : (d : Document) (b old new : ℕ) → IsValid d → HasUserId d b old new
-    → IsValid (with_user_id d b new) × HasUserId (with_user_id d b new) b new old × (with_user_id (with_user_id d b new) b old ≡ d)
-user_id_undone d b old new valid has =
+attributes_undone : (d : Document) (b : ℕ) (old new : Attributes) → IsValid d → HasAttributes d b old new
+    → IsValid (with_attributes d b new) × HasAttributes (with_attributes d b new) b new old × (with_attributes (with_attributes d b new) b old ≡ d)
+attributes_undone d b old new valid has =
     let found = some_block (get d.blocks b) has.live in
     let was : Block = found.0 in
     let there : get d.blocks b ≡ Some was = found.1 in
-    let had : was.user_id ≡ old = rw there at has.stands in
-    let after : Block = record was { user_id = new } in
+    let had : was.attributes ≡ old = rw there at has.stands in
+    let after : Block = record was { attributes = new } in
     let now : get (with_block d b after).blocks b ≡ Some after = new_there d b was after there in
     let good = valid.blocks b was there in
-    subst (λ (x : Document). IsValid x × HasUserId x b new old × (with_user_id x b old ≡ d)) (sym (user_id_made d b new was there)) (
-      new_valid d b was after there valid has.word good.body,
-      record { live = ap is_some now; stands = rw now refl; word = rw (← had) good.user_id },
-      user_id_made (with_block d b after) b old after now ∙ ap (λ (x : ℕ). with_block (with_block d b after) b (record was { user_id = x })) (sym had) ∙ old_back d b was after there,
+    subst (λ (x : Document). IsValid x × HasAttributes x b new old × (with_attributes x b old ≡ d)) (sym (attributes_made d b new was there)) (
+      new_valid d b was after there valid has.fit good.body,
+      record { live = ap is_some now; stands = rw now refl; fit = rw (← had) good.attributes },
+      attributes_made (with_block d b after) b old after now ∙ ap (λ (x : Attributes). with_block (with_block d b after) b (record was { attributes = x })) (sym had) ∙ old_back d b was after there,
     )
 
 map_undone : (d : Document) (old new : ℕ) → IsValid d → HasMap d old new
@@ -287,7 +288,7 @@ pub change_back : ChangeLaw
 change_back (changes.BlocksIn ms) d valid applies = blocks_in_undone d valid ms.list.items applies
 change_back (changes.BlocksOut ms) d valid applies = blocks_out_undone d valid (saved_blocks ms.list.items) applies
 change_back (changes.Part b part) d valid applies = part_back b.0 part d valid applies
-change_back (changes.UserId b old new) d valid applies = user_id_undone d b.0 old new valid applies
+change_back (changes.Attributes b old new) d valid applies = attributes_undone d b.0 old new valid applies
 change_back (changes.Map old new) d valid applies = map_undone d old.0 new.0 valid applies
 
 part_twice : (p : PartChange) → flipped_part (flipped_part p) ≡ p
@@ -300,5 +301,5 @@ pub flip_twice : FlipLaw
 flip_twice (changes.BlocksIn ms) = refl
 flip_twice (changes.BlocksOut ms) = refl
 flip_twice (changes.Part b part) = ap (changes.Part b) (part_twice part)
-flip_twice (changes.UserId b old new) = refl
+flip_twice (changes.Attributes b old new) = refl
 flip_twice (changes.Map old new) = refl

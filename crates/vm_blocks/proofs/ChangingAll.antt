@@ -42,14 +42,14 @@ module _ {S : Type 0} (state : CacheState S) (none : locked_count state.resident
   all_unlocked (changes.BlocksIn ms) = tt
   all_unlocked (changes.BlocksOut ms) = λ i h within. none_locked state.resident none (get_or (handles_of (saved_blocks ms.list.items)) i h)
   all_unlocked (changes.Part b part) = tt
-  all_unlocked (changes.UserId b old new) = tt
+  all_unlocked (changes.Attributes b old new) = tt
   all_unlocked (changes.Map old new) = tt
 
   pub in_reach : 1 ≤ state.frames → (c : Change) → IsOutOfReach c state → ⊥
   in_reach some (changes.BlocksIn ms) far = far
   in_reach some (changes.BlocksOut ms) far = far
   in_reach some (changes.Part b part) far = cc (shut-full state b.0 far, none-open state some (ap (nat_lt 0) none))
-  in_reach some (changes.UserId b old new) far = far
+  in_reach some (changes.Attributes b old new) far = far
   in_reach some (changes.Map old new) far = far
 
 -- Some of the changes were carried out: what is left of them makes the document that all make, is known by handles, and is taken by

@@ -9,6 +9,7 @@ use Rattle.geos_model.specs.declared.command.Body.{Body}
 use Rattle.geos_model.specs.declared.command.Body.TheVariants.{Raw, Heap}
 use Rattle.geos_model.proofs.HeapTables.{live_handle}
 use Rattle.geos_model.proofs.HeapEdits.{heap-insert, heap-remove}
+use Rattle.geos_model.specs.declared.block.Attributes.{Attributes}
 use Rattle.chunk_edits.specs.Splicing.{forwards}
 use Rattle.vm_blocks.specs.declared.change.PartChange.{PartChange}
 use Rattle.vm_blocks.specs.declared.change.PartChange.TheVariants as parts
@@ -31,8 +32,8 @@ part_live b (parts.ChunkIn c content) d fits = heap_live (get d.blocks b) fits.h
 part_live b (parts.ChunkOut c content) d has = heap_live (get d.blocks b) has.heap
 
 -- Its body takes the change.
-module _ (d : Document) (b u : ℕ) where
-  takes : (p : PartChange) (body : Body) → get d.blocks b ≡ Some (record { user_id = u; body = body }) → PartApplies b p d → Takes p body
+module _ (d : Document) (b : ℕ) (u : Attributes) where
+  takes : (p : PartChange) (body : Body) → get d.blocks b ≡ Some (record { attributes = u; body = body }) → PartApplies b p d → Takes p body
   takes (parts.Raw s) (Raw bytes) is fits = record { within = rw is at fits.stands.within; room = rw is at fits.fits }
   takes (parts.Raw s) (Heap m) is fits = let no : false ≡ true = rw is at fits.raw in cc
   takes (parts.Chunk c s) (Raw bytes) is fits = let no : false ≡ true = rw is at fits.heap in cc
@@ -46,7 +47,7 @@ module _ (d : Document) (b u : ℕ) where
       live_of o some = rw some refl
 
 pub part_takes : (b : ℕ) (p : PartChange) (d : Document) (block : Block) → get d.blocks b ≡ Some block → PartApplies b p d → Takes p block.body
-part_takes b p d block is applies = takes d b block.user_id p block.body is applies
+part_takes b p d block is applies = takes d b block.attributes p block.body is applies
 
 -- the document then
 pub part_is : (b : ℕ) (p : PartChange) (d : Document) (block : Block) → get d.blocks b ≡ Some block → part_made b p d ≡ option_map_or (λ x. with_block d b (record x { body = body_made p x.body })) (get d.blocks b) d

@@ -5,9 +5,8 @@ use Rattle.std.specs.Option.{option_map, option_map_or}
 use Rattle.std.proofs.lemmas.Bool.{and_parts, cases_eq, true≢false}
 use Rattle.std.proofs.lemmas.List.Elements.{All-map}
 use Rattle.std.specs.FinMap.{get}
-use Rattle.geos_model.specs.Document.{Block, Document, is_heap_body, block_at, is_live, with_block, without_block, with_blocks, without_blocks, with_user_id, handles_of}
+use Rattle.geos_model.specs.Document.{Block, Document, is_heap_body, block_at, is_live, with_block, without_block, with_blocks, without_blocks, with_attributes, handles_of, no_attributes, no_block}
 use Rattle.geos_model.specs.declared.command.Body.{Body}
-use Rattle.geos_model.specs.declared.command.Body.TheVariants.{Raw}
 use Rattle.geos_model.proofs.HeapEdits.{get-put_same, get-put_other, get-taken_same, get-taken_other}
 use Rattle.geos_model.specs.declared.fault.Fault.{Fault}
 use Rattle.geos_model.specs.declared.fault.Fault.TheVariants.{Memory}
@@ -22,6 +21,7 @@ use Rattle.vm_blocks.specs.Preparing.{CanLeave, Listed, BodyTakes, IsAtHand, IsR
 use Rattle.vm_blocks.specs.declared.change.Change.{Change}
 use Rattle.vm_blocks.specs.declared.change.Change.TheVariants as changes
 use Rattle.geos_model.specs.declared.handle.VmHandle.{VmHandle}
+use Rattle.geos_model.specs.declared.block.Attributes.{Attributes}
 use Rattle.vm_blocks.specs.declared.change.Direction.{Direction}
 use Rattle.vm_blocks.specs.declared.change.Direction.TheVariants.{Forwards, Backwards}
 use Rattle.vm_blocks.specs.declared.change.PartChange.{PartChange}
@@ -36,7 +36,7 @@ some_block (Some block) h = (block, refl)
 
 -- the block that stands under a handle
 pub block_there : (d : Document) (h : ℕ) (block : Block) → get d.blocks h ≡ Some block → block_at d h ≡ block
-block_there d h block is = ap (λ (o : Option Block). unwrap_or o (record { user_id = 0; body = Raw [] })) is
+block_there d h block is = ap (λ (o : Option Block). unwrap_or o no_block) is
 
 pub live_there : (d : Document) (h : ℕ) → is_live d h ≡ true → get d.blocks h ≡ Some (block_at d h)
 live_there d h live = let found = some_block (get d.blocks h) live in found.1 ∙ ap (λ (b : Block). Some b) (sym (block_there d h found.0 found.1))
@@ -60,7 +60,7 @@ pub halves : HalvesLaw
 halves (changes.BlocksIn ms) d applies = (applies, tt)
 halves (changes.BlocksOut ms) d applies = (can_leave d (saved_blocks ms.list.items) applies, tt)
 halves (changes.Part b part) d applies = (part_live b.0 part d applies, part_body b.0 part d applies)
-halves (changes.UserId b old new) d applies = (applies.live, tt)
+halves (changes.Attributes b old new) d applies = (applies.live, tt)
 halves (changes.Map old new) d applies = (applies, tt)
 
 pub applies_listed : (c : Change) (d : Document) → Applies c d → Listed c d
@@ -69,30 +69,30 @@ applies_listed c d applies = (halves c d applies).0
 pub applies_takes : (c : Change) (d : Document) → Applies c d → BodyTakes c d
 applies_takes c d applies = (halves c d applies).1
 
--- Documents with the same handles, user IDs, kinds and map block, over any store.
+-- Documents with the same handles, attributes, kinds and map block, over any store.
 
 abbrev Alike : Document → Document → Type 0
 Alike a b = Drifts false a b
 
 alike : (honest : Bool) (a b : Document) → Drifts honest a b → Alike a b
-alike honest a b drifts = record { live = drifts.live; user_ids = drifts.user_ids; kinds = drifts.kinds; map_block = drifts.map_block; same = λ no. absurd (true≢false (sym no)) }
+alike honest a b drifts = record { live = drifts.live; attributes = drifts.attributes; kinds = drifts.kinds; map_block = drifts.map_block; same = λ no. absurd (true≢false (sym no)) }
 
-abbrev uid : Option Block → ℕ
-uid o = option_map_or (λ (b : Block). b.user_id) o 0
+abbrev attributes_in : Option Block → Attributes
+attributes_in o = option_map_or (λ (b : Block). b.attributes) o no_attributes
 
 abbrev heap : Option Block → Bool
 heap o = option_map_or (λ (b : Block). is_heap_body b.body) o false
 
 -- the same block but for what its body has, put under a handle
-put_alike : (a b : Document) (h : ℕ) (x y : Block) → y.user_id ≡ x.user_id → is_heap_body y.body ≡ is_heap_body x.body → Alike a b → Alike (with_block a h x) (with_block b h y)
+put_alike : (a b : Document) (h : ℕ) (x y : Block) → y.attributes ≡ x.attributes → is_heap_body y.body ≡ is_heap_body x.body → Alike a b → Alike (with_block a h x) (with_block b h y)
 put_alike a b h x y same kind drifts = record {
   live = λ k. elim (cases_eq k h) [
     | inl e ↦ ap is_some (get-put_same b.blocks h y k e) ∙ sym (ap is_some (get-put_same a.blocks h x k e))
     | inr other ↦ ap is_some (get-put_other b.blocks h y k other) ∙ (drifts.live k ∙ sym (ap is_some (get-put_other a.blocks h x k other)))
   ];
-  user_ids = λ k. elim (cases_eq k h) [
-    | inl e ↦ ap uid (get-put_same b.blocks h y k e) ∙ (same ∙ sym (ap uid (get-put_same a.blocks h x k e)))
-    | inr other ↦ ap uid (get-put_other b.blocks h y k other) ∙ (drifts.user_ids k ∙ sym (ap uid (get-put_other a.blocks h x k other)))
+  attributes = λ k. elim (cases_eq k h) [
+    | inl e ↦ ap attributes_in (get-put_same b.blocks h y k e) ∙ (same ∙ sym (ap attributes_in (get-put_same a.blocks h x k e)))
+    | inr other ↦ ap attributes_in (get-put_other b.blocks h y k other) ∙ (drifts.attributes k ∙ sym (ap attributes_in (get-put_other a.blocks h x k other)))
   ];
   kinds = λ k. elim (cases_eq k h) [
     | inl e ↦ ap heap (get-put_same b.blocks h y k e) ∙ (kind ∙ sym (ap heap (get-put_same a.blocks h x k e)))
@@ -108,9 +108,9 @@ taken_alike a b h drifts = record {
     | inl e ↦ ap is_some (get-taken_same b.blocks h k e) ∙ sym (ap is_some (get-taken_same a.blocks h k e))
     | inr other ↦ ap is_some (get-taken_other b.blocks h k other) ∙ (drifts.live k ∙ sym (ap is_some (get-taken_other a.blocks h k other)))
   ];
-  user_ids = λ k. elim (cases_eq k h) [
-    | inl e ↦ ap uid (get-taken_same b.blocks h k e) ∙ sym (ap uid (get-taken_same a.blocks h k e))
-    | inr other ↦ ap uid (get-taken_other b.blocks h k other) ∙ (drifts.user_ids k ∙ sym (ap uid (get-taken_other a.blocks h k other)))
+  attributes = λ k. elim (cases_eq k h) [
+    | inl e ↦ ap attributes_in (get-taken_same b.blocks h k e) ∙ sym (ap attributes_in (get-taken_same a.blocks h k e))
+    | inr other ↦ ap attributes_in (get-taken_other b.blocks h k other) ∙ (drifts.attributes k ∙ sym (ap attributes_in (get-taken_other a.blocks h k other)))
   ];
   kinds = λ k. elim (cases_eq k h) [
     | inl e ↦ ap heap (get-taken_same b.blocks h k e) ∙ sym (ap heap (get-taken_same a.blocks h k e))
@@ -130,27 +130,27 @@ taken_all_alike a b (h ∷ hs) drifts = taken_all_alike (without_block a h) (wit
 
 -- whatever bodies they have, and whatever the change makes of them
 part_alike : (a b : Document) (h : ℕ) (p : PartChange) → Alike a b → Alike (part_made h p a) (part_made h p b)
-part_alike a b h (parts.Raw s) drifts = put_alike a b h _ _ (drifts.user_ids h) refl drifts
-part_alike a b h (parts.Chunk c s) drifts = put_alike a b h _ _ (drifts.user_ids h) refl drifts
-part_alike a b h (parts.ChunkIn c content) drifts = put_alike a b h _ _ (drifts.user_ids h) refl drifts
-part_alike a b h (parts.ChunkOut c content) drifts = put_alike a b h _ _ (drifts.user_ids h) refl drifts
+part_alike a b h (parts.Raw s) drifts = put_alike a b h _ _ (drifts.attributes h) refl drifts
+part_alike a b h (parts.Chunk c s) drifts = put_alike a b h _ _ (drifts.attributes h) refl drifts
+part_alike a b h (parts.ChunkIn c content) drifts = put_alike a b h _ _ (drifts.attributes h) refl drifts
+part_alike a b h (parts.ChunkOut c content) drifts = put_alike a b h _ _ (drifts.attributes h) refl drifts
 
-user_id_alike : (a b : Document) (h user_id : ℕ) → Alike a b → Alike (with_user_id a h user_id) (with_user_id b h user_id)
-user_id_alike a b h user_id drifts = of (get a.blocks h) (get b.blocks h) (drifts.live h) (drifts.kinds h)
+attributes_alike : (a b : Document) (h : ℕ) (attributes : Attributes) → Alike a b → Alike (with_attributes a h attributes) (with_attributes b h attributes)
+attributes_alike a b h attributes drifts = of (get a.blocks h) (get b.blocks h) (drifts.live h) (drifts.kinds h)
   where
     of : (x y : Option Block) → is_some y ≡ is_some x → heap y ≡ heap x
-        → Alike (option_map_or (λ (o : Block). with_block a h (record o { user_id = user_id })) x a) (option_map_or (λ (o : Block). with_block b h (record o { user_id = user_id })) y b)
+        → Alike (option_map_or (λ (o : Block). with_block a h (record o { attributes = attributes })) x a) (option_map_or (λ (o : Block). with_block b h (record o { attributes = attributes })) y b)
     of None None same kind = drifts
     of None (Some y) same kind = absurd (true≢false same)
     of (Some x) None same kind = absurd (true≢false (sym same))
-    of (Some x) (Some y) same kind = put_alike a b h (record x { user_id = user_id }) (record y { user_id = user_id }) refl kind drifts
+    of (Some x) (Some y) same kind = put_alike a b h (record x { attributes = attributes }) (record y { attributes = attributes }) refl kind drifts
 
 made_alike : (c : Change) (a b : Document) → Alike a b → Alike (made c a) (made c b)
 made_alike (changes.BlocksIn ms) a b drifts = put_all_alike a b (saved_blocks ms.list.items) drifts
 made_alike (changes.BlocksOut ms) a b drifts = taken_all_alike a b (handles_of (saved_blocks ms.list.items)) drifts
 made_alike (changes.Part h part) a b drifts = part_alike a b h.0 part drifts
-made_alike (changes.UserId h old new) a b drifts = user_id_alike a b h.0 new drifts
-made_alike (changes.Map old new) a b drifts = record { live = drifts.live; user_ids = drifts.user_ids; kinds = drifts.kinds; map_block = refl; same = λ no. absurd (true≢false (sym no)) }
+made_alike (changes.Attributes h old new) a b drifts = attributes_alike a b h.0 new drifts
+made_alike (changes.Map old new) a b drifts = record { live = drifts.live; attributes = drifts.attributes; kinds = drifts.kinds; map_block = refl; same = λ no. absurd (true≢false (sym no)) }
 
 none_there : (o : Option Block) → is_some o ≡ false → o ≡ None
 none_there None free = refl
@@ -167,7 +167,7 @@ listed_alike (changes.BlocksOut ms) a b drifts can = record {
   distinct = can.distinct;
 }
 listed_alike (changes.Part h part) a b drifts live = drifts.live h.0 ∙ live
-listed_alike (changes.UserId h old new) a b drifts live = drifts.live h.0 ∙ live
+listed_alike (changes.Attributes h old new) a b drifts live = drifts.live h.0 ∙ live
 listed_alike (changes.Map old new) a b drifts has = record { stands = drifts.map_block ∙ has.stands; live = λ some. drifts.live new.0 ∙ has.live some }
 
 all_listed_alike : (cs : List Change) (a b : Document) → Alike a b → AllListed cs a → AllListed cs b
@@ -186,7 +186,7 @@ turned_of_part Backwards h p = refl
 
 -- What a call that makes a change ready leaves, and one that makes it.
 
-pub body_of_option : (o : Option Block) (body : Body) → option_map (λ x. x.body) o ≡ Some body → (unwrap_or o (record { user_id = 0; body = Raw [] })).body ≡ body
+pub body_of_option : (o : Option Block) (body : Body) → option_map (λ x. x.body) o ≡ Some body → (unwrap_or o no_block).body ≡ body
 body_of_option None body is = absurd (cc is)
 body_of_option (Some block) body is = cc is
 
@@ -216,7 +216,7 @@ part_live_on h (parts.ChunkOut c content) d k live = put_live d h _ k live
 pub made_on : (c : Change) (honest : Bool) (old new : Document) → Drifts honest old new → Drifts honest (made c old) (made c new)
 made_on c honest old new drifts = let same = made_alike c old new (alike honest old new drifts) in record {
   live = same.live;
-  user_ids = same.user_ids;
+  attributes = same.attributes;
   kinds = same.kinds;
   map_block = same.map_block;
   same = λ so. ap (made c) (drifts.same so);
@@ -232,7 +232,7 @@ at_hand_made (changes.BlocksIn ms) state at_hand = tt
 at_hand_made (changes.BlocksOut ms) state at_hand = tt
 at_hand_made (changes.Part b part) state at_hand =
     both _ _ (and_parts (is_resident state.resident b.0) (is_live state.document b.0) at_hand).0 (part_live_made b.0 part state.document)
-at_hand_made (changes.UserId b old new) state at_hand = tt
+at_hand_made (changes.Attributes b old new) state at_hand = tt
 at_hand_made (changes.Map old new) state at_hand = tt
 
 module _ {S : Type 0} (facts : S → StoreFacts) (old new : CacheState S) (keeps : Keeps facts old new) where

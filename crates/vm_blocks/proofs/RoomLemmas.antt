@@ -7,7 +7,7 @@ use Rattle.std.specs.Ordering.{eq_by_cmp}
 use Rattle.std.specs.Cmp.{nat_cmp_total, unsigned_tied}
 use Rattle.std.specs.List.{splice}
 use Rattle.std.specs.FinMap.{entries, get, insert, entries-insert, get-insert, same_map, nat_cmp-IsAntisymmetric, put}
-use Rattle.geos_model.specs.Heap.{ChunkMap, chunk_bytes, space_of, table_len, need, fits, fits_with}
+use Rattle.geos_model.specs.Heap.{ChunkMap, chunk_bytes, space_of, table_len, need, fits, fits_with, capacity}
 use Rattle.geos_model.proofs.HeapTables.{space_of_ge}
 
 abbrev space : List (ℕ × List ℕ) → ℕ
@@ -46,7 +46,7 @@ module _ (h : ℕ) (a b : List ℕ) where
       let keys_same : map (λ e. e.0) (entries (insert m h a)) ≡ map (λ e. e.0) (entries (insert m h b)) = ap (map (λ e. e.0)) (entries-insert nat_cmp_total m h a) ∙ keys-put (entries m) ∙ ap (map (λ e. e.0)) (sym (entries-insert nat_cmp_total m h b)) in
       let space_same : space (entries (insert m h a)) ≡ space (entries (insert m h b)) = ap space (entries-insert nat_cmp_total m h a) ∙ space-put (entries m) same ∙ ap space (sym (entries-insert nat_cmp_total m h b)) in
       let needed : need (insert m h a) ≡ need (insert m h b) = omega (arith, ap table_len keys_same, space_same) in
-      ap (λ (n : ℕ). nat_le n 65520) needed
+      ap (λ (n : ℕ). nat_le n capacity) needed
 
 -- Bytes take no less space than they are.
 module _ (h : ℕ) (b : List ℕ) where
@@ -59,10 +59,10 @@ module _ (h : ℕ) (b : List ℕ) where
   within-put [] = let t = space-cons (h, b) [] in omega (arith, t, space_of_ge (length b))
   within-put (e ∷ es) = within-order (nat_cmp h e.0) e es refl (within-put es)
 
-  pub fits_few : (m : ChunkMap) → fits_with m h b ≡ true → length b ≤ 65520
+  pub fits_few : (m : ChunkMap) → fits_with m h b ≡ true → length b ≤ capacity
   unfolding fits_with fits need
   fits_few m fit =
-      let most : need (insert m h b) ≤ 65520 = leb-true _ _ fit in
+      let most : need (insert m h b) ≤ capacity = leb-true _ _ fit in
       let part : length b ≤ space (entries (insert m h b)) = omega (arith, ap space (entries-insert nat_cmp_total m h b), within-put (entries m)) in
       omega (arith, most, part)
 

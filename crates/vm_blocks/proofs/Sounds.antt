@@ -1,13 +1,14 @@
 -- What always holds of the blocks of a file stays so.
-use Rattle.std.proofs.Common.{◌≡◌, ◌≢◌, ◌≤◌, ◌<◌, ℕ, IsTrue, true, [], Some, sym, ap, subst, ◌∙◌, arith}
+use Rattle.std.proofs.Common.{◌≡◌, ◌≢◌, ◌≤◌, ℕ, IsTrue, true, [], Some, sym, ap, subst, ◌∙◌, arith}
 use Rattle.std.specs.Prelude.{Result, Ok, Err, IfOk, MatchResult, nat_eq}
 use Rattle.std.specs.Option.{option_map}
 use Rattle.std.specs.Map.{remove_entry}
 use Rattle.std.specs.FinMap.{get}
-use Rattle.geos_model.specs.Document.{Block, Document, IsValid, block_at, is_live, is_valid_body, empty_document, with_body, with_user_id, without_block}
+use Rattle.geos_model.specs.Document.{Block, Document, IsValid, block_at, is_live, is_valid_body, empty_document, with_body, with_attributes, without_block, FitAttributes}
 use Rattle.geos_model.specs.declared.command.Body.{Body}
 use Rattle.geos_model.specs.declared.fault.Fault.{Fault}
-use Rattle.geos_model.proofs.Validity.{empty_document-valid, with_body-valid, with_user_id-valid, without_block-valid}
+use Rattle.geos_model.proofs.Validity.{empty_document-valid, with_body-valid, with_attributes-valid, without_block-valid}
+use Rattle.geos_model.specs.declared.block.Attributes.{Attributes}
 use Rattle.vm_store.specs.Facts.{StoreFacts}
 use Rattle.vm_file.specs.Disk.{Drifts}
 use Rattle.vm_file.specs.Effects.{KeepsFile}
@@ -43,8 +44,8 @@ module _ {S : Type 0} (facts : S → StoreFacts) where
     pub sound_map : (h : ℕ) → (h ≢ 0 → is_live state.document h ≡ true) → IsSound facts state → IsSound facts (record state { document = record state.document { map_block = h } })
     sound_map h live sound = sound_with (record state.document { map_block = h }) (λ valid. record { blocks = valid.blocks; map_block = live }) sound
 
-    pub sound_user_id : (h user_id : ℕ) → user_id < 65536 → IsSound facts state → IsSound facts (record state { document = with_user_id state.document h user_id })
-    sound_user_id h user_id word sound = sound_with (with_user_id state.document h user_id) (λ valid. with_user_id-valid state.document h user_id valid word) sound
+    pub sound_attributes : (h : ℕ) (attributes : Attributes) → FitAttributes attributes → IsSound facts state → IsSound facts (record state { document = with_attributes state.document h attributes })
+    sound_attributes h attributes fit sound = sound_with (with_attributes state.document h attributes) (λ valid. with_attributes-valid state.document h attributes valid fit) sound
 
     -- a block was taken out
     pub sound_taken : (h : ℕ) → (state.document.map_block ≡ h → ⊥) → IsSound facts state → IsSound facts (record state { document = without_block state.document h; resident = remove_entry (nat_eq h) state.resident })

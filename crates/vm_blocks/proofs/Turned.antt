@@ -12,7 +12,7 @@ use Rattle.geos_model.specs.declared.fault.Fault.TheVariants.{File, Memory, Cach
 use Rattle.vm_store.specs.Facts.{StoreFacts, Raised}
 use Rattle.vm_file.specs.Calls.{put_all}
 use Rattle.vm_file.specs.Disk.{Disk, Drifts, Passes}
-use Rattle.vm_file.specs.Effects.{Fails, IsWorn, IsDamage, KeepsFile, NoFault}
+use Rattle.vm_file.specs.Effects.{Fails, IsDamage, KeepsFile, NoFault}
 use Rattle.vm_file.specs.Members.{saved_blocks}
 use Rattle.vm_file.specs.declared.member.Member.{Member}
 use Rattle.vm_file.proofs.Passing.{Passes-refl, Drifts-refl}

@@ -1,15 +1,16 @@
 -- What a change makes of a document, the same change the other way round, and in which documents it can be made.
-use Rattle.std.specs.Prelude.{◌≡◌, ◌≢◌, ◌≤◌, ◌<◌, ◌+◌, ℕ, List, [], true, Some, None, length, map, replicate, reverse}
+use Rattle.std.specs.Prelude.{◌≡◌, ◌≢◌, ◌≤◌, ◌+◌, ℕ, List, [], true, Some, None, length, map, replicate, reverse}
 use Rattle.std.specs.List.{All}
 use Rattle.std.specs.FinMap.{get, contains_key}
 use Rattle.geos_model.specs.Heap.{capacity, fits_with, is_chunk_handle}
-use Rattle.geos_model.specs.Document.{Block, Document, IsValid, is_vm_handle, is_live, is_heap, is_raw, chunks_of, raw_bytes_of, user_id_of, with_body, with_user_id, with_blocks, handles_of, without_blocks}
+use Rattle.geos_model.specs.Document.{Block, Document, IsValid, is_vm_handle, is_live, is_heap, is_raw, chunks_of, raw_bytes_of, attributes_of, with_body, with_attributes, with_blocks, handles_of, without_blocks, FitAttributes}
 use Rattle.geos_model.specs.ElementArray.{all_distinct}
 use Rattle.geos_model.specs.Meaning.{chunk_at, with_chunk, without_chunk}
 use Rattle.geos_model.specs.declared.command.Body.TheVariants.{Raw}
 use Rattle.chunk_edits.specs.Splicing.{Stands, forwards}
 use Rattle.chunk_edits.specs.declared.splice.Splice.{Splice}
 use Rattle.geos_model.specs.Cost.{images_length}
+use Rattle.geos_model.specs.declared.block.Attributes.{Attributes}
 use Rattle.vm_file.specs.Members.{saved_blocks}
 use Rattle.vm_blocks.specs.declared.change.Change.{Change}
 use Rattle.vm_blocks.specs.declared.change.Change.TheVariants as changes
@@ -37,7 +38,7 @@ abbrev pub made : Change → Document → Document
 made (changes.BlocksIn ms) d = with_blocks d (saved_blocks ms.list.items)
 made (changes.BlocksOut ms) d = without_blocks d (handles_of (saved_blocks ms.list.items))
 made (changes.Part b part) d = part_made b.0 part d
-made (changes.UserId b old new) d = with_user_id d b.0 new
+made (changes.Attributes b old new) d = with_attributes d b.0 new
 made (changes.Map old new) d = record d { map_block = new.0 }
 
 -- The same change the other way round.
@@ -55,7 +56,7 @@ abbrev pub flipped : Change → Change
 flipped (changes.BlocksIn ms) = changes.BlocksOut ms
 flipped (changes.BlocksOut ms) = changes.BlocksIn ms
 flipped (changes.Part b part) = changes.Part b (flipped_part part)
-flipped (changes.UserId b old new) = changes.UserId b new old
+flipped (changes.Attributes b old new) = changes.Attributes b new old
 flipped (changes.Map old new) = changes.Map new old
 
 -- the change that is made by carrying one out in a direction
@@ -122,11 +123,11 @@ pub record HasChunk (d : Document) (b c : ℕ) (bytes : List ℕ) : Type 0 where
   pub heap : is_heap d b ≡ true
   pub stands : get (chunks_of d b) c ≡ Some bytes
 
--- the block has this user ID, and the new one is a word
-pub record HasUserId (d : Document) (b old new : ℕ) : Type 0 where
+-- the block has these attributes, and the new ones can be
+pub record HasAttributes (d : Document) (b : ℕ) (old new : Attributes) : Type 0 where
   pub live : is_live d b ≡ true
-  pub stands : user_id_of d b ≡ old
-  pub word : new < 65536
+  pub stands : attributes_of d b ≡ old
+  pub fit : FitAttributes new
 
 -- the map block is this one, and the new one is 0 or live
 pub record HasMap (d : Document) (old new : ℕ) : Type 0 where
@@ -143,7 +144,7 @@ abbrev pub Applies : Change → Document → Type 0
 Applies (changes.BlocksIn ms) d = AreFree d (handles_of (saved_blocks ms.list.items))
 Applies (changes.BlocksOut ms) d = CanAllGo d (saved_blocks ms.list.items)
 Applies (changes.Part b part) d = PartApplies b.0 part d
-Applies (changes.UserId b old new) d = HasUserId d b.0 old new
+Applies (changes.Attributes b old new) d = HasAttributes d b.0 old new
 Applies (changes.Map old new) d = HasMap d old.0 new.0
 
 -- A change of a valid document leaves a valid one, to which the same change the other way round applies and gives back the first.
@@ -159,7 +160,7 @@ abbrev pub blocks_in : Change → List (ℕ × Block)
 blocks_in (changes.BlocksIn ms) = saved_blocks ms.list.items
 blocks_in (changes.BlocksOut ms) = []
 blocks_in (changes.Part b part) = []
-blocks_in (changes.UserId b old new) = []
+blocks_in (changes.Attributes b old new) = []
 blocks_in (changes.Map old new) = []
 
 -- How many content bytes a change holds.
@@ -178,5 +179,5 @@ abbrev pub weight : Change → ℕ
 weight (changes.BlocksIn ms) = images_length (saved_blocks ms.list.items)
 weight (changes.BlocksOut ms) = images_length (saved_blocks ms.list.items)
 weight (changes.Part b part) = part_weight part
-weight (changes.UserId b old new) = 0
+weight (changes.Attributes b old new) = 0
 weight (changes.Map old new) = 0

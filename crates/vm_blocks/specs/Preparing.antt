@@ -1,4 +1,4 @@
--- What making a change needs, and what it leaves. Half of what lets a change be made is known by handles, user IDs and the map block
+-- What making a change needs, and what it leaves. Half of what lets a change be made is known by handles, attributes and the map block
 -- alone, over any store; the other half is what the body of a block has, which can be tested while the block is in memory.
 use Rattle.std.specs.Prelude.{◌≡◌, ◌≢◌, ◌⊎◌, ℕ, Bool, List, [], ◌∷◌, true, Result, Err, IsOk, IfErr, OnOk, OnErr}
 use Rattle.std.specs.List.{All}
@@ -22,12 +22,12 @@ pub record CanLeave (d : Document) (hs : List ℕ) : Type 0 where
   pub others : All (λ h. d.map_block ≢ h) hs
   pub distinct : all_distinct hs ≡ true
 
--- What is known by handles, user IDs and the map block: blocks come in under free handles, those that go or change are there.
+-- What is known by handles, attributes and the map block: blocks come in under free handles, those that go or change are there.
 abbrev pub Listed : Change → Document → Type 0
 Listed (changes.BlocksIn ms) d = AreFree d (handles_of (saved_blocks ms.list.items))
 Listed (changes.BlocksOut ms) d = CanLeave d (handles_of (saved_blocks ms.list.items))
 Listed (changes.Part b part) d = is_live d b.0 ≡ true
-Listed (changes.UserId b old new) d = is_live d b.0 ≡ true
+Listed (changes.Attributes b old new) d = is_live d b.0 ≡ true
 Listed (changes.Map old new) d = HasMap d old.0 new.0
 
 -- What is tested: the body takes the change of a part. No other change asks anything of a body.
@@ -35,7 +35,7 @@ abbrev pub BodyTakes : Change → Document → Type 0
 BodyTakes (changes.BlocksIn ms) d = Unit {0}
 BodyTakes (changes.BlocksOut ms) d = Unit {0}
 BodyTakes (changes.Part b part) d = Takes part (block_at d b.0).body
-BodyTakes (changes.UserId b old new) d = Unit {0}
+BodyTakes (changes.Attributes b old new) d = Unit {0}
 BodyTakes (changes.Map old new) d = Unit {0}
 
 -- the blocks that go, if any do, aren't locked
@@ -43,7 +43,7 @@ abbrev pub AreUnlocked : Change → List Seat → Type 0
 AreUnlocked (changes.BlocksIn ms) seats = Unit {0}
 AreUnlocked (changes.BlocksOut ms) seats = All (λ h. locks_of seats h ≡ 0) (handles_of (saved_blocks ms.list.items))
 AreUnlocked (changes.Part b part) seats = Unit {0}
-AreUnlocked (changes.UserId b old new) seats = Unit {0}
+AreUnlocked (changes.Attributes b old new) seats = Unit {0}
 AreUnlocked (changes.Map old new) seats = Unit {0}
 
 -- the block whose body changes can't be brought into memory, if there is one
@@ -51,7 +51,7 @@ abbrev pub IsOutOfReach : {S : Type 0} → Change → CacheState S → Type 0
 IsOutOfReach (changes.BlocksIn ms) state = ⊥
 IsOutOfReach (changes.BlocksOut ms) state = ⊥
 IsOutOfReach (changes.Part b part) state = is_shut_out state b.0 ≡ true
-IsOutOfReach (changes.UserId b old new) state = ⊥
+IsOutOfReach (changes.Attributes b old new) state = ⊥
 IsOutOfReach (changes.Map old new) state = ⊥
 
 -- the block whose body changes is in memory, if there is one
@@ -59,7 +59,7 @@ abbrev pub IsAtHand : {S : Type 0} → Change → CacheState S → Type 0
 IsAtHand (changes.BlocksIn ms) state = Unit {0}
 IsAtHand (changes.BlocksOut ms) state = Unit {0}
 IsAtHand (changes.Part b part) state = is_loaded state b.0 ≡ true
-IsAtHand (changes.UserId b old new) state = Unit {0}
+IsAtHand (changes.Attributes b old new) state = Unit {0}
 IsAtHand (changes.Map old new) state = Unit {0}
 
 -- It is known by handles, and its body, in memory, takes it: all but memory for blocks that come in.

@@ -3,7 +3,7 @@ ghost use Rattle.vm_blocks.specs.Changes.{weight, part_weight, content_weight};
 
 use crate::Members;
 use chunk_edits::Splice;
-use geos_model::{Bytes, ChunkHandle, VmHandle};
+use geos_model::{Attributes, Bytes, ChunkHandle, VmHandle};
 
 /// Which way a change is carried out.
 #[derive(Clone, Copy, Debug, PartialEq, Eq)]
@@ -21,11 +21,11 @@ pub enum Change {
     BlocksOut(Members),
     /// The body of a block changes.
     Part(VmHandle, PartChange),
-    /// A block gets another user ID.
-    UserId {
+    /// A block gets other attributes.
+    Attributes {
         handle: VmHandle,
-        old: u16,
-        new: u16,
+        old: Attributes,
+        new: Attributes,
     },
     /// Another block becomes the map block; 0 stands for none.
     Map {
@@ -64,7 +64,7 @@ impl Change {
         match self {
             Change::BlocksIn(members) | Change::BlocksOut(members) => members.weight(),
             Change::Part(_, part) => part.weight(),
-            Change::UserId { .. } | Change::Map { .. } => 0,
+            Change::Attributes { .. } | Change::Map { .. } => 0,
         }
     }
 }

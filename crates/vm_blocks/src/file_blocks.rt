@@ -5,7 +5,7 @@ ghost use Rattle.std.specs.Result.{IsErrAnd};
 ghost use Rattle.std.specs.FinMap.{get, keys};
 ghost use Rattle.std.specs.Map.{set_value};
 ghost use Rattle.std.specs.List.{All};
-ghost use Rattle.geos_model.specs.Document.{IsValid, block_at, is_heap, is_raw, next_handle, is_live, is_vm_handle, user_id_of, handles_of, without_block, without_blocks};
+ghost use Rattle.geos_model.specs.Document.{IsValid, block_at, is_heap, is_raw, next_handle, is_live, is_vm_handle, attributes_of, handles_of, without_block, without_blocks};
 ghost use Rattle.geos_model.specs.ElementArray.{all_distinct};
 ghost use Rattle.geos_model.specs.Reply.{found};
 ghost use Rattle.vm_file.specs.Calls.{last_sequence};
@@ -26,7 +26,7 @@ ghost use Rattle.vm_blocks.specs.Preparing.{CanLeave, Listed, AllListed, AreUnlo
 use crate::part::{can_take, carry_out};
 use crate::{BlockBody, Change, Direction, Members, PartChange};
 use block_cache::Cache;
-use geos_model::{Fault, VmHandle};
+use geos_model::{Attributes, Fault, VmHandle};
 use std::alloc::{AllocError, Global};
 use std::marker::Model;
 use vm_file::Refused;
@@ -204,12 +204,12 @@ impl<S: Store> FileBlocks<S> {
         self.cache.is_heap(handle)
     }
 
-    /// The user ID of a block, in memory or not.
-    pub fn user_id(&self, handle: VmHandle) -> u16
+    /// The attributes of a block, in memory or not.
+    pub fn attributes(&self, handle: VmHandle) -> Attributes
         requires { is_live self.now.document handle.0 ≡ true }
-        ensures { result ≡ user_id_of self.now.document handle.0 }
+        ensures { result ≡ attributes_of self.now.document handle.0 }
     {
-        self.cache.user_id(handle)
+        self.cache.attributes(handle)
     }
 
     /// Whether a block is in memory, so that its body can be read.
@@ -487,9 +487,9 @@ impl<S: Store> FileBlocks<S> {
                 Direction::Backwards => self.put_in(members),
             },
             Change::Part(handle, part) => self.change_part(*handle, part, direction),
-            Change::UserId { handle, old, new } => match direction {
-                Direction::Forwards => self.set_user_id(*handle, *old, *new),
-                Direction::Backwards => self.set_user_id(*handle, *new, *old),
+            Change::Attributes { handle, old, new } => match direction {
+                Direction::Forwards => self.set_attributes(*handle, *old, *new),
+                Direction::Backwards => self.set_attributes(*handle, *new, *old),
             },
             Change::Map { old, new } => match direction {
                 Direction::Forwards => self.set_map(*old, *new),
@@ -590,12 +590,17 @@ impl<S: Store> FileBlocks<S> {
         carry_out(self.cache.body_mut(handle), part, direction);
     }
 
-    // Gives a block another user ID in place of the old one.
-    fn set_user_id(&mut self, handle: VmHandle, old: u16, new: u16) -> Result<(), Fault>
+    // Gives a block other attributes in place of the old ones.
+    fn set_attributes(
+        &mut self,
+        handle: VmHandle,
+        old: Attributes,
+        new: Attributes,
+    ) -> Result<(), Fault>
         requires { is_live self.old.document handle.0 ≡ true }
-        ensures { Turns S.facts (Change.UserId handle old new) self.old self.new result }
+        ensures { Turns S.facts (Change.Attributes handle old new) self.old self.new result }
     {
-        self.cache.set_uid(handle, new);
+        self.cache.set_attributes(handle, new);
         Ok(())
     }
 

@@ -7,7 +7,7 @@ use geos_model::VmHandle;
 use std::alloc::{AllocError, Global};
 
 /// How many blocks a document can have: their handles are 1 to this.
-pub const MOST_BLOCKS: usize = 2_048;
+pub const MOST_BLOCKS: usize = geos_model::MOST_BLOCKS as usize;
 
 /// Blocks that come in or go together, no more than a document can have.
 #[derive(Drop)]

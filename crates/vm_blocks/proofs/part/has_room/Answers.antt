@@ -2,7 +2,7 @@ use Rattle.std.proofs.Common.{◌≡◌, ◌-◌, ℕ, List, length, take, repli
 use Rattle.std.proofs.lemmas.Bool.{lt-leb}
 use Rattle.std.proofs.lemmas.List.{length-replicate}
 use Rattle.geos_model.specs.Bytes.{resized}
-use Rattle.geos_model.specs.Heap.{ChunkMap, chunk_bytes}
+use Rattle.geos_model.specs.Heap.{ChunkMap, chunk_bytes, capacity}
 use Rattle.geos_model.proofs.HeapTables.{chunk_bytes_le, fits_with-same, fits_with-many}
 use Rattle.vm_blocks.proofs.part.has_room.Goals as goal
 
@@ -22,4 +22,4 @@ returns-then-new-le-SIZE c = λ bytes long.
 
 pub returns-else-new-le-SIZE : goal.returns-else-new-le-SIZE
 returns-else-new-le-SIZE c = λ bytes long.
-    lt-leb c.args.new 65520 c.if-new-le-SIZE.false ∙ sym (fits_with-many c.args.heap.now.chunks c.args.chunk.0 bytes c.requires.valid c.requires.live (omega (arith, long, c.if-new-le-SIZE.false)))
+    lt-leb c.args.new capacity c.if-new-le-SIZE.false ∙ sym (fits_with-many c.args.heap.now.chunks c.args.chunk.0 bytes c.requires.valid c.requires.live (omega (arith, long, c.if-new-le-SIZE.false)))

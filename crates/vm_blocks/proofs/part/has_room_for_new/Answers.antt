@@ -1,12 +1,12 @@
 use Rattle.std.proofs.Common.{◌≡◌, ◌<◌, ℕ, List, Bool, true, false, length, replicate, refl, arith, sym, ◌∙◌}
 use Rattle.std.proofs.lemmas.Bool.{lt-leb}
 use Rattle.std.proofs.lemmas.List.{length-replicate}
-use Rattle.geos_model.specs.Heap.{ChunkMap, fits_with}
+use Rattle.geos_model.specs.Heap.{ChunkMap, fits_with, capacity}
 use Rattle.vm_blocks.proofs.RoomLemmas.{fits_as, fits_few}
 use Rattle.vm_blocks.proofs.part.has_room_for_new.Goals as goal
 
 -- no heap has room for very many
-fits_not : (m : ChunkMap) (h : ℕ) (bytes : List ℕ) → 65520 < length bytes → fits_with m h bytes ≡ false
+fits_not : (m : ChunkMap) (h : ℕ) (bytes : List ℕ) → capacity < length bytes → fits_with m h bytes ≡ false
 fits_not m h bytes many = of (fits_with m h bytes) refl
   where
     of : (b : Bool) → fits_with m h bytes ≡ b → b ≡ false
@@ -19,4 +19,4 @@ returns-then-n-le-SIZE c = λ bytes long.
 
 pub returns-else-n-le-SIZE : goal.returns-else-n-le-SIZE
 returns-else-n-le-SIZE c = λ bytes long.
-    lt-leb c.args.n 65520 c.if-n-le-SIZE.false ∙ sym (fits_not c.args.heap.now.chunks c.args.chunk.0 bytes (omega (arith, long, c.if-n-le-SIZE.false)))
+    lt-leb c.args.n capacity c.if-n-le-SIZE.false ∙ sym (fits_not c.args.heap.now.chunks c.args.chunk.0 bytes (omega (arith, long, c.if-n-le-SIZE.false)))
