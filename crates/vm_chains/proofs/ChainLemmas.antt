@@ -7,10 +7,11 @@ use Rattle.std.specs.List.{All}
 use Rattle.std.specs.FinMap.{get}
 use Rattle.std.specs.Option.{option_map, option_map_or, option_and_then}
 use Rattle.geos_model.specs.Chain.{blocks_from, chain, chain_blocks, if_distinct, is_member, links, relinked, relinked_block}
-use Rattle.geos_model.specs.Document.{Block, Document, most_blocks, raw_bytes_of, bytes_of_body, user_id_of, block_at}
+use Rattle.geos_model.specs.Document.{Block, Document, most_blocks, raw_bytes_of, bytes_of_body, attributes_of, block_at, no_attributes, no_block}
 use Rattle.geos_model.specs.declared.command.Body.TheVariants.{Raw}
 use Rattle.geos_model.specs.ElementArray.{all_distinct}
 use Rattle.geos_model.specs.declared.handle.VmHandle.{VmHandle}
+use Rattle.geos_model.specs.declared.block.Attributes.{Attributes}
 use Rattle.vm_chains.specs.Numbers.{numbers}
 use Rattle.vm_chains.specs.Walking.{AreMembers}
 use Rattle.vm_chains.proofs.WalkLemmas.{blocks_from-nil, blocks_from-member, blocks_from-other, blocks_from-full}
@@ -63,11 +64,11 @@ are_members d root hs is =
     λ i h within. subst (λ (n : ℕ). is_member d n ≡ true) (get_or-map (λ (h : VmHandle). h.0) hs i h h.0 within) (all.0.members i h.0 (omega (arith, length-map hs (λ (h : VmHandle). h.0))))
 
 -- a block of a copy
-pub renamed_block : (d : Document) (h user_id : ℕ) (bytes : List ℕ) (rename given : ℕ → ℕ) → user_id ≡ user_id_of d h → bytes ≡ relinked rename (raw_bytes_of d h) → ((k : ℕ) → rename k ≡ given k) → ◌≡◌ {A = Block} (record { user_id = user_id; body = Raw bytes }) (relinked_block given (block_at d h))
-renamed_block d h user_id bytes rename given uid read same =
+pub renamed_block : (d : Document) (h : ℕ) (attributes : Attributes) (bytes : List ℕ) (rename given : ℕ → ℕ) → attributes ≡ attributes_of d h → bytes ≡ relinked rename (raw_bytes_of d h) → ((k : ℕ) → rename k ≡ given k) → ◌≡◌ {A = Block} (record { attributes = attributes; body = Raw bytes }) (relinked_block given (block_at d h))
+renamed_block d h attributes bytes rename given attributes_are read same =
     let parts = by_block (get d.blocks h) in
-    λ i. record { user_id = (uid ∙ parts.0) i; body = Raw ((read ∙ (λ j. relinked (λ k. same k j) (parts.1 j))) i) }
+    λ i. record { attributes = (attributes_are ∙ parts.0) i; body = Raw ((read ∙ (λ j. relinked (λ k. same k j) (parts.1 j))) i) }
   where
-    by_block : (o : Option Block) → (option_map_or (λ b. b.user_id) o 0 ≡ (unwrap_or o (record { user_id = 0; body = Raw [] })).user_id) × (option_map_or (λ b. bytes_of_body b.body) o [] ≡ bytes_of_body (unwrap_or o (record { user_id = 0; body = Raw [] })).body)
+    by_block : (o : Option Block) → (option_map_or (λ b. b.attributes) o no_attributes ≡ (unwrap_or o no_block).attributes) × (option_map_or (λ b. bytes_of_body b.body) o [] ≡ bytes_of_body (unwrap_or o no_block).body)
     by_block None = (refl, refl)
     by_block (Some b) = (refl, refl)

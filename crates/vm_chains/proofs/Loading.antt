@@ -5,13 +5,13 @@ use Rattle.std.proofs.lemmas.Bool.{true≢false}
 use Rattle.vm_store.specs.Facts.{StoreFacts}
 use Rattle.geos_model.specs.Chain.{is_linked}
 use Rattle.geos_model.specs.declared.command.Body.{Body}
-use Rattle.geos_model.specs.declared.command.Body.TheVariants.{Raw}
 use Rattle.std.specs.FinMap.{get}
 use Rattle.vm_chains.proofs.WalkLemmas.{and_false}
-use Rattle.geos_model.specs.Document.{Block, Document, block_at, bytes_of_body, is_heap_body, is_live, user_id_of}
+use Rattle.geos_model.specs.Document.{Block, Document, block_at, bytes_of_body, is_heap_body, is_live, attributes_of, no_attributes, no_block}
 use Rattle.geos_model.specs.declared.fault.Fault.{Fault}
 use Rattle.geos_model.specs.declared.fault.Fault.TheVariants.{Damaged, NoBlock}
 use Rattle.geos_model.specs.declared.handle.VmHandle.{VmHandle}
+use Rattle.geos_model.specs.declared.block.Attributes.{Attributes}
 use Rattle.block_cache.specs.State.{CacheState}
 use Rattle.vm_blocks.specs.Keeping.{Keeps, IsSteady, Lacks, LacksFrame, is_full}
 use Rattle.vm_blocks.proofs.KeepingLaws.{keeps-drifts, keeps-full, keeps-same, keeps-was_steady, lacks-damaged, open-shut}
@@ -44,13 +44,13 @@ unlinked_there (Some b) body e none =
     ap (λ (x : Body). not (is_heap_body x) && is_linked (bytes_of_body x)) same ∙ ap (λ (l : Bool). not (is_heap_body body) && l) none ∙ and_false (not (is_heap_body body))
 
 -- the block that stands under a handle, by what is read of it
-pub block_read : (d : Document) (h user_id : ℕ) (body : Body) → user_id ≡ user_id_of d h → option_map (λ b. b.body) (get d.blocks h) ≡ Some body → record { user_id = user_id; body = body } ≡ block_at d h
-block_read d h user_id body is read = by_block (get d.blocks h) is read
+pub block_read : (d : Document) (h : ℕ) (attributes : Attributes) (body : Body) → attributes ≡ attributes_of d h → option_map (λ b. b.body) (get d.blocks h) ≡ Some body → record { attributes = attributes; body = body } ≡ block_at d h
+block_read d h attributes body is read = by_block (get d.blocks h) is read
   where
-    by_block : (o : Option Block) → user_id ≡ option_map_or (λ (b : Block). b.user_id) o 0 → option_map (λ (b : Block). b.body) o ≡ Some body
-        → record { user_id = user_id; body = body } ≡ unwrap_or o (record { user_id = 0; body = Raw [] })
+    by_block : (o : Option Block) → attributes ≡ option_map_or (λ (b : Block). b.attributes) o no_attributes → option_map (λ (b : Block). b.body) o ≡ Some body
+        → record { attributes = attributes; body = body } ≡ unwrap_or o no_block
     by_block None same there = absurd (cc there)
-    by_block (Some b) same there = let has : body ≡ b.body = cc there in λ i. record { user_id = same i; body = has i }
+    by_block (Some b) same there = let has : body ≡ b.body = cc there in λ i. record { attributes = same i; body = has i }
 
 module _ {S : Type 0} (facts : S → StoreFacts) (a b : CacheState S) (keeps : Keeps facts a b) where
   -- What is known by handle stays.

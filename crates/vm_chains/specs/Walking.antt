@@ -3,7 +3,7 @@ use Rattle.std.specs.Prelude.{◌≡◌, ◌≤◌, ◌⊎◌, ℕ, ◌+◌, Lis
 use Rattle.std.specs.List.{All, list_any}
 use Rattle.std.specs.Option.{option_map}
 use Rattle.geos_model.specs.Chain.{blocks_from, is_member, links}
-use Rattle.geos_model.specs.Document.{Document, is_live, is_raw, is_vm_handle, most_blocks, raw_bytes_of}
+use Rattle.geos_model.specs.Document.{Document, is_live, is_vm_handle, most_blocks, raw_bytes_of}
 use Rattle.geos_model.specs.ElementArray.{all_distinct}
 use Rattle.geos_model.specs.declared.fault.Fault.{Fault}
 use Rattle.geos_model.specs.declared.fault.Fault.TheVariants.{BadChain}

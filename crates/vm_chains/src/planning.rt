@@ -137,7 +137,7 @@ fn copies<S: Store>(
     let mut plan = Vec::new(alloc);
     for i in 0..handles.len() {
         let bytes = relinked_at(alloc, blocks, handles[i], &names)?;
-        let block = SavedBlock::raw(blocks.user_id(handles[i]), bytes)?;
+        let block = SavedBlock::raw(blocks.attributes(handles[i]), bytes)?;
         plan.push(Member {
             handle: new[i],
             block,

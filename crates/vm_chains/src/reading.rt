@@ -68,6 +68,6 @@ pub(crate) fn saved_at<S: Store>(
     ensures value { MatchResult result (λ saved. saved_block saved ≡ block_at blocks.new.document handle.0) (Lacks S.facts blocks.old.disk.store blocks.new.disk.store) }
 {
     blocks.load(handle)?;
-    let user_id = blocks.user_id(handle);
-    Ok(saved_block(alloc, user_id, blocks.body(handle))?)
+    let attributes = blocks.attributes(handle);
+    Ok(saved_block(alloc, attributes, blocks.body(handle))?)
 }

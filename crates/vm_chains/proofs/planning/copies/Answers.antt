@@ -2,7 +2,7 @@ use Rattle.std.proofs.Common.{◌≡◌, ◌+◌, ◌<◌, ◌≤◌, ◌++◌, 
 use Rattle.std.proofs.lemmas.List.{append-nil, drop_all, length_push, take_all}
 use Rattle.std.specs.List.{zip}
 use Rattle.geos_model.specs.Chain.{is_member, name_of, relinked, renamed_blocks}
-use Rattle.geos_model.specs.Document.{Document, handles_of, raw_bytes_of, user_id_of}
+use Rattle.geos_model.specs.Document.{Document, handles_of, raw_bytes_of, attributes_of}
 use Rattle.geos_model.specs.declared.fault.Fault.TheVariants.{Memory}
 use Rattle.geos_model.specs.declared.handle.VmHandle.{VmHandle}
 use Rattle.vm_chains.specs.Naming.{name_in}
@@ -55,8 +55,8 @@ returns-in_err-bytes-clause-refusals g c =
     carried_so c.from_residual-in_err-bytes.result c.in_err-bytes.field-0.0 _ c.from_residual-in_err-bytes.ensures.1
     (lacks-later g.S.Store.facts c.args.blocks.now c.loop-i.blocks c.relinked_at.new.blocks.disk.store c.in_err-bytes.field-0.0 c.loop-i.invariant.keeps c.in_err-bytes.ensures.value)
 
-pub user_id-requires : goal.user_id-requires
-user_id-requires g c =
+pub attributes-requires : goal.attributes-requires
+attributes-requires g c =
     let keeps = keeps-trans g.S.Store.facts c.args.blocks.now c.loop-i.blocks c.relinked_at.new.blocks c.loop-i.invariant.keeps c.relinked_at.ensures.keeps in
     still_live g.S.Store.facts c.args.blocks.now c.relinked_at.new.blocks keeps (get_or c.args.handles.now c.loop-i.i no_handle).0 (c.requires.live.live c.loop-i.i no_handle (omega arith))
 
@@ -86,9 +86,9 @@ loop-i-preserved g c =
     record {
       plan = λ steady.
           let same : e.document ≡ d = keeps-same g.S.Store.facts a e keeps steady in
-          let uid : c.user_id.result ≡ user_id_of d h = c.user_id.ensures ∙ ap (λ (x : Document). user_id_of x h) same in
+          let attributes_are : c.attributes.result ≡ attributes_of d h = c.attributes.ensures ∙ ap (λ (x : Document). attributes_of x h) same in
           let read : c.in_ok-bytes.bytes.items ≡ relinked (name_in c.in_ok-names.names) (raw_bytes_of d h) = c.in_ok-bytes.ensures.value ∙ ap (λ (x : Document). relinked (name_in c.in_ok-names.names) (raw_bytes_of x h)) same in
-          let block = c.in_ok-block.ensures ∙ renamed_block d h c.user_id.result c.in_ok-bytes.bytes.items (name_in c.in_ok-names.names) (name_of (zip (numbers hs) (numbers new))) uid read (c.in_ok-names.ensures {u = tt}) in
+          let block = c.in_ok-block.ensures ∙ renamed_block d h c.attributes.result c.in_ok-bytes.bytes.items (name_in c.in_ok-names.names) (name_of (zip (numbers hs) (numbers new))) attributes_are read (c.in_ok-names.ensures {u = tt}) in
           ap (λ (ms : List Member). saved_blocks ms ++ copies_from d hs new (drop (i + 1) hs) (drop (i + 1) new)) pushed
           ∙ copies_more d hs new c.loop-i.plan.items m i no_handle no_handle _ within there refl block (c.loop-i.invariant.plan steady);
       handles = ap (λ (ms : List Member). handles_of (saved_blocks ms)) pushed ∙ handles_more c.loop-i.plan.items m i new no_handle there refl c.loop-i.invariant.handles;

@@ -10,12 +10,12 @@ returns-in_err-load-clause-value g c =
     carried c.from_residual.result c.in_err-load.field-0.0 _ _ c.from_residual.ensures.1
     (load_lacks g.S.Store.facts c.args.blocks.now c.load.new.self c.load.ensures.keeps c.args.handle.0 c.in_err-load.field-0.0 c.requires.room c.requires.live c.in_err-load.ensures.err)
 
-pub user_id-user_id-requires : goal.user_id-user_id-requires
-user_id-user_id-requires g c = still_live g.S.Store.facts c.args.blocks.now c.load.new.self c.load.ensures.keeps c.args.handle.0 c.requires.live
+pub attributes-attributes-requires : goal.attributes-attributes-requires
+attributes-attributes-requires g c = still_live g.S.Store.facts c.args.blocks.now c.load.new.self c.load.ensures.keeps c.args.handle.0 c.requires.live
 
 pub returns-in_err-saved_block-clause-value : goal.returns-in_err-saved_block-clause-value
 returns-in_err-saved_block-clause-value g c =
     carried c.from_residual-in_err-saved_block.result Memory _ _ c.from_residual-in_err-saved_block.ensures.1 (lacks-memory g.S.Store.facts c.args.blocks.now.disk.store c.load.new.self.disk.store)
 
 pub returns-clause-value : goal.returns-clause-value
-returns-clause-value g c = c.in_ok-saved_block.ensures ∙ block_read c.load.new.self.document c.args.handle.0 c.user_id-user_id.result (body_of c.body.result.now) c.user_id-user_id.ensures c.body.ensures
+returns-clause-value g c = c.in_ok-saved_block.ensures ∙ block_read c.load.new.self.document c.args.handle.0 c.attributes-attributes.result (body_of c.body.result.now) c.attributes-attributes.ensures c.body.ensures

@@ -1,12 +1,10 @@
-use Rattle.std.proofs.Common.{◌≡◌, ◌⊎◌, ℕ, List, Option, None, true, is_none, ap, subst, sym, inl, inr}
-use Rattle.std.proofs.lemmas.Result.{IfErr-weaker, MatchResult-weaker}
-use Rattle.geos_model.specs.Chain.{chain}
+use Rattle.std.proofs.Common.{◌≡◌, ◌⊎◌, ℕ, List, Option, true, is_none, ap, subst, sym, inl, inr}
+use Rattle.std.proofs.lemmas.Result.{IfErr-weaker}
 use Rattle.geos_model.specs.Document.{Document, is_raw}
 use Rattle.geos_model.specs.declared.fault.Fault.TheVariants.{BadChain}
 use Rattle.vm_blocks.specs.Keeping.{Lacks}
 use Rattle.vm_blocks.proofs.KeepingLaws.{keeps-refl, keeps-same}
 use Rattle.vm_chains.specs.Answers.{IsWalkRefusal}
-use Rattle.vm_chains.specs.Walking.{Stops}
 use Rattle.vm_chains.proofs.Loading.{carried, carried_so}
 use Rattle.vm_chains.proofs.Refusals.{of_chain, root_fault, root_refused, walked}
 use Rattle.vm_chains.proofs.walking.walk.Goals as goal
