@@ -5,20 +5,20 @@ use Rattle.std.proofs.lemmas.List.Elements.{All-nil, All-cons}
 use Rattle.std.specs.FinMap.{get}
 use Rattle.std.specs.Option.{option_map, option_map_or}
 use Rattle.geos_model.specs.Refusal.{first_refusal}
-use Rattle.geos_model.specs.Document.{Block, Document, block_at, is_live, next_handle, user_id_of, with_block, without_block, with_blocks, handles_of, without_blocks}
+use Rattle.geos_model.specs.Document.{Block, Document, block_at, is_live, next_handle, attributes_of, with_block, without_block, with_blocks, handles_of, without_blocks, no_block}
 use Rattle.geos_model.specs.Meaning.{conditions, effect}
 use Rattle.geos_model.specs.Cost.{cost, image_length, images_length}
 use Rattle.geos_model.specs.Machine.{kind_of}
 use Rattle.geos_model.specs.Image.{image}
 use Rattle.geos_model.specs.declared.command.Done.{Done}
 use Rattle.geos_model.specs.declared.command.Body.{Body}
-use Rattle.geos_model.specs.declared.command.Body.TheVariants.{Raw}
 use Rattle.geos_model.specs.declared.command.Done.TheVariants as done
 use Rattle.geos_model.specs.declared.command.Edit.{Edit}
 use Rattle.geos_model.specs.declared.command.Edit.TheVariants as edits
 use Rattle.geos_model.specs.declared.fault.Fault.TheVariants.{IsMap, NoHandles}
 use Rattle.geos_model.specs.declared.handle.VmHandle.{VmHandle}
 use Rattle.geos_model.specs.declared.command.Kind.TheVariants.{Made, Freed}
+use Rattle.geos_model.specs.declared.block.Attributes.{Attributes}
 use Rattle.vm_blocks.specs.Changes.{IsFree, AreFree, CanGo, CanAllGo}
 use Rattle.vm_file.specs.Members.{saved_blocks}
 use Rattle.vm_blocks.specs.declared.change.Change.TheVariants.{BlocksIn, BlocksOut}
@@ -59,12 +59,12 @@ pub none_refused : (d : Document) (handle : VmHandle) → is_live d handle.0 ≡
 none_refused d handle live none = rw (live, none) refl
 
 -- It is freed or copied, by what is read of it.
-module _ (d : Document) (handle : VmHandle) (user_id : ℕ) (body : Body) (same : user_id ≡ user_id_of d handle.0) (read : option_map (λ b. b.body) (get d.blocks handle.0) ≡ Some body) where
+module _ (d : Document) (handle : VmHandle) (attributes : Attributes) (body : Body) (same : attributes ≡ attributes_of d handle.0) (read : option_map (λ b. b.body) (get d.blocks handle.0) ≡ Some body) where
   abbrev block : Block
-  block = record { user_id = user_id; body = body }
+  block = record { attributes = attributes; body = body }
 
   there : get d.blocks handle.0 ≡ Some block
-  there = body_at d handle.0 body read ∙ ap (λ (n : ℕ). Some (record { user_id = n; body = body })) (sym same)
+  there = body_at d handle.0 body read ∙ ap (λ (a : Attributes). Some (record { attributes = a; body = body })) (sym same)
 
   how_long : length (image body) ≡ image_length d handle.0
   how_long = sym (ap (λ (o : Option Block). option_map_or (λ (b : Block). length (image b.body)) o 0) there)
@@ -78,6 +78,6 @@ module _ (d : Document) (handle : VmHandle) (user_id : ℕ) (body : Body) (same 
     pub copy_planned : (new : VmHandle) → next_handle d ≡ Some new.0 → IsFree d new.0 → saved_blocks ms.list.items ≡ (new.0, block) ∷ [] → Plans (edits.CopyBlock handle) d (BlocksIn ms) (done.Block new)
     copy_planned new next free one =
         let first : new.0 ≡ unwrap_or (next_handle d) 0 = sym (ap (λ (o : Option ℕ). unwrap_or o 0) next) in
-        let at : block ≡ block_at d handle.0 = sym (ap (λ (o : Option Block). unwrap_or o (record { user_id = 0; body = Raw [] })) there) in
+        let at : block ≡ block_at d handle.0 = sym (ap (λ (o : Option Block). unwrap_or o no_block) there) in
         block_made (edits.CopyBlock handle) d ms new.0 block (done.Block new) one (rw (there, next) refl) free
         (λ i. with_block d (first i) (at i)) (ap (λ (n : ℕ). done.Block (record { 0 = n })) first) refl how_long

@@ -3,7 +3,7 @@ use Rattle.std.proofs.Common.{◌≡◌, ℕ, true, false, Option, Some, None, i
 use Rattle.std.specs.Option.{option_map, option_map_or}
 use Rattle.std.specs.FinMap.{get}
 use Rattle.geos_model.specs.Heap.{ChunkMap}
-use Rattle.geos_model.specs.Document.{Block, Document, chunks_of, user_id_of, is_heap, is_heap_body, is_live}
+use Rattle.geos_model.specs.Document.{Block, Document, chunks_of, attributes_of, is_heap, is_heap_body, is_live}
 use Rattle.geos_model.specs.declared.command.Body.{Body}
 use Rattle.geos_model.specs.declared.command.Body.TheVariants.{Heap}
 use Rattle.doc_edits.specs.Found.{IsBodyAt, IsHeapAt}
@@ -21,7 +21,7 @@ body_at d h body is = by_block (get d.blocks h) refl is
   where
     by_block : (o : Option Block) → get d.blocks h ≡ o → option_map (λ (b : Block). b.body) o ≡ Some body → IsBodyAt d h body
     by_block None live e = absurd (cc e)
-    by_block (Some b) live e = rw live (let same : b.body ≡ body = cc e in ap (λ (x : Body). Some (record { user_id = b.user_id; body = x })) same)
+    by_block (Some b) live e = rw live (let same : b.body ≡ body = cc e in ap (λ (x : Body). Some (record { attributes = b.attributes; body = x })) same)
 
 module _ (d : Document) (h : ℕ) (m : ChunkMap) (live : IsHeapAt d h m) where
   pub chunks_are : chunks_of d h ≡ m
@@ -31,4 +31,4 @@ module _ (d : Document) (h : ℕ) (m : ChunkMap) (live : IsHeapAt d h m) where
   heap_there = rw live refl
 
   pub heap_here : IsHeapAt d h (chunks_of d h)
-  heap_here = live ∙ ap (λ (x : ChunkMap). Some (record { user_id = user_id_of d h; body = Heap x })) (sym chunks_are)
+  heap_here = live ∙ ap (λ (x : ChunkMap). Some (record { attributes = attributes_of d h; body = Heap x })) (sym chunks_are)

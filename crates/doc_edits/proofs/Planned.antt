@@ -54,7 +54,7 @@ module _ {S : Type 0} (state : CacheState S) (edit : Edit) where
   at_hand (changes.Part b part) kind there = in_there state edit b there (sym kind)
   at_hand (changes.BlocksIn ms) kind there = tt
   at_hand (changes.BlocksOut ms) kind there = tt
-  at_hand (changes.UserId b old new) kind there = tt
+  at_hand (changes.Attributes b old new) kind there = tt
   at_hand (changes.Map old new) kind there = tt
 
   module _ (refused : Fault → Type 0) (result : Result (Change × Done) Fault) (planned : MatchResult result (λ p. Plans edit state.document p.0 p.1) refused) where

@@ -6,8 +6,8 @@ use Rattle.std.specs.FinMap.{empty, insert, contains_key}
 use Rattle.std.specs.Option.{option_map_or}
 use Rattle.geos_model.specs.ArrayEdits.{too_long}
 use Rattle.geos_model.specs.Cost.{cost, both_lengths}
-use Rattle.geos_model.specs.Document.{Block, Document, chunks_of, chunks_of_body, user_id_of}
-use Rattle.geos_model.specs.Heap.{ChunkMap, chunk_bytes, fits, fits_with, is_heap_map, need}
+use Rattle.geos_model.specs.Document.{Block, Document, chunks_of, chunks_of_body, attributes_of}
+use Rattle.geos_model.specs.Heap.{ChunkMap, chunk_bytes, fits, fits_with, is_heap_map, need, capacity, longest_chunk}
 use Rattle.geos_model.specs.Machine.{kind_of}
 use Rattle.geos_model.specs.Meaning.{conditions, effect, chunk_at, with_chunk, on_chunk, on_new_bytes, no_room}
 use Rattle.geos_model.specs.Refusal.{Conditions, first_refusal}
@@ -46,7 +46,7 @@ abbrev pub BuildsFor : Splice → List ℕ → (List ℕ → Conditions) → (Li
 BuildsFor s bytes own to = Builds (own bytes ++ too_long (to bytes)) s bytes (to bytes) (length bytes + length (to bytes))
 
 -- no heap has room for more bytes than these in a chunk
-pub fits_short : (m : ChunkMap) (h : ℕ) (bytes : List ℕ) → is_heap_map m ≡ true → contains_key m h ≡ true → fits_with m h bytes ≡ true → length bytes ≤ 65498
+pub fits_short : (m : ChunkMap) (h : ℕ) (bytes : List ℕ) → is_heap_map m ≡ true → contains_key m h ≡ true → fits_with m h bytes ≡ true → length bytes ≤ longest_chunk
 unfolding fits_with fits
 fits_short m h bytes heap live fit =
     let shown = heap_map-table m heap in
@@ -55,24 +55,24 @@ fits_short m h bytes heap live fit =
     let parts = is_chunk_handle-parts h (live_handle m h heap live) in
     let at : 16 + 2 * i ≡ h = omega (arith, parts.0, parts.2) in
     let is : table_map 2 16 (put_at t i bytes) ≡ insert m h bytes = table_map-put (omega arith) 16 t i bytes ∙ ap (λ (k : ℕ). insert (table_map 2 16 t) k bytes) at ∙ ap (λ (x : ChunkMap). insert x h bytes) (sym shown.2) in
-    let most : need (insert m h bytes) ≤ 65520 = leb-true _ _ fit in
+    let most : need (insert m h bytes) ≤ capacity = leb-true _ _ fit in
     chunk_length_le (put_at t i bytes) (trimmed-put t i bytes shown.1) (omega (arith, most, ap need is)) i bytes (slot_at-put_same t i bytes)
 
-long_full : (m : ChunkMap) (h : ℕ) (bytes : List ℕ) → is_heap_map m ≡ true → contains_key m h ≡ true → nat_lt 65498 (length bytes) ≡ true → not (fits_with m h bytes) ≡ true
+long_full : (m : ChunkMap) (h : ℕ) (bytes : List ℕ) → is_heap_map m ≡ true → contains_key m h ≡ true → nat_lt longest_chunk (length bytes) ≡ true → not (fits_with m h bytes) ≡ true
 long_full m h bytes heap live long = elim (cases_Bool (fits_with m h bytes)) [
-  | inl fit ↦ let no : false ≡ true = sym (le-ltb 65498 (length bytes) (fits_short m h bytes heap live fit)) ∙ long in cc
+  | inl fit ↦ let no : false ≡ true = sym (le-ltb longest_chunk (length bytes) (fits_short m h bytes heap live fit)) ∙ long in cc
   | inr full ↦ rw full refl
 ]
 
 -- the bytes that a chunk was given
 pub chunk_with : (d : Document) (b c : ℕ) (bytes : List ℕ) → chunk_at (with_chunk d b c bytes) b c ≡ bytes
 chunk_with d b c bytes =
-    ap (λ (o : Option Block). chunk_bytes (option_map_or (λ (k : Block). chunks_of_body k.body) o empty) c) (get-put_same d.blocks b (record { user_id = user_id_of d b; body = Heap (insert (chunks_of d b) c bytes) }) b refl)
+    ap (λ (o : Option Block). chunk_bytes (option_map_or (λ (k : Block). chunks_of_body k.body) o empty) c) (get-put_same d.blocks b (record { attributes = attributes_of d b; body = Heap (insert (chunks_of d b) c bytes) }) b refl)
     ∙ bytes-put (chunks_of d b) c bytes
 
-short_by : (n k : ℕ) → k ≡ n → nat_lt 65498 n ≡ false → k ≤ 65498
-short_by n k same e = elim (cases_lt 65498 n) [
-  | inl l ↦ let no : false ≡ true = sym e ∙ lt-ltb 65498 n l in cc
+short_by : (n k : ℕ) → k ≡ n → nat_lt longest_chunk n ≡ false → k ≤ longest_chunk
+short_by n k same e = elim (cases_lt longest_chunk n) [
+  | inl l ↦ let no : false ≡ true = sym e ∙ lt-ltb longest_chunk n l in cc
   | inr l ↦ omega arith
 ]
 
@@ -92,12 +92,12 @@ module _ (edit : Edit) (d : Document) (b : VmHandle) (c : ChunkHandle) (own : Li
     built_refused fault (inl memory) = inl memory
     built_refused fault (inr first) =
         let here : first_refusal (own old ++ too_long (to old)) ≡ Some fault = subst (λ (x : List ℕ). first_refusal (own x ++ too_long (to x)) ≡ Some fault) there.value first in
-        inr (past ∙ more_refused (own old) (means.are_own old) (nat_lt 65498 (length (to old))) (not (fits_with m c.0 (to old))) fault (long_full m c.0 (to old) there.valid there.live) here)
+        inr (past ∙ more_refused (own old) (means.are_own old) (nat_lt longest_chunk (length (to old))) (not (fits_with m c.0 (to old))) fault (long_full m c.0 (to old) there.valid there.live) here)
 
     module _ (s : Splice) (builds : BuildsFor s old own to) where
       refusal_is : first_refusal (conditions edit d) ≡ cond (fits_with m c.0 (forwards s old)) None (Some Full)
       refusal_is =
-          past ∙ more_accepted (own old) (means.are_own old) (nat_lt 65498 (length (to old))) (not (fits_with m c.0 (to old))) builds.accepted
+          past ∙ more_accepted (own old) (means.are_own old) (nat_lt longest_chunk (length (to old))) (not (fits_with m c.0 (to old))) builds.accepted
           ∙ turned (fits_with m c.0 (to old)) ∙ ap (λ (x : List ℕ). cond (fits_with m c.0 x) None (Some Full)) (sym builds.leads.gives)
         where
           turned : (fit : Bool) → cond (not fit) (Some Full) None ≡ cond fit None (Some Full)
@@ -112,7 +112,7 @@ module _ (edit : Edit) (d : Document) (b : VmHandle) (c : ChunkHandle) (own : Li
       splices : Splices edit d b c s done
       splices = record {
         stands = builds.leads.stands;
-        short = short_by (length (to old)) (length (forwards s old)) (ap length builds.leads.gives) (has_room (own old) (means.are_own old) (nat_lt 65498 (length (to old))) builds.accepted);
+        short = short_by (length (to old)) (length (forwards s old)) (ap length builds.leads.gives) (has_room (own old) (means.are_own old) (nat_lt longest_chunk (length (to old))) builds.accepted);
         refusal = refusal_is;
         document = ap (with_chunk d b.0 c.0) builds.leads.gives ∙ ap (λ p. p.0) (sym means.does);
         answer = ap (λ p. p.1) (sym means.does);

@@ -4,7 +4,7 @@ use Rattle.std.specs.List.{list_any, list_all}
 use Rattle.std.specs.FinMap.{get, contains_key}
 use Rattle.geos_model.specs.Heap.{ChunkMap, is_heap_map}
 use Rattle.geos_model.specs.Refusal.{Conditions, number_of_fault}
-use Rattle.geos_model.specs.Document.{Document, user_id_of, chunks_of}
+use Rattle.geos_model.specs.Document.{Document, attributes_of, chunks_of}
 use Rattle.geos_model.specs.Meaning.{chunk_at}
 use Rattle.geos_model.specs.declared.fault.Fault.{Fault}
 use Rattle.geos_model.specs.declared.fault.Fault.TheVariants.{NoChunk, NotArray, NoElement, NoName, BadChain, IsMap, NameInUse, CountFull, Range, TooBig, NoHandles, Full}
@@ -13,7 +13,7 @@ use Rattle.geos_model.specs.declared.command.Body.TheVariants.{Raw, Heap}
 
 -- the block under a handle is live and has this body
 abbrev pub IsBodyAt : Document → ℕ → Body → Type 0
-IsBodyAt d h body = get d.blocks h ≡ Some (record { user_id = user_id_of d h; body = body })
+IsBodyAt d h body = get d.blocks h ≡ Some (record { attributes = attributes_of d h; body = body })
 
 abbrev pub IsRawAt : Document → ℕ → List ℕ → Type 0
 IsRawAt d h bytes = IsBodyAt d h (Raw bytes)

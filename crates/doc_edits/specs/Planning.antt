@@ -25,7 +25,7 @@ abbrev pub kind_of_change : Change → Kind
 kind_of_change (changes.BlocksIn ms) = Made
 kind_of_change (changes.BlocksOut ms) = Freed
 kind_of_change (changes.Part b part) = In b
-kind_of_change (changes.UserId b old new) = Plain
+kind_of_change (changes.Attributes b old new) = Plain
 kind_of_change (changes.Map old new) = Plain
 
 -- the blocks that go by a change
@@ -33,7 +33,7 @@ abbrev pub freed_by : Change → List ℕ
 freed_by (changes.BlocksIn ms) = []
 freed_by (changes.BlocksOut ms) = handles_of (saved_blocks ms.list.items)
 freed_by (changes.Part b part) = []
-freed_by (changes.UserId b old new) = []
+freed_by (changes.Attributes b old new) = []
 freed_by (changes.Map old new) = []
 
 -- How many bytes a step is charged for: those that its change holds, and the zeros that it need not hold.
@@ -48,7 +48,7 @@ abbrev pub change_cost : Change → ℕ
 change_cost (changes.BlocksIn ms) = images_length (saved_blocks ms.list.items)
 change_cost (changes.BlocksOut ms) = images_length (saved_blocks ms.list.items)
 change_cost (changes.Part b part) = part_cost part
-change_cost (changes.UserId b old new) = 0
+change_cost (changes.Attributes b old new) = 0
 change_cost (changes.Map old new) = 0
 
 -- Nothing refuses the edit, and the change can be made in the document and means the edit.

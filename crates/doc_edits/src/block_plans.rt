@@ -3,7 +3,7 @@ ghost use Rattle.geos_model.specs.declared.command.Edit.TheVariants as edits;
 ghost use Rattle.vm_blocks.specs.Keeping.{is_loaded};
 ghost use Rattle.doc_edits.specs.Planning.{freed_by, Plans, RefusesAtHand};
 
-use geos_model::{Done, Fault, VmHandle};
+use geos_model::{Attributes, Done, Fault, VmHandle};
 use raw_region::SIZE;
 use std::alloc::Global;
 use vm_blocks::{Change, FileBlocks, Members, SavedBlock, saved_block};
@@ -26,7 +26,7 @@ pub fn plan_new_raw<S: Store>(
         Some(handle) => handle,
         None => return Err(Fault::NoHandles),
     };
-    let block = SavedBlock::zeros(alloc, user_id, size as usize)?;
+    let block = SavedBlock::zeros(alloc, Attributes { user_id }, size as usize)?;
     let made = Members::one(alloc, handle, block)?;
     Ok((Change::BlocksIn(made), Done::Block(handle)))
 }
@@ -44,7 +44,7 @@ pub fn plan_new_heap<S: Store>(
         Some(handle) => handle,
         None => return Err(Fault::NoHandles),
     };
-    let block = SavedBlock::empty_heap(alloc, user_id)?;
+    let block = SavedBlock::empty_heap(alloc, Attributes { user_id })?;
     let made = Members::one(alloc, handle, block)?;
     Ok((Change::BlocksIn(made), Done::Block(handle)))
 }
@@ -62,12 +62,12 @@ pub fn plan_free_block<S: Store>(
     if blocks.map_block() == handle {
         return Err(Fault::IsMap);
     }
-    let saved = saved_block(alloc, blocks.user_id(handle), blocks.body(handle))?;
+    let saved = saved_block(alloc, blocks.attributes(handle), blocks.body(handle))?;
     let freed = Members::one(alloc, handle, saved)?;
     Ok((Change::BlocksOut(freed), Done::Nothing))
 }
 
-/// Of the edit that makes a block with the body and the user ID of another, which is in memory.
+/// Of the edit that makes a block with the body and the attributes of another, which is in memory.
 pub fn plan_copy_block<S: Store>(
     alloc: Global,
     blocks: &FileBlocks<S>,
@@ -80,7 +80,7 @@ pub fn plan_copy_block<S: Store>(
         Some(handle) => handle,
         None => return Err(Fault::NoHandles),
     };
-    let copy = saved_block(alloc, blocks.user_id(from), blocks.body(from))?;
+    let copy = saved_block(alloc, blocks.attributes(from), blocks.body(from))?;
     let made = Members::one(alloc, handle, copy)?;
     Ok((Change::BlocksIn(made), Done::Block(handle)))
 }
@@ -96,10 +96,11 @@ pub fn plan_set_user_id<S: Store>(
     if !blocks.is_live(handle) {
         return Err(Fault::NoBlock);
     }
-    let change = Change::UserId {
+    let old = blocks.attributes(handle);
+    let change = Change::Attributes {
         handle,
-        old: blocks.user_id(handle),
-        new: user_id,
+        old,
+        new: Attributes { user_id, ..old },
     };
     Ok((change, Done::Nothing))
 }

@@ -28,7 +28,7 @@ pub fn info<S: Store>(blocks: &mut FileBlocks<S>, block: VmHandle) -> Result<Inf
     ensures { Sees S.facts blocks.old blocks.new (commands.Info block) (reply_by info_is result) }
 {
     blocks.load(block)?;
-    let user_id = blocks.user_id(block);
+    let user_id = blocks.attributes(block).user_id;
     match blocks.body(block) {
         BlockBody::Raw(body) => Ok(Info::Raw(user_id, body.bytes().len() as u32)),
         BlockBody::Heap(heap) => Ok(Info::Heap(user_id, heap.need())),

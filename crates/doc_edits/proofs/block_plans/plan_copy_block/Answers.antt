@@ -5,8 +5,8 @@ use Rattle.vm_blocks.proofs.KeepingLaws.{loaded-live}
 use Rattle.doc_edits.proofs.BlockPlans.{copy_planned, none_refused}
 use Rattle.doc_edits.proofs.block_plans.plan_copy_block.Goals as goal
 
-pub user_id-requires : goal.user_id-requires
-user_id-requires g c = loaded-live c.args.blocks.now c.args.from.0 c.requires
+pub attributes-requires : goal.attributes-requires
+attributes-requires g c = loaded-live c.args.blocks.now c.args.from.0 c.requires
 
 pub returns-in-None : goal.returns-in-None
 returns-in-None g c =
@@ -16,6 +16,6 @@ returns-in-None g c =
 pub returns : goal.returns
 returns g c =
     let d = c.args.blocks.now.document in let h = c.args.from in let new = c.in-Some.handle in
-    copy_planned d h c.user_id.result (body_of c.body.result.now) c.user_id.ensures c.body.ensures c.in_ok-made.made new (sym c.in-Some.ensures.value)
+    copy_planned d h c.attributes.result (body_of c.body.result.now) c.attributes.ensures c.body.ensures c.in_ok-made.made new (sym c.in-Some.ensures.value)
     (record { handle = c.in-Some.ensures.within; free = c.in-Some.ensures.free })
     (c.in_ok-made.ensures ∙ ap (λ (b : Block). (new.0, b) ∷ []) c.in_ok-copy.ensures)

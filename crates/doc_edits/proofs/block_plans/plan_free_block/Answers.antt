@@ -5,8 +5,8 @@ use Rattle.vm_blocks.proofs.KeepingLaws.{loaded-live}
 use Rattle.doc_edits.proofs.BlockPlans.{free_planned, map_refused}
 use Rattle.doc_edits.proofs.block_plans.plan_free_block.Goals as goal
 
-pub user_id-requires : goal.user_id-requires
-user_id-requires g c = loaded-live c.args.blocks.now c.args.handle.0 c.requires
+pub attributes-requires : goal.attributes-requires
+attributes-requires g c = loaded-live c.args.blocks.now c.args.handle.0 c.requires
 
 pub returns-then-eq-clause-planned : goal.returns-then-eq-clause-planned
 returns-then-eq-clause-planned g c =
@@ -18,7 +18,7 @@ pub returns-clause-planned : goal.returns-clause-planned
 returns-clause-planned g c =
     let d = c.args.blocks.now.document in let h = c.args.handle in
     let other : (d.map_block == h.0) ≡ false = sym (ap (λ n. n == h.0) c.map_block.ensures) ∙ sym c.if-eq.ensures in
-    free_planned d h c.user_id.result (body_of c.body.result.now) c.user_id.ensures c.body.ensures c.in_ok-freed.freed other (c.in_ok-freed.ensures ∙ ap (λ (b : Block). (h.0, b) ∷ []) c.in_ok-saved.ensures)
+    free_planned d h c.attributes.result (body_of c.body.result.now) c.attributes.ensures c.body.ensures c.in_ok-freed.freed other (c.in_ok-freed.ensures ∙ ap (λ (b : Block). (h.0, b) ∷ []) c.in_ok-saved.ensures)
 
 pub returns-clause-alone : goal.returns-clause-alone
 returns-clause-alone g c = ap handles_of c.in_ok-freed.ensures
