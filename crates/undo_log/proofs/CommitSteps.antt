@@ -1,6 +1,6 @@
 -- Over an honest store a commit is a step of the machine, and over any it is refused for a locked block before all else.
-use Rattle.std.proofs.Common.{◌≡◌, ◌⊎◌, ◌↔◌, ◌+◌, ◌==◌, ℕ, Bool, true, false, IsTrue, IfErr, List, [], ◌∷◌, Some, Result, Ok, Err, refl, sym, ap, subst, ◌∙◌, inl, inr}
-use Rattle.std.specs.Prelude.{IsErrOf, IfOk, MatchResult, ◌≢◌}
+use Rattle.std.proofs.Common.{◌≡◌, ◌⊎◌, ◌↔◌, ◌+◌, ◌==◌, Bool, true, false, IsTrue, List, [], ◌∷◌, Some, Result, Ok, Err, refl, sym, ap, subst, ◌∙◌, inl, inr}
+use Rattle.std.specs.Prelude.{IsErrOf, IfOk, MatchResult}
 use Rattle.std.proofs.lemmas.Bool.{ne_eqb, true≢false}
 use Rattle.geos_model.specs.Document.{Document, IsValid}
 use Rattle.geos_model.specs.Refusal.{first_refusal}
@@ -14,14 +14,14 @@ use Rattle.geos_model.specs.declared.fault.Fault.{Fault}
 use Rattle.geos_model.specs.declared.fault.Fault.TheVariants.{Memory, File, Locked, Worn}
 use Rattle.vm_store.specs.Facts.{StoreFacts}
 use Rattle.vm_file.specs.Calls.{IsCommitRefusal, IsSupply, last_sequence}
-use Rattle.vm_file.specs.Disk.{Commits, Drifts, IsSettled, Passes}
+use Rattle.vm_file.specs.Disk.{Commits, Drifts, IsSettled}
 use Rattle.vm_file.proofs.Passing.{Commits-refused, Passes-refl}
 use Rattle.vm_file.specs.Effects.{IsCommit, Fails, IsWorn}
 use Rattle.vm_file.specs.Documents.{Documents}
 use Rattle.vm_blocks.specs.declared.change.Change.{Change}
 use Rattle.vm_blocks.specs.declared.change.Direction.TheVariants.{Backwards}
 use Rattle.undo_log.specs.Locking.{IsHeld, TriesCommit}
-use Rattle.undo_log.specs.Records.{SessionState, file_of, has_locks, locks_in, machine_of, has_failed, AreListed, AreSteps, IsExact, IsStep}
+use Rattle.undo_log.specs.Records.{SessionState, file_of, has_locks, locks_in, machine_of, has_failed, AreListed, AreSteps, IsStep}
 use Rattle.undo_log.proofs.Keeping.{drifted_listed, failed_true, machine_is, same_exact}
 use Rattle.undo_log.proofs.Locks.{no_locks}
 

@@ -32,7 +32,7 @@ use Rattle.vm_blocks.specs.Preparing.{AreUnlocked, BodyTakes, IsAtHand, IsOutOfR
 use Rattle.vm_blocks.specs.declared.change.Change.{Change}
 use Rattle.vm_blocks.specs.declared.change.Change.TheVariants as changes
 use Rattle.vm_blocks.specs.declared.change.Direction.TheVariants.{Backwards}
-use Rattle.vm_blocks.proofs.KeepingLaws.{honest-steady, keeps-passes, keeps-drifts, keeps-frames, keeps-locks, keeps-same, lacks-damaged, lacks-later, loaded-resident, resident-open}
+use Rattle.vm_blocks.proofs.KeepingLaws.{honest-steady, keeps-passes, keeps-drifts, keeps-frames, keeps-locks, lacks-damaged, lacks-later, loaded-resident, resident-open}
 use Rattle.vm_blocks.proofs.Preparing.{made_on}
 use Rattle.doc_edits.specs.Building.{is_of_chain}
 use Rattle.doc_edits.specs.Planning.{freed_by, kind_of_change, Plans, Refuses, RefusesAtHand}
@@ -52,7 +52,7 @@ in_reach : {S : Type 0} (c : Change) (state : CacheState S) → length state.res
 in_reach (changes.BlocksIn ms) state few at_hand out = out
 in_reach (changes.BlocksOut ms) state few at_hand out = out
 in_reach (changes.Part b part) state few at_hand out = true≢false (sym out ∙ resident-open state b.0 few (loaded-resident state b.0 at_hand))
-in_reach (changes.UserId b old new) state few at_hand out = out
+in_reach (changes.Attributes b old new) state few at_hand out = out
 in_reach (changes.Map old new) state few at_hand out = out
 
 -- The blocks that go by an edit that no lock bars aren't locked.
@@ -71,7 +71,7 @@ pub unlocked_change : (edit : Edit) (c : Change) (old mid : List Seat) → Keeps
 unlocked_change edit (changes.BlocksIn ms) old mid keeps free kind alone = tt
 unlocked_change edit (changes.BlocksOut ms) old mid keeps free kind alone = freed_unlocked edit (freed_by (changes.BlocksOut ms)) old mid keeps free kind alone
 unlocked_change edit (changes.Part b part) old mid keeps free kind alone = tt
-unlocked_change edit (changes.UserId b was is) old mid keeps free kind alone = tt
+unlocked_change edit (changes.Attributes b was is) old mid keeps free kind alone = tt
 unlocked_change edit (changes.Map was is) old mid keeps free kind alone = tt
 
 -- an edit of a user ID or of the map block needs no body
@@ -89,7 +89,7 @@ none_come_in : (c : Change) (k : Kind) → kind_of_change c ≡ k → k ≢ Made
 none_come_in (changes.BlocksIn ms) k kind other = absurd (other (sym kind))
 none_come_in (changes.BlocksOut ms) k kind other = refl
 none_come_in (changes.Part b part) k kind other = refl
-none_come_in (changes.UserId b was is) k kind other = refl
+none_come_in (changes.Attributes b was is) k kind other = refl
 none_come_in (changes.Map was is) k kind other = refl
 
 -- for an edit of a chain bodies are read
@@ -166,7 +166,7 @@ module _ {S : Type 0} (facts : S → StoreFacts) where
   plain_sure (changes.BlocksIn ms) state plain = absurd (cc plain)
   plain_sure (changes.BlocksOut ms) state plain = absurd (cc plain)
   plain_sure (changes.Part b part) state plain = absurd (cc plain)
-  plain_sure (changes.UserId b old new) state plain = (refl, tt, tt)
+  plain_sure (changes.Attributes b old new) state plain = (refl, tt, tt)
   plain_sure (changes.Map old new) state plain = (refl, tt, tt)
 
   -- the block of a part is in memory where the change was made
@@ -174,7 +174,7 @@ module _ {S : Type 0} (facts : S → StoreFacts) where
   made_at_hand (changes.BlocksIn ms) k state kind at_hand b is = absurd (cc (kind ∙ is))
   made_at_hand (changes.BlocksOut ms) k state kind at_hand b is = absurd (cc (kind ∙ is))
   made_at_hand (changes.Part h part) k state kind at_hand b is = let same : In h ≡ In b = kind ∙ is in subst (λ (x : VmHandle). is_loaded state x.0 ≡ true) (cc same) at_hand
-  made_at_hand (changes.UserId h old new) k state kind at_hand b is = absurd (cc (kind ∙ is))
+  made_at_hand (changes.Attributes h old new) k state kind at_hand b is = absurd (cc (kind ∙ is))
   made_at_hand (changes.Map old new) k state kind at_hand b is = absurd (cc (kind ∙ is))
 
   module _ (old new : SessionState S) (edit : Edit) (distinct : all_distinct (map (λ s. s.0) old.resident) ≡ true) (free : bars old.resident edit ≡ false) where

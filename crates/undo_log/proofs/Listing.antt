@@ -5,10 +5,11 @@ use Rattle.std.specs.List.{All}
 use Rattle.std.specs.FinMap.{get}
 use Rattle.std.proofs.lemmas.Bool.{cases_eq, true≢false}
 use Rattle.std.proofs.lemmas.List.Elements.{All-map}
-use Rattle.geos_model.specs.Document.{Block, Document, block_at, is_live, is_vm_handle, with_block, without_block, with_blocks, without_blocks, with_user_id, handles_of}
+use Rattle.geos_model.specs.Document.{Block, Document, block_at, is_live, is_vm_handle, with_block, without_block, with_blocks, without_blocks, with_attributes, handles_of}
 use Rattle.geos_model.specs.ElementArray.{all_distinct}
 use Rattle.geos_model.proofs.BlockLists.{put_stands, put_map_block}
 use Rattle.geos_model.proofs.HeapEdits.{get-put_same, get-put_other, get-taken_same, get-taken_other}
+use Rattle.geos_model.specs.declared.block.Attributes.{Attributes}
 use Rattle.vm_file.specs.Disk.{Drifts, IsListed}
 use Rattle.vm_blocks.specs.Changes.{made, flipped, part_made, turned, AreFree, HasMap, IsFree}
 use Rattle.vm_file.specs.Members.{saved_blocks}
@@ -85,17 +86,17 @@ part_alike a b h (parts.Chunk c s) same = put_alike a b h _ _ same
 part_alike a b h (parts.ChunkIn c content) same = put_alike a b h _ _ same
 part_alike a b h (parts.ChunkOut c content) same = put_alike a b h _ _ same
 
--- a body or a user ID changes, and no handle
+-- a body or attributes change, and no handle
 part_keeps : (d : Document) (h : ℕ) (p : PartChange) → is_live d h ≡ true → Alike d (part_made h p d)
 part_keeps d h (parts.Raw s) live = put_there d h _ live
 part_keeps d h (parts.Chunk c s) live = put_there d h _ live
 part_keeps d h (parts.ChunkIn c content) live = put_there d h _ live
 part_keeps d h (parts.ChunkOut c content) live = put_there d h _ live
 
-user_id_keeps : (d : Document) (h user_id : ℕ) → Alike d (with_user_id d h user_id)
-user_id_keeps d h user_id = of (get d.blocks h) refl
+attributes_keeps : (d : Document) (h : ℕ) (attributes : Attributes) → Alike d (with_attributes d h attributes)
+attributes_keeps d h attributes = of (get d.blocks h) refl
   where
-    of : (o : Option Block) → get d.blocks h ≡ o → Alike d (option_map_or (λ (b : Block). with_block d h (record b { user_id = user_id })) o d)
+    of : (o : Option Block) → get d.blocks h ≡ o → Alike d (option_map_or (λ (b : Block). with_block d h (record b { attributes = attributes })) o d)
     of None is = alike-refl d
     of (Some b) is = put_there d h _ (ap is_some is)
 
@@ -107,8 +108,8 @@ made_alike : (c : Change) (a b : Document) → Alike a b → Alike (made c a) (m
 made_alike (changes.BlocksIn ms) a b same = put_all_alike a b (saved_blocks ms.list.items) same
 made_alike (changes.BlocksOut ms) a b same = taken_all_alike a b (handles_of (saved_blocks ms.list.items)) same
 made_alike (changes.Part h part) a b same = part_alike a b h.0 part same
-made_alike (changes.UserId h old new) a b same =
-    alike-trans (with_user_id a h.0 new) a (with_user_id b h.0 new) (alike-back a (with_user_id a h.0 new) (user_id_keeps a h.0 new)) (alike-trans a b (with_user_id b h.0 new) same (user_id_keeps b h.0 new))
+made_alike (changes.Attributes h old new) a b same =
+    alike-trans (with_attributes a h.0 new) a (with_attributes b h.0 new) (alike-back a (with_attributes a h.0 new) (attributes_keeps a h.0 new)) (alike-trans a b (with_attributes b h.0 new) same (attributes_keeps b h.0 new))
 made_alike (changes.Map old new) a b same = record { live = same.live; map_block = refl }
 
 -- What is known by handles alone stays known.
@@ -128,7 +129,7 @@ listed_alike (changes.BlocksOut ms) a b same can = record {
   distinct = can.distinct;
 }
 listed_alike (changes.Part h part) a b same live = same.live h.0 ∙ live
-listed_alike (changes.UserId h old new) a b same live = same.live h.0 ∙ live
+listed_alike (changes.Attributes h old new) a b same live = same.live h.0 ∙ live
 listed_alike (changes.Map old new) a b same has = record { stands = same.map_block ∙ has.stands; live = λ some. same.live new.0 ∙ has.live some }
 
 -- and was so before
@@ -180,7 +181,7 @@ module _ (honest : Bool) (d : Document) (known : IsListed honest d) where
   back_listed (changes.BlocksIn ms) are = in_listed (saved_blocks ms.list.items) are
   back_listed (changes.BlocksOut ms) can = out_listed (handles_of (saved_blocks ms.list.items)) can
   back_listed (changes.Part h part) live = (part_keeps d h.0 part live).live h.0 ∙ live
-  back_listed (changes.UserId h old new) live = (user_id_keeps d h.0 new).live h.0 ∙ live
+  back_listed (changes.Attributes h old new) live = (attributes_keeps d h.0 new).live h.0 ∙ live
   back_listed (changes.Map old new) has = map_listed old.0 new.0 has
 
 -- Both leave the handles and the map block as they were.
@@ -219,7 +220,7 @@ back_alike (changes.BlocksOut ms) d can = out_back d (saved_blocks ms.list.items
 back_alike (changes.Part h part) d live =
     let keeps = part_keeps d h.0 part live in
     alike-trans d (made (changes.Part h part) d) _ keeps (part_keeps (made (changes.Part h part) d) h.0 _ (keeps.live h.0 ∙ live))
-back_alike (changes.UserId h old new) d live = alike-trans d (with_user_id d h.0 new) _ (user_id_keeps d h.0 new) (user_id_keeps (with_user_id d h.0 new) h.0 old)
+back_alike (changes.Attributes h old new) d live = alike-trans d (with_attributes d h.0 new) _ (attributes_keeps d h.0 new) (attributes_keeps (with_attributes d h.0 new) h.0 old)
 back_alike (changes.Map old new) d has = record { live = λ _. refl; map_block = sym has.stands }
 
 -- So it is of records: the newest of one list is made, and is the newest of the other.

@@ -1,11 +1,11 @@
 -- What locks do is a step of the machine, and what is lent of a locked block is what the machine lends.
-use Rattle.std.proofs.Common.{◌≡◌, ◌≢◌, ◌⊎◌, ◌<◌, ◌≤◌, ◌+◌, ◌-◌, ◌==◌, ℕ, Bool, true, false, not, cond, List, [], map, length, Option, None, Some, Result, Ok, Err, IfErr, OnOk, OnErr, inl, inr, refl, sym, ap, subst, ◌∙◌, arith, eq-eqb, leb-true}
-use Rattle.std.specs.Prelude.{◌&&◌, nat_le, nat_lt, if◌then◌else◌}
+use Rattle.std.proofs.Common.{◌≡◌, ◌≢◌, ◌⊎◌, ◌<◌, ◌≤◌, ◌+◌, ◌-◌, ◌==◌, ℕ, Bool, true, false, not, [], map, length, Option, None, Some, Result, Ok, Err, IfErr, OnOk, OnErr, inl, inr, refl, sym, ap, ◌∙◌, arith, eq-eqb, leb-true}
+use Rattle.std.specs.Prelude.{nat_le, if◌then◌else◌}
 use Rattle.std.specs.FinMap.{get, get-empty, empty, insert, remove}
 use Rattle.std.specs.Ordering.{nat_cmp}
 use Rattle.std.specs.Option.{option_map, option_map_or}
 use Rattle.std.proofs.lemmas.Bool.{cases_Bool, cases_eq, cond-true, cond-false, leb-false, ne_eqb}
-use Rattle.geos_model.specs.Document.{Block, Document, is_live, is_raw, is_heap_body, chunks_of, chunks_of_body, raw_bytes_of, bytes_of_body}
+use Rattle.geos_model.specs.Document.{Block, is_live, is_heap_body, chunks_of_body, bytes_of_body}
 use Rattle.geos_model.specs.ElementArray.{all_distinct}
 use Rattle.geos_model.specs.Machine as machine
 use Rattle.geos_model.specs.Machine.{AreValidLocks, Machine, Step, lock_count, most_locks}
@@ -14,7 +14,7 @@ use Rattle.geos_model.specs.declared.command.Body.{Body}
 use Rattle.geos_model.specs.declared.command.Body.TheVariants as bodies
 use Rattle.geos_model.specs.declared.command.Command.TheVariants as commands
 use Rattle.geos_model.specs.declared.fault.Fault.{Fault}
-use Rattle.geos_model.specs.declared.fault.Fault.TheVariants.{NoBlock, NotLocked, LockLimit, CacheFull}
+use Rattle.geos_model.specs.declared.fault.Fault.TheVariants.{NoBlock, LockLimit, CacheFull}
 use Rattle.geos_model.specs.declared.handle.VmHandle.{VmHandle}
 use Rattle.geos_model.proofs.HeapEdits.{get-put_same, get-put_other, get-taken_same, get-taken_other}
 use Rattle.vm_store.specs.Facts.{StoreFacts}

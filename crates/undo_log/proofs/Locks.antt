@@ -1,5 +1,5 @@
 -- The locks of a machine are those of the blocks in memory.
-use Rattle.std.proofs.Common.{◌≡◌, ◌≢◌, ℕ, ◌+◌, ◌-◌, ◌<◌, ◌==◌, Bool, true, false, not, cond, nat_eq, nat_cmp, List, [], ◌∷◌, map, Option, None, Some, is_some, unwrap_or, inl, inr, refl, sym, ap, subst, ◌∙◌, arith, lt-ltb, ltb-false}
+use Rattle.std.proofs.Common.{◌≡◌, ◌≢◌, ℕ, ◌+◌, ◌==◌, Bool, true, false, not, cond, nat_eq, nat_cmp, List, [], ◌∷◌, map, Option, None, Some, is_some, unwrap_or, inl, inr, refl, sym, ap, ◌∙◌, arith, lt-ltb, ltb-false}
 use Rattle.std.specs.Prelude.{◌&&◌, ◌||◌, nat_le, nat_lt, if◌then◌else◌}
 use Rattle.std.proofs.lemmas.Bool.{and_parts, cases_Bool, cases_eq, cond-true, cond-false, eq-eqb, ne_eqb}
 use Rattle.std.proofs.lemmas.List.Sums.{sum_by-cons}

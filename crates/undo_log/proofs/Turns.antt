@@ -23,7 +23,7 @@ use Rattle.vm_blocks.proofs.KeepingLaws.{honest-steady, keeps-drifts, open-shut}
 use Rattle.vm_blocks.proofs.Preparing.{applies_takes}
 use Rattle.doc_edits.specs.Planning.{kind_of_change}
 use Rattle.undo_log.specs.Records.{SessionState, blocks_of, has_locks, machine_of, steps, CanTake, AreListed, AreSteps, IsExact, IsStep, KeepsSession}
-use Rattle.undo_log.specs.Turning.{Moves, Stays, Turns, CanTurn, CantMake, CantTurn, IsRefusedTurn, IsRefusedUnlocked, IsSure, IsSureKind}
+use Rattle.undo_log.specs.Turning.{Moves, Stays, Turns, CanTurn, CantMake, CantTurn, IsRefusedUnlocked, IsSure, IsSureKind}
 use Rattle.undo_log.proofs.Answers.{undo_moved, redo_moved}
 use Rattle.undo_log.proofs.Keeping.{answers_on, gives_up, keeps_refl, kept_exact, kept_machine, machine_with, passed_machine}
 use Rattle.undo_log.proofs.Listing.{drifted, are_listed_alike, moved_listed}
@@ -40,7 +40,7 @@ pub within : {S : Type 0} (c : Change) (state : CacheState S) → is_full state 
 within (changes.BlocksIn ms) state room out = out
 within (changes.BlocksOut ms) state room out = out
 within (changes.Part b part) state room out = true≢false (sym out ∙ open-shut state b.0 room)
-within (changes.UserId b old new) state room out = out
+within (changes.Attributes b old new) state room out = out
 within (changes.Map old new) state room out = out
 
 -- and where no block is locked none that goes is.
@@ -48,7 +48,7 @@ pub none_locked : (c : Change) (ss : List Seat) → ((h : ℕ) → locks_of ss h
 none_locked (changes.BlocksIn ms) ss none = tt
 none_locked (changes.BlocksOut ms) ss none = λ i d within. none _
 none_locked (changes.Part b part) ss none = tt
-none_locked (changes.UserId b old new) ss none = tt
+none_locked (changes.Attributes b old new) ss none = tt
 none_locked (changes.Map old new) ss none = tt
 
 module _ {S : Type 0} (facts : S → StoreFacts) where
@@ -97,12 +97,12 @@ module _ {S : Type 0} (facts : S → StoreFacts) where
   may_take Forwards (changes.BlocksIn ms) cs state unsure = refl
   may_take Forwards (changes.BlocksOut ms) cs state unsure = absurd (unsure (refl, tt, tt))
   may_take Forwards (changes.Part b part) cs state unsure = refl
-  may_take Forwards (changes.UserId b old new) cs state unsure = absurd (unsure (refl, tt, tt))
+  may_take Forwards (changes.Attributes b old new) cs state unsure = absurd (unsure (refl, tt, tt))
   may_take Forwards (changes.Map old new) cs state unsure = absurd (unsure (refl, tt, tt))
   may_take Backwards (changes.BlocksIn ms) cs state unsure = absurd (unsure (refl, tt, tt))
   may_take Backwards (changes.BlocksOut ms) cs state unsure = refl
   may_take Backwards (changes.Part b part) cs state unsure = refl
-  may_take Backwards (changes.UserId b old new) cs state unsure = absurd (unsure (refl, tt, tt))
+  may_take Backwards (changes.Attributes b old new) cs state unsure = absurd (unsure (refl, tt, tt))
   may_take Backwards (changes.Map old new) cs state unsure = absurd (unsure (refl, tt, tt))
 
   -- What is sure can be taken.
@@ -111,12 +111,12 @@ module _ {S : Type 0} (facts : S → StoreFacts) where
   sure_can s Forwards (changes.BlocksIn ms) cs applies sure = absurd sure
   sure_can s Forwards (changes.BlocksOut ms) cs applies sure = (refl, tt, tt)
   sure_can s Forwards (changes.Part b part) cs applies sure = (refl, sure.1, applies_takes (turned Forwards (changes.Part b part)) s.document (applies sure.0))
-  sure_can s Forwards (changes.UserId b old new) cs applies sure = (refl, tt, tt)
+  sure_can s Forwards (changes.Attributes b old new) cs applies sure = (refl, tt, tt)
   sure_can s Forwards (changes.Map old new) cs applies sure = (refl, tt, tt)
   sure_can s Backwards (changes.BlocksIn ms) cs applies sure = (refl, tt, tt)
   sure_can s Backwards (changes.BlocksOut ms) cs applies sure = absurd sure
   sure_can s Backwards (changes.Part b part) cs applies sure = (refl, sure.1, applies_takes (turned Backwards (changes.Part b part)) s.document (applies sure.0))
-  sure_can s Backwards (changes.UserId b old new) cs applies sure = (refl, tt, tt)
+  sure_can s Backwards (changes.Attributes b old new) cs applies sure = (refl, tt, tt)
   sure_can s Backwards (changes.Map old new) cs applies sure = (refl, tt, tt)
 
   pub sure_turns : (s : SessionState S) (direction : Direction) (from : List Change) → (IsExact facts s → CanTake direction from s.document) → IsSure facts s direction from → CanTurn direction from (blocks_of s)

@@ -32,7 +32,7 @@ weight-le : (c : Change) → weight c ≤ change_cost c
 weight-le (changes.BlocksIn ms) = omega arith
 weight-le (changes.BlocksOut ms) = omega arith
 weight-le (changes.Part b part) = part_weight-le part
-weight-le (changes.UserId b old new) = omega arith
+weight-le (changes.Attributes b old new) = omega arith
 weight-le (changes.Map old new) = omega arith
 
 costs : (direction : Direction) (cs : List Change) (d : Document) → total_cost (steps direction cs d) ≡ sum_by change_cost cs

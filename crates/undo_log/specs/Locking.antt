@@ -1,5 +1,5 @@
 -- What locks refuse.
-use Rattle.std.specs.Prelude.{◌≡◌, ◌⊎◌, ◌≢◌, Bool, true, false, nat_lt, List, Result, Err, IfErr}
+use Rattle.std.specs.Prelude.{◌≡◌, ◌≢◌, Bool, true, false, nat_lt, List, Result, Err, IfErr}
 use Rattle.geos_model.specs.Document.{Document}
 use Rattle.geos_model.specs.Machine.{is_barred}
 use Rattle.geos_model.specs.declared.command.Edit.{Edit}
