@@ -14,7 +14,7 @@ use Rattle.block_cache.specs.State.{CacheState}
 use Rattle.vm_blocks.specs.Keeping.{Keeps, LacksFrame, is_loaded, is_shut_out}
 use Rattle.vm_blocks.specs.Kinds.{IsOfOther}
 use Rattle.vm_blocks.proofs.KeepingLaws.{keeps-full, keeps-shut}
-use Rattle.vm_chains.specs.Answers.{IsRootFault}
+use Rattle.vm_chains.specs.Answers.{IsOfEither}
 use Rattle.doc_edits.specs.Found.{AreLate, late_faults}
 use Rattle.doc_edits.specs.Room.{has_no_room, IsChainRefusal, IsRefusedEarly, IsRefusedUnseen}
 use Rattle.vm_chains.proofs.WalkLemmas.{raw_live}
@@ -69,22 +69,17 @@ root_refused d h full fault other = λ rest late.
 pub chain_full : (d : Document) (h : ℕ) (full : Bool) (fault : Fault) → is_raw d h ≡ true → (fault ≡ CacheFull) × (full ≡ true) → (rest : Conditions) → AreLate rest → first_refusal ((CacheFull, full) ∷ on_chain d h ++ rest) ≡ Some fault
 chain_full d h full fault raw is = λ rest late. full-chain late_faults rest late refl full is.1 d h (raw_live d h raw) raw ∙ ap (λ (f : Fault). Some f) (sym is.0)
 
-pub root_early : (d : Document) (h : ℕ) (full : Bool) (fault : Fault) → IsOfOther is_raw d h fault → IsRefusedEarly full fault
-root_early d h full fault (inl dead) = inl (inl dead.0)
-root_early d h full fault (inr heap) = inl (inr heap.0)
-
-pub early_of_chain : (lacks : Fault → Type 0) (full : Bool) (fault : Fault) → IsRefusedEarly full fault → IsChainRefusal lacks full fault
-early_of_chain lacks full fault (inl (inl dead)) = inl (inr (inl dead))
-early_of_chain lacks full fault (inl (inr heap)) = inl (inr (inr (inl heap)))
-early_of_chain lacks full fault (inr is) = inr is
+pub early_of_chain : (lacks root : Fault → Type 0) (full : Bool) (fault : Fault) → IsRefusedEarly root full fault → IsChainRefusal lacks root full fault
+early_of_chain lacks root full fault (inl refused) = inl (inr (inl refused))
+early_of_chain lacks root full fault (inr is) = inr is
 
 module _ (d : Document) (first second : ℕ) (full : Bool) (fault : Fault) where
-  pub roots_refused : IsRootFault fault → first_refusal (on_chains d first second) ≡ Some fault → first_refusal ((CacheFull, full) ∷ on_chains d first second) ≡ Some fault
+  pub roots_refused : IsOfEither d first second fault → first_refusal (on_chains d first second) ≡ Some fault → first_refusal ((CacheFull, full) ∷ on_chains d first second) ≡ Some fault
   roots_refused early is = still_first CacheFull full (on_chains d first second) fault (before early) is
     where
-      before : IsRootFault fault → ComesBefore fault CacheFull
-      before (inl dead) = subst (λ (f : Fault). ComesBefore f CacheFull) (sym dead) refl
-      before (inr heap) = subst (λ (f : Fault). ComesBefore f CacheFull) (sym heap) refl
+      before : IsOfEither d first second fault → ComesBefore fault CacheFull
+      before (inl other) = other_before is_raw d first fault other
+      before (inr other) = other_before is_raw d second fault other
 
   pub chains_full : is_raw d first ≡ true → is_raw d second ≡ true → (fault ≡ CacheFull) × (full ≡ true) → first_refusal ((CacheFull, full) ∷ on_chains d first second) ≡ Some fault
   chains_full mine other is = full-chains [] [] refl refl full is.1 d first second (raw_live d first mine) mine (raw_live d second other) other ∙ ap (λ (f : Fault). Some f) (sym is.0)

@@ -1,7 +1,7 @@
 -- What planning an edit comes to.
 use Rattle.std.specs.Prelude.{◌≡◌, ◌⊎◌, ◌+◌, ℕ, Bool, List, [], ◌∷◌, None, Some, length}
 use Rattle.geos_model.specs.Refusal.{first_refusal}
-use Rattle.geos_model.specs.Document.{Document, handles_of}
+use Rattle.geos_model.specs.Document.{Document, handles_of, is_raw}
 use Rattle.geos_model.specs.Meaning.{conditions, effect}
 use Rattle.geos_model.specs.Cost.{cost, images_length}
 use Rattle.geos_model.specs.Machine.{kind_of}
@@ -18,6 +18,7 @@ use Rattle.vm_blocks.specs.declared.change.Change.{Change}
 use Rattle.vm_blocks.specs.declared.change.Change.TheVariants as changes
 use Rattle.vm_blocks.specs.declared.change.PartChange.{PartChange}
 use Rattle.vm_blocks.specs.declared.change.PartChange.TheVariants as parts
+use Rattle.vm_blocks.specs.Kinds.{IsOfOther}
 use Rattle.vm_chains.specs.Answers.{IsChainFault}
 
 -- what kind of step a change is
@@ -65,12 +66,13 @@ pub record Plans (edit : Edit) (d : Document) (change : Change) (done : Done) : 
 abbrev pub RefusesAtHand : Edit → Document → Fault → Type 0
 RefusesAtHand edit d fault = (fault ≡ Memory) ⊎ (first_refusal (conditions edit d) ≡ Some fault)
 
--- What an edit of a chain may be refused for of any document. Of each body of the chain it is said as it was when it was read, so that over a
--- store that isn't steady no one document need have this refusal as its first.
-abbrev pub IsChainEditFault : Edit → Fault → Type 0
-IsChainEditFault (edits.CopyChain b) fault = IsChainFault fault ⊎ (fault ≡ NoHandles)
-IsChainEditFault (edits.FreeChain b) fault = IsChainFault fault ⊎ (fault ≡ IsMap)
-IsChainEditFault edit fault = ⊥
+-- What an edit of a chain may be refused for, of the document before: its root for what handles and kinds tell, and else for the chain. Of each
+-- body of the chain that is said as it was when it was read, so that over a store that isn't steady no one document need have it as its first
+-- refusal.
+abbrev pub IsChainEditFault : Edit → Document → Fault → Type 0
+IsChainEditFault (edits.CopyChain b) d fault = IsChainFault (IsOfOther is_raw d b.0) fault ⊎ (fault ≡ NoHandles)
+IsChainEditFault (edits.FreeChain b) d fault = IsChainFault (IsOfOther is_raw d b.0) fault ⊎ (fault ≡ IsMap)
+IsChainEditFault edit d fault = ⊥
 
 -- a fault of what the call may lack, or the first refusal of an edit for which there may be no room
 abbrev pub Refuses : (Fault → Type 0) → Bool → Edit → Document → Fault → Type 0

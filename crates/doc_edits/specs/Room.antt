@@ -6,7 +6,7 @@ use Rattle.geos_model.specs.declared.fault.Fault.{Fault}
 use Rattle.geos_model.specs.declared.fault.Fault.TheVariants.{CacheFull, NoBlock, WrongKind}
 use Rattle.block_cache.specs.State.{CacheState}
 use Rattle.vm_blocks.specs.Keeping.{is_full, is_loaded, is_shut_out}
-use Rattle.vm_chains.specs.Answers.{IsRootFault, IsWalkRefusal}
+use Rattle.vm_chains.specs.Answers.{IsWalkRefusal}
 
 -- A block that isn't locked can't be brought into memory where each frame has a locked one, and those of a chain are not even looked for.
 abbrev pub has_no_room : {S : Type 0} → CacheState S → Needs → Bool
@@ -23,10 +23,10 @@ ReadsNothing state NoBody conditions = Unit {0}
 ReadsNothing state (OneBody b) conditions = (is_loaded state b ≡ true) ⊎ IsRefusedUnseen conditions
 ReadsNothing state ManyBodies conditions = ⊥
 
--- a refusal of a command along a chain that is told before any block is looked into
-abbrev pub IsRefusedEarly : Bool → Fault → Type 0
-IsRefusedEarly full fault = IsRootFault fault ⊎ ((fault ≡ CacheFull) × (full ≡ true))
+-- A refusal of a command along a chain, whose root may be refused so, that is told before any block is looked into.
+abbrev pub IsRefusedEarly : (Fault → Type 0) → Bool → Fault → Type 0
+IsRefusedEarly root full fault = root fault ⊎ ((fault ≡ CacheFull) × (full ≡ true))
 
 -- what a look-up along a chain is refused for, over any store
-abbrev pub IsChainRefusal : (Fault → Type 0) → Bool → Fault → Type 0
-IsChainRefusal lacks full fault = IsWalkRefusal lacks fault ⊎ ((fault ≡ CacheFull) × (full ≡ true))
+abbrev pub IsChainRefusal : (Fault → Type 0) → (Fault → Type 0) → Bool → Fault → Type 0
+IsChainRefusal lacks root full fault = IsWalkRefusal lacks root fault ⊎ ((fault ≡ CacheFull) × (full ≡ true))

@@ -31,7 +31,7 @@ pub fn plan_copy_chain<S: Store>(
         × IfErr result (λ fault. first_refusal ((CacheFull, true) ∷ conditions (edits.CopyChain root) blocks.old.document) ≡ Some fault) }
     ensures kind { IfOk result (λ p. kind_of_change p.0 ≡ Made) }
     ensures refusals { IfErr result (λ fault. Refuses (Lacks S.facts blocks.old.disk.store blocks.new.disk.store) (is_full blocks.old) (edits.CopyChain root) blocks.new.document fault
-        ⊎ IsChainEditFault (edits.CopyChain root) fault) }
+        ⊎ IsChainEditFault (edits.CopyChain root) blocks.old.document fault) }
 {
     test_chain(blocks, root)?;
     let copies = copy_plan(alloc, blocks, root)?;
@@ -56,7 +56,7 @@ pub fn plan_free_chain<S: Store>(
         × IfErr result (λ fault. first_refusal ((CacheFull, true) ∷ conditions (edits.FreeChain root) blocks.old.document) ≡ Some fault) }
     ensures kind { IfOk result (λ p. kind_of_change p.0 ≡ Freed) }
     ensures refusals { IfErr result (λ fault. Refuses (Lacks S.facts blocks.old.disk.store blocks.new.disk.store) (is_full blocks.old) (edits.FreeChain root) blocks.new.document fault
-        ⊎ IsChainEditFault (edits.FreeChain root) fault) }
+        ⊎ IsChainEditFault (edits.FreeChain root) blocks.old.document fault) }
 {
     test_chain(blocks, root)?;
     let chain = free_plan(alloc, blocks, root)?;

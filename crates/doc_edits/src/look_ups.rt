@@ -7,6 +7,7 @@
 ghost use Rattle.std.specs.Prelude.{◌≡◌, [], true, false, IfErr, MatchResult, Some, get_or, length};
 ghost use Rattle.std.specs.Borrow.{sem};
 ghost use Rattle.geos_model.specs.ArrayEdits.{array_in, on_array, on_element};
+ghost use Rattle.geos_model.specs.Document.{is_raw};
 ghost use Rattle.geos_model.specs.Reply.{AreEqual, BytesAre, NumberIs, TokenIs, reply_by, info_is, blocks_are, chunks_are};
 ghost use Rattle.geos_model.specs.declared.command.Command.TheVariants as commands;
 ghost use Rattle.vm_blocks.specs.contracts.file_blocks.FileBlocks.{the_row};
@@ -14,6 +15,8 @@ ghost use Rattle.vm_blocks.specs.Keeping.{Keeps, IsSteady, Lacks, is_full, is_sh
 ghost use Rattle.element_arrays.specs.Answering.{IsAnswered, IsRefused};
 ghost use Rattle.doc_edits.specs.Found.{IsChunkAt};
 ghost use Rattle.doc_edits.specs.LookUps.{FindsAtHand, Leaves, LooksUp, RefusesChunk, Sees, answer_of};
+ghost use Rattle.vm_blocks.specs.Kinds.{IsOfOther};
+ghost use Rattle.vm_chains.specs.Answers.{IsOfEither};
 ghost use Rattle.doc_edits.specs.Room.{IsChainRefusal};
 
 use crate::found::{bytes_in, heap_at, raw_at};
@@ -250,7 +253,7 @@ pub fn walk<S: Store>(
     ensures keeps { Keeps S.facts blocks.old blocks.new }
     ensures value { IsSteady S.facts blocks.old.disk.store → LooksUp (Lacks S.facts blocks.old.disk.store blocks.new.disk.store) (is_full blocks.old) (commands.Walk root) blocks.new.document (reply_by (λ handles. blocks_are handles.items) result) }
     ensures shut { is_full blocks.old ≡ true → (blocks.new ≡ blocks.old) × (answer_of true (commands.Walk root) blocks.old.document ≡ Some (reply_by (λ handles. blocks_are handles.items) result)) }
-    ensures refusals { IfErr result (IsChainRefusal (Lacks S.facts blocks.old.disk.store blocks.new.disk.store) (is_full blocks.old)) }
+    ensures refusals { IfErr result (IsChainRefusal (Lacks S.facts blocks.old.disk.store blocks.new.disk.store) (IsOfOther is_raw blocks.old.document root.0) (is_full blocks.old)) }
 {
     test_chain(blocks, root)?;
     vm_chains::walk(alloc, blocks, root)
@@ -265,7 +268,7 @@ pub fn chain_size<S: Store>(
     ensures keeps { Keeps S.facts blocks.old blocks.new }
     ensures value { IsSteady S.facts blocks.old.disk.store → LooksUp (Lacks S.facts blocks.old.disk.store blocks.new.disk.store) (is_full blocks.old) (commands.ChainSize root) blocks.new.document (reply_by NumberIs result) }
     ensures shut { is_full blocks.old ≡ true → (blocks.new ≡ blocks.old) × (answer_of true (commands.ChainSize root) blocks.old.document ≡ Some (reply_by NumberIs result)) }
-    ensures refusals { IfErr result (IsChainRefusal (Lacks S.facts blocks.old.disk.store blocks.new.disk.store) (is_full blocks.old)) }
+    ensures refusals { IfErr result (IsChainRefusal (Lacks S.facts blocks.old.disk.store blocks.new.disk.store) (IsOfOther is_raw blocks.old.document root.0) (is_full blocks.old)) }
 {
     test_chain(blocks, root)?;
     vm_chains::size(alloc, blocks, root)
@@ -281,7 +284,7 @@ pub fn chain_equal<S: Store>(
     ensures keeps { Keeps S.facts blocks.old blocks.new }
     ensures value { IsSteady S.facts blocks.old.disk.store → LooksUp (Lacks S.facts blocks.old.disk.store blocks.new.disk.store) (is_full blocks.old) (commands.ChainEqual first second) blocks.new.document (reply_by AreEqual result) }
     ensures shut { is_full blocks.old ≡ true → (blocks.new ≡ blocks.old) × (answer_of true (commands.ChainEqual first second) blocks.old.document ≡ Some (reply_by AreEqual result)) }
-    ensures refusals { IfErr result (IsChainRefusal (Lacks S.facts blocks.old.disk.store blocks.new.disk.store) (is_full blocks.old)) }
+    ensures refusals { IfErr result (IsChainRefusal (Lacks S.facts blocks.old.disk.store blocks.new.disk.store) (IsOfEither blocks.old.document first.0 second.0) (is_full blocks.old)) }
 {
     test_chains(blocks, first, second)?;
     vm_chains::equal(alloc, blocks, first, second)

@@ -43,7 +43,7 @@ pub fn plan<S: Store>(
     ensures kind { IfOk result (λ p. kind_of_change p.0 ≡ kind_of edit.now) }
     ensures alone { (b : VmHandle) → edit.now ≡ edits.FreeBlock b → IfOk result (λ p. freed_by p.0 ≡ b.0 ∷ []) }
     ensures refusals { IfErr result (λ fault. Refuses (Lacks S.facts blocks.old.disk.store blocks.new.disk.store) (has_no_room blocks.old (edit_needs edit.now)) edit.now blocks.new.document fault
-        ⊎ IsChainEditFault edit.now fault) }
+        ⊎ IsChainEditFault edit.now blocks.old.document fault) }
     ensures plain { kind_of edit.now ≡ Plain → (blocks.new ≡ blocks.old) × IfErr result (RefusesAtHand edit.now blocks.new.document) }
     ensures already { ReadsNothing blocks.old (edit_needs edit.now) (conditions edit.now blocks.old.document)
         → (blocks.new.disk ≡ blocks.old.disk) × (blocks.new.document ≡ blocks.old.document) × IfErr result (RefusesAtHand edit.now blocks.old.document) }

@@ -3,7 +3,10 @@ ghost use Rattle.std.specs.Prelude.{◌≡◌, ◌∷◌, ◌++◌, true, false,
 ghost use Rattle.geos_model.specs.Chain.{on_chain, on_chains};
 ghost use Rattle.geos_model.specs.Refusal.{Conditions, first_refusal};
 ghost use Rattle.geos_model.specs.declared.fault.Fault.TheVariants.{CacheFull};
+ghost use Rattle.geos_model.specs.Document.{is_raw};
 ghost use Rattle.vm_blocks.specs.Keeping.{is_full};
+ghost use Rattle.vm_blocks.specs.Kinds.{IsOfOther};
+ghost use Rattle.vm_chains.specs.Answers.{IsOfEither};
 ghost use Rattle.doc_edits.specs.Found.{AreLate};
 ghost use Rattle.doc_edits.specs.Room.{IsRefusedEarly};
 
@@ -16,7 +19,7 @@ use vm_store::Store;
 pub fn test_chain<S: Store>(blocks: &FileBlocks<S>, root: VmHandle) -> Result<(), Fault>
     ensures value { MatchResult result (λ _. is_full blocks.now ≡ false)
         (λ fault. (rest : Conditions) → AreLate rest → first_refusal ((CacheFull, is_full blocks.now) ∷ on_chain blocks.now.document root.0 ++ rest) ≡ Some fault) }
-    ensures refusals { IfErr result (IsRefusedEarly (is_full blocks.now)) }
+    ensures refusals { IfErr result (IsRefusedEarly (IsOfOther is_raw blocks.now.document root.0) (is_full blocks.now)) }
 {
     test_root(blocks, root)?;
     test_frames(blocks)
@@ -30,7 +33,7 @@ pub fn test_chains<S: Store>(
 ) -> Result<(), Fault>
     ensures value { MatchResult result (λ _. is_full blocks.now ≡ false)
         (λ fault. first_refusal ((CacheFull, is_full blocks.now) ∷ on_chains blocks.now.document first.0 second.0) ≡ Some fault) }
-    ensures refusals { IfErr result (IsRefusedEarly (is_full blocks.now)) }
+    ensures refusals { IfErr result (IsRefusedEarly (IsOfEither blocks.now.document first.0 second.0) (is_full blocks.now)) }
 {
     test_roots(blocks, first, second)?;
     test_frames(blocks)

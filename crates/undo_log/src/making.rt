@@ -37,7 +37,7 @@ pub fn make<S: Store>(
     requires unlocked { bars blocks.old.resident edit.now ≡ false }
     ensures ok { IfOk result (λ p. IsMade S.facts edit.now blocks.old blocks.new p.0 p.1) }
     ensures err { OnErr result (Keeps S.facts blocks.old blocks.new) }
-    ensures refusals { IfErr result (λ fault. Refuses (Lacks S.facts blocks.old.disk.store blocks.new.disk.store) (has_no_room blocks.old (edit_needs edit.now)) edit.now blocks.new.document fault ⊎ IsChainEditFault edit.now fault) }
+    ensures refusals { IfErr result (λ fault. Refuses (Lacks S.facts blocks.old.disk.store blocks.new.disk.store) (has_no_room blocks.old (edit_needs edit.now)) edit.now blocks.new.document fault ⊎ IsChainEditFault edit.now blocks.old.document fault) }
     ensures rules { IsTrue (S.facts blocks.old.disk.store).honest → IfErr result (Refuses (Lacks S.facts blocks.old.disk.store blocks.new.disk.store) (has_no_room blocks.old (edit_needs edit.now)) edit.now blocks.new.document) }
     ensures plain { kind_of edit.now ≡ Plain → (blocks.new.disk ≡ blocks.old.disk) × IfErr result (RefusesAtHand edit.now blocks.new.document) }
     ensures shut { has_no_room blocks.old (edit_needs edit.now) ≡ true → (blocks.new ≡ blocks.old)

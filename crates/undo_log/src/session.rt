@@ -4,7 +4,7 @@ ghost use Rattle.std.specs.Result.{IsErrAnd};
 ghost use Rattle.std.specs.Borrow.{sem};
 ghost use Rattle.std.specs.FinMap.{get};
 ghost use Rattle.std.specs.Option.{option_map};
-ghost use Rattle.geos_model.specs.Document.{Document};
+ghost use Rattle.geos_model.specs.Document.{Document, is_raw};
 ghost use Rattle.geos_model.specs.File.{stands};
 ghost use Rattle.geos_model.specs.Meaning.{conditions};
 ghost use Rattle.geos_model.specs.Reply.{Accepted, Refused as RefusedWith, AreEqual, BytesAre, NumberIs, TokenIs, reply_by, reply_of_done, info_is, blocks_are, chunks_are, found};
@@ -19,9 +19,11 @@ ghost use Rattle.block_cache.specs.Bodies.{body_of};
 ghost use Rattle.block_cache.specs.State.{locks_of, locked_count};
 ghost use Rattle.vm_blocks.specs.Committing.{IsSavedAs};
 ghost use Rattle.vm_blocks.specs.Keeping.{IsSteady, Lacks, is_full, is_loaded};
+ghost use Rattle.vm_blocks.specs.Kinds.{IsOfOther};
 ghost use Rattle.vm_blocks.specs.Locking.{CantLock, GainsLock, HasNoLock, LosesLock};
 ghost use Rattle.vm_blocks.specs.Opening.{IsOpenedFrom, IsNotOpened, IsMadeIn, IsNotMade};
 ghost use Rattle.vm_blocks.specs.declared.change.Direction.TheVariants.{Backwards, Forwards};
+ghost use Rattle.vm_chains.specs.Answers.{IsOfEither};
 ghost use Rattle.doc_edits.specs.LookUps.{Leaves, LooksUp, answer_of};
 ghost use Rattle.doc_edits.specs.Planning.{IsChainEditFault, Refuses};
 ghost use Rattle.doc_edits.specs.Room.{has_no_room, IsChainRefusal, ReadsNothing};
@@ -230,7 +232,7 @@ impl<S: Store> Session<S> {
         ensures err { OnErr result (KeepsSession S.facts self.old self.new) }
         ensures refusals { IfErr result (λ fault. IsBarred edit.now self.old fault
             ⊎ (Refuses (Lacks S.facts self.old.disk.store self.new.disk.store) (has_no_room (blocks_of self.old) (edit_needs edit.now)) edit.now self.new.document fault
-            ⊎ IsChainEditFault edit.now fault)) }
+            ⊎ IsChainEditFault edit.now self.old.document fault)) }
         ensures locked { ((target : Bool) → is_barred edit.now (machine_of target self.old) ≡ true) → (result ≡ Err Fault.Locked) × (self.new ≡ self.old) }
         ensures shut { has_no_room (blocks_of self.old) (edit_needs edit.now) ≡ true → (self.new ≡ self.old)
             × IsErrAnd result (λ fault. IsBarred edit.now self.old fault ⊎ Refuses (λ f. f ≡ Fault.Memory) true edit.now self.old.document fault) }
@@ -632,7 +634,7 @@ impl<S: Store> Session<S> {
         ensures step { IsStep S.facts self.old self.new (commands.Walk root) (reply_by (λ handles. blocks_are handles.items) result) }
         ensures value { IsSteady S.facts self.old.disk.store → LooksUp (Lacks S.facts self.old.disk.store self.new.disk.store) (is_full (blocks_of self.old)) (commands.Walk root) self.new.document (reply_by (λ handles. blocks_are handles.items) result) }
         ensures shut { is_full (blocks_of self.old) ≡ true → (self.new ≡ self.old) × (answer_of true (commands.Walk root) self.old.document ≡ Some (reply_by (λ handles. blocks_are handles.items) result)) }
-        ensures refusals { IfErr result (IsChainRefusal (Lacks S.facts self.old.disk.store self.new.disk.store) (is_full (blocks_of self.old))) }
+        ensures refusals { IfErr result (IsChainRefusal (Lacks S.facts self.old.disk.store self.new.disk.store) (IsOfOther is_raw self.old.document root.0) (is_full (blocks_of self.old))) }
     {
         self.blocks.validity();
         look_ups::walk(self.alloc, &mut self.blocks, root)
@@ -644,7 +646,7 @@ impl<S: Store> Session<S> {
         ensures step { IsStep S.facts self.old self.new (commands.ChainSize root) (reply_by NumberIs result) }
         ensures value { IsSteady S.facts self.old.disk.store → LooksUp (Lacks S.facts self.old.disk.store self.new.disk.store) (is_full (blocks_of self.old)) (commands.ChainSize root) self.new.document (reply_by NumberIs result) }
         ensures shut { is_full (blocks_of self.old) ≡ true → (self.new ≡ self.old) × (answer_of true (commands.ChainSize root) self.old.document ≡ Some (reply_by NumberIs result)) }
-        ensures refusals { IfErr result (IsChainRefusal (Lacks S.facts self.old.disk.store self.new.disk.store) (is_full (blocks_of self.old))) }
+        ensures refusals { IfErr result (IsChainRefusal (Lacks S.facts self.old.disk.store self.new.disk.store) (IsOfOther is_raw self.old.document root.0) (is_full (blocks_of self.old))) }
     {
         self.blocks.validity();
         look_ups::chain_size(self.alloc, &mut self.blocks, root)
@@ -656,7 +658,7 @@ impl<S: Store> Session<S> {
         ensures step { IsStep S.facts self.old self.new (commands.ChainEqual first second) (reply_by AreEqual result) }
         ensures value { IsSteady S.facts self.old.disk.store → LooksUp (Lacks S.facts self.old.disk.store self.new.disk.store) (is_full (blocks_of self.old)) (commands.ChainEqual first second) self.new.document (reply_by AreEqual result) }
         ensures shut { is_full (blocks_of self.old) ≡ true → (self.new ≡ self.old) × (answer_of true (commands.ChainEqual first second) self.old.document ≡ Some (reply_by AreEqual result)) }
-        ensures refusals { IfErr result (IsChainRefusal (Lacks S.facts self.old.disk.store self.new.disk.store) (is_full (blocks_of self.old))) }
+        ensures refusals { IfErr result (IsChainRefusal (Lacks S.facts self.old.disk.store self.new.disk.store) (IsOfEither self.old.document first.0 second.0) (is_full (blocks_of self.old))) }
     {
         self.blocks.validity();
         look_ups::chain_equal(self.alloc, &mut self.blocks, first, second)

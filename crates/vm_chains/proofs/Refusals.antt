@@ -7,7 +7,7 @@ use Rattle.geos_model.specs.Document.{Document, is_live, is_raw}
 use Rattle.geos_model.specs.Refusal.{Conditions, first_refusal}
 use Rattle.geos_model.specs.declared.fault.Fault.{Fault}
 use Rattle.geos_model.specs.declared.fault.Fault.TheVariants.{NoBlock, WrongKind, BadChain, IsMap, NoHandles}
-use Rattle.vm_chains.specs.Answers.{Answers, IsChainFault, IsRootFault, Refuses}
+use Rattle.vm_chains.specs.Answers.{Answers, Refuses}
 use Rattle.vm_blocks.specs.Kinds.{IsOfOther}
 use Rattle.vm_chains.specs.Walking.{Stops}
 use Rattle.vm_chains.proofs.WalkLemmas.{and_false, raw_live}
@@ -95,14 +95,6 @@ module _ (d : Document) (h : ℕ) where
     walked P (Ok a) raw some is = (of_one (is_live d h) (is_raw d h) (is_none (chain d h)) ∙ cond-true _ _ _ (raw_live d h raw) ∙ cond-true _ _ _ raw ∙ cond-false _ _ _ (some a is), is)
     walked P (Err fault) raw some (inl lack) = inl lack
     walked P (Err fault) raw some (inr bad) = inr (of_one (is_live d h) (is_raw d h) (is_none (chain d h)) ∙ cond-true _ _ _ (raw_live d h raw) ∙ cond-true _ _ _ raw ∙ cond-true _ _ _ (ap (λ (o : Option (List ℕ)). is_none o) bad.1) ∙ ap (λ (f : Fault). Some f) (sym bad.0))
-
-pub root_fault : (d : Document) (h : ℕ) (fault : Fault) → IsOfOther is_raw d h fault → IsRootFault fault
-root_fault d h fault (inl dead) = inl dead.0
-root_fault d h fault (inr heap) = inr heap.0
-
-pub of_chain : (fault : Fault) → IsRootFault fault → IsChainFault fault
-of_chain fault (inl dead) = inl dead
-of_chain fault (inr heap) = inr (inl heap)
 
 -- Two chains.
 module _ (d : Document) (f s : ℕ) where

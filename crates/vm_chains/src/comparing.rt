@@ -5,7 +5,7 @@ ghost use Rattle.geos_model.specs.Chain.{chain_blocks, on_chains, same_shape};
 ghost use Rattle.geos_model.specs.Document.{is_raw, is_vm_handle, most_blocks};
 ghost use Rattle.geos_model.specs.Refusal.{first_refusal};
 ghost use Rattle.vm_blocks.specs.Keeping.{Keeps, IsSteady, Lacks, is_full};
-ghost use Rattle.vm_chains.specs.Answers.{Answers, IsRootFault, IsWalkRefusal};
+ghost use Rattle.vm_chains.specs.Answers.{Answers, IsOfEither, IsWalkRefusal};
 ghost use Rattle.vm_chains.specs.Naming.{name_in, place_in};
 ghost use Rattle.vm_chains.specs.Numbers.{numbers};
 ghost use Rattle.vm_chains.specs.Walking.{AreBlocks, AreMembers};
@@ -30,7 +30,7 @@ pub fn equal<S: Store>(
     ensures value { IsSteady S.facts blocks.old.disk.store
         → Answers (Lacks S.facts blocks.old.disk.store blocks.new.disk.store) (on_chains blocks.new.document first.0 second.0)
         (λ same. same ≡ same_shape blocks.new.document (chain_blocks blocks.new.document first.0) (chain_blocks blocks.new.document second.0)) result }
-    ensures refusals { IfErr result (IsWalkRefusal (Lacks S.facts blocks.old.disk.store blocks.new.disk.store)) }
+    ensures refusals { IfErr result (IsWalkRefusal (Lacks S.facts blocks.old.disk.store blocks.new.disk.store) (IsOfEither blocks.old.document first.0 second.0)) }
 {
     test_roots(blocks, first, second)?;
     let first = walk_from(alloc, blocks, first)?;
@@ -47,7 +47,7 @@ pub fn test_roots<S: Store>(
     ensures value { MatchResult result
         (λ _. (is_raw blocks.now.document first.0 ≡ true) × (is_raw blocks.now.document second.0 ≡ true))
         (λ fault. first_refusal (on_chains blocks.now.document first.0 second.0) ≡ Some fault) }
-    ensures refusals { IfErr result IsRootFault }
+    ensures refusals { IfErr result (IsOfEither blocks.now.document first.0 second.0) }
 {
     if !blocks.is_live(first) || !blocks.is_live(second) {
         return Err(Fault::NoBlock);

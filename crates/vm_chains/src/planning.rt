@@ -1,10 +1,11 @@
 ghost use Rattle.std.specs.Prelude.{◌≡◌, ◌⊎◌, ◌==◌, ◌<◌, false, IfOk, IfErr, length};
 ghost use Rattle.std.specs.List.{list_any};
 ghost use Rattle.geos_model.specs.Chain.{blocks_of, chain_blocks, copies_of, copy_conditions, free_conditions, new_handles, renamed_blocks};
-ghost use Rattle.geos_model.specs.Document.{handles_of};
+ghost use Rattle.geos_model.specs.Document.{handles_of, is_raw};
 ghost use Rattle.geos_model.specs.declared.fault.Fault.TheVariants.{NoHandles, IsMap};
 ghost use Rattle.vm_blocks.specs.Changes.{Applies};
 ghost use Rattle.vm_blocks.specs.Keeping.{Keeps, IsSteady, Lacks, is_full};
+ghost use Rattle.vm_blocks.specs.Kinds.{IsOfOther};
 ghost use Rattle.vm_file.specs.Members.{saved_blocks};
 ghost use Rattle.vm_blocks.specs.Preparing.{CanLeave};
 ghost use Rattle.vm_blocks.specs.declared.change.Change.TheVariants as changes;
@@ -33,7 +34,7 @@ pub fn copy_plan<S: Store>(
         (λ plan. saved_blocks plan.list.items ≡ copies_of blocks.new.document (chain_blocks blocks.new.document root.0)) result }
     ensures applies { IfOk result (λ plan. Applies (changes.BlocksIn plan) blocks.new.document) }
     ensures some { IfOk result (λ plan. 0 < length plan.list.items) }
-    ensures refusals { IfErr result (λ fault. Lacks S.facts blocks.old.disk.store blocks.new.disk.store fault ⊎ IsChainFault fault ⊎ (fault ≡ NoHandles)) }
+    ensures refusals { IfErr result (λ fault. Lacks S.facts blocks.old.disk.store blocks.new.disk.store fault ⊎ IsChainFault (IsOfOther is_raw blocks.old.document root.0) fault ⊎ (fault ≡ NoHandles)) }
 {
     let handles = walk(alloc, blocks, root)?;
     let new = free_handles(alloc, blocks, handles.len())?;
@@ -56,7 +57,7 @@ pub fn free_plan<S: Store>(
         (λ plan. saved_blocks plan.list.items ≡ blocks_of blocks.new.document (chain_blocks blocks.new.document root.0)) result }
     ensures applies { IsSteady S.facts blocks.old.disk.store → IfOk result (λ plan. Applies (changes.BlocksOut plan) blocks.new.document) }
     ensures handles { IfOk result (λ plan. CanLeave blocks.new.document (handles_of (saved_blocks plan.list.items))) }
-    ensures refusals { IfErr result (λ fault. Lacks S.facts blocks.old.disk.store blocks.new.disk.store fault ⊎ IsChainFault fault ⊎ (fault ≡ IsMap)) }
+    ensures refusals { IfErr result (λ fault. Lacks S.facts blocks.old.disk.store blocks.new.disk.store fault ⊎ IsChainFault (IsOfOther is_raw blocks.old.document root.0) fault ⊎ (fault ≡ IsMap)) }
 {
     let handles = walk(alloc, blocks, root)?;
     if contains(&handles, blocks.map_block()) {

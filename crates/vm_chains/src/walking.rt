@@ -29,7 +29,7 @@ pub fn walk<S: Store>(
     ensures root { IfOk result (λ handles. BeginsWith root.0 (numbers handles.items)) }
     ensures live { IfOk result (λ handles. AreBlocks blocks.new.document handles.items) }
     ensures members { IsSteady S.facts blocks.old.disk.store → IfOk result (λ handles. AreMembers blocks.new.document handles.items) }
-    ensures refusals { IfErr result (IsWalkRefusal (Lacks S.facts blocks.old.disk.store blocks.new.disk.store)) }
+    ensures refusals { IfErr result (IsWalkRefusal (Lacks S.facts blocks.old.disk.store blocks.new.disk.store) (IsOfOther is_raw blocks.old.document root.0)) }
 {
     test_root(blocks, root)?;
     walk_from(alloc, blocks, root)

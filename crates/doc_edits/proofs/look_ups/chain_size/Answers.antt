@@ -3,6 +3,8 @@ use Rattle.geos_model.specs.Reply.{NumberIs}
 use Rattle.geos_model.specs.declared.command.Command.TheVariants as commands
 use Rattle.vm_blocks.specs.Keeping.{Lacks, is_full}
 use Rattle.vm_blocks.proofs.KeepingLaws.{keeps-refl}
+use Rattle.geos_model.specs.Document.{is_raw}
+use Rattle.vm_blocks.specs.Kinds.{IsOfOther}
 use Rattle.doc_edits.proofs.LookUps.{answered_so, look_up_refused, refused_as}
 use Rattle.doc_edits.proofs.Refusals.{carried_so}
 use Rattle.doc_edits.proofs.Rooms.{early_of_chain}
@@ -25,4 +27,4 @@ returns-in_err-test_chain-clause-shut g c = λ full.
 pub returns-in_err-test_chain-clause-refusals : goal.returns-in_err-test_chain-clause-refusals
 returns-in_err-test_chain-clause-refusals g c =
     let a = c.args.blocks.now in let fault = c.in_err-test_chain.field-0.0 in
-    carried_so c.from_residual.result _ fault c.from_residual.ensures.1 (early_of_chain (Lacks g.S.Store.facts a.disk.store a.disk.store) (is_full a) fault c.in_err-test_chain.ensures.refusals)
+    carried_so c.from_residual.result _ fault c.from_residual.ensures.1 (early_of_chain (Lacks g.S.Store.facts a.disk.store a.disk.store) (IsOfOther is_raw a.document c.args.root.0) (is_full a) fault c.in_err-test_chain.ensures.refusals)

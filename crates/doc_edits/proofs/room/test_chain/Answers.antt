@@ -1,8 +1,8 @@
-use Rattle.std.proofs.Common.{inr}
+use Rattle.std.proofs.Common.{inl, inr}
 use Rattle.std.proofs.lemmas.Result.{MatchResult-weaker}
 use Rattle.vm_blocks.specs.Keeping.{is_full}
 use Rattle.doc_edits.proofs.Refusals.{carried, carried_so, refused_then}
-use Rattle.doc_edits.proofs.Rooms.{chain_full, root_early, root_refused}
+use Rattle.doc_edits.proofs.Rooms.{chain_full, root_refused}
 use Rattle.doc_edits.proofs.room.test_chain.Goals as goal
 
 pub returns-in_err-test_root-clause-value : goal.returns-in_err-test_root-clause-value
@@ -12,8 +12,7 @@ returns-in_err-test_root-clause-value g c =
 
 pub returns-in_err-test_root-clause-refusals : goal.returns-in_err-test_root-clause-refusals
 returns-in_err-test_root-clause-refusals g c =
-    let state = c.args.blocks.now in let fault = c.in_err-test_root.field-0.0 in
-    carried_so c.from_residual.result _ fault c.from_residual.ensures.1 (root_early state.document c.args.root.0 (is_full state) fault c.in_err-test_root.ensures)
+    carried_so c.from_residual.result _ c.in_err-test_root.field-0.0 c.from_residual.ensures.1 (inl c.in_err-test_root.ensures)
 
 pub returns-clause-value : goal.returns-clause-value
 returns-clause-value g c =

@@ -8,12 +8,12 @@ use Rattle.geos_model.specs.declared.fault.Fault.{Fault}
 use Rattle.geos_model.specs.declared.fault.Fault.TheVariants.{BadChain}
 use Rattle.vm_blocks.specs.Keeping.{Keeps, IsSteady, Lacks}
 use Rattle.vm_blocks.proofs.KeepingLaws.{keeps-refl, keeps-same, keeps-steady, keeps-trans, keeps-was_steady, lacks-later}
-use Rattle.vm_chains.specs.Answers.{IsWalkRefusal, Refuses}
+use Rattle.vm_chains.specs.Answers.{IsOfEither, IsWalkRefusal, Refuses}
 use Rattle.vm_chains.specs.Numbers.{numbers}
 use Rattle.vm_chains.specs.Walking.{AreBlocks, AreMembers, Stops}
 use Rattle.vm_chains.proofs.ChainLemmas.{blocks_are}
 use Rattle.vm_chains.proofs.Loading.{carried, carried_so, still, still_blocks, still_room}
-use Rattle.vm_chains.proofs.Refusals.{answers, of_chain, two_stop, two_whole}
+use Rattle.vm_chains.proofs.Refusals.{answers, two_stop, two_whole}
 use Rattle.vm_chains.proofs.comparing.equal.Goals as goal
 
 abbrev AreRaw : ℕ → ℕ → Document → Type 0
@@ -30,10 +30,10 @@ walk_refused facts a r u f s fault begins walks steady raw stops =
       | inr bad ↦ inr bad
     ])
 
-stop_fault : {S : Type 0} (facts : S → StoreFacts) (a r u : CacheState S) (fault : Fault) → Keeps facts a r → Lacks facts r.disk.store u.disk.store fault ⊎ (fault ≡ BadChain) → IsWalkRefusal (Lacks facts a.disk.store u.disk.store) fault
-stop_fault facts a r u fault begins stops = elim stops as (λ _. IsWalkRefusal (Lacks facts a.disk.store u.disk.store) fault) [
+stop_fault : {S : Type 0} (facts : S → StoreFacts) (root : Fault → Type 0) (a r u : CacheState S) (fault : Fault) → Keeps facts a r → Lacks facts r.disk.store u.disk.store fault ⊎ (fault ≡ BadChain) → IsWalkRefusal (Lacks facts a.disk.store u.disk.store) root fault
+stop_fault facts root a r u fault begins stops = elim stops as (λ _. IsWalkRefusal (Lacks facts a.disk.store u.disk.store) root fault) [
   | inl lacks ↦ inl (lacks-later facts a r u.disk.store fault begins lacks)
-  | inr bad ↦ inr (inr (inr bad))
+  | inr bad ↦ inr (inr bad)
 ]
 
 pub returns-in_err-test_roots-clause-keeps : goal.returns-in_err-test_roots-clause-keeps
@@ -43,7 +43,7 @@ pub returns-in_err-test_roots-clause-value : goal.returns-in_err-test_roots-clau
 returns-in_err-test_roots-clause-value g c = λ steady. carried c.from_residual.result c.in_err-test_roots.field-0.0 _ _ c.from_residual.ensures.1 (inr c.in_err-test_roots.ensures.value)
 
 pub returns-in_err-test_roots-clause-refusals : goal.returns-in_err-test_roots-clause-refusals
-returns-in_err-test_roots-clause-refusals g c = carried_so c.from_residual.result c.in_err-test_roots.field-0.0 _ c.from_residual.ensures.1 (inr (of_chain c.in_err-test_roots.field-0.0 c.in_err-test_roots.ensures.refusals))
+returns-in_err-test_roots-clause-refusals g c = carried_so c.from_residual.result c.in_err-test_roots.field-0.0 _ c.from_residual.ensures.1 (inr (inl c.in_err-test_roots.ensures.refusals))
 
 pub returns-in_err-first-clause-value : goal.returns-in_err-first-clause-value
 returns-in_err-first-clause-value g c = λ steady.
@@ -58,7 +58,7 @@ returns-in_err-first-clause-value g c = λ steady.
 pub returns-in_err-first-clause-refusals : goal.returns-in_err-first-clause-refusals
 returns-in_err-first-clause-refusals g c =
     carried_so c.from_residual-in_err-first.result c.in_err-first.field-0.0 _ c.from_residual-in_err-first.ensures.1
-    (stop_fault g.S.Store.facts c.args.blocks.now c.args.blocks.now c.walk_from.new.blocks c.in_err-first.field-0.0 (keeps-refl g.S.Store.facts c.args.blocks.now) c.in_err-first.ensures.refusals)
+    (stop_fault g.S.Store.facts (IsOfEither c.args.blocks.now.document c.args.first.0 c.args.second.0) c.args.blocks.now c.args.blocks.now c.walk_from.new.blocks c.in_err-first.field-0.0 (keeps-refl g.S.Store.facts c.args.blocks.now) c.in_err-first.ensures.refusals)
 
 pub walk_from-requires-2 : goal.walk_from-requires-2
 walk_from-requires-2 g c = record { room = still_room g.S.Store.facts c.args.blocks.now c.walk_from.new.blocks c.walk_from.ensures.keeps c.requires.room }
@@ -84,7 +84,7 @@ pub returns-in_err-second-clause-refusals : goal.returns-in_err-second-clause-re
 returns-in_err-second-clause-refusals g c =
     let a = c.args.blocks.now in let u = c.walk_from.new.blocks in
     carried_so c.from_residual-in_err-second.result c.in_err-second.field-0.0 _ c.from_residual-in_err-second.ensures.1
-    (stop_fault g.S.Store.facts a u c.walk_from-2.new.blocks c.in_err-second.field-0.0 c.walk_from.ensures.keeps c.in_err-second.ensures.refusals)
+    (stop_fault g.S.Store.facts (IsOfEither a.document c.args.first.0 c.args.second.0) a u c.walk_from-2.new.blocks c.in_err-second.field-0.0 c.walk_from.ensures.keeps c.in_err-second.ensures.refusals)
 
 pub same_shape-requires-clause-room : goal.same_shape-requires-clause-room
 same_shape-requires-clause-room g c =
@@ -136,5 +136,5 @@ pub returns-clause-refusals : goal.returns-clause-refusals
 returns-clause-refusals g c =
     let a = c.args.blocks.now in let u = c.walk_from.new.blocks in let v = c.walk_from-2.new.blocks in let e = c.same_shape.new.blocks in
     let k3 = keeps-trans g.S.Store.facts a u v c.walk_from.ensures.keeps c.walk_from-2.ensures.keeps in
-    IfErr-weaker c.same_shape.result (Lacks g.S.Store.facts v.disk.store e.disk.store) (IsWalkRefusal (Lacks g.S.Store.facts a.disk.store e.disk.store))
+    IfErr-weaker c.same_shape.result (Lacks g.S.Store.facts v.disk.store e.disk.store) (IsWalkRefusal (Lacks g.S.Store.facts a.disk.store e.disk.store) (IsOfEither a.document c.args.first.0 c.args.second.0))
     (λ fault lacks. inl (lacks-later g.S.Store.facts a v e.disk.store fault k3 lacks)) c.same_shape.ensures.refusals

@@ -2,7 +2,7 @@ use Rattle.std.proofs.Common.{◌≡◌, ◌&&◌, true, rules, inl, inr}
 use Rattle.std.proofs.lemmas.Result.{MatchResult-weaker}
 use Rattle.geos_model.specs.Document.{is_live}
 use Rattle.vm_chains.proofs.Loading.{carried, carried_so, refused_later}
-use Rattle.vm_chains.proofs.Refusals.{root_fault, two_refused}
+use Rattle.vm_chains.proofs.Refusals.{two_refused}
 use Rattle.vm_chains.proofs.comparing.test_roots.Goals as goal
 
 pub returns-in_err-test_root-clause-value : goal.returns-in_err-test_root-clause-value
@@ -13,7 +13,7 @@ returns-in_err-test_root-clause-value g c =
     carried c.from_residual.result fault _ _ c.from_residual.ensures.1 (two_refused d f s fault (λ i. first i && second i) (inl c.in_err-test_root.ensures))
 
 pub returns-in_err-test_root-clause-refusals : goal.returns-in_err-test_root-clause-refusals
-returns-in_err-test_root-clause-refusals g c = carried_so c.from_residual.result c.in_err-test_root.field-0.0 _ c.from_residual.ensures.1 (root_fault c.args.blocks.now.document c.args.first.0 c.in_err-test_root.field-0.0 c.in_err-test_root.ensures)
+returns-in_err-test_root-clause-refusals g c = carried_so c.from_residual.result c.in_err-test_root.field-0.0 _ c.from_residual.ensures.1 (inl c.in_err-test_root.ensures)
 
 pub returns-clause-value : goal.returns-clause-value
 returns-clause-value g c =
@@ -23,4 +23,4 @@ returns-clause-value g c =
     MatchResult-weaker c.test_root-2.result c.test_root-2.ensures (λ _ raw. (c.in_ok-test_root.ensures, raw)) (λ fault refuses. two_refused d f s fault (λ i. first i && second i) (inr refuses))
 
 pub returns-clause-refusals : goal.returns-clause-refusals
-returns-clause-refusals g c = refused_later c.test_root-2.result _ _ _ c.test_root-2.ensures (λ fault refuses. root_fault c.args.blocks.now.document c.args.second.0 fault refuses)
+returns-clause-refusals g c = refused_later c.test_root-2.result _ _ _ c.test_root-2.ensures (λ fault refuses. inr refuses)

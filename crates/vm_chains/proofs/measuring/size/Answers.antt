@@ -1,5 +1,7 @@
 use Rattle.std.proofs.Common.{◌≡◌, sym, subst}
 use Rattle.geos_model.specs.Chain.{bytes_in, on_chain}
+use Rattle.geos_model.specs.Document.{is_raw}
+use Rattle.vm_blocks.specs.Kinds.{IsOfOther}
 use Rattle.vm_blocks.proofs.KeepingLaws.{keeps-refl, keeps-trans}
 use Rattle.vm_chains.specs.Answers.{IsChainFault}
 use Rattle.vm_chains.specs.Walking.{AreBlocks}
@@ -34,4 +36,4 @@ returns-clause-value g c =
 
 pub returns-clause-refusals : goal.returns-clause-refusals
 returns-clause-refusals g c =
-    refused_on g.S.Store.facts c.args.blocks.now c.walk.new.blocks c.total_len.new.blocks c.walk.ensures.keeps c.total_len.ensures.keeps IsChainFault c.total_len.result c.total_len.ensures.refusals
+    refused_on g.S.Store.facts c.args.blocks.now c.walk.new.blocks c.total_len.new.blocks c.walk.ensures.keeps c.total_len.ensures.keeps (IsChainFault (IsOfOther is_raw c.args.blocks.now.document c.args.root.0)) c.total_len.result c.total_len.ensures.refusals

@@ -3,10 +3,11 @@ use Rattle.std.proofs.lemmas.Bool.{le-ltb, lt-ltb}
 use Rattle.std.proofs.lemmas.List.{length-map}
 use Rattle.std.proofs.lemmas.Result.{IfOk-weaker}
 use Rattle.geos_model.specs.Chain.{chain, chain_blocks, copies_of, copy_conditions, free_handles, new_handles, renamed_blocks}
-use Rattle.geos_model.specs.Document.{Document}
+use Rattle.geos_model.specs.Document.{Document, is_raw}
 use Rattle.geos_model.specs.declared.fault.Fault.TheVariants.{Memory, NoHandles}
 use Rattle.geos_model.specs.declared.handle.VmHandle.{VmHandle}
 use Rattle.vm_blocks.specs.Keeping.{Lacks}
+use Rattle.vm_blocks.specs.Kinds.{IsOfOther}
 use Rattle.vm_file.specs.Members.{saved_blocks}
 use Rattle.vm_blocks.proofs.KeepingLaws.{keeps-drifts, keeps-refl, keeps-same, keeps-trans, lacks-memory}
 use Rattle.vm_chains.specs.Answers.{IsChainFault}
@@ -45,7 +46,7 @@ pub returns-in_err-handles-clause-refusals : goal.returns-in_err-handles-clause-
 returns-in_err-handles-clause-refusals g c =
     let fault = c.in_err-handles.field-0.0 in
     carried_so c.from_residual.result fault _ c.from_residual.ensures.1
-    (elim c.in_err-handles.ensures.refusals as (λ _. Lacks g.S.Store.facts c.args.blocks.now.disk.store c.walk.new.blocks.disk.store fault ⊎ IsChainFault fault ⊎ (fault ≡ NoHandles)) [
+    (elim c.in_err-handles.ensures.refusals as (λ _. Lacks g.S.Store.facts c.args.blocks.now.disk.store c.walk.new.blocks.disk.store fault ⊎ IsChainFault (IsOfOther is_raw c.args.blocks.now.document c.args.root.0) fault ⊎ (fault ≡ NoHandles)) [
       | inl lacks ↦ inl lacks
       | inr of_chain ↦ inr (inl of_chain)
     ])
@@ -101,4 +102,4 @@ returns-clause-some g c =
 
 pub returns-clause-refusals : goal.returns-clause-refusals
 returns-clause-refusals g c =
-    refused_on g.S.Store.facts c.args.blocks.now c.walk.new.blocks c.copies.new.blocks c.walk.ensures.keeps c.copies.ensures.keeps (λ fault. IsChainFault fault ⊎ (fault ≡ NoHandles)) c.copies.result c.copies.ensures.refusals
+    refused_on g.S.Store.facts c.args.blocks.now c.walk.new.blocks c.copies.new.blocks c.walk.ensures.keeps c.copies.ensures.keeps (λ fault. IsChainFault (IsOfOther is_raw c.args.blocks.now.document c.args.root.0) fault ⊎ (fault ≡ NoHandles)) c.copies.result c.copies.ensures.refusals

@@ -1,10 +1,11 @@
 use Rattle.std.proofs.Common.{◌≡◌, ◌⊎◌, ◌==◌, ◌||◌, List, [], ◌∷◌, ℕ, true, false, Bool, Some, refl, sym, ap, subst, ◌∙◌, inl, inr}
 use Rattle.std.specs.List.{list_any}
 use Rattle.geos_model.specs.Chain.{blocks_of, chain, chain_blocks, free_conditions}
-use Rattle.geos_model.specs.Document.{Document}
+use Rattle.geos_model.specs.Document.{Document, is_raw}
 use Rattle.geos_model.specs.declared.fault.Fault.TheVariants.{IsMap}
 use Rattle.geos_model.specs.declared.handle.VmHandle.{VmHandle}
 use Rattle.vm_blocks.specs.Keeping.{Lacks}
+use Rattle.vm_blocks.specs.Kinds.{IsOfOther}
 use Rattle.vm_file.specs.Members.{saved_blocks}
 use Rattle.vm_blocks.proofs.KeepingLaws.{keeps-drifts, keeps-trans}
 use Rattle.vm_chains.specs.Answers.{IsChainFault}
@@ -36,7 +37,7 @@ pub returns-in_err-handles-clause-refusals : goal.returns-in_err-handles-clause-
 returns-in_err-handles-clause-refusals g c =
     let fault = c.in_err-handles.field-0.0 in
     carried_so c.from_residual.result fault _ c.from_residual.ensures.1
-    (elim c.in_err-handles.ensures.refusals as (λ _. Lacks g.S.Store.facts c.args.blocks.now.disk.store c.walk.new.blocks.disk.store fault ⊎ IsChainFault fault ⊎ (fault ≡ IsMap)) [
+    (elim c.in_err-handles.ensures.refusals as (λ _. Lacks g.S.Store.facts c.args.blocks.now.disk.store c.walk.new.blocks.disk.store fault ⊎ IsChainFault (IsOfOther is_raw c.args.blocks.now.document c.args.root.0) fault ⊎ (fault ≡ IsMap)) [
       | inl lacks ↦ inl lacks
       | inr of_chain ↦ inr (inl of_chain)
     ])
@@ -78,4 +79,4 @@ returns-clause-handles g c =
 
 pub returns-clause-refusals : goal.returns-clause-refusals
 returns-clause-refusals g c =
-    refused_on g.S.Store.facts c.args.blocks.now c.walk.new.blocks c.saved.new.blocks c.walk.ensures.keeps c.saved.ensures.keeps (λ fault. IsChainFault fault ⊎ (fault ≡ IsMap)) c.saved.result c.saved.ensures.refusals
+    refused_on g.S.Store.facts c.args.blocks.now c.walk.new.blocks c.saved.new.blocks c.walk.ensures.keeps c.saved.ensures.keeps (λ fault. IsChainFault (IsOfOther is_raw c.args.blocks.now.document c.args.root.0) fault ⊎ (fault ≡ IsMap)) c.saved.result c.saved.ensures.refusals

@@ -3,10 +3,11 @@ use Rattle.std.proofs.lemmas.Result.{IfErr-weaker}
 use Rattle.geos_model.specs.Document.{Document, is_raw}
 use Rattle.geos_model.specs.declared.fault.Fault.TheVariants.{BadChain}
 use Rattle.vm_blocks.specs.Keeping.{Lacks}
+use Rattle.vm_blocks.specs.Kinds.{IsOfOther}
 use Rattle.vm_blocks.proofs.KeepingLaws.{keeps-refl, keeps-same}
 use Rattle.vm_chains.specs.Answers.{IsWalkRefusal}
 use Rattle.vm_chains.proofs.Loading.{carried, carried_so}
-use Rattle.vm_chains.proofs.Refusals.{of_chain, root_fault, root_refused, walked}
+use Rattle.vm_chains.proofs.Refusals.{root_refused, walked}
 use Rattle.vm_chains.proofs.walking.walk.Goals as goal
 
 pub returns-in_err-test_root-clause-keeps : goal.returns-in_err-test_root-clause-keeps
@@ -19,7 +20,7 @@ returns-in_err-test_root-clause-value g c = λ steady.
     (root_refused a.document c.args.root.0 (Lacks g.S.Store.facts a.disk.store a.disk.store) c.in_err-test_root.field-0.0 (inr c.in_err-test_root.ensures))
 
 pub returns-in_err-test_root-clause-refusals : goal.returns-in_err-test_root-clause-refusals
-returns-in_err-test_root-clause-refusals g c = carried_so c.from_residual.result c.in_err-test_root.field-0.0 _ c.from_residual.ensures.1 (inr (of_chain c.in_err-test_root.field-0.0 (root_fault c.args.blocks.now.document c.args.root.0 c.in_err-test_root.field-0.0 c.in_err-test_root.ensures)))
+returns-in_err-test_root-clause-refusals g c = carried_so c.from_residual.result c.in_err-test_root.field-0.0 _ c.from_residual.ensures.1 (inr (inl c.in_err-test_root.ensures))
 
 pub returns-clause-value : goal.returns-clause-value
 returns-clause-value g c = λ steady.
@@ -30,5 +31,6 @@ returns-clause-value g c = λ steady.
 pub returns-clause-refusals : goal.returns-clause-refusals
 returns-clause-refusals g c =
     let lacks = Lacks g.S.Store.facts c.args.blocks.now.disk.store c.walk_from.new.blocks.disk.store in
-    IfErr-weaker c.walk_from.result (λ fault. lacks fault ⊎ (fault ≡ BadChain)) (IsWalkRefusal lacks)
-    (λ fault stops. elim stops as (λ _. IsWalkRefusal lacks fault) [ inl given ↦ inl given | inr bad ↦ inr (inr (inr bad)) ]) c.walk_from.ensures.refusals
+    let root = IsOfOther is_raw c.args.blocks.now.document c.args.root.0 in
+    IfErr-weaker c.walk_from.result (λ fault. lacks fault ⊎ (fault ≡ BadChain)) (IsWalkRefusal lacks root)
+    (λ fault stops. elim stops as (λ _. IsWalkRefusal lacks root fault) [ inl given ↦ inl given | inr bad ↦ inr (inr bad) ]) c.walk_from.ensures.refusals

@@ -194,9 +194,9 @@ returns-in_err-change-clause-refusals g c =
     let old = session_with c.self.inside.blocks (reverse c.self.inside.undo.items) (reverse c.self.inside.redo.items) in
     let p = err_from_is_err_and c.from_residual-in_err-change.result c.from_residual-in_err-change.ensures.1 in
     subst (λ (s : SessionState g.row.S.Denot). IfErr c.from_residual-in_err-change.result (λ fault. IsBarred c.args.edit.now s fault
-    ⊎ (Refuses (Lacks facts s.disk.store new.disk.store) (has_no_room (blocks_of s) (edit_needs c.args.edit.now)) c.args.edit.now new.document fault ⊎ IsChainEditFault c.args.edit.now fault))) c.self.view_is
+    ⊎ (Refuses (Lacks facts s.disk.store new.disk.store) (has_no_room (blocks_of s) (edit_needs c.args.edit.now)) c.args.edit.now new.document fault ⊎ IsChainEditFault c.args.edit.now s.document fault))) c.self.view_is
     (subst (λ r. IfErr r (λ fault. IsBarred c.args.edit.now old fault
-    ⊎ (Refuses (Lacks facts c.self.inside.blocks.disk.store new.disk.store) (has_no_room c.self.inside.blocks (edit_needs c.args.edit.now)) c.args.edit.now new.document fault ⊎ IsChainEditFault c.args.edit.now fault)))
+    ⊎ (Refuses (Lacks facts c.self.inside.blocks.disk.store new.disk.store) (has_no_room c.self.inside.blocks (edit_needs c.args.edit.now)) c.args.edit.now new.document fault ⊎ IsChainEditFault c.args.edit.now c.self.inside.blocks.document fault)))
     (sym (p.1 ∙ ap Err p.2)) (inr c.in_err-change.ensures.refusals))
 
 pub returns-in_err-change-clause-passes : goal.returns-in_err-change-clause-passes
