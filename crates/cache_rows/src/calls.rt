@@ -3,7 +3,7 @@ ghost use Rattle.std.specs.Prelude.{◌≡◌, true, is_some, IfOk};
 ghost use Rattle.vm_file.specs.Calls.{IsPut};
 
 use block_cache::{BlockBody, Cache};
-use geos_model::{Fault, VmHandle};
+use geos_model::{Attributes, CAPACITY, Fault, MOST_BLOCKS, VmHandle};
 use std::alloc::Global;
 use vm_file::{Image, Member, Refused, SavedBlock};
 use vm_store::Store;
@@ -16,12 +16,12 @@ pub(crate) fn why<S: Store>(refused: Refused<S>) -> Fault {
 pub(crate) fn raw_block(alloc: Global, handle: u16, body: &[u8]) -> Result<Member, Fault>
     ensures { IfOk result IsPut }
 {
-    if handle == 0 || handle > 2_048 || body.len() > 65_520 {
+    if handle == 0 || handle > MOST_BLOCKS || body.len() > CAPACITY {
         return Err(Fault::Range);
     }
     Ok(Member {
         handle: VmHandle(handle),
-        block: SavedBlock::new(handle, Image::of_raw(alloc, body)?),
+        block: SavedBlock::new(Attributes { user_id: handle }, Image::of_raw(alloc, body)?),
     })
 }
 
@@ -121,7 +121,7 @@ pub(crate) fn set<S: Store>(cache: &mut Cache<S>, handle: u16, bytes: &[u8]) -> 
     ensures { cache.new.disk ≡ cache.old.disk }
 {
     let block = VmHandle(handle);
-    if !cache.is_resident(block) || bytes.len() > 65_520 {
+    if !cache.is_resident(block) || bytes.len() > CAPACITY {
         return Err(Fault::Range);
     }
     match cache.body_mut(block) {

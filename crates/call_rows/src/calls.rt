@@ -1,7 +1,7 @@
 // Faults, laws, images, and documents of blocks.
 use geos_model::{
-    Fault, VmHandle, chunk_edits_law, chunk_law, image_law, number_law, redo_law, undo_law,
-    validity_law, word_law,
+    Attributes, Fault, VmHandle, chunk_edits_law, chunk_law, image_law, number_law, redo_law,
+    undo_law, validity_law, word_law,
 };
 use lmem_heap::Heap;
 use std::alloc::Global;
@@ -54,7 +54,7 @@ fn images_are_written_and_read(rt: HostRuntime) -> Result<(), Fail> {
 
 // The least free handle gets a block with an empty heap.
 pub(crate) fn put<S: Store>(alloc: Global, blocks: &mut FileBlocks<S>) -> Result<(), Fault> {
-    let block = SavedBlock::empty_heap(alloc, 7)?;
+    let block = SavedBlock::empty_heap(alloc, Attributes { user_id: 7 })?;
     match blocks.next_handle() {
         None => Err(Fault::NoHandles),
         Some(handle) => {
@@ -89,7 +89,7 @@ fn blocks_come_in_and_are_saved(rt: HostRuntime) -> Result<(), Fail> {
     set_map(&mut blocks, BLOCK)?;
     assert_eq!(rt; blocks.map_block(), BLOCK);
     blocks.load(BLOCK)?;
-    let saved = saved_block(alloc, 7, blocks.body(BLOCK))?;
+    let saved = saved_block(alloc, Attributes { user_id: 7 }, blocks.body(BLOCK))?;
     assert_eq!(rt; saved.byte_count(), 3);
     Ok(())
 }

@@ -5,7 +5,7 @@ ghost use Rattle.vm_blocks.specs.declared.change.PartChange.{PartChange};
 
 use crate::calls::put;
 use chunk_edits::copied;
-use geos_model::{ChunkHandle, Fault, VmHandle};
+use geos_model::{Attributes, ChunkHandle, Fault, VmHandle};
 use std::alloc::{AllocError, Global};
 use std::test::Fail;
 use vm_blocks::{Change, Content, Direction, FileBlocks, PartChange, saved_block};
@@ -83,7 +83,7 @@ fn size<S: Store>(alloc: Global, blocks: &mut FileBlocks<S>, handle: u16) -> Res
 {
     let handle = VmHandle(handle);
     blocks.load(handle)?;
-    Ok(saved_block(alloc, 7, blocks.body(handle))?.byte_count())
+    Ok(saved_block(alloc, Attributes { user_id: 7 }, blocks.body(handle))?.byte_count())
 }
 
 // Whether so many bytes have the images of all four.

@@ -1,5 +1,5 @@
 // What only a call shows of a plan: the order of its blocks, and what a change with it weighs.
-use geos_model::{Fault, VmHandle};
+use geos_model::{Attributes, Fault, VmHandle};
 use raw_region::SIZE;
 use std::alloc::{AllocError, Global};
 use std::test::Fail;
@@ -29,7 +29,7 @@ fn put(alloc: Global, blocks: &mut Blocks, bytes: &[u8]) -> Result<(), Fault> {
     if bytes.len() > SIZE {
         return Err(Fault::TooBig);
     }
-    let block = SavedBlock::raw(0, bytes.to_vec(alloc)?)?;
+    let block = SavedBlock::raw(Attributes { user_id: 0 }, bytes.to_vec(alloc)?)?;
     match blocks.next_handle() {
         None => Err(Fault::NoHandles),
         Some(handle) => {

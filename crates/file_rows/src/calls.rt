@@ -1,15 +1,13 @@
 // Calls of a document file, each with what it has to know beforehand.
 ghost use Rattle.std.specs.Prelude.{◌≤◌, All, IfOk, length};
 ghost use Rattle.vm_file.specs.Calls.{IsPut};
+ghost use Rattle.geos_model.specs.Document.{most_blocks};
 
-use geos_model::{Fault, VmHandle};
+use geos_model::{Attributes, CAPACITY, Fault, MOST_BLOCKS, VmHandle};
 use lmem_heap::Heap;
 use std::alloc::Global;
 use vm_file::{Image, Member, Refused, SavedBlock, VmFile};
 use vm_store::{MemStore, Store};
-
-/// How many handles there are.
-pub(crate) const MOST_BLOCKS: u16 = 2_048;
 
 pub(crate) fn why<S: Store>(refused: Refused<S>) -> Fault {
     refused.fault
@@ -34,12 +32,12 @@ pub(crate) fn raw_block(
 ) -> Result<Member, Fault>
     ensures { IfOk result IsPut }
 {
-    if handle == 0 || handle > MOST_BLOCKS || body.len() > 65_520 {
+    if handle == 0 || handle > MOST_BLOCKS || body.len() > CAPACITY {
         return Err(Fault::Range);
     }
     Ok(Member {
         handle: VmHandle(handle),
-        block: SavedBlock::new(user_id, Image::of_raw(alloc, body)?),
+        block: SavedBlock::new(Attributes { user_id }, Image::of_raw(alloc, body)?),
     })
 }
 
@@ -52,7 +50,7 @@ pub(crate) fn heap_block(handle: u16, user_id: u16, heap: &Heap) -> Result<Membe
     }
     Ok(Member {
         handle: VmHandle(handle),
-        block: SavedBlock::new(user_id, Image::of_heap(heap)?),
+        block: SavedBlock::new(Attributes { user_id }, Image::of_heap(heap)?),
     })
 }
 
@@ -89,7 +87,7 @@ pub(crate) fn put<S: Store>(
 // A block under each handle, with its handle as user ID and this body.
 fn all_blocks(alloc: Global, body: &[u8]) -> Result<Vec<Member>, Fault>
     ensures puts { IfOk result (λ puts. All IsPut puts.items) }
-    ensures count { IfOk result (λ puts. length puts.items ≤ 2048) }
+    ensures count { IfOk result (λ puts. length puts.items ≤ most_blocks) }
 {
     let mut puts = Vec::new(alloc);
     for handle in 0..MOST_BLOCKS {
@@ -151,7 +149,7 @@ pub(crate) fn has<S: Store>(
 /// The user ID of a block, `None` where it isn't live.
 pub(crate) fn user_id_of<S: Store>(file: &VmFile<S>, handle: u16) -> Option<u16> {
     match file.entry(VmHandle(handle)) {
-        Some(place) => Some(place.user_id),
+        Some(place) => Some(place.attributes.user_id),
         None => None,
     }
 }
@@ -162,8 +160,12 @@ pub(crate) fn set_user_id<S: Store>(
     user_id: u16,
 ) -> Result<(), Fault> {
     match file.entry(VmHandle(handle)) {
-        Some(_) => {
-            file.set_uid(VmHandle(handle), user_id);
+        Some(place) => {
+            let attributes = Attributes {
+                user_id,
+                ..place.attributes
+            };
+            file.set_attributes(VmHandle(handle), attributes);
             Ok(())
         }
         None => Err(Fault::NoBlock),
