@@ -23,5 +23,5 @@ pub use outcome::Outcome;
 pub use parser::parse;
 pub use program::serve;
 pub use replies::answer_line;
-pub use runner::{RunFault, run, run_in};
+pub use runner::{RunFault, run, run_in, run_in_reads};
 pub use settings::Options;

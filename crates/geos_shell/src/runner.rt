@@ -103,12 +103,36 @@ pub fn run_in<S: Store, R: Read, W: Write>(
         → EndsBy fault S.facts (held session.old target.old former.old) (R.remaining reader.old) (R.remaining reader.new) (W.contents writer.old) (W.contents writer.new)
         (held session.new target.new former.new)) }
 {
+    run_in_reads(
+        alloc, session, target, former, reader, writer, READS,
+    )
+}
+
+/// Answers a script as `run_in` does, in so many reads at most: a reader that hasn't ended after them has failed.
+pub fn run_in_reads<S: Store, R: Read, W: Write>(
+    alloc: Global,
+    session: &mut Session<S>,
+    target: &mut Option<S>,
+    former: &mut Option<S>,
+    reader: &mut R,
+    writer: &mut W,
+    reads: u32,
+) -> Result<(), RunFault>
+    // Where the run ends well, a whole script was read and each line of it answered.
+    ensures ok { OnOk result (AreExact S.facts (held session.old target.old former.old)
+        → AnswersAll S.facts (held session.old target.old former.old) (R.remaining reader.old) (R.remaining reader.new) (W.contents writer.old) (W.contents writer.new)
+        (held session.new target.new former.new)) }
+    // Where reading fails, each line that had ended is answered; where memory runs out or the writer fails, the first ones.
+    ensures err { IfErr result (λ fault. AreExact S.facts (held session.old target.old former.old)
+        → EndsBy fault S.facts (held session.old target.old former.old) (R.remaining reader.old) (R.remaining reader.new) (W.contents writer.old) (W.contents writer.new)
+        (held session.new target.new former.new)) }
+{
     let mut answering = Answering {
         begun: Vec::new(alloc),
         replies: Vec::new(alloc),
     };
     let mut piece = [0u8; PIECE];
-    for _ in 0..READS {
+    for _ in 0..reads {
         match read_piece(reader, &mut piece)? {
             Given::Interrupted => {}
             Given::End => {

@@ -3,8 +3,8 @@ use Rattle.std.proofs.KnownBytes.{Keeps-refl}
 use Rattle.std.proofs.lemmas.Result.{IfErr-weaker, err_from_is_err_and, on_ok_weaker}
 use Rattle.geos_shell.specs.Holdings.{held}
 use Rattle.geos_shell.proofs.Runs.{Ran-none, Ran-kept, Ran-piece, AnswersFinished-now, AnswersSome-piece, AnswersSome-rest, AnswersUnsent-behind, AnswersAll-end, EndsBy-or}
-use Rattle.geos_shell.proofs.runner.run_in.Goals as goal
-use Rattle.geos_shell.proofs.runner.run_in.Goals.{in-Interrupted, in-Bytes+in_ok-answer_piece-in-Bytes}
+use Rattle.geos_shell.proofs.runner.run_in_reads.Goals as goal
+use Rattle.geos_shell.proofs.runner.run_in_reads.Goals.{in-Interrupted, in-Bytes+in_ok-answer_piece-in-Bytes}
 
 pub loop-init : goal.loop-init
 loop-init g c = λ exact.

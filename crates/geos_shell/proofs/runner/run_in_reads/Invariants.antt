@@ -2,7 +2,7 @@
 use Rattle.geos_shell.specs.Holdings.{AreExact, held}
 use Rattle.geos_shell.specs.Progress.{moment}
 use Rattle.geos_shell.proofs.Runs.{Ran}
-use Rattle.geos_shell.proofs.runner.run_in.Given as goal
+use Rattle.geos_shell.proofs.runner.run_in_reads.Given as goal
 
 abbrev pub invariant-loop : goal.invariant-loop
 invariant-loop g l =
