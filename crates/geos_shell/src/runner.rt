@@ -103,9 +103,7 @@ pub fn run_in<S: Store, R: Read, W: Write>(
         → EndsBy fault S.facts (held session.old target.old former.old) (R.remaining reader.old) (R.remaining reader.new) (W.contents writer.old) (W.contents writer.new)
         (held session.new target.new former.new)) }
 {
-    run_in_reads(
-        alloc, session, target, former, reader, writer, READS,
-    )
+    run_in_reads(alloc, session, target, former, reader, writer, READS)
 }
 
 /// Answers a script as `run_in` does, in so many reads at most: a reader that hasn't ended after them has failed.
