@@ -1,4 +1,4 @@
-// As many blocks and branches as there can be. `limit_rows` has the longest chains.
+// As many blocks and branches as there can be. `script_rows` has the longest chains.
 use crate::dialogue::{say_block, say_blocks};
 use dialogues::{Departure, Dialogue};
 use std::alloc::Global;

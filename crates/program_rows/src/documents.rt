@@ -1,4 +1,4 @@
-// Bytes of document files.
+// Bytes of files.
 use std::alloc::{AllocError, Global};
 
 const FIRST_SLOT: &[u8; 32] =
@@ -15,6 +15,19 @@ const SLOT_START: &[u8; 8] = b"GVMF\x01\x01\0\0";
 
 const SLOT_END: &[u8; 16] = b"\x02\0\0\0\x20\0\0\0\x03\0\0\0\x10\0\0\0";
 
+/// What a file has.
+#[derive(Clone, Copy)]
+pub(crate) enum Content {
+    /// These bytes.
+    Text(&'static [u8]),
+    /// A document file as it is made, with no block.
+    Made,
+    /// The first bytes of that, so many.
+    Cut(usize),
+    /// Two documents, as they are said below.
+    Two(&'static [u8; 8]),
+}
+
 /// A sequence number as it stands in a slot.
 pub(crate) const FIFTH: &[u8; 8] = b"\x05\0\0\0\0\0\0\0";
 
@@ -27,8 +40,8 @@ fn put_page(bytes: &mut Vec<u8>, page: usize, text: &[u8]) -> Result<(), AllocEr
     bytes.extend_from_slice(text)
 }
 
-/// A document file as it is made, with no block.
-pub(crate) fn made(alloc: Global) -> Result<Vec<u8>, AllocError> {
+// A document file as it is made, with no block.
+fn made(alloc: Global) -> Result<Vec<u8>, AllocError> {
     let mut bytes = Vec::new(alloc);
     put_page(&mut bytes, 0, FIRST_SLOT)?;
     put_page(&mut bytes, 1, SECOND_SLOT)?;
@@ -36,9 +49,9 @@ pub(crate) fn made(alloc: Global) -> Result<Vec<u8>, AllocError> {
     Ok(bytes)
 }
 
-/// A file of two documents, with this sequence number. The updated one has one block, handle 1, user ID 7, raw, with the bytes
-/// `ab`; it is the map block. The saved one has no block.
-pub(crate) fn two_documents(alloc: Global, sequence: &[u8; 8]) -> Result<Vec<u8>, AllocError> {
+// A file of two documents, with this sequence number. The updated one has one block, handle 1, user ID 7, raw, with the bytes
+// `ab`; it is the map block. The saved one has no block.
+fn two_documents(alloc: Global, sequence: &[u8; 8]) -> Result<Vec<u8>, AllocError> {
     let mut bytes = Vec::new(alloc);
     bytes.extend_from_slice(SLOT_START)?;
     bytes.extend_from_slice(sequence)?;
@@ -47,4 +60,18 @@ pub(crate) fn two_documents(alloc: Global, sequence: &[u8; 8]) -> Result<Vec<u8>
     put_page(&mut bytes, 3, NO_BLOCKS)?;
     put_page(&mut bytes, 4, b"\0ab")?;
     Ok(bytes)
+}
+
+/// The bytes of a file.
+pub(crate) fn bytes_of(alloc: Global, content: Content) -> Result<Vec<u8>, AllocError> {
+    match content {
+        Content::Text(bytes) => bytes.to_vec(alloc),
+        Content::Made => made(alloc),
+        Content::Cut(length) => {
+            let mut bytes = made(alloc)?;
+            bytes.truncate(length);
+            Ok(bytes)
+        }
+        Content::Two(sequence) => two_documents(alloc, sequence),
+    }
 }

@@ -1,10 +1,6 @@
-// Files in memory, and what is asked of them; a reader and a writer that fail.
-ghost use Rattle.std.specs.Prelude.{◌≤◌, length};
-
+// Files in memory, and what is asked of them.
 use geos_shell::Files;
-use std::alloc::Global;
-use std::io::{self, ErrorKind, Read, Write};
-use std::test::Fail;
+use std::alloc::{AllocError, Global};
 use vm_store::{MemStore, StoreFault};
 
 /// A file, while it isn't open.
@@ -39,7 +35,7 @@ impl MemFiles {
     }
 
     /// Puts a file there.
-    pub(crate) fn keep(&mut self, name: &'static str, bytes: &[u8]) -> Result<(), Fail> {
+    pub(crate) fn keep(&mut self, name: &'static str, bytes: &[u8]) -> Result<(), AllocError> {
         let store = MemStore::from_bytes(self.alloc, bytes)?;
         self.kept.push(Kept { name, store })?;
         Ok(())
@@ -82,35 +78,5 @@ impl Files for MemFiles {
 
     fn close(&mut self, store: MemStore) {
         let _ = self.closed.push(store);
-    }
-}
-
-/// A reader that gives a text, and then fails.
-#[derive(Drop)]
-pub(crate) struct Breaking<'a>(pub(crate) &'a [u8]);
-
-impl Read for Breaking<'_> {
-    fn read(&mut self, buf: &mut [u8]) -> io::Result<usize> {
-        if self.0.is_empty() {
-            return Err(io::Error::from(ErrorKind::Other));
-        }
-        let count = self.0.len().min(buf.len());
-        buf[..count].copy_from_slice(&self.0[..count]);
-        self.0 = &self.0[count..];
-        Ok(count)
-    }
-}
-
-/// A writer that fails.
-#[derive(Drop)]
-pub(crate) struct Shut;
-
-impl Write for Shut {
-    fn write(&mut self, _buf: &[u8]) -> io::Result<usize> {
-        Err(io::Error::from(ErrorKind::Other))
-    }
-
-    fn flush(&mut self) -> io::Result<()> {
-        Err(io::Error::from(ErrorKind::Other))
     }
 }

@@ -1,16 +1,38 @@
-// Runs of the program, and what its files have.
+// Runs of the program on files of the machine, step by step.
+use crate::departures::{Departure, holds, same};
+use crate::documents::{Content, bytes_of};
 use geos_shell::{machine_files, serve};
-use std::alloc::Global;
 use std::fs;
+use std::os::unix::fs::symlink;
 use std::test::Fail;
 
-fn same(alloc: Global, given: &[u8], wanted: &str) -> Result<(), Fail> {
-    let given = String::from_utf8_lossy(alloc, given)?;
-    if given.as_str() == wanted {
-        return Ok(());
-    }
-    Err(Fail::new(format_args!("{given:?}, where {wanted:?} is wanted")))
+/// A step, and what must come of it.
+#[derive(Clone, Copy)]
+pub(crate) enum Step {
+    /// A file that an earlier run may have left is removed.
+    Forget(&'static str),
+    /// A file is made of these bytes.
+    Write(&'static str, Content),
+    /// A link to the first is made, under the second name.
+    Link(&'static str, &'static str),
+    /// By these words a script is run to its end, with these replies.
+    Answers(&'static [&'static str], &'static str, &'static str),
+    /// By these words no script is begun: the program ends with this status and tells this.
+    Ends(&'static [&'static str], u8, &'static str),
+    /// The file has these bytes.
+    Has(&'static str, Content),
+    /// The file begins with these bytes. Behind those of its documents there may be images that were never committed.
+    BeginsWith(&'static str, Content),
+    /// The file has so many bytes.
+    IsLong(&'static str, usize),
+    /// There is no such file.
+    IsMissing(&'static str),
+    /// The file is there, and is removed.
+    Remove(&'static str),
 }
+
+/// What a row of steps shows, and the steps.
+pub(crate) type Row = (&'static str, &'static [Step]);
 
 // Runs the program. Its status must be this one, and what it replies and what it tells must be these texts.
 fn comes_to(
@@ -19,7 +41,7 @@ fn comes_to(
     script: &str,
     status: u8,
     texts: (&str, &str),
-) -> Result<(), Fail> {
+) -> Result<(), Departure> {
     let alloc = rt.alloc();
     let mut replies = Vec::new(alloc);
     let mut files = machine_files(rt);
@@ -37,54 +59,61 @@ fn comes_to(
     if outcome.status() == status {
         return Ok(());
     }
-    Err(Fail::new(format_args!("status {}", outcome.status())))
+    Err(Departure::Status(outcome.status()))
 }
 
-/// Runs a script to its end, and compares the replies.
-pub(crate) fn answers(
-    rt: &HostRuntime,
-    words: &[&str],
-    script: &str,
-    replies: &str,
-) -> Result<(), Fail> {
-    comes_to(rt, words, script, 0, (replies, ""))
+fn write(rt: &HostRuntime, path: &str, content: Content) -> Result<(), Departure> {
+    fs::write(rt, path, bytes_of(rt.alloc(), content)?.as_slice())?;
+    Ok(())
 }
 
-/// Runs a script that isn't begun: the program ends with this status and tells this.
-pub(crate) fn ends(rt: &HostRuntime, words: &[&str], status: u8, told: &str) -> Result<(), Fail> {
-    comes_to(rt, words, "list\n", status, ("", told))
-}
-
-/// Removes a file that an earlier run may have left.
-pub(crate) fn forget(rt: &HostRuntime, path: &str) {
-    let _ = fs::remove_file(rt, path);
-}
-
-/// Compares the bytes of a file.
-pub(crate) fn has(rt: &HostRuntime, path: &str, bytes: &[u8]) -> Result<(), Fail> {
+fn has(rt: &HostRuntime, path: &str, content: Content) -> Result<(), Departure> {
     let given = fs::read(rt, path)?;
-    if given.as_slice() == bytes {
-        return Ok(());
-    }
-    Err(Fail::new("other bytes in the file"))
+    holds(given.as_slice() == bytes_of(rt.alloc(), content)?.as_slice())
 }
 
-/// Compares the first bytes of a file. Behind those of its documents there may be images that were never committed.
-pub(crate) fn begins_with(rt: &HostRuntime, path: &str, bytes: &[u8]) -> Result<(), Fail> {
+fn begins_with(rt: &HostRuntime, path: &str, content: Content) -> Result<(), Departure> {
     let given = fs::read(rt, path)?;
-    if given.as_slice().starts_with(bytes) {
-        return Ok(());
-    }
-    Err(Fail::new("other bytes at the start of the file"))
+    holds(
+        given
+            .as_slice()
+            .starts_with(bytes_of(rt.alloc(), content)?.as_slice()),
+    )
 }
 
-/// Opens a document with one block: its bytes must be these, in the updated and in the saved document.
-pub(crate) fn opens_to(rt: &HostRuntime, path: &str, body: &str) -> Result<(), Fail> {
-    let mut replies = String::new(rt.alloc());
-    for line in [body, "ok", body] {
-        replies.push_str(line)?;
-        replies.push('\n')?;
+fn is_missing(rt: &HostRuntime, path: &str) -> Result<(), Departure> {
+    if fs::exists(rt, path)? {
+        return Err(Departure::IsThere);
     }
-    let script = "vread 0001\nrevert\nvread 0001\n";
-    answers(rt, &["geosvm", path], script, replies.as_str())
+    Ok(())
+}
+
+fn take(rt: &HostRuntime, step: Step) -> Result<(), Departure> {
+    match step {
+        Step::Forget(path) => {
+            let _ = fs::remove_file(rt, path);
+            Ok(())
+        }
+        Step::Write(path, content) => write(rt, path, content),
+        Step::Link(path, name) => Ok(symlink(rt, path, name)?),
+        Step::Answers(words, script, replies) => comes_to(rt, words, script, 0, (replies, "")),
+        Step::Ends(words, status, told) => comes_to(rt, words, "list\n", status, ("", told)),
+        Step::Has(path, content) => has(rt, path, content),
+        Step::BeginsWith(path, content) => begins_with(rt, path, content),
+        Step::IsLong(path, length) => holds(fs::read(rt, path)?.len() == length),
+        Step::IsMissing(path) => is_missing(rt, path),
+        Step::Remove(path) => Ok(fs::remove_file(rt, path)?),
+    }
+}
+
+/// Takes the steps of each row. Where one departs, the failure begins with what the row shows, and says which step it is, from 0 on.
+pub(crate) fn take_each(rt: &HostRuntime, rows: &[Row]) -> Result<(), Fail> {
+    for (name, steps) in rows {
+        for (place, step) in steps.iter().enumerate() {
+            if let Err(departure) = take(rt, *step) {
+                return Err(Fail::new(format_args!("{name}, step {place}: {departure:?}")));
+            }
+        }
+    }
+    Ok(())
 }

@@ -1,57 +1,69 @@
 // Files that can't be opened.
-use crate::documents::made;
-use crate::programs::{ends, forget, has};
-use std::fs;
+use crate::documents::Content;
+use crate::programs::{Row, Step, take_each};
 use std::test::Fail;
 
-#[test]
-fn three_bytes_are_no_document(rt: HostRuntime) -> Result<(), Fail> {
-    let path = "program_rows_short";
-    fs::write(&rt, path, "GVM")?;
-    ends(&rt, &["geosvm", path], 1, "geosvm: open 4 NotDocument\n")?;
-    has(&rt, path, b"GVM")?;
-    fs::remove_file(&rt, path)?;
-    Ok(())
-}
+const SHORT: &str = "program_rows_short";
+
+const CUT: &str = "program_rows_cut";
+
+const MISSING: &str = "program_rows_missing";
+
+const LOST: &str = "program_rows_lost";
+
+const UNMADE: &str = "program_rows_unmade";
+
+const REFUSALS: &[Row] = &[
+    (
+        "three bytes are no document",
+        &[
+            Step::Write(SHORT, Content::Text(b"GVM")),
+            Step::Ends(&["geosvm", SHORT], 1, "geosvm: open 4 NotDocument\n"),
+            Step::Has(SHORT, Content::Text(b"GVM")),
+            Step::Remove(SHORT),
+        ],
+    ),
+    (
+        "a document that was cut is damaged",
+        &[
+            Step::Write(CUT, Content::Cut(1_030)),
+            Step::Ends(&["geosvm", CUT], 1, "geosvm: open 3 Damaged\n"),
+            Step::Has(CUT, Content::Cut(1_030)),
+            Step::Remove(CUT),
+        ],
+    ),
+    (
+        "a missing file is not made",
+        &[
+            Step::Forget(MISSING),
+            Step::Ends(&["geosvm", MISSING], 1, "geosvm: open 2 File\n"),
+            Step::IsMissing(MISSING),
+        ],
+    ),
+    (
+        "a file that is refused leaves the target unmade",
+        &[
+            Step::Forget(LOST),
+            Step::Forget(UNMADE),
+            Step::Ends(
+                &["geosvm", "--as", UNMADE, LOST],
+                1,
+                "geosvm: open 2 File\n",
+            ),
+            Step::IsMissing(UNMADE),
+        ],
+    ),
+    (
+        "a file in no folder cannot be made",
+        &[Step::Ends(
+            &["geosvm", "--new", "program_rows_no_folder/file"],
+            1,
+            "geosvm: create 2 File\n",
+        )],
+    ),
+];
 
 #[test]
-fn a_document_that_was_cut_is_damaged(rt: HostRuntime) -> Result<(), Fail> {
-    let path = "program_rows_cut";
-    let mut document = made(rt.alloc())?;
-    document.truncate(1_030);
-    fs::write(&rt, path, document.as_slice())?;
-    ends(&rt, &["geosvm", path], 1, "geosvm: open 3 Damaged\n")?;
-    has(&rt, path, &document)?;
-    fs::remove_file(&rt, path)?;
-    Ok(())
-}
-
-#[test]
-fn a_missing_file_is_not_made(rt: HostRuntime) -> Result<(), Fail> {
-    let path = "program_rows_missing";
-    forget(&rt, path);
-    ends(&rt, &["geosvm", path], 1, "geosvm: open 2 File\n")?;
-    assert!(rt; !fs::exists(&rt, path)?);
-    Ok(())
-}
-
-#[test]
-fn a_file_that_is_refused_leaves_the_target_unmade(rt: HostRuntime) -> Result<(), Fail> {
-    let (path, target) = ("program_rows_lost", "program_rows_unmade");
-    forget(&rt, path);
-    forget(&rt, target);
-    ends(
-        &rt,
-        &["geosvm", "--as", target, path],
-        1,
-        "geosvm: open 2 File\n",
-    )?;
-    assert!(rt; !fs::exists(&rt, target)?);
-    Ok(())
-}
-
-#[test]
-fn a_file_in_no_folder_cannot_be_made(rt: HostRuntime) -> Result<(), Fail> {
-    let words = ["geosvm", "--new", "program_rows_no_folder/file"];
-    ends(&rt, &words, 1, "geosvm: create 2 File\n")
+fn each_file_is_refused(rt: HostRuntime) -> Result<(), Fail> {
+    take_each(&rt, REFUSALS)
 }

@@ -1,147 +1,237 @@
 // Which files are opened and when, and what they have when they are closed, however a run ends.
-use crate::documents::{FIFTH, made, two_documents};
-use crate::memory::{Breaking, MemFiles, Shut};
-use geos_shell::{Outcome, RunFault, serve};
+use crate::departures::{Departure, are, holds, same};
+use crate::documents::{Content, FIFTH, bytes_of};
+use crate::fakes::{Piece, Pieces, writer_that_tires};
+use crate::memory::MemFiles;
+use geos_shell::serve;
 use std::alloc::Global;
+use std::io::ErrorKind;
 use std::test::Fail;
+use vm_store::MemStore;
 
-// Runs a script, and compares the replies.
-fn replies(
-    alloc: Global,
-    files: &mut MemFiles,
-    words: &[&str],
-    script: &str,
-    wanted: &str,
-) -> Result<Outcome, Fail> {
-    let mut written = Vec::new(alloc);
-    let outcome = serve(alloc, files, words, &mut script.as_bytes(), &mut written);
-    if written.as_slice() == wanted.as_bytes() {
-        return Ok(outcome);
-    }
-    let given = String::from_utf8_lossy(alloc, &written)?;
-    Err(Fail::new(format_args!("{given:?}, where {wanted:?} is wanted")))
+/// How a run goes.
+#[derive(Clone, Copy)]
+struct Run {
+    words: &'static [&'static str],
+    script: &'static [Piece],
+    /// How many writes serve.
+    writes: u32,
+    replies: &'static str,
+    told: &'static str,
+    status: u8,
 }
 
-// Opens a file that was closed, in a run of its own: its blocks must be these.
-fn lists(alloc: Global, files: &MemFiles, closed: usize, wanted: &str) -> Result<(), Fail> {
-    let Some(store) = files.closed.get(closed) else {
-        return Err(Fail::new("it wasn't closed"));
-    };
-    let mut again = MemFiles::new(alloc);
-    again.keep("again", store.bytes())?;
-    let outcome = replies(alloc, &mut again, &["geosvm", "again"], "list\n", wanted)?;
-    if matches!(outcome, Outcome::Done) {
-        return Ok(());
-    }
-    Err(Fail::new("it doesn't open"))
+/// What is done with files in memory.
+struct Serving {
+    /// What it shows.
+    name: &'static str,
+    /// What the file `document` has.
+    document: Content,
+    /// Whether the standard streams can be guarded.
+    can_guard: bool,
+    run: Run,
+    /// What is asked for.
+    asked: &'static str,
+    /// What each file that is closed has, in this order.
+    closed: &'static [Closed],
 }
 
-#[test]
-fn a_save_as_closes_the_target_and_the_file(rt: HostRuntime) -> Result<(), Fail> {
-    let alloc = rt.alloc();
-    let mut files = MemFiles::new(alloc);
-    files.keep("document", &made(alloc)?)?;
-    let words = ["geosvm", "--as", "copy", "document"];
-    let script = "newraw 1 1\nsave\nnewraw 2 2\nsaveas\nnewraw 3 3\n";
-    let wanted = "block 0001\nok\nblock 0002\nok\nblock 0003\n";
-    let outcome = replies(alloc, &mut files, &words, script, wanted)?;
-    assert!(rt; matches!(outcome, Outcome::Done));
-    assert_eq!(rt; files.asked.as_str(), "guard open:document make:copy ");
-    assert_eq!(rt; files.closed.len(), 2);
-    lists(alloc, &files, 0, "blocks 0001 0002\n")?;
-    lists(alloc, &files, 1, "blocks 0001\n")
+/// What a file has.
+#[derive(Clone, Copy)]
+enum Closed {
+    /// These bytes.
+    Is(Content),
+    /// A document of these blocks, as a run of its own tells them.
+    Lists(&'static str),
+    /// Such a document, behind these bytes. An image of a new block may stand there, but no commit let it in.
+    BeginsWith(Content, &'static str),
 }
 
-#[test]
-fn a_target_that_no_save_as_wrote_is_closed_as_it_was(rt: HostRuntime) -> Result<(), Fail> {
-    let alloc = rt.alloc();
-    let mut files = MemFiles::new(alloc);
-    files.keep("document", &made(alloc)?)?;
-    let words = ["geosvm", "--as", "copy", "document"];
-    let outcome = replies(alloc, &mut files, &words, "newraw 1 1\n", "block 0001\n")?;
-    assert!(rt; matches!(outcome, Outcome::Done));
-    assert_eq!(rt; files.closed.len(), 2);
-    let (document, copy) = (files.closed[0].bytes(), files.closed[1].bytes());
-    // The image of the new block may stand behind the document, but no commit let it in.
-    assert!(rt; document.starts_with(made(alloc)?.as_slice()));
-    assert!(rt; copy.is_empty());
-    lists(alloc, &files, 0, "blocks\n")
-}
+const TO_COPY: &[&str] = &["geosvm", "--as", "copy", "document"];
 
-#[test]
-fn a_new_document_is_made_after_the_target_is_opened(rt: HostRuntime) -> Result<(), Fail> {
-    let alloc = rt.alloc();
-    let mut files = MemFiles::new(alloc);
-    let document = two_documents(alloc, FIFTH)?;
-    files.keep("document", &document)?;
-    let words = ["geosvm", "--new", "--as", "shut", "document"];
-    let outcome = replies(alloc, &mut files, &words, "list\n", "")?;
-    assert!(rt; matches!(outcome, Outcome::Target));
-    assert_eq!(rt; files.asked.as_str(), "guard make:document make:shut ");
-    assert_eq!(rt; files.closed.len(), 1);
-    assert!(rt; files.closed[0].bytes() == document.as_slice());
-    Ok(())
-}
+const SERVINGS: &[Serving] = &[
+    Serving {
+        name: "a save-as closes the target and the file",
+        document: Content::Made,
+        can_guard: true,
+        run: Run {
+            words: TO_COPY,
+            script: &[Piece::Text("newraw 1 1\nsave\nnewraw 2 2\nsaveas\nnewraw 3 3\n")],
+            writes: 100,
+            replies: "block 0001\nok\nblock 0002\nok\nblock 0003\n",
+            told: "",
+            status: 0,
+        },
+        asked: "guard open:document make:copy ",
+        closed: &[
+            Closed::Lists("blocks 0001 0002\n"),
+            Closed::Lists("blocks 0001\n"),
+        ],
+    },
+    Serving {
+        name: "a target that no save-as wrote is closed as it was",
+        document: Content::Made,
+        can_guard: true,
+        run: Run {
+            words: TO_COPY,
+            script: &[Piece::Text("newraw 1 1\n")],
+            writes: 100,
+            replies: "block 0001\n",
+            told: "",
+            status: 0,
+        },
+        asked: "guard open:document make:copy ",
+        closed: &[
+            Closed::BeginsWith(Content::Made, "blocks\n"),
+            Closed::Is(Content::Text(b"")),
+        ],
+    },
+    Serving {
+        name: "a new document is made after the target is opened",
+        document: Content::Two(FIFTH),
+        can_guard: true,
+        run: Run {
+            words: &["geosvm", "--new", "--as", "shut", "document"],
+            script: &[Piece::Text("list\n")],
+            writes: 100,
+            replies: "",
+            told: "geosvm: target 2 File\n",
+            status: 1,
+        },
+        asked: "guard make:document make:shut ",
+        closed: &[Closed::Is(Content::Two(FIFTH))],
+    },
+    Serving {
+        name: "a target that cannot be opened leaves the file",
+        document: Content::Two(FIFTH),
+        can_guard: true,
+        run: Run {
+            words: &["geosvm", "--as", "shut", "document"],
+            script: &[Piece::Text("list\n")],
+            writes: 100,
+            replies: "",
+            told: "geosvm: target 2 File\n",
+            status: 1,
+        },
+        asked: "guard open:document make:shut ",
+        closed: &[Closed::Is(Content::Two(FIFTH))],
+    },
+    Serving {
+        name: "nothing is opened where the streams cannot be guarded",
+        document: Content::Made,
+        can_guard: false,
+        run: Run {
+            words: &["geosvm", "document"],
+            script: &[Piece::Text("list\n")],
+            writes: 100,
+            replies: "",
+            told: "geosvm: open 2 File\n",
+            status: 1,
+        },
+        asked: "guard ",
+        closed: &[],
+    },
+    Serving {
+        name: "a read that fails leaves what was saved",
+        document: Content::Made,
+        can_guard: true,
+        run: Run {
+            words: &["geosvm", "document"],
+            script: &[
+                Piece::Text("newraw 1 1\nsave\nnewraw 2 2\nsa"),
+                Piece::Fails(ErrorKind::Other),
+            ],
+            writes: 100,
+            replies: "block 0001\nok\nblock 0002\n",
+            told: "geosvm: read fault\n",
+            status: 1,
+        },
+        asked: "guard open:document ",
+        closed: &[Closed::Lists("blocks 0001\n")],
+    },
+    Serving {
+        name: "a write that fails leaves what was saved",
+        document: Content::Made,
+        can_guard: true,
+        run: Run {
+            words: &["geosvm", "document"],
+            script: &[Piece::Text("newraw 1 1\nsave\nnewraw 2 2\n")],
+            writes: 0,
+            replies: "",
+            told: "geosvm: write fault\n",
+            status: 1,
+        },
+        asked: "guard open:document ",
+        closed: &[Closed::Lists("blocks 0001\n")],
+    },
+];
 
-#[test]
-fn a_target_that_cannot_be_opened_leaves_the_file(rt: HostRuntime) -> Result<(), Fail> {
-    let alloc = rt.alloc();
-    let mut files = MemFiles::new(alloc);
-    let document = two_documents(alloc, FIFTH)?;
-    files.keep("document", &document)?;
-    let words = ["geosvm", "--as", "shut", "document"];
-    let outcome = replies(alloc, &mut files, &words, "list\n", "")?;
-    assert!(rt; matches!(outcome, Outcome::Target));
-    assert_eq!(rt; files.asked.as_str(), "guard open:document make:shut ");
-    assert_eq!(rt; files.closed.len(), 1);
-    assert!(rt; files.closed[0].bytes() == document.as_slice());
-    Ok(())
-}
-
-#[test]
-fn nothing_is_opened_where_the_streams_cannot_be_guarded(rt: HostRuntime) -> Result<(), Fail> {
-    let alloc = rt.alloc();
-    let mut files = MemFiles::new(alloc);
-    files.can_guard = false;
-    files.keep("document", &made(alloc)?)?;
-    let outcome = replies(alloc, &mut files, &["geosvm", "document"], "list\n", "")?;
+// Has a run on files in memory.
+fn goes(alloc: Global, files: &mut MemFiles, run: Run) -> Result<(), Departure> {
+    let mut reader = Pieces(run.script);
+    let mut writer = writer_that_tires(alloc, usize::MAX, run.writes, 100);
+    let outcome = serve(alloc, files, run.words, &mut reader, &mut writer);
     let mut told = Vec::new(alloc);
     outcome.write_line(&mut told)?;
-    assert_eq!(rt; told.as_slice(), b"geosvm: open 2 File\n".as_slice());
-    assert_eq!(rt; outcome.status(), 1);
-    assert_eq!(rt; files.asked.as_str(), "guard ");
+    same(alloc, &told, run.told)?;
+    same(alloc, &writer.taken, run.replies)?;
+    if outcome.status() == run.status {
+        return Ok(());
+    }
+    Err(Departure::Status(outcome.status()))
+}
+
+// Opens the bytes of a file, in a run of its own: its blocks must be these.
+fn lists(alloc: Global, bytes: &[u8], blocks: &'static str) -> Result<(), Departure> {
+    let mut files = MemFiles::new(alloc);
+    files.keep("again", bytes)?;
+    let run = Run {
+        words: &["geosvm", "again"],
+        script: &[Piece::Text("list\n")],
+        writes: 100,
+        replies: blocks,
+        told: "",
+        status: 0,
+    };
+    goes(alloc, &mut files, run)
+}
+
+// Compares what a file has.
+fn has(alloc: Global, bytes: &[u8], closed: Closed) -> Result<(), Departure> {
+    match closed {
+        Closed::Is(content) => holds(bytes == bytes_of(alloc, content)?.as_slice()),
+        Closed::Lists(blocks) => lists(alloc, bytes, blocks),
+        Closed::BeginsWith(content, blocks) => {
+            holds(bytes.starts_with(bytes_of(alloc, content)?.as_slice()))?;
+            lists(alloc, bytes, blocks)
+        }
+    }
+}
+
+fn have(alloc: Global, stores: &[MemStore], closed: &[Closed]) -> Result<(), Departure> {
+    are(closed.len(), stores.len())?;
+    for (store, closed) in stores.iter().zip(closed.iter()) {
+        has(alloc, store.bytes(), *closed)?;
+    }
     Ok(())
 }
 
-#[test]
-fn a_read_that_fails_leaves_what_was_saved(rt: HostRuntime) -> Result<(), Fail> {
-    let alloc = rt.alloc();
+fn is_served(alloc: Global, serving: &Serving) -> Result<(), Departure> {
     let mut files = MemFiles::new(alloc);
-    files.keep("document", &made(alloc)?)?;
-    let mut reader = Breaking(b"newraw 1 1\nsave\nnewraw 2 2\nsa");
-    let mut written = Vec::new(alloc);
-    let words = ["geosvm", "document"];
-    let outcome = serve(alloc, &mut files, &words, &mut reader, &mut written);
-    assert!(rt; matches!(outcome, Outcome::Run(RunFault::Read)));
-    assert_eq!(rt; outcome.status(), 1);
-    assert_eq!(rt;
-        written.as_slice(),
-        b"block 0001\nok\nblock 0002\n".as_slice()
-    );
-    assert_eq!(rt; files.closed.len(), 1);
-    lists(alloc, &files, 0, "blocks 0001\n")
+    files.can_guard = serving.can_guard;
+    let document = bytes_of(alloc, serving.document)?;
+    files.keep("document", &document)?;
+    goes(alloc, &mut files, serving.run)?;
+    same(alloc, files.asked.as_bytes(), serving.asked)?;
+    have(alloc, &files.closed, serving.closed)
 }
 
 #[test]
-fn a_write_that_fails_leaves_what_was_saved(rt: HostRuntime) -> Result<(), Fail> {
-    let alloc = rt.alloc();
-    let mut files = MemFiles::new(alloc);
-    files.keep("document", &made(alloc)?)?;
-    let script = "newraw 1 1\nsave\nnewraw 2 2\n";
-    let words = ["geosvm", "document"];
-    let outcome = serve(alloc, &mut files, &words, &mut script.as_bytes(), &mut Shut);
-    assert!(rt; matches!(outcome, Outcome::Run(RunFault::Write)));
-    assert_eq!(rt; outcome.status(), 1);
-    assert_eq!(rt; files.closed.len(), 1);
-    lists(alloc, &files, 0, "blocks 0001\n")
+fn each_run_closes_its_files(rt: HostRuntime) -> Result<(), Fail> {
+    for serving in SERVINGS {
+        if let Err(departure) = is_served(rt.alloc(), serving) {
+            return Err(Fail::new(format_args!("{}: {departure:?}", serving.name)));
+        }
+    }
+    Ok(())
 }

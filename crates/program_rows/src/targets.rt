@@ -1,8 +1,6 @@
 // The file that a save-as writes.
-use crate::documents::{FIFTH, made, two_documents};
-use crate::programs::{answers, ends, forget, has, opens_to};
-use std::fs;
-use std::os::unix::fs::symlink;
+use crate::documents::{Content, FIFTH};
+use crate::programs::{Row, Step, take_each};
 use std::test::Fail;
 
 const SHUT: &str = "geosvm: target 2 File\n";
@@ -12,102 +10,134 @@ const SAVED_AS: &str =
 
 const SAVED_AS_REPLIES: &str = "block 0001\nok\nok\nok\nno 24 NoTarget\nok\nbytes 00\nok\n";
 
-#[test]
-fn a_save_as_writes_the_target_and_reverts_the_file(rt: HostRuntime) -> Result<(), Fail> {
-    let (path, target) = ("program_rows_file", "program_rows_saved_as");
-    forget(&rt, path);
-    forget(&rt, target);
-    let words = ["geosvm", "--new", "--as", target, path];
-    answers(&rt, &words, SAVED_AS, SAVED_AS_REPLIES)?;
-    opens_to(&rt, path, "bytes 00")?;
-    opens_to(&rt, target, "bytes 61")?;
-    fs::remove_file(&rt, path)?;
-    fs::remove_file(&rt, target)?;
-    Ok(())
-}
+// The bytes of the one block in the updated and in the saved document.
+const BOTH: &str = "vread 0001\nrevert\nvread 0001\n";
+
+const BOTH_00: &str = "bytes 00\nok\nbytes 00\n";
+
+const BOTH_61: &str = "bytes 61\nok\nbytes 61\n";
+
+const FILE: &str = "program_rows_file";
+
+const FILE_SAVED_AS: &str = "program_rows_saved_as";
+
+const BESIDE: &str = "program_rows_beside";
+
+const UNUSED: &str = "program_rows_unused";
+
+const SOURCE: &str = "program_rows_source";
+
+const KEPT: &str = "program_rows_kept";
+
+const ALONE: &str = "program_rows_alone";
+
+const NOWHERE: &str = "program_rows_no_folder/target";
+
+const SAME: &str = "program_rows_same";
+
+const SAME_HERE: &str = "./program_rows_same";
+
+const LINK: &str = "program_rows_soft_link";
+
+const TWICE: &str = "program_rows_twice";
+
+const TARGETS: &[Row] = &[
+    (
+        "a save-as writes the target and reverts the file",
+        &[
+            Step::Forget(FILE),
+            Step::Forget(FILE_SAVED_AS),
+            Step::Answers(
+                &["geosvm", "--new", "--as", FILE_SAVED_AS, FILE],
+                SAVED_AS,
+                SAVED_AS_REPLIES,
+            ),
+            Step::Answers(&["geosvm", FILE], BOTH, BOTH_00),
+            Step::Answers(&["geosvm", FILE_SAVED_AS], BOTH, BOTH_61),
+            Step::Remove(FILE),
+            Step::Remove(FILE_SAVED_AS),
+        ],
+    ),
+    (
+        "a missing target is made empty",
+        &[
+            Step::Forget(BESIDE),
+            Step::Forget(UNUSED),
+            Step::Answers(
+                &["geosvm", "--new", "--as", UNUSED, BESIDE],
+                "save\n",
+                "ok\n",
+            ),
+            Step::Has(UNUSED, Content::Text(b"")),
+            Step::Remove(BESIDE),
+            Step::Remove(UNUSED),
+        ],
+    ),
+    (
+        "a target stays until a save-as",
+        &[
+            Step::Forget(SOURCE),
+            Step::Write(KEPT, Content::Two(FIFTH)),
+            Step::Answers(
+                &["geosvm", "--new", "--as", KEPT, SOURCE],
+                "newraw 1 1\nupdate\nsave\n",
+                "block 0001\nok\nok\n",
+            ),
+            Step::Has(KEPT, Content::Two(FIFTH)),
+            Step::Answers(&["geosvm", "--as", KEPT, SOURCE], "saveas\n", "ok\n"),
+            Step::Answers(&["geosvm", KEPT], BOTH, BOTH_00),
+            Step::Remove(SOURCE),
+            Step::Remove(KEPT),
+        ],
+    ),
+    (
+        "a target that cannot be opened leaves the file as it was",
+        &[
+            Step::Write(ALONE, Content::Two(FIFTH)),
+            Step::Ends(&["geosvm", "--as", NOWHERE, ALONE], 1, SHUT),
+            Step::Has(ALONE, Content::Two(FIFTH)),
+            Step::Ends(&["geosvm", "--new", "--as", NOWHERE, ALONE], 1, SHUT),
+            Step::Has(ALONE, Content::Two(FIFTH)),
+            Step::Remove(ALONE),
+            Step::Ends(&["geosvm", "--new", "--as", NOWHERE, ALONE], 1, SHUT),
+            Step::Has(ALONE, Content::Text(b"")),
+            Step::Remove(ALONE),
+        ],
+    ),
+    // The file under another name is in use.
+    (
+        "a target that is the file under another name is refused",
+        &[
+            Step::Write(SAME, Content::Two(FIFTH)),
+            Step::Forget(LINK),
+            Step::Link(SAME, LINK),
+            Step::Ends(&["geosvm", "--as", LINK, SAME], 1, SHUT),
+            Step::Has(SAME, Content::Two(FIFTH)),
+            Step::Ends(&["geosvm", "--new", "--as", LINK, SAME], 1, SHUT),
+            Step::Has(SAME, Content::Two(FIFTH)),
+            Step::Ends(&["geosvm", "--as", SAME_HERE, SAME], 1, SHUT),
+            Step::Has(SAME, Content::Two(FIFTH)),
+            Step::Ends(&["geosvm", "--new", "--as", SAME_HERE, SAME], 1, SHUT),
+            Step::Has(SAME, Content::Two(FIFTH)),
+            Step::Remove(SAME),
+            Step::Remove(LINK),
+        ],
+    ),
+    (
+        "a target that is the file is refused",
+        &[
+            Step::Forget(TWICE),
+            Step::Ends(
+                &["geosvm", "--new", "--as", TWICE, TWICE],
+                2,
+                "geosvm: FILE2 is FILE\n",
+            ),
+            Step::IsMissing(TWICE),
+        ],
+    ),
+];
 
 #[test]
-fn a_missing_target_is_made_empty(rt: HostRuntime) -> Result<(), Fail> {
-    let (path, target) = ("program_rows_beside", "program_rows_unused");
-    forget(&rt, path);
-    forget(&rt, target);
-    answers(
-        &rt,
-        &["geosvm", "--new", "--as", target, path],
-        "save\n",
-        "ok\n",
-    )?;
-    has(&rt, target, b"")?;
-    fs::remove_file(&rt, path)?;
-    fs::remove_file(&rt, target)?;
-    Ok(())
-}
-
-#[test]
-fn a_target_stays_until_a_save_as(rt: HostRuntime) -> Result<(), Fail> {
-    let (path, target) = ("program_rows_source", "program_rows_kept");
-    forget(&rt, path);
-    let kept = two_documents(rt.alloc(), FIFTH)?;
-    fs::write(&rt, target, kept.as_slice())?;
-    let words = ["geosvm", "--new", "--as", target, path];
-    answers(
-        &rt,
-        &words,
-        "newraw 1 1\nupdate\nsave\n",
-        "block 0001\nok\nok\n",
-    )?;
-    has(&rt, target, &kept)?;
-    answers(&rt, &["geosvm", "--as", target, path], "saveas\n", "ok\n")?;
-    opens_to(&rt, target, "bytes 00")?;
-    fs::remove_file(&rt, path)?;
-    fs::remove_file(&rt, target)?;
-    Ok(())
-}
-
-#[test]
-fn a_target_that_cannot_be_opened_leaves_the_file_as_it_was(rt: HostRuntime) -> Result<(), Fail> {
-    let path = "program_rows_alone";
-    let document = two_documents(rt.alloc(), FIFTH)?;
-    fs::write(&rt, path, document.as_slice())?;
-    let target = "program_rows_no_folder/target";
-    ends(&rt, &["geosvm", "--as", target, path], 1, SHUT)?;
-    has(&rt, path, &document)?;
-    ends(&rt, &["geosvm", "--new", "--as", target, path], 1, SHUT)?;
-    has(&rt, path, &document)?;
-    fs::remove_file(&rt, path)?;
-    ends(&rt, &["geosvm", "--new", "--as", target, path], 1, SHUT)?;
-    has(&rt, path, b"")?;
-    fs::remove_file(&rt, path)?;
-    Ok(())
-}
-
-// The file under another name is in use.
-#[test]
-fn a_target_that_is_the_file_under_another_name_is_refused(rt: HostRuntime) -> Result<(), Fail> {
-    let path = "program_rows_same";
-    let soft = "program_rows_soft_link";
-    let document = two_documents(rt.alloc(), FIFTH)?;
-    fs::write(&rt, path, document.as_slice())?;
-    forget(&rt, soft);
-    symlink(&rt, path, soft)?;
-    for name in [soft, "./program_rows_same"] {
-        ends(&rt, &["geosvm", "--as", name, path], 1, SHUT)?;
-        has(&rt, path, &document)?;
-        ends(&rt, &["geosvm", "--new", "--as", name, path], 1, SHUT)?;
-        has(&rt, path, &document)?;
-    }
-    for name in [path, soft] {
-        fs::remove_file(&rt, name)?;
-    }
-    Ok(())
-}
-
-#[test]
-fn a_target_that_is_the_file_is_refused(rt: HostRuntime) -> Result<(), Fail> {
-    let path = "program_rows_twice";
-    forget(&rt, path);
-    let words = ["geosvm", "--new", "--as", path, path];
-    ends(&rt, &words, 2, "geosvm: FILE2 is FILE\n")?;
-    assert!(rt; !fs::exists(&rt, path)?);
-    Ok(())
+fn each_target_is_written_or_left(rt: HostRuntime) -> Result<(), Fail> {
+    take_each(&rt, TARGETS)
 }

@@ -1,7 +1,6 @@
 // Command lines.
-use crate::documents::made;
-use crate::programs::{answers, ends, forget, has};
-use std::fs;
+use crate::documents::Content;
+use crate::programs::{Row, Step, take_each};
 use std::test::Fail;
 
 const HELP: &str =
@@ -16,47 +15,48 @@ const MANY_FRAMES: &str =
 const LACKS: &str =
     "error: the following required arguments were not provided:\n  <FILE>\n\nUsage: geosvm <FILE>\n\nFor more information, try '--help'.\n";
 
-#[test]
-fn words_without_a_file_are_refused(rt: HostRuntime) -> Result<(), Fail> {
-    ends(&rt, &["geosvm"], 2, LACKS)
-}
+const FRAMES: &str = "program_rows_frames";
+
+const MOST_FRAMES: &str = "program_rows_most_frames";
+
+const WORDS: &[Row] = &[
+    (
+        "words without a file are refused",
+        &[Step::Ends(&["geosvm"], 2, LACKS)],
+    ),
+    (
+        "a cache has 1 to 64 frames",
+        &[
+            Step::Forget(FRAMES),
+            Step::Ends(&["geosvm", "--new", "--cache", "0", FRAMES], 2, NO_FRAMES),
+            Step::Ends(
+                &["geosvm", "--new", "--cache", "65", FRAMES],
+                2,
+                MANY_FRAMES,
+            ),
+            Step::IsMissing(FRAMES),
+        ],
+    ),
+    (
+        "a cache may have 64 frames",
+        &[
+            Step::Forget(MOST_FRAMES),
+            Step::Answers(
+                &["geosvm", "--new", "--cache", "64", MOST_FRAMES],
+                "undos\n",
+                "number 0\n",
+            ),
+            Step::Has(MOST_FRAMES, Content::Made),
+            Step::Remove(MOST_FRAMES),
+        ],
+    ),
+    (
+        "help is told",
+        &[Step::Ends(&["geosvm", "--help"], 0, HELP)],
+    ),
+];
 
 #[test]
-fn a_cache_has_1_to_64_frames(rt: HostRuntime) -> Result<(), Fail> {
-    let path = "program_rows_frames";
-    forget(&rt, path);
-    ends(
-        &rt,
-        &["geosvm", "--new", "--cache", "0", path],
-        2,
-        NO_FRAMES,
-    )?;
-    ends(
-        &rt,
-        &["geosvm", "--new", "--cache", "65", path],
-        2,
-        MANY_FRAMES,
-    )?;
-    assert!(rt; !fs::exists(&rt, path)?);
-    Ok(())
-}
-
-#[test]
-fn a_cache_may_have_64_frames(rt: HostRuntime) -> Result<(), Fail> {
-    let path = "program_rows_most_frames";
-    forget(&rt, path);
-    answers(
-        &rt,
-        &["geosvm", "--new", "--cache", "64", path],
-        "undos\n",
-        "number 0\n",
-    )?;
-    has(&rt, path, &made(rt.alloc())?)?;
-    fs::remove_file(&rt, path)?;
-    Ok(())
-}
-
-#[test]
-fn help_is_told(rt: HostRuntime) -> Result<(), Fail> {
-    ends(&rt, &["geosvm", "--help"], 0, HELP)
+fn each_row_of_words_is_taken(rt: HostRuntime) -> Result<(), Fail> {
+    take_each(&rt, WORDS)
 }

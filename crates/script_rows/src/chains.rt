@@ -1,10 +1,10 @@
 // Scripts of chains and trees of raw blocks, each with the replies that it must get.
-use dialogues::{Departure, Dialogue, hold};
+use crate::tables::{Row, hold_each};
+use std::test::Fail;
 
-#[test]
-fn a_tree_is_walked_measured_copied_and_compared(rt: HostRuntime) -> Result<(), Departure> {
-    hold(
-        rt.alloc(),
+const CHAINS: &[Row] = &[
+    (
+        "a tree is walked, measured, copied and compared",
         "
         newraw 1 0                               = block 0001
         newraw 2 0                               = block 0002
@@ -27,13 +27,9 @@ fn a_tree_is_walked_measured_copied_and_compared(rt: HostRuntime) -> Result<(), 
         chequal 0001 0004                        = differ
         chequal 0002 0003                        = differ
         ",
-    )
-}
-
-#[test]
-fn a_copied_or_freed_chain_is_undone_as_one(rt: HostRuntime) -> Result<(), Departure> {
-    hold(
-        rt.alloc(),
+    ),
+    (
+        "a copied or freed chain is undone as one",
         "
         newraw 1 0              = block 0001
         newheap 7               = block 0002
@@ -58,13 +54,9 @@ fn a_copied_or_freed_chain_is_undone_as_one(rt: HostRuntime) -> Result<(), Depar
         list                    = blocks 0002 0004
         undos                   = number 8
         ",
-    )
-}
-
-#[test]
-fn what_is_no_chain_is_refused(rt: HostRuntime) -> Result<(), Departure> {
-    hold(
-        rt.alloc(),
+    ),
+    (
+        "what is no chain is refused",
         "
         newheap 0          = block 0001
         newraw 0 2         = block 0002
@@ -90,15 +82,9 @@ fn what_is_no_chain_is_refused(rt: HostRuntime) -> Result<(), Departure> {
         chcopy 2           = no 25 BadCommand
         chequal 0002       = no 25 BadCommand
         ",
-    )
-}
-
-#[test]
-fn a_tree_that_links_to_a_chain_is_copied_undone_and_freed(
-    rt: HostRuntime,
-) -> Result<(), Departure> {
-    hold(
-        rt.alloc(),
+    ),
+    (
+        "a tree that links to a chain is copied, undone and freed",
         "
         newraw 0 2                                 = block 0001
         newraw 0 2                                 = block 0002
@@ -124,13 +110,9 @@ fn a_tree_that_links_to_a_chain_is_copied_undone_and_freed(
         map 0006                                   = ok
         chfree 0005                                = no 18 IsMap
         ",
-    )
-}
-
-#[test]
-fn a_root_is_tested_before_its_chain(rt: HostRuntime) -> Result<(), Departure> {
-    hold(
-        rt.alloc(),
+    ),
+    (
+        "a root is tested before its chain",
         "
         newraw 0 1        = block 0001
         walk 0001         = no 17 BadChain
@@ -144,13 +126,9 @@ fn a_root_is_tested_before_its_chain(rt: HostRuntime) -> Result<(), Departure> {
         newraw 3 3        = block 0003
         chequal 0001 0003 = differ
         ",
-    )
-}
-
-#[test]
-fn branches_may_be_null_and_may_not_come_back(rt: HostRuntime) -> Result<(), Departure> {
-    hold(
-        rt.alloc(),
+    ),
+    (
+        "branches may be null and may not come back",
         "
         newraw 0 2                                       = block 0001
         newraw 0 2                                       = block 0002
@@ -176,13 +154,9 @@ fn branches_may_be_null_and_may_not_come_back(rt: HostRuntime) -> Result<(), Dep
         attach 0001 ffff06000200000002000000             = ok
         walk 0001                                        = no 17 BadChain
         ",
-    )
-}
-
-#[test]
-fn trees_are_compared_by_the_places_of_their_links(rt: HostRuntime) -> Result<(), Departure> {
-    hold(
-        rt.alloc(),
+    ),
+    (
+        "trees are compared by the places of their links",
         "
         newraw 1 2                               = block 0001
         newraw 2 2                               = block 0002
@@ -204,5 +178,10 @@ fn trees_are_compared_by_the_places_of_their_links(rt: HostRuntime) -> Result<()
         chequal 0003 0005                        = differ
         chequal 0001 0002                        = same
         ",
-    )
+    ),
+];
+
+#[test]
+fn each_script_gets_its_replies(rt: HostRuntime) -> Result<(), Fail> {
+    hold_each(rt.alloc(), CHAINS)
 }

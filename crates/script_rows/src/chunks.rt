@@ -1,10 +1,12 @@
 // Scripts of edits of chunks, each with the replies that it must get.
-use dialogues::{Departure, Dialogue, hold};
+use crate::parts::{Numbers, Part, hold_parts};
+use crate::tables::{Row, hold_each};
+use dialogues::Departure;
+use std::test::Fail;
 
-#[test]
-fn a_chunk_grows_into_the_place_of_a_freed_one(rt: HostRuntime) -> Result<(), Departure> {
-    hold(
-        rt.alloc(),
+const CHUNKS: &[Row] = &[
+    (
+        "a chunk grows into the place of a freed one",
         "
         newheap 0                = block 0001
         alloc 0001 20000         = chunk 0010
@@ -27,13 +29,9 @@ fn a_chunk_grows_into_the_place_of_a_freed_one(rt: HostRuntime) -> Result<(), De
         delete 0001 0014 0 19999 = ok
         read 0001 0014           = bytes 7a
         ",
-    )
-}
-
-#[test]
-fn a_freed_chunk_handle_is_taken_again_and_undone(rt: HostRuntime) -> Result<(), Departure> {
-    hold(
-        rt.alloc(),
+    ),
+    (
+        "a freed chunk handle is taken again and undone",
         "
         newheap 0              = block 0001
         alloc 0001 2           = chunk 0010
@@ -48,15 +46,9 @@ fn a_freed_chunk_handle_is_taken_again_and_undone(rt: HostRuntime) -> Result<(),
         redo                   = ok
         read 0001 0010         = bytes 00
         ",
-    )
-}
-
-#[test]
-fn undo_of_free_gives_the_chunk_back_under_its_own_handle(
-    rt: HostRuntime,
-) -> Result<(), Departure> {
-    hold(
-        rt.alloc(),
+    ),
+    (
+        "undo of free gives the chunk back under its own handle",
         "
         newheap 0                = block 0001
         alloc 0001 1             = chunk 0010
@@ -76,15 +68,9 @@ fn undo_of_free_gives_the_chunk_back_under_its_own_handle(
         free 0001 0000           = no 6 NoChunk
         free 0002 0010           = no 5 NoBlock
         ",
-    )
-}
-
-#[test]
-fn bytes_are_inserted_deleted_and_cut_and_all_of_it_is_undone(
-    rt: HostRuntime,
-) -> Result<(), Departure> {
-    hold(
-        rt.alloc(),
+    ),
+    (
+        "bytes are inserted, deleted and cut, and all of it is undone",
         "
         newheap 0                  = block 0001
         alloc 0001 4               = chunk 0010
@@ -103,13 +89,9 @@ fn bytes_are_inserted_deleted_and_cut_and_all_of_it_is_undone(
         read 0001 0012             = no 6 NoChunk
         vread 0001                 = no 7 WrongKind
         ",
-    )
-}
-
-#[test]
-fn ranges_end_at_the_last_byte(rt: HostRuntime) -> Result<(), Departure> {
-    hold(
-        rt.alloc(),
+    ),
+    (
+        "ranges end at the last byte",
         "
         newheap 0                        = block 0001
         alloc 0001 3                     = chunk 0010
@@ -134,13 +116,9 @@ fn ranges_end_at_the_last_byte(rt: HostRuntime) -> Result<(), Departure> {
         read 0001 0010                   = bytes 0000
         undos                            = number 10
         ",
-    )
-}
-
-#[test]
-fn what_does_not_fit_a_heap_is_refused_as_full(rt: HostRuntime) -> Result<(), Departure> {
-    hold(
-        rt.alloc(),
+    ),
+    (
+        "what does not fit a heap is refused as full",
         "
         newheap 0                      = block 0001
         alloc 0001 65498               = chunk 0010
@@ -162,15 +140,9 @@ fn what_does_not_fit_a_heap_is_refused_as_full(rt: HostRuntime) -> Result<(), De
         info 0001                      = heap 0 65520
         undos                          = number 4
         ",
-    )
-}
-
-#[test]
-fn edits_of_chunks_ask_first_for_the_block_then_its_kind_then_the_chunk(
-    rt: HostRuntime,
-) -> Result<(), Departure> {
-    hold(
-        rt.alloc(),
+    ),
+    (
+        "edits of chunks ask first for the block, then its kind, then the chunk",
         "
         resize 0001 0010 9999999         = no 5 NoBlock
         newraw 0 1                       = block 0001
@@ -189,13 +161,9 @@ fn edits_of_chunks_ask_first_for_the_block_then_its_kind_then_the_chunk(
         delete 0002 0010 9999999 9999999 = no 6 NoChunk
         undos                            = number 2
         ",
-    )
-}
-
-#[test]
-fn a_chunk_is_redone_after_it_moved(rt: HostRuntime) -> Result<(), Departure> {
-    hold(
-        rt.alloc(),
+    ),
+    (
+        "a chunk is redone after it moved",
         "
         newheap 0              = block 0001
         alloc 0001 2           = chunk 0010
@@ -218,51 +186,9 @@ fn a_chunk_is_redone_after_it_moved(rt: HostRuntime) -> Result<(), Departure> {
         read 0001 0012         = bytes 710072
         redo                   = no 23 NothingToRedo
         ",
-    )
-}
-
-#[test]
-fn a_heap_is_filled_emptied_filled_with_empty_chunks_and_undone_to_the_last_byte(
-    rt: HostRuntime,
-) -> Result<(), Departure> {
-    let mut dialogue = Dialogue::new(rt.alloc());
-    dialogue.tell(
-        "
-        newheap 0                = block 0001
-        alloc 0001 65498         = chunk 0010
-        alloc 0001 0             = chunk 0012
-        write 0001 0010 65497 7a = ok
-        info 0001                = heap 0 65520
-        alloc 0001 0             = no 8 Full
-        free 0001 0010           = ok
-        alloc 0001 0             = chunk 0010
-        ",
-    )?;
-    for i in 0..299_u32 {
-        let reply = format!(in rt.alloc(); "chunk {:04x}", 20 + 2 * i)?;
-        dialogue.say("alloc 0001 0", &reply)?;
-    }
-    dialogue.say("info 0001", "heap 0 620")?;
-    for _ in 0..300 {
-        dialogue.say("undo", "ok")?;
-    }
-    dialogue.tell(
-        "
-        info 0001                = heap 0 20
-        chunks 0001              = chunks 0012
-        undo                     = ok
-        info 0001                = heap 0 65520
-        delete 0001 0010 0 65496 = ok
-        read 0001 0010           = bytes 007a
-        ",
-    )?;
-    dialogue.hold()
-}
-
-#[test]
-fn splices_of_a_chunk_are_built(rt: HostRuntime) -> Result<(), Departure> {
-    hold(
-        rt.alloc(),
+    ),
+    (
+        "splices of a chunk are built",
         "
         newheap 0                = block 0001
         alloc 0001 3             = chunk 0010
@@ -280,5 +206,52 @@ fn splices_of_a_chunk_are_built(rt: HostRuntime) -> Result<(), Departure> {
         insert 0001 0010 0 65496 = no 8 Full
         read 0001 0010           = bytes 616263
         ",
-    )
+    ),
+];
+
+#[test]
+fn each_script_gets_its_replies(rt: HostRuntime) -> Result<(), Fail> {
+    hold_each(rt.alloc(), CHUNKS)
+}
+
+const EMPTIED: &[Part] = &[
+    Part::Lines(
+        "
+        newheap 0                = block 0001
+        alloc 0001 65498         = chunk 0010
+        alloc 0001 0             = chunk 0012
+        write 0001 0010 65497 7a = ok
+        info 0001                = heap 0 65520
+        alloc 0001 0             = no 8 Full
+        free 0001 0010           = ok
+        alloc 0001 0             = chunk 0010
+        ",
+    ),
+    Part::Each(
+        Numbers {
+            first: 20,
+            step: 2,
+            count: 299,
+        },
+        "alloc 0001 0 = chunk <handle>",
+    ),
+    Part::Lines("info 0001 = heap 0 620"),
+    Part::Often(300, "undo\n", "ok\n"),
+    Part::Lines(
+        "
+        info 0001                = heap 0 20
+        chunks 0001              = chunks 0012
+        undo                     = ok
+        info 0001                = heap 0 65520
+        delete 0001 0010 0 65496 = ok
+        read 0001 0010           = bytes 007a
+        ",
+    ),
+];
+
+#[test]
+fn a_heap_is_filled_emptied_filled_with_empty_chunks_and_undone_to_the_last_byte(
+    rt: HostRuntime,
+) -> Result<(), Departure> {
+    hold_parts(rt.alloc(), EMPTIED)
 }

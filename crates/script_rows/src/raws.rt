@@ -1,12 +1,12 @@
 // Scripts of raw blocks, each with the replies that it must get.
-use dialogues::{Departure, Dialogue, hold};
+use crate::parts::{LATER_BLOCKS, Part, hold_parts};
+use crate::tables::{Row, hold_each};
+use dialogues::Departure;
+use std::test::Fail;
 
-#[test]
-fn a_refused_edit_of_a_missing_block_leaves_what_can_be_redone(
-    rt: HostRuntime,
-) -> Result<(), Departure> {
-    hold(
-        rt.alloc(),
+const RAWS: &[Row] = &[
+    (
+        "a refused edit of a missing block leaves what can be redone",
         "
         newraw 0 1       = block 0001
         undo             = ok
@@ -16,13 +16,9 @@ fn a_refused_edit_of_a_missing_block_leaves_what_can_be_redone(
         redo             = no 23 NothingToRedo
         vwrite 0001 1 61 = no 11 Range
         ",
-    )
-}
-
-#[test]
-fn blocks_are_attached_copied_found_and_freed_together(rt: HostRuntime) -> Result<(), Departure> {
-    hold(
-        rt.alloc(),
+    ),
+    (
+        "blocks are attached, copied, found and freed together",
         "
         newraw 9 2         = block 0001
         attach 0001 616263 = ok
@@ -40,13 +36,9 @@ fn blocks_are_attached_copied_found_and_freed_together(rt: HostRuntime) -> Resul
         undos              = number 5
         redos              = number 1
         ",
-    )
-}
-
-#[test]
-fn raw_bytes_are_written_replaced_and_undone(rt: HostRuntime) -> Result<(), Departure> {
-    hold(
-        rt.alloc(),
+    ),
+    (
+        "raw bytes are written, replaced and undone",
         "
         newraw 7 4             = block 0001
         vread 0001             = bytes 00000000
@@ -78,13 +70,9 @@ fn raw_bytes_are_written_replaced_and_undone(rt: HostRuntime) -> Result<(), Depa
         vread 0001             = bytes 7172737479
         undos                  = number 6
         ",
-    )
-}
-
-#[test]
-fn raw_edits_ask_first_for_the_block_then_its_kind(rt: HostRuntime) -> Result<(), Departure> {
-    hold(
-        rt.alloc(),
+    ),
+    (
+        "raw edits ask first for the block, then its kind",
         "
         vread 0001            = no 5 NoBlock
         attach 0001 -         = no 5 NoBlock
@@ -95,23 +83,34 @@ fn raw_edits_ask_first_for_the_block_then_its_kind(rt: HostRuntime) -> Result<()
         vread 0801            = no 5 NoBlock
         undos                 = number 1
         ",
-    )
-}
+    ),
+    (
+        "a body of the greatest size is attached and one byte more is not",
+        "
+        newraw 3 1           = block 0001
+        attach 0001 61*65520 = ok
+        info 0001            = raw 3 65520
+        attach 0001 61*65521 = no 9 TooBig
+        undo                 = ok
+        info 0001            = raw 3 1
+        ",
+    ),
+];
 
 #[test]
-fn raw_bodies_and_block_handles_end_at_their_limits(rt: HostRuntime) -> Result<(), Departure> {
-    let mut dialogue = Dialogue::new(rt.alloc());
-    dialogue.tell(
+fn each_script_gets_its_replies(rt: HostRuntime) -> Result<(), Fail> {
+    hold_each(rt.alloc(), RAWS)
+}
+
+const LIMITS: &[Part] = &[
+    Part::Lines(
         "
         newraw 0 65521 = no 9 TooBig
         newraw 0 65520 = block 0001
         ",
-    )?;
-    for i in 2..2_049_u32 {
-        let reply = format!(in rt.alloc(); "block {i:04x}")?;
-        dialogue.say("newraw 0 0", &reply)?;
-    }
-    dialogue.tell(
+    ),
+    Part::Each(LATER_BLOCKS, "newraw 0 0 = block <handle>"),
+    Part::Lines(
         "
         newraw 0 0           = no 10 NoHandles
         newheap 0            = no 10 NoHandles
@@ -123,23 +122,10 @@ fn raw_bodies_and_block_handles_end_at_their_limits(rt: HostRuntime) -> Result<(
         vfree 0800           = ok
         newraw 5 1           = block 0800
         ",
-    )?;
-    dialogue.hold()
-}
+    ),
+];
 
 #[test]
-fn a_body_of_the_greatest_size_is_attached_and_one_byte_more_is_not(
-    rt: HostRuntime,
-) -> Result<(), Departure> {
-    hold(
-        rt.alloc(),
-        "
-        newraw 3 1           = block 0001
-        attach 0001 61*65520 = ok
-        info 0001            = raw 3 65520
-        attach 0001 61*65521 = no 9 TooBig
-        undo                 = ok
-        info 0001            = raw 3 1
-        ",
-    )
+fn raw_bodies_and_block_handles_end_at_their_limits(rt: HostRuntime) -> Result<(), Departure> {
+    hold_parts(rt.alloc(), LIMITS)
 }

@@ -1,5 +1,5 @@
 // Calls of any store, of which some fail.
-use std::test::Fail;
+use std::alloc::AllocError;
 use vm_store::{Store, StoreFault};
 
 pub(crate) fn has_failed<T>(answer: &Result<T, StoreFault>) -> bool {
@@ -8,12 +8,12 @@ pub(crate) fn has_failed<T>(answer: &Result<T, StoreFault>) -> bool {
 
 /// A call of a store.
 #[derive(Clone, Copy)]
-pub(crate) enum Call {
+pub(crate) enum Call<'a> {
     /// It has so many bytes.
     Len(u64),
     /// These bytes are read, sixteen at most.
-    Read(u64, &'static [u8]),
-    Write(u64, &'static [u8]),
+    Read(u64, &'a [u8]),
+    Write(u64, &'a [u8]),
     SetLen(u64),
     Sync,
 }
@@ -27,7 +27,7 @@ fn is_read<S: Store>(store: &mut S, at: u64, bytes: &[u8]) -> Result<bool, Store
 }
 
 // Makes a call. Returns whether the answer is as it says.
-fn is_answered<S: Store>(store: &mut S, call: Call) -> Result<bool, StoreFault> {
+fn is_answered<S: Store>(store: &mut S, call: Call<'_>) -> Result<bool, StoreFault> {
     match call {
         Call::Len(n) => Ok(store.len()? == n),
         Call::Read(at, bytes) => is_read(store, at, bytes),
@@ -46,28 +46,57 @@ fn is_answered<S: Store>(store: &mut S, call: Call) -> Result<bool, StoreFault> 
     }
 }
 
+/// How a store departs from what is written.
+#[derive(Debug, Drop)]
+pub(crate) enum Departure {
+    Memory,
+    Fault(StoreFault),
+    /// The call at this place, from 0 on, has another answer.
+    Answer(usize),
+    /// The call at this place serves.
+    Serves(usize),
+    /// A store has other bytes.
+    Bytes,
+    /// A crash leaves another image, the one at this place.
+    Image(usize),
+    /// A fuse has counted so many calls.
+    Calls(u64),
+}
+
+impl From<AllocError> for Departure {
+    fn from(_: AllocError) -> Departure {
+        Departure::Memory
+    }
+}
+
+impl From<StoreFault> for Departure {
+    fn from(fault: StoreFault) -> Departure {
+        Departure::Fault(fault)
+    }
+}
+
 /// Makes calls that serve.
-pub(crate) fn serve<S: Store>(store: &mut S, calls: &[Call]) -> Result<(), Fail> {
-    for call in calls {
+pub(crate) fn serve<S: Store>(store: &mut S, calls: &[Call<'_>]) -> Result<(), Departure> {
+    for (place, call) in calls.iter().enumerate() {
         if !is_answered(store, *call)? {
-            return Err(Fail::new("another answer"));
+            return Err(Departure::Answer(place));
         }
     }
     Ok(())
 }
 
 /// Makes calls that fail.
-pub(crate) fn refuse<S: Store>(store: &mut S, calls: &[Call]) -> Result<(), Fail> {
-    for call in calls {
+pub(crate) fn refuse<S: Store>(store: &mut S, calls: &[Call<'_>]) -> Result<(), Departure> {
+    for (place, call) in calls.iter().enumerate() {
         if !has_failed(&is_answered(store, *call)) {
-            return Err(Fail::new("a call serves"));
+            return Err(Departure::Serves(place));
         }
     }
     Ok(())
 }
 
 /// Leaves 0 4 0 0 1 2 3: zeros, a gap and a byte over them, a cut, and bytes across the end.
-pub(crate) const PLAY: [Call; 9] = [
+pub(crate) const PLAY: [Call<'static>; 9] = [
     Call::SetLen(2),
     Call::Write(5, &[1, 2, 3]),
     Call::Write(1, &[4]),
@@ -79,13 +108,13 @@ pub(crate) const PLAY: [Call; 9] = [
     Call::Len(7),
 ];
 
-const AT_THE_END: [Call; 3] = [
+const AT_THE_END: [Call<'static>; 3] = [
     Call::Read(5, &[2, 3]),
     Call::Read(7, &[]),
     Call::Write(7, &[]),
 ];
 
-const PAST_THE_END: [Call; 5] = [
+const PAST_THE_END: [Call<'static>; 5] = [
     Call::Read(6, &[3, 0]),
     Call::Read(8, &[]),
     Call::Read(u64::MAX, &[0, 0]),
@@ -93,7 +122,7 @@ const PAST_THE_END: [Call; 5] = [
     Call::SetLen(u64::MAX),
 ];
 
-const GROWN: [Call; 4] = [
+const GROWN: [Call<'static>; 4] = [
     Call::Len(7),
     Call::Write(9, &[]),
     Call::Len(9),
@@ -101,7 +130,7 @@ const GROWN: [Call; 4] = [
 ];
 
 /// In a store of those seven bytes: ranges of no bytes, and those that end at the end, past it and nowhere. Leaves nine.
-pub(crate) fn touch_the_end<S: Store>(store: &mut S) -> Result<(), Fail> {
+pub(crate) fn touch_the_end<S: Store>(store: &mut S) -> Result<(), Departure> {
     serve(store, &AT_THE_END)?;
     refuse(store, &PAST_THE_END)?;
     serve(store, &GROWN)

@@ -2,20 +2,34 @@
 use crate::calls::{Call, PLAY, refuse, serve, touch_the_end};
 use std::fs;
 use std::test::Fail;
-use vm_store::{HostStore, HostSystem, Store};
+use vm_store::{HostFile, HostStore, HostSystem, StoreFault};
 
 // Whether a file has these bytes.
 fn is_held(rt: &HostRuntime, path: &str, bytes: &[u8]) -> Result<bool, Fail> {
     Ok(fs::read(rt, path)?.as_slice() == bytes)
 }
 
+fn open(
+    system: &mut HostSystem,
+    path: &str,
+    make: bool,
+) -> Result<HostStore<HostFile>, StoreFault> {
+    HostStore::open(system, path, make)
+}
+
 fn is_open(system: &mut HostSystem, path: &str, make: bool) -> bool {
-    HostStore::open(system, path, make).is_ok()
+    open(system, path, make).is_ok()
 }
 
 // Opens a file and makes calls of it.
-fn serve_at(system: &mut HostSystem, path: &str, make: bool, calls: &[Call]) -> Result<(), Fail> {
-    serve(&mut HostStore::open(system, path, make)?, calls)
+fn serve_at(
+    system: &mut HostSystem,
+    path: &str,
+    make: bool,
+    calls: &[Call<'_>],
+) -> Result<(), Fail> {
+    serve(&mut open(system, path, make)?, calls)?;
+    Ok(())
 }
 
 #[test]
@@ -23,7 +37,7 @@ fn a_file_serves_each_call(rt: HostRuntime) -> Result<(), Fail> {
     let mut system = HostSystem::new(rt);
     let path = "store_rows_served";
     let _ = fs::remove_file(&rt, path);
-    let mut file = HostStore::open(&mut system, path, true)?;
+    let mut file = open(&mut system, path, true)?;
     serve(&mut file, &[Call::Len(0)])?;
     serve(&mut file, &PLAY)?;
     assert!(rt; is_held(&rt, path, &[0, 4, 0, 0, 1, 2, 3])?);
@@ -57,19 +71,21 @@ fn make_and_keep(system: &mut HostSystem) -> Result<(), Fail> {
     serve_at(system, IN_FOLDER, true, &[Call::Len(2)])
 }
 
+const REFUSED: &[Call<'static>] = &[Call::Write(0, &[1]), Call::Sync, Call::SetLen(0)];
+
 // A device that is always full, and can't be synced.
 #[test]
 fn a_file_that_fails_goes_on_failing(rt: HostRuntime) -> Result<(), Fail> {
     let mut system = HostSystem::new(rt);
-    let mut full = HostStore::open(&mut system, "/dev/full", false)?;
+    let mut full = open(&mut system, "/dev/full", false)?;
     for _ in 0..3 {
-        refuse(
-            &mut full,
-            &[Call::Write(0, &[1]), Call::Sync, Call::SetLen(0)],
-        )?;
+        refuse(&mut full, REFUSED)?;
     }
-    serve(&mut full, &[Call::Read(0, &[])])
+    serve(&mut full, &[Call::Read(0, &[])])?;
+    Ok(())
 }
+
+const SYNC: &[Call<'static>] = &[Call::Sync];
 
 #[test]
 fn a_file_that_is_dropped_is_closed(rt: HostRuntime) -> Result<(), Fail> {
@@ -77,7 +93,7 @@ fn a_file_that_is_dropped_is_closed(rt: HostRuntime) -> Result<(), Fail> {
     let path = "store_rows_closed";
     let before = open_files(&rt)?;
     for _ in 0..100 {
-        HostStore::open(&mut system, path, true)?.sync()?;
+        serve_at(&mut system, path, true, SYNC)?;
     }
     assert_eq!(rt; open_files(&rt)?, before);
     fs::remove_file(&rt, path)?;
@@ -98,7 +114,7 @@ fn a_file_in_use_is_refused(rt: HostRuntime) -> Result<(), Fail> {
     let mut system = HostSystem::new(rt);
     let _ = fs::remove_file(&rt, LOCKED);
     let _ = fs::remove_file(&rt, LINKED);
-    let mut first = HostStore::open(&mut system, LOCKED, true)?;
+    let mut first = open(&mut system, LOCKED, true)?;
     serve(&mut first, &[Call::Write(0, &[1, 2, 3])])?;
     fs::hard_link(&rt, LOCKED, LINKED)?;
     assert!(rt; is_in_use(&mut system));
@@ -123,7 +139,7 @@ fn is_in_use(system: &mut HostSystem) -> bool {
 }
 
 fn open_again(system: &mut HostSystem) -> Result<(), Fail> {
-    let mut second = HostStore::open(system, LINKED, true)?;
+    let mut second = open(system, LINKED, true)?;
     serve(&mut second, &[Call::Len(4)])?;
     if is_open(system, LOCKED, false) {
         return Err(Fail::new("a locked file opens"));

@@ -1,21 +1,11 @@
 // Stores that fail on order.
-use crate::calls::{Call, PLAY, refuse, serve, touch_the_end};
+use crate::calls::{Call, Departure, PLAY, refuse, serve};
+use crate::rows::{FusedRow, Step, take_each_fused};
 use std::test::Fail;
-use vm_store::{FuseStore, MemStore};
-
-#[test]
-fn a_fuse_fails_one_call(rt: HostRuntime) -> Result<(), Fail> {
-    let mut fuse = FuseStore::new(MemStore::new(rt.alloc()), 1, false);
-    serve(&mut fuse, &[Call::Write(0, &[1])])?;
-    refuse(&mut fuse, &[Call::Write(0, &[2])])?;
-    serve(&mut fuse, &[Call::Write(1, &[3])])?;
-    assert_eq!(rt; fuse.inner().bytes(), [1, 3].as_slice());
-    assert_eq!(rt; fuse.calls(), 3);
-    Ok(())
-}
+use vm_store::{FuseStore, MemStore, Store};
 
 // One of each kind.
-const CALLS: [Call; 5] = [
+const CALLS: &[Call<'static>] = &[
     Call::Sync,
     Call::Len(0),
     Call::SetLen(1),
@@ -23,13 +13,72 @@ const CALLS: [Call; 5] = [
     Call::Read(0, &[]),
 ];
 
+const FUSES: &[FusedRow] = &[
+    (
+        "a fuse fails one call",
+        &[],
+        1,
+        false,
+        &[
+            Step::Serve(&[Call::Write(0, &[1])]),
+            Step::Refuse(&[Call::Write(0, &[2])]),
+            Step::Serve(&[Call::Write(1, &[3])]),
+            Step::Has(&[1, 3]),
+            Step::Counts(3),
+        ],
+    ),
+    (
+        "a fuse fails all calls",
+        &[],
+        1,
+        true,
+        &[
+            Step::Serve(&[Call::Sync]),
+            Step::Refuse(CALLS),
+            Step::Counts(6),
+            Step::Has(&[]),
+        ],
+    ),
+    (
+        "a fuse that never blows serves each call",
+        &[],
+        u64::MAX,
+        true,
+        &[
+            Step::Serve(&PLAY),
+            Step::Has(&[0, 4, 0, 0, 1, 2, 3]),
+            Step::Counts(9),
+            Step::TouchTheEnd,
+            // Those that the store behind failed count too.
+            Step::Counts(21),
+        ],
+    ),
+];
+
 #[test]
-fn a_fuse_fails_all_calls(rt: HostRuntime) -> Result<(), Fail> {
-    let mut fuse = FuseStore::new(MemStore::new(rt.alloc()), 1, true);
-    serve(&mut fuse, &[Call::Sync])?;
-    refuse(&mut fuse, &CALLS)?;
-    assert_eq!(rt; fuse.calls(), 6);
-    assert!(rt; fuse.inner().bytes().is_empty());
+fn each_fuse_fails_what_it_must(rt: HostRuntime) -> Result<(), Fail> {
+    take_each_fused(rt.alloc(), FUSES)
+}
+
+const SYNC: &[Call<'static>] = &[Call::Sync];
+
+const LENGTH: &[Call<'static>] = &[Call::Len(1)];
+
+// One of each kind, of a byte.
+const OF_A_BYTE: &[Call<'static>] = &[
+    Call::Write(0, &[1]),
+    Call::Read(0, &[1]),
+    Call::Len(1),
+    Call::SetLen(1),
+    Call::Sync,
+];
+
+// Makes so many calls, each kind in turn.
+fn pass<S: Store>(store: &mut S, count: u64) -> Result<(), Departure> {
+    for place in 0..count {
+        let kind = (place % 5) as usize;
+        serve(store, &OF_A_BYTE[kind..kind + 1])?;
+    }
     Ok(())
 }
 
@@ -38,35 +87,19 @@ fn a_fuse_fails_all_calls(rt: HostRuntime) -> Result<(), Fail> {
 fn a_fuse_fails_the_call_after_those_that_pass(rt: HostRuntime) -> Result<(), Fail> {
     for passes in 0..20 {
         let mut fuse = FuseStore::new(MemStore::new(rt.alloc()), passes, true);
-        for call in 0..passes {
-            serve(&mut fuse, &[passed(call)])?;
-        }
-        refuse(&mut fuse, &[Call::Len(1)])?;
+        pass(&mut fuse, passes)?;
+        refuse(&mut fuse, LENGTH)?;
         assert_eq!(rt; fuse.calls(), passes + 1);
     }
     Ok(())
 }
 
-// Each kind of call in turn.
-fn passed(call: u64) -> Call {
-    match call % 5 {
-        0 => Call::Write(0, &[1]),
-        1 => Call::Read(0, &[1]),
-        2 => Call::Len(1),
-        3 => Call::SetLen(1),
-        _ => Call::Sync,
+// Syncs that fail and serve by turns.
+fn alternate<S: Store>(store: &mut S) -> Result<(), Departure> {
+    for _ in 0..2 {
+        refuse(store, SYNC)?;
+        serve(store, SYNC)?;
     }
-}
-
-#[test]
-fn a_fuse_that_never_blows_serves_each_call(rt: HostRuntime) -> Result<(), Fail> {
-    let mut store = FuseStore::new(MemStore::new(rt.alloc()), u64::MAX, true);
-    serve(&mut store, &PLAY)?;
-    assert_eq!(rt; store.inner().bytes(), [0, 4, 0, 0, 1, 2, 3].as_slice());
-    assert_eq!(rt; store.calls(), 9);
-    touch_the_end(&mut store)?;
-    // Those that the store behind failed count too.
-    assert_eq!(rt; store.calls(), 21);
     Ok(())
 }
 
@@ -75,10 +108,7 @@ fn a_fuse_that_never_blows_serves_each_call(rt: HostRuntime) -> Result<(), Fail>
 fn a_fuse_stands_behind_another(rt: HostRuntime) -> Result<(), Fail> {
     let inner = FuseStore::new(MemStore::new(rt.alloc()), 1, false);
     let mut outer = FuseStore::new(inner, 0, false);
-    for _ in 0..2 {
-        refuse(&mut outer, &[Call::Sync])?;
-        serve(&mut outer, &[Call::Sync])?;
-    }
+    alternate(&mut outer)?;
     assert_eq!(rt; outer.calls(), 4);
     assert_eq!(rt; outer.inner().calls(), 3);
     Ok(())

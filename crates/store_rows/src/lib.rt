@@ -12,4 +12,6 @@ mod fuses;
 #[cfg(test)]
 mod memory;
 #[cfg(test)]
+mod rows;
+#[cfg(test)]
 mod systems;

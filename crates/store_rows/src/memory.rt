@@ -1,55 +1,65 @@
 // Stores in memory.
-use crate::calls::{Call, PLAY, has_failed, serve, touch_the_end};
+use crate::calls::{Call, Departure, PLAY, serve};
+use crate::rows::{Row, Step, take_each};
 use std::test::Fail;
-use vm_store::{MemStore, Store};
+use vm_store::MemStore;
+
+const MEMORY: &[Row] = &[
+    (
+        "a gap is zeros and a cut loses bytes",
+        &[],
+        &[
+            Step::Has(&[]),
+            Step::Serve(&[Call::Write(2, &[7, 8])]),
+            Step::Has(&[0, 0, 7, 8]),
+            Step::Serve(&[Call::Write(1, &[5]), Call::SetLen(3)]),
+            Step::Has(&[0, 5, 7]),
+            Step::Serve(&[Call::SetLen(4)]),
+            Step::Has(&[0, 5, 7, 0]),
+        ],
+    ),
+    (
+        "a store in memory serves each call",
+        &[],
+        &[
+            Step::Serve(&PLAY),
+            Step::Has(&[0, 4, 0, 0, 1, 2, 3]),
+            Step::TouchTheEnd,
+            Step::Has(&[0, 4, 0, 0, 1, 2, 3, 0, 0]),
+        ],
+    ),
+];
 
 #[test]
-fn a_gap_is_zeros_and_a_cut_loses_bytes(rt: HostRuntime) -> Result<(), Fail> {
-    let mut store = MemStore::new(rt.alloc());
-    assert!(rt; store.bytes().is_empty());
-    serve(&mut store, &[Call::Write(2, &[7, 8])])?;
-    assert_eq!(rt; store.bytes(), [0, 0, 7, 8].as_slice());
-    serve(&mut store, &[Call::Write(1, &[5]), Call::SetLen(3)])?;
-    assert_eq!(rt; store.bytes(), [0, 5, 7].as_slice());
-    serve(&mut store, &[Call::SetLen(4)])?;
-    assert_eq!(rt; store.bytes(), [0, 5, 7, 0].as_slice());
-    Ok(())
+fn each_store_in_memory_serves(rt: HostRuntime) -> Result<(), Fail> {
+    take_each(rt.alloc(), MEMORY)
 }
 
-#[test]
-fn a_store_in_memory_serves_each_call(rt: HostRuntime) -> Result<(), Fail> {
-    let mut store = MemStore::new(rt.alloc());
-    serve(&mut store, &PLAY)?;
-    assert_eq!(rt; store.bytes(), [0, 4, 0, 0, 1, 2, 3].as_slice());
-    touch_the_end(&mut store)?;
-    assert_eq!(rt; store.bytes(), [0, 4, 0, 0, 1, 2, 3, 0, 0].as_slice());
-    Ok(())
-}
-
-// Puts a byte behind those that are there, and where that fails, again.
-fn put_again(store: &mut MemStore, at: u8) -> Result<(), Fail> {
-    if !has_failed(&store.write_at(u64::from(at), &[at])) {
+// Makes a call. Where it fails, the store has the bytes that it had, so many, and the call serves when it is made again.
+fn make_again(store: &mut MemStore, call: Call<'_>, bytes: u8) -> Result<(), Departure> {
+    if serve(store, &[call]).is_ok() {
         return Ok(());
     }
-    if store.bytes().len() != usize::from(at) || store.len()? != u64::from(at) {
-        return Err(Fail::new("a refused write changes something"));
+    if store.bytes().len() != usize::from(bytes) {
+        return Err(Departure::Bytes);
     }
-    store.write_at(u64::from(at), &[at])?;
-    Ok(())
+    serve(store, &[Call::Len(u64::from(bytes)), call])
+}
+
+// Puts a byte behind those that are there, which are as many as it says.
+fn grow(store: &mut MemStore, byte: u8) -> Result<(), Departure> {
+    let grown = byte.saturating_add(1);
+    make_again(store, Call::Write(u64::from(byte), &[byte]), byte)?;
+    make_again(store, Call::Sync, grown)?;
+    make_again(store, Call::SetLen(u64::from(grown)), grown)
 }
 
 // Run with each allocation failing in turn: a call that fails for want of memory does nothing, and serves when made again.
 #[test]
 fn a_growth_that_is_refused_changes_nothing(rt: HostRuntime) -> Result<(), Fail> {
     let mut store = MemStore::new(rt.alloc());
-    for at in 0..40 {
-        put_again(&mut store, at as u8)?;
-        if has_failed(&store.sync()) {
-            store.sync()?;
-        }
-        if has_failed(&store.set_len(at + 1)) {
-            store.set_len(at + 1)?;
-        }
+    for byte in 0..40 {
+        grow(&mut store, byte)?;
     }
     assert_eq!(rt; store.bytes().len(), 40);
     assert!(rt;

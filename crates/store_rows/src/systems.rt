@@ -38,17 +38,18 @@ fn open(alloc: Global, bytes: &[u8], pace: Pace) -> Result<HostStore<PiecewiseFi
     Ok(HostStore::open(&mut system, "any", true)?)
 }
 
+const SEVEN: &[Call<'static>] = &[Call::Read(0, &[0, 4, 0, 0, 1, 2, 3])];
+
+const NINE: &[Call<'static>] = &[Call::Read(0, &[0, 4, 0, 0, 1, 2, 3, 0, 0]), Call::Sync];
+
 #[test]
 fn short_and_interrupted_calls_serve_as_whole_ones(rt: HostRuntime) -> Result<(), Fail> {
     for pace in PACES {
         let mut store = open(rt.alloc(), &[], pace)?;
         serve(&mut store, &PLAY)?;
-        serve(&mut store, &[Call::Read(0, &[0, 4, 0, 0, 1, 2, 3])])?;
+        serve(&mut store, SEVEN)?;
         touch_the_end(&mut store)?;
-        serve(
-            &mut store,
-            &[Call::Read(0, &[0, 4, 0, 0, 1, 2, 3, 0, 0]), Call::Sync],
-        )?;
+        serve(&mut store, NINE)?;
     }
     Ok(())
 }
@@ -67,7 +68,8 @@ fn a_sync_that_failed_is_never_trusted_again(rt: HostRuntime) -> Result<(), Fail
         refuse(&mut store, &[Call::Sync])?;
         serve(&mut store, &[Call::Len(3)])?;
     }
-    serve(&mut store, &[Call::Read(0, &[1, 4, 3])])
+    serve(&mut store, &[Call::Read(0, &[1, 4, 3])])?;
+    Ok(())
 }
 
 // Opening makes three calls where the file may be made, and two where it may not.

@@ -1,10 +1,10 @@
 // Raw blocks and heaps without room for a byte more, each read back.
-use dialogues::{Departure, hold};
+use crate::tables::{Row, hold_each};
+use std::test::Fail;
 
-#[test]
-fn a_raw_block_of_the_greatest_size_is_read_back(rt: HostRuntime) -> Result<(), Departure> {
-    hold(
-        rt.alloc(),
+const FULL_BLOCKS: &[Row] = &[
+    (
+        "a raw block of the greatest size is read back",
         "
         newraw 3 1                    = block 0001
         attach 0001 61+62*65518+7a    = ok
@@ -20,13 +20,9 @@ fn a_raw_block_of_the_greatest_size_is_read_back(rt: HostRuntime) -> Result<(), 
         redo                          = ok
         vread 0001                    = bytes 63+64*65518+65
         ",
-    )
-}
-
-#[test]
-fn a_raw_block_of_the_greatest_size_is_copied_and_freed(rt: HostRuntime) -> Result<(), Departure> {
-    hold(
-        rt.alloc(),
+    ),
+    (
+        "a raw block of the greatest size is copied and freed",
         "
         newraw 3 0                    = block 0001
         attach 0001 61+62*65518+7a    = ok
@@ -48,13 +44,9 @@ fn a_raw_block_of_the_greatest_size_is_copied_and_freed(rt: HostRuntime) -> Resu
         redo                          = ok
         vread 0002                    = bytes 61+62*65518+7a
         ",
-    )
-}
-
-#[test]
-fn a_chunk_of_the_greatest_size_is_read_back(rt: HostRuntime) -> Result<(), Departure> {
-    hold(
-        rt.alloc(),
+    ),
+    (
+        "a chunk of the greatest size is read back",
         "
         newheap 0                           = block 0001
         alloc 0001 65499                    = no 8 Full
@@ -84,13 +76,9 @@ fn a_chunk_of_the_greatest_size_is_read_back(rt: HostRuntime) -> Result<(), Depa
         undo                                = ok
         read 0001 0010                      = bytes 61+62*65496+7a
         ",
-    )
-}
-
-#[test]
-fn a_full_heap_is_copied_and_freed(rt: HostRuntime) -> Result<(), Departure> {
-    hold(
-        rt.alloc(),
+    ),
+    (
+        "a full heap is copied and freed",
         "
         newheap 9                           = block 0001
         alloc 0001 32744                    = chunk 0010
@@ -120,5 +108,10 @@ fn a_full_heap_is_copied_and_freed(rt: HostRuntime) -> Result<(), Departure> {
         redo                                = ok
         read 0002 0012                      = bytes 71+72*32746+73
         ",
-    )
+    ),
+];
+
+#[test]
+fn each_script_gets_its_replies(rt: HostRuntime) -> Result<(), Fail> {
+    hold_each(rt.alloc(), FULL_BLOCKS)
 }

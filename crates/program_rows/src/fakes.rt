@@ -1,11 +1,11 @@
 // Readers and writers that are slow, are interrupted or fail.
 ghost use Rattle.std.specs.Prelude.{◌≤◌, length};
 
+use geos_model::Fault;
 use geos_shell::{RunFault, run};
 use std::alloc::Global;
 use std::cell::Cell;
 use std::io::{self, ErrorKind, Read, Write};
-use std::test::Fail;
 use undo_log::Session;
 use vm_store::MemStore;
 
@@ -14,14 +14,13 @@ pub(crate) fn fault_of<R: Read, W: Write>(
     alloc: Global,
     reader: &mut R,
     writer: &mut W,
-) -> Result<Option<RunFault>, Fail> {
+) -> Result<Option<RunFault>, Fault> {
     Ok(run(alloc, new_session(alloc)?, None, reader, writer).err())
 }
 
 /// A session on a new document, in a file in memory.
-pub(crate) fn new_session(alloc: Global) -> Result<Session<MemStore>, Fail> {
-    let session = Session::create(alloc, MemStore::new(alloc), 8).map_err(|refused| refused.fault)?;
-    Ok(session)
+pub(crate) fn new_session(alloc: Global) -> Result<Session<MemStore>, Fault> {
+    Session::create(alloc, MemStore::new(alloc), 8).map_err(|refused| refused.fault)
 }
 
 // What one read gives.

@@ -1,7 +1,7 @@
 // A store in memory that keeps its bytes and nothing of how they came to be.
 ghost use Rattle.std.specs.Prelude.{◌≡◌};
 ghost use Rattle.vm_store.specs.Facts.{raised};
-ghost use Rattle.limit_rows.specs.Forgetful.{forgetful_facts, forgetful_timely};
+ghost use Rattle.script_rows.specs.Forgetful.{forgetful_facts, forgetful_timely};
 
 use std::alloc::{AllocError, Global};
 use vm_store::{Store, StoreFault};

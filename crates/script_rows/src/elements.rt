@@ -1,12 +1,10 @@
 // Scripts of element arrays and name arrays, each with the replies that it must get.
-use dialogues::{Departure, hold};
+use crate::tables::{Row, hold_each};
+use std::test::Fail;
 
-#[test]
-fn references_are_counted_and_a_freed_token_is_taken_again(
-    rt: HostRuntime,
-) -> Result<(), Departure> {
-    hold(
-        rt.alloc(),
+const ELEMENTS: &[Row] = &[
+    (
+        "references are counted and a freed token is taken again",
         "
         newheap 0             = block 0001
         ecreate 0001 1        = chunk 0010
@@ -25,13 +23,9 @@ fn references_are_counted_and_a_freed_token_is_taken_again(
         undo                  = ok
         read 0001 0010        = bytes 0000040000000a00ffff
         ",
-    )
-}
-
-#[test]
-fn references_go_up_to_the_greatest_count(rt: HostRuntime) -> Result<(), Departure> {
-    hold(
-        rt.alloc(),
+    ),
+    (
+        "references go up to the greatest count",
         "
         newheap 0                 = block 0001
         ecreate 0001 1            = chunk 0010
@@ -43,13 +37,9 @@ fn references_go_up_to_the_greatest_count(rt: HostRuntime) -> Result<(), Departu
         eunref 0001 0010 0000     = ok
         eref 0001 0010 0000       = ok
         ",
-    )
-}
-
-#[test]
-fn names_are_kept_or_set(rt: HostRuntime) -> Result<(), Departure> {
-    hold(
-        rt.alloc(),
+    ),
+    (
+        "names are kept or set",
         "
         newheap 0                   = block 0001
         ncreate 0001 1              = chunk 0010
@@ -62,13 +52,9 @@ fn names_are_kept_or_set(rt: HostRuntime) -> Result<(), Departure> {
         nadd 0001 0010 63 09 keep   = token 0001
         read 0001 0010              = bytes 0200000000000c00ffff0100100016000300000861620100000963
         ",
-    )
-}
-
-#[test]
-fn a_name_is_found_changed_and_freed(rt: HostRuntime) -> Result<(), Departure> {
-    hold(
-        rt.alloc(),
+    ),
+    (
+        "a name is found, changed and freed",
         "
         newheap 0                   = block 0001
         ncreate 0001 1              = chunk 0010
@@ -89,13 +75,9 @@ fn a_name_is_found_changed_and_freed(rt: HostRuntime) -> Result<(), Departure> {
         ntext 0001 0010 0001        = no 13 NoElement
         eref 0001 0010 0000         = no 12 NotArray
         ",
-    )
-}
-
-#[test]
-fn a_freed_element_of_any_size_has_three_bytes(rt: HostRuntime) -> Result<(), Departure> {
-    hold(
-        rt.alloc(),
+    ),
+    (
+        "a freed element of any size has three bytes",
         "
         newheap 0                 = block 0001
         ecreate 0001 0            = chunk 0010
@@ -112,13 +94,9 @@ fn a_freed_element_of_any_size_has_three_bytes(rt: HostRuntime) -> Result<(), De
         ecount 0001 0010 0001     = number 2
         eunref 0001 0010 0000     = no 13 NoElement
         ",
-    )
-}
-
-#[test]
-fn freed_tokens_are_taken_again_newest_first(rt: HostRuntime) -> Result<(), Departure> {
-    hold(
-        rt.alloc(),
+    ),
+    (
+        "freed tokens are taken again newest first",
         "
         newheap 0              = block 0001
         ecreate 0001 0         = chunk 0010
@@ -135,13 +113,9 @@ fn freed_tokens_are_taken_again_newest_first(rt: HostRuntime) -> Result<(), Depa
         eindex 0001 0010 0003  = number 3
         eused 0001 0010        = number 4
         ",
-    )
-}
-
-#[test]
-fn equal_elements_share_the_lowest_token(rt: HostRuntime) -> Result<(), Departure> {
-    hold(
-        rt.alloc(),
+    ),
+    (
+        "equal elements share the lowest token",
         "
         newheap 0                   = block 0001
         ecreate 0001 1              = chunk 0010
@@ -162,13 +136,9 @@ fn equal_elements_share_the_lowest_token(rt: HostRuntime) -> Result<(), Departur
         redo                        = ok
         edata 0001 0010 0000        = no 13 NoElement
         ",
-    )
-}
-
-#[test]
-fn each_kind_of_array_refuses_the_others(rt: HostRuntime) -> Result<(), Departure> {
-    hold(
-        rt.alloc(),
+    ),
+    (
+        "each kind of array refuses the others",
         "
         newheap 0                    = block 0001
         ecreate 0001 0               = chunk 0010
@@ -189,13 +159,9 @@ fn each_kind_of_array_refuses_the_others(rt: HostRuntime) -> Result<(), Departur
         nfind 0001 0010 61           = no 12 NotArray
         ncount 0001 0014 0000        = no 12 NotArray
         ",
-    )
-}
-
-#[test]
-fn a_name_in_use_is_refused_but_to_its_own_token(rt: HostRuntime) -> Result<(), Departure> {
-    hold(
-        rt.alloc(),
+    ),
+    (
+        "a name in use is refused, but to its own token",
         "
         newheap 0                 = block 0001
         ncreate 0001 0            = chunk 0010
@@ -215,13 +181,9 @@ fn a_name_in_use_is_refused_but_to_its_own_token(rt: HostRuntime) -> Result<(), 
         ntext 0001 0010 0000      = bytes 63
         nadd 0001 0010 63 - both  = no 25 BadCommand
         ",
-    )
-}
-
-#[test]
-fn limits_of_sizes_and_parts(rt: HostRuntime) -> Result<(), Departure> {
-    hold(
-        rt.alloc(),
+    ),
+    (
+        "limits of sizes and parts",
         "
         newheap 0                 = block 0001
         ncreate 0001 65           = no 11 Range
@@ -232,13 +194,9 @@ fn limits_of_sizes_and_parts(rt: HostRuntime) -> Result<(), Departure> {
         nadd 0001 0010 61 - keep  = token 0000
         undos                     = number 3
         ",
-    )
-}
-
-#[test]
-fn limits_of_names(rt: HostRuntime) -> Result<(), Departure> {
-    hold(
-        rt.alloc(),
+    ),
+    (
+        "limits of names",
         "
         newheap 0                        = block 0001
         ncreate 0001 64                  = chunk 0010
@@ -251,13 +209,9 @@ fn limits_of_names(rt: HostRuntime) -> Result<(), Departure> {
         ncount 0001 0010 0000            = number 1
         undos                            = number 5
         ",
-    )
-}
-
-#[test]
-fn a_full_heap_refuses_longer_elements(rt: HostRuntime) -> Result<(), Departure> {
-    hold(
-        rt.alloc(),
+    ),
+    (
+        "a full heap refuses longer elements",
         "
         newheap 0                    = block 0001
         ecreate 0001 0               = chunk 0010
@@ -272,5 +226,10 @@ fn a_full_heap_refuses_longer_elements(rt: HostRuntime) -> Result<(), Departure>
         edelete 0001 0010 0000       = ok
         eused 0001 0010              = number 0
         ",
-    )
+    ),
+];
+
+#[test]
+fn each_script_gets_its_replies(rt: HostRuntime) -> Result<(), Fail> {
+    hold_each(rt.alloc(), ELEMENTS)
 }

@@ -1,10 +1,10 @@
 // Scripts of arrays whose bytes are written first, and read after each edit.
-use dialogues::{Departure, hold};
+use crate::tables::{Row, hold_each};
+use std::test::Fail;
 
-#[test]
-fn elements_are_put_in_and_replaced(rt: HostRuntime) -> Result<(), Departure> {
-    hold(
-        rt.alloc(),
+const GIVEN_BYTES: &[Row] = &[
+    (
+        "elements are put in and replaced",
         "
         newheap 0                                    = block 0001
         alloc 0001 12                                = chunk 0010
@@ -24,13 +24,9 @@ fn elements_are_put_in_and_replaced(rt: HostRuntime) -> Result<(), Departure> {
         undo                                         = ok
         read 0001 0012                               = bytes 02000000000008000c000d0061
         ",
-    )
-}
-
-#[test]
-fn elements_are_deleted(rt: HostRuntime) -> Result<(), Departure> {
-    hold(
-        rt.alloc(),
+    ),
+    (
+        "elements are deleted",
         "
         newheap 0                                    = block 0001
         alloc 0001 12                                = chunk 0010
@@ -46,13 +42,9 @@ fn elements_are_deleted(rt: HostRuntime) -> Result<(), Departure> {
         undo                                         = ok
         read 0001 0012                               = bytes 02000000000008000c000d0061
         ",
-    )
-}
-
-#[test]
-fn an_element_is_added(rt: HostRuntime) -> Result<(), Departure> {
-    hold(
-        rt.alloc(),
+    ),
+    (
+        "an element is added",
         "
         newheap 0                                                    = block 0001
         alloc 0001 21                                                = chunk 0010
@@ -66,13 +58,9 @@ fn an_element_is_added(rt: HostRuntime) -> Result<(), Departure> {
         undo                                                         = ok
         read 0001 0010                                               = bytes 0200000000000a0001000e00120002000061ffffff
         ",
-    )
-}
-
-#[test]
-fn references_are_added_and_removed(rt: HostRuntime) -> Result<(), Departure> {
-    hold(
-        rt.alloc(),
+    ),
+    (
+        "references are added and removed",
         "
         newheap 0                                                    = block 0001
         alloc 0001 21                                                = chunk 0010
@@ -86,13 +74,9 @@ fn references_are_added_and_removed(rt: HostRuntime) -> Result<(), Departure> {
         undo                                                         = ok
         read 0001 0010                                               = bytes 0200000000000a0001000e00120002000061ffffff
         ",
-    )
-}
-
-#[test]
-fn an_element_is_freed_or_changed(rt: HostRuntime) -> Result<(), Departure> {
-    hold(
-        rt.alloc(),
+    ),
+    (
+        "an element is freed or changed",
         "
         newheap 0                                                    = block 0001
         alloc 0001 21                                                = chunk 0010
@@ -106,13 +90,9 @@ fn an_element_is_freed_or_changed(rt: HostRuntime) -> Result<(), Departure> {
         undo                                                         = ok
         read 0001 0010                                               = bytes 0200000000000a0001000e00120002000061ffffff
         ",
-    )
-}
-
-#[test]
-fn elements_are_looked_up(rt: HostRuntime) -> Result<(), Departure> {
-    hold(
-        rt.alloc(),
+    ),
+    (
+        "elements are looked up",
         "
         newheap 0                                                    = block 0001
         alloc 0001 21                                                = chunk 0010
@@ -123,13 +103,9 @@ fn elements_are_looked_up(rt: HostRuntime) -> Result<(), Departure> {
         etoken 0001 0010 0                                           = token 0000
         eindex 0001 0010 0000                                        = number 0
         ",
-    )
-}
-
-#[test]
-fn a_name_is_added_changed_and_freed(rt: HostRuntime) -> Result<(), Departure> {
-    hold(
-        rt.alloc(),
+    ),
+    (
+        "a name is added, changed and freed",
         "
         newheap 0                                                = block 0001
         alloc 0001 19                                            = chunk 0010
@@ -147,13 +123,9 @@ fn a_name_is_added_changed_and_freed(rt: HostRuntime) -> Result<(), Departure> {
         undo                                                     = ok
         read 0001 0010                                           = bytes 0100000000000c00ffff01000e000100000761
         ",
-    )
-}
-
-#[test]
-fn names_are_looked_up(rt: HostRuntime) -> Result<(), Departure> {
-    hold(
-        rt.alloc(),
+    ),
+    (
+        "names are looked up",
         "
         newheap 0                                                = block 0001
         alloc 0001 19                                            = chunk 0010
@@ -163,13 +135,9 @@ fn names_are_looked_up(rt: HostRuntime) -> Result<(), Departure> {
         ntext 0001 0010 0000                                     = bytes 61
         ndata 0001 0010 0000                                     = bytes 07
         ",
-    )
-}
-
-#[test]
-fn arrays_of_no_elements_and_no_names_are_made(rt: HostRuntime) -> Result<(), Departure> {
-    hold(
-        rt.alloc(),
+    ),
+    (
+        "arrays of no elements and no names are made",
         "
         newheap 0      = block 0001
         ecreate 0001 1 = chunk 0010
@@ -177,5 +145,10 @@ fn arrays_of_no_elements_and_no_names_are_made(rt: HostRuntime) -> Result<(), De
         ncreate 0001 1 = chunk 0012
         read 0001 0012 = bytes 0000000000000c00ffff0100
         ",
-    )
+    ),
+];
+
+#[test]
+fn each_script_gets_its_replies(rt: HostRuntime) -> Result<(), Fail> {
+    hold_each(rt.alloc(), GIVEN_BYTES)
 }

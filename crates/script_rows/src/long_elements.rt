@@ -1,10 +1,10 @@
 // The longest elements and names that there can be.
-use dialogues::{Departure, hold};
+use crate::tables::{Row, hold_each};
+use std::test::Fail;
 
-#[test]
-fn an_element_fills_the_greatest_chunk(rt: HostRuntime) -> Result<(), Departure> {
-    hold(
-        rt.alloc(),
+const LONG_ELEMENTS: &[Row] = &[
+    (
+        "an element fills the greatest chunk",
         "
         newheap 0                               = block 0001
         acreate 0001 0 0                        = chunk 0010
@@ -22,15 +22,9 @@ fn an_element_fills_the_greatest_chunk(rt: HostRuntime) -> Result<(), Departure>
         undo                                    = ok
         aget 0001 0010 0                        = bytes 61+62*65486+7a
         ",
-    )
-}
-
-#[test]
-fn an_element_of_an_element_array_fills_the_greatest_chunk(
-    rt: HostRuntime,
-) -> Result<(), Departure> {
-    hold(
-        rt.alloc(),
+    ),
+    (
+        "an element of an element array fills the greatest chunk",
         "
         newheap 0                               = block 0001
         ecreate 0001 0                          = chunk 0010
@@ -48,13 +42,9 @@ fn an_element_of_an_element_array_fills_the_greatest_chunk(
         undo                                    = ok
         edata 0001 0010 0000                    = bytes 61+62*65481+7a
         ",
-    )
-}
-
-#[test]
-fn a_name_and_a_part_of_the_greatest_size(rt: HostRuntime) -> Result<(), Departure> {
-    hold(
-        rt.alloc(),
+    ),
+    (
+        "a name and a part of the greatest size",
         "
         newheap 0                                       = block 0001
         ncreate 0001 65                                 = no 11 Range
@@ -73,13 +63,9 @@ fn a_name_and_a_part_of_the_greatest_size(rt: HostRuntime) -> Result<(), Departu
         undo                                            = ok
         nfind 0001 0010 61+62*254+63                    = token 0000
         ",
-    )
-}
-
-#[test]
-fn an_array_of_the_greatest_sizes(rt: HostRuntime) -> Result<(), Departure> {
-    hold(
-        rt.alloc(),
+    ),
+    (
+        "an array of the greatest sizes",
         "
         newheap 0                               = block 0001
         acreate 0001 4096 1024                  = chunk 0010
@@ -92,5 +78,10 @@ fn an_array_of_the_greatest_sizes(rt: HostRuntime) -> Result<(), Departure> {
         eadd 0001 0012 71+72*4094+73            = token 0000
         edata 0001 0012 0000                    = bytes 71+72*4094+73
         ",
-    )
+    ),
+];
+
+#[test]
+fn each_script_gets_its_replies(rt: HostRuntime) -> Result<(), Fail> {
+    hold_each(rt.alloc(), LONG_ELEMENTS)
 }

@@ -1,10 +1,10 @@
 // Scripts of chunk arrays, each with the replies that it must get.
-use dialogues::{Departure, hold};
+use crate::tables::{Row, hold_each};
+use std::test::Fail;
 
-#[test]
-fn fixed_and_variable_elements(rt: HostRuntime) -> Result<(), Departure> {
-    hold(
-        rt.alloc(),
+const ARRAYS: &[Row] = &[
+    (
+        "fixed and variable elements",
         "
         newheap 0                = block 0001
         acreate 0001 2 0         = chunk 0010
@@ -19,13 +19,9 @@ fn fixed_and_variable_elements(rt: HostRuntime) -> Result<(), Departure> {
         read 0001 0012           = bytes 02000000000008000c000d0061
         aget 0001 0012 1         = bytes -
         ",
-    )
-}
-
-#[test]
-fn a_gap_of_one_byte_makes_no_array_until_undone(rt: HostRuntime) -> Result<(), Departure> {
-    hold(
-        rt.alloc(),
+    ),
+    (
+        "a gap of one byte makes no array until undone",
         "
         newheap 0                = block 0001
         acreate 0001 2 0         = chunk 0010
@@ -46,13 +42,9 @@ fn a_gap_of_one_byte_makes_no_array_until_undone(rt: HostRuntime) -> Result<(), 
         acount 0001 0012         = number 2
         aget 0001 0012 0         = bytes 61
         ",
-    )
-}
-
-#[test]
-fn elements_set_resized_and_deleted(rt: HostRuntime) -> Result<(), Departure> {
-    hold(
-        rt.alloc(),
+    ),
+    (
+        "elements set, resized and deleted",
         "
         newheap 0              = block 0001
         acreate 0001 0 1       = chunk 0010
@@ -67,13 +59,9 @@ fn elements_set_resized_and_deleted(rt: HostRuntime) -> Result<(), Departure> {
         azero 0001 0010        = ok
         read 0001 0010         = bytes 000000000000090000
         ",
-    )
-}
-
-#[test]
-fn limits_of_arrays(rt: HostRuntime) -> Result<(), Departure> {
-    hold(
-        rt.alloc(),
+    ),
+    (
+        "limits of arrays",
         "
         newheap 0                = block 0001
         acreate 0001 4097 0      = no 11 Range
@@ -91,13 +79,9 @@ fn limits_of_arrays(rt: HostRuntime) -> Result<(), Departure> {
         adelete 0001 0012 1 0    = ok
         adelete 0001 0012 2 0    = no 13 NoElement
         ",
-    )
-}
-
-#[test]
-fn an_array_fills_the_heap_to_its_last_byte(rt: HostRuntime) -> Result<(), Departure> {
-    hold(
-        rt.alloc(),
+    ),
+    (
+        "an array fills the heap to its last byte",
         "
         newheap 0                 = block 0001
         acreate 0001 0 0          = chunk 0010
@@ -114,13 +98,9 @@ fn an_array_fills_the_heap_to_its_last_byte(rt: HostRuntime) -> Result<(), Depar
         aget 0001 0010 0          = bytes 6100
         acreate 0001 0 0          = chunk 0012
         ",
-    )
-}
-
-#[test]
-fn edits_of_arrays_are_undone_and_redone(rt: HostRuntime) -> Result<(), Departure> {
-    hold(
-        rt.alloc(),
+    ),
+    (
+        "edits of arrays are undone and redone",
         "
         newheap 0              = block 0001
         acreate 0001 0 0       = chunk 0010
@@ -144,13 +124,9 @@ fn edits_of_arrays_are_undone_and_redone(rt: HostRuntime) -> Result<(), Departur
         redo                   = ok
         aget 0001 0010 0       = bytes 626300
         ",
-    )
-}
-
-#[test]
-fn deleted_elements_come_back(rt: HostRuntime) -> Result<(), Departure> {
-    hold(
-        rt.alloc(),
+    ),
+    (
+        "deleted elements come back",
         "
         newheap 0              = block 0001
         acreate 0001 1 0       = chunk 0010
@@ -169,13 +145,9 @@ fn deleted_elements_come_back(rt: HostRuntime) -> Result<(), Departure> {
         acount 0001 0010       = number 0
         undos                  = number 6
         ",
-    )
-}
-
-#[test]
-fn commands_of_arrays_are_refused_in_the_one_order(rt: HostRuntime) -> Result<(), Departure> {
-    hold(
-        rt.alloc(),
+    ),
+    (
+        "commands of arrays are refused in the one order",
         "
         acreate 0001 9999 0    = no 5 NoBlock
         acount 0001 0010       = no 5 NoBlock
@@ -192,13 +164,9 @@ fn commands_of_arrays_are_refused_in_the_one_order(rt: HostRuntime) -> Result<()
         adelete 0002 0010 9 9  = no 12 NotArray
         azero 0002 0010        = no 12 NotArray
         ",
-    )
-}
-
-#[test]
-fn commands_of_arrays_take_all_their_operands(rt: HostRuntime) -> Result<(), Departure> {
-    hold(
-        rt.alloc(),
+    ),
+    (
+        "commands of arrays take all their operands",
         "
         newheap 0                 = block 0001
         acreate 0001 1            = no 25 BadCommand
@@ -222,5 +190,10 @@ fn commands_of_arrays_take_all_their_operands(rt: HostRuntime) -> Result<(), Dep
         aget 0001 0010 0 0        = no 25 BadCommand
         aget 0001 0010 0          = bytes 61
         ",
-    )
+    ),
+];
+
+#[test]
+fn each_script_gets_its_replies(rt: HostRuntime) -> Result<(), Fail> {
+    hold_each(rt.alloc(), ARRAYS)
 }

@@ -1,10 +1,11 @@
 // Scripts of documents, each with the replies that it must get.
-use dialogues::{Departure, Dialogue, hold};
+use crate::parts::{ALL_BLOCKS, Part};
+use crate::tables::{BuiltRow, Row, hold_each, hold_each_built};
+use std::test::Fail;
 
-#[test]
-fn a_chunk_is_made_written_and_undone(rt: HostRuntime) -> Result<(), Departure> {
-    hold(
-        rt.alloc(),
+const DOCUMENTS: &[Row] = &[
+    (
+        "a chunk is made, written and undone",
         "
         newheap 7                = block 0001
         alloc 0001 3             = chunk 0010
@@ -18,13 +19,9 @@ fn a_chunk_is_made_written_and_undone(rt: HostRuntime) -> Result<(), Departure> 
         list                     = blocks
         undo                     = no 22 NothingToUndo
         ",
-    )
-}
-
-#[test]
-fn a_heap_is_filled_to_its_last_byte(rt: HostRuntime) -> Result<(), Departure> {
-    hold(
-        rt.alloc(),
+    ),
+    (
+        "a heap is filled to its last byte",
         "
         newheap 0        = block 0001
         alloc 0001 65498 = chunk 0010
@@ -33,35 +30,9 @@ fn a_heap_is_filled_to_its_last_byte(rt: HostRuntime) -> Result<(), Departure> {
         info 0001        = heap 0 65520
         alloc 0001 0     = no 8 Full
         ",
-    )
-}
-
-#[test]
-fn a_bad_line_is_refused_and_a_blank_line_or_a_note_gets_no_reply(
-    rt: HostRuntime,
-) -> Result<(), Departure> {
-    let mut dialogue = Dialogue::new(rt.alloc());
-    dialogue.put(
-        "foo\n\n# note\nlist 1\nlist",
-        "no 25 BadCommand\nno 25 BadCommand\nblocks\n",
-    )?;
-    dialogue.hold()
-}
-
-#[test]
-fn blanks_are_spaces_tabs_and_carriage_returns_alone(rt: HostRuntime) -> Result<(), Departure> {
-    let mut dialogue = Dialogue::new(rt.alloc());
-    dialogue.put(
-        " \t\r\n\tlist \r\nlist\x0b\n  # list\n#\n",
-        "blocks\nno 25 BadCommand\n",
-    )?;
-    dialogue.hold()
-}
-
-#[test]
-fn operands_keep_to_their_spelling(rt: HostRuntime) -> Result<(), Departure> {
-    hold(
-        rt.alloc(),
+    ),
+    (
+        "operands keep to their spelling",
         "
         newheap 65535        = block 0001
         newheap 65536        = no 25 BadCommand
@@ -79,13 +50,9 @@ fn operands_keep_to_their_spelling(rt: HostRuntime) -> Result<(), Departure> {
         read 0001 001G       = no 25 BadCommand
         LIST                 = no 25 BadCommand
         ",
-    )
-}
-
-#[test]
-fn refusals_come_in_the_one_order(rt: HostRuntime) -> Result<(), Departure> {
-    hold(
-        rt.alloc(),
+    ),
+    (
+        "refusals come in the one order",
         "
         alloc 0001 9999999         = no 5 NoBlock
         info 0000                  = no 5 NoBlock
@@ -101,13 +68,9 @@ fn refusals_come_in_the_one_order(rt: HostRuntime) -> Result<(), Departure> {
         write 0001 0010 3 -        = no 11 Range
         write 0001 0010 9999999 61 = no 11 Range
         ",
-    )
-}
-
-#[test]
-fn a_refused_edit_pushes_no_step(rt: HostRuntime) -> Result<(), Departure> {
-    hold(
-        rt.alloc(),
+    ),
+    (
+        "a refused edit pushes no step",
         "
         newheap 1            = block 0001
         alloc 0001 70000     = no 8 Full
@@ -117,13 +80,9 @@ fn a_refused_edit_pushes_no_step(rt: HostRuntime) -> Result<(), Departure> {
         list                 = blocks
         undo                 = no 22 NothingToUndo
         ",
-    )
-}
-
-#[test]
-fn undo_gives_back_several_blocks_and_chunks(rt: HostRuntime) -> Result<(), Departure> {
-    hold(
-        rt.alloc(),
+    ),
+    (
+        "undo gives back several blocks and chunks",
         "
         newheap 1              = block 0001
         newheap 2              = block 0002
@@ -147,13 +106,9 @@ fn undo_gives_back_several_blocks_and_chunks(rt: HostRuntime) -> Result<(), Depa
         undo                   = ok
         list                   = blocks
         ",
-    )
-}
-
-#[test]
-fn whole_documents_are_undone_and_redone(rt: HostRuntime) -> Result<(), Departure> {
-    hold(
-        rt.alloc(),
+    ),
+    (
+        "whole documents are undone and redone",
         "
         newheap 7   = block 0001
         vcopy 0001  = block 0002
@@ -179,13 +134,9 @@ fn whole_documents_are_undone_and_redone(rt: HostRuntime) -> Result<(), Departur
         redos       = number 0
         redo        = no 23 NothingToRedo
         ",
-    )
-}
-
-#[test]
-fn find_answers_the_least_handle_above_the_start(rt: HostRuntime) -> Result<(), Departure> {
-    hold(
-        rt.alloc(),
+    ),
+    (
+        "find answers the least handle above the start",
         "
         newheap 5   = block 0001
         newheap 6   = block 0002
@@ -202,13 +153,9 @@ fn find_answers_the_least_handle_above_the_start(rt: HostRuntime) -> Result<(), 
         undo        = ok
         find 5 0000 = block 0001
         ",
-    )
-}
-
-#[test]
-fn a_copy_has_the_chunks_and_the_user_id_of_its_source(rt: HostRuntime) -> Result<(), Departure> {
-    hold(
-        rt.alloc(),
+    ),
+    (
+        "a copy has the chunks and the user id of its source",
         "
         newheap 5              = block 0001
         alloc 0001 2           = chunk 0010
@@ -224,13 +171,9 @@ fn a_copy_has_the_chunks_and_the_user_id_of_its_source(rt: HostRuntime) -> Resul
         redo                   = ok
         read 0002 0010         = bytes 6162
         ",
-    )
-}
-
-#[test]
-fn a_freed_block_comes_back_with_its_user_id(rt: HostRuntime) -> Result<(), Departure> {
-    hold(
-        rt.alloc(),
+    ),
+    (
+        "a freed block comes back with its user id",
         "
         newheap 9    = block 0001
         alloc 0001 1 = chunk 0010
@@ -248,13 +191,9 @@ fn a_freed_block_comes_back_with_its_user_id(rt: HostRuntime) -> Result<(), Depa
         uid 0002 1   = no 5 NoBlock
         redos        = number 0
         ",
-    )
-}
-
-#[test]
-fn the_map_block_is_live_or_none(rt: HostRuntime) -> Result<(), Departure> {
-    hold(
-        rt.alloc(),
+    ),
+    (
+        "the map block is live or none",
         "
         map 0001   = no 5 NoBlock
         map 0000   = ok
@@ -271,13 +210,9 @@ fn the_map_block_is_live_or_none(rt: HostRuntime) -> Result<(), Departure> {
         mapblock   = block 0001
         map 0900   = no 5 NoBlock
         ",
-    )
-}
-
-#[test]
-fn a_refused_edit_leaves_what_can_be_redone(rt: HostRuntime) -> Result<(), Departure> {
-    hold(
-        rt.alloc(),
+    ),
+    (
+        "a refused edit leaves what can be redone",
         "
         newheap 0    = block 0001
         undo         = ok
@@ -289,13 +224,9 @@ fn a_refused_edit_leaves_what_can_be_redone(rt: HostRuntime) -> Result<(), Depar
         redo         = no 23 NothingToRedo
         undos        = number 2
         ",
-    )
-}
-
-#[test]
-fn a_freed_handle_is_taken_again_and_undone(rt: HostRuntime) -> Result<(), Departure> {
-    hold(
-        rt.alloc(),
+    ),
+    (
+        "a freed handle is taken again and undone",
         "
         newheap 1  = block 0001
         newheap 2  = block 0002
@@ -310,13 +241,9 @@ fn a_freed_handle_is_taken_again_and_undone(rt: HostRuntime) -> Result<(), Depar
         info 0001  = heap 3 16
         list       = blocks 0001 0002
         ",
-    )
-}
-
-#[test]
-fn a_heap_gives_chunks_of_zeros_that_are_written(rt: HostRuntime) -> Result<(), Departure> {
-    hold(
-        rt.alloc(),
+    ),
+    (
+        "a heap gives chunks of zeros that are written",
         "
         newheap 0              = block 0001
         info 0001              = heap 0 16
@@ -329,13 +256,9 @@ fn a_heap_gives_chunks_of_zeros_that_are_written(rt: HostRuntime) -> Result<(), 
         write 0001 0010 1 6162 = ok
         read 0001 0010         = bytes 006162
         ",
-    )
-}
-
-#[test]
-fn a_session_edits_answers_and_undoes(rt: HostRuntime) -> Result<(), Departure> {
-    hold(
-        rt.alloc(),
+    ),
+    (
+        "a session edits, answers and undoes",
         "
         newheap 7              = block 0001
         alloc 0001 2           = chunk 0010
@@ -352,13 +275,9 @@ fn a_session_edits_answers_and_undoes(rt: HostRuntime) -> Result<(), Departure> 
         redo                   = ok
         undos                  = number 1
         ",
-    )
-}
-
-#[test]
-fn a_session_maps_copies_and_frees_blocks(rt: HostRuntime) -> Result<(), Departure> {
-    hold(
-        rt.alloc(),
+    ),
+    (
+        "a session maps, copies and frees blocks",
         "
         mapblock    = block 0000
         newheap 7   = block 0001
@@ -370,35 +289,56 @@ fn a_session_maps_copies_and_frees_blocks(rt: HostRuntime) -> Result<(), Departu
         uid 0002 8  = ok
         vfree 0002  = ok
         ",
-    )
-}
-
-#[test]
-fn all_block_handles_can_be_taken(rt: HostRuntime) -> Result<(), Departure> {
-    let mut dialogue = Dialogue::new(rt.alloc());
-    for i in 1..2_049_u32 {
-        let reply = format!(in rt.alloc(); "block {i:04x}")?;
-        dialogue.say("newheap 0", &reply)?;
-    }
-    dialogue.tell(
-        "
-        newheap 0  = no 10 NoHandles
-        vcopy 0001 = no 10 NoHandles
-        vfree 0009 = ok
-        newheap 0  = block 0009
-        ",
-    )?;
-    dialogue.hold()
-}
-
-#[test]
-fn a_line_is_parsed(rt: HostRuntime) -> Result<(), Departure> {
-    hold(
-        rt.alloc(),
+    ),
+    (
+        "a line is parsed",
         "
         undo   = no 22 NothingToUndo
         # undo
         undo 1 = no 25 BadCommand
         ",
-    )
+    ),
+];
+
+#[test]
+fn each_script_gets_its_replies(rt: HostRuntime) -> Result<(), Fail> {
+    hold_each(rt.alloc(), DOCUMENTS)
+}
+
+const BUILT: &[BuiltRow] = &[
+    (
+        "a bad line is refused, and a blank line or a note gets no reply",
+        &[Part::Often(
+            1,
+            "foo\n\n# note\nlist 1\nlist",
+            "no 25 BadCommand\nno 25 BadCommand\nblocks\n",
+        )],
+    ),
+    (
+        "blanks are spaces, tabs and carriage returns alone",
+        &[Part::Often(
+            1,
+            " \t\r\n\tlist \r\nlist\x0b\n  # list\n#\n",
+            "blocks\nno 25 BadCommand\n",
+        )],
+    ),
+    (
+        "all block handles can be taken",
+        &[
+            Part::Each(ALL_BLOCKS, "newheap 0 = block <handle>"),
+            Part::Lines(
+                "
+                newheap 0  = no 10 NoHandles
+                vcopy 0001 = no 10 NoHandles
+                vfree 0009 = ok
+                newheap 0  = block 0009
+                ",
+            ),
+        ],
+    ),
+];
+
+#[test]
+fn each_built_script_gets_its_replies(rt: HostRuntime) -> Result<(), Fail> {
+    hold_each_built(rt.alloc(), BUILT)
 }

@@ -1,0 +1,95 @@
+// Writers that fail, or take a byte a write, and the order of reads and writes.
+use crate::fakes::{Counting, Desk, Line, Piece, Waiting, fault_of};
+use crate::runs::{Run, each_goes};
+use geos_shell::RunFault;
+use std::cell::Cell;
+use std::test::Fail;
+
+const THREE_LINES: &[Piece] = &[
+    Piece::Text("newheap 7\n"),
+    Piece::Text("undo\n"),
+    Piece::Text("list\n"),
+];
+
+const WRITING: &[Run] = &[
+    Run {
+        name: "a write that fails ends the run, after 0 that serve",
+        script: THREE_LINES,
+        most: 100,
+        writes: 0,
+        flushes: 100,
+        ends: Some(RunFault::Write),
+        replies: "",
+        left: 2,
+    },
+    Run {
+        name: "a write that fails ends the run, after 1 that serve",
+        script: THREE_LINES,
+        most: 100,
+        writes: 1,
+        flushes: 100,
+        ends: Some(RunFault::Write),
+        replies: "block 0001\n",
+        left: 1,
+    },
+    Run {
+        name: "a write that fails ends the run, after 2 that serve",
+        script: THREE_LINES,
+        most: 100,
+        writes: 2,
+        flushes: 100,
+        ends: Some(RunFault::Write),
+        replies: "block 0001\nok\n",
+        left: 0,
+    },
+    Run {
+        name: "a flush that fails ends the run",
+        script: THREE_LINES,
+        most: 100,
+        writes: 100,
+        flushes: 1,
+        ends: Some(RunFault::Write),
+        replies: "block 0001\nok\n",
+        left: 1,
+    },
+    Run {
+        name: "a writer that takes a byte a write gets all replies",
+        script: THREE_LINES,
+        most: 1,
+        writes: 100,
+        flushes: 100,
+        ends: None,
+        replies: "block 0001\nok\nblocks\n",
+        left: 0,
+    },
+];
+
+#[test]
+fn each_run_over_a_writer_goes(rt: HostRuntime) -> Result<(), Fail> {
+    each_goes(rt.alloc(), WRITING)
+}
+
+#[test]
+fn replies_are_flushed_before_the_next_read(rt: HostRuntime) -> Result<(), Fail> {
+    let lines = [
+        Line("newheap 7\n", 0),
+        Line("undo\nundo\nli", 11),
+        Line("st\n", 34),
+        Line("# note\n", 41),
+        Line("list", 41),
+    ];
+    let desk = Desk {
+        written: Cell::new(0),
+        flushed: Cell::new(0),
+    };
+    let mut reader = Waiting {
+        desk: &desk,
+        left: lines.as_slice(),
+    };
+    assert_eq!(rt;
+        fault_of(rt.alloc(), &mut reader, &mut Counting(&desk))?,
+        None
+    );
+    assert_eq!(rt; desk.flushed.get(), 48);
+    Ok(())
+}

@@ -1,0 +1,62 @@
+// As many blocks as there are handles, and many chunks.
+use crate::parts::{ALL_BLOCKS, Numbers, Part, hold_parts};
+use dialogues::Departure;
+
+const BLOCKS: &[Part] = &[
+    Part::Each(
+        Numbers {
+            first: 1,
+            step: 1,
+            count: 2_047,
+        },
+        "newheap 7 = block <handle>",
+    ),
+    Part::Lines(
+        "
+        find 65535 0000 = block 0000
+        newheap 65535   = block 0800
+        newheap 65535   = no 10 NoHandles
+        find 65535 0000 = block 0800
+        find 65535 07ff = block 0800
+        find 65535 0800 = block 0000
+        find 7 07fe     = block 07ff
+        find 7 07ff     = block 0000
+        ",
+    ),
+    Part::Named("list", "blocks", ALL_BLOCKS),
+];
+
+#[test]
+fn all_blocks_are_listed_and_the_last_is_found(rt: HostRuntime) -> Result<(), Departure> {
+    hold_parts(rt.alloc(), BLOCKS)
+}
+
+const ALL_CHUNKS: Numbers = Numbers {
+    first: 16,
+    step: 2,
+    count: 32_752,
+};
+
+const CHUNKS: &[Part] = &[
+    Part::Lines("newheap 0 = block 0001"),
+    Part::Each(ALL_CHUNKS, "alloc 0001 0 = chunk <handle>"),
+    Part::Lines(
+        "
+        alloc 0001 0 = no 8 Full
+        info 0001    = heap 0 65520
+        ",
+    ),
+    Part::Named("chunks 0001", "chunks", ALL_CHUNKS),
+    Part::Often(32_752, "undo\n", "ok\n"),
+    Part::Lines(
+        "
+        chunks 0001 = chunks
+        undos       = number 1
+        ",
+    ),
+];
+
+#[test]
+fn a_heap_has_room_for_an_empty_chunk_under_each_handle(rt: HostRuntime) -> Result<(), Departure> {
+    hold_parts(rt.alloc(), CHUNKS)
+}
