@@ -1,7 +1,7 @@
 // One request for memory is refused while a script is run, as `docs/each_request.sh` has it.
 use crate::driver::Driver;
 use crate::rows::{ARRAYS, CHAINS, CHUNK, NAMES, OPENED_AGAIN, Row, SAVED_AS};
-use crate::running::{Lent, Script, count_lines, ended_by, is_led_to, left, lent};
+use crate::running::{Lent, Script, count_lines, ended_by, is_led_to, lend, what_is_left};
 use crate::shim::{told_of_a_refusal, told_to_begin};
 use geos_model::Fault;
 use geos_shell::{RunFault, run_in};
@@ -10,10 +10,10 @@ use std::test::Fail;
 
 // What a run is lent, of which the making may be refused once.
 fn lent_at_last(alloc: Global) -> Result<Lent, Fault> {
-    match lent(alloc) {
+    match lend(alloc) {
         Err(Fault::Memory | Fault::File) => {
             told_of_a_refusal(alloc)?;
-            lent(alloc)
+            lend(alloc)
         }
         end => end,
     }
@@ -51,7 +51,7 @@ fn judge_cut(
     if !script.are_replies(lines, written) {
         return Err(Fail::new("other replies than the first ones"));
     }
-    let left = left(alloc, lent)?;
+    let left = what_is_left(alloc, lent)?;
     if !is_led_to(driver, lines, &left) && !is_led_to(driver, lines.saturating_add(1), &left) {
         return Err(Fail::new("the lines that were answered lead to something else"));
     }

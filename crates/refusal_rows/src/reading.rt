@@ -1,7 +1,7 @@
 // A reader that fails, at each read in turn, and one that never ends.
 use crate::driver::Driver;
 use crate::rows::{ROWS, Row};
-use crate::running::{Lent, Script, ended_by, is_led_to, left, lent};
+use crate::running::{Lent, Script, ended_by, is_led_to, lend, what_is_left};
 use geos_shell::{RunFault, run_in, run_in_reads};
 use std::alloc::Global;
 use std::io::{self, ErrorKind, Read};
@@ -37,7 +37,7 @@ fn is_cut(
     piece: usize,
     passes: usize,
 ) -> Result<bool, Fail> {
-    let mut lent = lent(alloc)?;
+    let mut lent = lend(alloc)?;
     let mut reader = Failing {
         left: &script.lines,
         piece,
@@ -58,7 +58,7 @@ fn is_cut(
     if !script.are_replies(lines, &written) {
         return Err(Fail::new("other replies than those to the lines that were read"));
     }
-    if !is_led_to(driver, lines, &left(alloc, lent)?) {
+    if !is_led_to(driver, lines, &what_is_left(alloc, lent)?) {
         return Err(Fail::new("the lines that were read lead to something else"));
     }
     Ok(is_cut)
@@ -109,7 +109,7 @@ impl Read for Endless {
     }
 }
 
-fn endless(text: &'static [u8]) -> Endless {
+fn endless_reader(text: &'static [u8]) -> Endless {
     Endless {
         text,
         at: 0,
@@ -144,10 +144,10 @@ fn stopped(
 fn a_reader_that_never_ends_is_read_so_often_and_no_more(rt: HostRuntime) -> Result<(), Fail> {
     let alloc = rt.alloc();
     for reads in 0..100 {
-        let mut lent = lent(alloc)?;
-        let written = stopped(alloc, &mut lent, &mut endless(b"undo\n"), reads)?;
+        let mut lent = lend(alloc)?;
+        let written = stopped(alloc, &mut lent, &mut endless_reader(b"undo\n"), reads)?;
         assert_eq!(rt; written.len() as u32, reads / 5 * 20);
-        let written = stopped(alloc, &mut lent, &mut endless(b""), reads)?;
+        let written = stopped(alloc, &mut lent, &mut endless_reader(b""), reads)?;
         assert!(rt; written.is_empty());
     }
     Ok(())
@@ -156,8 +156,8 @@ fn a_reader_that_never_ends_is_read_so_often_and_no_more(rt: HostRuntime) -> Res
 #[test]
 fn a_run_stops_behind_2_to_the_24_reads(rt: HostRuntime) -> Result<(), Fail> {
     let alloc = rt.alloc();
-    let mut lent = lent(alloc)?;
-    let mut reader = endless(b"#");
+    let mut lent = lend(alloc)?;
+    let mut reader = endless_reader(b"#");
     let mut written = Vec::new(alloc);
     let end = run_in(
         alloc,

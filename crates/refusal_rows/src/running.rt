@@ -121,7 +121,7 @@ pub(crate) struct Lent {
 }
 
 /// A session on a new file, with a target for a save-as.
-pub(crate) fn lent(alloc: Global) -> Result<Lent, Fault> {
+pub(crate) fn lend(alloc: Global) -> Result<Lent, Fault> {
     match Session::create(alloc, MemStore::new(alloc), 8) {
         Ok(session) => Ok(Lent {
             session,
@@ -141,7 +141,7 @@ pub(crate) struct Left {
 }
 
 /// What a run has left of what it was lent.
-pub(crate) fn left(alloc: Global, lent: Lent) -> Result<Left, Fault> {
+pub(crate) fn what_is_left(alloc: Global, lent: Lent) -> Result<Left, Fault> {
     let Lent {
         mut session,
         target: _,

@@ -1,7 +1,7 @@
 // A writer that fails, at each write and at each flush in turn.
 use crate::driver::Driver;
 use crate::rows::{ROWS, Row};
-use crate::running::{Script, ended_by, is_led_to, left, lent};
+use crate::running::{Script, ended_by, is_led_to, lend, what_is_left};
 use geos_shell::{RunFault, run_in};
 use std::alloc::Global;
 use std::io::{self, ErrorKind, Read, Write};
@@ -79,7 +79,7 @@ fn is_cut(
     script: &Script,
     strength: Strength,
 ) -> Result<bool, Fail> {
-    let mut lent = lent(alloc)?;
+    let mut lent = lend(alloc)?;
     let mut reader = Feeding {
         left: &script.lines,
         piece: 20,
@@ -105,7 +105,7 @@ fn is_cut(
     if !is_cut && !script.are_replies(lines, &writer.taken) {
         return Err(Fail::new("other replies"));
     }
-    if !is_led_to(driver, lines, &left(alloc, lent)?) {
+    if !is_led_to(driver, lines, &what_is_left(alloc, lent)?) {
         return Err(Fail::new("the lines that were read lead to something else"));
     }
     Ok(is_cut)
@@ -119,7 +119,7 @@ enum Call {
 }
 
 // A writer whose call after so many fails.
-fn strength(call: Call, passes: usize, most: usize) -> Strength {
+fn that_fails_at(call: Call, passes: usize, most: usize) -> Strength {
     match call {
         Call::Write => Strength {
             writes: passes,
@@ -139,7 +139,7 @@ fn cut_each(alloc: Global, row: &Row, call: Call, most: usize) -> Result<usize, 
     let driver = Driver::new(alloc, row)?;
     let script = Script::new(alloc, row)?;
     let mut calls = 0_usize;
-    while is_cut(alloc, &driver, &script, strength(call, calls, most))? && calls < MANY {
+    while is_cut(alloc, &driver, &script, that_fails_at(call, calls, most))? && calls < MANY {
         calls = calls.saturating_add(1);
     }
     Ok(calls)
