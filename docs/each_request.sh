@@ -1,0 +1,279 @@
+#!/bin/sh
+# Has each request for memory refused, one a run, until a run meets no refusal: in the tests of `refusal_rows` whose names begin with
+# `memory`, and in geosvm on each example. No code of Rattle can have the allocator refuse, so that rt ci runs those tests without a
+# refusal; here malloc and the like are those of a library of a few lines. Then geosvm is run where there is little memory.
+#
+#     sh docs/each_request.sh crates/geosvm/out/geosvm crates/refusal_rows/out/refusal_rows_tests
+set -u
+geosvm=$(realpath "${1:?the path of the program}")
+tests=$(realpath "${2:?the path of the tests of refusal_rows}")
+data=$(realpath "$(dirname "$0")/../crates/examples/data")
+folder=$(mktemp -d)
+cd "$folder" || exit 2
+trap 'rm -rf "$folder"' EXIT
+passed=0
+failed=0
+
+# told NAME WANTED GOT
+told() {
+    if [ "$2" = "$3" ]; then
+        passed=$((passed + 1))
+        echo "ok      $1"
+    else
+        failed=$((failed + 1))
+        echo "FAILED  $1: wanted '$2', got '$3'"
+    fi
+}
+
+# Refuses the request of the number in REFUSED. They are counted from the start where FROM_THE_START is set, and else from one of 1,000,003
+# bytes on, by which a test says that it begins. By one of 1,000,033 a test says that a call was answered as memory that ran out is. What
+# happened is told on descriptor 9.
+cat >refusing.c <<'END'
+#include <errno.h>
+#include <stddef.h>
+#include <stdlib.h>
+#include <string.h>
+#include <unistd.h>
+
+void *__libc_malloc(size_t), *__libc_calloc(size_t, size_t), *__libc_realloc(void *, size_t), *__libc_memalign(size_t, size_t);
+
+static long number, count;
+static int counts, has_refused;
+
+static void tell(const char *text) {
+    if (write(9, text, strlen(text)) < 0)
+        _exit(4);
+}
+
+__attribute__((constructor)) static void begin(void) {
+    const char *it = getenv("REFUSED");
+    number = it ? atol(it) : 0;
+    counts = getenv("FROM_THE_START") != NULL;
+}
+
+static int refuses(size_t size) {
+    if (size == 1000003) {
+        counts = 1;
+        return 0;
+    }
+    if (size == 1000033) {
+        tell(has_refused ? "answered\n" : "answered without a refusal\n");
+        return 0;
+    }
+    if (!counts || ++count != number)
+        return 0;
+    has_refused = 1;
+    tell("refused\n");
+    errno = ENOMEM;
+    return 1;
+}
+
+void *malloc(size_t n) { return refuses(n) ? NULL : __libc_malloc(n); }
+void *calloc(size_t k, size_t n) { return refuses(k * n) ? NULL : __libc_calloc(k, n); }
+void *realloc(void *p, size_t n) { return refuses(n) ? NULL : __libc_realloc(p, n); }
+void *aligned_alloc(size_t a, size_t n) { return refuses(n) ? NULL : __libc_memalign(a, n); }
+int posix_memalign(void **p, size_t a, size_t n) {
+    *p = refuses(n) ? NULL : __libc_memalign(a, n);
+    return *p ? 0 : ENOMEM;
+}
+END
+gcc -O1 -Wall -shared -fPIC -o refusing.so refusing.c || exit 2
+
+# refusing NUMBER COMMAND..: with that request refused
+refusing() {
+    number=$1
+    shift
+    LD_PRELOAD=$folder/refusing.so REFUSED=$number "$@" 9>happened
+}
+
+echo "-- each request of a test: what is refused is answered as want of memory once, has changed nothing, and is done when it is asked for again"
+total=0
+for test in $("$tests" --list | sed -n 's/: test$//p' | grep '^memory'); do
+    number=0
+    wrong=
+    while :; do
+        number=$((number + 1))
+        refusing "$number" "$tests" "$test" >said 2>&1
+        status=$?
+        [ "$status" = 0 ] || wrong="$wrong $number ($(tr '\n' ' ' <said))"
+        [ -s happened ] || break
+        [ "$(cat happened)" = "refused
+answered" ] || wrong="$wrong $number ($(tr '\n' ' ' <happened))"
+        [ "$number" -lt 10000 ] || break
+    done
+    places=$((number - 1))
+    total=$((total + places))
+    [ "$places" -gt 20 ] || wrong="$wrong $places places alone"
+    told "$places requests of $test" "" "$wrong"
+done
+echo "        $total requests"
+
+# A script that asks a document for all that it has, and then for all that was saved.
+awk 'function ask(b, c) {
+        printf "list\nmapblock\n"
+        for (b = 1; b < 17; b++) {
+            printf "info %04x\nvread %04x\nchunks %04x\n", b, b, b
+            for (c = 0; c < 8; c++) printf "read %04x %04x\n", b, 16 + 2 * c
+        }
+    }
+    BEGIN { ask(); print "revert"; ask() }' >questions
+
+# shown FILE: what the document has; nothing where it is none
+shown() {
+    rm -f looked_into
+    if [ -e "$1" ]; then cp "$1" looked_into; fi
+    "$geosvm" looked_into <questions 2>&1
+}
+
+# start: the document as an example finds it
+start() {
+    rm -f document
+    [ -z "$before" ] || cp "$before" document
+}
+
+# foresee: what is answered of the script, and shown of the document, behind each number of its lines, and without each of them
+foresee() {
+    rm -rf behind without
+    mkdir behind without
+    line=0
+    while [ "$line" -le "$lines" ]; do
+        start
+        head -n "$line" script | "$geosvm" $options document >behind/"$line".replies
+        shown document >behind/"$line"
+        start
+        if [ "$line" -gt 0 ]; then
+            sed "${line}d" script | "$geosvm" $options document | sed "${line}i no 1 Memory" >without/"$line".replies
+            [ "$line" -lt "$lines" ] || echo "no 1 Memory" >>without/"$line".replies
+            shown document >without/"$line"
+        fi
+        line=$((line + 1))
+    done
+}
+
+# judge STATUS: what a run with a request refused has written and left is that behind some lines of the script, or without one
+judge() {
+    answered=$(wc -l <replies | tr -d ' ')
+    shown document >left
+    case "$1 $(cat errors)" in
+    "0 ")
+        cmp -s replies behind/"$lines".replies && cmp -s left behind/"$lines" && return
+        line=$(grep -n -x 'no 1 Memory' replies | head -n 1 | cut -d : -f 1)
+        [ -n "$line" ] && cmp -s replies without/"$line".replies && cmp -s left without/"$line" && return
+        ;;
+    "1 geosvm: memory")
+        if cmp -s replies behind/"$answered".replies; then
+            cmp -s left behind/"$answered" && return
+            [ "$answered" -lt "$lines" ] && cmp -s left behind/$((answered + 1)) && return
+            # Before the file was made there is none.
+            [ "$answered" = 0 ] && [ -z "$before" ] && [ ! -s document ] && return
+        fi
+        ;;
+    "1 geosvm: create 1 Memory")
+        [ ! -s replies ] && [ ! -s document ] && return
+        ;;
+    "1 geosvm: open 1 Memory")
+        [ ! -s replies ] && cmp -s left behind/0 && return
+        ;;
+    esac
+    wrong="$wrong $number ($1 $(cat errors))"
+}
+
+# each_of NAME OPTIONS BEFORE: an example, with each request of geosvm refused
+each_of() {
+    options=$2
+    before=$3
+    grep -v '^[[:space:]]*\(#\|$\)' "$data/$1.script" >script
+    lines=$(wc -l <script | tr -d ' ')
+    foresee
+    wrong=
+    cmp -s behind/"$lines".replies "$data/$1.replies" || wrong=" other replies than the example's"
+    number=0
+    while :; do
+        number=$((number + 1))
+        start
+        FROM_THE_START=1 refusing "$number" "$geosvm" $options document <script >replies 2>errors
+        judge $?
+        [ -s happened ] || break
+        [ "$number" -lt 10000 ] || break
+    done
+    places=$((number - 1))
+    total=$((total + places))
+    [ "$places" -gt 40 ] || wrong="$wrong $places places alone"
+    told "$places requests of geosvm, $1" "" "$wrong"
+}
+
+echo "-- each request of geosvm: the replies to the first lines and the document that these lead to, or all but of the line that is refused"
+total=0
+for name in first_path chunk_edits arrays chains contents locks small_document files_made; do
+    each_of $name --new ""
+done
+"$geosvm" --new saved <"$data/files_made.script" >replies
+each_of files_opened "" saved
+echo "        $total requests"
+
+# within ROOM OPTIONS FILE SCRIPT: what geosvm answers where it has so many kB of addresses
+within() {
+    (
+        ulimit -v "$1"
+        "$geosvm" $2 "$3" <"$4" 2>&1
+    )
+}
+
+# The program, its libraries and the shortest script take this much, in steps of 100 kB.
+least=1000
+printf 'newraw 7 1\nundo\n' >shortest
+until [ "$(within $least --new document shortest | tail -n 1)" = ok ]; do
+    least=$((least + 100))
+    [ $least -lt 100000 ] || exit 2
+done
+echo "-- little memory: $least kB are what the program takes for two lines, and each bound is said beyond that"
+
+# bound NAME ROOM OPTIONS FILE SCRIPT WANTED: the replies in so much more room, each kind with how often it came
+bound() {
+    got=$(within $((least + $2)) "$3" "$4" "$5" | sed 's/ .*//' | sort | uniq -c | sort -k 2 | awk '{printf "%s %s;", $1, $2}')
+    told "$1, within $2 kB" "$6" "$got"
+}
+
+# A chain of as many blocks as there can be, each of the most bytes: 131,040 kB. A record that has each block once takes these; with a
+# second copy of each it would take twice as much. When this was written 133,500 kB were enough.
+awk 'BEGIN {
+    for (b = 1; b <= 2048; b++) print "newraw 7 65520"
+    for (b = 1; b < 2048; b++) printf "vwrite %04x 0 %02x%02x\n", b, (b + 1) % 256, (b + 1) / 256
+    print "save"
+}' >chain
+"$geosvm" --new blocks <chain >replies
+# An edit that the undo lists drop their records for stands before each that makes new ones.
+awk 'BEGIN {
+    print "chfree 0001\nundo\nredo\nundo"
+    for (b = 1; b <= 2048; b++) printf "vfree %04x\n", b
+    for (b = 1; b <= 2048; b++) print "undo"
+    print "uid 0001 7\nundo\nchfree 0001\nundo\nwalk 0001\nchsize 0001\nundos\nredos"
+}' >freed
+bound "2,048 blocks of 65,520 bytes are freed, as one and one by one, and come back" 190000 "" blocks freed "1 blocks;3 number;4104 ok;"
+
+# All blocks of that document are looked into and changed, and 8 of them are in memory: 512 kB. When this was written 1,500 kB were enough.
+awk 'BEGIN { for (i = 0; i < 20000; i++) printf "vwrite %04x 100 61\nundo\n", i * 37 % 2048 + 1; print "undos" }' >around
+bound "40,000 edits and undos go round in 131,040 kB of blocks" 3000 "" blocks around "1 number;40000 ok;"
+
+# When this was written 125 kB were enough; 8 bytes that are lost with each record would be 3,900 kB.
+awk 'BEGIN {
+    print "newheap 0\nalloc 0001 100\nnewraw 7 100"
+    for (i = 0; i < 100000; i++)
+        print "vwrite 0002 7 6162\nundo\nwrite 0001 0010 7 6162\nundo\nalloc 0001 50\nundo\nuid 0002 9\nundo\nnewraw 3 10\nundo"
+    print "undos"
+}' >pairs
+bound "a million edits and undos in turn" 2000 --new document pairs "100002 block;100001 chunk;1 number;800000 ok;"
+
+# Each record has two bytes from before and two from behind. When this was written 105,000 kB were enough, 215 bytes for each; the whole
+# block from before would be 100 bytes more.
+awk 'BEGIN {
+    print "newraw 7 100"
+    for (i = 0; i < 500000; i++) print "vwrite 0001 7 6162"
+    for (i = 0; i < 500000; i++) print "undo"
+    for (i = 0; i < 500000; i++) print "redo"
+    print "undos"
+}' >many
+bound "half a million edits, as many undos and as many redos" 125000 --new document many "1 block;1 number;1500000 ok;"
+
+echo "$passed passed, $failed failed"
+[ "$failed" = 0 ]
