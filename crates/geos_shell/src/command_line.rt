@@ -127,6 +127,3 @@ fn outcome_of(alloc: Global, error: &Error) -> Outcome
         Err(_) => Outcome::Run(RunFault::Memory),
     }
 }
-
-#[cfg(test)]
-mod tests;

@@ -289,37 +289,3 @@ pub(crate) fn push_bytes(
         Err(fault) => push_refusal(alloc, out, fault),
     }
 }
-
-#[cfg(test)]
-mod tests {
-    use super::*;
-
-    #[test]
-    fn each_reply_has_its_text(rt: HostRuntime) -> Result<(), AllocError> {
-        let alloc = rt.alloc();
-        let mut out = Vec::new(alloc);
-        push_done(alloc, &mut out, Ok(Done::Nothing))?;
-        push_done(alloc, &mut out, Ok(Done::Block(VmHandle(1))))?;
-        push_done(alloc, &mut out, Ok(Done::Chunk(ChunkHandle(0xffee))))?;
-        push_accepted(alloc, &mut out, Err(Fault::NothingToUndo))?;
-        push_info(alloc, &mut out, Ok(Info::Raw(65535, 0)))?;
-        push_info(alloc, &mut out, Ok(Info::Heap(7, 65520)))?;
-        let blocks = vec![in alloc; VmHandle(1), VmHandle(2048)]?;
-        push_blocks(alloc, &mut out, Ok(blocks))?;
-        push_chunks(alloc, &mut out, Ok(Vec::new(alloc)))?;
-        push_bytes(alloc, &mut out, Ok(&[]))?;
-        push_bytes(alloc, &mut out, Ok(&[0x0a, 0xf0]))?;
-        push_found(&mut out, Some(VmHandle(0x30)))?;
-        push_found(&mut out, None)?;
-        push_count(alloc, &mut out, 12)?;
-        push_lock_count(alloc, &mut out, Ok(255))?;
-        push_accepted(alloc, &mut out, Err(Fault::LockLimit))?;
-        push_equal(alloc, &mut out, Ok(true))?;
-        push_equal(alloc, &mut out, Ok(false))?;
-        push_equal(alloc, &mut out, Err(Fault::BadChain))?;
-        let texts =
-            b"okblock 0001chunk ffeeno 22 NothingToUndoraw 65535 0heap 7 65520blocks 0001 0800chunksbytes -bytes 0af0block 0030block 0000number 12number 255no 26 LockLimitsamedifferno 17 BadChain";
-        assert_eq!(rt; out.as_slice(), texts.as_slice());
-        Ok(())
-    }
-}

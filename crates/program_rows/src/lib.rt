@@ -3,6 +3,8 @@
 #![tactic(auto)]
 
 #[cfg(test)]
+mod command_lines;
+#[cfg(test)]
 mod departures;
 #[cfg(test)]
 mod documents;
@@ -16,6 +18,8 @@ mod lending;
 mod memory;
 #[cfg(test)]
 mod opening;
+#[cfg(test)]
+mod outcomes;
 #[cfg(test)]
 mod programs;
 #[cfg(test)]

@@ -32,6 +32,33 @@ const DOCUMENTS: &[Row] = &[
         ",
     ),
     (
+        "each reply has its text",
+        "
+        undo              = no 22 NothingToUndo
+        list              = blocks
+        mapblock          = block 0000
+        newheap 7         = block 0001
+        alloc 0001 65498  = chunk 0010
+        info 0001         = heap 7 65520
+        newraw 65535 0    = block 0002
+        info 0002         = raw 65535 0
+        vread 0002        = bytes -
+        newheap 0         = block 0003
+        chunks 0003       = chunks
+        newraw 0 2        = block 0004
+        newraw 0 3        = block 0005
+        chequal 0004 0004 = same
+        chequal 0004 0005 = differ
+        vwrite 0004 0 0af0 = ok
+        chequal 0004 0005 = no 17 BadChain
+        vread 0004        = bytes 0af0
+        map 0004          = ok
+        mapblock          = block 0004
+        list              = blocks 0001 0002 0003 0004 0005
+        undos             = number 8
+        ",
+    ),
+    (
         "operands keep to their spelling",
         "
         newheap 65535        = block 0001

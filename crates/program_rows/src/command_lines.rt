@@ -1,5 +1,6 @@
 // What command lines give: options, or the outcome that the program ends with.
-use super::*;
+use geos_shell::{Options, Outcome, options};
+use std::alloc::Global;
 use std::test::Fail;
 
 fn asked<'a>(new: bool, cache: u8, target: Option<&'a str>, file: &'a str) -> Options<'a> {
