@@ -171,7 +171,7 @@ impl Driver {
         };
         let mut store = file;
         for (i, text) in row.openings.iter().enumerate() {
-            let last = if i + 1 == row.openings.len() {
+            let last = if i.saturating_add(1) == row.openings.len() {
                 COMMITS
             } else {
                 ""

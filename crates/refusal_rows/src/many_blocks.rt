@@ -136,7 +136,7 @@ fn a_document_of_all_handles_is_committed_behind_each_call_that_failed(
             many.fail(passes)?;
         }
         let calls = many.go(u64::MAX)?;
-        assert!(rt; opening + 20 < calls);
+        assert!(rt; opening.saturating_add(20) < calls);
         for passes in opening..calls {
             many.fail(passes)?;
         }

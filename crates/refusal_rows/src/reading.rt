@@ -68,11 +68,12 @@ fn is_cut(
 fn cut_each(alloc: Global, row: &Row, piece: usize) -> Result<usize, Fail> {
     let driver = Driver::new(alloc, row)?;
     let script = Script::new(alloc, row)?;
-    let mut reads = 0_usize;
-    while is_cut(alloc, &driver, &script, piece, reads)? && reads < MANY {
-        reads = reads.saturating_add(1);
+    for reads in 0..MANY {
+        if !is_cut(alloc, &driver, &script, piece, reads)? {
+            return Ok(reads);
+        }
     }
-    Ok(reads)
+    Ok(MANY)
 }
 
 // More reads than a script has bytes.
@@ -104,7 +105,10 @@ impl Read for Endless {
             return Err(io::Error::from(ErrorKind::Interrupted));
         };
         *place = *byte;
-        self.at = (self.at + 1) % self.text.len();
+        self.at = self.at.saturating_add(1);
+        if self.at >= self.text.len() {
+            self.at = 0;
+        }
         Ok(1)
     }
 }
@@ -146,7 +150,7 @@ fn a_reader_that_never_ends_is_read_so_often_and_no_more(rt: HostRuntime) -> Res
     for reads in 0..100 {
         let mut lent = lend(alloc)?;
         let written = stopped(alloc, &mut lent, &mut endless_reader(b"undo\n"), reads)?;
-        assert_eq!(rt; written.len() as u32, reads / 5 * 20);
+        assert_eq!(rt; written.len(), reads as usize / 5 * 20);
         let written = stopped(alloc, &mut lent, &mut endless_reader(b""), reads)?;
         assert!(rt; written.is_empty());
     }

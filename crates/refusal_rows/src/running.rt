@@ -27,7 +27,8 @@ pub(crate) fn count_lines(bytes: &[u8]) -> usize {
 pub(crate) struct Script {
     pub(crate) lines: Vec<u8>,
     pub(crate) replies: Vec<u8>,
-    // How many bytes the replies to the first lines have, for each number of lines.
+    // How many bytes the first lines have, for each number of lines, and how many their replies.
+    stops: Vec<usize>,
     ends: Vec<usize>,
 }
 
@@ -36,8 +37,10 @@ impl Script {
         let mut script = Script {
             lines: Vec::new(alloc),
             replies: Vec::new(alloc),
+            stops: Vec::new(alloc),
             ends: Vec::new(alloc),
         };
+        script.stops.push(0)?;
         script.ends.push(0)?;
         if let Some((first, others)) = row.openings.split_first() {
             script.put_all(first)?;
@@ -63,6 +66,7 @@ impl Script {
         self.lines.push(b'\n')?;
         self.replies.extend_from_slice(reply.as_bytes())?;
         self.replies.push(b'\n')?;
+        self.stops.push(self.lines.len())?;
         self.ends.push(self.replies.len())?;
         Ok(())
     }
@@ -70,12 +74,10 @@ impl Script {
     // Leaves the last line out: a driver knows what there is before each line, and not behind the last one.
     fn drop_last(&mut self) {
         self.ends.pop();
+        self.stops.pop();
         self.replies
             .truncate(self.ends.last().copied().unwrap_or(0));
-        self.lines.pop();
-        while self.lines.last().is_some_and(|last| *last != b'\n') {
-            self.lines.pop();
-        }
+        self.lines.truncate(self.stops.last().copied().unwrap_or(0));
     }
 
     /// How many lines end in so many bytes of the script.

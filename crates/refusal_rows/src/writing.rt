@@ -138,11 +138,13 @@ fn that_fails_at(call: Call, passes: usize, most: usize) -> Strength {
 fn cut_each(alloc: Global, row: &Row, call: Call, most: usize) -> Result<usize, Fail> {
     let driver = Driver::new(alloc, row)?;
     let script = Script::new(alloc, row)?;
-    let mut calls = 0_usize;
-    while is_cut(alloc, &driver, &script, that_fails_at(call, calls, most))? && calls < MANY {
-        calls = calls.saturating_add(1);
+    for calls in 0..MANY {
+        let strength = that_fails_at(call, calls, most);
+        if !is_cut(alloc, &driver, &script, strength)? {
+            return Ok(calls);
+        }
     }
-    Ok(calls)
+    Ok(MANY)
 }
 
 // More writes than there are bytes in all replies.
