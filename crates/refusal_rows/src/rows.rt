@@ -287,7 +287,7 @@ pub(crate) const SAVED_AS: Row = Row {
         ",
 };
 
-/// Blocks that are locked while others are brought into memory beside them.
+/// Blocks that are locked while others are brought into memory beside them; and an edit while there is something to redo.
 pub(crate) const LOCKED: Row = Row {
     least: 2,
     openings: &[
@@ -312,6 +312,9 @@ pub(crate) const LOCKED: Row = Row {
         unlock 0001            = no 20 NotLocked
         undo                   = ok
         vread 0004             = bytes 61
+        redos                  = number 1
+        vwrite 0004 0 63       = ok
+        redo                   = no 23 NothingToRedo
         ",
     ],
     former: "",
