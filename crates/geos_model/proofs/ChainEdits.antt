@@ -11,7 +11,6 @@ use Rattle.geos_model.specs.Meaning.{copies_blocks}
 use Rattle.geos_model.specs.Chain.{chain, chain_blocks, blocks_of, name_of, free_handles, new_handles, relinked_block, copies_of, free_conditions, copy_conditions}
 use Rattle.geos_model.specs.ChainLaws.{IsFreed, CopiesChain, FreesChain}
 use Rattle.geos_model.specs.declared.fault.Fault.TheVariants.{BadChain, IsMap, NoHandles}
-use Rattle.geos_model.specs.declared.command.Body.TheVariants.{Raw}
 use Rattle.geos_model.specs.declared.command.Done.TheVariants as done
 use Rattle.geos_model.proofs.Refusals.{none_applies, or_none}
 use Rattle.geos_model.proofs.BlockLists.{none_passes, taken_elsewhere, taken_gone, taken_map_block, taken_valid}

@@ -14,7 +14,6 @@ use Rattle.geos_model.specs.Heap.{capacity}
 use Rattle.geos_model.specs.Document.{Block, Document, IsValid, IsValidBlock, most_blocks, is_vm_handle, is_live, is_raw, is_heap_body, bytes_of_body, raw_bytes_of, attributes_of, no_attributes, no_block, FitAttributes, block_at, handles_of, with_blocks}
 use Rattle.geos_model.specs.Chain.{tree_mark, is_linked, link_count, link_place, links, relinked, is_member, chain, name_of, shape, relinked_block, renamed_blocks, free_handles, new_handles, copies_of}
 use Rattle.geos_model.specs.ChainLaws.{IsForest, nothing, block, link_words, IsCopied}
-use Rattle.geos_model.specs.declared.command.Body.TheVariants.{Raw}
 use Rattle.geos_model.proofs.BlockLists.{distinct-first, distinct-rest, put_elsewhere, put_stands, put_map_block, put_valid}
 use Rattle.geos_model.proofs.Validity.{raw_bytes-few}
 use Rattle.geos_model.proofs.Chains.{contains_first, contains_later, raw_block, member-raw, member-live, member-handle, chain-walk, walk-chain, chain-members}

@@ -1,16 +1,16 @@
 -- No rule of the document answers want of memory or a file fault.
-use Rattle.std.proofs.Common.{◌≡◌, ◌⊎◌, List, [], ◌∷◌, Bool, true, false, ◌==◌, length, Option, Some, None, find, refl, sym, ap, subst, ◌∙◌, inl, inr, arith}
+use Rattle.std.proofs.Common.{◌≡◌, ◌≢◌, ◌⊎◌, List, [], ◌∷◌, Bool, true, false, not, ◌==◌, length, Option, Some, None, is_some, find, refl, sym, ap, subst, ◌∙◌, inl, inr, arith}
 use Rattle.std.proofs.lemmas.Bool.{cases_Bool}
 use Rattle.std.proofs.lemmas.Bool.Decides.{nat_tests}
 use Rattle.std.specs.List.{list_all}
 use Rattle.std.specs.Option.{option_map, option_map_or}
 use Rattle.geos_model.specs.Refusal.{one_order, applies, first_refusal}
 use Rattle.geos_model.specs.Reply.{Reply, Accepted, Refused}
-use Rattle.geos_model.specs.Machine.{Machine, Request, UndoStep, Step, Answers, GivesUp, command_conditions, done_by, undone, redone, takes_memory, calls_store, may_give_up, has_locks}
+use Rattle.geos_model.specs.Machine.{Machine, Request, UndoStep, OpenGroup, Step, Answers, GivesUp, command_conditions, done_by, undone, redone, abandoned, takes_memory, calls_store, may_give_up, has_locks, in_group}
 use Rattle.geos_model.specs.Undoing.{is_refused}
 use Rattle.geos_model.specs.Failing.{FailingLaw, IsTakenOrGivenUp}
 use Rattle.geos_model.specs.declared.fault.Fault.{Fault}
-use Rattle.geos_model.specs.declared.fault.Fault.TheVariants.{Memory, File, Locked, NothingToUndo, NothingToRedo}
+use Rattle.geos_model.specs.declared.fault.Fault.TheVariants.{Memory, File, Locked, NothingToUndo, NothingToRedo, GroupOpen, NoGroup}
 use Rattle.geos_model.specs.declared.command.Command.{Command}
 use Rattle.geos_model.specs.declared.command.Command.TheVariants as commands
 use Rattle.geos_model.proofs.Undoing.{OnDone, IsAnswer, on_done, done_by-answers, same_reply, refused, both_true}
@@ -81,19 +81,34 @@ store-failed failed old new request step =
 some-there : {A : Type 0} (x : A) (xs : List A) → (length (x ∷ xs) == 0) ≡ false
 some-there x xs = grind (arith, nat_tests)
 
-undone-accepted : (m new : Machine) (locked : Bool) (past : List UndoStep) (reply : Reply) → locked ≡ false → (past ≡ [] → ⊥)
-    → option_map_or {U = Option (Reply × Machine)} (λ fault. Some (Refused fault, m)) (first_refusal ((Locked, locked) ∷ (NothingToUndo, length past == 0) ∷ [])) (option_map (λ next. (Accepted, next)) (undone m past)) ≡ Some (reply, new)
+undone-accepted : (m new : Machine) (inside locked : Bool) (past : List UndoStep) (reply : Reply) → inside ≡ false → locked ≡ false → past ≢ []
+    → option_map_or {U = Option (Reply × Machine)} (λ fault. Some (Refused fault, m))
+    (first_refusal ((NothingToUndo, length past == 0) ∷ (GroupOpen, inside) ∷ (Locked, locked) ∷ []))
+    (option_map (λ next. (Accepted, next)) (undone m past)) ≡ Some (reply, new)
     → reply ≡ Accepted
-undone-accepted m new locked [] reply free some is = absurd (some refl)
-undone-accepted m new true (s ∷ past) reply free some is = absurd (cc free)
-undone-accepted m new false (s ∷ past) reply free some is = sym (same_reply (rw (some-there s past) at is))
+undone-accepted m new inside locked [] reply rest free some is = absurd (some refl)
+undone-accepted m new true locked (s ∷ past) reply rest free some is = absurd (cc rest)
+undone-accepted m new false true (s ∷ past) reply rest free some is = absurd (cc free)
+undone-accepted m new false false (s ∷ past) reply rest free some is = sym (same_reply (rw (some-there s past) at is))
 
-redone-accepted : (m new : Machine) (locked : Bool) (future : List UndoStep) (reply : Reply) → locked ≡ false → (future ≡ [] → ⊥)
-    → option_map_or {U = Option (Reply × Machine)} (λ fault. Some (Refused fault, m)) (first_refusal ((Locked, locked) ∷ (NothingToRedo, length future == 0) ∷ [])) (option_map (λ next. (Accepted, next)) (redone m future)) ≡ Some (reply, new)
+redone-accepted : (m new : Machine) (inside locked : Bool) (future : List UndoStep) (reply : Reply) → inside ≡ false → locked ≡ false → future ≢ []
+    → option_map_or {U = Option (Reply × Machine)} (λ fault. Some (Refused fault, m))
+    (first_refusal ((NothingToRedo, length future == 0) ∷ (GroupOpen, inside) ∷ (Locked, locked) ∷ []))
+    (option_map (λ next. (Accepted, next)) (redone m future)) ≡ Some (reply, new)
     → reply ≡ Accepted
-redone-accepted m new locked [] reply free some is = absurd (some refl)
-redone-accepted m new true (s ∷ future) reply free some is = absurd (cc free)
-redone-accepted m new false (s ∷ future) reply free some is = sym (same_reply (rw (some-there s future) at is))
+redone-accepted m new inside locked [] reply rest free some is = absurd (some refl)
+redone-accepted m new true locked (s ∷ future) reply rest free some is = absurd (cc rest)
+redone-accepted m new false true (s ∷ future) reply rest free some is = absurd (cc free)
+redone-accepted m new false false (s ∷ future) reply rest free some is = sym (same_reply (rw (some-there s future) at is))
+
+abandoned-accepted : (m new : Machine) (locked : Bool) (group : Option OpenGroup) (reply : Reply) → locked ≡ false → group ≢ None
+    → option_map_or {U = Option (Reply × Machine)} (λ fault. Some (Refused fault, m))
+    (first_refusal ((NoGroup, not (is_some group)) ∷ (Locked, locked) ∷ []))
+    (option_map (λ g. (Accepted, abandoned g m)) group) ≡ Some (reply, new)
+    → reply ≡ Accepted
+abandoned-accepted m new locked None reply free some is = absurd (some refl)
+abandoned-accepted m new true (Some g) reply free some is = absurd (cc free)
+abandoned-accepted m new false (Some g) reply free some is = sym (same_reply is)
 
 -- a fault that no rule decides is one of two, and File only where the store failed
 gives_up : (failed : Bool) (old : Machine) (c : Command) (fault : Fault) → may_give_up failed c old fault ≡ true → (fault ≡ Memory) ⊎ ((fault ≡ File) × (failed ≡ true))
@@ -110,13 +125,24 @@ given_up failed old new c reply out = inr (
   ],
 )
 
-undo-taken : (failed : Bool) (old new : Machine) (reply : Reply) → has_locks old ≡ false → (old.past ≡ [] → ⊥) → Step failed old (Some commands.Undo) reply new → IsTakenOrGivenUp failed old reply new
-undo-taken failed old new reply free some (inl is) = inl (undone-accepted old new (has_locks old) old.past reply free some is)
-undo-taken failed old new reply free some (inr out) = given_up failed old new commands.Undo reply out
+-- no group is open
+none_open : (m : Machine) → m.group ≡ None → in_group m ≡ false
+none_open m none = ap (λ (group : Option OpenGroup). is_some group) none
 
-redo-taken : (failed : Bool) (old new : Machine) (reply : Reply) → has_locks old ≡ false → (old.future ≡ [] → ⊥) → Step failed old (Some commands.Redo) reply new → IsTakenOrGivenUp failed old reply new
-redo-taken failed old new reply free some (inl is) = inl (redone-accepted old new (has_locks old) old.future reply free some is)
-redo-taken failed old new reply free some (inr out) = given_up failed old new commands.Redo reply out
+undo-taken : (failed : Bool) (old new : Machine) (reply : Reply) → old.group ≡ None → has_locks old ≡ false → old.past ≢ []
+    → Step failed old (Some commands.Undo) reply new → IsTakenOrGivenUp failed old reply new
+undo-taken failed old new reply none free some (inl is) = inl (undone-accepted old new (in_group old) (has_locks old) old.past reply (none_open old none) free some is)
+undo-taken failed old new reply none free some (inr out) = given_up failed old new commands.Undo reply out
+
+redo-taken : (failed : Bool) (old new : Machine) (reply : Reply) → old.group ≡ None → has_locks old ≡ false → old.future ≢ []
+    → Step failed old (Some commands.Redo) reply new → IsTakenOrGivenUp failed old reply new
+redo-taken failed old new reply none free some (inl is) = inl (redone-accepted old new (in_group old) (has_locks old) old.future reply (none_open old none) free some is)
+redo-taken failed old new reply none free some (inr out) = given_up failed old new commands.Redo reply out
+
+abandon-taken : (failed : Bool) (old new : Machine) (reply : Reply) → old.group ≢ None → has_locks old ≡ false
+    → Step failed old (Some commands.Abandon) reply new → IsTakenOrGivenUp failed old reply new
+abandon-taken failed old new reply some free (inl is) = inl (abandoned-accepted old new (has_locks old) old.group reply free some is)
+abandon-taken failed old new reply some free (inr out) = given_up failed old new commands.Abandon reply out
 
 pub failing_law : FailingLaw
 failing_law = record {
@@ -125,4 +151,5 @@ failing_law = record {
   file = store-failed;
   undo = undo-taken;
   redo = redo-taken;
+  abandon = abandon-taken;
 }

@@ -9,7 +9,7 @@ use Rattle.geos_model.specs.Chain.{on_chain, on_chains}
 use Rattle.geos_model.specs.Reply.{look_up_conditions}
 use Rattle.geos_model.specs.Machine.{Machine, edit_needs, has_no_room, is_barred, command_conditions}
 use Rattle.geos_model.specs.declared.fault.Fault.{Fault}
-use Rattle.geos_model.specs.declared.fault.Fault.TheVariants.{BadCommand, Locked, NothingToUndo, NothingToRedo, NoTarget, NoBlock, WrongKind, NotLocked, LockLimit, CacheFull}
+use Rattle.geos_model.specs.declared.fault.Fault.TheVariants.{BadCommand, Locked, NothingToUndo, NothingToRedo, NoTarget, NoBlock, WrongKind, NotLocked, LockLimit, CacheFull, GroupOpen, NoGroup}
 use Rattle.geos_model.specs.declared.command.Edit.{Edit}
 use Rattle.geos_model.specs.declared.command.Edit.TheVariants as edits
 use Rattle.geos_model.specs.declared.command.Command.{Command}
@@ -170,13 +170,18 @@ none_of_others fs cs (f ∷ others) are apart =
 
 -- That a block is locked, and that there is no room in memory.
 
--- the first is told before all else of a command
-pub locked_first : (holds : Bool) (cs : Conditions) → holds ≡ true → applies cs BadCommand ≡ false → first_refusal ((Locked, holds) ∷ cs) ≡ Some Locked
-locked_first holds cs is none = rw (is, none) refl
+-- the refusals that are looked for before the first: that a line is no command, and those of groups
+abbrev pub before_locked : List Fault
+before_locked = BadCommand ∷ GroupOpen ∷ NoGroup ∷ []
+
+-- without them the first is told before all else
+pub locked_first : (holds : Bool) (cs : Conditions) → holds ≡ true → none_apply before_locked cs ≡ true → first_refusal ((Locked, holds) ∷ cs) ≡ Some Locked
+locked_first holds cs is none =
+    rw (is, none_at before_locked cs BadCommand none refl, none_at before_locked cs GroupOpen none refl, none_at before_locked cs NoGroup none refl) refl
 
 -- the refusals that are looked for before want of room in memory, but for those of a block and of its kind
 abbrev pub before_room : List Fault
-before_room = BadCommand ∷ Locked ∷ NothingToUndo ∷ NothingToRedo ∷ NoTarget ∷ NotLocked ∷ LockLimit ∷ []
+before_room = BadCommand ∷ GroupOpen ∷ NoGroup ∷ Locked ∷ NothingToUndo ∷ NothingToRedo ∷ NoTarget ∷ NotLocked ∷ LockLimit ∷ []
 
 -- the second where the block is there and of its kind
 pub room_first : (holds : Bool) (cs : Conditions) → holds ≡ true → none_apply before_room cs ≡ true → applies cs NoBlock ≡ false → applies cs WrongKind ≡ false
@@ -185,6 +190,8 @@ room_first holds cs is none block kind =
     rw (
       is,
       none_at before_room cs BadCommand none refl,
+      none_at before_room cs GroupOpen none refl,
+      none_at before_room cs NoGroup none refl,
       none_at before_room cs Locked none refl,
       none_at before_room cs NothingToUndo none refl,
       none_at before_room cs NothingToRedo none refl,
@@ -264,7 +271,10 @@ module _ (e : Edit) (m : Machine) where
 
   -- where it is barred
   pub edit-locked : is_barred e m ≡ true → first_refusal (command_conditions (commands.Edit e) m) ≡ Some Locked
-  edit-locked barred = locked_first (is_barred e m) with_room barred (none_at before_room own BadCommand (edit-early e m.document) refl)
+  edit-locked barred =
+      let early = edit-early e m.document in
+      locked_first (is_barred e m) with_room barred
+      (rw (none_at before_room own BadCommand early refl, none_at before_room own GroupOpen early refl, none_at before_room own NoGroup early refl) refl)
 
   -- Where it isn't, want of room in memory and the document decide;
   module _ (free : is_barred e m ≡ false) where

@@ -23,6 +23,8 @@ pub mod UsedElements
 pub mod ElementEdits
 pub mod NameEdits
 pub mod Undoing
+mod UndoLaw
+mod RedoLaw
 mod Saving
 mod Failing
 pub mod Validity

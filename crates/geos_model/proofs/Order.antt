@@ -5,12 +5,12 @@ use Rattle.std.proofs.lemmas.List.Folds.{list_any-append}
 use Rattle.std.specs.List.{list_all}
 use Rattle.geos_model.specs.Refusal.{Conditions, applies, first_refusal, number_of_fault}
 use Rattle.geos_model.specs.declared.fault.Fault.{Fault}
-use Rattle.geos_model.specs.declared.fault.Fault.TheVariants.{BadCommand, Locked, NothingToUndo, NothingToRedo, NoTarget, NoBlock, WrongKind, NotLocked, LockLimit, CacheFull, NoChunk, NotArray, NoElement, NoName, BadChain, IsMap, NameInUse, CountFull, Range, TooBig, NoHandles, Full, Worn}
+use Rattle.geos_model.specs.declared.fault.Fault.TheVariants.{BadCommand, Locked, NothingToUndo, NothingToRedo, NoTarget, NoBlock, WrongKind, NotLocked, LockLimit, CacheFull, NoChunk, NotArray, NoElement, NoName, BadChain, IsMap, NameInUse, CountFull, Range, TooBig, NoHandles, Full, Worn, GroupOpen, NoGroup}
 
 -- the refusals that are looked for before want of room
 abbrev before : List Fault
 before =
-    BadCommand ∷ Locked ∷ NothingToUndo ∷ NothingToRedo ∷ NoTarget ∷ NoBlock ∷ WrongKind ∷ NotLocked ∷ LockLimit
+    BadCommand ∷ GroupOpen ∷ NoGroup ∷ Locked ∷ NothingToUndo ∷ NothingToRedo ∷ NoTarget ∷ NoBlock ∷ WrongKind ∷ NotLocked ∷ LockLimit
     ∷ CacheFull ∷ NoChunk ∷ NotArray ∷ NoElement ∷ NoName ∷ BadChain ∷ IsMap ∷ NameInUse ∷ CountFull ∷ Range
     ∷ TooBig ∷ NoHandles ∷ []
 

@@ -1,11 +1,15 @@
 -- What a save keeps, only another save takes away.
-use Rattle.std.proofs.Common.{◌≡◌, List, [], ◌∷◌, Bool, true, false, not, ◌&&◌, Option, Some, None, refl, sym, ap, ◌∙◌, inl, inr}
+use Rattle.std.proofs.Common.{◌≡◌, ℕ, List, [], ◌∷◌, Bool, true, false, not, ◌&&◌, Option, Some, None, refl, sym, ap, ◌∙◌, inl, inr}
 use Rattle.std.proofs.lemmas.Bool.{cases_Bool}
 use Rattle.std.specs.Option.{option_map}
+use Rattle.geos_model.specs.Document.{Document}
+use Rattle.geos_model.specs.Meaning.{effect}
+use Rattle.geos_model.specs.Cost.{cost}
 use Rattle.geos_model.specs.Reply.{Reply, Accepted}
-use Rattle.geos_model.specs.Machine.{Machine, Request, UndoStep, Call, Step, Run, done_by, undone, redone}
+use Rattle.geos_model.specs.Machine.{Machine, Request, UndoStep, OpenGroup, Call, Step, Run, done_by, recorded, undone, redone, ended, abandoned, kind_of}
 use Rattle.geos_model.specs.Undoing.{is_refused, is_revert, is_accepted, accepted}
 use Rattle.geos_model.specs.Saving.{is_save, SaveLaw}
+use Rattle.geos_model.specs.declared.command.Kind.{Kind}
 use Rattle.geos_model.specs.declared.command.Command.{Command}
 use Rattle.geos_model.specs.declared.command.Command.TheVariants as commands
 use Rattle.geos_model.proofs.Undoing.{OnDone, IsAt, on_done, done_by-stays, same_machine, refused, bad_line-refused, answered}
@@ -18,6 +22,15 @@ at-has_saved : (m : Machine) (o : Option (Reply × Machine)) → OnDone (IsAt m)
 at-has_saved m None at = tt
 at-has_saved m (Some (reply, new)) at = ap (λ (n : Machine). n.saved) at
 
+recorded-has_saved : (group : Option OpenGroup) (kind : Kind) (cost : ℕ) (d : Document) (m : Machine) → (recorded group kind cost d m).saved ≡ m.saved
+recorded-has_saved None kind cost d m = refl
+recorded-has_saved (Some g) kind cost d m = refl
+
+closed-has_saved : (m : Machine) (new : OpenGroup → Machine) (group : Option OpenGroup) → ((g : OpenGroup) → (new g).saved ≡ m.saved)
+    → OnDone (HasSaved m) (option_map (λ g. (Accepted, new g)) group)
+closed-has_saved m new None same = tt
+closed-has_saved m new (Some g) same = same g
+
 undone-has_saved : (m : Machine) (past : List UndoStep) → OnDone (HasSaved m) (option_map (λ new. (Accepted, new)) (undone m past))
 undone-has_saved m [] = tt
 undone-has_saved m (s ∷ past) = refl
@@ -28,9 +41,12 @@ redone-has_saved m (s ∷ future) = refl
 
 -- a command that is no save leaves what was saved
 done_by-has_saved : (c : Command) (m : Machine) → is_save (Some c) ≡ false → OnDone (HasSaved m) (done_by c m)
-done_by-has_saved (commands.Edit e) m h = refl
+done_by-has_saved (commands.Edit e) m h = recorded-has_saved m.group (kind_of e) (cost e m.document (effect e m.document).0) (effect e m.document).0 m
 done_by-has_saved commands.Undo m h = undone-has_saved m m.past
 done_by-has_saved commands.Redo m h = redone-has_saved m m.future
+done_by-has_saved commands.Begin m h = refl
+done_by-has_saved commands.End m h = closed-has_saved m (λ g. ended g m) m.group (λ g. refl)
+done_by-has_saved commands.Abandon m h = closed-has_saved m (λ g. abandoned g m) m.group (λ g. refl)
 done_by-has_saved commands.Update m h = refl
 done_by-has_saved commands.Save m h = absurd (cc h)
 done_by-has_saved commands.Revert m h = refl

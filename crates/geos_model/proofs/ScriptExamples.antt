@@ -1,4 +1,4 @@
--- What lines on chains are, and the text of what only they are answered.
+-- What lines on chains and groups are, and the text of what only chains are answered.
 use Rattle.std.proofs.Common.{◌≡◌, true, false, Some, None, codes, refl}
 use Rattle.hex.specs.Hex.{decode_pairs}
 use Rattle.geos_model.specs.Reply.{AreEqual}
@@ -34,6 +34,23 @@ no_second = refl
 no_third : command (codes "walk 0003 0005") ≡ None
 unfolding command decode_pairs
 no_third = refl
+
+begun : command (codes "begin") ≡ Some commands.Begin
+unfolding command decode_pairs
+begun = refl
+
+ended : command (codes "end") ≡ Some commands.End
+unfolding command decode_pairs
+ended = refl
+
+abandoned : command (codes "abandon") ≡ Some commands.Abandon
+unfolding command decode_pairs
+abandoned = refl
+
+-- a group has no number
+no_number : command (codes "begin 1") ≡ None
+unfolding command decode_pairs
+no_number = refl
 
 same-text : reply_text (AreEqual true) ≡ codes "same"
 unfolding reply_text

@@ -1,6 +1,6 @@
 -- Every step of the machine keeps validity: edits, then the machine.
-use Rattle.std.proofs.Common.{◌≡◌, ℕ, zero, suc, ◌+◌, ◌<◌, ◌≤◌, Bool, true, false, List, [], ◌∷◌, length, replicate, Option, Some, None, unwrap_or, refl, sym, ap, subst, inl, inr, arith, le-leb, ltb-false}
-use Rattle.std.proofs.lemmas.Bool.{eqb-false}
+use Rattle.std.proofs.Common.{◌≡◌, ℕ, zero, suc, ◌+◌, ◌<◌, ◌≤◌, Bool, true, false, List, [], ◌∷◌, length, replicate, Option, Some, None, IfSome, unwrap_or, refl, sym, ap, subst, ◌∙◌, ◌==◌, inl, inr, arith, le-leb, ltb-false}
+use Rattle.std.proofs.lemmas.Bool.{cases_Bool, eqb-false}
 use Rattle.std.proofs.lemmas.List.{length-replicate}
 use Rattle.std.specs.List.{All}
 use Rattle.std.specs.Option.{option_map, option_map_or}
@@ -17,11 +17,13 @@ use Rattle.geos_model.specs.Cost.{cost}
 use Rattle.geos_model.specs.Document.{Block, Document, empty_document, is_valid_body, is_live, raw_bytes_of, block_at, IsValid, attributes_of, no_block, FitAttributes}
 use Rattle.geos_model.specs.Meaning.{chunk_at, past_end, conditions, effect}
 use Rattle.geos_model.specs.Reply.{Reply, Accepted, Refused}
-use Rattle.geos_model.specs.Machine.{UndoStep, Machine, Request, Call, IsValidMachine, Step, Run, opened_machine, has_locks, is_barred, command_conditions, done_by, edited, undone, redone, after_update, after_save, after_revert, after_save_as, kind_of}
+use Rattle.geos_model.specs.Machine.{UndoStep, OpenGroup, Machine, Request, Call, IsValidGroup, IsValidMachine, AreValidLocks, Step, Run, opened_machine, has_locks, is_barred, command_conditions, done_by, recorded, edited, undone, redone, begun, ended, abandoned, after_lock, after_unlock, after_update, after_save, after_revert, after_save_as, kind_of}
 use Rattle.geos_model.specs.Validity.{user_id_given, user_id_asked, ValidityLaw}
 use Rattle.geos_model.specs.declared.fault.Fault.{Fault}
-use Rattle.geos_model.specs.declared.fault.Fault.TheVariants.{Locked, NoBlock, TooBig, NoHandles, Range, IsMap}
+use Rattle.geos_model.specs.declared.fault.Fault.TheVariants.{Locked, GroupOpen, NoBlock, TooBig, NoHandles, Range, IsMap}
 use Rattle.geos_model.specs.declared.command.Body.TheVariants.{Raw, Heap}
+use Rattle.geos_model.specs.declared.command.Kind.{Kind}
+use Rattle.geos_model.specs.declared.command.Kind.TheVariants.{Group}
 use Rattle.geos_model.specs.declared.command.Edit.{Edit}
 use Rattle.geos_model.specs.declared.command.Edit.TheVariants as edits
 use Rattle.geos_model.specs.declared.command.Command.{Command}
@@ -30,7 +32,7 @@ use Rattle.geos_model.proofs.Refusals.{none_applies, or_none}
 use Rattle.geos_model.proofs.InFront.{edit-accepted}
 use Rattle.geos_model.proofs.Locks.{no_locks-valid, kept_locks-valid, empty_locks-valid, locked-live, lock-valid, unlock-valid}
 use Rattle.geos_model.proofs.ChainEdits.{chain-copy, chain-free}
-use Rattle.geos_model.proofs.Undoing.{OnDone, IsAt, on_done, done_by-stays, same_machine}
+use Rattle.geos_model.proofs.Undoing.{OnDone, IsAt, on_done, done_by-stays, same_machine, not_in_group}
 use Rattle.geos_model.proofs.Validity.{not_false, without_block-valid, with_body-valid, with_attributes-valid, with_map-valid, block_there, makes_block-valid, raw_bytes-few, length-written, length-deleted, new_chunk-valid, new_bytes-valid, fewer_bytes-valid, without_chunk-valid, empty-heap, empty_document-valid}
 
 -- An edit that nothing refuses keeps validity.
@@ -136,36 +138,110 @@ valid-none k d l = absurd (omega arith)
 abbrev IsLeftValid : Reply → Machine → Type 0
 IsLeftValid reply new = IsValidMachine new
 
-undone-valid : (m : Machine) (past : List UndoStep) → has_locks m ≡ false → IsValidMachine m → AreValid past → OnDone IsLeftValid (option_map (λ new. (Accepted, new)) (undone m past))
-undone-valid m [] free valid past = tt
-undone-valid m (s ∷ past) free valid all = record {
+-- a group stays valid where the document and the future stay
+kept_group-valid : (m new : Machine) (group : Option OpenGroup) → new.document ≡ m.document → new.future ≡ m.future
+    → IfSome group (λ g. IsValidGroup g m) → IfSome group (λ g. IsValidGroup g new)
+kept_group-valid m new None document future valid = tt
+kept_group-valid m new (Some g) document future valid = record {
+  before = valid.before;
+  none = λ none. ((valid.none none).0 ∙ sym document, (valid.none none).1);
+  some = λ some. future ∙ valid.some some;
+}
+
+-- where none is open, nothing is asked
+no_group-valid : (m : Machine) → m.group ≡ None → IfSome m.group (λ g. IsValidGroup g m)
+no_group-valid m none = subst (λ group. IfSome group (λ g. IsValidGroup g m)) (sym none) tt
+
+-- the one that is open is valid
+open_group-valid : (m : Machine) (g : OpenGroup) → Some g ≡ m.group → IsValidMachine m → IsValidGroup g m
+open_group-valid m g is valid = subst (λ group. IfSome group (λ g. IsValidGroup g m)) (sym is) valid.group
+
+undone-valid : (m : Machine) (past : List UndoStep) → m.group ≡ None → has_locks m ≡ false → IsValidMachine m → AreValid past
+    → OnDone IsLeftValid (option_map (λ new. (Accepted, new)) (undone m past))
+undone-valid m [] alone free valid past = tt
+undone-valid m (s ∷ past) alone free valid all = record {
   document = valid-first s past all;
   past = valid-rest s past all;
   future = valid-push (record s { document = m.document }) m.future valid.document valid.future;
+  group = no_group-valid (unwrap_or (undone m (s ∷ past)) m) alone;
   updated = valid.updated;
   saved = valid.saved;
   locks = no_locks-valid m (unwrap_or (undone m (s ∷ past)) m) valid.locks free refl refl;
 }
 
-redone-valid : (m : Machine) (future : List UndoStep) → has_locks m ≡ false → IsValidMachine m → AreValid future → OnDone IsLeftValid (option_map (λ new. (Accepted, new)) (redone m future))
-redone-valid m [] free valid future = tt
-redone-valid m (s ∷ future) free valid all = record {
+redone-valid : (m : Machine) (future : List UndoStep) → m.group ≡ None → has_locks m ≡ false → IsValidMachine m → AreValid future
+    → OnDone IsLeftValid (option_map (λ new. (Accepted, new)) (redone m future))
+redone-valid m [] alone free valid future = tt
+redone-valid m (s ∷ future) alone free valid all = record {
   document = valid-first s future all;
   past = valid-push (record s { document = m.document }) m.past valid.document valid.past;
   future = valid-rest s future all;
+  group = no_group-valid (unwrap_or (redone m (s ∷ future)) m) alone;
   updated = valid.updated;
   saved = valid.saved;
   locks = no_locks-valid m (unwrap_or (redone m (s ∷ future)) m) valid.locks free refl refl;
 }
 
-edited-valid : (e : Edit) (m : Machine) → user_id_given e < 65536 → IsValidMachine m → is_barred e m ≡ false → first_refusal (conditions e m.document) ≡ None → IsValidMachine (edited e m).1
-edited-valid e m low valid free none = record {
-  document = effect-valid e m.document low valid.document none;
-  past = valid-push (record { kind = kind_of e; cost = cost e m.document (effect e m.document).0; document = m.document }) m.past valid.document valid.past;
+-- so is the machine with a valid document that an edit comes to, in a group and in none
+recorded-valid : (group : Option OpenGroup) (kind : Kind) (n : ℕ) (d : Document) (m : Machine) → IsValidMachine m → group ≡ m.group → IsValid d
+    → ((new : Machine) → new.locks ≡ m.locks → new.frames ≡ m.frames → new.document ≡ d → AreValidLocks new) → IsValidMachine (recorded group kind n d m)
+recorded-valid None kind n d m valid is good locks = record {
+  document = good;
+  past = valid-push (record { kind = kind; cost = n; document = m.document }) m.past valid.document valid.past;
   future = valid-none;
+  group = no_group-valid (recorded None kind n d m) (sym is);
   updated = valid.updated;
   saved = valid.saved;
-  locks = kept_locks-valid m (edited e m).1 valid.locks refl refl (locked-live e m free);
+  locks = locks (recorded None kind n d m) refl refl refl;
+}
+recorded-valid (Some g) kind n d m valid is good locks = record {
+  document = good;
+  past = valid.past;
+  future = valid-none;
+  group = record {
+    before = (open_group-valid m g is valid).before;
+    none = λ none. absurd (omega (arith, none));
+    some = λ some. refl;
+  };
+  updated = valid.updated;
+  saved = valid.saved;
+  locks = locks (recorded (Some g) kind n d m) refl refl refl;
+}
+
+edited-valid : (e : Edit) (m : Machine) → user_id_given e < 65536 → IsValidMachine m → is_barred e m ≡ false → first_refusal (conditions e m.document) ≡ None → IsValidMachine (edited e m).1
+edited-valid e m low valid free none =
+    let after : Document = (effect e m.document).0 in
+    recorded-valid m.group (kind_of e) (cost e m.document after) after m valid refl (effect-valid e m.document low valid.document none)
+    (λ new same as_many is. kept_locks-valid m new valid.locks same as_many (λ b locked live. ap (λ d. is_live d b) is ∙ locked-live e m free b locked live))
+
+-- A group that ends, or is abandoned where no block is locked.
+ended-valid : (group : Option OpenGroup) (m : Machine) → IsValidMachine m → IfSome group (λ g. IsValidGroup g m)
+    → OnDone IsLeftValid (option_map (λ g. (Accepted, ended g m)) group)
+ended-valid None m valid held = tt
+ended-valid (Some g) m valid held = record {
+  document = valid.document;
+  past = elim (cases_Bool (g.edits == 0)) [
+    | inl none ↦ rw none valid.past
+    | inr some ↦ rw some (valid-push (record { kind = Group; cost = g.cost; document = g.before }) m.past held.before valid.past)
+  ];
+  future = valid.future;
+  group = tt;
+  updated = valid.updated;
+  saved = valid.saved;
+  locks = kept_locks-valid m (ended g m) valid.locks refl refl (λ b locked live. live);
+}
+
+abandoned-valid : (group : Option OpenGroup) (m : Machine) → has_locks m ≡ false → IsValidMachine m → IfSome group (λ g. IsValidGroup g m)
+    → OnDone IsLeftValid (option_map (λ g. (Accepted, abandoned g m)) group)
+abandoned-valid None m free valid held = tt
+abandoned-valid (Some g) m free valid held = record {
+  document = held.before;
+  past = valid.past;
+  future = valid.future;
+  group = tt;
+  updated = valid.updated;
+  saved = valid.saved;
+  locks = no_locks-valid m (abandoned g m) valid.locks free refl refl;
 }
 
 -- what leaves the machine leaves it valid
@@ -177,12 +253,28 @@ done_by-valid : (c : Command) (m : Machine) → user_id_asked (Some c) < 65536 �
 done_by-valid (commands.Edit e) m low valid none =
     let free = (or_none (none_applies (command_conditions (commands.Edit e) m) none Locked refl)).0 in
     edited-valid e m low valid free (edit-accepted e m none)
-done_by-valid commands.Undo m low valid none = undone-valid m m.past (or_none (none_applies (command_conditions commands.Undo m) none Locked refl)).0 valid valid.past
-done_by-valid commands.Redo m low valid none = redone-valid m m.future (or_none (none_applies (command_conditions commands.Redo m) none Locked refl)).0 valid valid.future
+done_by-valid commands.Undo m low valid none =
+    let alone = not_in_group m (or_none (none_applies (command_conditions commands.Undo m) none GroupOpen refl)).0 in
+    undone-valid m m.past alone (or_none (none_applies (command_conditions commands.Undo m) none Locked refl)).0 valid valid.past
+done_by-valid commands.Redo m low valid none =
+    let alone = not_in_group m (or_none (none_applies (command_conditions commands.Redo m) none GroupOpen refl)).0 in
+    redone-valid m m.future alone (or_none (none_applies (command_conditions commands.Redo m) none Locked refl)).0 valid valid.future
+done_by-valid commands.Begin m low valid none = record {
+  document = valid.document;
+  past = valid.past;
+  future = valid.future;
+  group = record { before = valid.document; none = λ none. (refl, refl); some = λ some. absurd (some refl) };
+  updated = valid.updated;
+  saved = valid.saved;
+  locks = kept_locks-valid m (begun m) valid.locks refl refl (λ b locked live. live);
+}
+done_by-valid commands.End m low valid none = ended-valid m.group m valid valid.group
+done_by-valid commands.Abandon m low valid none = abandoned-valid m.group m (or_none (none_applies (command_conditions commands.Abandon m) none Locked refl)).0 valid valid.group
 done_by-valid commands.Update m low valid none = record {
   document = valid.document;
   past = valid.past;
   future = valid.future;
+  group = kept_group-valid m (after_update m) m.group refl refl valid.group;
   updated = valid.document;
   saved = valid.saved;
   locks = kept_locks-valid m (after_update m) valid.locks refl refl (λ b locked live. live);
@@ -191,6 +283,7 @@ done_by-valid commands.Save m low valid none = record {
   document = valid.document;
   past = valid.past;
   future = valid.future;
+  group = kept_group-valid m (after_save m) m.group refl refl valid.group;
   updated = valid.document;
   saved = valid.document;
   locks = kept_locks-valid m (after_save m) valid.locks refl refl (λ b locked live. live);
@@ -199,6 +292,7 @@ done_by-valid commands.Revert m low valid none = record {
   document = valid.saved;
   past = valid-none;
   future = valid-none;
+  group = no_group-valid (after_revert m) (not_in_group m (or_none (none_applies (command_conditions commands.Revert m) none GroupOpen refl)).0);
   updated = valid.saved;
   saved = valid.saved;
   locks = no_locks-valid m (after_revert m) valid.locks (or_none (none_applies (command_conditions commands.Revert m) none Locked refl)).0 refl refl;
@@ -207,6 +301,7 @@ done_by-valid commands.SaveAs m low valid none = record {
   document = valid.document;
   past = valid.past;
   future = valid.future;
+  group = kept_group-valid m (after_save_as m) m.group refl refl valid.group;
   updated = valid.document;
   saved = valid.document;
   locks = kept_locks-valid m (after_save_as m) valid.locks refl refl (λ b locked live. live);
@@ -215,6 +310,7 @@ done_by-valid (commands.Lock b) m low valid none = record {
   document = valid.document;
   past = valid.past;
   future = valid.future;
+  group = kept_group-valid m (after_lock m b.0) m.group refl refl valid.group;
   updated = valid.updated;
   saved = valid.saved;
   locks = lock-valid m b valid.locks none;
@@ -223,6 +319,7 @@ done_by-valid (commands.Unlock b) m low valid none = record {
   document = valid.document;
   past = valid.past;
   future = valid.future;
+  group = kept_group-valid m (after_unlock m b.0) m.group refl refl valid.group;
   updated = valid.updated;
   saved = valid.saved;
   locks = unlock-valid m b valid.locks none;
@@ -250,6 +347,7 @@ opened-valid updated saved sequence frames target good was = record {
   document = good;
   past = valid-none;
   future = valid-none;
+  group = tt;
   updated = good;
   saved = was;
   locks = empty_locks-valid (opened_machine updated saved sequence frames target) refl;

@@ -1,5 +1,5 @@
 -- When a call may fail in place of its answer.
-use Rattle.std.specs.Prelude.{◌≡◌, ◌⊎◌, Bool, true, false, [], Some}
+use Rattle.std.specs.Prelude.{◌≡◌, ◌≢◌, ◌⊎◌, Bool, true, false, [], Some, None}
 use Rattle.geos_model.specs.Reply.{Reply, Accepted, Refused}
 use Rattle.geos_model.specs.Machine.{Machine, Request, Step, takes_memory, calls_store, has_locks}
 use Rattle.geos_model.specs.Undoing.{is_refused}
@@ -19,7 +19,8 @@ pub record FailingLaw : Type 0 where
       → (c : Command) × (request ≡ Some c) × (takes_memory c old ≡ true)
   pub file : (failed : Bool) (old new : Machine) (request : Request) → Step failed old request (Refused File) new
       → (failed ≡ true) × (c : Command) × (request ≡ Some c) × (calls_store c old ≡ true)
-  -- Where no block is locked and there is something to take back, an undo is refused for nothing else; and so is a redo where there is
-  -- something to make again.
-  pub undo : (failed : Bool) (old new : Machine) (reply : Reply) → has_locks old ≡ false → (old.past ≡ [] → ⊥) → Step failed old (Some commands.Undo) reply new → IsTakenOrGivenUp failed old reply new
-  pub redo : (failed : Bool) (old new : Machine) (reply : Reply) → has_locks old ≡ false → (old.future ≡ [] → ⊥) → Step failed old (Some commands.Redo) reply new → IsTakenOrGivenUp failed old reply new
+  -- Where no group is open, no block is locked and there is something to take back, an undo is refused for nothing else; and so is a redo
+  -- where there is something to make again. An abandon where a group is open and no block is locked is refused for nothing else either.
+  pub undo : (failed : Bool) (old new : Machine) (reply : Reply) → old.group ≡ None → has_locks old ≡ false → old.past ≢ [] → Step failed old (Some commands.Undo) reply new → IsTakenOrGivenUp failed old reply new
+  pub redo : (failed : Bool) (old new : Machine) (reply : Reply) → old.group ≡ None → has_locks old ≡ false → old.future ≢ [] → Step failed old (Some commands.Redo) reply new → IsTakenOrGivenUp failed old reply new
+  pub abandon : (failed : Bool) (old new : Machine) (reply : Reply) → old.group ≢ None → has_locks old ≡ false → Step failed old (Some commands.Abandon) reply new → IsTakenOrGivenUp failed old reply new

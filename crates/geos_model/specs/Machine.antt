@@ -1,5 +1,5 @@
--- The machine: a document with its past and its future, and what the file has of it.
-use Rattle.std.specs.Prelude.{◌≡◌, ◌⊎◌, ◌≤◌, ℕ, ◌+◌, ◌-◌, List, [], ◌∷◌, Bool, true, false, not, ◌==◌, ◌&&◌, nat_le, nat_lt, if◌then◌else◌, length, count_by, All, Option, Some, None, unwrap_or}
+-- The machine: a document with its past and its future, the group of edits that is open, and what the file has of it.
+use Rattle.std.specs.Prelude.{◌≡◌, ◌≢◌, ◌⊎◌, ◌≤◌, ℕ, ◌+◌, ◌-◌, List, [], ◌∷◌, Bool, true, false, not, ◌==◌, ◌&&◌, nat_le, nat_lt, if◌then◌else◌, length, count_by, All, Option, Some, None, IfSome, is_some, unwrap_or}
 use Rattle.std.specs.Ordering.{nat_cmp}
 use Rattle.std.specs.FinMap.{FinMap, empty, get, insert, remove, contains_key, len}
 use Rattle.std.specs.Option.{option_map, option_map_or}
@@ -9,24 +9,31 @@ use Rattle.geos_model.specs.Meaning.{conditions, effect, on_block}
 use Rattle.geos_model.specs.Cost.{cost}
 use Rattle.geos_model.specs.Reply.{Reply, Accepted, Refused, NumberIs, reply_of_done, look_up_conditions, look_up}
 use Rattle.geos_model.specs.declared.fault.Fault.{Fault}
-use Rattle.geos_model.specs.declared.fault.Fault.TheVariants.{Memory, File, BadCommand, Locked, NotLocked, LockLimit, CacheFull, NothingToUndo, NothingToRedo, NoTarget, Worn}
+use Rattle.geos_model.specs.declared.fault.Fault.TheVariants.{Memory, File, BadCommand, Locked, NotLocked, LockLimit, CacheFull, NothingToUndo, NothingToRedo, NoTarget, Worn, GroupOpen, NoGroup}
 use Rattle.geos_model.specs.declared.command.Kind.{Kind}
-use Rattle.geos_model.specs.declared.command.Kind.TheVariants.{Plain, In, Made, Freed}
+use Rattle.geos_model.specs.declared.command.Kind.TheVariants.{Plain, In, Made, Freed, Group}
 use Rattle.geos_model.specs.declared.command.Edit.{Edit}
 use Rattle.geos_model.specs.declared.command.Edit.TheVariants as edits
 use Rattle.geos_model.specs.declared.command.Command.{Command}
 use Rattle.geos_model.specs.declared.command.Command.TheVariants as commands
 
--- a document that undo or redo gives back, with what kind of edit lies between
+-- a document that undo or redo gives back, with what kind of step lies between, and what that is charged
 pub record UndoStep : Type 0 where
   pub kind : Kind
   pub cost : ℕ
   pub document : Document
 
+-- A group that is open: the document when it began, how many edits it has so far, and what they cost together.
+pub record OpenGroup : Type 0 where
+  pub before : Document
+  pub edits : ℕ
+  pub cost : ℕ
+
 pub record Machine : Type 0 where
   pub document : Document
   pub past : List UndoStep  -- the newest first
   pub future : List UndoStep  -- the next one first
+  pub group : Option OpenGroup  -- None where none is open
   pub updated : Document  -- what opening the file gives
   pub saved : Document  -- what a revert gives
   pub locks : FinMap nat_cmp ℕ  -- how often each locked block is locked
@@ -41,6 +48,7 @@ opened_machine updated saved sequence frames target = record {
   document = updated;
   past = [];
   future = [];
+  group = None;
   updated = updated;
   saved = saved;
   locks = empty;
@@ -63,11 +71,20 @@ pub record AreValidLocks (m : Machine) : Type 0 where
   pub count : (b n : ℕ) → get m.locks b ≡ Some n → (1 ≤ n) × (n ≤ most_locks)
   pub few : len m.locks ≤ m.frames
 
--- each of its documents is valid, and so are its locks
+-- a group that may be open in a machine
+pub record IsValidGroup (g : OpenGroup) (m : Machine) : Type 0 where
+  pub before : IsValid g.before
+  -- without an edit the document is that before it, and nothing is charged
+  pub none : g.edits ≡ 0 → (g.before ≡ m.document) × (g.cost ≡ 0)
+  -- with one nothing is left to make again
+  pub some : g.edits ≢ 0 → m.future ≡ []
+
+-- each of its documents is valid, and so are its group and its locks
 pub record IsValidMachine (m : Machine) : Type 0 where
   pub document : IsValid m.document
   pub past : All (λ s. IsValid s.document) m.past
   pub future : All (λ s. IsValid s.document) m.future
+  pub group : IfSome m.group (λ g. IsValidGroup g m)
   pub updated : IsValid m.updated
   pub saved : IsValid m.saved
   pub locks : AreValidLocks m
@@ -117,12 +134,10 @@ pub data Needs : Type 0 where
   OneBody : (block : ℕ) → Needs
   ManyBodies : Needs
 
--- an edit of a body looks into that, and one by which blocks are made or freed into none
+-- of the kind of an edit: one of a body looks into that, and any other into none
 abbrev pub needs_of_kind : Kind → Needs
-needs_of_kind Plain = NoBody
 needs_of_kind (In b) = OneBody b.0
-needs_of_kind Made = NoBody
-needs_of_kind Freed = NoBody
+needs_of_kind kind = NoBody
 
 -- but those that free or copy blocks which are there; a user ID and the map block are set without a body
 abbrev pub edit_needs : Edit → Needs
@@ -207,19 +222,49 @@ is_barred (edits.CopyChain b) m = has_locks m
 is_barred (edits.FreeChain b) m = has_locks m
 is_barred e m = false
 
+-- Groups.
+
+abbrev pub in_group : Machine → Bool
+in_group m = is_some m.group
+
+-- one without edits
+abbrev pub is_empty_group : OpenGroup → Bool
+is_empty_group g = g.edits == 0
+
+-- a group is open that has no edit yet
+abbrev pub begun : Machine → Machine
+begun m = record m { group = Some (record { before = m.document; edits = 0; cost = 0 }) }
+
+-- The group is one step of the past, if it has edits. One without leaves both lists.
+abbrev pub ended : OpenGroup → Machine → Machine
+ended g m =
+    let undo : UndoStep = record { kind = Group; cost = g.cost; document = g.before } in
+    record m { past = if is_empty_group g then m.past else undo ∷ m.past; group = None }
+
+-- The document is again the one when the group began. The future stays: edits of the group, if there were any, have emptied it.
+abbrev pub abandoned : OpenGroup → Machine → Machine
+abandoned g m = record m { document = g.before; group = None }
+
 -- the last sequence number, 2^64 - 1
 abbrev pub last_sequence : ℕ
 last_sequence = 18446744073709551615
 
+-- what is refused while a group is open or a block is locked
+abbrev pub at_rest : Machine → Conditions
+at_rest m = (GroupOpen, in_group m) ∷ (Locked, has_locks m) ∷ []
+
 -- what is refused of a commit
 abbrev pub on_commit : Machine → Conditions
-on_commit m = (Locked, has_locks m) ∷ (Worn, m.sequence == last_sequence) ∷ []
+on_commit m = (Worn, m.sequence == last_sequence) ∷ at_rest m
 
 -- the refusals of a command
 abbrev pub command_conditions : Command → Machine → Conditions
 command_conditions (commands.Edit e) m = (Locked, is_barred e m) ∷ (CacheFull, has_no_room m (edit_needs e)) ∷ conditions e m.document
-command_conditions commands.Undo m = (Locked, has_locks m) ∷ (NothingToUndo, length m.past == 0) ∷ []
-command_conditions commands.Redo m = (Locked, has_locks m) ∷ (NothingToRedo, length m.future == 0) ∷ []
+command_conditions commands.Undo m = (NothingToUndo, length m.past == 0) ∷ at_rest m
+command_conditions commands.Redo m = (NothingToRedo, length m.future == 0) ∷ at_rest m
+command_conditions commands.Begin m = (GroupOpen, in_group m) ∷ []
+command_conditions commands.End m = (NoGroup, not (in_group m)) ∷ []
+command_conditions commands.Abandon m = (NoGroup, not (in_group m)) ∷ (Locked, has_locks m) ∷ []
 command_conditions commands.Update m = on_commit m
 command_conditions commands.Save m = on_commit m
 command_conditions commands.Revert m = on_commit m
@@ -229,12 +274,18 @@ command_conditions (commands.Unlock b) m = (NotLocked, not (is_locked m b.0)) �
 command_conditions (commands.Dirty b) m = (NotLocked, not (is_locked m b.0)) ∷ on_block m.document b.0
 command_conditions c m = (CacheFull, has_no_room m (look_up_needs c)) ∷ look_up_conditions c m.document
 
--- an edit puts the old document on the past, and empties the future
+-- The document becomes this one by an edit of this kind and cost, which empties the future. Where no group is open the old document goes
+-- on the past; in a group the edit is counted there.
+abbrev pub recorded : Option OpenGroup → Kind → ℕ → Document → Machine → Machine
+recorded None kind cost d m =
+    let undo : UndoStep = record { kind = kind; cost = cost; document = m.document } in
+    record m { document = d; past = undo ∷ m.past; future = [] }
+recorded (Some g) kind cost d m = record m { document = d; future = []; group = Some (record g { edits = g.edits + 1; cost = g.cost + cost }) }
+
 abbrev pub edited : Edit → Machine → Reply × Machine
 edited e m =
     let after = effect e m.document in
-    let undo : UndoStep = record { kind = kind_of e; cost = cost e m.document after.0; document = m.document } in
-    (reply_of_done after.1, record m { document = after.0; past = undo ∷ m.past; future = [] })
+    (reply_of_done after.1, recorded m.group (kind_of e) (cost e m.document after.0) after.0 m)
 
 -- the newest past document is the document again, and the old one is the next of the future
 abbrev pub undone : Machine → List UndoStep → Option Machine
@@ -267,6 +318,9 @@ abbrev pub done_by : Command → Machine → Option (Reply × Machine)
 done_by (commands.Edit e) m = Some (edited e m)
 done_by commands.Undo m = option_map (λ new. (Accepted, new)) (undone m m.past)
 done_by commands.Redo m = option_map (λ new. (Accepted, new)) (redone m m.future)
+done_by commands.Begin m = Some (Accepted, begun m)
+done_by commands.End m = option_map (λ g. (Accepted, ended g m)) m.group
+done_by commands.Abandon m = option_map (λ g. (Accepted, abandoned g m)) m.group
 done_by commands.Update m = Some (Accepted, after_update m)
 done_by commands.Save m = Some (Accepted, after_save m)
 done_by commands.Revert m = Some (Accepted, after_revert m)
@@ -292,17 +346,23 @@ undo_takes Plain = false
 undo_takes (In b) = true
 undo_takes Made = false
 undo_takes Freed = true
+undo_takes Group = true
 
 abbrev pub redo_takes : Kind → Bool
 redo_takes Plain = false
 redo_takes (In b) = true
 redo_takes Made = true
 redo_takes Freed = false
+redo_takes Group = true
 
 -- so of the newest step of a list; where there is none, nothing is taken
 abbrev pub newest_takes : (Kind → Bool) → List UndoStep → Bool
 newest_takes takes [] = false
 newest_takes takes (s ∷ steps) = takes s.kind
+
+-- whether a group is open that has edits, so that they are to be taken back where it is abandoned
+abbrev pub has_edits : Machine → Bool
+has_edits m = option_map_or (λ g. not (is_empty_group g)) m.group false
 
 -- What may take memory, so that want of it may stand in place of the answer. Of all else the rules alone decide.
 abbrev pub takes_memory : Command → Machine → Bool
@@ -310,6 +370,9 @@ takes_memory commands.Blank m = false
 takes_memory (commands.Edit e) m = true
 takes_memory commands.Undo m = newest_takes undo_takes m.past
 takes_memory commands.Redo m = newest_takes redo_takes m.future
+takes_memory commands.Begin m = false
+takes_memory commands.End m = false
+takes_memory commands.Abandon m = has_edits m
 takes_memory commands.Update m = true
 takes_memory commands.Save m = true
 takes_memory commands.Revert m = true

@@ -2,7 +2,7 @@
 use Rattle.std.specs.Prelude.{ℕ, List, [], ◌∷◌, Bool, ◌==◌, ◌&&◌, Option, find, codes}
 use Rattle.std.specs.List.{list_any}
 use Rattle.geos_model.specs.declared.fault.Fault.{Fault}
-use Rattle.geos_model.specs.declared.fault.Fault.TheVariants.{Memory, File, Damaged, NotDocument, NoBlock, NoChunk, WrongKind, Full, TooBig, NoHandles, Range, NotArray, NoElement, CountFull, NoName, NameInUse, BadChain, IsMap, Locked, NotLocked, CacheFull, NothingToUndo, NothingToRedo, NoTarget, BadCommand, LockLimit, Worn}
+use Rattle.geos_model.specs.declared.fault.Fault.TheVariants.{Memory, File, Damaged, NotDocument, NoBlock, NoChunk, WrongKind, Full, TooBig, NoHandles, Range, NotArray, NoElement, CountFull, NoName, NameInUse, BadChain, IsMap, Locked, NotLocked, CacheFull, NothingToUndo, NothingToRedo, NoTarget, BadCommand, LockLimit, Worn, GroupOpen, NoGroup}
 
 abbrev pub number_of_fault : Fault → ℕ
 number_of_fault Memory = 1
@@ -32,6 +32,8 @@ number_of_fault NoTarget = 24
 number_of_fault BadCommand = 25
 number_of_fault LockLimit = 26
 number_of_fault Worn = 27
+number_of_fault GroupOpen = 28
+number_of_fault NoGroup = 29
 
 abbrev pub name_of_fault : Fault → List ℕ
 name_of_fault Memory = codes "Memory"
@@ -61,11 +63,13 @@ name_of_fault NoTarget = codes "NoTarget"
 name_of_fault BadCommand = codes "BadCommand"
 name_of_fault LockLimit = codes "LockLimit"
 name_of_fault Worn = codes "Worn"
+name_of_fault GroupOpen = codes "GroupOpen"
+name_of_fault NoGroup = codes "NoGroup"
 
 -- Of the refusals whose conditions hold, the first in this order is answered.
 abbrev pub one_order : List Fault
 one_order =
-    BadCommand ∷ Locked ∷ NothingToUndo ∷ NothingToRedo ∷ NoTarget ∷ NoBlock ∷ WrongKind ∷ NotLocked ∷ LockLimit
+    BadCommand ∷ GroupOpen ∷ NoGroup ∷ Locked ∷ NothingToUndo ∷ NothingToRedo ∷ NoTarget ∷ NoBlock ∷ WrongKind ∷ NotLocked ∷ LockLimit
     ∷ CacheFull ∷ NoChunk ∷ NotArray ∷ NoElement ∷ NoName ∷ BadChain ∷ IsMap ∷ NameInUse ∷ CountFull ∷ Range
     ∷ TooBig ∷ NoHandles ∷ Full ∷ Worn ∷ []
 

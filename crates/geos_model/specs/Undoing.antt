@@ -1,5 +1,5 @@
 -- What undoing edits and redoing them comes to, over runs of the machine alone.
-use Rattle.std.specs.Prelude.{◌≡◌, ℕ, List, [], ◌∷◌, Bool, true, false, not, ◌&&◌, ◌||◌, zero, suc, if◌then◌else◌, Some}
+use Rattle.std.specs.Prelude.{◌≡◌, ℕ, List, [], ◌∷◌, Bool, true, false, not, ◌&&◌, ◌||◌, ◌+◌, ◌==◌, zero, suc, if◌then◌else◌, Option, Some, None}
 use Rattle.geos_model.specs.Reply.{Reply, Refused}
 use Rattle.geos_model.specs.Machine.{Machine, Request, Call, Run}
 use Rattle.geos_model.specs.declared.command.Command.TheVariants as commands
@@ -24,9 +24,17 @@ abbrev pub is_revert : Request → Bool
 is_revert (Some commands.Revert) = true
 is_revert request = false
 
+-- a redo or a revert
+abbrev pub redoes_or_reverts : Request → Bool
+redoes_or_reverts request = is_redo request || is_revert request
+
+-- an undo, a redo or a revert
+abbrev pub turns : Request → Bool
+turns request = is_undo request || redoes_or_reverts request
+
 -- an edit, an undo, a redo or a revert
 abbrev pub moves : Request → Bool
-moves request = is_edit request || is_undo request || is_redo request || is_revert request
+moves request = is_edit request || turns request
 
 abbrev pub is_accepted : (Request → Bool) → Call → Bool
 is_accepted kind c = not (is_refused c.reply) && kind c.request
@@ -50,14 +58,56 @@ pub record SamePast (old new : Machine) : Type 0 where
   pub document : new.document ≡ old.document
   pub past : new.past ≡ old.past
 
--- Undoing as many edits as were accepted gives back the document and the past of the start.
+-- Groups among calls before which none is open: how many undo steps the calls have made, and how many edits the group that is open then
+-- has, None where none is.
+pub record Tally : Type 0 where
+  pub steps : ℕ
+  pub group : Option ℕ
+
+-- one edit more: in no group it is a step
+abbrev pub with_edit : Option ℕ → Tally → Tally
+with_edit None t = record t { steps = t.steps + 1 }
+with_edit (Some n) t = record t { group = Some (n + 1) }
+
+-- the group ends: it is a step if it has edits
+abbrev pub with_end : Option ℕ → Tally → Tally
+with_end None t = t
+with_end (Some n) t = record { steps = if n == 0 then t.steps else t.steps + 1; group = None }
+
+-- after a request that was accepted
+abbrev pub after_request : Request → Tally → Tally
+after_request (Some (commands.Edit e)) t = with_edit t.group t
+after_request (Some commands.Begin) t = record t { group = Some 0 }
+after_request (Some commands.End) t = with_end t.group t
+after_request (Some commands.Abandon) t = record t { group = None }
+after_request request t = t
+
+-- after calls; a refused one counts for nothing
+abbrev pub after_calls : List Call → Tally → Tally
+after_calls [] t = t
+after_calls (c ∷ cs) t = after_calls cs (if is_refused c.reply then t else after_request c.request t)
+
+-- after calls before which nothing is counted; undos don't lower `steps`
+abbrev pub tally : List Call → Tally
+tally cs = after_calls cs (record { steps = 0; group = None })
+
+-- how many undo steps calls make: accepted edits outside a group, and groups that end with edits
+abbrev pub steps_made : List Call → ℕ
+steps_made cs = (tally cs).steps
+
+-- Where no group is open at the start, after the edits and after the undos: undoing as many steps as the edits made gives back the document
+-- and the past of the start. Groups may be abandoned among the edits; with no step and no undo it says what an abandoned group leaves. No
+-- step is made among the undos, so that groups there are empty or abandoned.
 abbrev pub UndoLaw : Type 0
 UndoLaw =
-    (old mid new : Machine) (edits undos : List Call) → only is_edit edits ≡ true → only is_undo undos ≡ true
-    → accepted is_edit edits ≡ accepted is_undo undos → Run old edits mid → Run mid undos new → SamePast old new
+    (old mid new : Machine) (edits undos : List Call) → old.group ≡ None
+    → accepted turns edits ≡ 0 → accepted redoes_or_reverts undos ≡ 0 → steps_made undos ≡ 0
+    → steps_made edits ≡ accepted is_undo undos → Run old edits mid → Run mid undos new
+    → mid.group ≡ None → new.group ≡ None → SamePast old new
 
--- Redoing as many undos as were accepted gives back the document and the past from before them.
+-- Where no group is open: redoing as many undos as were accepted gives back the document and the past from before them. No edit is accepted
+-- between, so that groups between are empty.
 abbrev pub RedoLaw : Type 0
 RedoLaw =
-    (old mid new : Machine) (undos redos : List Call) → only is_undo undos ≡ true → only is_redo redos ≡ true
+    (old mid new : Machine) (undos redos : List Call) → old.group ≡ None → only is_undo undos ≡ true → only is_redo redos ≡ true
     → accepted is_undo undos ≡ accepted is_redo redos → Run old undos mid → Run mid redos new → SamePast old new

@@ -85,7 +85,7 @@ pub enum Done {
     Token(Token),
 }
 
-/// What kind of edit a step of the undo lists takes back.
+/// What kind of step an edit or a group of edits makes.
 #[derive(Clone, Copy, Debug, PartialEq, Eq)]
 pub enum Kind {
     /// Of a user ID or the map block.
@@ -96,6 +96,8 @@ pub enum Kind {
     Made,
     /// Blocks were freed.
     Freed,
+    /// The edits of a group together.
+    Group,
 }
 
 /// A line of a script.
@@ -106,6 +108,12 @@ pub enum Command {
     Edit(Edit),
     Undo,
     Redo,
+    /// Edits from here on are one group, until it ends or is abandoned.
+    Begin,
+    /// The group ends: its edits, if it has any, are one step of the undo list.
+    End,
+    /// The group ends, and its edits are taken back.
+    Abandon,
     /// The document becomes the updated one of the file.
     Update,
     /// The document becomes the updated and the saved one of the file.
@@ -158,9 +166,9 @@ pub enum Command {
     ChainSize(VmHandle),
     /// Whether two chains are equal, but for handles and user IDs.
     ChainEqual(VmHandle, VmHandle),
-    /// How many edits can be undone.
+    /// How many steps can be undone.
     Undos,
-    /// How many edits can be redone.
+    /// How many steps can be redone.
     Redos,
 }
 

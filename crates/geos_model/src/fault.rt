@@ -60,6 +60,10 @@ pub enum Fault {
     LockLimit,
     /// The file's sequence number is at its last value.
     Worn,
+    /// A group is open.
+    GroupOpen,
+    /// No group is open.
+    NoGroup,
 }
 
 impl Fault {
@@ -95,6 +99,8 @@ impl Fault {
             Fault::BadCommand => 25,
             Fault::LockLimit => 26,
             Fault::Worn => 27,
+            Fault::GroupOpen => 28,
+            Fault::NoGroup => 29,
         }
     }
 
@@ -130,6 +136,8 @@ impl Fault {
             Fault::BadCommand => "BadCommand",
             Fault::LockLimit => "LockLimit",
             Fault::Worn => "Worn",
+            Fault::GroupOpen => "GroupOpen",
+            Fault::NoGroup => "NoGroup",
         }
     }
 }

@@ -69,12 +69,15 @@ pub fn name_edits_law()
     ensures { NameEditsLaw }
 {}
 
-/// Undoing as many edits as were accepted gives back the document, whatever stands between that moves nothing.
+/// Where no group is open at the start, after the edits and after the undos, undoing as many steps as the edits made gives back
+/// the document and the past. A step is an accepted edit outside of a group, or a group that ends with edits, and none is made
+/// among the undos. With no step and no undo this says what an abandoned group leaves: the document when it began.
 pub fn undo_law()
     ensures { UndoLaw }
 {}
 
-/// Redoing as many undos as were accepted gives back the document from before them.
+/// Where no group is open, redoing as many steps as were undone gives back the document and the past from before the undos.
+/// Empty groups may stand between.
 pub fn redo_law()
     ensures { RedoLaw }
 {}
@@ -84,15 +87,16 @@ pub fn save_law()
     ensures { SaveLaw }
 {}
 
-/// A refused request changes nothing, and a file fault is answered only where the store failed. Where no block is locked and
-/// there is something to take back, an undo is refused only for want of memory or since the store failed in that call; so is a
-/// redo.
+/// A refused request changes nothing, and a file fault is answered only where the store failed. Where no block is locked, no
+/// group is open and there is something to take back, an undo is refused only for want of memory or since the store failed in
+/// that call; so is a redo where there is something to make again. An abandon where a group is open and no block is locked is
+/// refused for nothing else either.
 pub fn failing_law()
     ensures { FailingLaw }
 {}
 
 /// What the machine does to a valid document leaves a valid one. Locked blocks stay live, and there are never more of them than
-/// frames.
+/// frames. While a group is open, the document is the one when it began, or the group has edits and there is nothing to redo.
 pub fn validity_law()
     ensures { ValidityLaw }
 {}
