@@ -37,10 +37,8 @@ module _ {S : Type 0} (state : CacheState S) where
   in_this x b loaded is = let same : x ≡ b = cc is in subst (λ (y : VmHandle). is_loaded state y.0 ≡ true) same loaded
 
   in_kind : (kind : Kind) (b : VmHandle) → IsThere state (option_map_or (λ x. Heap x) (block_of_kind kind) Nothing) → IsIn kind b
-  in_kind Plain b there is = absurd (cc is)
-  in_kind Made b there is = absurd (cc is)
-  in_kind Freed b there is = absurd (cc is)
   in_kind (In x) b there is = in_this x b there.0 is
+  in_kind _ b there is = absurd (cc is)
 
   in_there : (edit : Edit) (b : VmHandle) → IsThere state (wanted edit) → IsIn (kind_of edit) b
   in_there (edits.FreeBlock x) b there is = absurd (cc is)

@@ -9,7 +9,7 @@ use Rattle.geos_model.specs.Document.{Document, is_heap, is_live, is_raw}
 use Rattle.geos_model.specs.Meaning.{conditions, on_block, on_raw, on_heap, on_chunk}
 use Rattle.geos_model.specs.declared.fault.Fault.{Fault}
 use Rattle.geos_model.specs.declared.command.Edit.{Edit}
-use Rattle.geos_model.specs.declared.fault.Fault.TheVariants.{Memory, BadCommand, Locked, NothingToUndo, NothingToRedo, NoTarget, NoBlock, WrongKind, NotLocked, LockLimit, CacheFull, NoChunk}
+use Rattle.geos_model.specs.declared.fault.Fault.TheVariants.{Memory, BadCommand, GroupOpen, NoGroup, Locked, NothingToUndo, NothingToRedo, NoTarget, NoBlock, WrongKind, NotLocked, LockLimit, CacheFull, NoChunk}
 use Rattle.geos_model.proofs.InFront.{none_among, passed}
 use Rattle.vm_blocks.specs.Kinds.{IsOfOther}
 use Rattle.doc_edits.specs.Found.{is_among, late_faults, AreLate, IsHeapAt}
@@ -21,23 +21,23 @@ not_late rest f late early = none_among late_faults rest f late early
 -- no block under the handle, or one of the other kind
 
 pub block_dead : (d : Document) (h : ℕ) (rest : Conditions) (fault : Fault) → IsOfOther is_live d h fault → AreLate rest → first_refusal (on_block d h ++ rest) ≡ Some fault
-block_dead d h rest fault (inl none) late = rw (none.0, none.1, not_late rest BadCommand late refl, not_late rest Locked late refl, not_late rest NothingToUndo late refl, not_late rest NothingToRedo late refl, not_late rest NoTarget late refl) refl
+block_dead d h rest fault (inl none) late = rw (none.0, none.1, not_late rest BadCommand late refl, not_late rest GroupOpen late refl, not_late rest NoGroup late refl, not_late rest Locked late refl, not_late rest NothingToUndo late refl, not_late rest NothingToRedo late refl, not_late rest NoTarget late refl) refl
 block_dead d h rest fault (inr other) late = absurd (true≢false (sym other.1 ∙ other.2))
 
 pub heap_other : (d : Document) (h : ℕ) (rest : Conditions) (fault : Fault) → IsOfOther is_heap d h fault → AreLate rest → first_refusal (on_heap d h ++ rest) ≡ Some fault
-heap_other d h rest fault (inl none) late = rw (none.0, none.1, not_late rest BadCommand late refl, not_late rest Locked late refl, not_late rest NothingToUndo late refl, not_late rest NothingToRedo late refl, not_late rest NoTarget late refl) refl
+heap_other d h rest fault (inl none) late = rw (none.0, none.1, not_late rest BadCommand late refl, not_late rest GroupOpen late refl, not_late rest NoGroup late refl, not_late rest Locked late refl, not_late rest NothingToUndo late refl, not_late rest NothingToRedo late refl, not_late rest NoTarget late refl) refl
 heap_other d h rest fault (inr other) late =
-    rw (other.0, other.1, other.2, not_late rest BadCommand late refl, not_late rest Locked late refl, not_late rest NothingToUndo late refl, not_late rest NothingToRedo late refl, not_late rest NoTarget late refl, not_late rest NoBlock late refl) refl
+    rw (other.0, other.1, other.2, not_late rest BadCommand late refl, not_late rest GroupOpen late refl, not_late rest NoGroup late refl, not_late rest Locked late refl, not_late rest NothingToUndo late refl, not_late rest NothingToRedo late refl, not_late rest NoTarget late refl, not_late rest NoBlock late refl) refl
 
 pub raw_other : (d : Document) (h : ℕ) (rest : Conditions) (fault : Fault) → IsOfOther is_raw d h fault → AreLate rest → first_refusal (on_raw d h ++ rest) ≡ Some fault
-raw_other d h rest fault (inl none) late = rw (none.0, none.1, not_late rest BadCommand late refl, not_late rest Locked late refl, not_late rest NothingToUndo late refl, not_late rest NothingToRedo late refl, not_late rest NoTarget late refl) refl
+raw_other d h rest fault (inl none) late = rw (none.0, none.1, not_late rest BadCommand late refl, not_late rest GroupOpen late refl, not_late rest NoGroup late refl, not_late rest Locked late refl, not_late rest NothingToUndo late refl, not_late rest NothingToRedo late refl, not_late rest NoTarget late refl) refl
 raw_other d h rest fault (inr other) late =
-    rw (other.0, other.1, other.2, not_late rest BadCommand late refl, not_late rest Locked late refl, not_late rest NothingToUndo late refl, not_late rest NothingToRedo late refl, not_late rest NoTarget late refl, not_late rest NoBlock late refl) refl
+    rw (other.0, other.1, other.2, not_late rest BadCommand late refl, not_late rest GroupOpen late refl, not_late rest NoGroup late refl, not_late rest Locked late refl, not_late rest NothingToUndo late refl, not_late rest NothingToRedo late refl, not_late rest NoTarget late refl, not_late rest NoBlock late refl) refl
 
 -- no such chunk in the heap
 pub no_chunk : (d : Document) (h c : ℕ) (m : ChunkMap) (rest : Conditions) → IsHeapAt d h m → contains_key m c ≡ false → AreLate rest → first_refusal (on_chunk d h c ++ rest) ≡ Some NoChunk
 no_chunk d h c m rest live free late =
-    rw (live, free, not_late rest BadCommand late refl, not_late rest Locked late refl, not_late rest NothingToUndo late refl, not_late rest NothingToRedo late refl, not_late rest NoTarget late refl, not_late rest NoBlock late refl, not_late rest WrongKind late refl, not_late rest NotLocked late refl, not_late rest LockLimit late refl, not_late rest CacheFull late refl) refl
+    rw (live, free, not_late rest BadCommand late refl, not_late rest GroupOpen late refl, not_late rest NoGroup late refl, not_late rest Locked late refl, not_late rest NothingToUndo late refl, not_late rest NothingToRedo late refl, not_late rest NoTarget late refl, not_late rest NoBlock late refl, not_late rest WrongKind late refl, not_late rest NotLocked late refl, not_late rest LockLimit late refl, not_late rest CacheFull late refl) refl
 
 -- where the chunk is there, the other refusals decide
 pub past_chunk : (d : Document) (h c : ℕ) (m : ChunkMap) (rest : Conditions) → IsHeapAt d h m → contains_key m c ≡ true → first_refusal (on_chunk d h c ++ rest) ≡ first_refusal rest

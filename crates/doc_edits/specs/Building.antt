@@ -81,9 +81,7 @@ is_of_chain edit = false
 -- the block in which a step of this kind is made
 abbrev pub block_of_kind : Kind → Option VmHandle
 block_of_kind (In b) = Some b
-block_of_kind Plain = None
-block_of_kind Made = None
-block_of_kind Freed = None
+block_of_kind kind = None
 
 -- The block into whose body an edit looks: one that is freed or copied, of any kind; or that in which the edit is made, a raw block or
 -- a heap. An edit of a chain looks into many.
