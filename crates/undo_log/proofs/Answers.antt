@@ -1,6 +1,8 @@
--- What the machine answers to an edit, to undo and to redo.
-use Rattle.std.proofs.Common.{◌≡◌, ◌==◌, suc, false, length, List, [], ◌∷◌, Some, refl, sym, subst}
+-- What the machine answers to an edit, to undo and to redo, and to what begins and ends a group.
+use Rattle.std.proofs.Common.{◌≡◌, ◌+◌, ◌==◌, ℕ, suc, false, length, List, [], ◌∷◌, reverse, Option, Some, None, refl, sym, ap, subst, ◌∙◌, arith}
 use Rattle.std.proofs.lemmas.Bool.{ne_eqb}
+use Rattle.std.proofs.lemmas.List.Sums.{sum_by-cons}
+use Rattle.std.proofs.lemmas.List.Sorted.{sum_by-IsPermutation, IsPermutation-reverse}
 use Rattle.geos_model.specs.Document.{Document}
 use Rattle.geos_model.specs.Reply.{Accepted, reply_of_done}
 use Rattle.geos_model.specs.Machine as machine
@@ -9,53 +11,134 @@ use Rattle.geos_model.proofs.InFront.{edit-passed}
 use Rattle.geos_model.specs.declared.command.Done.{Done}
 use Rattle.geos_model.specs.declared.command.Edit.{Edit}
 use Rattle.geos_model.specs.declared.command.Command.TheVariants as commands
-use Rattle.vm_blocks.specs.Changes.{made, flipped, after}
+use Rattle.vm_blocks.specs.Changes.{made, flipped}
 use Rattle.vm_blocks.specs.declared.change.Change.{Change}
+use Rattle.vm_blocks.specs.declared.change.Direction.{Direction}
 use Rattle.vm_blocks.specs.declared.change.Direction.TheVariants.{Forwards, Backwards}
-use Rattle.doc_edits.specs.Planning.{kind_of_change, change_cost, Plans}
-use Rattle.undo_log.specs.Records.{step, steps, AreSteps}
+use Rattle.doc_edits.specs.Planning.{change_cost, Plans}
+use Rattle.undo_log.specs.Logging.{AreExclusive, Log, after_all, after_entry, all_changes, before, changes_cost, closed_with, entry_cost, kind_of_entry, open_changes, step, steps, turned_over, with_change}
+use Rattle.undo_log.specs.Records.{opposite, AreSteps}
+use Rattle.undo_log.specs.declared.entry.LogEntry.{LogEntry}
+use Rattle.undo_log.specs.declared.entry.LogEntry.TheVariants as entries
 use Rattle.undo_log.proofs.Keeping.{machine_with}
-use Rattle.undo_log.proofs.Steps.{goes_back}
+use Rattle.undo_log.proofs.Steps.{entry_back, goes_back}
 
--- a list of at least one step isn't empty
-some_steps : (s : UndoStep) (rest : List UndoStep) → (length (s ∷ rest) == 0) ≡ false
+-- a list of at least one isn't empty
+pub some_steps : {A : Type 0} (s : A) (rest : List A) → (length (s ∷ rest) == 0) ≡ false
 some_steps s rest = ne_eqb (suc (length rest)) 0 (λ e. cc e)
 
+-- a log of these
+abbrev log_of : List LogEntry → List LogEntry → Option (List Change) → Log
+log_of undo redo group = record { undo = undo; redo = redo; group = group }
+
+module _ (m : Machine) (edit : Edit) (d : Document) (c : Change) (done : Done) (plans : Plans edit d c done) (gives : made (flipped c) (made c d) ≡ d) where
+  -- the machine after an edit in a group, which is counted there
+  abbrev after_edit : List LogEntry → List Change → Machine
+  after_edit undo cs = record m {
+    document = made c d;
+    past = steps Backwards undo (after_all Backwards cs d);
+    future = [];
+    group = Some (record { before = after_all Backwards cs d; edits = length cs + 1; cost = changes_cost cs + change_cost c });
+  }
+
+  edit_counted : (undo redo : List LogEntry) (cs : List Change) → is_barred edit (machine_with m d (log_of undo redo (Some cs))) ≡ false
+      → machine.has_no_room (machine_with m d (log_of undo redo (Some cs))) (edit_needs edit) ≡ false
+      → Answers (machine_with m d (log_of undo redo (Some cs))) (Some (commands.Edit edit)) (reply_of_done done) (after_edit undo cs)
+  edit_counted undo redo cs free room =
+      rw (edit-passed edit (machine_with m d (log_of undo redo (Some cs))) free room, plans.accepted, plans.document, plans.answer, plans.cost) refl
+
+  counted : (undo : List LogEntry) (cs : List Change) → after_edit undo cs ≡ machine_with m (made c d) (log_of undo [] (Some (c ∷ cs)))
+  counted undo cs =
+      let back : d ≡ made (flipped c) (made c d) = sym gives in
+      let more : length cs + 1 ≡ length (c ∷ cs) = omega arith in
+      let charged : changes_cost cs + change_cost c ≡ changes_cost (c ∷ cs) = let sum = sum_by-cons change_cost c cs in omega (arith, sum) in
+      λ i. record m {
+        document = made c d;
+        past = steps Backwards undo (after_all Backwards cs (back i));
+        future = [];
+        group = Some (record { before = after_all Backwards cs (back i); edits = more i; cost = charged i });
+      }
+
+  -- an edit in no group, and in one
+  edit_in : (undo redo : List LogEntry) (group : Option (List Change)) → is_barred edit (machine_with m d (log_of undo redo group)) ≡ false
+      → machine.has_no_room (machine_with m d (log_of undo redo group)) (edit_needs edit) ≡ false
+      → Answers (machine_with m d (log_of undo redo group)) (Some (commands.Edit edit)) (reply_of_done done) (machine_with m (made c d) (with_change c (log_of undo redo group)))
+  edit_in undo redo None free room =
+      rw (edit-passed edit (machine_with m d (log_of undo redo None)) free room, plans.accepted, gives, plans.document, plans.answer, plans.kind, plans.cost) refl
+  edit_in undo redo (Some cs) free room =
+      subst (λ (new : Machine). Answers (machine_with m d (log_of undo redo (Some cs))) (Some (commands.Edit edit)) (reply_of_done done) new) (counted undo cs) (edit_counted undo redo cs free room)
+
 -- an edit that was planned and carried out
-pub edit_answers : (m : Machine) (edit : Edit) (d : Document) (undo redo : List Change) (c : Change) (done : Done) → AreSteps Backwards d undo redo → Plans edit d c done
-    → is_barred edit (machine_with m d undo redo) ≡ false → machine.has_no_room (machine_with m d undo redo) (edit_needs edit) ≡ false
-    → Answers (machine_with m d undo redo) (Some (commands.Edit edit)) (reply_of_done done) (machine_with m (made c d) (c ∷ undo) [])
-edit_answers m edit d undo redo c done are plans free room =
-    let back = goes_back Forwards c d are.valid plans.applies in
-    let gives : made (flipped c) (made c d) ≡ d = back.gives in
-    rw (edit-passed edit (machine_with m d undo redo) free room, plans.accepted, gives, plans.document, plans.answer, plans.kind, plans.cost) refl
+pub edit_answers : (m : Machine) (edit : Edit) (d : Document) (log : Log) (undone redone : List Change) (c : Change) (done : Done) → AreSteps Backwards d undone redone → Plans edit d c done
+    → is_barred edit (machine_with m d log) ≡ false → machine.has_no_room (machine_with m d log) (edit_needs edit) ≡ false
+    → Answers (machine_with m d log) (Some (commands.Edit edit)) (reply_of_done done) (machine_with m (made c d) (with_change c log))
+edit_answers m edit d log undone redone c done are plans free room = edit_in m edit d c done plans (goes_back Forwards c d are.valid plans.applies).gives log.undo log.redo log.group free room
+
+-- An entry that was made, as the newest of the other list.
+
+kind_turned : (e : LogEntry) → kind_of_entry (turned_over e) ≡ kind_of_entry e
+kind_turned (entries.One c) = refl
+kind_turned (entries.Group cs) = refl
+
+cost_turned : (e : LogEntry) → entry_cost (turned_over e) ≡ entry_cost e
+cost_turned (entries.One c) = refl
+cost_turned (entries.Group cs) = sum_by-IsPermutation change_cost cs (reverse cs) (IsPermutation-reverse cs)
+
+steps_back : (direction : Direction) (e : LogEntry) (es : List LogEntry) (d new : Document) → after_entry (opposite direction) (turned_over e) new ≡ d
+    → steps (opposite direction) (turned_over e ∷ es) new ≡ record { kind = kind_of_entry e; cost = entry_cost e; document = d } ∷ steps (opposite direction) es d
+steps_back direction e es d new gives = λ i. record { kind = kind_turned e i; cost = cost_turned e i; document = gives i } ∷ steps (opposite direction) es (gives i)
 
 -- what undo does of a past that isn't empty, and redo of such a future
 undo_one : (m : Machine) (d : Document) (s : UndoStep) (past future : List UndoStep) → machine.has_locks m ≡ false
-    → Answers (record m { document = d; past = s ∷ past; future = future }) (Some commands.Undo) Accepted (record m { document = s.document; past = past; future = record s { document = d } ∷ future })
+    → Answers (record m { document = d; past = s ∷ past; future = future; group = None }) (Some commands.Undo) Accepted
+    (record m { document = s.document; past = past; future = record s { document = d } ∷ future; group = None })
 undo_one m d s past future none = rw (none, some_steps s past) refl
 
 redo_one : (m : Machine) (d : Document) (s : UndoStep) (past future : List UndoStep) → machine.has_locks m ≡ false
-    → Answers (record m { document = d; past = past; future = s ∷ future }) (Some commands.Redo) Accepted (record m { document = s.document; past = record s { document = d } ∷ past; future = future })
+    → Answers (record m { document = d; past = past; future = s ∷ future; group = None }) (Some commands.Redo) Accepted
+    (record m { document = s.document; past = record s { document = d } ∷ past; future = future; group = None })
 redo_one m d s past future none = rw (none, some_steps s future) refl
 
--- the newest change of the past is taken back
-pub undo_moved : (m : Machine) (d : Document) (c : Change) (undo redo : List Change) → machine.has_locks m ≡ false → AreSteps Backwards d (c ∷ undo) redo
-    → Answers (machine_with m d (c ∷ undo) redo) (Some commands.Undo) Accepted (machine_with m (after Backwards c d) undo (c ∷ redo))
-undo_moved m d c undo redo none are =
-    let back = goes_back Backwards c d are.valid are.first.0 in
-    subst (λ (x : Document). Answers (machine_with m d (c ∷ undo) redo) (Some commands.Undo) Accepted (record m {
-      document = after Backwards c d;
-      past = steps Backwards undo (after Backwards c d);
-      future = record { kind = kind_of_change c; cost = change_cost c; document = x } ∷ steps Forwards redo x;
-    })) (sym back.gives) (undo_one m d (step Backwards c d) (steps Backwards undo (after Backwards c d)) (steps Forwards redo d) none)
+-- the newest entry of the past is taken back
+pub undo_moved : (m : Machine) (d : Document) (e : LogEntry) (undo redo : List LogEntry) → machine.has_locks m ≡ false → AreSteps Backwards d (all_changes (e ∷ undo)) (all_changes redo)
+    → Answers (machine_with m d (log_of (e ∷ undo) redo None)) (Some commands.Undo) Accepted (machine_with m (after_entry Backwards e d) (log_of undo (turned_over e ∷ redo) None))
+undo_moved m d e undo redo none are =
+    let new = after_entry Backwards e d in
+    subst (λ (future : List UndoStep). Answers (machine_with m d (log_of (e ∷ undo) redo None)) (Some commands.Undo) Accepted (record m { document = new; past = steps Backwards undo new; future = future; group = None }))
+    (sym (steps_back Backwards e redo d new (entry_back Backwards d e undo are.valid are.first)))
+    (undo_one m d (step Backwards e d) (steps Backwards undo new) (steps Forwards redo d) none)
 
-pub redo_moved : (m : Machine) (d : Document) (c : Change) (undo redo : List Change) → machine.has_locks m ≡ false → AreSteps Forwards d (c ∷ redo) undo
-    → Answers (machine_with m d undo (c ∷ redo)) (Some commands.Redo) Accepted (machine_with m (after Forwards c d) (c ∷ undo) redo)
-redo_moved m d c undo redo none are =
-    let back = goes_back Forwards c d are.valid are.first.0 in
-    subst (λ (x : Document). Answers (machine_with m d undo (c ∷ redo)) (Some commands.Redo) Accepted (record m {
-      document = after Forwards c d;
-      past = record { kind = kind_of_change c; cost = change_cost c; document = x } ∷ steps Backwards undo x;
-      future = steps Forwards redo (after Forwards c d);
-    })) (sym back.gives) (redo_one m d (step Forwards c d) (steps Backwards undo d) (steps Forwards redo (after Forwards c d)) none)
+pub redo_moved : (m : Machine) (d : Document) (e : LogEntry) (undo redo : List LogEntry) → machine.has_locks m ≡ false → AreSteps Forwards d (all_changes (e ∷ redo)) (all_changes undo)
+    → Answers (machine_with m d (log_of undo (e ∷ redo) None)) (Some commands.Redo) Accepted (machine_with m (after_entry Forwards e d) (log_of (turned_over e ∷ undo) redo None))
+redo_moved m d e undo redo none are =
+    let new = after_entry Forwards e d in
+    subst (λ (past : List UndoStep). Answers (machine_with m d (log_of undo (e ∷ redo) None)) (Some commands.Redo) Accepted (record m { document = new; past = past; future = steps Forwards redo new; group = None }))
+    (sym (steps_back Forwards e undo d new (entry_back Forwards d e redo are.valid are.first)))
+    (redo_one m d (step Forwards e d) (steps Backwards undo d) (steps Forwards redo new) none)
+
+-- A group begins, ends, and is abandoned.
+
+pub begin_moved : (m : Machine) (d : Document) (undo redo : List LogEntry) → Answers (machine_with m d (log_of undo redo None)) (Some commands.Begin) Accepted (machine_with m d (log_of undo redo (Some [])))
+begin_moved m d undo redo = refl
+
+pub end_moved : (m : Machine) (d : Document) (undo redo : List LogEntry) (cs : List Change)
+    → Answers (machine_with m d (log_of undo redo (Some cs))) (Some commands.End) Accepted (machine_with m d (closed_with (Some cs) (log_of undo redo (Some cs))))
+end_moved m d undo redo [] = refl
+end_moved m d undo redo (c ∷ cs) = rw (some_steps c cs) refl
+
+abandon_one : (m : Machine) (d : Document) (undo redo : List LogEntry) (cs : List Change) → machine.has_locks m ≡ false
+    → Answers (machine_with m d (log_of undo redo (Some cs))) (Some commands.Abandon) Accepted
+    (record m { document = after_all Backwards cs d; past = steps Backwards undo (after_all Backwards cs d); future = steps Forwards redo d; group = None })
+abandon_one m d undo redo cs none = rw none refl
+
+-- what can be made again stays, which is nothing where the group has changes
+same_future : (d : Document) (redo : List LogEntry) (cs : List Change) → AreExclusive cs redo → steps Forwards redo d ≡ steps Forwards redo (after_all Backwards cs d)
+same_future d redo [] apart = refl
+same_future d redo (c ∷ cs) apart = ap (λ (es : List LogEntry). steps Forwards es d) apart ∙ sym (ap (λ (es : List LogEntry). steps Forwards es (after_all Backwards (c ∷ cs) d)) apart)
+
+pub abandon_moved : (m : Machine) (d : Document) (undo redo : List LogEntry) (cs : List Change) → machine.has_locks m ≡ false → AreExclusive cs redo
+    → Answers (machine_with m d (log_of undo redo (Some cs))) (Some commands.Abandon) Accepted (machine_with m (after_all Backwards cs d) (log_of undo redo None))
+abandon_moved m d undo redo cs none apart =
+    let new = after_all Backwards cs d in
+    subst (λ (future : List UndoStep). Answers (machine_with m d (log_of undo redo (Some cs))) (Some commands.Abandon) Accepted (record m { document = new; past = steps Backwards undo new; future = future; group = None }))
+    (same_future d redo cs apart) (abandon_one m d undo redo cs none)

@@ -1,6 +1,7 @@
 -- The machine that a session begins with, and what a store stands for that comes back.
 use Rattle.std.proofs.Common.{◌≡◌, ℕ, Bool, IsTrue, List, [], Some, sym, ap, subst, ◌∙◌}
 use Rattle.std.specs.Prelude.{Result, Ok, Err, IfOk, MatchResult}
+use Rattle.std.specs.Option.{option_map}
 use Rattle.geos_model.specs.Document.{Document, IsValid}
 use Rattle.geos_model.specs.File.{stands}
 use Rattle.geos_model.specs.Machine.{opened_machine}
@@ -10,16 +11,17 @@ use Rattle.vm_file.specs.Documents.{Documents, sequence_in}
 use Rattle.vm_file.specs.Disk.{FileState}
 use Rattle.vm_blocks.specs.Committing.{IsSavedAs}
 use Rattle.vm_file.proofs.Content.{committed_content}
-use Rattle.vm_blocks.specs.declared.change.Change.{Change}
-use Rattle.undo_log.specs.Records.{SessionState, file_of, locks_in, steps, machine_of, AreSteps, IsExact}
+use Rattle.undo_log.specs.Logging.{Log, before, empty_log, group_of, steps, to_redo, to_undo}
+use Rattle.undo_log.specs.Records.{SessionState, file_of, locks_in, machine_of, AreSteps, IsExact}
 
 -- with nothing to undo or to redo
 pub begun : {S : Type 0} (s : SessionState S) (updated saved : Document) (sequence frames : ℕ) (target : Bool) → s.document ≡ updated → s.disk.updated ≡ updated → s.disk.saved ≡ saved → s.disk.sequence ≡ sequence
-    → s.undo ≡ [] → s.redo ≡ [] → s.resident ≡ [] → s.frames ≡ frames → machine_of target s ≡ opened_machine updated saved sequence frames target
-begun s updated saved sequence frames target document is_updated is_saved number undo redo resident allowed = λ i. record {
+    → s.log ≡ empty_log → s.resident ≡ [] → s.frames ≡ frames → machine_of target s ≡ opened_machine updated saved sequence frames target
+begun s updated saved sequence frames target document is_updated is_saved number log resident allowed = λ i. record {
   document = document i;
-  past = steps Backwards (undo i) (document i);
-  future = steps Forwards (redo i) (document i);
+  past = steps Backwards (log i).undo (before (log i).group (document i));
+  future = steps Forwards (log i).redo (document i);
+  group = option_map (group_of (document i)) (log i).group;
   updated = is_updated i;
   saved = is_saved i;
   locks = locks_in (resident i);
@@ -29,10 +31,10 @@ begun s updated saved sequence frames target document is_updated is_saved number
 }
 
 -- what a file that was opened stands for, and its number, are those of the session
-pub opened : {S : Type 0} (file : FileState S) (content : List ℕ) (frames : ℕ) (s : SessionState S) → file_of s ≡ file → s.undo ≡ [] → s.redo ≡ [] → s.resident ≡ [] → s.frames ≡ frames
+pub opened : {S : Type 0} (file : FileState S) (content : List ℕ) (frames : ℕ) (s : SessionState S) → file_of s ≡ file → s.log ≡ empty_log → s.resident ≡ [] → s.frames ≡ frames
     → stands content ≡ Ok (file.disk.updated, file.disk.saved) → file.document ≡ file.disk.updated → sequence_in content ≡ Some file.disk.sequence
     → (updated saved : Document) (sequence : ℕ) (target : Bool) → stands content ≡ Ok (updated, saved) → sequence_in content ≡ Some sequence → machine_of target s ≡ opened_machine updated saved sequence frames target
-opened {S} file content frames s begins undo redo resident allowed stand document number updated saved sequence target is is_number =
+opened {S} file content frames s begins log resident allowed stand document number updated saved sequence target is is_number =
     let same : (file.disk.updated, file.disk.saved) ≡ (updated, saved) = cc (stand, is) in
     let numbers : file.disk.sequence ≡ sequence = cc (number, is_number) in
     let first : file.disk.updated ≡ updated = ap (λ (d : Documents). d.0) same in
@@ -41,13 +43,13 @@ opened {S} file content frames s begins undo redo resident allowed stand documen
     (ap (λ (x : FileState S). x.disk.updated) begins ∙ first)
     (ap (λ (x : FileState S). x.disk.saved) begins ∙ ap (λ (d : Documents). d.1) same)
     (ap (λ (x : FileState S). x.disk.sequence) begins ∙ numbers)
-    undo redo resident allowed
+    log resident allowed
 
 -- with nothing to undo or to redo a session over an honest store is exact
-pub begun_exact : {S : Type 0} (facts : S → StoreFacts) (s : SessionState S) → (IsTrue (facts s.disk.store).honest → IsValid s.document) → s.undo ≡ [] → s.redo ≡ [] → IsTrue (facts s.disk.store).honest → IsExact facts s
-begun_exact facts s valid undo redo so = record {
+pub begun_exact : {S : Type 0} (facts : S → StoreFacts) (s : SessionState S) → (IsTrue (facts s.disk.store).honest → IsValid s.document) → s.log ≡ empty_log → IsTrue (facts s.disk.store).honest → IsExact facts s
+begun_exact facts s valid log so = record {
   honest = so;
-  steps = subst (λ (cs : List Change). AreSteps Backwards s.document cs s.redo) (sym undo) (subst (λ (cs : List Change). AreSteps Backwards s.document [] cs) (sym redo) (record { valid = valid so; first = tt; second = tt }));
+  steps = subst (λ (l : Log). AreSteps Backwards s.document (to_undo l) (to_redo l)) (sym log) (record { valid = valid so; first = tt; second = tt });
 }
 
 -- the store that comes back from a save-as

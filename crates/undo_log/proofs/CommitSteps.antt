@@ -1,91 +1,100 @@
--- Over an honest store a commit is a step of the machine, and over any it is refused for a locked block before all else.
-use Rattle.std.proofs.Common.{◌≡◌, ◌⊎◌, ◌↔◌, ◌+◌, ◌==◌, Bool, true, false, IsTrue, List, [], ◌∷◌, Some, Result, Ok, Err, refl, sym, ap, subst, ◌∙◌, inl, inr}
-use Rattle.std.specs.Prelude.{IsErrOf, IfOk, MatchResult}
+-- Over an honest store a commit is a step of the machine, and over any it is refused for an open group or a locked block before all else.
+use Rattle.std.proofs.Common.{◌≡◌, ◌⊎◌, ◌↔◌, ◌+◌, ◌==◌, Bool, true, false, IsTrue, List, [], ◌∷◌, Option, Some, None, is_some, Result, Ok, Err, refl, sym, ap, subst, ◌∙◌, inl, inr}
+use Rattle.std.specs.Prelude.{if◌then◌else◌, IsErrOf, IfOk, MatchResult}
+use Rattle.std.specs.Option.{option_map}
 use Rattle.std.proofs.lemmas.Bool.{ne_eqb, true≢false}
 use Rattle.geos_model.specs.Document.{Document, IsValid}
 use Rattle.geos_model.specs.Refusal.{first_refusal}
-use Rattle.geos_model.proofs.InFront.{locked_first}
 use Rattle.geos_model.specs.Reply.{Accepted, Refused, reply_by}
 use Rattle.geos_model.specs.Machine as machine
 use Rattle.geos_model.specs.Machine.{Machine, Step, on_commit, command_conditions, takes_memory, calls_store}
 use Rattle.geos_model.specs.declared.command.Command.{Command}
 use Rattle.geos_model.specs.declared.command.Command.TheVariants as commands
 use Rattle.geos_model.specs.declared.fault.Fault.{Fault}
-use Rattle.geos_model.specs.declared.fault.Fault.TheVariants.{Memory, File, Locked, Worn}
+use Rattle.geos_model.specs.declared.fault.Fault.TheVariants.{Memory, File, GroupOpen, Locked, Worn}
 use Rattle.vm_store.specs.Facts.{StoreFacts}
 use Rattle.vm_file.specs.Calls.{IsCommitRefusal, IsSupply, last_sequence}
 use Rattle.vm_file.specs.Disk.{Commits, Drifts, IsSettled}
 use Rattle.vm_file.proofs.Passing.{Commits-refused, Passes-refl}
 use Rattle.vm_file.specs.Effects.{IsCommit, Fails, IsWorn}
 use Rattle.vm_file.specs.Documents.{Documents}
-use Rattle.vm_blocks.specs.declared.change.Change.{Change}
+use Rattle.block_cache.specs.State.{CacheState, seen}
 use Rattle.vm_blocks.specs.declared.change.Direction.TheVariants.{Backwards}
 use Rattle.undo_log.specs.Locking.{IsHeld, TriesCommit}
-use Rattle.undo_log.specs.Records.{SessionState, file_of, has_locks, locks_in, machine_of, has_failed, AreListed, AreSteps, IsStep}
-use Rattle.undo_log.proofs.Keeping.{drifted_listed, failed_true, machine_is, same_exact}
+use Rattle.undo_log.specs.Logging.{Log, empty_log, group_of, to_redo, to_undo}
+use Rattle.undo_log.specs.Records.{SessionState, file_of, has_locks, locks_in, machine_of, has_failed, AreSteps, IsStep}
+use Rattle.undo_log.specs.Turning.{rest_fault}
+use Rattle.undo_log.proofs.Keeping.{Holds, drifted_listed, failed_true, machine_is, none_marked, same_exact}
 use Rattle.undo_log.proofs.Locks.{no_locks}
+use Rattle.undo_log.proofs.Turns.{at_rest, group_open, none_open}
 
 -- A commit that is refused leaves the machine.
-pub refused_commit : (failed : Bool) (m new : Machine) (c : Command) (fault : Fault) → new ≡ m → command_conditions c m ≡ on_commit m → machine.has_locks m ≡ false → takes_memory c m ≡ true → calls_store c m ≡ true
+pub refused_commit : (failed : Bool) (m new : Machine) (c : Command) (fault : Fault) → new ≡ m → command_conditions c m ≡ on_commit m → machine.in_group m ≡ false → machine.has_locks m ≡ false → takes_memory c m ≡ true → calls_store c m ≡ true
     → (fault ≡ Worn → m.sequence ≡ last_sequence) → (fault ≡ File → failed ≡ true) → IsCommitRefusal fault → Step failed m (Some c) (Refused fault) new
-refused_commit failed m new c fault stays refuses unlocked takes calls worn raised refusal = elim refusal [
+refused_commit failed m new c fault stays refuses outside unlocked takes calls worn raised refusal = elim refusal [
   | inl supply ↦ elim supply [
     | inl memory ↦ inr (record { fault = Memory; may = takes; says = ap Refused memory; stays = stays })
     | inr file ↦ inr (record { fault = File; may = rw (raised file, calls) refl; says = ap Refused file; stays = stays })
   ]
-  | inr is ↦ inl (rw (stays, is, refuses, unlocked, worn is) refl)
+  | inr is ↦ inl (rw (stays, is, refuses, outside, unlocked, worn is) refl)
 ]
 
 -- What is known of a commit of an exact session that tries a pair of documents, the document being that of a machine.
-module _ {S : Type 0} (facts : S → StoreFacts) (target : Bool) (old new : SessionState S) (so : IsTrue (facts old.disk.store).honest) (none : has_locks old ≡ false) (locks : locks_in new.resident ≡ locks_in old.resident) where
+module _ {S : Type 0} (facts : S → StoreFacts) (target : Bool) (old new : SessionState S) (so : IsTrue (facts old.disk.store).honest) (free : rest_fault old ≡ None) (locks : locks_in new.resident ≡ locks_in old.resident) where
+  none : has_locks old ≡ false
+  none = (at_rest old free).1
+
+  outside : is_some (option_map (group_of old.document) old.log.group) ≡ false
+  outside = group_open (group_of old.document) old.log.group ∙ (at_rest old free).0
+
   same_numbers : (fault : Fault) (pair : Documents) → Commits facts pair old.disk new.disk (Err fault) → new.disk.sequence ≡ old.disk.sequence
   same_numbers fault pair commits = commits.sequence
 
   -- where it is refused
-  pub stays : (fault : Fault) (pair : Documents) → Commits facts pair old.disk new.disk (Err fault) → new.document ≡ old.document → new.undo ≡ old.undo → new.redo ≡ old.redo → new.frames ≡ old.frames
+  pub stays : (fault : Fault) (pair : Documents) → Commits facts pair old.disk new.disk (Err fault) → new.document ≡ old.document → new.log ≡ old.log → new.frames ≡ old.frames
       → machine_of target new ≡ machine_of target old
-  stays fault pair commits d u r f =
+  stays fault pair commits d l f =
       let was = commits.err so in
-      sym (machine_is target old.document old.disk.updated old.disk.saved old.undo old.redo (locks_in old.resident) old.frames old.disk.sequence new (sym d) (sym u) (sym r) (sym was.0) (sym was.1) (sym locks) (sym f) (sym commits.sequence))
+      sym (machine_is target old.document old.disk.updated old.disk.saved old.log (locks_in old.resident) old.frames old.disk.sequence new (sym d) (sym l) (sym was.0) (sym was.1) (sym locks) (sym f) (sym commits.sequence))
 
   not_worn : (result : Result (Unit {0}) Fault) → (IsErrOf result Worn ↔ old.disk.sequence ≡ last_sequence) → result ≡ Ok tt → (old.disk.sequence == last_sequence) ≡ false
   not_worn result worn is = ne_eqb old.disk.sequence last_sequence (λ last. let refused : Err Worn ≡ Ok tt = sym (worn.1 last) ∙ is in absurd (cc refused))
 
   -- an update
   pub update_step : (result : Result (Unit {0}) Fault) → IsCommit facts (old.document, old.disk.saved) old.document (file_of old) (file_of new) result → Fails facts IsWorn old.disk.store new.disk.store result
-      → (new.undo ≡ old.undo) × (new.redo ≡ old.redo) × (new.frames ≡ old.frames)
+      → (new.log ≡ old.log) × (new.frames ≡ old.frames)
       → Step (has_failed (facts old.disk.store) (facts new.disk.store)) (machine_of target old) (Some commands.Update) (reply_by (λ _. Accepted) result) (machine_of target new)
   update_step (Ok x) commit fails lists =
       let is = commit.commits.ok so in
       let fresh = not_worn (Ok x) commit.worn refl in
-      inl (rw (none, fresh, ← machine_is target old.document old.document old.disk.saved old.undo old.redo (locks_in old.resident) old.frames (old.disk.sequence + 1) new (sym (commit.document.same so)) (sym lists.0) (sym lists.1) (sym (ap (λ p. p.0) is.0)) (sym (ap (λ p. p.1) is.0)) (sym locks) (sym lists.2) (sym commit.commits.sequence)) refl)
+      inl (rw (outside, none, fresh, ← machine_is target old.document old.document old.disk.saved old.log (locks_in old.resident) old.frames (old.disk.sequence + 1) new (sym (commit.document.same so)) (sym lists.0) (sym (ap (λ p. p.0) is.0)) (sym (ap (λ p. p.1) is.0)) (sym locks) (sym lists.1) (sym commit.commits.sequence)) refl)
   update_step (Err fault) commit fails lists =
-      refused_commit _ (machine_of target old) (machine_of target new) commands.Update fault (stays fault _ commit.commits (commit.document.same so) lists.0 lists.1 lists.2) refl none refl refl
+      refused_commit _ (machine_of target old) (machine_of target new) commands.Update fault (stays fault _ commit.commits (commit.document.same so) lists.0 lists.1) refl outside none refl refl
       (λ is. commit.worn.0 (ap Err is)) (λ is. failed_true (facts old.disk.store) (facts new.disk.store) (fails.file (ap Err is))) fails.faults
 
   -- a save
   pub save_step : (result : Result (Unit {0}) Fault) → IsCommit facts (old.document, old.document) old.document (file_of old) (file_of new) result → Fails facts IsWorn old.disk.store new.disk.store result
-      → (new.undo ≡ old.undo) × (new.redo ≡ old.redo) × (new.frames ≡ old.frames)
+      → (new.log ≡ old.log) × (new.frames ≡ old.frames)
       → Step (has_failed (facts old.disk.store) (facts new.disk.store)) (machine_of target old) (Some commands.Save) (reply_by (λ _. Accepted) result) (machine_of target new)
   save_step (Ok x) commit fails lists =
       let is = commit.commits.ok so in
       let fresh = not_worn (Ok x) commit.worn refl in
-      inl (rw (none, fresh, ← machine_is target old.document old.document old.document old.undo old.redo (locks_in old.resident) old.frames (old.disk.sequence + 1) new (sym (commit.document.same so)) (sym lists.0) (sym lists.1) (sym (ap (λ p. p.0) is.0)) (sym (ap (λ p. p.1) is.0)) (sym locks) (sym lists.2) (sym commit.commits.sequence)) refl)
+      inl (rw (outside, none, fresh, ← machine_is target old.document old.document old.document old.log (locks_in old.resident) old.frames (old.disk.sequence + 1) new (sym (commit.document.same so)) (sym lists.0) (sym (ap (λ p. p.0) is.0)) (sym (ap (λ p. p.1) is.0)) (sym locks) (sym lists.1) (sym commit.commits.sequence)) refl)
   save_step (Err fault) commit fails lists =
-      refused_commit _ (machine_of target old) (machine_of target new) commands.Save fault (stays fault _ commit.commits (commit.document.same so) lists.0 lists.1 lists.2) refl none refl refl
+      refused_commit _ (machine_of target old) (machine_of target new) commands.Save fault (stays fault _ commit.commits (commit.document.same so) lists.0 lists.1) refl outside none refl refl
       (λ is. commit.worn.0 (ap Err is)) (λ is. failed_true (facts old.disk.store) (facts new.disk.store) (fails.file (ap Err is))) fails.faults
 
   -- a revert
   pub revert_step : (result : Result (Unit {0}) Fault) → IsCommit facts (old.disk.saved, old.disk.saved) old.disk.saved (file_of old) (file_of new) result
       → Fails facts IsWorn old.disk.store new.disk.store result
-      → MatchResult result (λ _. (new.undo ≡ []) × (new.redo ≡ [])) (λ _. (new.undo ≡ old.undo) × (new.redo ≡ old.redo)) → new.frames ≡ old.frames
+      → MatchResult result (λ _. new.log ≡ empty_log) (λ _. new.log ≡ old.log) → new.frames ≡ old.frames
       → Step (has_failed (facts old.disk.store) (facts new.disk.store)) (machine_of target old) (Some commands.Revert) (reply_by (λ _. Accepted) result) (machine_of target new)
   revert_step (Ok x) commit fails lists frames =
       let is = commit.commits.ok so in
       let fresh = not_worn (Ok x) commit.worn refl in
-      inl (rw (none, fresh, ← machine_is target old.disk.saved old.disk.saved old.disk.saved [] [] (locks_in old.resident) old.frames (old.disk.sequence + 1) new (sym (commit.document.same so)) (sym lists.0) (sym lists.1) (sym (ap (λ p. p.0) is.0)) (sym (ap (λ p. p.1) is.0)) (sym locks) (sym frames) (sym commit.commits.sequence)) refl)
+      inl (rw (ap (option_map (group_of old.document)) (none_open old free), none, fresh, ← machine_is target old.disk.saved old.disk.saved old.disk.saved empty_log (locks_in old.resident) old.frames (old.disk.sequence + 1) new (sym (commit.document.same so)) (sym lists) (sym (ap (λ p. p.0) is.0)) (sym (ap (λ p. p.1) is.0)) (sym locks) (sym frames) (sym commit.commits.sequence)) refl)
   revert_step (Err fault) commit fails lists frames =
-      refused_commit _ (machine_of target old) (machine_of target new) commands.Revert fault (stays fault _ commit.commits (commit.document.same so) lists.0 lists.1 frames) refl none refl refl
+      refused_commit _ (machine_of target old) (machine_of target new) commands.Revert fault (stays fault _ commit.commits (commit.document.same so) lists frames) refl outside none refl refl
       (λ is. commit.worn.0 (ap Err is)) (λ is. failed_true (facts old.disk.store) (facts new.disk.store) (fails.file (ap Err is))) fails.faults
 
 -- the document stays, whether it is refused or not
@@ -94,77 +103,99 @@ kept_document honest a b (Ok x) drifts = drifts
 kept_document honest a b (Err fault) drifts = drifts
 
 -- So it is of sessions, which stay exact.
-module _ {S : Type 0} (facts : S → StoreFacts) (old new : SessionState S) (none : has_locks old ≡ false) where
+module _ {S : Type 0} (facts : S → StoreFacts) (old new : SessionState S) (free : rest_fault old ≡ None) where
   pub update_is : (result : Result (Unit {0}) Fault) → IsCommit facts (old.document, old.disk.saved) old.document (file_of old) (file_of new) result → Fails facts IsWorn old.disk.store new.disk.store result
-      → (new.undo ≡ old.undo) × (new.redo ≡ old.redo) × (new.frames ≡ old.frames) → new.resident ≡ old.resident → IsStep facts old new commands.Update (reply_by (λ _. Accepted) result)
+      → (new.log ≡ old.log) × (new.frames ≡ old.frames) → new.resident ≡ old.resident → IsStep facts old new commands.Update (reply_by (λ _. Accepted) result)
   update_is result commit fails lists resident = λ exact. (
-    same_exact facts old new commit.commits.honest ((kept_document (facts old.disk.store).honest old.document new.document result commit.document).same exact.honest) lists.0 lists.1 exact,
-    λ target. update_step facts target old new exact.honest none (ap locks_in resident) result commit fails lists,
+    same_exact facts old new commit.commits.honest ((kept_document (facts old.disk.store).honest old.document new.document result commit.document).same exact.honest) lists.0 exact,
+    λ target. update_step facts target old new exact.honest free (ap locks_in resident) result commit fails lists,
   )
 
   pub save_is : (result : Result (Unit {0}) Fault) → IsCommit facts (old.document, old.document) old.document (file_of old) (file_of new) result → Fails facts IsWorn old.disk.store new.disk.store result
-      → (new.undo ≡ old.undo) × (new.redo ≡ old.redo) × (new.frames ≡ old.frames) → new.resident ≡ old.resident → IsStep facts old new commands.Save (reply_by (λ _. Accepted) result)
+      → (new.log ≡ old.log) × (new.frames ≡ old.frames) → new.resident ≡ old.resident → IsStep facts old new commands.Save (reply_by (λ _. Accepted) result)
   save_is result commit fails lists resident = λ exact. (
-    same_exact facts old new commit.commits.honest ((kept_document (facts old.disk.store).honest old.document new.document result commit.document).same exact.honest) lists.0 lists.1 exact,
-    λ target. save_step facts target old new exact.honest none (ap locks_in resident) result commit fails lists,
+    same_exact facts old new commit.commits.honest ((kept_document (facts old.disk.store).honest old.document new.document result commit.document).same exact.honest) lists.0 exact,
+    λ target. save_step facts target old new exact.honest free (ap locks_in resident) result commit fails lists,
   )
 
   pub revert_is : (result : Result (Unit {0}) Fault) → IsCommit facts (old.disk.saved, old.disk.saved) old.disk.saved (file_of old) (file_of new) result
       → Fails facts IsWorn old.disk.store new.disk.store result
-      → MatchResult result (λ _. (new.undo ≡ []) × (new.redo ≡ [])) (λ _. (new.undo ≡ old.undo) × (new.redo ≡ old.redo)) → new.frames ≡ old.frames
+      → MatchResult result (λ _. new.log ≡ empty_log) (λ _. new.log ≡ old.log) → new.frames ≡ old.frames
       → MatchResult result (λ _. new.resident ≡ []) (λ _. new.resident ≡ old.resident)
       → IfOk result (λ _. IsTrue (facts new.disk.store).honest → IsValid new.document) → IsStep facts old new commands.Revert (reply_by (λ _. Accepted) result)
   revert_is (Ok x) commit fails lists frames resident valid = λ exact.
       let so : IsTrue (facts new.disk.store).honest = subst IsTrue (sym commit.commits.honest) exact.honest in (
         record {
           honest = so;
-          steps = subst (λ (cs : List Change). AreSteps Backwards new.document cs new.redo) (sym lists.0)
-              (subst (λ (cs : List Change). AreSteps Backwards new.document [] cs) (sym lists.1) (record { valid = valid so; first = tt; second = tt }));
+          steps = subst (λ (l : Log). AreSteps Backwards new.document (to_undo l) (to_redo l)) (sym lists) (record { valid = valid so; first = tt; second = tt });
         },
-        λ target. revert_step facts target old new exact.honest none (ap locks_in resident ∙ sym (no_locks old.resident none)) (Ok x) commit fails lists frames,
+        λ target. revert_step facts target old new exact.honest free (ap locks_in resident ∙ sym (no_locks old.resident (at_rest old free).1)) (Ok x) commit fails lists frames,
       )
   revert_is (Err fault) commit fails lists frames resident valid = λ exact.
-      (same_exact facts old new commit.commits.honest (commit.document.same exact.honest) lists.0 lists.1 exact, λ target. revert_step facts target old new exact.honest none (ap locks_in resident) (Err fault) commit fails lists frames)
+      (same_exact facts old new commit.commits.honest (commit.document.same exact.honest) lists exact, λ target. revert_step facts target old new exact.honest free (ap locks_in resident) (Err fault) commit fails lists frames)
 
--- What is known of the records by handles stays.
-pub committed_listed : (honest : Bool) (a b : Document) (undo redo : List Change) (result : Result (Unit {0}) Fault) → MatchResult result (λ _. Drifts honest a b) (λ _. Drifts honest a b)
-    → AreListed Backwards a undo redo → AreListed Backwards b undo redo
-committed_listed honest a b undo redo result drifts are = drifted_listed honest a b undo redo (kept_document honest a b result drifts) are
+-- What is known of the log stays, and no document is marked where none was.
+pub committed_invariant : {S : Type 0} (facts : S → StoreFacts) (pair : Documents) (old new : CacheState S) (log : Log) (result : Result (Unit {0}) Fault) → IsCommit facts pair old.document (seen old) (seen new) result → Holds old log → Holds new log
+committed_invariant facts pair old new log result commit holds =
+    (drifted_listed _ old.document new.document log (kept_document _ old.document new.document result commit.document) holds.0, none_marked _ old.disk.marked new.disk.marked holds.1 commit.commits.marked)
 
--- What a locked block refuses before all else.
-module _ {S : Type 0} (facts : S → StoreFacts) (s : SessionState S) where
-  pub held_step : (c : Command) → ((target : Bool) → first_refusal (command_conditions c (machine_of target s)) ≡ Some Locked) → IsStep facts s s c (Refused Locked)
-  held_step c first = λ exact. (exact, λ target. inl (rw (first target) refl))
+-- so where it is refused, whatever would have been behind it
+pub refused_invariant : {S : Type 0} (facts : S → StoreFacts) (pair : Documents) (d : Document) (old new : CacheState S) (log : Log) (fault : Fault) → IsCommit facts pair d (seen old) (seen new) (Err fault) → Holds old log → Holds new log
+refused_invariant facts pair d old new log fault commit holds =
+    (drifted_listed _ old.document new.document log commit.document holds.0, none_marked _ old.disk.marked new.disk.marked holds.1 commit.commits.marked)
 
-  module _ (held : has_locks s ≡ true) where
-    pub update_held : IsStep facts s s commands.Update (Refused Locked)
-    update_held = held_step commands.Update (λ target. locked_first (has_locks s) ((Worn, s.disk.sequence == machine.last_sequence) ∷ []) held refl)
+-- What an open group or a locked block refuses before all else.
 
-    pub save_held : IsStep facts s s commands.Save (Refused Locked)
-    save_held = held_step commands.Save (λ target. locked_first (has_locks s) ((Worn, s.disk.sequence == machine.last_sequence) ∷ []) held refl)
+held_first : (is_open locked : Bool) (fault : Fault) → (if is_open then Some GroupOpen else if locked then Some Locked else None) ≡ Some fault → (worn : Bool)
+    → first_refusal ((Worn, worn) ∷ (GroupOpen, is_open) ∷ (Locked, locked) ∷ []) ≡ Some fault
+held_first true locked fault is worn = is
+held_first false true fault is worn = is
+held_first false false fault is worn = absurd (cc is)
 
-    pub revert_held : IsStep facts s s commands.Revert (Refused Locked)
-    revert_held = held_step commands.Revert (λ target. locked_first (has_locks s) ((Worn, s.disk.sequence == machine.last_sequence) ∷ []) held refl)
+module _ {S : Type 0} (facts : S → StoreFacts) (s : SessionState S) (fault : Fault) (held : IsHeld s fault) where
+  held_step : (c : Command) → ((target : Bool) → command_conditions c (machine_of target s) ≡ on_commit (machine_of target s)) → IsStep facts s s c (Refused fault)
+  held_step c are = λ exact. (
+    exact,
+    λ target.
+        let first : first_refusal (on_commit (machine_of target s)) ≡ Some fault =
+        ap (λ (is_open : Bool). first_refusal ((Worn, s.disk.sequence == machine.last_sequence) ∷ (GroupOpen, is_open) ∷ (Locked, has_locks s) ∷ [])) (group_open (group_of s.document) s.log.group)
+        ∙ held_first (is_some s.log.group) (has_locks s) fault held (s.disk.sequence == machine.last_sequence) in
+        inl (rw (are target, first) refl),
+  )
 
-    pub commit_held : (pair : Documents) (d : Document) → IsSettled facts s.disk → TriesCommit facts pair d s s (Err Locked)
-    commit_held pair d settled = record {
-      commits = Commits-refused facts s.disk pair Locked settled;
-      passes = λ other. Passes-refl facts s.disk;
-      unlocked = λ free. absurd (true≢false (sym held ∙ free));
-      locked = λ _. (refl, refl);
-    }
+  pub update_held : IsStep facts s s commands.Update (Refused fault)
+  update_held = held_step commands.Update (λ target. refl)
 
-    pub fails_held : (IsOther : Fault → Type 0) → Fails {A = Unit {0}} facts (λ fault. IsOther fault ⊎ IsHeld s fault) s.disk.store s.disk.store (Err Locked)
-    fails_held IsOther = record { file = λ is. absurd (cc is); faults = inr (inr (refl, held)) }
+  pub save_held : IsStep facts s s commands.Save (Refused fault)
+  save_held = held_step commands.Save (λ target. refl)
 
--- Where none is locked it is a commit of the file.
-pub tries_unlocked : {S : Type 0} (facts : S → StoreFacts) (pair : Documents) (d : Document) (old new : SessionState S) (result : Result (Unit {0}) Fault) → has_locks old ≡ false
+  pub revert_held : IsStep facts s s commands.Revert (Refused fault)
+  revert_held = held_step commands.Revert (λ target. refl)
+
+  pub commit_held : (pair : Documents) (d : Document) → IsSettled facts s.disk → TriesCommit facts pair d s s (Err fault)
+  commit_held pair d settled = record {
+    commits = Commits-refused facts s.disk pair fault settled;
+    passes = λ other. Passes-refl facts s.disk;
+    free = λ free. let no : None ≡ Some fault = sym free ∙ held in absurd (cc no);
+    held = λ other is. let same : Some fault ≡ Some other = sym held ∙ is in (ap Err (cc same), refl);
+  }
+
+  not_file : (is_open locked : Bool) → (if is_open then Some GroupOpen else if locked then Some Locked else None) ≡ Some fault → ◌≡◌ {A = Result (Unit {0}) Fault} (Err fault) (Err File) → ⊥
+  not_file true locked is file = absurd (cc (is, file))
+  not_file false true is file = absurd (cc (is, file))
+  not_file false false is file = absurd (cc is)
+
+  pub fails_held : (IsOther : Fault → Type 0) → Fails {A = Unit {0}} facts (λ f. IsOther f ⊎ IsHeld s f) s.disk.store s.disk.store (Err fault)
+  fails_held IsOther = record { file = λ is. absurd (not_file (is_some s.log.group) (has_locks s) held is); faults = inr (inr held) }
+
+-- Where neither is it is a commit of the file.
+pub tries_free : {S : Type 0} (facts : S → StoreFacts) (pair : Documents) (d : Document) (old new : SessionState S) (result : Result (Unit {0}) Fault) → rest_fault old ≡ None
     → IsCommit facts pair d (file_of old) (file_of new) result → TriesCommit facts pair d old new result
-tries_unlocked facts pair d old new result none commit = record {
+tries_free facts pair d old new result none commit = record {
   commits = commit.commits;
   passes = commit.passes;
-  unlocked = λ _. commit;
-  locked = λ held. absurd (true≢false (sym held ∙ none));
+  free = λ _. commit;
+  held = λ fault held. let no : None ≡ Some fault = sym none ∙ held in absurd (cc no);
 }
 
 pub fails_more : {S A : Type 0} (facts : S → StoreFacts) (IsOther IsMore : Fault → Type 0) (old new : S) (result : Result A Fault) → Fails facts IsOther old new result

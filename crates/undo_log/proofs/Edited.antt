@@ -1,5 +1,5 @@
 -- An edit that was made, or refused, is a step of the machine.
-use Rattle.std.proofs.Common.{◌≡◌, ◌⊎◌, ◌≤◌, Result, Ok, Err, IsOk, ℕ, Bool, true, false, IsTrue, All, List, [], ◌∷◌, map, length, Some, inl, inr, refl, sym, ap, subst, ◌∙◌, arith, ltb-false}
+use Rattle.std.proofs.Common.{◌≡◌, ◌⊎◌, ◌≤◌, Result, Ok, Err, IsOk, ℕ, Bool, true, false, IsTrue, All, List, [], ◌∷◌, ◌++◌, map, length, Option, Some, None, inl, inr, refl, sym, ap, subst, ◌∙◌, arith, ltb-false}
 use Rattle.geos_model.specs.Document.{Document}
 use Rattle.std.specs.Option.{option_map_or}
 use Rattle.std.specs.Prelude.{◌≢◌}
@@ -17,7 +17,7 @@ use Rattle.geos_model.specs.declared.command.Done.{Done}
 use Rattle.geos_model.specs.declared.command.Edit.{Edit}
 use Rattle.geos_model.specs.declared.command.Edit.TheVariants as edits
 use Rattle.geos_model.specs.declared.command.Kind.{Kind}
-use Rattle.geos_model.specs.declared.command.Kind.TheVariants.{Plain, In, Made, Freed}
+use Rattle.geos_model.specs.declared.command.Kind.TheVariants.{Plain, In, Made, Freed, Group}
 use Rattle.geos_model.specs.declared.fault.Fault.{Fault}
 use Rattle.geos_model.specs.declared.fault.Fault.TheVariants.{CacheFull, Locked, Memory}
 use Rattle.geos_model.specs.declared.handle.VmHandle.{VmHandle}
@@ -40,7 +40,8 @@ use Rattle.doc_edits.specs.Room.{has_no_room, ReadsNothing}
 use Rattle.undo_log.specs.Locking.{IsBarred, bars}
 use Rattle.undo_log.specs.Editing.{EditsAtHand}
 use Rattle.undo_log.specs.Making.{IsMade}
-use Rattle.undo_log.specs.Records.{SessionState, blocks_of, machine_of, has_failed, AreSteps, IsStep, KeepsSession}
+use Rattle.undo_log.specs.Logging.{Log, added_to, all_changes, open_changes, to_redo, to_undo, with_change}
+use Rattle.undo_log.specs.Records.{SessionState, blocks_of, machine_of, has_failed, AreListed, AreSteps, IsStep, KeepsSession}
 use Rattle.undo_log.proofs.Answers.{edit_answers}
 use Rattle.undo_log.proofs.Keeping.{gives_up, kept_exact, kept_machine, kept_document, machine_with, passed_machine}
 use Rattle.undo_log.proofs.Listing.{listed_before}
@@ -112,6 +113,30 @@ never_refused edit c mid new fault result was kind other ready sure =
     not_both (Ok u) is accepted = cc is
     not_both (Err e) is accepted = cc accepted
 
+-- The change of an edit is the newest of all that can be taken back, in a group or not.
+
+to_undo-is : (log : Log) (c : Change) → to_undo (with_change c log) ≡ c ∷ to_undo log
+to_undo-is log c = by_group log.group
+  where
+    by_group : (group : Option (List Change)) → to_undo (added_to group c (record log { group = group })) ≡ c ∷ (open_changes group ++ all_changes log.undo)
+    by_group None = refl
+    by_group (Some cs) = refl
+
+to_redo-is : (log : Log) (c : Change) → to_redo (with_change c log) ≡ []
+to_redo-is log c = by_group log.group
+  where
+    by_group : (group : Option (List Change)) → to_redo (added_to group c (record log { group = group })) ≡ []
+    by_group None = refl
+    by_group (Some cs) = refl
+
+changed_steps : (log : Log) (c : Change) (d : Document) → AreSteps Backwards d (c ∷ to_undo log) [] → AreSteps Backwards d (to_undo (with_change c log)) (to_redo (with_change c log))
+changed_steps log c d are =
+    subst (λ (cs : List Change). AreSteps Backwards d cs (to_redo (with_change c log))) (sym (to_undo-is log c)) (subst (λ (cs : List Change). AreSteps Backwards d (c ∷ to_undo log) cs) (sym (to_redo-is log c)) are)
+
+pub changed_listed : (log : Log) (c : Change) (d : Document) → AreListed Backwards d (c ∷ to_undo log) [] → AreListed Backwards d (to_undo (with_change c log)) (to_redo (with_change c log))
+changed_listed log c d are =
+    subst (λ (cs : List Change). AreListed Backwards d cs (to_redo (with_change c log))) (sym (to_undo-is log c)) (subst (λ (cs : List Change). AreListed Backwards d (c ∷ to_undo log) cs) (sym (to_redo-is log c)) are)
+
 module _ {S : Type 0} (facts : S → StoreFacts) where
   -- A change that is made after its block was brought into memory.
   module _ (old mid : CacheState S) (keeps : Keeps facts old mid) where
@@ -178,22 +203,23 @@ module _ {S : Type 0} (facts : S → StoreFacts) where
   made_at_hand (changes.Map old new) k state kind at_hand b is = absurd (cc (kind ∙ is))
 
   module _ (old new : SessionState S) (edit : Edit) (distinct : all_distinct (map (λ s. s.0) old.resident) ≡ true) (free : bars old.resident edit ≡ false) where
-    pub edit_step : (c : Change) (done : Done) → IsMade facts edit (blocks_of old) (blocks_of new) c done → new.undo ≡ c ∷ old.undo → new.redo ≡ [] → IsStep facts old new (commands.Edit edit) (reply_of_done done)
-    edit_step c done is undo redo = λ exact.
+    pub edit_step : (c : Change) (done : Done) → IsMade facts edit (blocks_of old) (blocks_of new) c done → new.log ≡ with_change c old.log → IsStep facts old new (commands.Edit edit) (reply_of_done done)
+    edit_step c done is log = λ exact.
         let so = exact.honest in
         let meant = is.meant (λ _. so) in
         let plans : Plans edit old.document c done = subst (λ (d : Document). Plans edit d c done) (meant.drifts.same so) meant.plans in
         let document : new.document ≡ made c old.document = is.makes.document.same so in
-        let steps : AreSteps Backwards (made c old.document) (c ∷ old.undo) [] = edited_steps old.document old.undo old.redo c exact.steps plans.applies in (
+        let steps : AreSteps Backwards (made c old.document) (to_undo (with_change c old.log)) (to_redo (with_change c old.log)) =
+        changed_steps old.log c (made c old.document) (edited_steps old.document (to_undo old.log) (to_redo old.log) c exact.steps plans.applies) in (
           record {
             honest = subst IsTrue (sym is.makes.passes.honest) so;
-            steps = subst (λ (d : Document). AreSteps Backwards d new.undo new.redo) (sym document)
-                (subst (λ (cs : List Change). AreSteps Backwards (made c old.document) cs new.redo) (sym undo) (subst (λ (cs : List Change). AreSteps Backwards (made c old.document) (c ∷ old.undo) cs) (sym redo) steps));
+            steps = subst (λ (d : Document). AreSteps Backwards d (to_undo new.log) (to_redo new.log)) (sym document)
+                (subst (λ (l : Log). AreSteps Backwards (made c old.document) (to_undo l) (to_redo l)) (sym log) steps);
           },
           λ target.
               let m = machine_of target old in
-              let same : machine_of target new ≡ machine_with m new.document new.undo new.redo = passed_machine facts old new target so is.makes.passes is.makes.frames is.makes.locks in
-              inl (rw (same, document, undo, redo) (edit_answers m edit old.document old.undo old.redo c done exact.steps plans (is_barred-is old distinct target edit ∙ free) (has_no_room-is old distinct target (edit_needs edit) ∙ is.room))),
+              let same : machine_of target new ≡ machine_with m new.document new.log = passed_machine facts old new target so is.makes.passes is.makes.frames is.makes.locks in
+              inl (rw (same, document, log) (edit_answers m edit old.document old.log (to_undo old.log) (to_redo old.log) c done exact.steps plans (is_barred-is old distinct target edit ∙ free) (has_no_room-is old distinct target (edit_needs edit) ∙ is.room))),
         )
 
     module _ (fault : Fault) (keeps : KeepsSession facts old new) where
@@ -238,6 +264,7 @@ module _ {S : Type 0} (facts : S → StoreFacts) where
         by_kind (In b) kind refuses plain = refused_in (In b) kind refl refuses
         by_kind Made kind refuses plain = refused_in Made kind refl refuses
         by_kind Freed kind refuses plain = refused_in Freed kind refl refuses
+        by_kind Group kind refuses plain = refused_in Group kind refl refuses
 
       pub edit_refused : (IsTrue (facts old.disk.store).honest → Refuses (Lacks facts old.disk.store new.disk.store) (has_no_room (blocks_of old) (edit_needs edit)) edit new.document fault)
           → (kind_of edit ≡ Plain → RefusesAtHand edit new.document fault) → IsStep facts old new (commands.Edit edit) (Refused fault)

@@ -1,7 +1,8 @@
 -- What a call that keeps a session leaves, and when it gives up.
-use Rattle.std.proofs.Common.{◌≡◌, ℕ, Bool, true, IsTrue, List, Some, inl, inr, refl, sym, ap, subst, ◌∙◌}
+use Rattle.std.proofs.Common.{◌≡◌, ℕ, Bool, true, IsTrue, List, Option, Some, None, inl, inr, refl, sym, ap, subst, ◌∙◌}
 use Rattle.std.specs.Ordering.{nat_cmp}
 use Rattle.std.specs.FinMap.{FinMap}
+use Rattle.std.specs.Option.{option_map}
 use Rattle.std.proofs.lemmas.Bool.{le-leb}
 use Rattle.geos_model.specs.Document.{Document}
 use Rattle.geos_model.specs.Machine.{Machine, Request, Answers, Step, next, takes_memory, calls_store}
@@ -10,24 +11,36 @@ use Rattle.geos_model.specs.declared.command.Command.{Command}
 use Rattle.geos_model.specs.declared.fault.Fault.{Fault}
 use Rattle.geos_model.specs.declared.fault.Fault.TheVariants.{Memory, File}
 use Rattle.vm_store.specs.Facts.{StoreFacts, Raised, raised}
-use Rattle.vm_file.specs.Disk.{Drifts, Passes}
-use Rattle.block_cache.specs.State.{KeepsLocks}
-use Rattle.vm_blocks.specs.Keeping.{Lacks}
-use Rattle.vm_blocks.specs.declared.change.Change.{Change}
+use Rattle.vm_file.specs.Disk.{Disk, Drifts, MarkDrifts, Passes}
+use Rattle.block_cache.specs.State.{CacheState, KeepsLocks}
+use Rattle.vm_blocks.specs.Keeping.{Keeps, Lacks}
 use Rattle.vm_blocks.specs.declared.change.Direction.TheVariants.{Forwards, Backwards}
 use Rattle.vm_blocks.proofs.KeepingLaws.{keeps-refl, keeps-passes, keeps-drifts, keeps-frames, keeps-locks, lacks-cases}
-use Rattle.undo_log.specs.Records.{SessionState, blocks_of, locks_in, machine_of, has_failed, steps, AreListed, AreSteps, IsExact, KeepsSession}
+use Rattle.undo_log.specs.Logging.{Log, before, group_of, steps, to_redo, to_undo}
+use Rattle.undo_log.specs.Records.{SessionState, blocks_of, locks_in, machine_of, has_failed, AreListed, AreSteps, IsExact, KeepsSession}
 use Rattle.undo_log.proofs.Listing.{drifted, are_listed_alike}
 use Rattle.undo_log.proofs.Locks.{kept_locks}
 
 -- The machine of a session, from its parts.
-pub machine_is : {S : Type 0} (target : Bool) (d updated saved : Document) (undo redo : List Change) (locks : FinMap nat_cmp ℕ) (frames sequence : ℕ) (new : SessionState S)
-    → d ≡ new.document → undo ≡ new.undo → redo ≡ new.redo → updated ≡ new.disk.updated → saved ≡ new.disk.saved → locks ≡ locks_in new.resident → frames ≡ new.frames → sequence ≡ new.disk.sequence
-    → ◌≡◌ {A = Machine} (record { document = d; past = steps Backwards undo d; future = steps Forwards redo d; updated = updated; saved = saved; locks = locks; frames = frames; target = target; sequence = sequence }) (machine_of target new)
-machine_is target d updated saved undo redo locks frames sequence new p q r u v l f n = λ i. record {
+pub machine_is : {S : Type 0} (target : Bool) (d updated saved : Document) (log : Log) (locks : FinMap nat_cmp ℕ) (frames sequence : ℕ) (new : SessionState S)
+    → d ≡ new.document → log ≡ new.log → updated ≡ new.disk.updated → saved ≡ new.disk.saved → locks ≡ locks_in new.resident → frames ≡ new.frames → sequence ≡ new.disk.sequence
+    → ◌≡◌ {A = Machine} (record {
+      document = d;
+      past = steps Backwards log.undo (before log.group d);
+      future = steps Forwards log.redo d;
+      group = option_map (group_of d) log.group;
+      updated = updated;
+      saved = saved;
+      locks = locks;
+      frames = frames;
+      target = target;
+      sequence = sequence;
+    }) (machine_of target new)
+machine_is target d updated saved log locks frames sequence new p q u v l f n = λ i. record {
   document = p i;
-  past = steps Backwards (q i) (p i);
-  future = steps Forwards (r i) (p i);
+  past = steps Backwards (q i).undo (before (q i).group (p i));
+  future = steps Forwards (q i).redo (p i);
+  group = option_map (group_of (p i)) (q i).group;
   updated = u i;
   saved = v i;
   locks = l i;
@@ -36,9 +49,9 @@ machine_is target d updated saved undo redo locks frames sequence new p q r u v 
   sequence = n i;
 }
 
--- the machine with this document and these two lists of records
-abbrev pub machine_with : Machine → Document → List Change → List Change → Machine
-machine_with m d undo redo = record m { document = d; past = steps Backwards undo d; future = steps Forwards redo d }
+-- the machine with this document and this log
+abbrev pub machine_with : Machine → Document → Log → Machine
+machine_with m d log = record m { document = d; past = steps Backwards log.undo (before log.group d); future = steps Forwards log.redo d; group = option_map (group_of d) log.group }
 
 -- An answer between machines that are the same.
 pub answers_on : (m m' n n' : Machine) (request : Request) (reply : Reply) → m ≡ m' → n ≡ n' → Answers m' request reply n' → Answers m request reply n
@@ -58,19 +71,19 @@ module _ {S : Type 0} (facts : S → StoreFacts) where
   ]
 
   module _ (old new : SessionState S) where
-    -- Over an honest store, with the same document and records.
-    pub same_exact : (facts new.disk.store).honest ≡ (facts old.disk.store).honest → new.document ≡ old.document → new.undo ≡ old.undo → new.redo ≡ old.redo → IsExact facts old → IsExact facts new
-    same_exact honest document undo redo exact = record {
+    -- Over an honest store, with the same document and log.
+    pub same_exact : (facts new.disk.store).honest ≡ (facts old.disk.store).honest → new.document ≡ old.document → new.log ≡ old.log → IsExact facts old → IsExact facts new
+    same_exact honest document log exact = record {
       honest = subst IsTrue (sym honest) exact.honest;
-      steps = subst (λ (d : Document). AreSteps Backwards d new.undo new.redo) (sym document)
-          (subst (λ (cs : List Change). AreSteps Backwards old.document cs new.redo) (sym undo) (subst (λ (cs : List Change). AreSteps Backwards old.document old.undo cs) (sym redo) exact.steps));
+      steps = subst (λ (d : Document). AreSteps Backwards d (to_undo new.log) (to_redo new.log)) (sym document)
+          (subst (λ (l : Log). AreSteps Backwards old.document (to_undo l) (to_redo l)) (sym log) exact.steps);
     }
 
     -- the machine after a call that commits nothing
     pub passed_machine : (target : Bool) → IsTrue (facts old.disk.store).honest → Passes facts old.disk new.disk → new.frames ≡ old.frames → KeepsLocks old.resident new.resident
-        → machine_of target new ≡ machine_with (machine_of target old) new.document new.undo new.redo
-    passed_machine target so passes frames locks = sym (machine_is target new.document old.disk.updated old.disk.saved new.undo new.redo (locks_in old.resident) old.frames old.disk.sequence new
-        refl refl refl (sym (passes.updated so)) (sym (passes.saved so)) (sym (kept_locks old.resident new.resident locks)) (sym frames) (sym passes.sequence))
+        → machine_of target new ≡ machine_with (machine_of target old) new.document new.log
+    passed_machine target so passes frames locks = sym (machine_is target new.document old.disk.updated old.disk.saved new.log (locks_in old.resident) old.frames old.disk.sequence new
+        refl refl (sym (passes.updated so)) (sym (passes.saved so)) (sym (kept_locks old.resident new.resident locks)) (sym frames) (sym passes.sequence))
 
     module _ (keeps : KeepsSession facts old new) where
       pub kept_passes : Passes facts old.disk new.disk
@@ -89,16 +102,32 @@ module _ {S : Type 0} (facts : S → StoreFacts) where
       kept_document so = kept_drifts.same so
 
       pub kept_exact : IsExact facts old → IsExact facts new
-      kept_exact exact = same_exact kept_passes.honest (kept_document exact.honest) keeps.undo keeps.redo exact
+      kept_exact exact = same_exact kept_passes.honest (kept_document exact.honest) keeps.log exact
 
       pub kept_machine : (target : Bool) → IsExact facts old → machine_of target new ≡ machine_of target old
       kept_machine target exact =
-          sym (machine_is target old.document old.disk.updated old.disk.saved old.undo old.redo (locks_in old.resident) old.frames old.disk.sequence new (sym (kept_document exact.honest)) (sym keeps.undo) (sym keeps.redo)
+          sym (machine_is target old.document old.disk.updated old.disk.saved old.log (locks_in old.resident) old.frames old.disk.sequence new (sym (kept_document exact.honest)) (sym keeps.log)
           (sym (kept_passes.updated exact.honest)) (sym (kept_passes.saved exact.honest)) (sym (kept_locks old.resident new.resident kept_locked)) (sym kept_frames) (sym kept_passes.sequence))
 
   pub keeps_refl : (s : SessionState S) → KeepsSession facts s s
-  keeps_refl s = record { blocks = keeps-refl facts (blocks_of s); undo = refl; redo = refl }
+  keeps_refl s = record { blocks = keeps-refl facts (blocks_of s); log = refl }
 
--- The invariant stays with the records, in a document that drifts.
-pub drifted_listed : (honest : Bool) (a b : Document) (undo redo : List Change) → Drifts honest a b → AreListed Backwards a undo redo → AreListed Backwards b undo redo
-drifted_listed honest a b undo redo drifts are = are_listed_alike Backwards a b undo redo (drifted honest a b drifts) are
+-- The invariant stays with the log, in a document that drifts.
+pub drifted_listed : (honest : Bool) (a b : Document) (log : Log) → Drifts honest a b → AreListed Backwards a (to_undo log) (to_redo log) → AreListed Backwards b (to_undo log) (to_redo log)
+drifted_listed honest a b log drifts are = are_listed_alike Backwards a b (to_undo log) (to_redo log) (drifted honest a b drifts) are
+
+-- No document is marked where none was.
+pub none_marked : (honest : Bool) (old new : Option Document) → old ≡ None → MarkDrifts honest old new → new ≡ None
+none_marked honest None new none drifts = drifts
+none_marked honest (Some d) new none drifts = absurd (cc none)
+
+-- what a session keeps true of its blocks and its log
+abbrev pub Holds : {S : Type 0} → CacheState S → Log → Type 0
+Holds blocks log = AreListed Backwards blocks.document (to_undo log) (to_redo log) × (blocks.disk.marked ≡ None)
+
+-- A call that commits nothing keeps it.
+pub kept_invariant : {S : Type 0} (facts : S → StoreFacts) (old new : CacheState S) (log : Log) → Keeps facts old new → Holds old log → Holds new log
+kept_invariant facts old new log keeps holds = (
+  drifted_listed _ old.document new.document log (keeps-drifts facts old new keeps) holds.0,
+  none_marked _ old.disk.marked new.disk.marked holds.1 (keeps-passes facts old new keeps).marked,
+)

@@ -12,3 +12,4 @@ pub mod LookUps
 pub mod CommitSteps
 pub mod SavingAs
 pub mod Beginnings
+pub mod Groups

@@ -1,5 +1,5 @@
--- What is known of records by handles alone: it stays known along them, in either direction, over any store.
-use Rattle.std.proofs.Common.{◌≡◌, ◌≢◌, ℕ, Bool, true, false, List, [], ◌∷◌, map, get_or, Option, Some, None, is_some, inl, inr, refl, sym, ap, subst, ◌∙◌}
+-- What is known of changes by handles alone: it stays known along them, in either direction, over any store.
+use Rattle.std.proofs.Common.{◌≡◌, ◌≢◌, ◌⊎◌, ℕ, suc, Bool, true, false, List, [], ◌∷◌, ◌++◌, map, reverse, get_or, Option, Some, None, is_some, inl, inr, refl, sym, ap, subst, ◌∙◌, arith}
 use Rattle.std.specs.Option.{option_map_or}
 use Rattle.std.specs.List.{All}
 use Rattle.std.specs.FinMap.{get}
@@ -23,7 +23,11 @@ use Rattle.vm_blocks.specs.declared.change.PartChange.TheVariants as parts
 use Rattle.vm_blocks.proofs.ChangeLaws.{flip_twice}
 use Rattle.vm_blocks.proofs.ManyBlocks.{All-from_map, taken_gone, in_and_out, out_and_in}
 use Rattle.vm_blocks.proofs.Preparing.{live_there}
+use Rattle.undo_log.specs.Logging.{after_all, after_entry, all_changes, changes_in, turned_over}
 use Rattle.undo_log.specs.Records.{opposite, AreListed}
+use Rattle.undo_log.specs.declared.entry.LogEntry.{LogEntry}
+use Rattle.undo_log.specs.declared.entry.LogEntry.TheVariants as entries
+use Rattle.undo_log.proofs.Lists.{reverse_onto}
 
 -- Documents with the same handles and the same map block.
 pub record Alike (a b : Document) : Type 0 where
@@ -148,7 +152,15 @@ are_listed_alike direction a b from to same are = record {
 
 -- The same change the other way round, after a change.
 
-module _ (honest : Bool) (d : Document) (known : IsListed honest d) where
+-- handles that blocks can have, and a map block that is none or live
+pub record Known (d : Document) : Type 0 where
+  pub handles : (h : ℕ) → is_live d h ≡ true → is_vm_handle h ≡ true
+  pub map_block : (d.map_block ≡ 0) ⊎ (is_live d d.map_block ≡ true)
+
+pub listed_known : (honest : Bool) (d : Document) → IsListed honest d → Known d
+listed_known honest d listed = record { handles = listed.handles; map_block = listed.map_block }
+
+module _ (d : Document) (known : Known d) where
   free_not_map : (h : ℕ) → IsFree d h → d.map_block ≢ h
   free_not_map h free same = elim known.map_block as (λ _. ⊥) [
     | inl none ↦ let no : is_vm_handle 0 ≡ true = ap is_vm_handle (sym none ∙ same) ∙ free.handle in cc
@@ -223,17 +235,17 @@ back_alike (changes.Part h part) d live =
 back_alike (changes.Attributes h old new) d live = alike-trans d (with_attributes d h.0 new) _ (attributes_keeps d h.0 new) (attributes_keeps (with_attributes d h.0 new) h.0 old)
 back_alike (changes.Map old new) d has = record { live = λ _. refl; map_block = sym has.stands }
 
--- So it is of records: the newest of one list is made, and is the newest of the other.
+-- So it is of lists of changes: the newest of one is made, and is the newest of the other.
 
 other_way : (direction : Direction) (c : Change) → flipped (turned direction c) ≡ turned (opposite direction) c
 other_way Forwards c = refl
 other_way Backwards c = flip_twice c
 
-pub moved_listed : (honest : Bool) (direction : Direction) (d new : Document) (c : Change) (from to : List Change) → IsListed honest d → Alike (made (turned direction c) d) new
+moved_known : (direction : Direction) (d new : Document) (c : Change) (from to : List Change) → Known d → Alike (made (turned direction c) d) new
     → AreListed direction d (c ∷ from) to → AreListed direction new from (c ∷ to)
-moved_listed honest direction d new c from to known same are =
+moved_known direction d new c from to known same are =
     let t = turned direction c in
-    let back : Listed (flipped t) new = listed_alike (flipped t) (made t d) new same (back_listed honest d known t are.first.0) in
+    let back : Listed (flipped t) new = listed_alike (flipped t) (made t d) new same (back_listed d known t are.first.0) in
     let again : Alike d (made (flipped t) new) = alike-trans d (made (flipped t) (made t d)) (made (flipped t) new) (back_alike t d are.first.0) (made_alike (flipped t) (made t d) new same) in
     record {
       first = all_listed_alike (map (turned direction) from) (made t d) new same are.first.1;
@@ -244,7 +256,7 @@ moved_listed honest direction d new c from to known same are =
 -- an edit is made, and nothing is left to redo
 pub edited_listed : (honest : Bool) (d new : Document) (c : Change) (undo redo : List Change) → IsListed honest d → Alike (made c d) new → Listed c d → AreListed Backwards d undo redo → AreListed Backwards new (c ∷ undo) []
 edited_listed honest d new c undo redo known same listed are =
-    let moved : AreListed Forwards new [] (c ∷ undo) = moved_listed honest Forwards d new c [] undo known same (record { first = (listed, tt); second = are.first }) in
+    let moved : AreListed Forwards new [] (c ∷ undo) = moved_known Forwards d new c [] undo (listed_known honest d known) same (record { first = (listed, tt); second = are.first }) in
     record { first = moved.second; second = tt }
 
 pub swapped_listed : (d : Document) (undo redo : List Change) → AreListed Backwards d undo redo → AreListed Forwards d redo undo
@@ -256,3 +268,94 @@ swapped_back_listed d undo redo are = record { first = are.second; second = are.
 -- with nothing to undo or to redo
 pub none_listed : (d : Document) → AreListed Backwards d [] []
 none_listed d = record { first = tt; second = tt }
+
+-- What is known of handles stays known where a change is made.
+
+alike_known : (a b : Document) → Alike a b → Known a → Known b
+alike_known a b same known = record {
+  handles = λ h live. known.handles h (sym (same.live h) ∙ live);
+  map_block = elim known.map_block as (λ _. (b.map_block ≡ 0) ⊎ (is_live b b.map_block ≡ true)) [
+    | inl none ↦ inl (same.map_block ∙ none)
+    | inr live ↦ inr (same.live b.map_block ∙ ap (λ (h : ℕ). is_live a h) same.map_block ∙ live)
+  ];
+}
+
+put_known : (d : Document) (h : ℕ) (x : Block) → is_vm_handle h ≡ true → Known d → Known (with_block d h x)
+put_known d h x can known = record {
+  handles = λ k live. elim (cases_eq k h) [
+    | inl e ↦ ap is_vm_handle e ∙ can
+    | inr other ↦ known.handles k (sym (ap is_some (get-put_other d.blocks h x k other)) ∙ live)
+  ];
+  map_block = elim known.map_block as (λ _. (d.map_block ≡ 0) ⊎ (is_live (with_block d h x) d.map_block ≡ true)) [
+    | inl none ↦ inl none
+    | inr live ↦ inr (elim (cases_eq d.map_block h) [
+      | inl e ↦ ap is_some (get-put_same d.blocks h x d.map_block e)
+      | inr other ↦ ap is_some (get-put_other d.blocks h x d.map_block other) ∙ live
+    ])
+  ];
+}
+
+put_all_known : (ps : List (ℕ × Block)) (d : Document) → All (λ p. is_vm_handle p.0 ≡ true) ps → Known d → Known (with_blocks d ps)
+put_all_known [] d can known = known
+put_all_known (p ∷ ps) d can known = put_all_known ps (with_block d p.0 p.1) (λ i x within. can (suc i) x (omega arith)) (put_known d p.0 p.1 (can 0 p (omega arith)) known)
+
+taken_known : (d : Document) (h : ℕ) → d.map_block ≢ h → Known d → Known (without_block d h)
+taken_known d h other known = record {
+  handles = λ k live. elim (cases_eq k h) [
+    | inl e ↦ absurd (true≢false (sym live ∙ ap is_some (get-taken_same d.blocks h k e)))
+    | inr apart ↦ known.handles k (sym (ap is_some (get-taken_other d.blocks h k apart)) ∙ live)
+  ];
+  map_block = elim known.map_block as (λ _. (d.map_block ≡ 0) ⊎ (is_live (without_block d h) d.map_block ≡ true)) [
+    | inl none ↦ inl none
+    | inr live ↦ inr (ap is_some (get-taken_other d.blocks h d.map_block other) ∙ live)
+  ];
+}
+
+taken_all_known : (hs : List ℕ) (d : Document) → All (λ h. d.map_block ≢ h) hs → Known d → Known (without_blocks d hs)
+taken_all_known [] d others known = known
+taken_all_known (h ∷ hs) d others known = taken_all_known hs (without_block d h) (λ i x within. others (suc i) x (omega arith)) (taken_known d h (others 0 h (omega arith)) known)
+
+made_known : (c : Change) (d : Document) → Known d → Listed c d → Known (made c d)
+made_known (changes.BlocksIn ms) d known are =
+    let free : All (λ p. IsFree d p.0) (saved_blocks ms.list.items) = All-from_map (IsFree d) (λ p. p.0) (saved_blocks ms.list.items) are.free in
+    put_all_known (saved_blocks ms.list.items) d (λ i p within. (free i p within).handle) known
+made_known (changes.BlocksOut ms) d known can = taken_all_known (handles_of (saved_blocks ms.list.items)) d can.others known
+made_known (changes.Part h part) d known live = alike_known d (made (changes.Part h part) d) (part_keeps d h.0 part live) known
+made_known (changes.Attributes h old new) d known live = alike_known d (with_attributes d h.0 new) (attributes_keeps d h.0 new) known
+made_known (changes.Map old new) d known has = record {
+  handles = known.handles;
+  map_block = elim (cases_eq new.0 0) [
+    | inl none ↦ inl none
+    | inr some ↦ inr (has.live some)
+  ];
+}
+
+-- Changes one after another are the newest of one list, and then of the other.
+
+pub moved_all_listed : (direction : Direction) (d new : Document) (cs from to : List Change) → Known d → Alike (after_all direction cs d) new
+    → AreListed direction d (cs ++ from) to → AreListed direction new from (reverse cs ++ to)
+moved_all_listed direction d new [] from to known same are = are_listed_alike direction d new from to same are
+moved_all_listed direction d new (c ∷ cs) from to known same are =
+    let t = turned direction c in
+    let moved : AreListed direction (made t d) (cs ++ from) (c ∷ to) = moved_known direction d (made t d) c (cs ++ from) to known (alike-refl (made t d)) are in
+    subst (λ (to' : List Change). AreListed direction new from to') (sym (reverse_onto c cs to))
+    (moved_all_listed direction (made t d) new cs from (c ∷ to) (made_known t d known are.first.0) same moved)
+
+-- the first ones of a list are known
+pub listed_front : (direction : Direction) (cs others : List Change) (d : Document) → AllListed (map (turned direction) (cs ++ others)) d → AllListed (map (turned direction) cs) d
+listed_front direction [] others d listed = tt
+listed_front direction (c ∷ cs) others d listed = (listed.0, listed_front direction cs others (made (turned direction c) d) listed.1)
+
+pub listed_behind : (direction : Direction) (cs others : List Change) (d : Document) → AllListed (map (turned direction) (cs ++ others)) d → AllListed (map (turned direction) others) (after_all direction cs d)
+listed_behind direction [] others d listed = listed
+listed_behind direction (c ∷ cs) others d listed = listed_behind direction cs others (made (turned direction c) d) listed.1
+
+-- so it is of an entry
+pub entry_listed : (direction : Direction) (e : LogEntry) (others : List LogEntry) (d : Document) → AllListed (map (turned direction) (all_changes (e ∷ others))) d → AllListed (map (turned direction) (changes_in e)) d
+entry_listed direction (entries.One c) others d listed = (listed.0, tt)
+entry_listed direction (entries.Group cs) others d listed = listed_front direction cs (all_changes others) d listed
+
+pub moved_listed : (honest : Bool) (direction : Direction) (d new : Document) (e : LogEntry) (from to : List LogEntry) → IsListed honest d → Alike (after_entry direction e d) new
+    → AreListed direction d (all_changes (e ∷ from)) (all_changes to) → AreListed direction new (all_changes from) (all_changes (turned_over e ∷ to))
+moved_listed honest direction d new (entries.One c) from to known same are = moved_known direction d new c (all_changes from) (all_changes to) (listed_known honest d known) same are
+moved_listed honest direction d new (entries.Group cs) from to known same are = moved_all_listed direction d new cs (all_changes from) (all_changes to) (listed_known honest d known) same are

@@ -1,23 +1,23 @@
--- The lists of records after a step, and how many steps they are.
+-- Lists of a log after a step, and how many steps they are.
 use Rattle.std.proofs.Common.{◌≡◌, ℕ, suc, List, [], ◌∷◌, ◌++◌, length, reverse, refl, sym, ap, ◌∙◌}
-use Rattle.std.proofs.lemmas.List.{reverse-append, length-reverse}
+use Rattle.std.proofs.lemmas.List.{append_assoc, reverse-append}
 use Rattle.geos_model.specs.Document.{Document}
-use Rattle.vm_blocks.specs.Changes.{after}
-use Rattle.vm_blocks.specs.declared.change.Change.{Change}
 use Rattle.vm_blocks.specs.declared.change.Direction.{Direction}
-use Rattle.undo_log.specs.Records.{steps}
+use Rattle.undo_log.specs.Logging.{after_entry, steps}
+use Rattle.undo_log.specs.declared.entry.LogEntry.{LogEntry}
 
--- the last change of a list is the newest
-pub newest_first : (from from' : List Change) (c : Change) → from ≡ from' ++ c ∷ [] → reverse from ≡ c ∷ reverse from'
-newest_first from from' c is = ap reverse is ∙ reverse-append from' (c ∷ [])
+-- the last one of a list is the newest
+pub newest_first : {A : Type 0} (from from' : List A) (e : A) → from ≡ from' ++ e ∷ [] → reverse from ≡ e ∷ reverse from'
+newest_first from from' e is = ap reverse is ∙ reverse-append from' (e ∷ [])
 
-length-steps : (direction : Direction) (cs : List Change) (d : Document) → length (steps direction cs d) ≡ length cs
+-- one pushed on a list is its newest
+pub pushed_first : {A : Type 0} (old new : List A) (e : A) → new ≡ old ++ e ∷ [] → reverse new ≡ e ∷ reverse old
+pushed_first old new e is = newest_first new old e is
+
+-- the first of a list goes before the others of another
+pub reverse_onto : {A : Type 0} (e : A) (es to : List A) → reverse (e ∷ es) ++ to ≡ reverse es ++ (e ∷ to)
+reverse_onto e es to = ap (λ (xs : List _). xs ++ to) (reverse-append (e ∷ []) es) ∙ append_assoc (reverse es) (e ∷ []) to
+
+pub length-steps : (direction : Direction) (es : List LogEntry) (d : Document) → length (steps direction es d) ≡ length es
 length-steps direction [] d = refl
-length-steps direction (c ∷ cs) d = ap suc (length-steps direction cs (after direction c d))
-
-pub length-newest : (direction : Direction) (cs : List Change) (d : Document) (n : ℕ) → n ≡ length cs → n ≡ length (steps direction (reverse cs) d)
-length-newest direction cs d n e = e ∙ sym (length-reverse cs) ∙ sym (length-steps direction (reverse cs) d)
-
--- a change pushed on a list is its newest
-pub pushed_first : (old reserved new : List Change) (c : Change) → reserved ≡ old → new ≡ reserved ++ c ∷ [] → reverse new ≡ c ∷ reverse old
-pushed_first old reserved new c same is = newest_first new old c (is ∙ ap (λ (cs : List Change). cs ++ c ∷ []) same)
+length-steps direction (e ∷ es) d = ap suc (length-steps direction es (after_entry direction e d))

@@ -24,8 +24,9 @@ use Rattle.block_cache.proofs.Seats.{fewer_locked, locked_there}
 use Rattle.vm_blocks.specs.Keeping.{Keeps, Lacks, is_shut_out}
 use Rattle.vm_blocks.specs.Locking.{CantLock, GainsLock, HasNoLock, LosesLock}
 use Rattle.vm_blocks.proofs.KeepingLaws.{keeps-drifts, shut-unlocked}
+use Rattle.undo_log.specs.Logging.{Log}
 use Rattle.undo_log.specs.Records.{SessionState, blocks_of, has_failed, locks_in, machine_of, IsStep, KeepsSession}
-use Rattle.undo_log.proofs.Keeping.{gives_up, kept_exact, kept_machine, machine_is, same_exact}
+use Rattle.undo_log.proofs.Keeping.{Holds, drifted_listed, gives_up, kept_exact, kept_invariant, kept_machine, machine_is, none_marked, same_exact}
 use Rattle.undo_log.proofs.Locks.{as_locked, is_locked-is, is_shut_out-is, lock_count-is, same_locks, get-locks, len-locks}
 
 -- A block is locked once more.
@@ -62,14 +63,14 @@ module _ {S : Type 0} (facts : S → StoreFacts) (old new : SessionState S) (b :
         get-put_other (locks_in old.resident) b.0 (lock_count (machine_of target old) b.0 + 1) h other ∙ get-locks old.resident h ∙ sym (ap as_locked (gains.others h other))
   ])
 
-  module _ (undo : new.undo ≡ old.undo) (redo : new.redo ≡ old.redo) where
+  module _ (log : new.log ≡ old.log) where
     locked_step : ((fault : Fault) → CantLock (blocks_of old) b.0 fault → ⊥) → GainsLock facts b.0 (blocks_of old) (blocks_of new) → IsStep facts old new (commands.Lock b) Accepted
     locked_step none gains = λ exact.
         let so = exact.honest in
         let passes = gains.stays.file.passes in
         let document : new.document ≡ old.document = gains.stays.file.document.same so in
         let can = can_lock old b.0 none in (
-          same_exact facts old new passes.honest document undo redo exact,
+          same_exact facts old new passes.honest document log exact,
           λ target.
               let few : (lock_count (machine_of target old) b.0 == most_locks) ≡ false = ap (λ n. n == most_locks) (lock_count-is old target b.0) ∙ can.few in
               let place : machine.is_shut_out (machine_of target old) b.0 ≡ false = is_shut_out-is old distinct target b.0 ∙ can.place in
@@ -77,8 +78,8 @@ module _ {S : Type 0} (facts : S → StoreFacts) (old new : SessionState S) (b :
                 few,
                 place,
                 can.live,
-                ← machine_is target old.document old.disk.updated old.disk.saved old.undo old.redo (insert (locks_in old.resident) b.0 (lock_count (machine_of target old) b.0 + 1)) old.frames old.disk.sequence new
-                    (sym document) (sym undo) (sym redo) (sym (passes.updated so)) (sym (passes.saved so)) (locks_more target gains) (sym gains.stays.frames) (sym passes.sequence),
+                ← machine_is target old.document old.disk.updated old.disk.saved old.log (insert (locks_in old.resident) b.0 (lock_count (machine_of target old) b.0 + 1)) old.frames old.disk.sequence new
+                    (sym document) (sym log) (sym (passes.updated so)) (sym (passes.saved so)) (locks_more target gains) (sym gains.stays.frames) (sym passes.sequence),
               ) refl),
         )
 
@@ -98,10 +99,10 @@ module _ {S : Type 0} (facts : S → StoreFacts) (old new : SessionState S) (b :
 
   pub lock_is : (result : Result (Unit {0}) Fault) → OnOk result (GainsLock facts b.0 (blocks_of old) (blocks_of new)) → OnErr result (KeepsSession facts old new)
       → IfErr result (λ fault. Lacks facts old.disk.store new.disk.store fault ⊎ CantLock (blocks_of old) b.0 fault)
-      → ((fault : Fault) → CantLock (blocks_of old) b.0 fault → result ≡ Err fault) → new.undo ≡ old.undo → new.redo ≡ old.redo
+      → ((fault : Fault) → CantLock (blocks_of old) b.0 fault → result ≡ Err fault) → new.log ≡ old.log
       → IsStep facts old new (commands.Lock b) (reply_by (λ _. Accepted) result)
-  lock_is (Ok x) gains keeps refusals early undo redo = locked_step undo redo (λ fault cant. let wrong : Ok tt ≡ Err fault = early fault cant in absurd (cc wrong)) gains
-  lock_is (Err fault) gains keeps refusals early undo redo = λ exact. (
+  lock_is (Ok x) gains keeps refusals early log = locked_step log (λ fault cant. let wrong : Ok tt ≡ Err fault = early fault cant in absurd (cc wrong)) gains
+  lock_is (Err fault) gains keeps refusals early log = λ exact. (
     kept_exact facts old new keeps exact,
     λ target.
         let same = kept_machine facts old new keeps target exact in
@@ -111,11 +112,12 @@ module _ {S : Type 0} (facts : S → StoreFacts) (old new : SessionState S) (b :
         ],
   )
 
--- the document stays, as far as the store gives back what it has
-pub lock_drifts : {S : Type 0} (facts : S → StoreFacts) (old new : CacheState S) (b : ℕ) (result : Result (Unit {0}) Fault) → OnOk result (GainsLock facts b old new) → OnErr result (Keeps facts old new)
-    → Drifts (facts old.disk.store).honest old.document new.document
-lock_drifts facts old new b (Ok x) gains keeps = gains.stays.file.document
-lock_drifts facts old new b (Err fault) gains keeps = keeps-drifts facts old new keeps
+-- What is known of the log stays, and no document is marked where none was.
+pub lock_invariant : {S : Type 0} (facts : S → StoreFacts) (old new : CacheState S) (log : Log) (b : ℕ) (result : Result (Unit {0}) Fault) → OnOk result (GainsLock facts b old new) → OnErr result (Keeps facts old new)
+    → Holds old log → Holds new log
+lock_invariant facts old new log b (Ok x) gains keeps holds =
+    (drifted_listed _ old.document new.document log gains.stays.file.document holds.0, none_marked _ old.disk.marked new.disk.marked holds.1 gains.stays.file.passes.marked)
+lock_invariant facts old new log b (Err fault) gains keeps holds = kept_invariant facts old new log keeps holds
 
 -- A lock is taken away, and asked for.
 module _ {S : Type 0} (s : SessionState S) (b : VmHandle) where
@@ -185,21 +187,21 @@ module _ {S : Type 0} (old new : SessionState S) (b : VmHandle) where
       ]
 
   pub unlock_is : (result : Result (Unit {0}) Fault) → OnOk result (LosesLock b.0 (blocks_of old) (blocks_of new)) → OnErr result (new ≡ old) → IfErr result (HasNoLock (blocks_of old) b.0)
-      → ((fault : Fault) → HasNoLock (blocks_of old) b.0 fault → result ≡ Err fault) → new.undo ≡ old.undo → new.redo ≡ old.redo
+      → ((fault : Fault) → HasNoLock (blocks_of old) b.0 fault → result ≡ Err fault) → new.log ≡ old.log
       → (target : Bool) → Step false (machine_of target old) (Some (commands.Unlock b)) (reply_by (λ _. Accepted) result) (machine_of target new)
-  unlock_is (Ok x) loses same refusals early undo redo target =
+  unlock_is (Ok x) loses same refusals early log target =
       let has = has_lock old b loses.was (λ fault none. let wrong : Ok tt ≡ Err fault = early fault none in absurd (cc wrong)) in
       let m = machine_of target old in let is = loses.is in
       inl (rw (
         has.live,
         has.locked target,
-        ← machine_is target old.document old.disk.updated old.disk.saved old.undo old.redo
+        ← machine_is target old.document old.disk.updated old.disk.saved old.log
             (if nat_le (lock_count m b.0) 1 then remove (locks_in old.resident) b.0 else insert (locks_in old.resident) b.0 (lock_count m b.0 - 1)) old.frames old.disk.sequence new
-            (sym (ap (λ (s : CacheState S). s.document) is)) (sym undo) (sym redo)
+            (sym (ap (λ (s : CacheState S). s.document) is)) (sym log)
             (sym (ap (λ (s : CacheState S). s.disk.updated) is)) (sym (ap (λ (s : CacheState S). s.disk.saved) is)) (locks_less loses (lock_count m b.0) (lock_count-is old target b.0))
             (sym (ap (λ (s : CacheState S). s.frames) is)) (sym (ap (λ (s : CacheState S). s.disk.sequence) is)),
       ) refl)
-  unlock_is (Err fault) loses same refusals early undo redo target = inl (rw same (unlocked_next old b fault target refusals).0)
+  unlock_is (Err fault) loses same refusals early log target = inl (rw same (unlocked_next old b fault target refusals).0)
 
 -- a raw body has no chunks
 no_chunks : (body : Body) → is_heap_body body ≡ false → (c : ℕ) → get (chunks_of_body body) c ≡ None

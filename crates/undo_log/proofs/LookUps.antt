@@ -13,10 +13,10 @@ use Rattle.geos_model.specs.Document.{Document}
 use Rattle.vm_store.specs.Facts.{StoreFacts}
 use Rattle.block_cache.specs.State.{CacheState}
 use Rattle.vm_blocks.specs.Keeping.{Keeps, Lacks, IsSteady, is_full}
-use Rattle.vm_blocks.specs.declared.change.Change.{Change}
 use Rattle.vm_blocks.proofs.KeepingLaws.{honest-steady}
 use Rattle.doc_edits.specs.LookUps.{LooksUp, Sees}
 use Rattle.doc_edits.specs.Room.{has_no_room}
+use Rattle.undo_log.specs.Logging.{Log}
 use Rattle.undo_log.specs.Records.{SessionState, blocks_of, machine_of, has_failed, IsStep, KeepsSession, Looks}
 use Rattle.undo_log.proofs.Keeping.{gives_up, kept_exact, kept_machine, kept_document}
 use Rattle.undo_log.proofs.Locks.{has_no_room-is}
@@ -38,8 +38,8 @@ pub record IsLookUp (c : Command) : Type 0 where
   pub answers : (m : Machine) → done_by c m ≡ reply_if m (look_up c m.document)
 
 -- a session of these blocks
-abbrev pub session_with : {S : Type 0} → CacheState S → List Change → List Change → SessionState S
-session_with blocks undo redo = record { disk = blocks.disk; document = blocks.document; resident = blocks.resident; frames = blocks.frames; undo = undo; redo = redo }
+abbrev pub session_with : {S : Type 0} → CacheState S → Log → SessionState S
+session_with blocks log = record { disk = blocks.disk; document = blocks.document; resident = blocks.resident; frames = blocks.frames; log = log }
 
 module _ {S : Type 0} (facts : S → StoreFacts) (old new : SessionState S) (keeps : KeepsSession facts old new) (distinct : all_distinct (map (λ s. s.0) old.resident) ≡ true) where
   -- What is answered of the document, the machine answers.
@@ -65,25 +65,25 @@ module _ {S : Type 0} (facts : S → StoreFacts) (old new : SessionState S) (kee
   chain_step c reply is value = look_up_step c reply is (λ so. value (honest-steady facts old.disk.store so))
 
 -- So it is of a session that is seen to be one of these blocks.
-module _ {S : Type 0} (facts : S → StoreFacts) (old new : CacheState S) (undo redo : List Change) (keeps : Keeps facts old new) (s : SessionState S) (is : session_with old undo redo ≡ s) where
-  pub kept_session : KeepsSession facts s (session_with new undo redo)
-  kept_session = subst (λ (x : SessionState S). KeepsSession facts x (session_with new undo redo)) is (record { blocks = keeps; undo = refl; redo = refl })
+module _ {S : Type 0} (facts : S → StoreFacts) (old new : CacheState S) (log : Log) (keeps : Keeps facts old new) (s : SessionState S) (is : session_with old log ≡ s) where
+  pub kept_session : KeepsSession facts s (session_with new log)
+  kept_session = subst (λ (x : SessionState S). KeepsSession facts x (session_with new log)) is (record { blocks = keeps; log = refl })
 
   module _ (distinct : all_distinct (map (λ s. s.0) old.resident) ≡ true) (c : Command) (reply : Reply) (asks : IsLookUp c) where
-    pub looked_at : Sees facts old new c reply → Looks facts s (session_with new undo redo) c reply
+    pub looked_at : Sees facts old new c reply → Looks facts s (session_with new log) c reply
     looked_at sees =
-        subst (λ (x : SessionState S). Looks facts x (session_with new undo redo) c reply) is (looked facts (session_with old undo redo) (session_with new undo redo) (record { blocks = keeps; undo = refl; redo = refl }) distinct c reply asks sees)
+        subst (λ (x : SessionState S). Looks facts x (session_with new log) c reply) is (looked facts (session_with old log) (session_with new log) (record { blocks = keeps; log = refl }) distinct c reply asks sees)
 
-    pub chain_stepped : (IsSteady facts old.disk.store → LooksUp (Lacks facts old.disk.store new.disk.store) (has_no_room old (look_up_needs c)) c new.document reply) → IsStep facts s (session_with new undo redo) c reply
+    pub chain_stepped : (IsSteady facts old.disk.store → LooksUp (Lacks facts old.disk.store new.disk.store) (has_no_room old (look_up_needs c)) c new.document reply) → IsStep facts s (session_with new log) c reply
     chain_stepped value =
-        subst (λ (x : SessionState S). IsStep facts x (session_with new undo redo) c reply) is (chain_step facts (session_with old undo redo) (session_with new undo redo) (record { blocks = keeps; undo = refl; redo = refl }) distinct c reply asks value)
+        subst (λ (x : SessionState S). IsStep facts x (session_with new log) c reply) is (chain_step facts (session_with old log) (session_with new log) (record { blocks = keeps; log = refl }) distinct c reply asks value)
 
 -- sessions of the same parts are the same
-pub same_session : {S : Type 0} (old new : CacheState S) (undo redo undo' redo' : List Change) → new ≡ old → undo' ≡ undo → redo' ≡ redo → session_with new undo' redo' ≡ session_with old undo redo
-same_session old new undo redo undo' redo' p q r = λ i. session_with (p i) (q i) (r i)
+pub same_session : {S : Type 0} (old new : CacheState S) (log log' : Log) → new ≡ old → log' ≡ log → session_with new log' ≡ session_with old log
+same_session old new log log' p q = λ i. session_with (p i) (q i)
 
 -- A chain isn't followed where each frame has a locked block.
-pub chain_shut : {S : Type 0} (old new : CacheState S) (undo redo : List Change) (s : SessionState S) (is : session_with old undo redo ≡ s) (P : Document → Type 0)
-    → (is_full old ≡ true → (new ≡ old) × P old.document) → is_full (blocks_of s) ≡ true → (session_with new undo redo ≡ s) × P s.document
-chain_shut old new undo redo s is P shut = subst (λ x. is_full (blocks_of x) ≡ true → (session_with new undo redo ≡ x) × P x.document) is
-    (λ full. let kept = shut full in (same_session old new undo redo undo redo kept.0 refl refl, kept.1))
+pub chain_shut : {S : Type 0} (old new : CacheState S) (log : Log) (s : SessionState S) (is : session_with old log ≡ s) (P : Document → Type 0)
+    → (is_full old ≡ true → (new ≡ old) × P old.document) → is_full (blocks_of s) ≡ true → (session_with new log ≡ s) × P s.document
+chain_shut old new log s is P shut = subst (λ x. is_full (blocks_of x) ≡ true → (session_with new log ≡ x) × P x.document) is
+    (λ full. let kept = shut full in (same_session old new log log kept.0 refl, kept.1))

@@ -1,34 +1,39 @@
--- What a step from one list of records to the other leaves, and when it is sure to be taken.
-use Rattle.std.proofs.Common.{◌≡◌, ◌⊎◌, ℕ, Bool, true, false, cond, IsTrue, List, [], ◌∷◌, ◌++◌, reverse, Some, inl, inr, refl, sym, ap, subst, ◌∙◌}
+-- What a step from one list of the log to the other leaves, and taking back the group that is open; and when either is sure or refused.
+use Rattle.std.proofs.Common.{◌≡◌, ◌≢◌, ◌⊎◌, ℕ, Bool, true, false, not, IsTrue, List, [], ◌∷◌, ◌++◌, ◌==◌, length, map, reverse, Option, Some, None, is_some, inl, inr, refl, sym, ap, subst, ◌∙◌, arith}
+use Rattle.std.specs.Prelude.{if◌then◌else◌, Result, Ok, Err, IsOk, IfErr}
+use Rattle.std.specs.Option.{option_map}
 use Rattle.std.proofs.lemmas.Bool.{true≢false}
+use Rattle.std.proofs.lemmas.List.{length-reverse}
 use Rattle.geos_model.specs.Document.{Document}
-use Rattle.geos_model.specs.Machine.{newest_takes, undo_takes, redo_takes}
+use Rattle.geos_model.specs.Machine as machine
+use Rattle.geos_model.specs.Machine.{Machine, Step, newest_takes, undo_takes, redo_takes, has_edits}
+use Rattle.geos_model.specs.Refusal.{first_refusal}
 use Rattle.geos_model.specs.Reply.{Accepted, Refused}
 use Rattle.geos_model.specs.declared.command.Command.TheVariants as commands
 use Rattle.geos_model.specs.declared.command.Kind.{Kind}
 use Rattle.geos_model.specs.declared.fault.Fault.{Fault}
-use Rattle.geos_model.specs.declared.fault.Fault.TheVariants.{Damaged, NothingToUndo, NothingToRedo}
+use Rattle.geos_model.specs.declared.fault.Fault.TheVariants.{Damaged, GroupOpen, Locked, NoGroup, NothingToUndo, NothingToRedo}
 use Rattle.vm_store.specs.Facts.{StoreFacts}
-use Rattle.vm_file.specs.Disk.{IsListed, Passes}
-use Rattle.vm_file.proofs.Passing.{Passes-refl}
-use Rattle.block_cache.specs.State.{CacheState, Seat, locks_of}
+use Rattle.vm_file.specs.Disk.{Drifts, IsListed, Passes}
+use Rattle.block_cache.specs.State.{CacheState, KeepsLocks, Seat, locks_of}
 use Rattle.vm_blocks.specs.Changes.{made, turned, after, blocks_in, Applies}
 use Rattle.vm_blocks.specs.Keeping.{Keeps, Lacks, is_full}
-use Rattle.vm_blocks.specs.Preparing.{AreUnlocked, BodyTakes, IsAtHand, IsOutOfReach, IsUnready, Listed, Makes}
+use Rattle.vm_blocks.specs.Preparing.{AllListed, AllTake, AreUnlocked, AreUnready, BodyTakes, IsAtHand, IsOutOfReach, IsUnready, Listed, Makes, MakesAll}
 use Rattle.vm_blocks.specs.declared.change.Change.{Change}
 use Rattle.vm_blocks.specs.declared.change.Change.TheVariants as changes
 use Rattle.vm_blocks.specs.declared.change.Direction.{Direction}
 use Rattle.vm_blocks.specs.declared.change.Direction.TheVariants.{Forwards, Backwards}
-use Rattle.vm_blocks.proofs.KeepingLaws.{honest-steady, keeps-drifts, open-shut}
+use Rattle.vm_blocks.proofs.KeepingLaws.{honest-steady, open-shut}
 use Rattle.vm_blocks.proofs.Preparing.{applies_takes}
 use Rattle.doc_edits.specs.Planning.{kind_of_change}
-use Rattle.undo_log.specs.Records.{SessionState, blocks_of, has_locks, machine_of, steps, CanTake, AreListed, AreSteps, IsExact, IsStep, KeepsSession}
-use Rattle.undo_log.specs.Turning.{Moves, Stays, Turns, CanTurn, CantMake, CantTurn, IsRefusedUnlocked, IsSure, IsSureKind}
-use Rattle.undo_log.proofs.Answers.{undo_moved, redo_moved}
-use Rattle.undo_log.proofs.Keeping.{answers_on, gives_up, keeps_refl, kept_exact, kept_machine, machine_with, passed_machine}
-use Rattle.undo_log.proofs.Listing.{drifted, are_listed_alike, moved_listed}
-use Rattle.undo_log.proofs.Lists.{newest_first}
-use Rattle.undo_log.proofs.Steps.{moved_steps, swapped, swapped_back}
+use Rattle.undo_log.specs.Logging.{AreExclusive, IsFirst, Log, after_all, after_entry, all_changes, before, changes_in, group_of, kind_of_entry, open_changes, redone, steps, to_redo, to_undo, turned_over, undone}
+use Rattle.undo_log.specs.Records.{SessionState, blocks_of, has_locks, machine_of, has_failed, CanTake, AreListed, AreSteps, IsExact, IsStep, KeepsSession}
+use Rattle.undo_log.specs.Turning.{Abandons, MakesEntry, Moves, CanMakeEntry, CantMake, CantMakeEntry, IsNotTaken, IsRefusedTurn, IsSure, IsSureKind, abandon_fault, newest_made, rest_fault}
+use Rattle.undo_log.specs.declared.entry.LogEntry.{LogEntry}
+use Rattle.undo_log.specs.declared.entry.LogEntry.TheVariants as entries
+use Rattle.undo_log.proofs.Answers.{abandon_moved, redo_moved, some_steps, undo_moved}
+use Rattle.undo_log.proofs.Keeping.{answers_on, gives_up, kept_exact, kept_machine, machine_with, passed_machine}
+use Rattle.undo_log.proofs.Steps.{all_back, can_split, goes_back, moved_entry, swapped, swapped_back}
 
 -- whether carrying a step of this kind out may take memory
 abbrev turn_takes : Direction → Kind → Bool
@@ -51,21 +56,59 @@ none_locked (changes.Part b part) ss none = tt
 none_locked (changes.Attributes b old new) ss none = tt
 none_locked (changes.Map old new) ss none = tt
 
+-- Changes that can be taken one after another are taken by the bodies.
+all_take : (direction : Direction) (cs : List Change) (d : Document) → CanTake direction cs d → AllTake (map (turned direction) cs) d
+all_take direction [] d can = tt
+all_take direction (c ∷ cs) d can = (applies_takes (turned direction c) d can.0, all_take direction cs (made (turned direction c) d) can.1)
+
+-- What is refused before all else of a session is so of its machine.
+
+pub group_open : {A B : Type 0} (f : A → B) (o : Option A) → is_some (option_map f o) ≡ is_some o
+group_open f None = refl
+group_open f (Some x) = refl
+
+-- where nothing is, no group is open and no block is locked
+pub at_rest : {S : Type 0} (s : SessionState S) → rest_fault s ≡ None → (is_some s.log.group ≡ false) × (has_locks s ≡ false)
+at_rest s free = by_parts (is_some s.log.group) (has_locks s) free
+  where
+    by_parts : (is_open locked : Bool) → (if is_open then Some GroupOpen else if locked then Some Locked else None) ≡ None → (is_open ≡ false) × (locked ≡ false)
+    by_parts true locked is = absurd (cc is)
+    by_parts false true is = absurd (cc is)
+    by_parts false false is = (refl, refl)
+
+-- a list with a first entry isn't empty
+pub some_newest : (e : LogEntry) (from : List LogEntry) → IsFirst e from → from ≢ []
+some_newest e from first none = let no : e ∷ first.others ≡ [] = sym first.are ∙ none in absurd (cc no)
+
+pub none_open : {S : Type 0} (s : SessionState S) → rest_fault s ≡ None → s.log.group ≡ None
+none_open s free = by_group s.log.group (at_rest s free).0
+  where
+    by_group : (o : Option (List Change)) → is_some o ≡ false → o ≡ None
+    by_group None is = refl
+    by_group (Some cs) is = absurd (cc is)
+
+-- A group that couldn't be taken back has changes.
+pub some_changes : (cs items : List Change) → reverse items ≡ cs → (result : Result (Unit {0}) Fault) (fault : Fault) → result ≡ Err fault → (P : Type 0) → (items ≡ [] → IsOk result × P) → cs ≢ []
+some_changes cs [] is result fault was P none empty = not_both result was (none refl).0
+  where
+    not_both : (r : Result (Unit {0}) Fault) → r ≡ Err fault → IsOk r → ⊥
+    not_both (Ok x) is accepted = cc is
+    not_both (Err f) is accepted = cc accepted
+some_changes cs (x ∷ xs) is result fault was P none empty = reversed x xs (is ∙ empty)
+  where
+    reversed : (x : Change) (xs : List Change) → reverse (x ∷ xs) ≡ [] → ⊥
+    reversed x xs same = let long : length (reverse (x ∷ xs)) ≡ 0 = ap length same in let as_long = length-reverse (x ∷ xs) in absurd (omega (arith, long, as_long))
+
+-- where nothing keeps a group from being abandoned, one is open and no block is locked
+pub abandon_free : {S : Type 0} (s : SessionState S) → abandon_fault s ≡ None → (s.log.group ≡ Some (open_changes s.log.group)) × (has_locks s ≡ false)
+abandon_free s free = by_parts s.log.group (has_locks s) free
+  where
+    by_parts : (group : Option (List Change)) (locked : Bool) → (if is_some group then (if locked then Some Locked else None) else Some NoGroup) ≡ None → (group ≡ Some (open_changes group)) × (locked ≡ false)
+    by_parts None locked is = absurd (cc is)
+    by_parts (Some cs) true is = absurd (cc is)
+    by_parts (Some cs) false is = (refl, refl)
+
 module _ {S : Type 0} (facts : S → StoreFacts) where
-  -- The lists as they are kept, the newest last.
-  pub moves : (direction : Direction) (old new : CacheState S) (from to from' to' : List Change) (c : Change) → from ≡ from' ++ c ∷ [] → to' ≡ to ++ c ∷ [] → Makes facts (turned direction c) old new
-      → Moves facts direction old new (reverse from) (reverse to) (reverse from') (reverse to')
-  moves direction old new from to from' to' c from_was to_is makes = record {
-    change = c;
-    makes = makes;
-    from_was = newest_first from from' c from_was;
-    to_is = newest_first to' to c to_is;
-  }
-
-  pub cant : (direction : Direction) (old new : CacheState S) (from from' : List Change) (c : Change) (fault : Fault) → from ≡ from' ++ c ∷ [] → CantMake facts (turned direction c) old new fault
-      → CantTurn facts direction (reverse from) old new fault
-  cant direction old new from from' c fault was unready = subst (λ (cs : List Change). CantTurn facts direction cs old new fault) (sym (newest_first from from' c was)) unready
-
   pub unready_cant : (c : Change) (old new : CacheState S) (fault : Fault) → is_full old ≡ false → IsUnready facts c old new fault → CantMake facts c old new fault
   unready_cant c old new fault room unready = elim unready as (λ _. CantMake facts c old new fault) [
     | inl lacks ↦ inl lacks
@@ -73,182 +116,312 @@ module _ {S : Type 0} (facts : S → StoreFacts) where
     | inr (inr out) ↦ absurd (within c old room out.1)
   ]
 
-  pub can_newest : (direction : Direction) (state : CacheState S) (from from' : List Change) (c : Change) → from ≡ from' ++ c ∷ [] → CanTurn direction (reverse from) state
-      → (blocks_in (turned direction c) ≡ []) × IsAtHand (turned direction c) state × BodyTakes (turned direction c) state.document
-  can_newest direction state from from' c was can = subst (λ (cs : List Change). CanTurn direction cs state) (newest_first from from' c was) can
+  pub unready_refuses : (c : Change) (old new : CacheState S) (result : Result (Unit {0}) Fault) → is_full old ≡ false → IfErr result (IsUnready facts c old new) → IfErr result (CantMake facts c old new)
+  unready_refuses c old new (Ok x) room refused = tt
+  unready_refuses c old new (Err fault) room refused = unready_cant c old new fault room refused
 
-  pub newest_listed : (direction : Direction) (d : Document) (from from' to : List Change) (c : Change) → from ≡ from' ++ c ∷ [] → AreListed direction d (reverse from) (reverse to) → Listed (turned direction c) d
-  newest_listed direction d from from' to c was are = (subst (λ (cs : List Change). AreListed direction d cs (reverse to)) (newest_first from from' c was) are).first.0
+  -- What an entry makes passes, and drifts from what it means.
+  pub entry_passes : (direction : Direction) (e : LogEntry) (old new : CacheState S) → MakesEntry facts direction e old new → Passes facts old.disk new.disk
+  entry_passes direction (entries.One c) old new makes = makes.passes
+  entry_passes direction (entries.Group cs) old new makes = makes.passes
 
-  pub turned_listed : (direction : Direction) (old new : CacheState S) (from to from' to' : List Change) (c : Change) → from ≡ from' ++ c ∷ [] → to' ≡ to ++ c ∷ [] → IsListed (facts old.disk.store).honest old.document
-      → Makes facts (turned direction c) old new → AreListed direction old.document (reverse from) (reverse to) → AreListed direction new.document (reverse from') (reverse to')
-  turned_listed direction old new from to from' to' c from_was to_is known makes are =
-      subst (λ (cs : List Change). AreListed direction new.document (reverse from') cs) (sym (newest_first to' to c to_is))
-      (moved_listed (facts old.disk.store).honest direction old.document new.document c (reverse from') (reverse to) known (drifted (facts old.disk.store).honest (made (turned direction c) old.document) new.document makes.document)
-      (subst (λ (cs : List Change). AreListed direction old.document cs (reverse to)) (newest_first from from' c from_was) are))
+  pub entry_document : (direction : Direction) (e : LogEntry) (old new : CacheState S) → MakesEntry facts direction e old new → Drifts (facts old.disk.store).honest (after_entry direction e old.document) new.document
+  entry_document direction (entries.One c) old new makes = makes.document
+  entry_document direction (entries.Group cs) old new makes = makes.document
 
-  pub kept_listed : (direction : Direction) (old new : CacheState S) (from to from' : List Change) → Keeps facts old new → from' ≡ from → AreListed direction old.document (reverse from) (reverse to) → AreListed direction new.document (reverse from') (reverse to)
-  kept_listed direction old new from to from' keeps same are =
-      subst (λ (cs : List Change). AreListed direction new.document (reverse cs) (reverse to)) (sym same)
-      (are_listed_alike direction old.document new.document (reverse from) (reverse to) (drifted (facts old.disk.store).honest old.document new.document (keeps-drifts facts old new keeps)) are)
+  entry_frames : (direction : Direction) (e : LogEntry) (old new : CacheState S) → MakesEntry facts direction e old new → new.frames ≡ old.frames
+  entry_frames direction (entries.One c) old new makes = makes.frames
+  entry_frames direction (entries.Group cs) old new makes = makes.frames
+
+  entry_locks : (direction : Direction) (e : LogEntry) (old new : CacheState S) → MakesEntry facts direction e old new → KeepsLocks old.resident new.resident
+  entry_locks direction (entries.One c) old new makes = makes.locks
+  entry_locks direction (entries.Group cs) old new makes = makes.locks
 
   -- What isn't sure may take memory.
-  may_take : (direction : Direction) (c : Change) (cs : List Change) (state : CacheState S) → (CanTurn direction (c ∷ cs) state → ⊥) → turn_takes direction (kind_of_change c) ≡ true
-  may_take Forwards (changes.BlocksIn ms) cs state unsure = refl
-  may_take Forwards (changes.BlocksOut ms) cs state unsure = absurd (unsure (refl, tt, tt))
-  may_take Forwards (changes.Part b part) cs state unsure = refl
-  may_take Forwards (changes.Attributes b old new) cs state unsure = absurd (unsure (refl, tt, tt))
-  may_take Forwards (changes.Map old new) cs state unsure = absurd (unsure (refl, tt, tt))
-  may_take Backwards (changes.BlocksIn ms) cs state unsure = absurd (unsure (refl, tt, tt))
-  may_take Backwards (changes.BlocksOut ms) cs state unsure = refl
-  may_take Backwards (changes.Part b part) cs state unsure = refl
-  may_take Backwards (changes.Attributes b old new) cs state unsure = absurd (unsure (refl, tt, tt))
-  may_take Backwards (changes.Map old new) cs state unsure = absurd (unsure (refl, tt, tt))
+  one_may_take : (direction : Direction) (c : Change) (state : CacheState S) → (CanMakeEntry direction (entries.One c) state → ⊥) → turn_takes direction (kind_of_change c) ≡ true
+  one_may_take Forwards (changes.BlocksIn ms) state unsure = refl
+  one_may_take Forwards (changes.BlocksOut ms) state unsure = absurd (unsure (refl, tt, tt))
+  one_may_take Forwards (changes.Part b part) state unsure = refl
+  one_may_take Forwards (changes.Attributes b old new) state unsure = absurd (unsure (refl, tt, tt))
+  one_may_take Forwards (changes.Map old new) state unsure = absurd (unsure (refl, tt, tt))
+  one_may_take Backwards (changes.BlocksIn ms) state unsure = absurd (unsure (refl, tt, tt))
+  one_may_take Backwards (changes.BlocksOut ms) state unsure = refl
+  one_may_take Backwards (changes.Part b part) state unsure = refl
+  one_may_take Backwards (changes.Attributes b old new) state unsure = absurd (unsure (refl, tt, tt))
+  one_may_take Backwards (changes.Map old new) state unsure = absurd (unsure (refl, tt, tt))
+
+  may_take : (direction : Direction) (e : LogEntry) (state : CacheState S) → (CanMakeEntry direction e state → ⊥) → turn_takes direction (kind_of_entry e) ≡ true
+  may_take direction (entries.One c) state unsure = one_may_take direction c state unsure
+  may_take Forwards (entries.Group cs) state unsure = refl
+  may_take Backwards (entries.Group cs) state unsure = refl
 
   -- What is sure can be taken.
-  sure_can : (s : SessionState S) (direction : Direction) (c : Change) (cs : List Change) → (IsExact facts s → Applies (turned direction c) s.document) → IsSureKind facts s direction (kind_of_change c)
-      → CanTurn direction (c ∷ cs) (blocks_of s)
-  sure_can s Forwards (changes.BlocksIn ms) cs applies sure = absurd sure
-  sure_can s Forwards (changes.BlocksOut ms) cs applies sure = (refl, tt, tt)
-  sure_can s Forwards (changes.Part b part) cs applies sure = (refl, sure.1, applies_takes (turned Forwards (changes.Part b part)) s.document (applies sure.0))
-  sure_can s Forwards (changes.Attributes b old new) cs applies sure = (refl, tt, tt)
-  sure_can s Forwards (changes.Map old new) cs applies sure = (refl, tt, tt)
-  sure_can s Backwards (changes.BlocksIn ms) cs applies sure = (refl, tt, tt)
-  sure_can s Backwards (changes.BlocksOut ms) cs applies sure = absurd sure
-  sure_can s Backwards (changes.Part b part) cs applies sure = (refl, sure.1, applies_takes (turned Backwards (changes.Part b part)) s.document (applies sure.0))
-  sure_can s Backwards (changes.Attributes b old new) cs applies sure = (refl, tt, tt)
-  sure_can s Backwards (changes.Map old new) cs applies sure = (refl, tt, tt)
+  sure_one : (s : SessionState S) (direction : Direction) (c : Change) → (IsExact facts s → Applies (turned direction c) s.document) → IsSureKind facts s direction (kind_of_change c)
+      → CanMakeEntry direction (entries.One c) (blocks_of s)
+  sure_one s Forwards (changes.BlocksIn ms) applies sure = absurd sure
+  sure_one s Forwards (changes.BlocksOut ms) applies sure = (refl, tt, tt)
+  sure_one s Forwards (changes.Part b part) applies sure = (refl, sure.1, applies_takes (turned Forwards (changes.Part b part)) s.document (applies sure.0))
+  sure_one s Forwards (changes.Attributes b old new) applies sure = (refl, tt, tt)
+  sure_one s Forwards (changes.Map old new) applies sure = (refl, tt, tt)
+  sure_one s Backwards (changes.BlocksIn ms) applies sure = (refl, tt, tt)
+  sure_one s Backwards (changes.BlocksOut ms) applies sure = absurd sure
+  sure_one s Backwards (changes.Part b part) applies sure = (refl, sure.1, applies_takes (turned Backwards (changes.Part b part)) s.document (applies sure.0))
+  sure_one s Backwards (changes.Attributes b old new) applies sure = (refl, tt, tt)
+  sure_one s Backwards (changes.Map old new) applies sure = (refl, tt, tt)
 
-  pub sure_turns : (s : SessionState S) (direction : Direction) (from : List Change) → (IsExact facts s → CanTake direction from s.document) → IsSure facts s direction from → CanTurn direction from (blocks_of s)
-  sure_turns s direction [] can sure = absurd sure
-  sure_turns s direction (c ∷ cs) can sure = sure_can s direction c cs (λ exact. (can exact).0) sure
+  sure_entry : (s : SessionState S) (direction : Direction) (e : LogEntry) (es : List LogEntry) → (IsExact facts s → CanTake direction (all_changes (e ∷ es)) s.document) → IsSureKind facts s direction (kind_of_entry e)
+      → CanMakeEntry direction e (blocks_of s)
+  sure_entry s direction (entries.One c) es can sure = sure_one s direction c (λ exact. (can exact).0) sure
+  sure_entry s Forwards (entries.Group cs) es can sure = absurd sure
+  sure_entry s Backwards (entries.Group cs) es can sure = absurd sure
 
-  module _ (old new : SessionState S) (none : has_locks old ≡ false) where
-    -- Why one is refused.
-    pub refused_turn : (direction : Direction) (nothing fault : Fault) (from : List Change) → (IsExact facts old → CanTake direction from old.document) → CantTurn facts direction from (blocks_of old) (blocks_of new) fault
-        → IsRefusedUnlocked facts nothing from old new fault
-    refused_turn direction nothing fault [] can unready = absurd unready
-    refused_turn direction nothing fault (c ∷ cs) can unready = inr (
-      λ none. cc none,
-      elim unready as (λ _. Lacks facts old.disk.store new.disk.store fault ⊎ ((fault ≡ Damaged) × (IsExact facts old → ⊥))) [
-        | inl lacks ↦ inl lacks
-        | inr damaged ↦ inr (damaged.0, λ exact. damaged.1 (honest-steady facts old.disk.store exact.honest) (applies_takes (turned direction c) old.document (can exact).0))
-      ],
-    )
+  -- the newest of a list is
+  pub sure_turns : (s : SessionState S) (direction : Direction) (e : LogEntry) (from : List LogEntry) → IsFirst e from → (IsExact facts s → CanTake direction (all_changes from) s.document) → IsSure facts s direction from
+      → CanMakeEntry direction e (blocks_of s)
+  sure_turns s direction e from first can sure =
+      sure_entry s direction e first.others (λ exact. subst (λ (es : List LogEntry). CanTake direction (all_changes es) s.document) first.are (can exact)) (subst (IsSure facts s direction) first.are sure)
 
-    -- In an exact session it is for what the call may lack, and may take memory.
-    lacking : (direction : Direction) (fault : Fault) (from : List Change) → IsTrue (facts old.disk.store).honest → CanTake direction from old.document → (CanTurn direction from (blocks_of old) → ⊥)
-        → CantTurn facts direction from (blocks_of old) (blocks_of new) fault → Lacks facts old.disk.store new.disk.store fault × (newest_takes (turn_takes direction) (steps direction from old.document) ≡ true)
-    lacking direction fault [] so can unsure unready = absurd unready
-    lacking direction fault (c ∷ cs) so can unsure unready = (
-      elim unready as (λ _. Lacks facts old.disk.store new.disk.store fault) [
-        | inl lacks ↦ lacks
-        | inr damaged ↦ absurd (damaged.1 (honest-steady facts old.disk.store so) (applies_takes (turned direction c) old.document can.0))
-      ],
-      may_take direction c cs (blocks_of old) unsure,
-    )
+  pub newest_is : (direction : Direction) (e : LogEntry) (from : List LogEntry) (d : Document) → IsFirst e from → after_entry direction e d ≡ newest_made direction from d
+  newest_is direction e from d first = ap (λ (es : List LogEntry). newest_made direction es d) (sym first.are)
 
-    module _ (fault : Fault) (keeps : KeepsSession facts old new) where
-      pub undo_refused : (CanTurn Backwards old.undo (blocks_of old) → ⊥) → CantTurn facts Backwards old.undo (blocks_of old) (blocks_of new) fault → IsStep facts old new commands.Undo (Refused fault)
-      undo_refused unsure unready = λ exact.
-          let lack = lacking Backwards fault old.undo exact.honest exact.steps.first unsure unready in (
-            kept_exact facts old new keeps exact,
-            λ target.
-                gives_up facts old.disk.store new.disk.store (machine_of target old) (machine_of target new) commands.Undo fault exact.honest lack.0 (kept_machine facts old new keeps target exact) lack.1 lack.1,
-          )
+  pub none_sure : (s : SessionState S) (direction : Direction) (from : List LogEntry) → from ≡ [] → IsSure facts s direction from → ⊥
+  none_sure s direction from none sure = subst (IsSure facts s direction) none sure
 
-      pub redo_refused : (CanTurn Forwards old.redo (blocks_of old) → ⊥) → CantTurn facts Forwards old.redo (blocks_of old) (blocks_of new) fault → IsStep facts old new commands.Redo (Refused fault)
-      redo_refused unsure unready = λ exact.
-          let lack = lacking Forwards fault old.redo exact.honest exact.steps.second unsure unready in (
-            kept_exact facts old new keeps exact,
-            λ target.
-                gives_up facts old.disk.store new.disk.store (machine_of target old) (machine_of target new) commands.Redo fault exact.honest lack.0 (kept_machine facts old new keeps target exact) lack.1 lack.1,
-          )
+  -- What can be taken of an exact session in which no group is open.
+  pub undo_can : (s : SessionState S) → rest_fault s ≡ None → IsExact facts s → CanTake Backwards (all_changes s.log.undo) s.document
+  undo_can s free exact = subst (λ (g : Option (List Change)). CanTake Backwards (open_changes g ++ all_changes s.log.undo) s.document) (none_open s free) exact.steps.first
+
+  pub redo_can : (s : SessionState S) → IsExact facts s → CanTake Forwards (all_changes s.log.redo) s.document
+  redo_can s exact = exact.steps.second
+
+  pub newest_can : (direction : Direction) (e : LogEntry) (from : List LogEntry) (d : Document) → (first : IsFirst e from) → CanTake direction (all_changes from) d → CanTake direction (all_changes (e ∷ first.others)) d
+  newest_can direction e from d first can = subst (λ (es : List LogEntry). CanTake direction (all_changes es) d) first.are can
+
+  -- What can be made isn't refused.
+  pub never_refused : (direction : Direction) (e : LogEntry) (old new : CacheState S) (fault : Fault) (result : Result (Unit {0}) Fault) → result ≡ Err fault
+      → (CanMakeEntry direction e old → IsOk result × (new.disk ≡ old.disk) × (new.document ≡ after_entry direction e old.document)) → CanMakeEntry direction e old → ⊥
+  never_refused direction e old new fault result was sure can = not_both result was (sure can).0
+    where
+      not_both : (r : Result (Unit {0}) Fault) → r ≡ Err fault → IsOk r → ⊥
+      not_both (Ok x) is accepted = cc is
+      not_both (Err f) is accepted = cc accepted
+
+  module _ (old new : SessionState S) where
+    -- Why an entry can't be made, in a session.
+    pub cant_take : (direction : Direction) (fault : Fault) (e : LogEntry) (es : List LogEntry) → (IsExact facts old → CanTake direction (all_changes (e ∷ es)) old.document) → CantMakeEntry facts direction e (blocks_of old) (blocks_of new) fault
+        → IsNotTaken facts old new fault
+    cant_take direction fault (entries.One c) es can unready = elim unready as (λ _. IsNotTaken facts old new fault) [
+      | inl lacks ↦ inl lacks
+      | inr damaged ↦ inr (damaged.0, λ exact. damaged.1 (honest-steady facts old.disk.store exact.honest) (applies_takes (turned direction c) old.document (can exact).0))
+    ]
+    cant_take direction fault (entries.Group cs) es can unready = elim unready as (λ _. IsNotTaken facts old new fault) [
+      | inl lacks ↦ inl lacks
+      | inr damaged ↦ inr (damaged.0, λ exact. damaged.1 (honest-steady facts old.disk.store exact.honest) (all_take direction cs old.document (can_split direction cs (all_changes es) old.document (can exact)).0))
+    ]
+
+    -- so that it is for what the call may lack where it is exact
+    lacking : (fault : Fault) → IsExact facts old → IsNotTaken facts old new fault → Lacks facts old.disk.store new.disk.store fault
+    lacking fault exact why = elim why as (λ _. Lacks facts old.disk.store new.disk.store fault) [
+      | inl lacks ↦ lacks
+      | inr damaged ↦ absurd (damaged.1 exact)
+    ]
+
+    newest_may : (direction : Direction) (e : LogEntry) (es from : List LogEntry) (d : Document) → from ≡ e ∷ es → (CanMakeEntry direction e (blocks_of old) → ⊥) → newest_takes (turn_takes direction) (steps direction from d) ≡ true
+    newest_may direction e es from d is unsure = ap (λ (xs : List LogEntry). newest_takes (turn_takes direction) (steps direction xs d)) is ∙ may_take direction e (blocks_of old) unsure
+
+    module _ (fault : Fault) (keeps : KeepsSession facts old new) (e : LogEntry) where
+      pub undo_refused : IsFirst e old.log.undo → (CanMakeEntry Backwards e (blocks_of old) → ⊥) → IsNotTaken facts old new fault → IsStep facts old new commands.Undo (Refused fault)
+      undo_refused first unsure why = λ exact. (
+        kept_exact facts old new keeps exact,
+        λ target.
+            let takes = newest_may Backwards e first.others old.log.undo (before old.log.group old.document) first.are unsure in
+            gives_up facts old.disk.store new.disk.store (machine_of target old) (machine_of target new) commands.Undo fault exact.honest (lacking fault exact why) (kept_machine facts old new keeps target exact) takes takes,
+      )
+
+      pub redo_refused : IsFirst e old.log.redo → (CanMakeEntry Forwards e (blocks_of old) → ⊥) → IsNotTaken facts old new fault → IsStep facts old new commands.Redo (Refused fault)
+      redo_refused first unsure why = λ exact. (
+        kept_exact facts old new keeps exact,
+        λ target.
+            let takes = newest_may Forwards e first.others old.log.redo old.document first.are unsure in
+            gives_up facts old.disk.store new.disk.store (machine_of target old) (machine_of target new) commands.Redo fault exact.honest (lacking fault exact why) (kept_machine facts old new keeps target exact) takes takes,
+      )
 
     -- One is taken.
-    pub undo_taken : Moves facts Backwards (blocks_of old) (blocks_of new) old.undo old.redo new.undo new.redo → IsStep facts old new commands.Undo Accepted
-    undo_taken moves = λ exact.
-        let so = exact.honest in let c = moves.change in
-        let document : new.document ≡ after Backwards c old.document = moves.makes.document.same so in
-        let are : AreSteps Backwards old.document (c ∷ new.undo) old.redo = subst (λ (cs : List Change). AreSteps Backwards old.document cs old.redo) moves.from_was exact.steps in
-        let moved : AreSteps Backwards (after Backwards c old.document) new.undo (c ∷ old.redo) = moved_steps Backwards old.document new.undo old.redo c are in (
+    module _ (e : LogEntry) (free : rest_fault old ≡ None) where
+      log_undone : (first : IsFirst e old.log.undo) → undone old.log ≡ record { undo = first.others; redo = turned_over e ∷ old.log.redo; group = None }
+      log_undone first = rw (first.are, none_open old free) refl
+
+      log_redone : (first : IsFirst e old.log.redo) → redone old.log ≡ record { undo = turned_over e ∷ old.log.undo; redo = first.others; group = None }
+      log_redone first = rw (first.are, none_open old free) refl
+
+      log_was_undo : (first : IsFirst e old.log.undo) → old.log ≡ record { undo = e ∷ first.others; redo = old.log.redo; group = None }
+      log_was_undo first = λ i. record { undo = first.are i; redo = old.log.redo; group = none_open old free i }
+
+      log_was_redo : (first : IsFirst e old.log.redo) → old.log ≡ record { undo = old.log.undo; redo = e ∷ first.others; group = None }
+      log_was_redo first = λ i. record { undo = old.log.undo; redo = first.are i; group = none_open old free i }
+
+      pub undo_moves : IsFirst e old.log.undo → new.log ≡ undone old.log → MakesEntry facts Backwards e (blocks_of old) (blocks_of new)
+          → Moves facts Backwards (blocks_of old) (blocks_of new) old.log.undo old.log.redo new.log.undo new.log.redo
+      undo_moves first log makes =
+          let is : new.log ≡ record { undo = first.others; redo = turned_over e ∷ old.log.redo; group = None } = log ∙ log_undone first in
+          record { entry = e; makes = makes; from_was = first.are ∙ ap (λ (es : List LogEntry). e ∷ es) (sym (ap (λ (l : Log). l.undo) is)); to_is = ap (λ (l : Log). l.redo) is }
+
+      pub redo_moves : IsFirst e old.log.redo → new.log ≡ redone old.log → MakesEntry facts Forwards e (blocks_of old) (blocks_of new)
+          → Moves facts Forwards (blocks_of old) (blocks_of new) old.log.redo old.log.undo new.log.redo new.log.undo
+      redo_moves first log makes =
+          let is : new.log ≡ record { undo = turned_over e ∷ old.log.undo; redo = first.others; group = None } = log ∙ log_redone first in
+          record { entry = e; makes = makes; from_was = first.are ∙ ap (λ (es : List LogEntry). e ∷ es) (sym (ap (λ (l : Log). l.redo) is)); to_is = ap (λ (l : Log). l.undo) is }
+
+      pub undo_taken : IsFirst e old.log.undo → new.log ≡ undone old.log → MakesEntry facts Backwards e (blocks_of old) (blocks_of new) → IsStep facts old new commands.Undo Accepted
+      undo_taken first log makes = λ exact.
+          let so = exact.honest in
+          let passes = entry_passes Backwards e (blocks_of old) (blocks_of new) makes in
+          let document : new.document ≡ after_entry Backwards e old.document = (entry_document Backwards e (blocks_of old) (blocks_of new) makes).same so in
+          let was_log = log_was_undo first in
+          let is_log : new.log ≡ record { undo = first.others; redo = turned_over e ∷ old.log.redo; group = None } = log ∙ log_undone first in
+          let are : AreSteps Backwards old.document (all_changes (e ∷ first.others)) (all_changes old.log.redo) = subst (λ (l : Log). AreSteps Backwards old.document (to_undo l) (to_redo l)) was_log exact.steps in
+          let moved = moved_entry Backwards old.document e first.others old.log.redo are in (
+            record {
+              honest = subst IsTrue (sym passes.honest) so;
+              steps = subst (λ (d : Document). AreSteps Backwards d (to_undo new.log) (to_redo new.log)) (sym document)
+                  (subst (λ (l : Log). AreSteps Backwards (after_entry Backwards e old.document) (to_undo l) (to_redo l)) (sym is_log) moved);
+            },
+            λ target.
+                let m = machine_of target old in
+                let is = passed_machine facts old new target so passes (entry_frames Backwards e (blocks_of old) (blocks_of new) makes) (entry_locks Backwards e (blocks_of old) (blocks_of new) makes)
+                ∙ ap (λ (d : Document). machine_with m d new.log) document ∙ ap (λ (l : Log). machine_with m (after_entry Backwards e old.document) l) is_log in
+                inl (answers_on m _ (machine_of target new) _ (Some commands.Undo) Accepted (ap (λ (l : Log). machine_with m old.document l) was_log) is
+                (undo_moved m old.document e first.others old.log.redo (at_rest old free).1 are)),
+          )
+
+      pub redo_taken : IsFirst e old.log.redo → new.log ≡ redone old.log → MakesEntry facts Forwards e (blocks_of old) (blocks_of new) → IsStep facts old new commands.Redo Accepted
+      redo_taken first log makes = λ exact.
+          let so = exact.honest in
+          let passes = entry_passes Forwards e (blocks_of old) (blocks_of new) makes in
+          let document : new.document ≡ after_entry Forwards e old.document = (entry_document Forwards e (blocks_of old) (blocks_of new) makes).same so in
+          let was_log = log_was_redo first in
+          let is_log : new.log ≡ record { undo = turned_over e ∷ old.log.undo; redo = first.others; group = None } = log ∙ log_redone first in
+          let are : AreSteps Forwards old.document (all_changes (e ∷ first.others)) (all_changes old.log.undo) =
+          swapped old.document (all_changes old.log.undo) (all_changes (e ∷ first.others)) (subst (λ (l : Log). AreSteps Backwards old.document (to_undo l) (to_redo l)) was_log exact.steps) in
+          let moved = swapped_back (after_entry Forwards e old.document) (all_changes (turned_over e ∷ old.log.undo)) (all_changes first.others) (moved_entry Forwards old.document e first.others old.log.undo are) in (
+            record {
+              honest = subst IsTrue (sym passes.honest) so;
+              steps = subst (λ (d : Document). AreSteps Backwards d (to_undo new.log) (to_redo new.log)) (sym document)
+                  (subst (λ (l : Log). AreSteps Backwards (after_entry Forwards e old.document) (to_undo l) (to_redo l)) (sym is_log) moved);
+            },
+            λ target.
+                let m = machine_of target old in
+                let is = passed_machine facts old new target so passes (entry_frames Forwards e (blocks_of old) (blocks_of new) makes) (entry_locks Forwards e (blocks_of old) (blocks_of new) makes)
+                ∙ ap (λ (d : Document). machine_with m d new.log) document ∙ ap (λ (l : Log). machine_with m (after_entry Forwards e old.document) l) is_log in
+                inl (answers_on m _ (machine_of target new) _ (Some commands.Redo) Accepted (ap (λ (l : Log). machine_with m old.document l) was_log) is
+                (redo_moved m old.document e old.log.undo first.others (at_rest old free).1 are)),
+          )
+
+  -- It is refused before all else.
+  module _ (s : SessionState S) (fault : Fault) (held : rest_fault s ≡ Some fault) where
+    held_first : (nothing : Fault) → ((is_open locked none : Bool) → (if is_open then Some GroupOpen else if locked then Some Locked else None) ≡ Some fault
+        → first_refusal ((nothing, none) ∷ (GroupOpen, is_open) ∷ (Locked, locked) ∷ []) ≡ Some fault)
+        → (target none : Bool) → first_refusal ((nothing, none) ∷ machine.at_rest (machine_of target s)) ≡ Some fault
+    held_first nothing by_parts target none =
+        ap (λ (x : Bool). first_refusal ((nothing, none) ∷ (GroupOpen, x) ∷ (Locked, has_locks s) ∷ [])) (group_open (group_of s.document) s.log.group) ∙ by_parts (is_some s.log.group) (has_locks s) none held
+
+    undo_parts : (is_open locked none : Bool) → (if is_open then Some GroupOpen else if locked then Some Locked else None) ≡ Some fault → first_refusal ((NothingToUndo, none) ∷ (GroupOpen, is_open) ∷ (Locked, locked) ∷ []) ≡ Some fault
+    undo_parts true locked none is = is
+    undo_parts false true none is = is
+    undo_parts false false none is = absurd (cc is)
+
+    redo_parts : (is_open locked none : Bool) → (if is_open then Some GroupOpen else if locked then Some Locked else None) ≡ Some fault → first_refusal ((NothingToRedo, none) ∷ (GroupOpen, is_open) ∷ (Locked, locked) ∷ []) ≡ Some fault
+    redo_parts true locked none is = is
+    redo_parts false true none is = is
+    redo_parts false false none is = absurd (cc is)
+
+    pub undo_held : IsStep facts s s commands.Undo (Refused fault)
+    undo_held = λ exact. (exact, λ target. inl (rw (held_first NothingToUndo undo_parts target (length (machine_of target s).past == 0)) refl))
+
+    pub redo_held : IsStep facts s s commands.Redo (Refused fault)
+    redo_held = λ exact. (exact, λ target. inl (rw (held_first NothingToRedo redo_parts target (length (machine_of target s).future == 0)) refl))
+
+  -- There is none.
+  module _ (s : SessionState S) (free : rest_fault s ≡ None) where
+    pub undo_none : s.log.undo ≡ [] → IsStep facts s s commands.Undo (Refused NothingToUndo)
+    undo_none none = λ exact. (exact, λ target. inl (rw (none_open s free, (at_rest s free).1, none) refl))
+
+    pub redo_none : s.log.redo ≡ [] → IsStep facts s s commands.Redo (Refused NothingToRedo)
+    redo_none none = λ exact. (exact, λ target. inl (rw (none_open s free, (at_rest s free).1, none) refl))
+
+  -- What keeps a group from being abandoned.
+  module _ (s : SessionState S) (fault : Fault) (held : abandon_fault s ≡ Some fault) where
+    abandon_parts : (is_open locked : Bool) → (if is_open then (if locked then Some Locked else None) else Some NoGroup) ≡ Some fault → first_refusal ((NoGroup, not is_open) ∷ (Locked, locked) ∷ []) ≡ Some fault
+    abandon_parts true true is = is
+    abandon_parts true false is = absurd (cc is)
+    abandon_parts false locked is = is
+
+    pub abandon_held : IsStep facts s s commands.Abandon (Refused fault)
+    abandon_held = λ exact. (
+      exact,
+      λ target.
+          let first : first_refusal (machine.command_conditions commands.Abandon (machine_of target s)) ≡ Some fault =
+          ap (λ (x : Bool). first_refusal ((NoGroup, not x) ∷ (Locked, has_locks s) ∷ [])) (group_open (group_of s.document) s.log.group) ∙ abandon_parts (is_some s.log.group) (has_locks s) held in
+          inl (rw first refl),
+    )
+
+  -- The group that is open.
+  module _ (old new : SessionState S) (cs : List Change) (is_open : old.log.group ≡ Some cs) where
+    -- its changes can be taken back where the session is exact
+    pub group_can : IsExact facts old → CanTake Backwards cs old.document
+    group_can exact =
+        let can : CanTake Backwards (cs ++ all_changes old.log.undo) old.document =
+        subst (λ (g : Option (List Change)). CanTake Backwards (open_changes g ++ all_changes old.log.undo) old.document) is_open exact.steps.first in
+        (can_split Backwards cs (all_changes old.log.undo) old.document can).0
+
+    pub group_not_taken : (fault : Fault) → AreUnready facts (map (turned Backwards) cs) (blocks_of old) (blocks_of new) fault → IsNotTaken facts old new fault
+    group_not_taken fault unready = elim unready as (λ _. IsNotTaken facts old new fault) [
+      | inl lacks ↦ inl lacks
+      | inr damaged ↦ inr (damaged.0, λ exact. damaged.1 (honest-steady facts old.disk.store exact.honest) (all_take Backwards cs old.document (group_can exact)))
+    ]
+
+    group_has : (target : Bool) → cs ≢ [] → has_edits (machine_of target old) ≡ true
+    group_has target some = ap (λ (g : Option (List Change)). has_edits (record (machine_of target old) { group = option_map (group_of old.document) g })) is_open ∙ by_changes cs some
+      where
+        by_changes : (xs : List Change) → xs ≢ [] → has_edits (record (machine_of target old) { group = Some (group_of old.document xs) }) ≡ true
+        by_changes [] some = absurd (some refl)
+        by_changes (c ∷ xs) some = rw (some_steps c xs) refl
+
+    pub abandon_refused : (fault : Fault) → KeepsSession facts old new → cs ≢ [] → IsNotTaken facts old new fault → IsStep facts old new commands.Abandon (Refused fault)
+    abandon_refused fault keeps some why = λ exact. (
+      kept_exact facts old new keeps exact,
+      λ target.
+          let takes = group_has target some in
+          gives_up facts old.disk.store new.disk.store (machine_of target old) (machine_of target new) commands.Abandon fault exact.honest (lacking old new fault exact why) (kept_machine facts old new keeps target exact) takes takes,
+    )
+
+    pub abandon_taken : has_locks old ≡ false → AreExclusive cs old.log.redo → new.log ≡ record old.log { group = None } → MakesAll facts (map (turned Backwards) cs) (blocks_of old) (blocks_of new)
+        → IsStep facts old new commands.Abandon Accepted
+    abandon_taken none apart log makes = λ exact.
+        let so = exact.honest in
+        let document : new.document ≡ after_all Backwards cs old.document = makes.document.same so in
+        let was_log : old.log ≡ record old.log { group = Some cs } = λ i. record old.log { group = is_open i } in
+        let are : AreSteps Backwards old.document (cs ++ all_changes old.log.undo) (all_changes old.log.redo) = subst (λ (l : Log). AreSteps Backwards old.document (to_undo l) (to_redo l)) was_log exact.steps in
+        let back = all_back Backwards cs old.document are.valid (can_split Backwards cs (all_changes old.log.undo) old.document are.first).0 in
+        let left : AreSteps Backwards (after_all Backwards cs old.document) (all_changes old.log.undo) (all_changes old.log.redo) = record {
+          valid = back.valid;
+          first = (can_split Backwards cs (all_changes old.log.undo) old.document are.first).1;
+          second = apart_can cs apart are.second;
+        } in (
           record {
-            honest = subst IsTrue (sym moves.makes.passes.honest) so;
-            steps = subst (λ (d : Document). AreSteps Backwards d new.undo new.redo) (sym document) (subst (λ (cs : List Change). AreSteps Backwards (after Backwards c old.document) new.undo cs) (sym moves.to_is) moved);
+            honest = subst IsTrue (sym makes.passes.honest) so;
+            steps = subst (λ (d : Document). AreSteps Backwards d (to_undo new.log) (to_redo new.log)) (sym document)
+                (subst (λ (l : Log). AreSteps Backwards (after_all Backwards cs old.document) (to_undo l) (to_redo l)) (sym log) left);
           },
           λ target.
               let m = machine_of target old in
-              let was : m ≡ machine_with m old.document (c ∷ new.undo) old.redo = ap (λ (cs : List Change). machine_with m old.document cs old.redo) moves.from_was in
-              let is : machine_of target new ≡ machine_with m (after Backwards c old.document) new.undo (c ∷ old.redo) =
-              passed_machine facts old new target so moves.makes.passes moves.makes.frames moves.makes.locks
-              ∙ ap (λ (d : Document). machine_with m d new.undo new.redo) document ∙ ap (λ (cs : List Change). machine_with m (after Backwards c old.document) new.undo cs) moves.to_is in
-              inl (answers_on m _ (machine_of target new) _ (Some commands.Undo) Accepted was is (undo_moved m old.document c new.undo old.redo none are)),
+              let is = passed_machine facts old new target so makes.passes makes.frames makes.locks
+              ∙ ap (λ (d : Document). machine_with m d new.log) document ∙ ap (λ (l : Log). machine_with m (after_all Backwards cs old.document) l) log in
+              inl (answers_on m _ (machine_of target new) _ (Some commands.Abandon) Accepted (ap (λ (l : Log). machine_with m old.document l) was_log) is
+              (abandon_moved m old.document old.log.undo old.log.redo cs none apart)),
         )
-
-    pub redo_taken : Moves facts Forwards (blocks_of old) (blocks_of new) old.redo old.undo new.redo new.undo → IsStep facts old new commands.Redo Accepted
-    redo_taken moves = λ exact.
-        let so = exact.honest in let c = moves.change in
-        let document : new.document ≡ after Forwards c old.document = moves.makes.document.same so in
-        let are : AreSteps Forwards old.document (c ∷ new.redo) old.undo = subst (λ (cs : List Change). AreSteps Forwards old.document cs old.undo) moves.from_was (swapped old.document old.undo old.redo exact.steps) in
-        let moved : AreSteps Backwards (after Forwards c old.document) (c ∷ old.undo) new.redo = swapped_back (after Forwards c old.document) (c ∷ old.undo) new.redo (moved_steps Forwards old.document new.redo old.undo c are) in (
-          record {
-            honest = subst IsTrue (sym moves.makes.passes.honest) so;
-            steps = subst (λ (d : Document). AreSteps Backwards d new.undo new.redo) (sym document) (subst (λ (cs : List Change). AreSteps Backwards (after Forwards c old.document) cs new.redo) (sym moves.to_is) moved);
-          },
-          λ target.
-              let m = machine_of target old in
-              let was : m ≡ machine_with m old.document old.undo (c ∷ new.redo) = ap (λ (cs : List Change). machine_with m old.document old.undo cs) moves.from_was in
-              let is : machine_of target new ≡ machine_with m (after Forwards c old.document) (c ∷ old.undo) new.redo =
-              passed_machine facts old new target so moves.makes.passes moves.makes.frames moves.makes.locks
-              ∙ ap (λ (d : Document). machine_with m d new.undo new.redo) document ∙ ap (λ (cs : List Change). machine_with m (after Forwards c old.document) cs new.redo) moves.to_is in
-              inl (answers_on m _ (machine_of target new) _ (Some commands.Redo) Accepted was is (redo_moved m old.document c old.undo new.redo none are)),
-        )
-
-    -- There is none, and nothing changes.
-    pub undo_none : new ≡ old → old.undo ≡ [] → IsStep facts old new commands.Undo (Refused NothingToUndo)
-    undo_none same empty = λ exact. (subst (IsExact facts) (sym same) exact, λ target. inl (rw (same, none, empty) refl))
-
-    pub redo_none : new ≡ old → old.redo ≡ [] → IsStep facts old new commands.Redo (Refused NothingToRedo)
-    redo_none same empty = λ exact. (subst (IsExact facts) (sym same) exact, λ target. inl (rw (same, none, empty) refl))
-
-    -- so it is whether there was one or not
-    none_same : (from to from' to' : List Change) → Stays (blocks_of old) (blocks_of new) from to from' to' → (from' ≡ from) × (to' ≡ to)
-    none_same from to from' to' stays = (stays.from_is ∙ sym stays.from_was, stays.to_is)
-
-    undo_same : Stays (blocks_of old) (blocks_of new) old.undo old.redo new.undo new.redo → new ≡ old
-    undo_same stays = let lists = none_same old.undo old.redo new.undo new.redo stays in λ i. record {
-      disk = (stays.blocks i).disk;
-      document = (stays.blocks i).document;
-      resident = (stays.blocks i).resident;
-      frames = (stays.blocks i).frames;
-      undo = lists.0 i;
-      redo = lists.1 i;
-    }
-
-    redo_same : Stays (blocks_of old) (blocks_of new) old.redo old.undo new.redo new.undo → new ≡ old
-    redo_same stays = let lists = none_same old.redo old.undo new.redo new.undo stays in λ i. record {
-      disk = (stays.blocks i).disk;
-      document = (stays.blocks i).document;
-      resident = (stays.blocks i).resident;
-      frames = (stays.blocks i).frames;
-      undo = lists.1 i;
-      redo = lists.0 i;
-    }
-
-    pub undo_answers : (turned : Bool) → Turns facts turned Backwards (blocks_of old) (blocks_of new) old.undo old.redo new.undo new.redo → IsStep facts old new commands.Undo (cond turned Accepted (Refused NothingToUndo))
-    undo_answers true moves = undo_taken moves
-    undo_answers false stays = undo_none (undo_same stays) stays.from_was
-
-    pub redo_answers : (turned : Bool) → Turns facts turned Forwards (blocks_of old) (blocks_of new) old.redo old.undo new.redo new.undo → IsStep facts old new commands.Redo (cond turned Accepted (Refused NothingToRedo))
-    redo_answers true moves = redo_taken moves
-    redo_answers false stays = redo_none (redo_same stays) stays.from_was
-
-    pub undo_kept : Turns facts false Backwards (blocks_of old) (blocks_of new) old.undo old.redo new.undo new.redo → KeepsSession facts old new
-    undo_kept stays = subst (KeepsSession facts old) (sym (undo_same stays)) (keeps_refl facts old)
-
-    pub redo_kept : Turns facts false Forwards (blocks_of old) (blocks_of new) old.redo old.undo new.redo new.undo → KeepsSession facts old new
-    redo_kept stays = subst (KeepsSession facts old) (sym (redo_same stays)) (keeps_refl facts old)
-
-  pub turned_passes : (turned : Bool) (direction : Direction) (old new : CacheState S) (from to from' to' : List Change) → Turns facts turned direction old new from to from' to' → Passes facts old.disk new.disk
-  turned_passes true direction old new from to from' to' moves = moves.makes.passes
-  turned_passes false direction old new from to from' to' stays = subst (λ (b : CacheState S). Passes facts old.disk b.disk) (sym stays.blocks) (Passes-refl facts old.disk)
+      where
+        -- what can be made again can be in the document before the group, which is the same or has nothing to make again
+        apart_can : (xs : List Change) → AreExclusive xs old.log.redo → CanTake Forwards (all_changes old.log.redo) old.document → CanTake Forwards (all_changes old.log.redo) (after_all Backwards xs old.document)
+        apart_can [] apart can = can
+        apart_can (c ∷ xs) apart can = subst (λ (es : List LogEntry). CanTake Forwards (all_changes es) (after_all Backwards (c ∷ xs) old.document)) (sym apart) tt

@@ -1,8 +1,9 @@
 -- What records hold is no more than what their steps are charged for.
-use Rattle.std.proofs.Common.{◌≡◌, ◌≤◌, ◌+◌, ◌-◌, ◌^◌, ℕ, length, List, [], ◌∷◌, min, reverse, refl, sym, ap, ◌∙◌, arith}
-use Rattle.std.proofs.lemmas.List.Sums.{sum_by-cons, sum_by-le-sum_by}
+use Rattle.std.proofs.Common.{◌≡◌, ◌≤◌, ◌+◌, ◌-◌, ◌^◌, ℕ, length, List, [], ◌∷◌, ◌++◌, Option, None, Some, min, reverse, refl, sym, ap, ◌∙◌, arith}
+use Rattle.std.proofs.lemmas.List.Sums.{sum_by-append, sum_by-cons, sum_by-le-sum_by}
 use Rattle.std.proofs.lemmas.List.Sorted.{sum_by-IsPermutation, IsPermutation-reverse}
 use Rattle.std.specs.List.{sum_by}
+use Rattle.std.specs.Option.{option_map, option_map_or}
 use Rattle.geos_model.specs.Document.{Document}
 use Rattle.geos_model.specs.Machine.{UndoStep}
 use Rattle.vm_blocks.specs.Changes.{weight, part_weight, content_weight, bytes_of}
@@ -16,7 +17,10 @@ use Rattle.vm_blocks.specs.declared.change.Direction.{Direction}
 use Rattle.vm_blocks.specs.declared.change.Direction.TheVariants.{Forwards, Backwards}
 use Rattle.doc_edits.specs.Planning.{part_cost, change_cost}
 use Rattle.vm_blocks.specs.Changes.{after}
-use Rattle.undo_log.specs.Records.{step, steps, total_weight, total_cost}
+use Rattle.undo_log.specs.Logging.{Log, after_all, all_changes, before, changes_cost, entry_weight, group_of, open_changes, step, steps, to_redo, to_undo, total_weight}
+use Rattle.undo_log.specs.Records.{total_cost}
+use Rattle.undo_log.specs.declared.entry.LogEntry.{LogEntry}
+use Rattle.undo_log.specs.declared.entry.LogEntry.TheVariants as entries
 
 content_weight-le : (content : Content) → content_weight content ≤ length (bytes_of content)
 content_weight-le (contents.Bytes bytes) = omega arith
@@ -35,34 +39,67 @@ weight-le (changes.Part b part) = part_weight-le part
 weight-le (changes.Attributes b old new) = omega arith
 weight-le (changes.Map old new) = omega arith
 
-costs : (direction : Direction) (cs : List Change) (d : Document) → total_cost (steps direction cs d) ≡ sum_by change_cost cs
+-- what steps are charged for is what their changes are
+costs : (direction : Direction) (es : List LogEntry) (d : Document) → total_cost (steps direction es d) ≡ changes_cost (all_changes es)
 costs direction [] d = refl
-costs direction (c ∷ cs) d =
-    sum_by-cons (λ (s : UndoStep). s.cost) (step direction c d) (steps direction cs (after direction c d))
-    ∙ ap (λ (n : ℕ). change_cost c + n) (costs direction cs (after direction c d))
-    ∙ sym (sum_by-cons change_cost c cs)
+costs direction (entries.One c ∷ es) d =
+    sum_by-cons (λ (s : UndoStep). s.cost) (step direction (entries.One c) d) (steps direction es (after direction c d))
+    ∙ ap (λ (n : ℕ). change_cost c + n) (costs direction es (after direction c d))
+    ∙ sym (sum_by-cons change_cost c (all_changes es))
+costs direction (entries.Group cs ∷ es) d =
+    sum_by-cons (λ (s : UndoStep). s.cost) (step direction (entries.Group cs) d) (steps direction es (after_all direction cs d))
+    ∙ ap (λ (n : ℕ). changes_cost cs + n) (costs direction es (after_all direction cs d))
+    ∙ sym (sum_by-append change_cost cs (all_changes es))
 
-weight-reverse : (items : List Change) → total_weight (reverse items) ≡ total_weight items
+pub weight-reverse : (items : List Change) → total_weight (reverse items) ≡ total_weight items
 weight-reverse items = sum_by-IsPermutation weight items (reverse items) (IsPermutation-reverse items)
 
-weights-le : (direction : Direction) (items : List Change) (d : Document) → total_weight items ≤ total_cost (steps direction (reverse items) d)
-weights-le direction items d =
-    let less = sum_by-le-sum_by weight change_cost (reverse items) weight-le in
-    omega (arith, weight-reverse items, less, costs direction (reverse items) d)
+pub weight-append : (cs others : List Change) → total_weight (cs ++ others) ≡ total_weight cs + total_weight others
+weight-append cs others = sum_by-append weight cs others
 
--- the sum of two sums, each of them cut
-cut-le : (r a b u v p q most : ℕ) → r ≡ min (a + b) most → a ≡ min u most → b ≡ min v most → u ≤ p → v ≤ q → r ≤ p + q
-cut-le r a b u v p q most e f g h k = grind (arith, e, f, g, h, k)
+weights-le : (cs : List Change) → total_weight cs ≤ changes_cost cs
+weights-le cs = sum_by-le-sum_by weight change_cost cs weight-le
 
-pub weight_at_most : (d : Document) (undo redo : List Change) (r a b : ℕ) → r ≡ min (a + b) (2 ^ 64 - 1) → a ≡ min (total_weight undo) (2 ^ 64 - 1) → b ≡ min (total_weight redo) (2 ^ 64 - 1)
-    → r ≤ total_cost (steps Backwards (reverse undo) d) + total_cost (steps Forwards (reverse redo) d)
-weight_at_most d undo redo r a b e f g = cut-le r a b (total_weight undo) (total_weight redo) _ _ (2 ^ 64 - 1) e f g (weights-le Backwards undo d) (weights-le Forwards redo d)
+-- what the group that is open is charged
+open_cost : (group : Option (List Change)) (d : Document) → option_map_or (λ g. g.cost) (option_map (group_of d) group) 0 ≡ changes_cost (open_changes group)
+open_cost None d = refl
+open_cost (Some cs) d = refl
 
--- a sum of cut sums, cut, is the whole sum cut
-cut-sum : (r a b u v most : ℕ) → r ≡ min (a + b) most → a ≡ min u most → b ≡ min v most → r ≡ min (u + v) most
-cut-sum r a b u v most e f g = grind (arith, e, f, g)
+pub weight_at_most : (d : Document) (log : Log) (r : ℕ) → r ≡ min (total_weight (to_undo log) + total_weight (to_redo log)) (2 ^ 64 - 1)
+    → r ≤ total_cost (steps Backwards log.undo (before log.group d)) + total_cost (steps Forwards log.redo d) + option_map_or (λ g. g.cost) (option_map (group_of d) log.group) 0
+weight_at_most d log r is =
+    let past = costs Backwards log.undo (before log.group d) in
+    let future = costs Forwards log.redo d in
+    let group = open_cost log.group d in
+    let undo = weight-append (open_changes log.group) (all_changes log.undo) in
+    let less_open = weights-le (open_changes log.group) in
+    let less_undo = weights-le (all_changes log.undo) in
+    let less_redo = weights-le (all_changes log.redo) in
+    grind (arith, is, past, future, group, undo, less_open, less_undo, less_redo)
 
--- the same of the records, the newest first
-pub weighs : (undo redo : List Change) (r a b : ℕ) → r ≡ min (a + b) (2 ^ 64 - 1) → a ≡ min (total_weight undo) (2 ^ 64 - 1) → b ≡ min (total_weight redo) (2 ^ 64 - 1)
-    → r ≡ min (total_weight (reverse undo) + total_weight (reverse redo)) (2 ^ 64 - 1)
-weighs undo redo r a b e f g = cut-sum r a b (total_weight (reverse undo)) (total_weight (reverse redo)) (2 ^ 64 - 1) e (rw (weight-reverse undo) f) (rw (weight-reverse redo) g)
+-- entries weigh what their changes do
+all_weights : (es : List LogEntry) → total_weight (all_changes es) ≡ sum_by entry_weight es
+all_weights [] = refl
+all_weights (entries.One c ∷ es) =
+    let all = sum_by-cons weight c (all_changes es) in
+    let rest = all_weights es in
+    let whole = sum_by-cons entry_weight (entries.One c) es in
+    let one : entry_weight (entries.One c) ≡ weight c = omega arith in
+    omega (arith, all, rest, whole, one)
+all_weights (entries.Group cs ∷ es) = sum_by-append weight cs (all_changes es) ∙ ap (λ (n : ℕ). total_weight cs + n) (all_weights es) ∙ sym (sum_by-cons entry_weight (entries.Group cs) es)
+
+reverse_weights : (es : List LogEntry) → total_weight (all_changes (reverse es)) ≡ sum_by entry_weight es
+reverse_weights es = all_weights (reverse es) ∙ sum_by-IsPermutation entry_weight es (reverse es) (IsPermutation-reverse es)
+
+-- sums of sums, each of them cut
+cut_sums : (r s a b w g u v most : ℕ) → r ≡ min (s + w) most → s ≡ min (a + b) most → a ≡ min g most → b ≡ min u most → w ≡ min v most → r ≡ min (g + u + v) most
+cut_sums r s a b w g u v most e f h i j = grind (arith, e, f, h, i, j)
+
+pub log_weighs : (undo redo : List LogEntry) (cs : List Change) (r s a b w : ℕ) → r ≡ min (s + w) (2 ^ 64 - 1) → s ≡ min (a + b) (2 ^ 64 - 1) → a ≡ min (total_weight cs) (2 ^ 64 - 1)
+    → b ≡ min (sum_by entry_weight undo) (2 ^ 64 - 1) → w ≡ min (sum_by entry_weight redo) (2 ^ 64 - 1) → r ≡ min (total_weight (cs ++ all_changes (reverse undo)) + total_weight (all_changes (reverse redo))) (2 ^ 64 - 1)
+log_weighs undo redo cs r s a b w e f h i j =
+    let sums = cut_sums r s a b w (total_weight cs) (sum_by entry_weight undo) (sum_by entry_weight redo) (2 ^ 64 - 1) e f h i j in
+    let all = weight-append cs (all_changes (reverse undo)) in
+    let first = reverse_weights undo in
+    let second = reverse_weights redo in
+    sums ∙ ap (λ (n : ℕ). min n (2 ^ 64 - 1)) (omega (arith, all, first, second))

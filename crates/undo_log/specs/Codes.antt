@@ -1,12 +1,23 @@
 -- The code of a session's value, by which a proof tells two apart.
-use Rattle.std.specs.Prelude.{List, refl}
-use Rattle.std.specs.Coded.{Coded, code_by, coded×, coded_list}
+use Rattle.std.specs.Prelude.{List, Bool, Option, refl}
+use Rattle.std.specs.Coded.{Coded, code_by, coded×, coded_list, coded_option, coded_bool}
 use Rattle.block_cache.specs.State.{CacheState, cache_state_code}
 use Rattle.vm_blocks.specs.declared.change.Change.{Change}
 use Rattle.vm_blocks.specs.contracts.change.Change as change_type
+use Rattle.undo_log.specs.Logging.{Log, LogState}
 use Rattle.undo_log.specs.Records.{SessionState, blocks_of}
+use Rattle.undo_log.specs.declared.entry.LogEntry.{LogEntry}
+use Rattle.undo_log.specs.contracts.entry.LogEntry as entry_type
+
+abbrev pub log_code : Coded Log
+log_code =
+    code_by (List LogEntry × (List LogEntry × Option (List Change))) (coded× (coded_list entry_type.the_row.coded) (coded× (coded_list entry_type.the_row.coded) (coded_option (coded_list change_type.the_row.coded))))
+    (λ l. (l.undo, (l.redo, l.group))) (λ p. record { undo = p.0; redo = p.1.0; group = p.1.1 }) (λ _. refl)
+
+abbrev pub log_state_code : Coded LogState
+log_state_code = code_by (Log × Bool) (coded× log_code coded_bool) (λ l. (l.lists, l.room)) (λ p. record { lists = p.0; room = p.1 }) (λ _. refl)
 
 abbrev pub session_code : {S : Type 0} → Coded S → Coded (SessionState S)
 session_code {S} s =
-    code_by (CacheState S × (List Change × List Change)) (coded× (cache_state_code s) (coded× (coded_list change_type.the_row.coded) (coded_list change_type.the_row.coded)))
-    (λ d. (blocks_of d, (d.undo, d.redo))) (λ p. record { disk = p.0.disk; document = p.0.document; resident = p.0.resident; frames = p.0.frames; undo = p.1.0; redo = p.1.1 }) (λ _. refl)
+    code_by (CacheState S × Log) (coded× (cache_state_code s) log_code)
+    (λ d. (blocks_of d, d.log)) (λ p. record { disk = p.0.disk; document = p.0.document; resident = p.0.resident; frames = p.0.frames; log = p.1 }) (λ _. refl)

@@ -1,6 +1,8 @@
+pub mod Logging
+pub mod Rooms
 pub mod Records
 pub mod Making
-pub mod Locking
 pub mod Turning
+pub mod Locking
 pub mod Codes
 pub mod Editing

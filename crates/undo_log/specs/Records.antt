@@ -1,7 +1,8 @@
--- The records of a session are changes. What steps they are, and that each can be taken.
-use Rattle.std.specs.Prelude.{◌≡◌, ℕ, Bool, IsTrue, nat_le, nat_lt, if◌then◌else◌, List, [], ◌∷◌, map, Some}
+-- A session: what it holds, the machine that it is, and that what it keeps of each step can be taken.
+use Rattle.std.specs.Prelude.{◌≡◌, ℕ, Bool, IsTrue, nat_le, nat_lt, if◌then◌else◌, List, [], ◌∷◌, map, Some, None}
 use Rattle.std.specs.FinMap.{FinMap, empty, insert, remove, len}
 use Rattle.std.specs.List.{sum_by}
+use Rattle.std.specs.Option.{option_map}
 use Rattle.std.specs.Ordering.{nat_cmp}
 use Rattle.geos_model.specs.Document.{Document, IsValid}
 use Rattle.geos_model.specs.Machine.{Machine, UndoStep, Step}
@@ -12,38 +13,27 @@ use Rattle.geos_model.specs.declared.command.Edit.{Edit}
 use Rattle.vm_store.specs.Facts.{StoreFacts, raised}
 use Rattle.vm_file.specs.Disk.{Disk, FileState}
 use Rattle.block_cache.specs.State.{CacheState, Seat, is_locked, seen}
-use Rattle.vm_blocks.specs.Changes.{after, turned, weight, Applies}
+use Rattle.vm_blocks.specs.Changes.{after, turned, Applies}
 use Rattle.vm_blocks.specs.Keeping.{Keeps}
 use Rattle.vm_blocks.specs.Preparing.{AllListed}
 use Rattle.vm_blocks.specs.declared.change.Change.{Change}
 use Rattle.vm_blocks.specs.declared.change.Direction.{Direction}
 use Rattle.vm_blocks.specs.declared.change.Direction.TheVariants.{Forwards, Backwards}
 use Rattle.doc_edits.specs.LookUps.{Sees}
-use Rattle.doc_edits.specs.Planning.{kind_of_change, change_cost}
+use Rattle.undo_log.specs.Logging.{Log, before, group_of, steps, to_redo, to_undo, with_change}
 use Rattle.undo_log.specs.Making.{IsMade}
 
 abbrev pub opposite : Direction → Direction
 opposite Forwards = Backwards
 opposite Backwards = Forwards
 
--- the step that a change is, carried out in a direction
-abbrev pub step : Direction → Change → Document → UndoStep
-step direction c d = record { kind = kind_of_change c; cost = change_cost c; document = after direction c d }
-
--- the steps that changes are, carried out in a direction one after another
-abbrev pub steps : Direction → List Change → Document → List UndoStep
-steps direction [] d = []
-steps direction (c ∷ cs) d = step direction c d ∷ steps direction cs (after direction c d)
-
--- A session: the disk, its document as it is now, the blocks in memory and how many may be, and the changes that can be taken back and
--- those that were taken back, of both the newest first.
+-- A session: the disk, its document as it is now, the blocks in memory and how many may be, and what it keeps of steps.
 pub record SessionState (S : Type 0) : Type 0 where
   pub disk : Disk S
   pub document : Document
   pub resident : List (ℕ × ℕ)
   pub frames : ℕ
-  pub undo : List Change
-  pub redo : List Change
+  pub log : Log
 
 -- its blocks
 abbrev pub blocks_of : {S : Type 0} → SessionState S → CacheState S
@@ -66,8 +56,9 @@ has_locks s = nat_lt 0 (len (locks_in s.resident))
 abbrev pub machine_of : {S : Type 0} → Bool → SessionState S → Machine
 machine_of target s = record {
   document = s.document;
-  past = steps Backwards s.undo s.document;
-  future = steps Forwards s.redo s.document;
+  past = steps Backwards s.log.undo (before s.log.group s.document);
+  future = steps Forwards s.log.redo s.document;
+  group = option_map (group_of s.document) s.log.group;
   updated = s.disk.updated;
   saved = s.disk.saved;
   locks = locks_in s.resident;
@@ -100,18 +91,17 @@ pub record AreListed (direction : Direction) (d : Document) (from to : List Chan
 -- store and saves into honest ones alone has it always; over another store a body may be another than the one that was edited.
 pub record IsExact {S : Type 0} (facts : S → StoreFacts) (s : SessionState S) : Type 0 where
   pub honest : IsTrue (facts s.disk.store).honest
-  pub steps : AreSteps Backwards s.document s.undo s.redo
+  pub steps : AreSteps Backwards s.document (to_undo s.log) (to_redo s.log)
 
 -- A call is a step of the machine, and the session is exact still.
 abbrev pub IsStep : {S : Type 0} → (S → StoreFacts) → SessionState S → SessionState S → Command → Reply → Type 0
 IsStep facts old new command reply = IsExact facts old
     → IsExact facts new × ((target : Bool) → Step (has_failed (facts old.disk.store) (facts new.disk.store)) (machine_of target old) (Some command) reply (machine_of target new))
 
--- Nothing is committed, the document stays as far as the store gives back what it has, and so do the locks and both lists.
+-- Nothing is committed, the document stays as far as the store gives back what it has, and so do the locks and the log.
 pub record KeepsSession {S : Type 0} (facts : S → StoreFacts) (old new : SessionState S) : Type 0 where
   pub blocks : Keeps facts (blocks_of old) (blocks_of new)
-  pub undo : new.undo ≡ old.undo
-  pub redo : new.redo ≡ old.redo
+  pub log : new.log ≡ old.log
 
 -- What a look-up into one block comes to: a step of the machine that keeps the session. What is answered is looked up of the document as it is
 -- held from then on, or of the one before where no body has to be read, for which no store is called.
@@ -120,16 +110,11 @@ pub record Looks {S : Type 0} (facts : S → StoreFacts) (old new : SessionState
   pub step : IsStep facts old new command reply
   pub sees : Sees facts (blocks_of old) (blocks_of new) command reply
 
--- The edit's change is made, and its record is the newest; nothing is left to redo.
+-- The edit's change is made, and is the newest of the log.
 pub record Records {S : Type 0} (facts : S → StoreFacts) (edit : Edit) (done : Done) (old new : SessionState S) : Type 0 where
   pub change : Change
   pub made : IsMade facts edit (blocks_of old) (blocks_of new) change done
-  pub undo : new.undo ≡ change ∷ old.undo
-  pub redo : new.redo ≡ []
-
--- how many content bytes changes hold together
-abbrev pub total_weight : List Change → ℕ
-total_weight cs = sum_by weight cs
+  pub log : new.log ≡ with_change change old.log
 
 -- how many bytes steps are charged for together
 abbrev pub total_cost : List UndoStep → ℕ

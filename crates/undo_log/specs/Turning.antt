@@ -1,38 +1,27 @@
--- A step from one list of records to the other.
-use Rattle.std.specs.Prelude.{◌≡◌, ◌≢◌, ◌⊎◌, Bool, true, false, List, [], ◌∷◌}
+-- A step from one list of the log to the other, and taking back the group that is open.
+use Rattle.std.specs.Prelude.{◌≡◌, ◌≢◌, ◌⊎◌, Bool, true, false, List, [], ◌∷◌, map, Option, Some, None, is_some, if◌then◌else◌}
 use Rattle.geos_model.specs.Document.{Document}
 use Rattle.geos_model.specs.declared.command.Kind.{Kind}
-use Rattle.geos_model.specs.declared.command.Kind.TheVariants.{Plain, In, Made, Freed}
+use Rattle.geos_model.specs.declared.command.Kind.TheVariants.{Plain, In, Made, Freed, Group}
 use Rattle.geos_model.specs.declared.fault.Fault.{Fault}
-use Rattle.geos_model.specs.declared.fault.Fault.TheVariants.{Damaged, Locked}
+use Rattle.geos_model.specs.declared.fault.Fault.TheVariants.{Damaged, GroupOpen, Locked, NoGroup}
 use Rattle.vm_store.specs.Facts.{StoreFacts}
 use Rattle.block_cache.specs.State.{CacheState}
-use Rattle.vm_blocks.specs.Changes.{after, turned, blocks_in}
+use Rattle.vm_blocks.specs.Changes.{turned, blocks_in}
 use Rattle.vm_blocks.specs.Keeping.{IsSteady, Lacks, is_loaded}
-use Rattle.vm_blocks.specs.Preparing.{BodyTakes, IsAtHand, Makes}
+use Rattle.vm_blocks.specs.Preparing.{AreUnready, BodyTakes, IsAtHand, Makes, MakesAll}
 use Rattle.vm_blocks.specs.declared.change.Change.{Change}
 use Rattle.vm_blocks.specs.declared.change.Direction.{Direction}
 use Rattle.vm_blocks.specs.declared.change.Direction.TheVariants.{Forwards, Backwards}
-use Rattle.doc_edits.specs.Planning.{kind_of_change}
+use Rattle.undo_log.specs.Logging.{after_entry, kind_of_entry, open_changes, turned_over}
 use Rattle.undo_log.specs.Records.{SessionState, blocks_of, has_locks, IsExact}
+use Rattle.undo_log.specs.declared.entry.LogEntry.{LogEntry}
+use Rattle.undo_log.specs.declared.entry.LogEntry.TheVariants as entries
 
--- the newest change of a list is carried out, and is the newest of the other
-pub record Moves {S : Type 0} (facts : S → StoreFacts) (direction : Direction) (old new : CacheState S) (from to from' to' : List Change) : Type 0 where
-  pub change : Change
-  pub makes : Makes facts (turned direction change) old new
-  pub from_was : from ≡ change ∷ from'
-  pub to_is : to' ≡ change ∷ to
-
--- there is none, and nothing changes
-pub record Stays {S : Type 0} (old new : CacheState S) (from to from' to' : List Change) : Type 0 where
-  pub blocks : new ≡ old
-  pub from_was : from ≡ []
-  pub from_is : from' ≡ []
-  pub to_is : to' ≡ to
-
-abbrev pub Turns : {S : Type 0} → (S → StoreFacts) → Bool → Direction → CacheState S → CacheState S → List Change → List Change → List Change → List Change → Type 0
-Turns facts true direction old new from to from' to' = Moves facts direction old new from to from' to'
-Turns facts false direction old new from to from' to' = Stays old new from to from' to'
+-- The changes of an entry are made.
+abbrev pub MakesEntry : {S : Type 0} → (S → StoreFacts) → Direction → LogEntry → CacheState S → CacheState S → Type 0
+MakesEntry facts direction (entries.One c) old new = Makes facts (turned direction c) old new
+MakesEntry facts direction (entries.Group cs) old new = MakesAll facts (map (turned direction) cs) old new
 
 -- Why a change can't be made where no block is locked: for a fault of what the call may lack, or a body that doesn't take it, if the store
 -- gives back what it has.
@@ -40,31 +29,58 @@ abbrev pub CantMake : {S : Type 0} → (S → StoreFacts) → Change → CacheSt
 CantMake facts change old new fault =
     Lacks facts old.disk.store new.disk.store fault ⊎ ((fault ≡ Damaged) × (IsSteady facts old.disk.store → BodyTakes change old.document → ⊥))
 
--- why the newest change of a list can't
-abbrev pub CantTurn : {S : Type 0} → (S → StoreFacts) → Direction → List Change → CacheState S → CacheState S → Fault → Type 0
-CantTurn facts direction [] old new fault = ⊥
-CantTurn facts direction (c ∷ cs) old new fault = CantMake facts (turned direction c) old new fault
+-- why those of an entry can't
+abbrev pub CantMakeEntry : {S : Type 0} → (S → StoreFacts) → Direction → LogEntry → CacheState S → CacheState S → Fault → Type 0
+CantMakeEntry facts direction (entries.One c) old new fault = CantMake facts (turned direction c) old new fault
+CantMakeEntry facts direction (entries.Group cs) old new fault = AreUnready facts (map (turned direction) cs) old new fault
 
--- It can: no block comes in, and the body that changes is in memory and takes the change.
-abbrev pub CanTurn : {S : Type 0} → Direction → List Change → CacheState S → Type 0
-CanTurn direction [] blocks = ⊥
-CanTurn direction (c ∷ cs) blocks = (blocks_in (turned direction c) ≡ []) × IsAtHand (turned direction c) blocks × BodyTakes (turned direction c) blocks.document
+-- That of one edit can: no block comes in, and the body that changes is in memory and takes the change.
+abbrev pub CanMakeEntry : {S : Type 0} → Direction → LogEntry → CacheState S → Type 0
+CanMakeEntry direction (entries.One c) blocks = (blocks_in (turned direction c) ≡ []) × IsAtHand (turned direction c) blocks × BodyTakes (turned direction c) blocks.document
+CanMakeEntry direction (entries.Group cs) blocks = ⊥
 
--- what the newest change of a list makes of a document
-abbrev pub newest_made : Direction → List Change → Document → Document
+-- the newest entry of a list is made, and is the newest of the other
+pub record Moves {S : Type 0} (facts : S → StoreFacts) (direction : Direction) (old new : CacheState S) (from to from' to' : List LogEntry) : Type 0 where
+  pub entry : LogEntry
+  pub makes : MakesEntry facts direction entry old new
+  pub from_was : from ≡ entry ∷ from'
+  pub to_is : to' ≡ turned_over entry ∷ to
+
+-- what the newest entry of a list makes of a document
+abbrev pub newest_made : Direction → List LogEntry → Document → Document
 newest_made direction [] d = d
-newest_made direction (c ∷ cs) d = after direction c d
+newest_made direction (e ∷ es) d = after_entry direction e d
 
--- Why an undo or a redo is refused where no block is locked: there is nothing to take, which has its own fault, and then nothing changes;
--- or a fault of what the call may lack; or, in a session that isn't exact, a body that doesn't take the change.
-abbrev pub IsRefusedUnlocked : {S : Type 0} → (S → StoreFacts) → Fault → List Change → SessionState S → SessionState S → Fault → Type 0
-IsRefusedUnlocked facts nothing from old new fault = ((from ≡ []) × (fault ≡ nothing) × (new ≡ old))
-    ⊎ ((from ≢ []) × (Lacks facts old.disk.store new.disk.store fault ⊎ ((fault ≡ Damaged) × (IsExact facts old → ⊥))))
+-- What is refused before all else where a group is to be closed and no block locked: for an open group, or else for a locked block.
+abbrev pub rest_fault : {S : Type 0} → SessionState S → Option Fault
+rest_fault s = if is_some s.log.group then Some GroupOpen else if has_locks s then Some Locked else None
 
--- and why where one may be: a locked block is before all else, and then nothing changes
-abbrev pub IsRefusedTurn : {S : Type 0} → (S → StoreFacts) → Fault → List Change → SessionState S → SessionState S → Fault → Type 0
-IsRefusedTurn facts nothing from old new fault = ((has_locks old ≡ true) × (fault ≡ Locked) × (new ≡ old))
-    ⊎ ((has_locks old ≡ false) × IsRefusedUnlocked facts nothing from old new fault)
+-- so where a group is to be open
+abbrev pub abandon_fault : {S : Type 0} → SessionState S → Option Fault
+abandon_fault s = if is_some s.log.group then (if has_locks s then Some Locked else None) else Some NoGroup
+
+-- Why what the log has can't be made: for a fault of what the call may lack; or, in a session that isn't exact, a body that doesn't take a
+-- change.
+abbrev pub IsNotTaken : {S : Type 0} → (S → StoreFacts) → SessionState S → SessionState S → Fault → Type 0
+IsNotTaken facts old new fault = Lacks facts old.disk.store new.disk.store fault ⊎ ((fault ≡ Damaged) × (IsExact facts old → ⊥))
+
+-- Why an undo or a redo is refused: before all else, for a group or a lock, or since there is nothing to take, which has its own fault, and
+-- then nothing changes; or it can't be made.
+abbrev pub IsRefusedTurn : {S : Type 0} → (S → StoreFacts) → Fault → List LogEntry → SessionState S → SessionState S → Fault → Type 0
+IsRefusedTurn facts nothing from old new fault = ((rest_fault old ≡ Some fault) × (new ≡ old))
+    ⊎ ((rest_fault old ≡ None) × (((from ≡ []) × (fault ≡ nothing) × (new ≡ old)) ⊎ ((from ≢ []) × IsNotTaken facts old new fault)))
+
+-- The group that is open is taken back, and closed.
+pub record Abandons {S : Type 0} (facts : S → StoreFacts) (old new : SessionState S) : Type 0 where
+  pub is_open : is_some old.log.group ≡ true
+  pub makes : MakesAll facts (map (turned Backwards) (open_changes old.log.group)) (blocks_of old) (blocks_of new)
+  pub log : new.log ≡ record old.log { group = None }
+
+-- Why it isn't: there is none, or a block is locked, and then nothing changes; or its changes can't be taken back, which none always can.
+abbrev pub IsNotAbandoned : {S : Type 0} → (S → StoreFacts) → SessionState S → SessionState S → Fault → Type 0
+IsNotAbandoned facts old new fault = ((abandon_fault old ≡ Some fault) × (new ≡ old))
+    ⊎ ((abandon_fault old ≡ None) × (open_changes old.log.group ≢ []) × IsNotTaken facts old new fault
+    × AreUnready facts (map (turned Backwards) (open_changes old.log.group)) (blocks_of old) (blocks_of new) fault)
 
 -- Whether a step of this kind is sure to be taken, with no memory and no call of the store: by it a user ID or the map block changes, or
 -- blocks go; or, in an exact session, the body of a block that is in memory changes.
@@ -75,8 +91,9 @@ IsSureKind facts s Forwards Made = ⊥
 IsSureKind facts s Backwards Made = Unit {0}
 IsSureKind facts s Forwards Freed = Unit {0}
 IsSureKind facts s Backwards Freed = ⊥
+IsSureKind facts s direction Group = ⊥
 
--- whether there is a newest change, and it is
-abbrev pub IsSure : {S : Type 0} → (S → StoreFacts) → SessionState S → Direction → List Change → Type 0
+-- whether there is a newest entry, and it is
+abbrev pub IsSure : {S : Type 0} → (S → StoreFacts) → SessionState S → Direction → List LogEntry → Type 0
 IsSure facts s direction [] = ⊥
-IsSure facts s direction (c ∷ cs) = IsSureKind facts s direction (kind_of_change c)
+IsSure facts s direction (e ∷ es) = IsSureKind facts s direction (kind_of_entry e)

@@ -1,9 +1,11 @@
 //! A session: a document of a file that is edited, and exact undo.
 #![tactic(auto)]
 
+mod entry;
+mod log;
 mod making;
 mod session;
-mod turn;
+mod turning;
 mod weighing;
 
 pub use session::Session;

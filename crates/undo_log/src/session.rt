@@ -1,9 +1,9 @@
 //! A document that is edited, with what undo needs.
-ghost use Rattle.std.specs.Prelude.{◌≡◌, ◌↔◌, ◌≢◌, ◌+◌, ◌-◌, ◌^◌, ◌≤◌, ◌<◌, ◌||◌, ◌⊎◌, ℕ, Bool, true, false, List, [], Some, Ok, Err, IsTrue, IsOk, IfOk, IfErr, OnOk, OnErr, MatchOption, MatchResult, length, min, nat_lt};
+ghost use Rattle.std.specs.Prelude.{◌≡◌, ◌↔◌, ◌≢◌, ◌+◌, ◌-◌, ◌^◌, ◌≤◌, ◌<◌, ◌||◌, ◌⊎◌, ℕ, Bool, true, false, List, [], Some, None, Ok, Err, IsTrue, IsOk, IfOk, IfErr, OnOk, OnErr, MatchOption, MatchResult, is_some, length, min, nat_lt};
 ghost use Rattle.std.specs.Result.{IsErrAnd};
 ghost use Rattle.std.specs.Borrow.{sem};
 ghost use Rattle.std.specs.FinMap.{get};
-ghost use Rattle.std.specs.Option.{option_map};
+ghost use Rattle.std.specs.Option.{option_map, option_map_or};
 ghost use Rattle.geos_model.specs.Document.{Document, is_raw};
 ghost use Rattle.geos_model.specs.File.{stands};
 ghost use Rattle.geos_model.specs.Meaning.{conditions};
@@ -29,18 +29,19 @@ ghost use Rattle.doc_edits.specs.Planning.{IsChainEditFault, Refuses};
 ghost use Rattle.doc_edits.specs.Room.{has_no_room, IsChainRefusal, ReadsNothing};
 ghost use Rattle.undo_log.specs.Editing.{EditsAtHand};
 ghost use Rattle.undo_log.specs.Locking.{IsBarred, IsHeld, IsNotMoved, TriesCommit};
-ghost use Rattle.undo_log.specs.Records.{blocks_of, file_of, has_locks, machine_of, has_failed, total_cost, total_weight, IsExact, IsStep, KeepsSession, Looks, Records};
-ghost use Rattle.undo_log.specs.Turning.{IsRefusedTurn, IsSure, Moves, newest_made};
+ghost use Rattle.undo_log.specs.Logging.{AreExclusive, empty_log, open_changes, to_redo, to_undo, total_weight, with_group_closed};
+ghost use Rattle.undo_log.specs.Records.{blocks_of, file_of, has_locks, machine_of, has_failed, total_cost, IsExact, IsStep, KeepsSession, Looks, Records};
+ghost use Rattle.undo_log.specs.Turning.{Abandons, IsNotAbandoned, IsRefusedTurn, IsSure, Moves, abandon_fault, newest_made, rest_fault};
 ghost use Rattle.undo_log.specs.contracts.session.Session.{the_row};
 
+use crate::log::UndoLog;
 use crate::making::{is_barred, make};
-use crate::turn::turn;
-use crate::weighing::total_weight;
+use crate::turning::{make_entry, take_back};
 use doc_edits::look_ups;
 use geos_model::{Bytes, ChunkHandle, Done, Edit, Fault, Info, Token, VmHandle};
 use std::alloc::Global;
 use std::marker::Model;
-use vm_blocks::{BlockBody, Change, Direction, FileBlocks};
+use vm_blocks::{BlockBody, Direction, FileBlocks};
 use vm_file::Refused;
 use vm_store::Store;
 
@@ -50,10 +51,7 @@ use vm_store::Store;
 pub struct Session<S: Store> {
     alloc: Global,
     blocks: FileBlocks<S>,
-    /// The newest edit is the last. There is room for the changes of both lists.
-    undo: Vec<Change>,
-    /// The next edit to make again is the last. There is room for the changes of both lists.
-    redo: Vec<Change>,
+    log: UndoLog,
 }
 
 impl<S: Store> Model for Session<S> {
@@ -64,31 +62,30 @@ impl<S: Store> Model for Session<S> {
 
     ghost coded = { session_code S.code };
 
-    ghost use Rattle.std.specs.Prelude.{◌+◌, ◌≤◌, reverse, vec_len, vec_capacity};
+    ghost use Rattle.std.specs.Prelude.{◌≡◌, None};
     ghost use Rattle.vm_blocks.specs.declared.change.Direction.TheVariants.{Backwards};
+    ghost use Rattle.undo_log.specs.Logging.{to_redo, to_undo};
     ghost use Rattle.undo_log.specs.Records.{AreListed};
 
-    ghost view = { λ s. record { disk = s.blocks.disk; document = s.blocks.document; resident = s.blocks.resident; frames = s.blocks.frames; undo = reverse s.undo.items; redo = reverse s.redo.items } };
+    ghost view = { λ s. record { disk = s.blocks.disk; document = s.blocks.document; resident = s.blocks.resident; frames = s.blocks.frames; log = s.log.lists } };
 
-    ghost invariant = { λ s. (vec_len s.undo + vec_len s.redo ≤ vec_capacity s.undo)
-        × (vec_len s.undo + vec_len s.redo ≤ vec_capacity s.redo)
-        × AreListed Backwards s.blocks.document (reverse s.undo.items) (reverse s.redo.items) };
+    ghost invariant = { λ s. AreListed Backwards s.blocks.document (to_undo s.log.lists) (to_redo s.log.lists)
+        × (s.blocks.disk.marked ≡ None) };
 }
 
 impl<S: Store> Session<S> {
     // A session of blocks of a file, none of which is in memory, with nothing to undo.
-    fn begin(alloc: Global, blocks: FileBlocks<S>) -> Session<S>
+    fn start(alloc: Global, blocks: FileBlocks<S>) -> Session<S>
+        requires { blocks.disk.marked ≡ None }
         ensures blocks { blocks_of result ≡ blocks }
-        ensures undo { result.undo ≡ [] }
-        ensures redo { result.redo ≡ [] }
+        ensures log { result.log ≡ empty_log }
         ensures exact { IsTrue (S.facts blocks.disk.store).honest → IsExact S.facts result }
     {
         blocks.validity();
         Session {
             alloc,
             blocks,
-            undo: Vec::new(alloc),
-            redo: Vec::new(alloc),
+            log: UndoLog::new(alloc),
         }
     }
 
@@ -98,12 +95,12 @@ impl<S: Store> Session<S> {
         ensures made { MatchResult result
             (λ session. IsMadeIn S.facts store (file_of session))
             (λ refused. IsNotMade S.facts store refused.store refused.fault) }
-        ensures new { IfOk result (λ session. (session.undo ≡ []) × (session.redo ≡ []) × (session.frames ≡ frames)) }
+        ensures new { IfOk result (λ session. (session.log ≡ empty_log) × (session.frames ≡ frames)) }
         ensures exact { IfOk result (λ session. IsTrue (S.facts store).honest → IsExact S.facts session) }
         ensures machine { IfOk result (λ session. (target : Bool) → machine_of target session ≡ empty_machine frames target) }
     {
         match FileBlocks::create(alloc, store, frames) {
-            Ok(blocks) => Ok(Session::begin(alloc, blocks)),
+            Ok(blocks) => Ok(Session::start(alloc, blocks)),
             Err(refused) => Err(refused),
         }
     }
@@ -116,38 +113,38 @@ impl<S: Store> Session<S> {
         ensures opened { MatchResult result
             (λ session. IsOpenedFrom S.facts store (file_of session))
             (λ refused. IsNotOpened S.facts store refused.store refused.fault) }
-        ensures new { IfOk result (λ session. (session.undo ≡ []) × (session.redo ≡ []) × (session.frames ≡ frames)) }
+        ensures new { IfOk result (λ session. (session.log ≡ empty_log) × (session.frames ≡ frames)) }
         ensures exact { IfOk result (λ session. IsTrue (S.facts store).honest → IsExact S.facts session) }
         ensures machine { IfOk result (λ session. IsTrue (S.facts store).honest → (updated saved : Document) (sequence : ℕ) (target : Bool)
             → stands (S.facts store).content ≡ Ok (updated, saved) → sequence_in (S.facts store).content ≡ Some sequence
             → machine_of target session ≡ opened_machine updated saved sequence frames target) }
     {
         match FileBlocks::open(alloc, store, frames) {
-            Ok(blocks) => Ok(Session::begin(alloc, blocks)),
+            Ok(blocks) => Ok(Session::start(alloc, blocks)),
             Err(refused) => Err(refused),
         }
     }
 
-    /// Gives the store back. Nothing is written.
+    /// Gives the store back. Nothing is written, also while a group is open.
     pub fn close(self) -> S
         ensures { result ≡ self.disk.store }
     {
         self.blocks.close()
     }
 
-    /// Makes the document as it is now the updated one. Locked where any block is, before all else; Worn where the sequence number
-    /// can't rise, before anything is written; Memory, where nothing is committed; File, where what was to be may be read after a
+    /// Makes the document as it is now the updated one. GroupOpen while a group is open, and then Locked where any block is, before all else; Worn
+    /// where the sequence number can't rise, before anything is written; Memory, where nothing is committed; File, where what was to be may be read after a
     /// crash.
     pub fn update(&mut self) -> Result<(), Fault>
         ensures step { IsStep S.facts self.old self.new commands.Update (reply_by (λ _. Accepted) result) }
         ensures commit { TriesCommit S.facts (self.old.document, self.old.disk.saved) self.old.document self.old self.new result }
         ensures fails { Fails S.facts (λ fault. IsWorn fault ⊎ IsHeld self.old fault) self.old.disk.store self.new.disk.store result }
-        ensures lists { (self.new.undo ≡ self.old.undo) × (self.new.redo ≡ self.old.redo) × (self.new.frames ≡ self.old.frames) }
+        ensures lists { (self.new.log ≡ self.old.log) × (self.new.frames ≡ self.old.frames) }
         ensures resident { self.new.resident ≡ self.old.resident }
     {
         self.blocks.validity();
-        if self.has_locks() {
-            return Err(Fault::Locked);
+        if let Some(fault) = self.rest_fault() {
+            return Err(fault);
         }
         self.blocks.update()
     }
@@ -157,13 +154,13 @@ impl<S: Store> Session<S> {
         ensures step { IsStep S.facts self.old self.new commands.Save (reply_by (λ _. Accepted) result) }
         ensures commit { TriesCommit S.facts (self.old.document, self.old.document) self.old.document self.old self.new result }
         ensures fails { Fails S.facts (λ fault. IsWorn fault ⊎ IsHeld self.old fault) self.old.disk.store self.new.disk.store result }
-        ensures lists { (self.new.undo ≡ self.old.undo) × (self.new.redo ≡ self.old.redo) × (self.new.frames ≡ self.old.frames) }
+        ensures lists { (self.new.log ≡ self.old.log) × (self.new.frames ≡ self.old.frames) }
         ensures resident { self.new.resident ≡ self.old.resident }
     {
         self.blocks.validity();
-        if self.has_locks() {
+        if let Some(fault) = self.rest_fault() {
             // Before the sequence number is looked at.
-            return Err(Fault::Locked);
+            return Err(fault);
         }
         self.blocks.save()
     }
@@ -175,24 +172,23 @@ impl<S: Store> Session<S> {
         ensures commit { TriesCommit S.facts (self.old.disk.saved, self.old.disk.saved) self.old.disk.saved self.old self.new result }
         ensures fails { Fails S.facts (λ fault. IsWorn fault ⊎ IsHeld self.old fault) self.old.disk.store self.new.disk.store result }
         ensures exact { OnOk result (IsTrue (S.facts self.old.disk.store).honest → IsExact S.facts self.new) }
-        ensures lists { MatchResult result (λ _. (self.new.undo ≡ []) × (self.new.redo ≡ [])) (λ _. (self.new.undo ≡ self.old.undo) × (self.new.redo ≡ self.old.redo)) × (self.new.frames ≡ self.old.frames) }
+        ensures lists { MatchResult result (λ _. self.new.log ≡ empty_log) (λ _. self.new.log ≡ self.old.log) × (self.new.frames ≡ self.old.frames) }
         ensures resident { MatchResult result (λ _. self.new.resident ≡ []) (λ _. self.new.resident ≡ self.old.resident) }
     {
         self.blocks.validity();
-        if self.has_locks() {
-            return Err(Fault::Locked);
+        if let Some(fault) = self.rest_fault() {
+            return Err(fault);
         }
         self.blocks.revert()?;
         self.blocks.validity();
-        self.undo.clear();
-        self.redo.clear();
+        self.log.clear();
         Ok(())
     }
 
     /// Makes another store a file of its own, with the document as it is now as its updated and its saved one, and goes on in
     /// that. The file so far goes back to its saved document, and its store comes back. Where it is refused the session stays in
     /// its file, and the target comes back, with any bytes; in the file so far nothing is committed then, but where its store
-    /// fails. Locked where any block is, before all else, and Worn where the sequence number of the file so far can't rise, before
+    /// fails. GroupOpen while a group is open, and then Locked where any block is, before all else, and Worn where the sequence number of the file so far can't rise, before
     /// anything is written; over a store that isn't honest what is read may be no image, which is Damaged; Memory, File.
     pub fn save_as(&mut self, target: S) -> Result<S, Refused<S>>
         // a step of the machine, where it is accepted into an honest target
@@ -205,25 +201,26 @@ impl<S: Store> Session<S> {
         ensures saved_as { MatchResult result
             (λ store. IsSavedAs S.facts target store (file_of self.old) (file_of self.new))
             (λ refused. IsNotMoved S.facts target refused.store self.old self.new refused.fault) }
-        ensures locked { has_locks self.old ≡ true
-            → IsErrAnd result (λ refused. (refused.fault ≡ Fault.Locked) × (refused.store ≡ target)) × (self.new ≡ self.old) }
+        ensures held { (fault : Fault) → rest_fault self.old ≡ Some fault
+            → IsErrAnd result (λ refused. (refused.fault ≡ fault) × (refused.store ≡ target)) × (self.new ≡ self.old) }
         // of the store that comes back
         ensures reverted { IfOk result (λ store. IsTrue (S.facts self.old.disk.store).honest → stands (S.facts store).content ≡ Ok (self.old.disk.saved, self.old.disk.saved)) }
-        ensures lists { (self.new.undo ≡ self.old.undo) × (self.new.redo ≡ self.old.redo) × (self.new.frames ≡ self.old.frames) }
+        ensures lists { (self.new.log ≡ self.old.log) × (self.new.frames ≡ self.old.frames) }
         ensures resident { self.new.resident ≡ self.old.resident }
-        ensures worn { IsErrAnd result (λ refused. refused.fault ≡ Fault.Worn) ↔ (has_locks self.old ≡ false) × (self.old.disk.sequence ≡ last_sequence) }
+        ensures worn { IsErrAnd result (λ refused. refused.fault ≡ Fault.Worn) ↔ (rest_fault self.old ≡ None) × (self.old.disk.sequence ≡ last_sequence) }
     {
         self.blocks.validity();
-        if self.has_locks() {
+        if let Some(fault) = self.rest_fault() {
             return Err(Refused {
-                fault: Fault::Locked,
+                fault,
                 store: target,
             });
         }
         self.blocks.save_as(target)
     }
 
-    /// Makes an edit, which can be undone from then on. Locked where it frees a locked block, or copies or frees a chain while any
+    /// Makes an edit, after which nothing is left to redo. Outside of a group it is the newest step; in one it is a part of the step that the
+    /// group becomes. Locked where it frees a locked block, or copies or frees a chain while any
     /// block is locked, before all else; CacheFull where each frame has a locked block, and it looks into the body of another one. For an edit of a user ID, of the map block or of
     /// the body of a block in memory, and for one that frees such a block, no store is called.
     pub fn edit(&mut self, edit: &Edit) -> Result<Done, Fault>
@@ -246,99 +243,188 @@ impl<S: Store> Session<S> {
         if is_barred(&self.blocks, edit) {
             return Err(Fault::Locked);
         }
-        self.undo.reserve(self.redo.len() + 1)?;
-        self.redo.reserve(self.undo.len() + 1)?;
+        self.log.reserve()?;
         let (change, done) = make(self.alloc, &mut self.blocks, edit)?;
-        self.redo.clear();
-        self.undo.push_reserved(change);
+        self.log.add(change);
         Ok(done)
     }
 
-    /// Goes back to the document before the newest edit. Locked where any block is, before all else; NothingToUndo. Where its block
-    /// has to be brought into memory first, it is refused as that is.
+    /// Goes back to the document before the newest step: an edit, or a group of edits as a whole. GroupOpen while a group is open, and
+    /// then Locked where any block is, before all else; NothingToUndo. Memory or File where a block has to be brought into memory or
+    /// comes in, and of a group always; Damaged only over a store that isn't honest, or after a save-as from one. Where a group is refused
+    /// so no block may be in memory afterwards.
     pub fn undo(&mut self) -> Result<(), Fault>
         ensures step { IsStep S.facts self.old self.new commands.Undo (reply_by (λ _. Accepted) result) }
-        ensures ok { OnOk result (Moves S.facts Backwards (blocks_of self.old) (blocks_of self.new) self.old.undo self.old.redo self.new.undo self.new.redo) }
+        ensures ok { OnOk result (Moves S.facts Backwards (blocks_of self.old) (blocks_of self.new) self.old.log.undo self.old.log.redo self.new.log.undo self.new.log.redo) }
         ensures err { OnErr result (KeepsSession S.facts self.old self.new) }
-        ensures refusals { IfErr result (IsRefusedTurn S.facts Fault.NothingToUndo self.old.undo self.old self.new) }
-        ensures locked { has_locks self.old ≡ true → (result ≡ Err Fault.Locked) × (self.new ≡ self.old) }
+        ensures refusals { IfErr result (IsRefusedTurn S.facts Fault.NothingToUndo self.old.log.undo self.old self.new) }
+        ensures held { (fault : Fault) → rest_fault self.old ≡ Some fault → (result ≡ Err fault) × (self.new ≡ self.old) }
+        ensures group { self.new.log.group ≡ self.old.log.group }
         ensures passes { Passes S.facts self.old.disk self.new.disk }
-        ensures sure { has_locks self.old ≡ false → IsSure S.facts self.old Backwards self.old.undo → IsOk result × (self.new.disk ≡ self.old.disk) × (self.new.document ≡ newest_made Backwards self.old.undo self.old.document) }
+        ensures sure { rest_fault self.old ≡ None → IsSure S.facts self.old Backwards self.old.log.undo → IsOk result × (self.new.disk ≡ self.old.disk) × (self.new.document ≡ newest_made Backwards self.old.log.undo self.old.document) }
     {
-        if self.has_locks() {
+        self.blocks.validity();
+        if let Some(fault) = self.rest_fault() {
             // Before it is asked whether there is anything to undo.
-            return Err(Fault::Locked);
+            return Err(fault);
         }
-        if turn(
-            &mut self.blocks,
-            &mut self.undo,
-            &mut self.redo,
-            Direction::Backwards,
-        )? {
-            Ok(())
-        } else {
-            Err(Fault::NothingToUndo)
+        match self.log.newest_undo() {
+            None => Err(Fault::NothingToUndo),
+            Some(entry) => {
+                make_entry(&mut self.blocks, entry, Direction::Backwards)?;
+                self.log.move_undone();
+                Ok(())
+            }
         }
     }
 
-    /// Makes the edit again that the newest undo took back. Refused as an undo is; NothingToRedo.
+    /// Makes the step again that the newest undo took back. Refused as an undo is; NothingToRedo.
     pub fn redo(&mut self) -> Result<(), Fault>
         ensures step { IsStep S.facts self.old self.new commands.Redo (reply_by (λ _. Accepted) result) }
-        ensures ok { OnOk result (Moves S.facts Forwards (blocks_of self.old) (blocks_of self.new) self.old.redo self.old.undo self.new.redo self.new.undo) }
+        ensures ok { OnOk result (Moves S.facts Forwards (blocks_of self.old) (blocks_of self.new) self.old.log.redo self.old.log.undo self.new.log.redo self.new.log.undo) }
         ensures err { OnErr result (KeepsSession S.facts self.old self.new) }
-        ensures refusals { IfErr result (IsRefusedTurn S.facts Fault.NothingToRedo self.old.redo self.old self.new) }
-        ensures locked { has_locks self.old ≡ true → (result ≡ Err Fault.Locked) × (self.new ≡ self.old) }
+        ensures refusals { IfErr result (IsRefusedTurn S.facts Fault.NothingToRedo self.old.log.redo self.old self.new) }
+        ensures held { (fault : Fault) → rest_fault self.old ≡ Some fault → (result ≡ Err fault) × (self.new ≡ self.old) }
+        ensures group { self.new.log.group ≡ self.old.log.group }
         ensures passes { Passes S.facts self.old.disk self.new.disk }
-        ensures sure { has_locks self.old ≡ false → IsSure S.facts self.old Forwards self.old.redo → IsOk result × (self.new.disk ≡ self.old.disk) × (self.new.document ≡ newest_made Forwards self.old.redo self.old.document) }
+        ensures sure { rest_fault self.old ≡ None → IsSure S.facts self.old Forwards self.old.log.redo → IsOk result × (self.new.disk ≡ self.old.disk) × (self.new.document ≡ newest_made Forwards self.old.log.redo self.old.document) }
     {
-        if self.has_locks() {
-            return Err(Fault::Locked);
+        self.blocks.validity();
+        if let Some(fault) = self.rest_fault() {
+            return Err(fault);
         }
-        if turn(
-            &mut self.blocks,
-            &mut self.redo,
-            &mut self.undo,
-            Direction::Forwards,
-        )? {
-            Ok(())
-        } else {
-            Err(Fault::NothingToRedo)
+        match self.log.newest_redo() {
+            None => Err(Fault::NothingToRedo),
+            Some(entry) => {
+                make_entry(&mut self.blocks, entry, Direction::Forwards)?;
+                self.log.move_redone();
+                Ok(())
+            }
         }
     }
 
-    /// How many edits can be undone.
+    /// Opens a group: the edits from here on are one step, once it ends. GroupOpen where one is open. No memory, no store.
+    pub fn begin(&mut self) -> Result<(), Fault>
+        ensures step { (target : Bool) → Step false (machine_of target self.old) (Some commands.Begin) (reply_by (λ _. Accepted) result) (machine_of target self.new) }
+        ensures ok { OnOk result ((self.old.log.group ≡ None) × (self.new ≡ record self.old { log = record self.old.log { group = Some [] } })) }
+        ensures err { IfErr result (λ fault. (fault ≡ Fault.GroupOpen) × (is_some self.old.log.group ≡ true) × (self.new ≡ self.old)) }
+        ensures exact { IsExact S.facts self.old → IsExact S.facts self.new }
+    {
+        if self.log.in_group() {
+            return Err(Fault::GroupOpen);
+        }
+        self.log.open_group(self.alloc);
+        Ok(())
+    }
+
+    /// Ends the group: its edits are the newest step. Where it has none it leaves no step, and what can be made again stays. NoGroup where
+    /// none is open. No memory, no store.
+    pub fn end(&mut self) -> Result<(), Fault>
+        ensures step { (target : Bool) → Step false (machine_of target self.old) (Some commands.End) (reply_by (λ _. Accepted) result) (machine_of target self.new) }
+        ensures ok { OnOk result ((is_some self.old.log.group ≡ true) × (self.new ≡ record self.old { log = with_group_closed self.old.log })) }
+        ensures err { IfErr result (λ fault. (fault ≡ Fault.NoGroup) × (self.old.log.group ≡ None) × (self.new ≡ self.old)) }
+        ensures exact { IsExact S.facts self.old → IsExact S.facts self.new }
+    {
+        if !self.log.in_group() {
+            return Err(Fault::NoGroup);
+        }
+        self.log.close_group();
+        Ok(())
+    }
+
+    /// Ends the group and goes back to the document before it. What can be undone stays; what could be made again stays where the group has
+    /// no edit. NoGroup where none is open, and then Locked where any block is, before all else; Memory, File or Damaged as an undo of a
+    /// group is, and then the group is open still. A group without an edit takes no memory and calls no store.
+    pub fn abandon(&mut self) -> Result<(), Fault>
+        ensures step { IsStep S.facts self.old self.new commands.Abandon (reply_by (λ _. Accepted) result) }
+        ensures ok { OnOk result (Abandons S.facts self.old self.new) }
+        ensures err { OnErr result (KeepsSession S.facts self.old self.new) }
+        ensures refusals { IfErr result (IsNotAbandoned S.facts self.old self.new) }
+        ensures held { (fault : Fault) → abandon_fault self.old ≡ Some fault → (result ≡ Err fault) × (self.new ≡ self.old) }
+        ensures passes { Passes S.facts self.old.disk self.new.disk }
+        ensures empty { abandon_fault self.old ≡ None → self.old.log.group ≡ Some [] → IsOk result × (self.new ≡ record self.old { log = record self.old.log { group = None } }) }
+    {
+        self.blocks.validity();
+        self.log.validity();
+        if let Some(fault) = self.abandon_fault() {
+            return Err(fault);
+        }
+        take_back(&mut self.blocks, self.log.group())?;
+        self.log.forget_group();
+        Ok(())
+    }
+
+    /// Whether a group is open.
+    pub fn in_group(&self) -> bool
+        ensures value { result ≡ is_some self.now.log.group }
+        ensures machine { (target : Bool) → result ≡ is_some (machine_of target self.now).group }
+    {
+        self.log.in_group()
+    }
+
+    // What keeps a commit, an undo or a redo from being tried.
+    fn rest_fault(&self) -> Option<Fault>
+        ensures is { result ≡ rest_fault self.now }
+        ensures unlocked { result ≡ None → nat_lt 0 (locked_count self.now.resident) ≡ false }
+    {
+        if self.log.in_group() {
+            Some(Fault::GroupOpen)
+        } else if self.has_locks() {
+            Some(Fault::Locked)
+        } else {
+            None
+        }
+    }
+
+    // What keeps a group from being abandoned.
+    fn abandon_fault(&self) -> Option<Fault>
+        ensures is { result ≡ abandon_fault self.now }
+        ensures unlocked { result ≡ None → nat_lt 0 (locked_count self.now.resident) ≡ false }
+    {
+        if !self.log.in_group() {
+            Some(Fault::NoGroup)
+        } else if self.has_locks() {
+            Some(Fault::Locked)
+        } else {
+            None
+        }
+    }
+
+    /// How many steps can be undone. A group that is open is none yet.
     pub fn undo_count(&self) -> usize
-        ensures records { result ≡ length self.now.undo }
+        ensures records { result ≡ length self.now.log.undo }
         ensures past { (target : Bool) → result ≡ length (machine_of target self.now).past }
     {
-        self.undo.len()
+        self.log.undo_count()
     }
 
-    /// How many edits can be redone.
+    /// How many steps can be redone.
     pub fn redo_count(&self) -> usize
-        ensures records { result ≡ length self.now.redo }
+        ensures records { result ≡ length self.now.log.redo }
         ensures future { (target : Bool) → result ≡ length (machine_of target self.now).future }
     {
-        self.redo.len()
+        self.log.redo_count()
     }
 
     /// It does nothing: its caller learns that each document of the machine of an exact session is valid, as it always is, that its
-    /// locks are, and what a crash now leaves. What a store that isn't honest has isn't known, but for handles and the map block.
+    /// locks are, what a crash now leaves, and that nothing is left to redo while the open group has an edit. What a store that isn't honest has isn't known, but for handles and the map block.
     pub fn validity(&self)
         ensures machine { IsExact S.facts self.now → (target : Bool) → IsValidMachine (machine_of target self.now) }
         ensures locks { (target : Bool) → AreValidLocks (machine_of target self.now) }
         ensures listed { IsListed (S.facts self.now.disk.store).honest self.now.document }
         ensures settled { IsSettled S.facts self.now.disk }
+        ensures group { AreExclusive (open_changes self.now.log.group) self.now.log.redo }
     {
         self.blocks.validity();
+        self.log.validity();
     }
 
-    /// How many content bytes the records of undo and redo hold, 2^64 - 1 where these are more.
+    /// How many content bytes the records of undo, redo and an open group hold, 2^64 - 1 where these are more.
     pub fn weight(&self) -> u64
-        ensures exact { result ≡ min (total_weight self.now.undo + total_weight self.now.redo) (2 ^ 64 - 1) }
-        ensures charged { (target : Bool) → result ≤ total_cost (machine_of target self.now).past + total_cost (machine_of target self.now).future }
+        ensures exact { result ≡ min (total_weight (to_undo self.now.log) + total_weight (to_redo self.now.log)) (2 ^ 64 - 1) }
+        ensures charged { (target : Bool) → result ≤ total_cost (machine_of target self.now).past + total_cost (machine_of target self.now).future + option_map_or (λ g. g.cost) (machine_of target self.now).group 0 }
     {
-        total_weight(self.undo.as_slice()).saturating_add(total_weight(self.redo.as_slice()))
+        self.log.weight()
     }
 
     /// Locks a block once more. It is brought into memory, and stays there until it is unlocked as often. NoBlock; LockLimit where it
@@ -350,7 +436,7 @@ impl<S: Store> Session<S> {
         ensures err { OnErr result (KeepsSession S.facts self.old self.new) }
         ensures refusals { IfErr result (λ fault. Lacks S.facts self.old.disk.store self.new.disk.store fault ⊎ CantLock (blocks_of self.old) block.0 fault) }
         ensures early { (fault : Fault) → CantLock (blocks_of self.old) block.0 fault → (result ≡ Err fault) × (self.new ≡ self.old) }
-        ensures lists { (self.new.undo ≡ self.old.undo) × (self.new.redo ≡ self.old.redo) }
+        ensures log { self.new.log ≡ self.old.log }
         ensures already { is_loaded (blocks_of self.old) block.0 ≡ true → locks_of self.old.resident block.0 < 255
             → IsOk result × (self.new.disk ≡ self.old.disk) × (self.new.document ≡ self.old.document) }
     {
@@ -391,7 +477,7 @@ impl<S: Store> Session<S> {
         }
     }
 
-    /// Whether any block is locked, so that commits, undo, redo and edits of chains are refused.
+    /// Whether any block is locked, so that commits, undo, redo, abandon and edits of chains are refused.
     pub fn has_locks(&self) -> bool
         ensures value { result ≡ has_locks self.now }
         ensures machine { (target : Bool) → result ≡ machine_has_locks (machine_of target self.now) }

@@ -1,6 +1,8 @@
 ghost use Rattle.std.specs.Prelude.{◌≡◌, ◌-◌, ◌^◌, min};
-ghost use Rattle.undo_log.specs.Records.{total_weight};
+ghost use Rattle.std.specs.List.{sum_by};
+ghost use Rattle.undo_log.specs.Logging.{entry_weight, total_weight};
 
+use crate::entry::LogEntry;
 use vm_blocks::Change;
 
 /// How many content bytes changes hold together, 2^64 - 1 where these are more.
@@ -10,6 +12,17 @@ pub fn total_weight(changes: &[Change]) -> u64
     let mut total = 0u64;
     for change in changes.iter() {
         total = total.saturating_add(change.weight());
+    }
+    total
+}
+
+/// How many those of entries hold.
+pub fn entries_weight(entries: &[LogEntry]) -> u64
+    ensures { result ≡ min (sum_by entry_weight entries.now) (2 ^ 64 - 1) }
+{
+    let mut total = 0u64;
+    for entry in entries.iter() {
+        total = total.saturating_add(entry.weight());
     }
     total
 }

@@ -1,5 +1,5 @@
 use Rattle.std.proofs.Common.{◌≡◌, ◌-◌, ◌^◌, min, take}
-use Rattle.undo_log.specs.Records.{total_weight}
+use Rattle.undo_log.specs.Logging.{total_weight}
 use Rattle.undo_log.proofs.weighing.total_weight.Given as goal
 
 abbrev pub invariant-loop-change : goal.invariant-loop-change

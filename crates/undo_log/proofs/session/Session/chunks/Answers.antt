@@ -1,18 +1,13 @@
-use Rattle.std.proofs.Common.{reverse, refl, rules}
+use Rattle.std.proofs.Common.{refl}
 use Rattle.geos_model.specs.declared.command.Command.TheVariants as commands
-use Rattle.vm_blocks.proofs.KeepingLaws.{keeps-drifts}
-use Rattle.undo_log.proofs.Keeping.{drifted_listed}
+use Rattle.undo_log.proofs.Keeping.{kept_invariant}
 use Rattle.undo_log.proofs.LookUps.{looked_at}
 use Rattle.undo_log.proofs.session.Session.chunks.Goals as goal
 
 pub returns : goal.returns
 returns g c =
-    looked_at g.S.Store.facts _ _ (reverse c.self.inside.undo.items) (reverse c.self.inside.redo.items) c.chunks.ensures.keeps _ c.self.view_is c.validity.ensures.distinct (commands.Chunks c.args.block) _
+    looked_at g.S.Store.facts _ _ c.self.inside.log.lists c.chunks.ensures.keeps _ c.self.view_is c.validity.ensures.distinct (commands.Chunks c.args.block) _
     (record { takes = λ _. refl; calls = λ _. refl; refuses = λ _. refl; answers = λ _. refl }) c.chunks.ensures
 
 pub invariant_of-self : goal.invariant_of-self
-invariant_of-self g c = (
-  search rules,
-  search rules,
-  drifted_listed _ _ _ (reverse c.self.inside.undo.items) (reverse c.self.inside.redo.items) (keeps-drifts g.S.Store.facts _ _ c.chunks.ensures.keeps) c.self.invariant.2,
-)
+invariant_of-self g c = kept_invariant g.S.Store.facts _ _ c.self.inside.log.lists c.chunks.ensures.keeps c.self.invariant

@@ -6,21 +6,21 @@ use Rattle.undo_log.proofs.Beginnings.{begun}
 use Rattle.undo_log.proofs.session.Session.create.Goals as goal
 
 pub returns-in-Ok-clause-made : goal.returns-in-Ok-clause-made
-returns-in-Ok-clause-made g c = subst (λ (b : CacheState g.row.S.Denot). IsMadeIn g.S.Store.facts c.args.store (seen b)) (sym c.begin.ensures.blocks) c.in-Ok.ensures.made
+returns-in-Ok-clause-made g c = subst (λ (b : CacheState g.row.S.Denot). IsMadeIn g.S.Store.facts c.args.store (seen b)) (sym c.start.ensures.blocks) c.in-Ok.ensures.made
 
 pub returns-in-Ok-clause-new : goal.returns-in-Ok-clause-new
-returns-in-Ok-clause-new g c = (c.begin.ensures.undo, c.begin.ensures.redo, ap (λ (b : CacheState g.row.S.Denot). b.frames) c.begin.ensures.blocks ∙ c.in-Ok.ensures.frames)
+returns-in-Ok-clause-new g c = (c.start.ensures.log, ap (λ (b : CacheState g.row.S.Denot). b.frames) c.start.ensures.blocks ∙ c.in-Ok.ensures.frames)
 
 pub returns-in-Ok-clause-exact : goal.returns-in-Ok-clause-exact
-returns-in-Ok-clause-exact g c so = c.begin.ensures.exact (subst IsTrue (sym c.in-Ok.ensures.made.follows.honest) so)
+returns-in-Ok-clause-exact g c so = c.start.ensures.exact (subst IsTrue (sym c.in-Ok.ensures.made.follows.honest) so)
 
 pub returns-in-Ok-clause-machine : goal.returns-in-Ok-clause-machine
 returns-in-Ok-clause-machine g c target =
-    let is = c.begin.ensures.blocks in
+    let is = c.start.ensures.blocks in
     let made = c.in-Ok.ensures.made in
-    begun c.begin.result empty_document empty_document 1 c.args.frames target
+    begun c.start.result empty_document empty_document 1 c.args.frames target
     (ap (λ (b : CacheState g.row.S.Denot). b.document) is ∙ made.document)
     (ap (λ (b : CacheState g.row.S.Denot). b.disk.updated) is ∙ made.new_file.updated)
     (ap (λ (b : CacheState g.row.S.Denot). b.disk.saved) is ∙ made.new_file.saved)
     (ap (λ (b : CacheState g.row.S.Denot). b.disk.sequence) is ∙ made.new_file.sequence)
-    c.begin.ensures.undo c.begin.ensures.redo (ap (λ (b : CacheState g.row.S.Denot). b.resident) is ∙ c.in-Ok.ensures.empty) (ap (λ (b : CacheState g.row.S.Denot). b.frames) is ∙ c.in-Ok.ensures.frames)
+    c.start.ensures.log (ap (λ (b : CacheState g.row.S.Denot). b.resident) is ∙ c.in-Ok.ensures.empty) (ap (λ (b : CacheState g.row.S.Denot). b.frames) is ∙ c.in-Ok.ensures.frames)

@@ -18,11 +18,11 @@ use Rattle.doc_edits.specs.Planning.{IsChainEditFault, Refuses}
 use Rattle.doc_edits.specs.Room.{has_no_room, ReadsNothing}
 use Rattle.undo_log.specs.Editing.{EditsAtHand}
 use Rattle.undo_log.specs.Locking.{IsBarred}
+use Rattle.undo_log.specs.Logging.{Log, to_redo, to_undo, with_change}
 use Rattle.undo_log.specs.Records.{SessionState, blocks_of, machine_of, AreListed, IsStep, KeepsSession, Records}
-use Rattle.undo_log.proofs.Edited.{barred_fault, barred_step, edit_step, edit_refused, carried_fault, made_at_hand, not_barred, refused_at_hand}
-use Rattle.undo_log.proofs.Keeping.{drifted_listed, keeps_refl}
+use Rattle.undo_log.proofs.Edited.{barred_fault, barred_step, changed_listed, edit_step, edit_refused, carried_fault, made_at_hand, not_barred, refused_at_hand}
+use Rattle.undo_log.proofs.Keeping.{Holds, keeps_refl, kept_invariant, none_marked}
 use Rattle.undo_log.proofs.Listing.{drifted, edited_listed}
-use Rattle.undo_log.proofs.Lists.{pushed_first}
 use Rattle.undo_log.proofs.LookUps.{same_session, session_with}
 use Rattle.undo_log.proofs.session.Session.edit.Goals as goal
 
@@ -30,7 +30,7 @@ use Rattle.undo_log.proofs.session.Session.edit.Goals as goal
 pub returns-then-is_barred-clause-step : goal.returns-then-is_barred-clause-step
 returns-then-is_barred-clause-step g c =
     let facts = g.S.Store.facts in
-    let old = session_with c.self.inside.blocks (reverse c.self.inside.undo.items) (reverse c.self.inside.redo.items) in
+    let old = session_with c.self.inside.blocks c.self.inside.log.lists in
     subst (λ (s : SessionState g.row.S.Denot). IsStep facts s s (commands.Edit c.args.edit.now) (reply_by reply_of_done (Err Locked))) c.self.view_is
     (barred_step facts old c.args.edit.now c.validity.ensures.distinct (sym c.is_barred.ensures ∙ c.if-is_barred.true))
 
@@ -40,45 +40,39 @@ returns-then-is_barred-clause-err g c = keeps_refl g.S.Store.facts c.args.self.n
 pub returns-then-is_barred-clause-refusals : goal.returns-then-is_barred-clause-refusals
 returns-then-is_barred-clause-refusals g c =
     let facts = g.S.Store.facts in
-    let old = session_with c.self.inside.blocks (reverse c.self.inside.undo.items) (reverse c.self.inside.redo.items) in
+    let old = session_with c.self.inside.blocks c.self.inside.log.lists in
     inl (subst (λ (s : SessionState g.row.S.Denot). IsBarred c.args.edit.now s Locked) c.self.view_is (barred_fault facts old c.args.edit.now c.validity.ensures.distinct (sym c.is_barred.ensures ∙ c.if-is_barred.true)))
 
 pub returns-then-is_barred-clause-already : goal.returns-then-is_barred-clause-already
 returns-then-is_barred-clause-already g c = λ other nothing.
     let facts = g.S.Store.facts in
-    let old = session_with c.self.inside.blocks (reverse c.self.inside.undo.items) (reverse c.self.inside.redo.items) in
+    let old = session_with c.self.inside.blocks c.self.inside.log.lists in
     subst (λ (s : SessionState g.row.S.Denot). EditsAtHand c.args.edit.now s s (Err Locked)) c.self.view_is
     (record { disk = refl; ok = tt; err = (refl, inl (barred_fault facts old c.args.edit.now c.validity.ensures.distinct (sym c.is_barred.ensures ∙ c.if-is_barred.true))) })
 
 pub returns-then-is_barred-clause-shut : goal.returns-then-is_barred-clause-shut
 returns-then-is_barred-clause-shut g c = λ out.
     let facts = g.S.Store.facts in
-    let old = session_with c.self.inside.blocks (reverse c.self.inside.undo.items) (reverse c.self.inside.redo.items) in
+    let old = session_with c.self.inside.blocks c.self.inside.log.lists in
     (refl, inl (subst (λ (s : SessionState g.row.S.Denot). IsBarred c.args.edit.now s Locked) c.self.view_is (barred_fault facts old c.args.edit.now c.validity.ensures.distinct (sym c.is_barred.ensures ∙ c.if-is_barred.true))))
 
 -- no lock does
 
 pub returns-in_err-reserve-clause-locked : goal.returns-in_err-reserve-clause-locked
 returns-in_err-reserve-clause-locked g c = λ barred.
-    let old = session_with c.self.inside.blocks (reverse c.self.inside.undo.items) (reverse c.self.inside.redo.items) in
-    absurd (subst (λ (s : SessionState g.row.S.Denot). ((target : Bool) → is_barred c.args.edit.now (machine_of target s) ≡ true) → ⊥) c.self.view_is
-    (not_barred old c.args.edit.now c.validity.ensures.distinct (sym c.is_barred.ensures ∙ c.if-is_barred.false)) barred)
-
-pub returns-in_err-reserve-2-clause-locked : goal.returns-in_err-reserve-2-clause-locked
-returns-in_err-reserve-2-clause-locked g c = λ barred.
-    let old = session_with c.self.inside.blocks (reverse c.self.inside.undo.items) (reverse c.self.inside.redo.items) in
+    let old = session_with c.self.inside.blocks c.self.inside.log.lists in
     absurd (subst (λ (s : SessionState g.row.S.Denot). ((target : Bool) → is_barred c.args.edit.now (machine_of target s) ≡ true) → ⊥) c.self.view_is
     (not_barred old c.args.edit.now c.validity.ensures.distinct (sym c.is_barred.ensures ∙ c.if-is_barred.false)) barred)
 
 pub returns-in_err-change-clause-locked : goal.returns-in_err-change-clause-locked
 returns-in_err-change-clause-locked g c = λ barred.
-    let old = session_with c.self.inside.blocks (reverse c.self.inside.undo.items) (reverse c.self.inside.redo.items) in
+    let old = session_with c.self.inside.blocks c.self.inside.log.lists in
     absurd (subst (λ (s : SessionState g.row.S.Denot). ((target : Bool) → is_barred c.args.edit.now (machine_of target s) ≡ true) → ⊥) c.self.view_is
     (not_barred old c.args.edit.now c.validity.ensures.distinct (sym c.is_barred.ensures ∙ c.if-is_barred.false)) barred)
 
 pub returns-clause-locked : goal.returns-clause-locked
 returns-clause-locked g c = λ barred.
-    let old = session_with c.self.inside.blocks (reverse c.self.inside.undo.items) (reverse c.self.inside.redo.items) in
+    let old = session_with c.self.inside.blocks c.self.inside.log.lists in
     absurd (subst (λ (s : SessionState g.row.S.Denot). ((target : Bool) → is_barred c.args.edit.now (machine_of target s) ≡ true) → ⊥) c.self.view_is
     (not_barred old c.args.edit.now c.validity.ensures.distinct (sym c.is_barred.ensures ∙ c.if-is_barred.false)) barred)
 
@@ -86,112 +80,70 @@ returns-clause-locked g c = λ barred.
 pub returns-in_err-reserve-clause-step : goal.returns-in_err-reserve-clause-step
 returns-in_err-reserve-clause-step g c =
     let facts = g.S.Store.facts in
-    let old = session_with c.self.inside.blocks (reverse c.self.inside.undo.items) (reverse c.self.inside.redo.items) in
-    let new = session_with c.self.inside.blocks (reverse c.reserve.new.self.items) (reverse c.self.inside.redo.items) in
+    let old = session_with c.self.inside.blocks c.self.inside.log.lists in
+    let new = session_with c.self.inside.blocks c.reserve.new.self.lists in
     let p = err_from_is_err_and c.from_residual.result c.from_residual.ensures.1 in
     subst (λ (s : SessionState g.row.S.Denot). IsStep facts s new (commands.Edit c.args.edit.now) (reply_by reply_of_done c.from_residual.result)) c.self.view_is
     (subst (λ r. IsStep facts old new (commands.Edit c.args.edit.now) (reply_by reply_of_done r)) (sym (p.1 ∙ ap Err p.2))
-    (edit_refused facts old new c.args.edit.now c.validity.ensures.distinct (sym c.is_barred.ensures ∙ c.if-is_barred.false) Memory (record { blocks = keeps-refl facts c.self.inside.blocks; undo = ap reverse c.in_err-reserve.ensures.items; redo = refl }) (λ _. inl (lacks-memory facts c.self.inside.blocks.disk.store c.self.inside.blocks.disk.store)) (λ _. inl refl)))
+    (edit_refused facts old new c.args.edit.now c.validity.ensures.distinct (sym c.is_barred.ensures ∙ c.if-is_barred.false) Memory (record { blocks = keeps-refl facts c.self.inside.blocks; log = c.in_err-reserve.ensures.lists }) (λ _. inl (lacks-memory facts c.self.inside.blocks.disk.store c.self.inside.blocks.disk.store)) (λ _. inl refl)))
 
 pub returns-in_err-reserve-clause-err : goal.returns-in_err-reserve-clause-err
 returns-in_err-reserve-clause-err g c =
     let facts = g.S.Store.facts in
-    let old = session_with c.self.inside.blocks (reverse c.self.inside.undo.items) (reverse c.self.inside.redo.items) in
-    let new = session_with c.self.inside.blocks (reverse c.reserve.new.self.items) (reverse c.self.inside.redo.items) in
+    let old = session_with c.self.inside.blocks c.self.inside.log.lists in
+    let new = session_with c.self.inside.blocks c.reserve.new.self.lists in
     let p = err_from_is_err_and c.from_residual.result c.from_residual.ensures.1 in
     subst (λ (s : SessionState g.row.S.Denot). OnErr c.from_residual.result (KeepsSession facts s new)) c.self.view_is
-    (subst (λ r. OnErr r (KeepsSession facts old new)) (sym p.1) (record { blocks = keeps-refl facts c.self.inside.blocks; undo = ap reverse c.in_err-reserve.ensures.items; redo = refl }))
+    (subst (λ r. OnErr r (KeepsSession facts old new)) (sym p.1) (record { blocks = keeps-refl facts c.self.inside.blocks; log = c.in_err-reserve.ensures.lists }))
 
 pub returns-in_err-reserve-clause-refusals : goal.returns-in_err-reserve-clause-refusals
 returns-in_err-reserve-clause-refusals g c =
     let p = err_from_is_err_and c.from_residual.result c.from_residual.ensures.1 in
     rw (p.1, p.2) (inr (inl (inl (lacks-memory g.S.Store.facts _ _))))
 
-pub returns-in_err-reserve-2-clause-step : goal.returns-in_err-reserve-2-clause-step
-returns-in_err-reserve-2-clause-step g c =
-    let facts = g.S.Store.facts in
-    let old = session_with c.self.inside.blocks (reverse c.self.inside.undo.items) (reverse c.self.inside.redo.items) in
-    let new = session_with c.self.inside.blocks (reverse c.reserve.new.self.items) (reverse c.reserve-2.new.self.items) in
-    let p = err_from_is_err_and c.from_residual-in_err-reserve-2.result c.from_residual-in_err-reserve-2.ensures.1 in
-    subst (λ (s : SessionState g.row.S.Denot). IsStep facts s new (commands.Edit c.args.edit.now) (reply_by reply_of_done c.from_residual-in_err-reserve-2.result)) c.self.view_is
-    (subst (λ r. IsStep facts old new (commands.Edit c.args.edit.now) (reply_by reply_of_done r)) (sym (p.1 ∙ ap Err p.2))
-    (edit_refused facts old new c.args.edit.now c.validity.ensures.distinct (sym c.is_barred.ensures ∙ c.if-is_barred.false) Memory (record { blocks = keeps-refl facts c.self.inside.blocks; undo = ap reverse c.in_ok-reserve.ensures.items; redo = ap reverse c.in_err-reserve-2.ensures.items }) (λ _. inl (lacks-memory facts c.self.inside.blocks.disk.store c.self.inside.blocks.disk.store)) (λ _. inl refl)))
-
-pub returns-in_err-reserve-2-clause-err : goal.returns-in_err-reserve-2-clause-err
-returns-in_err-reserve-2-clause-err g c =
-    let facts = g.S.Store.facts in
-    let old = session_with c.self.inside.blocks (reverse c.self.inside.undo.items) (reverse c.self.inside.redo.items) in
-    let new = session_with c.self.inside.blocks (reverse c.reserve.new.self.items) (reverse c.reserve-2.new.self.items) in
-    let p = err_from_is_err_and c.from_residual-in_err-reserve-2.result c.from_residual-in_err-reserve-2.ensures.1 in
-    subst (λ (s : SessionState g.row.S.Denot). OnErr c.from_residual-in_err-reserve-2.result (KeepsSession facts s new)) c.self.view_is
-    (subst (λ r. OnErr r (KeepsSession facts old new)) (sym p.1) (record { blocks = keeps-refl facts c.self.inside.blocks; undo = ap reverse c.in_ok-reserve.ensures.items; redo = ap reverse c.in_err-reserve-2.ensures.items }))
-
-pub returns-in_err-reserve-2-clause-refusals : goal.returns-in_err-reserve-2-clause-refusals
-returns-in_err-reserve-2-clause-refusals g c =
-    let p = err_from_is_err_and c.from_residual-in_err-reserve-2.result c.from_residual-in_err-reserve-2.ensures.1 in
-    rw (p.1, p.2) (inr (inl (inl (lacks-memory g.S.Store.facts _ _))))
-
 pub returns-in_err-reserve-clause-already : goal.returns-in_err-reserve-clause-already
 returns-in_err-reserve-clause-already g c =
-    let old = session_with c.self.inside.blocks (reverse c.self.inside.undo.items) (reverse c.self.inside.redo.items) in
-    let new = session_with c.self.inside.blocks (reverse c.reserve.new.self.items) (reverse c.self.inside.redo.items) in
+    let old = session_with c.self.inside.blocks c.self.inside.log.lists in
+    let new = session_with c.self.inside.blocks c.reserve.new.self.lists in
     subst (λ (s : SessionState g.row.S.Denot). kind_of c.args.edit.now ≢ Made → ReadsNothing (blocks_of s) (edit_needs c.args.edit.now) (conditions c.args.edit.now s.document) → EditsAtHand c.args.edit.now s new c.from_residual.result) c.self.view_is
     (λ other nothing. refused_at_hand c.args.edit.now old new refl Memory c.from_residual.result c.from_residual.ensures.1 refl (inr (inl refl)))
 
-pub returns-in_err-reserve-2-clause-already : goal.returns-in_err-reserve-2-clause-already
-returns-in_err-reserve-2-clause-already g c =
-    let old = session_with c.self.inside.blocks (reverse c.self.inside.undo.items) (reverse c.self.inside.redo.items) in
-    let new = session_with c.self.inside.blocks (reverse c.reserve.new.self.items) (reverse c.reserve-2.new.self.items) in
-    subst (λ (s : SessionState g.row.S.Denot). kind_of c.args.edit.now ≢ Made → ReadsNothing (blocks_of s) (edit_needs c.args.edit.now) (conditions c.args.edit.now s.document) → EditsAtHand c.args.edit.now s new c.from_residual-in_err-reserve-2.result) c.self.view_is
-    (λ other nothing. refused_at_hand c.args.edit.now old new refl Memory c.from_residual-in_err-reserve-2.result c.from_residual-in_err-reserve-2.ensures.1 refl (inr (inl refl)))
-
 pub returns-in_err-reserve-clause-shut : goal.returns-in_err-reserve-clause-shut
 returns-in_err-reserve-clause-shut g c =
-    let old = session_with c.self.inside.blocks (reverse c.self.inside.undo.items) (reverse c.self.inside.redo.items) in
-    let new = session_with c.self.inside.blocks (reverse c.reserve.new.self.items) (reverse c.self.inside.redo.items) in
+    let old = session_with c.self.inside.blocks c.self.inside.log.lists in
+    let new = session_with c.self.inside.blocks c.reserve.new.self.lists in
     subst (λ (s : SessionState g.row.S.Denot). has_no_room (blocks_of s) (edit_needs c.args.edit.now) ≡ true → (new ≡ s) × IsErrAnd c.from_residual.result (λ fault. IsBarred c.args.edit.now s fault ⊎ Refuses (λ f. f ≡ Memory) true c.args.edit.now s.document fault)) c.self.view_is
-    (λ out. (same_session c.self.inside.blocks c.self.inside.blocks _ _ _ _ refl (ap reverse c.in_err-reserve.ensures.items) refl, carried_fault c.from_residual.result (λ fault. IsBarred c.args.edit.now old fault ⊎ Refuses (λ f. f ≡ Memory) true c.args.edit.now old.document fault) Memory c.from_residual.ensures.1 (inr (inl refl))))
-
-pub returns-in_err-reserve-2-clause-shut : goal.returns-in_err-reserve-2-clause-shut
-returns-in_err-reserve-2-clause-shut g c =
-    let old = session_with c.self.inside.blocks (reverse c.self.inside.undo.items) (reverse c.self.inside.redo.items) in
-    let new = session_with c.self.inside.blocks (reverse c.reserve.new.self.items) (reverse c.reserve-2.new.self.items) in
-    subst (λ (s : SessionState g.row.S.Denot). has_no_room (blocks_of s) (edit_needs c.args.edit.now) ≡ true → (new ≡ s) × IsErrAnd c.from_residual-in_err-reserve-2.result (λ fault. IsBarred c.args.edit.now s fault ⊎ Refuses (λ f. f ≡ Memory) true c.args.edit.now s.document fault)) c.self.view_is
-    (λ out. (same_session c.self.inside.blocks c.self.inside.blocks _ _ _ _ refl (ap reverse c.in_ok-reserve.ensures.items) (ap reverse c.in_err-reserve-2.ensures.items), carried_fault c.from_residual-in_err-reserve-2.result (λ fault. IsBarred c.args.edit.now old fault ⊎ Refuses (λ f. f ≡ Memory) true c.args.edit.now old.document fault) Memory c.from_residual-in_err-reserve-2.ensures.1 (inr (inl refl))))
+    (λ out. (same_session c.self.inside.blocks c.self.inside.blocks _ _ refl c.in_err-reserve.ensures.lists, carried_fault c.from_residual.result (λ fault. IsBarred c.args.edit.now old fault ⊎ Refuses (λ f. f ≡ Memory) true c.args.edit.now old.document fault) Memory c.from_residual.ensures.1 (inr (inl refl))))
 
 -- the edit is refused
 pub invariant_of-self-in_err-change : goal.invariant_of-self-in_err-change
-invariant_of-self-in_err-change g c = (
-  search rules,
-  search rules,
-  subst (λ (cs : List Change). AreListed Backwards c.make.new.blocks.document (reverse cs) (reverse c.reserve-2.new.self.items)) (sym c.in_ok-reserve.ensures.items)
-      (subst (λ (cs : List Change). AreListed Backwards c.make.new.blocks.document (reverse c.self.inside.undo.items) (reverse cs)) (sym c.in_ok-reserve-2.ensures.items)
-      (drifted_listed _ _ _ (reverse c.self.inside.undo.items) (reverse c.self.inside.redo.items) (keeps-drifts g.S.Store.facts c.self.inside.blocks c.make.new.blocks c.in_err-change.ensures.err) c.self.invariant.2)),
-)
+invariant_of-self-in_err-change g c =
+    subst (λ (l : Log). Holds c.make.new.blocks l) (sym c.in_ok-reserve.ensures.lists)
+    (kept_invariant g.S.Store.facts c.self.inside.blocks c.make.new.blocks c.self.inside.log.lists c.in_err-change.ensures.err c.self.invariant)
 
 pub returns-in_err-change-clause-step : goal.returns-in_err-change-clause-step
 returns-in_err-change-clause-step g c =
     let facts = g.S.Store.facts in let e = c.in_err-change.ensures in
-    let old = session_with c.self.inside.blocks (reverse c.self.inside.undo.items) (reverse c.self.inside.redo.items) in
-    let new = session_with c.make.new.blocks (reverse c.reserve.new.self.items) (reverse c.reserve-2.new.self.items) in
+    let old = session_with c.self.inside.blocks c.self.inside.log.lists in
+    let new = session_with c.make.new.blocks c.reserve.new.self.lists in
     let p = err_from_is_err_and c.from_residual-in_err-change.result c.from_residual-in_err-change.ensures.1 in
     subst (λ (s : SessionState g.row.S.Denot). IsStep facts s new (commands.Edit c.args.edit.now) (reply_by reply_of_done c.from_residual-in_err-change.result)) c.self.view_is
     (subst (λ r. IsStep facts old new (commands.Edit c.args.edit.now) (reply_by reply_of_done r)) (sym (p.1 ∙ ap Err p.2))
-    (edit_refused facts old new c.args.edit.now c.validity.ensures.distinct (sym c.is_barred.ensures ∙ c.if-is_barred.false) c.in_err-change.field-0.0 (record { blocks = e.err; undo = ap reverse c.in_ok-reserve.ensures.items; redo = ap reverse c.in_ok-reserve-2.ensures.items }) e.rules (λ is. (e.plain is).1)))
+    (edit_refused facts old new c.args.edit.now c.validity.ensures.distinct (sym c.is_barred.ensures ∙ c.if-is_barred.false) c.in_err-change.field-0.0 (record { blocks = e.err; log = c.in_ok-reserve.ensures.lists }) e.rules (λ is. (e.plain is).1)))
 
 pub returns-in_err-change-clause-err : goal.returns-in_err-change-clause-err
 returns-in_err-change-clause-err g c =
     let facts = g.S.Store.facts in
-    let old = session_with c.self.inside.blocks (reverse c.self.inside.undo.items) (reverse c.self.inside.redo.items) in
-    let new = session_with c.make.new.blocks (reverse c.reserve.new.self.items) (reverse c.reserve-2.new.self.items) in
+    let old = session_with c.self.inside.blocks c.self.inside.log.lists in
+    let new = session_with c.make.new.blocks c.reserve.new.self.lists in
     let p = err_from_is_err_and c.from_residual-in_err-change.result c.from_residual-in_err-change.ensures.1 in
     subst (λ (s : SessionState g.row.S.Denot). OnErr c.from_residual-in_err-change.result (KeepsSession facts s new)) c.self.view_is
-    (subst (λ r. OnErr r (KeepsSession facts old new)) (sym p.1) (record { blocks = c.in_err-change.ensures.err; undo = ap reverse c.in_ok-reserve.ensures.items; redo = ap reverse c.in_ok-reserve-2.ensures.items }))
+    (subst (λ r. OnErr r (KeepsSession facts old new)) (sym p.1) (record { blocks = c.in_err-change.ensures.err; log = c.in_ok-reserve.ensures.lists }))
 
 pub returns-in_err-change-clause-refusals : goal.returns-in_err-change-clause-refusals
 returns-in_err-change-clause-refusals g c =
     let facts = g.S.Store.facts in let new = c.make.new.blocks in
-    let old = session_with c.self.inside.blocks (reverse c.self.inside.undo.items) (reverse c.self.inside.redo.items) in
+    let old = session_with c.self.inside.blocks c.self.inside.log.lists in
     let p = err_from_is_err_and c.from_residual-in_err-change.result c.from_residual-in_err-change.ensures.1 in
     subst (λ (s : SessionState g.row.S.Denot). IfErr c.from_residual-in_err-change.result (λ fault. IsBarred c.args.edit.now s fault
     ⊎ (Refuses (Lacks facts s.disk.store new.disk.store) (has_no_room (blocks_of s) (edit_needs c.args.edit.now)) c.args.edit.now new.document fault ⊎ IsChainEditFault c.args.edit.now s.document fault))) c.self.view_is
@@ -205,8 +157,8 @@ returns-in_err-change-clause-passes g c =
 
 pub returns-in_err-change-clause-already : goal.returns-in_err-change-clause-already
 returns-in_err-change-clause-already g c =
-    let old = session_with c.self.inside.blocks (reverse c.self.inside.undo.items) (reverse c.self.inside.redo.items) in
-    let new = session_with c.make.new.blocks (reverse c.reserve.new.self.items) (reverse c.reserve-2.new.self.items) in
+    let old = session_with c.self.inside.blocks c.self.inside.log.lists in
+    let new = session_with c.make.new.blocks c.reserve.new.self.lists in
     subst (λ (s : SessionState g.row.S.Denot). kind_of c.args.edit.now ≢ Made → ReadsNothing (blocks_of s) (edit_needs c.args.edit.now) (conditions c.args.edit.now s.document) → EditsAtHand c.args.edit.now s new c.from_residual-in_err-change.result) c.self.view_is
     (λ other nothing.
     let rests = c.in_err-change.ensures.already other nothing in
@@ -214,43 +166,41 @@ returns-in_err-change-clause-already g c =
 
 pub returns-in_err-change-clause-shut : goal.returns-in_err-change-clause-shut
 returns-in_err-change-clause-shut g c =
-    let old = session_with c.self.inside.blocks (reverse c.self.inside.undo.items) (reverse c.self.inside.redo.items) in
-    let new = session_with c.make.new.blocks (reverse c.reserve.new.self.items) (reverse c.reserve-2.new.self.items) in
+    let old = session_with c.self.inside.blocks c.self.inside.log.lists in
+    let new = session_with c.make.new.blocks c.reserve.new.self.lists in
     subst (λ (s : SessionState g.row.S.Denot). has_no_room (blocks_of s) (edit_needs c.args.edit.now) ≡ true → (new ≡ s) × IsErrAnd c.from_residual-in_err-change.result (λ fault. IsBarred c.args.edit.now s fault ⊎ Refuses (λ f. f ≡ Memory) true c.args.edit.now s.document fault)) c.self.view_is
     (λ out.
     let kept = c.in_err-change.ensures.shut out in
-    (same_session c.self.inside.blocks c.make.new.blocks _ _ _ _ kept.0 (ap reverse c.in_ok-reserve.ensures.items) (ap reverse c.in_ok-reserve-2.ensures.items), carried_fault c.from_residual-in_err-change.result (λ fault. IsBarred c.args.edit.now old fault ⊎ Refuses (λ f. f ≡ Memory) true c.args.edit.now old.document fault) c.in_err-change.field-0.0 c.from_residual-in_err-change.ensures.1 (inr (inr kept.1))))
+    (same_session c.self.inside.blocks c.make.new.blocks _ _ kept.0 c.in_ok-reserve.ensures.lists, carried_fault c.from_residual-in_err-change.result (λ fault. IsBarred c.args.edit.now old fault ⊎ Refuses (λ f. f ≡ Memory) true c.args.edit.now old.document fault) c.in_err-change.field-0.0 c.from_residual-in_err-change.ensures.1 (inr (inr kept.1))))
 
 -- the edit is made
 pub invariant_of-self-2 : goal.invariant_of-self-2
 invariant_of-self-2 g c =
     let facts = g.S.Store.facts in let made = c.in_ok-change.ensures.ok in let new = c.make.new.blocks in let change = c.in_ok-change.change in
-    let undo = reverse c.self.inside.undo.items in
-    let pushed : reverse c.push_reserved.new.self.items ≡ change ∷ undo = pushed_first c.self.inside.undo.items _ _ change c.in_ok-reserve.ensures.items c.push_reserved.ensures.items in
-    let honest = (facts c.self.inside.blocks.disk.store).honest in (
-      search rules,
-      search rules,
-      subst (λ (cs : List Change). AreListed Backwards new.document cs (reverse c.clear.new.self.items)) (sym pushed)
-          (subst (λ (cs : List Change). AreListed Backwards new.document (change ∷ undo) (reverse cs)) (sym c.clear.ensures.items)
-          (edited_listed honest c.self.inside.blocks.document new.document change undo (reverse c.self.inside.redo.items) c.validity.ensures.listed (drifted honest _ new.document made.makes.document) made.listed c.self.invariant.2)),
+    let log = c.self.inside.log.lists in
+    let honest = (facts c.self.inside.blocks.disk.store).honest in
+    let is : c.add.new.self.lists ≡ with_change change log = c.add.ensures ∙ ap (λ (l : Log). with_change change l) c.in_ok-reserve.ensures.lists in (
+      subst (λ (l : Log). AreListed Backwards new.document (to_undo l) (to_redo l)) (sym is)
+          (changed_listed log change new.document
+          (edited_listed honest c.self.inside.blocks.document new.document change (to_undo log) (to_redo log) c.validity.ensures.listed (drifted honest _ new.document made.makes.document) made.listed c.self.invariant.0)),
+      none_marked _ c.self.inside.blocks.disk.marked new.disk.marked c.self.invariant.1 made.makes.passes.marked,
     )
 
 pub returns-clause-step : goal.returns-clause-step
 returns-clause-step g c =
-    let facts = g.S.Store.facts in let undo = reverse c.self.inside.undo.items in let change = c.in_ok-change.change in
-    let old = session_with c.self.inside.blocks undo (reverse c.self.inside.redo.items) in
-    let new = session_with c.make.new.blocks (reverse c.push_reserved.new.self.items) (reverse c.clear.new.self.items) in
-    let pushed : reverse c.push_reserved.new.self.items ≡ change ∷ undo = pushed_first c.self.inside.undo.items _ _ change c.in_ok-reserve.ensures.items c.push_reserved.ensures.items in
+    let facts = g.S.Store.facts in let change = c.in_ok-change.change in
+    let old = session_with c.self.inside.blocks c.self.inside.log.lists in
+    let new = session_with c.make.new.blocks c.add.new.self.lists in
     subst (λ (s : SessionState g.row.S.Denot). IsStep facts s new (commands.Edit c.args.edit.now) (reply_of_done c.in_ok-change.done)) c.self.view_is
-    (edit_step facts old new c.args.edit.now c.validity.ensures.distinct (sym c.is_barred.ensures ∙ c.if-is_barred.false) change c.in_ok-change.done c.in_ok-change.ensures.ok pushed (ap reverse c.clear.ensures.items))
+    (edit_step facts old new c.args.edit.now c.validity.ensures.distinct (sym c.is_barred.ensures ∙ c.if-is_barred.false) change c.in_ok-change.done c.in_ok-change.ensures.ok
+    (c.add.ensures ∙ ap (λ (l : Log). with_change change l) c.in_ok-reserve.ensures.lists))
 
 pub returns-clause-ok : goal.returns-clause-ok
 returns-clause-ok g c =
-    let facts = g.S.Store.facts in let undo = reverse c.self.inside.undo.items in let change = c.in_ok-change.change in let made = c.in_ok-change.ensures.ok in
-    let new = session_with c.make.new.blocks (reverse c.push_reserved.new.self.items) (reverse c.clear.new.self.items) in
-    let pushed : reverse c.push_reserved.new.self.items ≡ change ∷ undo = pushed_first c.self.inside.undo.items _ _ change c.in_ok-reserve.ensures.items c.push_reserved.ensures.items in
+    let facts = g.S.Store.facts in let change = c.in_ok-change.change in
+    let new = session_with c.make.new.blocks c.add.new.self.lists in
     subst (λ (s : SessionState g.row.S.Denot). Records facts c.args.edit.now c.in_ok-change.done s new) c.self.view_is
-    (record { change = change; made = made; undo = pushed; redo = ap reverse c.clear.ensures.items })
+    (record { change = change; made = c.in_ok-change.ensures.ok; log = c.add.ensures ∙ ap (λ (l : Log). with_change change l) c.in_ok-reserve.ensures.lists })
 
 pub returns-clause-at_hand : goal.returns-clause-at_hand
 returns-clause-at_hand g c = made_at_hand g.S.Store.facts c.in_ok-change.change (kind_of c.args.edit.now) c.make.new.blocks c.in_ok-change.ensures.ok.kind c.in_ok-change.ensures.ok.makes.at_hand
@@ -260,7 +210,7 @@ returns-clause-passes g c = subst (λ (s : SessionState g.row.S.Denot). Passes g
 
 pub returns-clause-already : goal.returns-clause-already
 returns-clause-already g c =
-    let new = session_with c.make.new.blocks (reverse c.push_reserved.new.self.items) (reverse c.clear.new.self.items) in
+    let new = session_with c.make.new.blocks c.add.new.self.lists in
     subst (λ (s : SessionState g.row.S.Denot). kind_of c.args.edit.now ≢ Made → ReadsNothing (blocks_of s) (edit_needs c.args.edit.now) (conditions c.args.edit.now s.document) → EditsAtHand c.args.edit.now s new (Ok c.in_ok-change.done)) c.self.view_is
     (λ other nothing. let rests = c.in_ok-change.ensures.already other nothing in record { disk = rests.0; ok = rests.1; err = tt })
 
@@ -273,6 +223,3 @@ returns-then-is_barred-clause-passes g c = Passes-refl g.S.Store.facts _
 
 pub returns-in_err-reserve-clause-passes : goal.returns-in_err-reserve-clause-passes
 returns-in_err-reserve-clause-passes g c = subst (λ (s : SessionState g.row.S.Denot). Passes g.S.Store.facts s.disk c.self.inside.blocks.disk) c.self.view_is (Passes-refl g.S.Store.facts c.self.inside.blocks.disk)
-
-pub returns-in_err-reserve-2-clause-passes : goal.returns-in_err-reserve-2-clause-passes
-returns-in_err-reserve-2-clause-passes g c = subst (λ (s : SessionState g.row.S.Denot). Passes g.S.Store.facts s.disk c.self.inside.blocks.disk) c.self.view_is (Passes-refl g.S.Store.facts c.self.inside.blocks.disk)

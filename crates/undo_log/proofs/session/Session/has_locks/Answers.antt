@@ -8,10 +8,10 @@ use Rattle.undo_log.proofs.session.Session.has_locks.Goals as goal
 
 pub returns-clause-value : goal.returns-clause-value
 returns-clause-value g c =
-    let old = session_with c.self.inside.blocks (reverse c.self.inside.undo.items) (reverse c.self.inside.redo.items) in
+    let old = session_with c.self.inside.blocks c.self.inside.log.lists in
     subst (λ (s : SessionState g.row.S.Denot). c.has_locks.result ≡ has_locks s) c.self.view_is (c.has_locks.ensures ∙ sym (has_locks-is old c.validity.ensures.distinct))
 
 pub returns-clause-machine : goal.returns-clause-machine
 returns-clause-machine g c = λ target.
-    let old = session_with c.self.inside.blocks (reverse c.self.inside.undo.items) (reverse c.self.inside.redo.items) in
+    let old = session_with c.self.inside.blocks c.self.inside.log.lists in
     subst (λ (s : SessionState g.row.S.Denot). c.has_locks.result ≡ machine.has_locks (machine_of target s)) c.self.view_is (c.has_locks.ensures ∙ sym (has_locks-is old c.validity.ensures.distinct))

@@ -6,29 +6,24 @@ use Rattle.geos_model.specs.declared.fault.Fault.{Fault}
 use Rattle.block_cache.specs.State.{CacheState}
 use Rattle.vm_blocks.specs.Locking.{CantLock}
 use Rattle.undo_log.specs.Records.{SessionState, blocks_of, IsStep}
-use Rattle.undo_log.proofs.Keeping.{drifted_listed}
-use Rattle.undo_log.proofs.Locking.{lock_drifts, lock_is}
+use Rattle.undo_log.proofs.Locking.{lock_invariant, lock_is}
 use Rattle.undo_log.proofs.LookUps.{session_with}
 use Rattle.undo_log.proofs.session.Session.lock.Goals as goal
 
 pub returns-clause-step : goal.returns-clause-step
 returns-clause-step g c =
-    let facts = g.S.Store.facts in let e = c.lock.ensures in let undo = reverse c.self.inside.undo.items in let redo = reverse c.self.inside.redo.items in
-    let new = session_with c.lock.new.self undo redo in
+    let facts = g.S.Store.facts in let e = c.lock.ensures in let log = c.self.inside.log.lists in
+    let new = session_with c.lock.new.self log in
     subst (λ (s : SessionState g.row.S.Denot). IsStep facts s new (commands.Lock c.args.block) (reply_by (λ _. Accepted) c.lock.result)) c.self.view_is
-    (lock_is facts (session_with c.self.inside.blocks undo redo) new c.args.block c.validity.ensures.distinct c.lock.result e.ok (on_err_weaker c.lock.result (λ keeps. record { blocks = keeps; undo = refl; redo = refl }) e.err) e.refusals
-    (λ fault cant. (e.early fault cant).0) refl refl)
+    (lock_is facts (session_with c.self.inside.blocks log) new c.args.block c.validity.ensures.distinct c.lock.result e.ok (on_err_weaker c.lock.result (λ keeps. record { blocks = keeps; log = refl }) e.err) e.refusals
+    (λ fault cant. (e.early fault cant).0) refl)
 
 pub returns-clause-early : goal.returns-clause-early
 returns-clause-early g c =
-    let undo = reverse c.self.inside.undo.items in let redo = reverse c.self.inside.redo.items in
-    let new = session_with c.lock.new.self undo redo in
+    let log = c.self.inside.log.lists in
+    let new = session_with c.lock.new.self log in
     subst (λ (s : SessionState g.row.S.Denot). (fault : Fault) → CantLock (blocks_of s) c.args.block.0 fault → (c.lock.result ≡ Err fault) × (new ≡ s)) c.self.view_is
-    (λ fault cant. let is = c.lock.ensures.early fault cant in (is.0, ap (λ (b : CacheState g.row.S.Denot). session_with b undo redo) is.1))
+    (λ fault cant. let is = c.lock.ensures.early fault cant in (is.0, ap (λ (b : CacheState g.row.S.Denot). session_with b log) is.1))
 
 pub invariant_of-self : goal.invariant_of-self
-invariant_of-self g c = (
-  search rules,
-  search rules,
-  drifted_listed _ _ _ (reverse c.self.inside.undo.items) (reverse c.self.inside.redo.items) (lock_drifts g.S.Store.facts c.self.inside.blocks c.lock.new.self c.args.block.0 c.lock.result c.lock.ensures.ok c.lock.ensures.err) c.self.invariant.2,
-)
+invariant_of-self g c = lock_invariant g.S.Store.facts c.self.inside.blocks c.lock.new.self c.self.inside.log.lists c.args.block.0 c.lock.result c.lock.ensures.ok c.lock.ensures.err c.self.invariant

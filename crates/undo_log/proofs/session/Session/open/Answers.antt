@@ -5,17 +5,17 @@ use Rattle.undo_log.proofs.Beginnings.{opened}
 use Rattle.undo_log.proofs.session.Session.open.Goals as goal
 
 pub returns-in-Ok-clause-opened : goal.returns-in-Ok-clause-opened
-returns-in-Ok-clause-opened g c = subst (λ (b : CacheState g.row.S.Denot). IsOpenedFrom g.S.Store.facts c.args.store (seen b)) (sym c.begin.ensures.blocks) c.in-Ok.ensures.opened
+returns-in-Ok-clause-opened g c = subst (λ (b : CacheState g.row.S.Denot). IsOpenedFrom g.S.Store.facts c.args.store (seen b)) (sym c.start.ensures.blocks) c.in-Ok.ensures.opened
 
 pub returns-in-Ok-clause-new : goal.returns-in-Ok-clause-new
-returns-in-Ok-clause-new g c = (c.begin.ensures.undo, c.begin.ensures.redo, ap (λ (b : CacheState g.row.S.Denot). b.frames) c.begin.ensures.blocks ∙ c.in-Ok.ensures.frames)
+returns-in-Ok-clause-new g c = (c.start.ensures.log, ap (λ (b : CacheState g.row.S.Denot). b.frames) c.start.ensures.blocks ∙ c.in-Ok.ensures.frames)
 
 pub returns-in-Ok-clause-exact : goal.returns-in-Ok-clause-exact
-returns-in-Ok-clause-exact g c so = c.begin.ensures.exact (subst IsTrue (sym c.in-Ok.ensures.opened.follows.honest) so)
+returns-in-Ok-clause-exact g c so = c.start.ensures.exact (subst IsTrue (sym c.in-Ok.ensures.opened.follows.honest) so)
 
 pub returns-in-Ok-clause-machine : goal.returns-in-Ok-clause-machine
 returns-in-Ok-clause-machine g c so =
     let found = c.in-Ok.ensures.opened in
-    opened (seen c.in-Ok.blocks) (g.S.Store.facts c.args.store).content c.args.frames c.begin.result (ap (λ (b : CacheState g.row.S.Denot). seen b) c.begin.ensures.blocks)
-    c.begin.ensures.undo c.begin.ensures.redo (ap (λ (b : CacheState g.row.S.Denot). b.resident) c.begin.ensures.blocks ∙ c.in-Ok.ensures.empty) (ap (λ (b : CacheState g.row.S.Denot). b.frames) c.begin.ensures.blocks ∙ c.in-Ok.ensures.frames)
+    opened (seen c.in-Ok.blocks) (g.S.Store.facts c.args.store).content c.args.frames c.start.result (ap (λ (b : CacheState g.row.S.Denot). seen b) c.start.ensures.blocks)
+    c.start.ensures.log (ap (λ (b : CacheState g.row.S.Denot). b.resident) c.start.ensures.blocks ∙ c.in-Ok.ensures.empty) (ap (λ (b : CacheState g.row.S.Denot). b.frames) c.start.ensures.blocks ∙ c.in-Ok.ensures.frames)
     (found.documents so) (found.now so).0 (found.sequence so)

@@ -1,99 +1,83 @@
-use Rattle.std.proofs.Common.{Err, reverse, inr, ap, sym, subst, ◌∙◌, rules}
-use Rattle.std.specs.Prelude.{◌≡◌, false, IfErr, IsOk, OnErr}
-use Rattle.std.proofs.lemmas.Bool.{true≢false}
+use Rattle.std.proofs.Common.{◌≡◌, ◌≢◌, Some, None, Err, IsOk, List, inl, inr, refl, ap, sym, subst, ◌∙◌}
+use Rattle.std.specs.Prelude.{IfErr, OnErr}
 use Rattle.std.proofs.lemmas.Result.{err_from_is_err_and}
 use Rattle.geos_model.specs.Reply.{Accepted, reply_by}
 use Rattle.geos_model.specs.declared.command.Command.TheVariants as commands
 use Rattle.geos_model.specs.declared.fault.Fault.TheVariants.{NothingToUndo}
 use Rattle.vm_file.specs.Disk.{Passes}
-use Rattle.vm_file.proofs.Passing.{Passes-refl}
 use Rattle.vm_blocks.specs.declared.change.Direction.TheVariants.{Backwards}
 use Rattle.vm_blocks.proofs.KeepingLaws.{keeps-passes}
-use Rattle.undo_log.specs.Records.{SessionState, has_locks, IsStep, KeepsSession}
-use Rattle.undo_log.specs.Turning.{IsRefusedTurn, IsSure, newest_made}
-use Rattle.undo_log.proofs.Keeping.{keeps_refl}
+use Rattle.undo_log.specs.Records.{SessionState, blocks_of, IsStep}
+use Rattle.undo_log.specs.Turning.{IsRefusedTurn, IsSure, newest_made, rest_fault}
+use Rattle.undo_log.proofs.Groups.{undo_listed, undone_invariant}
+use Rattle.undo_log.proofs.Keeping.{Holds, keeps_refl, kept_invariant}
 use Rattle.undo_log.proofs.LookUps.{session_with}
-use Rattle.undo_log.proofs.Turns.{refused_turn, sure_turns, turned_passes, undo_answers, undo_kept, undo_refused}
+use Rattle.undo_log.proofs.Turns.{cant_take, never_refused, newest_can, none_open, some_newest, sure_turns, undo_can, undo_held, undo_refused, undo_taken}
 use Rattle.undo_log.proofs.session.Session.undo.Goals as goal
-use Rattle.undo_log.proofs.session.Session.undo.Goals.{then-branch, else-branch}
+
+pub returns-in-Some-clause-err : goal.returns-in-Some-clause-err
+returns-in-Some-clause-err g c = keeps_refl g.S.Store.facts c.args.self.now
+
+pub returns-in-Some-clause-step : goal.returns-in-Some-clause-step
+returns-in-Some-clause-step g c = undo_held g.S.Store.facts c.args.self.now c.in-Some.fault (sym c.in-Some.ensures.is)
+
+pub returns-in-None-clause-err : goal.returns-in-None-clause-err
+returns-in-None-clause-err g c = keeps_refl g.S.Store.facts c.args.self.now
+
+pub make_entry-requires-clause-listed : goal.make_entry-requires-clause-listed
+make_entry-requires-clause-listed g c =
+    let old = session_with c.self.inside.blocks c.self.inside.log.lists in
+    undo_listed g.S.Store.facts c.self.inside.blocks c.self.inside.blocks c.self.inside.log.lists c.in-Some-newest_undo.entry.now (none_open old (ap rest_fault c.self.view_is ∙ sym c.in_default.ensures.is)) c.validity.ensures.listed
+    c.in-Some-newest_undo.ensures c.self.invariant
 
 pub invariant_of-self : goal.invariant_of-self
-invariant_of-self g c = (search rules, search rules, c.turn.ensures.listed)
+invariant_of-self g c = kept_invariant g.S.Store.facts c.self.inside.blocks c.make_entry.new.blocks c.self.inside.log.lists c.in_err-make_entry-in-Some-newest_undo.ensures.err c.self.invariant
 
-pub invariant_of-self-2 : goal.invariant_of-self-2
-invariant_of-self-2 g c = (search rules, search rules, c.turn.ensures.listed)
+pub invariant_of-self-in-Some-newest_undo : goal.invariant_of-self-in-Some-newest_undo
+invariant_of-self-in-Some-newest_undo g c =
+    let old = session_with c.self.inside.blocks c.self.inside.log.lists in
+    subst (Holds c.make_entry.new.blocks) (sym c.move_undone.ensures)
+    (undone_invariant g.S.Store.facts c.self.inside.blocks c.make_entry.new.blocks c.self.inside.log.lists c.in-Some-newest_undo.entry.now (none_open old (ap rest_fault c.self.view_is ∙ sym c.in_default.ensures.is))
+    c.validity.ensures.listed c.in-Some-newest_undo.ensures c.in_ok-make_entry-in-Some-newest_undo.ensures.ok c.self.invariant)
 
-pub returns-in_err-turn-clause-step : goal.returns-in_err-turn-clause-step
-returns-in_err-turn-clause-step g c =
-    let facts = g.S.Store.facts in let e = c.in_err-turn.ensures in
-    let old = session_with c.self.inside.blocks (reverse c.self.inside.undo.items) (reverse c.self.inside.redo.items) in
-    let new = session_with c.turn.new.blocks (reverse c.turn.new.from.items) (reverse c.turn.new.to.items) in
+pub returns-in_err-make_entry-in-Some-newest_undo-clause-step : goal.returns-in_err-make_entry-in-Some-newest_undo-clause-step
+returns-in_err-make_entry-in-Some-newest_undo-clause-step g c =
+    let facts = g.S.Store.facts in let e = c.in_err-make_entry-in-Some-newest_undo in let entry = c.in-Some-newest_undo.entry.now in let first = c.in-Some-newest_undo.ensures in
+    let old = session_with c.self.inside.blocks c.self.inside.log.lists in
+    let new = session_with c.make_entry.new.blocks c.self.inside.log.lists in
     let p = err_from_is_err_and c.from_residual.result c.from_residual.ensures.1 in
     subst (λ (s : SessionState g.row.S.Denot). IsStep facts s new commands.Undo (reply_by (λ _. Accepted) c.from_residual.result)) c.self.view_is
     (subst (λ r. IsStep facts old new commands.Undo (reply_by (λ _. Accepted) r)) (sym (p.1 ∙ ap Err p.2))
-    (undo_refused facts old new (ap has_locks c.self.view_is ∙ sym c.has_locks.ensures.value ∙ c.if-has_locks.false) c.in_err-turn.field-0.0 (record { blocks = e.keeps.0; undo = ap reverse e.keeps.1; redo = ap reverse e.keeps.2 }) (λ can. true≢false (sym (e.sure can).0)) e.err))
+    (undo_refused facts old new e.field-0.0 (record { blocks = e.ensures.err; log = refl }) entry first (never_refused facts Backwards entry (blocks_of old) (blocks_of new) e.field-0.0 c.make_entry.result e.was c.make_entry.ensures.sure)
+    (cant_take facts old new Backwards e.field-0.0 entry first.others (λ exact. newest_can facts Backwards entry old.log.undo old.document first (undo_can facts old (ap rest_fault c.self.view_is ∙ sym c.in_default.ensures.is) exact)) e.ensures.refusals)))
 
-pub returns-in_err-turn-clause-err : goal.returns-in_err-turn-clause-err
-returns-in_err-turn-clause-err g c =
-    let facts = g.S.Store.facts in let e = c.in_err-turn.ensures in
-    let old = session_with c.self.inside.blocks (reverse c.self.inside.undo.items) (reverse c.self.inside.redo.items) in
-    let new = session_with c.turn.new.blocks (reverse c.turn.new.from.items) (reverse c.turn.new.to.items) in
+pub returns-in_err-make_entry-in-Some-newest_undo-clause-refusals : goal.returns-in_err-make_entry-in-Some-newest_undo-clause-refusals
+returns-in_err-make_entry-in-Some-newest_undo-clause-refusals g c =
+    let facts = g.S.Store.facts in let e = c.in_err-make_entry-in-Some-newest_undo in let entry = c.in-Some-newest_undo.entry.now in let first = c.in-Some-newest_undo.ensures in
+    let old = session_with c.self.inside.blocks c.self.inside.log.lists in
+    let new = session_with c.make_entry.new.blocks c.self.inside.log.lists in
     let p = err_from_is_err_and c.from_residual.result c.from_residual.ensures.1 in
-    subst (λ (s : SessionState g.row.S.Denot). OnErr c.from_residual.result (KeepsSession facts s new)) c.self.view_is
-    (subst (λ r. OnErr r (KeepsSession facts old new)) (sym p.1) (record { blocks = e.keeps.0; undo = ap reverse e.keeps.1; redo = ap reverse e.keeps.2 }))
+    subst (λ (s : SessionState g.row.S.Denot). IfErr c.from_residual.result (IsRefusedTurn facts NothingToUndo s.log.undo s new)) c.self.view_is
+    (subst (λ r. IfErr r (IsRefusedTurn facts NothingToUndo old.log.undo old new)) (sym (p.1 ∙ ap Err p.2))
+    (inr ((ap rest_fault c.self.view_is ∙ sym c.in_default.ensures.is), inr (some_newest entry old.log.undo first, cant_take facts old new Backwards e.field-0.0 entry first.others (λ exact. newest_can facts Backwards entry old.log.undo old.document first (undo_can facts old (ap rest_fault c.self.view_is ∙ sym c.in_default.ensures.is) exact)) e.ensures.refusals))))
 
-pub returns-in_err-turn-clause-refusals : goal.returns-in_err-turn-clause-refusals
-returns-in_err-turn-clause-refusals g c =
+pub returns-in_err-make_entry-in-Some-newest_undo-clause-passes : goal.returns-in_err-make_entry-in-Some-newest_undo-clause-passes
+returns-in_err-make_entry-in-Some-newest_undo-clause-passes g c =
+    subst (λ (s : SessionState g.row.S.Denot). Passes g.S.Store.facts s.disk c.make_entry.new.blocks.disk) c.self.view_is (keeps-passes g.S.Store.facts c.self.inside.blocks c.make_entry.new.blocks c.in_err-make_entry-in-Some-newest_undo.ensures.err)
+
+pub returns-in_err-make_entry-in-Some-newest_undo-clause-sure : goal.returns-in_err-make_entry-in-Some-newest_undo-clause-sure
+returns-in_err-make_entry-in-Some-newest_undo-clause-sure g c =
+    let facts = g.S.Store.facts in let e = c.in_err-make_entry-in-Some-newest_undo in let entry = c.in-Some-newest_undo.entry.now in
+    let old = session_with c.self.inside.blocks c.self.inside.log.lists in
+    let new = session_with c.make_entry.new.blocks c.self.inside.log.lists in
+    subst (λ (s : SessionState g.row.S.Denot). rest_fault s ≡ None → IsSure facts s Backwards s.log.undo → IsOk c.from_residual.result × (new.disk ≡ s.disk) × (new.document ≡ newest_made Backwards s.log.undo s.document)) c.self.view_is
+    (λ free sure. absurd (never_refused facts Backwards entry (blocks_of old) (blocks_of new) e.field-0.0 c.make_entry.result e.was c.make_entry.ensures.sure
+    (sure_turns facts old Backwards entry old.log.undo c.in-Some-newest_undo.ensures (undo_can facts old free) sure)))
+
+pub returns-in_ok-make_entry-in-Some-newest_undo-clause-step : goal.returns-in_ok-make_entry-in-Some-newest_undo-clause-step
+returns-in_ok-make_entry-in-Some-newest_undo-clause-step g c =
     let facts = g.S.Store.facts in
-    let old = session_with c.self.inside.blocks (reverse c.self.inside.undo.items) (reverse c.self.inside.redo.items) in
-    let new = session_with c.turn.new.blocks (reverse c.turn.new.from.items) (reverse c.turn.new.to.items) in
-    let p = err_from_is_err_and c.from_residual.result c.from_residual.ensures.1 in
-    subst (λ (s : SessionState g.row.S.Denot). IfErr c.from_residual.result (IsRefusedTurn facts NothingToUndo s.undo s new)) c.self.view_is
-    (subst (λ r. IfErr r (IsRefusedTurn facts NothingToUndo old.undo old new)) (sym (p.1 ∙ ap Err p.2))
-    (inr ((ap has_locks c.self.view_is ∙ sym c.has_locks.ensures.value ∙ c.if-has_locks.false), refused_turn facts old new (ap has_locks c.self.view_is ∙ sym c.has_locks.ensures.value ∙ c.if-has_locks.false) Backwards NothingToUndo c.in_err-turn.field-0.0 old.undo (λ exact. exact.steps.first) c.in_err-turn.ensures.err)))
-
-pub returns-in_err-turn-clause-passes : goal.returns-in_err-turn-clause-passes
-returns-in_err-turn-clause-passes g c =
-    subst (λ (s : SessionState g.row.S.Denot). Passes g.S.Store.facts s.disk c.turn.new.blocks.disk) c.self.view_is (keeps-passes g.S.Store.facts c.self.inside.blocks c.turn.new.blocks c.in_err-turn.ensures.keeps.0)
-
-pub returns-clause-step : goal.returns-clause-step
-returns-clause-step g c =
-    let facts = g.S.Store.facts in
-    let old = session_with c.self.inside.blocks (reverse c.self.inside.undo.items) (reverse c.self.inside.redo.items) in
-    let new = session_with c.turn.new.blocks (reverse c.turn.new.from.items) (reverse c.turn.new.to.items) in
-    let answers = undo_answers facts old new (ap has_locks c.self.view_is ∙ sym c.has_locks.ensures.value ∙ c.if-has_locks.false) c.in_ok-turn.field-0 c.in_ok-turn.ensures.ok in
-    subst (λ (s : SessionState g.row.S.Denot). IsStep facts s new commands.Undo (reply_by (λ _. Accepted) c.if-branch.result)) c.self.view_is
-    (elim c.if-branch.branch [
-      | then-branch w ↦ rw w.result-is (rw w.if-branch.true at answers)
-      | else-branch w ↦ rw w.result-is (rw w.if-branch.false at answers)
-    ])
-
-pub returns-clause-err : goal.returns-clause-err
-returns-clause-err g c =
-    let facts = g.S.Store.facts in
-    let old = session_with c.self.inside.blocks (reverse c.self.inside.undo.items) (reverse c.self.inside.redo.items) in
-    let new = session_with c.turn.new.blocks (reverse c.turn.new.from.items) (reverse c.turn.new.to.items) in
-    let turns = c.in_ok-turn.ensures.ok in
-    subst (λ (s : SessionState g.row.S.Denot). OnErr c.if-branch.result (KeepsSession facts s new)) c.self.view_is
-    (elim c.if-branch.branch [
-      | then-branch w ↦ subst (λ r. OnErr r (KeepsSession facts old new)) (sym w.result-is) tt
-      | else-branch w ↦ subst (λ r. OnErr r (KeepsSession facts old new)) (sym w.result-is) (undo_kept facts old new (ap has_locks c.self.view_is ∙ sym c.has_locks.ensures.value ∙ c.if-has_locks.false) (rw w.if-branch.false at turns))
-    ])
-
-pub returns-clause-passes : goal.returns-clause-passes
-returns-clause-passes g c =
-    subst (λ (s : SessionState g.row.S.Denot). Passes g.S.Store.facts s.disk c.turn.new.blocks.disk) c.self.view_is (turned_passes g.S.Store.facts c.in_ok-turn.field-0 Backwards c.self.inside.blocks c.turn.new.blocks _ _ _ _ c.in_ok-turn.ensures.ok)
-
-pub returns-then-has_locks-clause-err : goal.returns-then-has_locks-clause-err
-returns-then-has_locks-clause-err g c = keeps_refl g.S.Store.facts c.args.self.now
-
-pub returns-in_err-turn-clause-sure : goal.returns-in_err-turn-clause-sure
-returns-in_err-turn-clause-sure g c =
-    let facts = g.S.Store.facts in
-    let old = session_with c.self.inside.blocks (reverse c.self.inside.undo.items) (reverse c.self.inside.redo.items) in
-    let new = session_with c.turn.new.blocks (reverse c.turn.new.from.items) (reverse c.turn.new.to.items) in
-    subst (λ (s : SessionState g.row.S.Denot). has_locks s ≡ false → IsSure facts s Backwards s.undo → IsOk c.from_residual.result × (new.disk ≡ s.disk) × (new.document ≡ newest_made Backwards s.undo s.document)) c.self.view_is
-    (λ none sure. absurd (true≢false (sym (c.in_err-turn.ensures.sure (sure_turns facts old Backwards old.undo (λ exact. exact.steps.first) sure)).0)))
-
-pub returns-then-has_locks-clause-passes : goal.returns-then-has_locks-clause-passes
-returns-then-has_locks-clause-passes g c = Passes-refl g.S.Store.facts _
+    let old = session_with c.self.inside.blocks c.self.inside.log.lists in
+    let new = session_with c.make_entry.new.blocks c.move_undone.new.self.lists in
+    subst (λ (s : SessionState g.row.S.Denot). IsStep facts s new commands.Undo Accepted) c.self.view_is
+    (undo_taken facts old new c.in-Some-newest_undo.entry.now (ap rest_fault c.self.view_is ∙ sym c.in_default.ensures.is) c.in-Some-newest_undo.ensures c.move_undone.ensures c.in_ok-make_entry-in-Some-newest_undo.ensures.ok)

@@ -11,7 +11,7 @@ use Rattle.undo_log.proofs.session.Session.unlock.Goals as goal
 
 pub returns-clause-step : goal.returns-clause-step
 returns-clause-step g c = λ target.
-    let e = c.unlock.ensures in let undo = reverse c.self.inside.undo.items in let redo = reverse c.self.inside.redo.items in
-    let new = session_with c.unlock.new.self undo redo in
+    let e = c.unlock.ensures in let log = c.self.inside.log.lists in
+    let new = session_with c.unlock.new.self log in
     subst (λ (s : SessionState g.row.S.Denot). Step false (machine_of target s) (Some (commands.Unlock c.args.block)) (reply_by (λ _. Accepted) c.unlock.result) (machine_of target new)) c.self.view_is
-    (unlock_is (session_with c.self.inside.blocks undo redo) new c.args.block c.unlock.result e.ok (on_err_weaker c.unlock.result (λ is. ap (λ (b : CacheState g.row.S.Denot). session_with b undo redo) is) e.err) e.refusals e.early refl refl target)
+    (unlock_is (session_with c.self.inside.blocks log) new c.args.block c.unlock.result e.ok (on_err_weaker c.unlock.result (λ is. ap (λ (b : CacheState g.row.S.Denot). session_with b log) is) e.err) e.refusals e.early refl target)

@@ -1,7 +1,9 @@
 use Rattle.std.proofs.Common.{Bool, reverse, subst}
 use Rattle.geos_model.specs.Machine.{AreValidLocks, IsValidMachine}
 use Rattle.vm_file.specs.Disk.{IsListed, IsSettled}
+use Rattle.undo_log.specs.Logging.{AreExclusive, open_changes}
 use Rattle.undo_log.specs.Records.{SessionState, machine_of, IsExact}
+use Rattle.undo_log.proofs.Groups.{group_valid}
 use Rattle.undo_log.proofs.Locking.{locks_valid}
 use Rattle.undo_log.proofs.LookUps.{session_with}
 use Rattle.undo_log.proofs.Steps.{past-valid, future-valid}
@@ -15,11 +17,12 @@ returns-clause-settled g c = subst (λ (s : SessionState g.row.S.Denot). IsSettl
 
 pub returns-clause-machine : goal.returns-clause-machine
 returns-clause-machine g c =
-    let e = c.validity.ensures in let old = session_with c.self.inside.blocks (reverse c.self.inside.undo.items) (reverse c.self.inside.redo.items) in
+    let e = c.validity.ensures in let old = session_with c.self.inside.blocks c.self.inside.log.lists in
     subst (λ (s : SessionState g.row.S.Denot). IsExact g.S.Store.facts s → (target : Bool) → IsValidMachine (machine_of target s)) c.self.view_is (λ exact target. record {
       document = exact.steps.valid;
-      past = past-valid _ _ _ exact.steps;
-      future = future-valid _ _ _ exact.steps;
+      past = past-valid old.document old.log exact.steps;
+      future = future-valid old.document old.log exact.steps;
+      group = group_valid g.S.Store.facts old target exact c.validity-2.ensures;
       updated = (c.validity.ensures.valid exact.honest).0;
       saved = (c.validity.ensures.valid exact.honest).1;
       locks = locks_valid old target e.distinct e.resident e.counts e.few;
@@ -27,5 +30,8 @@ returns-clause-machine g c =
 
 pub returns-clause-locks : goal.returns-clause-locks
 returns-clause-locks g c =
-    let e = c.validity.ensures in let old = session_with c.self.inside.blocks (reverse c.self.inside.undo.items) (reverse c.self.inside.redo.items) in
+    let e = c.validity.ensures in let old = session_with c.self.inside.blocks c.self.inside.log.lists in
     subst (λ (s : SessionState g.row.S.Denot). (target : Bool) → AreValidLocks (machine_of target s)) c.self.view_is (λ target. locks_valid old target e.distinct e.resident e.counts e.few)
+
+pub returns-clause-group : goal.returns-clause-group
+returns-clause-group g c = subst (λ (s : SessionState g.row.S.Denot). AreExclusive (open_changes s.log.group) s.log.redo) c.self.view_is c.validity-2.ensures

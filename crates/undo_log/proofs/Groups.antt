@@ -1,0 +1,151 @@
+-- A group that begins, ends or is abandoned, and what stays known of a log as its entries are made.
+use Rattle.std.proofs.Common.{◌≡◌, Bool, false, IsTrue, List, [], ◌∷◌, ◌++◌, map, Option, Some, None, refl, sym, ap, subst, ◌∙◌, inl}
+use Rattle.std.specs.Prelude.{IfSome}
+use Rattle.std.specs.Option.{option_map}
+use Rattle.geos_model.specs.Document.{Document, IsValid}
+use Rattle.geos_model.specs.Machine.{IsValidGroup, Step}
+use Rattle.geos_model.specs.Reply.{Accepted}
+use Rattle.geos_model.specs.declared.command.Command.TheVariants as commands
+use Rattle.vm_store.specs.Facts.{StoreFacts}
+use Rattle.vm_file.specs.Disk.{IsListed}
+use Rattle.block_cache.specs.State.{CacheState}
+use Rattle.vm_blocks.specs.Changes.{turned}
+use Rattle.vm_blocks.specs.Preparing.{AllListed, MakesAll}
+use Rattle.vm_blocks.specs.declared.change.Change.{Change}
+use Rattle.vm_blocks.specs.declared.change.Direction.TheVariants.{Forwards, Backwards}
+use Rattle.undo_log.specs.Logging.{AreExclusive, IsFirst, Log, after_all, after_entry, all_changes, before, changes_in, closed_with, group_of, open_changes, redone, steps, to_redo, to_undo, turned_over, undone, with_group_closed}
+use Rattle.undo_log.specs.Records.{SessionState, machine_of, AreListed, AreSteps, IsExact}
+use Rattle.undo_log.specs.Turning.{MakesEntry}
+use Rattle.undo_log.specs.declared.entry.LogEntry.{LogEntry}
+use Rattle.undo_log.proofs.Answers.{begin_moved, end_moved}
+use Rattle.undo_log.proofs.Keeping.{Holds, answers_on, machine_with, none_marked}
+use Rattle.undo_log.proofs.Listing.{are_listed_alike, drifted, entry_listed, listed_behind, listed_front, moved_listed, swapped_back_listed, swapped_listed}
+use Rattle.undo_log.proofs.Steps.{before-valid}
+use Rattle.undo_log.proofs.Turns.{entry_document, entry_passes}
+
+-- a log of these
+abbrev log_of : List LogEntry → List LogEntry → Option (List Change) → Log
+log_of undo redo group = record { undo = undo; redo = redo; group = group }
+
+-- The group that is open is valid.
+pub group_valid : {S : Type 0} (facts : S → StoreFacts) (s : SessionState S) (target : Bool) → IsExact facts s → AreExclusive (open_changes s.log.group) s.log.redo
+    → IfSome (machine_of target s).group (λ g. IsValidGroup g (machine_of target s))
+group_valid facts s target exact apart = by_group s.log.group (before-valid s.document s.log exact.steps) apart
+  where
+    by_group : (o : Option (List Change)) → IsValid (before o s.document) → AreExclusive (open_changes o) s.log.redo → IfSome (option_map (group_of s.document) o) (λ g. IsValidGroup g (machine_of target s))
+    by_group None valid apart = tt
+    by_group (Some []) valid apart = record { before = valid; none = λ _. (refl, refl); some = λ other. absurd (other refl) }
+    by_group (Some (c ∷ cs)) valid apart = record { before = valid; none = λ none. absurd (cc none); some = λ _. ap (λ (es : List LogEntry). steps Forwards es s.document) apart }
+
+-- A group that is closed leaves the same changes.
+
+pub closed_undo : (log : Log) → to_undo (with_group_closed log) ≡ to_undo log
+closed_undo log = by_group log.group
+  where
+    by_group : (group : Option (List Change)) → to_undo (closed_with group (log_of log.undo log.redo group)) ≡ open_changes group ++ all_changes log.undo
+    by_group None = refl
+    by_group (Some []) = refl
+    by_group (Some (c ∷ cs)) = refl
+
+pub closed_redo : (log : Log) → to_redo (with_group_closed log) ≡ to_redo log
+closed_redo log = by_group log.group
+  where
+    by_group : (group : Option (List Change)) → to_redo (closed_with group (log_of log.undo log.redo group)) ≡ all_changes log.redo
+    by_group None = refl
+    by_group (Some []) = refl
+    by_group (Some (c ∷ cs)) = refl
+
+pub opened_undo : (log : Log) → log.group ≡ None → to_undo (record log { group = Some [] }) ≡ to_undo log
+opened_undo log none = sym (ap (λ (g : Option (List Change)). open_changes g ++ all_changes log.undo) none)
+
+-- with the same changes what is known of the blocks stays
+pub same_holds : {S : Type 0} (blocks : CacheState S) (old new : Log) → to_undo new ≡ to_undo old → to_redo new ≡ to_redo old → Holds blocks old → Holds blocks new
+same_holds blocks old new undo redo holds = (
+  subst (λ (cs : List Change). AreListed Backwards blocks.document cs (to_redo new)) (sym undo) (subst (λ (cs : List Change). AreListed Backwards blocks.document (to_undo old) cs) (sym redo) holds.0),
+  holds.1,
+)
+
+module _ {S : Type 0} (s : SessionState S) where
+  same_steps : (facts : S → StoreFacts) (log : Log) → to_undo log ≡ to_undo s.log → to_redo log ≡ to_redo s.log → IsExact facts s → IsExact facts (record s { log = log })
+  same_steps facts log undo redo exact = record {
+    honest = exact.honest;
+    steps = subst (λ (cs : List Change). AreSteps Backwards s.document cs (to_redo log)) (sym undo) (subst (λ (cs : List Change). AreSteps Backwards s.document (to_undo s.log) cs) (sym redo) exact.steps);
+  }
+
+  module _ (none : s.log.group ≡ None) where
+    pub begin_exact : (facts : S → StoreFacts) → IsExact facts s → IsExact facts (record s { log = record s.log { group = Some [] } })
+    begin_exact facts exact = same_steps facts (record s.log { group = Some [] }) (opened_undo s.log none) refl exact
+
+    pub begin_step : (target : Bool) → Step false (machine_of target s) (Some commands.Begin) Accepted (machine_of target (record s { log = record s.log { group = Some [] } }))
+    begin_step target =
+        let m = machine_of target s in
+        inl (answers_on m (machine_with m s.document (log_of s.log.undo s.log.redo None)) _ _ (Some commands.Begin) Accepted
+        (ap (λ (g : Option (List Change)). machine_with m s.document (log_of s.log.undo s.log.redo g)) none) refl (begin_moved m s.document s.log.undo s.log.redo))
+
+  pub end_exact : (facts : S → StoreFacts) → IsExact facts s → IsExact facts (record s { log = with_group_closed s.log })
+  end_exact facts exact = same_steps facts (with_group_closed s.log) (closed_undo s.log) (closed_redo s.log) exact
+
+  pub end_step : (cs : List Change) → s.log.group ≡ Some cs → (target : Bool) → Step false (machine_of target s) (Some commands.End) Accepted (machine_of target (record s { log = with_group_closed s.log }))
+  end_step cs is_open target =
+      let m = machine_of target s in
+      inl (answers_on m (machine_with m s.document (log_of s.log.undo s.log.redo (Some cs))) _ (machine_with m s.document (closed_with (Some cs) (log_of s.log.undo s.log.redo (Some cs)))) (Some commands.End) Accepted
+      (ap (λ (g : Option (List Change)). machine_with m s.document (log_of s.log.undo s.log.redo g)) is_open)
+      (ap (λ (g : Option (List Change)). machine_with m s.document (closed_with g (log_of s.log.undo s.log.redo g))) is_open) (end_moved m s.document s.log.undo s.log.redo cs))
+
+module _ {S : Type 0} (facts : S → StoreFacts) (old new : CacheState S) (log : Log) where
+  -- An entry was made.
+  module _ (e : LogEntry) (none : log.group ≡ None) (known : IsListed (facts old.disk.store).honest old.document) where
+    undo_known : (first : IsFirst e log.undo) → Holds old log → AreListed Backwards old.document (all_changes (e ∷ first.others)) (all_changes log.redo)
+    undo_known first holds =
+        subst (λ (es : List LogEntry). AreListed Backwards old.document (all_changes es) (all_changes log.redo)) first.are
+        (subst (λ (g : Option (List Change)). AreListed Backwards old.document (open_changes g ++ all_changes log.undo) (all_changes log.redo)) none holds.0)
+
+    redo_known : (first : IsFirst e log.redo) → Holds old log → AreListed Forwards old.document (all_changes (e ∷ first.others)) (all_changes log.undo)
+    redo_known first holds =
+        subst (λ (es : List LogEntry). AreListed Forwards old.document (all_changes es) (all_changes log.undo)) first.are
+        (swapped_listed old.document (all_changes log.undo) (all_changes log.redo) (subst (λ (g : Option (List Change)). AreListed Backwards old.document (open_changes g ++ all_changes log.undo) (all_changes log.redo)) none holds.0))
+
+    pub undo_listed : IsFirst e log.undo → Holds old log → AllListed (map (turned Backwards) (changes_in e)) old.document
+    undo_listed first holds = entry_listed Backwards e first.others old.document (undo_known first holds).first
+
+    pub redo_listed : IsFirst e log.redo → Holds old log → AllListed (map (turned Forwards) (changes_in e)) old.document
+    redo_listed first holds = entry_listed Forwards e first.others old.document (redo_known first holds).first
+
+    pub undone_invariant : IsFirst e log.undo → MakesEntry facts Backwards e old new → Holds old log → Holds new (undone log)
+    undone_invariant first makes holds =
+        let is : undone log ≡ log_of first.others (turned_over e ∷ log.redo) None = rw (first.are, none) refl in
+        let honest = (facts old.disk.store).honest in (
+          subst (λ (l : Log). AreListed Backwards new.document (to_undo l) (to_redo l)) (sym is)
+              (moved_listed honest Backwards old.document new.document e first.others log.redo known (drifted honest _ new.document (entry_document facts Backwards e old new makes)) (undo_known first holds)),
+          none_marked honest old.disk.marked new.disk.marked holds.1 (entry_passes facts Backwards e old new makes).marked,
+        )
+
+    pub redone_invariant : IsFirst e log.redo → MakesEntry facts Forwards e old new → Holds old log → Holds new (redone log)
+    redone_invariant first makes holds =
+        let is : redone log ≡ log_of (turned_over e ∷ log.undo) first.others None = rw (first.are, none) refl in
+        let honest = (facts old.disk.store).honest in (
+          subst (λ (l : Log). AreListed Backwards new.document (to_undo l) (to_redo l)) (sym is)
+              (swapped_back_listed new.document (all_changes (turned_over e ∷ log.undo)) (all_changes first.others)
+              (moved_listed honest Forwards old.document new.document e first.others log.undo known (drifted honest _ new.document (entry_document facts Forwards e old new makes)) (redo_known first holds))),
+          none_marked honest old.disk.marked new.disk.marked holds.1 (entry_passes facts Forwards e old new makes).marked,
+        )
+
+  -- The group that is open is taken back.
+  module _ (cs : List Change) (is_open : log.group ≡ Some cs) where
+    group_known : Holds old log → AreListed Backwards old.document (cs ++ all_changes log.undo) (all_changes log.redo)
+    group_known holds = subst (λ (g : Option (List Change)). AreListed Backwards old.document (open_changes g ++ all_changes log.undo) (all_changes log.redo)) is_open holds.0
+
+    pub group_listed : Holds old log → AllListed (map (turned Backwards) cs) old.document
+    group_listed holds = listed_front Backwards cs (all_changes log.undo) old.document (group_known holds).first
+
+    apart_listed : (xs : List Change) → AreExclusive xs log.redo → AllListed (map (turned Forwards) (all_changes log.redo)) old.document → AllListed (map (turned Forwards) (all_changes log.redo)) (after_all Backwards xs old.document)
+    apart_listed [] apart listed = listed
+    apart_listed (x ∷ xs) apart listed = subst (λ (es : List LogEntry). AllListed (map (turned Forwards) (all_changes es)) (after_all Backwards (x ∷ xs) old.document)) (sym apart) tt
+
+    pub abandoned_invariant : AreExclusive cs log.redo → MakesAll facts (map (turned Backwards) cs) old new → Holds old log → Holds new (record log { group = None })
+    abandoned_invariant apart makes holds =
+        let honest = (facts old.disk.store).honest in (
+          are_listed_alike Backwards (after_all Backwards cs old.document) new.document (all_changes log.undo) (all_changes log.redo) (drifted honest _ new.document makes.document)
+              (record { first = listed_behind Backwards cs (all_changes log.undo) old.document (group_known holds).first; second = apart_listed cs apart (group_known holds).second }),
+          none_marked honest old.disk.marked new.disk.marked holds.1 makes.passes.marked,
+        )

@@ -1,0 +1,145 @@
+-- What is kept of steps that can be undone or made again, and what a call makes of it.
+use Rattle.std.specs.Prelude.{◌≡◌, ℕ, Bool, List, [], ◌∷◌, ◌++◌, length, reverse, map, Option, Some, None}
+use Rattle.std.specs.List.{sum_by}
+use Rattle.geos_model.specs.Document.{Document}
+use Rattle.geos_model.specs.Machine.{OpenGroup, UndoStep}
+use Rattle.geos_model.specs.declared.command.Kind.{Kind}
+use Rattle.geos_model.specs.declared.command.Kind.TheVariants.{Group}
+use Rattle.vm_blocks.specs.Changes.{after, turned, weight}
+use Rattle.vm_blocks.specs.Preparing.{made_all}
+use Rattle.vm_blocks.specs.declared.change.Change.{Change}
+use Rattle.vm_blocks.specs.declared.change.Direction.{Direction}
+use Rattle.vm_blocks.specs.declared.change.Direction.TheVariants.{Backwards}
+use Rattle.doc_edits.specs.Planning.{kind_of_change, change_cost}
+use Rattle.undo_log.specs.declared.entry.LogEntry.{LogEntry}
+use Rattle.undo_log.specs.declared.entry.LogEntry.TheVariants as entries
+
+-- the changes of an entry, the one that is made next first
+abbrev pub changes_in : LogEntry → List Change
+changes_in (entries.One c) = c ∷ []
+changes_in (entries.Group cs) = cs
+
+-- those of several
+abbrev pub all_changes : List LogEntry → List Change
+all_changes [] = []
+all_changes (entries.One c ∷ es) = c ∷ all_changes es
+all_changes (entries.Group cs ∷ es) = cs ++ all_changes es
+
+-- an entry once it is made: its changes are made the other way round next, the last one first
+abbrev pub turned_over : LogEntry → LogEntry
+turned_over (entries.One c) = entries.One c
+turned_over (entries.Group cs) = entries.Group (reverse cs)
+
+abbrev pub kind_of_entry : LogEntry → Kind
+kind_of_entry (entries.One c) = kind_of_change c
+kind_of_entry (entries.Group cs) = Group
+
+-- how many bytes changes are charged for together, and how many content bytes they hold
+abbrev pub changes_cost : List Change → ℕ
+changes_cost cs = sum_by change_cost cs
+
+abbrev pub total_weight : List Change → ℕ
+total_weight cs = sum_by weight cs
+
+abbrev pub entry_weight : LogEntry → ℕ
+entry_weight e = total_weight (changes_in e)
+
+abbrev pub entry_cost : LogEntry → ℕ
+entry_cost (entries.One c) = change_cost c
+entry_cost (entries.Group cs) = changes_cost cs
+
+-- the document after changes are carried out in a direction, one after another
+abbrev pub after_all : Direction → List Change → Document → Document
+after_all direction cs d = made_all (map (turned direction) cs) d
+
+abbrev pub after_entry : Direction → LogEntry → Document → Document
+after_entry direction (entries.One c) d = after direction c d
+after_entry direction (entries.Group cs) d = after_all direction cs d
+
+-- the step that an entry is, carried out in a direction
+abbrev pub step : Direction → LogEntry → Document → UndoStep
+step direction e d = record { kind = kind_of_entry e; cost = entry_cost e; document = after_entry direction e d }
+
+-- the steps that entries are, carried out in a direction one after another
+abbrev pub steps : Direction → List LogEntry → Document → List UndoStep
+steps direction [] d = []
+steps direction (e ∷ es) d = step direction e d ∷ steps direction es (after_entry direction e d)
+
+-- What can be undone and what can be made again, of both the next entry first, and the changes of the group that is open, the newest
+-- first; None where none is open.
+pub record Log : Type 0 where
+  pub undo : List LogEntry
+  pub redo : List LogEntry
+  pub group : Option (List Change)
+
+abbrev pub empty_log : Log
+empty_log = record { undo = []; redo = []; group = None }
+
+-- an entry is the first of these
+pub record IsFirst (e : LogEntry) (es : List LogEntry) : Type 0 where
+  pub others : List LogEntry
+  pub are : es ≡ e ∷ others
+
+-- one of the two has nothing
+abbrev pub AreExclusive : List Change → List LogEntry → Type 0
+AreExclusive [] es = Unit {0}
+AreExclusive (c ∷ cs) es = es ≡ []
+
+-- the changes of the group, none where none is open
+abbrev pub open_changes : Option (List Change) → List Change
+open_changes None = []
+open_changes (Some cs) = cs
+
+-- all changes that can be taken back, the newest first, and all that can be made again
+abbrev pub to_undo : Log → List Change
+to_undo log = open_changes log.group ++ all_changes log.undo
+
+abbrev pub to_redo : Log → List Change
+to_redo log = all_changes log.redo
+
+-- the document before the group that is open
+abbrev pub before : Option (List Change) → Document → Document
+before group d = after_all Backwards (open_changes group) d
+
+-- the group of these changes, in a document that has them
+abbrev pub group_of : Document → List Change → OpenGroup
+group_of d cs = record { before = after_all Backwards cs d; edits = length cs; cost = changes_cost cs }
+
+-- What calls make of the log.
+
+-- An edit's change is the newest: of the group that is open, or as an entry. Nothing is left to make again.
+abbrev pub added_to : Option (List Change) → Change → Log → Log
+added_to None c log = record log { undo = entries.One c ∷ log.undo; redo = [] }
+added_to (Some cs) c log = record log { redo = []; group = Some (c ∷ cs) }
+
+abbrev pub with_change : Change → Log → Log
+with_change c log = added_to log.group c log
+
+-- the group is the newest entry, if it has changes
+abbrev pub closed_with : Option (List Change) → Log → Log
+closed_with None log = log
+closed_with (Some []) log = record log { group = None }
+closed_with (Some (c ∷ cs)) log = record log { undo = entries.Group (c ∷ cs) ∷ log.undo; group = None }
+
+abbrev pub with_group_closed : Log → Log
+with_group_closed log = closed_with log.group log
+
+-- the newest entry of one list is the newest of the other
+abbrev pub undone_from : List LogEntry → Log → Log
+undone_from [] log = log
+undone_from (e ∷ es) log = record log { undo = es; redo = turned_over e ∷ log.redo }
+
+abbrev pub undone : Log → Log
+undone log = undone_from log.undo log
+
+abbrev pub redone_from : List LogEntry → Log → Log
+redone_from [] log = log
+redone_from (e ∷ es) log = record log { undo = turned_over e ∷ log.undo; redo = es }
+
+abbrev pub redone : Log → Log
+redone log = redone_from log.redo log
+
+-- A log, and whether there is room for one change more.
+pub record LogState : Type 0 where
+  pub lists : Log
+  pub room : Bool

@@ -1,0 +1,80 @@
+ghost use Rattle.std.specs.Prelude.{◌≡◌, ◌-◌, ◌^◌, min, reverse};
+ghost use Rattle.undo_log.specs.Logging.{entry_weight, turned_over};
+
+use crate::weighing::total_weight;
+use std::marker::Model;
+use vm_blocks::Change;
+
+/// The changes of a group. Contracts see them as a list, the one that is made next first.
+#[derive(Drop)]
+pub struct Changes {
+    // The next one is the last.
+    stack: Vec<Change>,
+}
+
+impl Model for Changes {
+    ghost use Rattle.std.specs.Prelude.{List, reverse};
+    ghost use Rattle.std.specs.Coded.{coded_list};
+    ghost use Rattle.vm_blocks.specs.declared.change.Change.{Change};
+    ghost use Rattle.vm_blocks.specs.contracts.change.Change as change_type;
+
+    ghost Value = { List Change };
+
+    ghost coded = { coded_list change_type.the_row.coded };
+
+    ghost view = { λ c. reverse c.stack.items };
+}
+
+impl Changes {
+    /// These changes, the last one next.
+    pub(crate) fn new(stack: Vec<Change>) -> Changes
+        ensures { result ≡ reverse stack.items }
+    {
+        Changes { stack }
+    }
+
+    /// The changes, the next one last.
+    pub(crate) fn as_slice(&self) -> &[Change]
+        ensures { reverse result.now ≡ self.now }
+    {
+        self.stack.as_slice()
+    }
+
+    /// From here on the last one is the next.
+    pub(crate) fn turn_over(&mut self)
+        ensures { self.new ≡ reverse self.old }
+    {
+        self.stack.as_mut_slice().reverse();
+    }
+}
+
+/// What is kept of a step that can be undone or made again.
+#[derive(Drop)]
+pub enum LogEntry {
+    /// The change of one edit.
+    One(Change),
+    /// The changes of a group of edits.
+    Group(Changes),
+}
+
+impl LogEntry {
+    /// How many content bytes its changes hold, 2^64 - 1 where these are more.
+    pub(crate) fn weight(&self) -> u64
+        ensures { result ≡ min (entry_weight self.now) (2 ^ 64 - 1) }
+    {
+        match self {
+            LogEntry::One(change) => change.weight(),
+            LogEntry::Group(changes) => total_weight(changes.as_slice()),
+        }
+    }
+
+    /// Its changes were made: the last one is the next.
+    pub(crate) fn turn_over(&mut self)
+        ensures { self.new ≡ turned_over self.old }
+    {
+        match self {
+            LogEntry::One(_) => {}
+            LogEntry::Group(changes) => changes.turn_over(),
+        }
+    }
+}

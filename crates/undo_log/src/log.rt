@@ -1,0 +1,211 @@
+ghost use Rattle.std.specs.Prelude.{◌≡◌, ◌+◌, ◌-◌, ◌^◌, [], true, Some, None, OnOk, MatchOption, is_some, length, min, reverse};
+ghost use Rattle.std.specs.Option.{option_map};
+ghost use Rattle.undo_log.specs.Logging.{AreExclusive, IsFirst, empty_log, open_changes, redone, to_redo, to_undo, total_weight, undone, with_change, with_group_closed};
+
+use crate::entry::{Changes, LogEntry};
+use crate::weighing::{entries_weight, total_weight};
+use std::alloc::{AllocError, Global};
+use std::marker::Model;
+use vm_blocks::Change;
+
+/// What is kept of the steps that can be undone or made again, and of the group that is open.
+#[derive(Drop)]
+pub struct UndoLog {
+    // The newest entry is the last. There is room for the entries of both lists, and for the group that is open.
+    undo: Vec<LogEntry>,
+    // The next entry to make again is the last. There is room for as many.
+    redo: Vec<LogEntry>,
+    // The newest change of the open group is the last. While it has some, nothing is left to make again.
+    group: Option<Vec<Change>>,
+}
+
+impl Model for UndoLog {
+    ghost use Rattle.undo_log.specs.Logging.{LogState};
+    ghost use Rattle.undo_log.specs.Codes.{log_state_code};
+    ghost use Rattle.undo_log.specs.Logging.{AreExclusive, open_changes};
+    ghost use Rattle.undo_log.specs.Rooms.{has_room, waiting};
+
+    ghost Value = { LogState };
+
+    ghost coded = { log_state_code };
+
+    ghost use Rattle.std.specs.Prelude.{◌+◌, ◌≤◌, reverse, vec_len, vec_capacity};
+    ghost use Rattle.std.specs.Option.{option_map};
+
+    ghost view = { λ l. record {
+      lists = record { undo = reverse l.undo.items; redo = reverse l.redo.items; group = option_map (λ changes. reverse changes.items) l.group };
+      room = has_room (vec_len l.undo + vec_len l.redo) (vec_capacity l.undo) (vec_capacity l.redo) (option_map (λ changes. (vec_len changes, vec_capacity changes)) l.group);
+    } };
+
+    ghost invariant = { λ l. (vec_len l.undo + vec_len l.redo + waiting (option_map (λ changes. (vec_len changes, vec_capacity changes)) l.group) ≤ vec_capacity l.undo)
+        × (vec_len l.undo + vec_len l.redo + waiting (option_map (λ changes. (vec_len changes, vec_capacity changes)) l.group) ≤ vec_capacity l.redo)
+        × AreExclusive (open_changes (option_map (λ changes. reverse changes.items) l.group)) (reverse l.redo.items) };
+}
+
+impl UndoLog {
+    /// A log of nothing.
+    pub(crate) fn new(alloc: Global) -> UndoLog
+        ensures { result.lists ≡ empty_log }
+    {
+        UndoLog {
+            undo: Vec::new(alloc),
+            redo: Vec::new(alloc),
+            group: None,
+        }
+    }
+
+    /// Makes room for one change more.
+    pub(crate) fn reserve(&mut self) -> Result<(), AllocError>
+        ensures lists { self.new.lists ≡ self.old.lists }
+        ensures room { OnOk result (self.new.room ≡ true) }
+    {
+        self.undo.reserve(self.redo.len() + 1)?;
+        self.redo.reserve(self.undo.len() + 1)?;
+        if let Some(changes) = &mut self.group {
+            changes.reserve(1)?;
+        }
+        Ok(())
+    }
+
+    /// The change of an edit that was made is the newest.
+    pub(crate) fn add(&mut self, change: Change)
+        requires { self.old.room ≡ true }
+        ensures { self.new.lists ≡ with_change change self.old.lists }
+    {
+        // Nothing is left to make again, in a group too.
+        self.redo.clear();
+        match &mut self.group {
+            Some(changes) => changes.push_reserved(change),
+            None => self.undo.push_reserved(LogEntry::One(change)),
+        }
+    }
+
+    /// The newest entry that can be undone.
+    pub(crate) fn newest_undo(&self) -> Option<&LogEntry>
+        ensures { MatchOption result (self.now.lists.undo ≡ []) (λ entry. IsFirst entry.now self.now.lists.undo) }
+    {
+        self.undo.last()
+    }
+
+    /// The next entry that can be made again.
+    pub(crate) fn newest_redo(&self) -> Option<&LogEntry>
+        ensures { MatchOption result (self.now.lists.redo ≡ []) (λ entry. IsFirst entry.now self.now.lists.redo) }
+    {
+        self.redo.last()
+    }
+
+    /// The newest entry, if there is one, was undone: it is the next that can be made again.
+    pub(crate) fn move_undone(&mut self)
+        requires { self.old.lists.group ≡ None }
+        ensures { self.new.lists ≡ undone self.old.lists }
+    {
+        if let Some(mut entry) = self.undo.pop() {
+            entry.turn_over();
+            self.redo.push_reserved(entry);
+        }
+    }
+
+    /// The next entry, if there is one, was made again: it is the newest that can be undone.
+    pub(crate) fn move_redone(&mut self)
+        requires { self.old.lists.group ≡ None }
+        ensures { self.new.lists ≡ redone self.old.lists }
+    {
+        if let Some(mut entry) = self.redo.pop() {
+            entry.turn_over();
+            self.undo.push_reserved(entry);
+        }
+    }
+
+    /// Opens a group without a change.
+    pub(crate) fn open_group(&mut self, alloc: Global)
+        requires { self.old.lists.group ≡ None }
+        ensures { self.new.lists ≡ record self.old.lists { group = Some [] } }
+    {
+        self.group = Some(Vec::new(alloc));
+    }
+
+    /// Closes the group, if one is open: its changes are the newest entry, if it has some.
+    pub(crate) fn close_group(&mut self)
+        ensures { self.new.lists ≡ with_group_closed self.old.lists }
+    {
+        if let Some(changes) = self.group.take() {
+            if !changes.is_empty() {
+                self.undo
+                    .push_reserved(LogEntry::Group(Changes::new(changes)));
+            }
+        }
+    }
+
+    /// Closes the group and forgets its changes.
+    pub(crate) fn forget_group(&mut self)
+        ensures { self.new.lists ≡ record self.old.lists { group = None } }
+    {
+        self.group = None;
+    }
+
+    /// Forgets all.
+    pub(crate) fn clear(&mut self)
+        ensures { self.new.lists ≡ empty_log }
+    {
+        self.undo.clear();
+        self.redo.clear();
+        self.group = None;
+    }
+
+    /// The changes of the group that is open, the newest last; none where none is.
+    pub(crate) fn group(&self) -> &[Change]
+        ensures { reverse result.now ≡ open_changes self.now.lists.group }
+    {
+        match &self.group {
+            Some(changes) => changes.as_slice(),
+            None => &[],
+        }
+    }
+
+    /// Whether a group is open.
+    pub(crate) fn in_group(&self) -> bool
+        ensures { result ≡ is_some self.now.lists.group }
+    {
+        self.group.is_some()
+    }
+
+    /// How many entries can be undone.
+    pub(crate) fn undo_count(&self) -> usize
+        ensures { result ≡ length self.now.lists.undo }
+    {
+        self.undo.len()
+    }
+
+    /// How many entries can be made again.
+    pub(crate) fn redo_count(&self) -> usize
+        ensures { result ≡ length self.now.lists.redo }
+    {
+        self.redo.len()
+    }
+
+    /// How many content bytes it holds, 2^64 - 1 where these are more.
+    pub(crate) fn weight(&self) -> u64
+        ensures { result ≡ min (total_weight (to_undo self.now.lists) + total_weight (to_redo self.now.lists)) (2 ^ 64 - 1) }
+    {
+        self.group_weight()
+            .saturating_add(entries_weight(self.undo.as_slice()))
+            .saturating_add(entries_weight(self.redo.as_slice()))
+    }
+
+    // How many those of the open group hold.
+    fn group_weight(&self) -> u64
+        ensures { result ≡ min (total_weight (open_changes self.now.lists.group)) (2 ^ 64 - 1) }
+    {
+        match &self.group {
+            Some(changes) => total_weight(changes.as_slice()),
+            None => 0,
+        }
+    }
+
+    /// It does nothing: its caller learns that nothing is left to make again while the open group has changes.
+    pub(crate) fn validity(&self)
+        ensures { AreExclusive (open_changes self.now.lists.group) self.now.lists.redo }
+    {
+        let _group = &self.group;
+    }
+}

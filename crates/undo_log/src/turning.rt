@@ -1,0 +1,51 @@
+ghost use Rattle.std.specs.Prelude.{◌≡◌, [], true, false, None, map, nat_lt, IsOk, IfErr, OnOk, OnErr, reverse};
+ghost use Rattle.block_cache.specs.State.{locked_count};
+ghost use Rattle.vm_blocks.specs.Changes.{turned};
+ghost use Rattle.vm_blocks.specs.Keeping.{Keeps};
+ghost use Rattle.vm_blocks.specs.Preparing.{AllListed, AreUnready, MakesAll};
+ghost use Rattle.vm_blocks.specs.declared.change.Direction.TheVariants.{Backwards};
+ghost use Rattle.undo_log.specs.Logging.{after_entry, changes_in};
+ghost use Rattle.undo_log.specs.Turning.{CanMakeEntry, CantMakeEntry, MakesEntry};
+
+use crate::entry::LogEntry;
+use geos_model::Fault;
+use vm_blocks::{Change, Direction, FileBlocks};
+use vm_store::Store;
+
+/// Makes the changes of an entry in a direction, all or none. No block is locked.
+pub fn make_entry<S: Store>(
+    blocks: &mut FileBlocks<S>,
+    entry: &LogEntry,
+    direction: Direction,
+) -> Result<(), Fault>
+    requires unmarked { blocks.old.disk.marked ≡ None }
+    requires unlocked { nat_lt 0 (locked_count blocks.old.resident) ≡ false }
+    requires listed { AllListed (map (turned direction) (changes_in entry.now)) blocks.old.document }
+    ensures ok { OnOk result (MakesEntry S.facts direction entry.now blocks.old blocks.new) }
+    ensures err { OnErr result (Keeps S.facts blocks.old blocks.new) }
+    ensures refusals { IfErr result (CantMakeEntry S.facts direction entry.now blocks.old blocks.new) }
+    ensures sure { CanMakeEntry direction entry.now blocks.old
+        → IsOk result × (blocks.new.disk ≡ blocks.old.disk) × (blocks.new.document ≡ after_entry direction entry.now blocks.old.document) }
+{
+    blocks.validity();
+    match entry {
+        LogEntry::One(change) => blocks.change(change, direction),
+        LogEntry::Group(changes) => blocks.change_all(changes.as_slice(), direction),
+    }
+}
+
+/// Takes changes back, the last one first, all or none. No block is locked. Where there are none it does nothing.
+pub fn take_back<S: Store>(blocks: &mut FileBlocks<S>, changes: &[Change]) -> Result<(), Fault>
+    requires unmarked { blocks.old.disk.marked ≡ None }
+    requires unlocked { nat_lt 0 (locked_count blocks.old.resident) ≡ false }
+    requires listed { AllListed (map (turned Backwards) (reverse changes.now)) blocks.old.document }
+    ensures ok { OnOk result (MakesAll S.facts (map (turned Backwards) (reverse changes.now)) blocks.old blocks.new) }
+    ensures err { OnErr result (Keeps S.facts blocks.old blocks.new) }
+    ensures refusals { IfErr result (AreUnready S.facts (map (turned Backwards) (reverse changes.now)) blocks.old blocks.new) }
+    ensures none { changes.now ≡ [] → IsOk result × (blocks.new ≡ blocks.old) }
+{
+    if changes.is_empty() {
+        return Ok(());
+    }
+    blocks.change_all(changes, Direction::Backwards)
+}
