@@ -10,12 +10,13 @@ use std::{fs, io};
 use vm_store::MemStore;
 
 /// The examples. Each list begins on a new document, and what comes behind another one goes on with the file that that one left.
-const EXAMPLES: [&[&str]; 8] = [
+const EXAMPLES: [&[&str]; 9] = [
     &["first_path"],
     &["chunk_edits"],
     &["arrays"],
     &["chains"],
     &["contents"],
+    &["groups"],
     &["locks"],
     &["files_made", "files_opened"],
     &["small_document"],

@@ -32,6 +32,8 @@ module _ {S : Type 0} (facts : S → StoreFacts) where
   leaves commands.Save old new reply asks stays nothing = cc asks
   leaves commands.Revert old new reply asks stays nothing = cc asks
   leaves commands.SaveAs old new reply asks stays nothing = cc asks
+  leaves commands.Begin old new reply asks stays nothing = cc asks
+  leaves commands.End old new reply asks stays nothing = cc asks
   leaves (commands.Unlock b) old new reply asks stays nothing = cc asks
   leaves (commands.Dirty b) old new reply asks stays nothing = cc asks
   leaves commands.List old new reply asks stays nothing = stays refl
@@ -42,10 +44,11 @@ module _ {S : Type 0} (facts : S → StoreFacts) where
   leaves commands.Redos old new reply asks stays nothing = stays refl
   leaves c old new reply asks stays nothing = nothing
 
-  -- and is no undo or redo, which alone are sure
+  -- and is no undo, redo or abandon, which alone are sure
   unsure : (c : Command) (old new : SessionState S) (reply : Reply) → is_look_up c ≡ true → IsTakenIfSure facts old (Some c) reply new
   unsure commands.Undo old new reply asks = cc asks
   unsure commands.Redo old new reply asks = cc asks
+  unsure commands.Abandon old new reply asks = cc asks
   unsure c old new reply asks = tt
 
   -- what was told of a look-up

@@ -13,6 +13,7 @@ use Rattle.vm_file.specs.Disk.{Disk, Commits, Passes}
 use Rattle.vm_file.specs.Effects.{IsNewFile, Follows}
 use Rattle.vm_file.specs.Documents.{Documents}
 use Rattle.vm_blocks.specs.Locking.{GainsLock}
+use Rattle.undo_log.specs.Logging.{Log}
 use Rattle.undo_log.specs.Records.{SessionState, IsExact, IsStep, KeepsSession, blocks_of, machine_of, has_failed}
 use Rattle.undo_log.proofs.Keeping.{kept_passes}
 use Rattle.geos_shell.specs.Holdings.{AreExact, CommitsAsTold, CommitsNothing, IsTakenIfSure, LeavesFiles, Serves, Stays, TriesToCommit, failed_with, held, result_told}
@@ -74,19 +75,34 @@ module _ {S : Type 0} (facts : S → StoreFacts) where
         sure = sure;
       }
 
-  -- a call that changes nothing but locks
+  -- a call that calls no store
+  pub serves_staying : (old new : SessionState S) (target former : Option S) (c : Command) (reply : Reply) → new.disk ≡ old.disk → (IsExact facts old → IsExact facts new)
+      → ((left : Bool) → Step false (machine_of left old) (Some c) reply (machine_of left new))
+      → (Stays (held old target former) (held new target former) → LeavesFiles facts (held old target former) (Some c) reply (held new target former))
+      → IsTakenIfSure facts old (Some c) reply new
+      → AreExact facts (held old target former) → Serves facts (held old target former) (Some c) reply (held new target former)
+  serves_staying old new target former c reply same still step leaves sure exact =
+      record {
+        exact = (still exact.0, exact.1);
+        step = step_any _ _ _ (Some c) reply (step (is_some target));
+        files = leaves (record { disk = same; target = refl; former = refl });
+        sure = sure;
+      }
+
+  -- one that changes nothing but locks
   pub serves_at_rest : (old new : SessionState S) (target former : Option S) (c : Command) (reply : Reply) → new ≡ record old { resident = new.resident }
       → ((left : Bool) → Step false (machine_of left old) (Some c) reply (machine_of left new))
       → (Stays (held old target former) (held new target former) → LeavesFiles facts (held old target former) (Some c) reply (held new target former))
       → IsTakenIfSure facts old (Some c) reply new
       → AreExact facts (held old target former) → Serves facts (held old target former) (Some c) reply (held new target former)
   serves_at_rest old new target former c reply same step leaves sure exact =
-      record {
-        exact = (exact_still old new same exact.0, exact.1);
-        step = step_any _ _ _ (Some c) reply (step (is_some target));
-        files = leaves (record { disk = ap (λ (s : SessionState S). s.disk) same; target = refl; former = refl });
-        sure = sure;
-      }
+      serves_staying old new target former c reply (ap (λ (s : SessionState S). s.disk) same) (exact_still old new same) step leaves sure exact
+
+  -- one that changes nothing but the log, and nothing at all where it is refused
+  pub disk_kept : (P Q : Type 0) (wrong : Fault) (old new : SessionState S) (log : Log) (result : Result (Unit {0}) Fault)
+      → OnOk result (P × (new ≡ record old { log = log })) → IfErr result (λ fault. (fault ≡ wrong) × Q × (new ≡ old)) → new.disk ≡ old.disk
+  disk_kept P Q wrong old new log (Ok x) ok err = ap (λ (s : SessionState S). s.disk) ok.1
+  disk_kept P Q wrong old new log (Err fault) ok err = ap (λ (s : SessionState S). s.disk) err.2
 
   -- how a commit tries a pair, in the words of its reply
   tries : (pair : Documents) (old new : Disk S) (result : Result (Unit {0}) Fault) → Commits facts pair old new result

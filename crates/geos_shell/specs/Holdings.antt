@@ -8,8 +8,8 @@ use Rattle.geos_model.specs.declared.command.Command.TheVariants as commands
 use Rattle.vm_store.specs.Facts.{StoreFacts, Raised}
 use Rattle.vm_file.specs.Disk.{Disk, Commits, IsSettled, Numbered, Passes}
 use Rattle.vm_file.specs.Documents.{Documents}
-use Rattle.undo_log.specs.Records.{SessionState, IsExact, machine_of, has_failed, has_locks}
-use Rattle.undo_log.specs.Turning.{IsSure}
+use Rattle.undo_log.specs.Records.{SessionState, IsExact, machine_of, has_failed}
+use Rattle.undo_log.specs.Turning.{IsSure, abandon_fault, rest_fault}
 use Rattle.vm_blocks.specs.declared.change.Direction.TheVariants.{Forwards, Backwards}
 
 -- a session, the target of a save-as while one is left, and the store that a save-as went away from, where it was put aside
@@ -102,6 +102,8 @@ LeavesFiles facts old (Some commands.Update) reply new = CommitsAsTold facts (ol
 LeavesFiles facts old (Some commands.Save) reply new = CommitsAsTold facts (old.session.document, old.session.document) old reply new
 LeavesFiles facts old (Some commands.Revert) reply new = CommitsAsTold facts (old.session.disk.saved, old.session.disk.saved) old reply new
 LeavesFiles facts old (Some commands.SaveAs) reply new = SavesAs facts old old.target reply new
+LeavesFiles facts old (Some commands.Begin) reply new = Stays old new
+LeavesFiles facts old (Some commands.End) reply new = Stays old new
 LeavesFiles facts old (Some commands.List) reply new = Stays old new
 LeavesFiles facts old (Some (commands.Find uid start)) reply new = Stays old new
 LeavesFiles facts old (Some commands.MapBlock) reply new = Stays old new
@@ -115,10 +117,12 @@ LeavesFiles facts old None reply new = Stays old new
 
 -- Requests.
 
--- An undo or a redo that is sure, as a session says which are, is accepted and calls no store, where no block is locked.
+-- An undo or a redo that is sure, as a session says which are, is accepted and calls no store, where no group is open and no block is
+-- locked. So is an abandon of a group without an edit, where no block is locked.
 abbrev pub IsTakenIfSure : {S : Type 0} → (S → StoreFacts) → SessionState S → Request → Reply → SessionState S → Type 0
-IsTakenIfSure facts old (Some commands.Undo) reply new = has_locks old ≡ false → IsSure facts old Backwards old.undo → (reply ≡ Accepted) × (new.disk ≡ old.disk)
-IsTakenIfSure facts old (Some commands.Redo) reply new = has_locks old ≡ false → IsSure facts old Forwards old.redo → (reply ≡ Accepted) × (new.disk ≡ old.disk)
+IsTakenIfSure facts old (Some commands.Undo) reply new = rest_fault old ≡ None → IsSure facts old Backwards old.log.undo → (reply ≡ Accepted) × (new.disk ≡ old.disk)
+IsTakenIfSure facts old (Some commands.Redo) reply new = rest_fault old ≡ None → IsSure facts old Forwards old.log.redo → (reply ≡ Accepted) × (new.disk ≡ old.disk)
+IsTakenIfSure facts old (Some commands.Abandon) reply new = abandon_fault old ≡ None → old.log.group ≡ Some [] → (reply ≡ Accepted) × (new.disk ≡ old.disk)
 IsTakenIfSure facts old request reply new = Unit {0}
 
 -- The request is answered so: by the machine, with a file fault in place of its answer only where a store failed in this very call.

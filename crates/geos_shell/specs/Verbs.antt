@@ -38,6 +38,9 @@ use Rattle.geos_shell.specs.declared.verbs.Verb.TheVariants as verbs
 abbrev pub alone : Alone → Command
 alone alones.Undo = commands.Undo
 alone alones.Redo = commands.Redo
+alone alones.Begin = commands.Begin
+alone alones.End = commands.End
+alone alones.Abandon = commands.Abandon
 alone alones.Update = commands.Update
 alone alones.Save = commands.Save
 alone alones.Revert = commands.Revert

@@ -154,8 +154,10 @@ fn save_as<S: Store>(
         → Serves S.facts (held session.old target.old former.old) (Some commands.SaveAs) (reply_by (λ _. Accepted) result) (held session.new target.new former.new) }
 {
     let Some(store) = target.take() else {
-        // A lock refuses before anything else does.
-        return Err(if session.has_locks() {
+        // What is to be done first, whether there is a target or not.
+        return Err(if session.in_group() {
+            Fault::GroupOpen
+        } else if session.has_locks() {
             Fault::Locked
         } else {
             Fault::NoTarget
@@ -193,6 +195,9 @@ fn push_reply<S: Store>(
         Command::Edit(edit) => text::push_done(alloc, out, session.edit(edit)),
         Command::Undo => text::push_accepted(alloc, out, session.undo()),
         Command::Redo => text::push_accepted(alloc, out, session.redo()),
+        Command::Begin => text::push_accepted(alloc, out, session.begin()),
+        Command::End => text::push_accepted(alloc, out, session.end()),
+        Command::Abandon => text::push_accepted(alloc, out, session.abandon()),
         Command::Update => text::push_accepted(alloc, out, session.update()),
         Command::Save => text::push_accepted(alloc, out, session.save()),
         Command::Revert => text::push_accepted(alloc, out, session.revert()),

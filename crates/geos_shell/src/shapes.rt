@@ -14,6 +14,9 @@ use std::alloc::Global;
 pub(crate) enum Alone {
     Undo,
     Redo,
+    Begin,
+    End,
+    Abandon,
     Update,
     Save,
     Revert,
@@ -31,6 +34,9 @@ impl Alone {
         match self {
             Self::Undo => Command::Undo,
             Self::Redo => Command::Redo,
+            Self::Begin => Command::Begin,
+            Self::End => Command::End,
+            Self::Abandon => Command::Abandon,
             Self::Update => Command::Update,
             Self::Save => Command::Save,
             Self::Revert => Command::Revert,

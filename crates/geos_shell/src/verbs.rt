@@ -27,7 +27,7 @@ pub(crate) enum Verb {
 }
 
 /// Each verb by its name.
-const VERBS: [(&[u8], Verb); 65] = [
+const VERBS: [(&[u8], Verb); 68] = [
     (b"newraw", Verb::NewRaw),
     (b"newheap", Verb::NewHeap),
     (b"vfree", Verb::Block(OnBlock::Free)),
@@ -68,6 +68,9 @@ const VERBS: [(&[u8], Verb); 65] = [
     (b"chfree", Verb::Block(OnBlock::FreeChain)),
     (b"undo", Verb::Alone(Alone::Undo)),
     (b"redo", Verb::Alone(Alone::Redo)),
+    (b"begin", Verb::Alone(Alone::Begin)),
+    (b"end", Verb::Alone(Alone::End)),
+    (b"abandon", Verb::Alone(Alone::Abandon)),
     (b"update", Verb::Alone(Alone::Update)),
     (b"save", Verb::Alone(Alone::Save)),
     (b"revert", Verb::Alone(Alone::Revert)),

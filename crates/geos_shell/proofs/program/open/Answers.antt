@@ -6,7 +6,7 @@ use Rattle.geos_shell.proofs.program.open.Goals as goal
 pub returns-in-Ok-open_target-clause-ok : goal.returns-in-Ok-open_target-clause-ok
 returns-in-Ok-open_target-clause-ok g c =
     let opened = c.in-Ok.ensures in let found = opened.opened in
-    let frames : c.in-Ok.session.frames ≡ c.args.options.cache = cc (opened.new.2, c.from.ensures) in
+    let frames : c.in-Ok.session.frames ≡ c.args.options.cache = cc (opened.new.1, c.from.ensures) in
     record {
       target_is = c.in-Ok-open_target.ensures.ok;
       session_is = rw c.requires.old (is_opened g.F.Opened.Store.facts c.args.options.cache c.args.store c.in-Ok.session found.follows.honest found.follows.failures found.rests found.documents found.now opened.exact (rw c.from.ensures at opened.machine) frames found.sequence found.numbered found.settled);
@@ -16,7 +16,7 @@ returns-in-Ok-open_target-clause-ok g c =
 pub returns-in-Err-open_target-clause-err : goal.returns-in-Err-open_target-clause-err
 returns-in-Err-open_target-clause-err g c =
     let opened = c.in-Ok.ensures in let found = opened.opened in
-    let frames : c.in-Ok.session.frames ≡ c.args.options.cache = cc (opened.new.2, c.from.ensures) in
+    let frames : c.in-Ok.session.frames ≡ c.args.options.cache = cc (opened.new.1, c.from.ensures) in
     record {
       failed = c.open_target.new.files;
       target = c.in-Err-open_target.ensures.err;

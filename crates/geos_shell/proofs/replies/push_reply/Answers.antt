@@ -1,7 +1,7 @@
-use Rattle.std.proofs.Common.{◌≡◌, true, refl, rules}
+use Rattle.std.proofs.Common.{◌≡◌, true, refl, ap, rules}
 use Rattle.geos_shell.specs.Replies.{is_look_up}
 use Rattle.geos_shell.proofs.Replying.{extends_told, replied, replied_told}
-use Rattle.geos_shell.proofs.Serving.{lock_passes, serves_at_rest, serves_commit, serves_passing, told_as_accepted}
+use Rattle.geos_shell.proofs.Serving.{disk_kept, lock_passes, serves_at_rest, serves_commit, serves_passing, serves_staying, told_as_accepted}
 use Rattle.geos_shell.proofs.replies.push_reply.Goals as goal
 
 -- Edits, and undo and redo, commit nothing.
@@ -16,6 +16,25 @@ returns-in-Undo-clause-replied g c = λ exact.
 pub returns-in-Redo-clause-replied : goal.returns-in-Redo-clause-replied
 returns-in-Redo-clause-replied g c = λ exact.
     rw c.in-Redo.is (replied g.S.Store.facts c.push_accepted-in-Redo.result _ _ _ _ _ _ (serves_passing g.S.Store.facts _ _ _ _ _ _ c.redo.ensures.passes c.redo.ensures.step (λ nothing. nothing) (λ free is. let taken = c.redo.ensures.sure free is in (told_as_accepted _ taken.0, taken.1)) exact) c.push_accepted-in-Redo.ensures.ok)
+
+-- To begin a group or to end one calls no store; to abandon one commits nothing.
+
+pub returns-in-Begin-clause-replied : goal.returns-in-Begin-clause-replied
+returns-in-Begin-clause-replied g c = λ exact.
+    let done = c.begin.ensures in
+    let same = disk_kept g.S.Store.facts _ _ _ c.args.session.now c.begin.new.self _ c.begin.result done.ok done.err in
+    rw c.in-Begin.is (replied g.S.Store.facts c.push_accepted-in-Begin.result _ _ _ _ _ _ (serves_staying g.S.Store.facts _ _ _ _ _ _ same done.exact done.step (λ stays. stays) tt exact) c.push_accepted-in-Begin.ensures.ok)
+
+pub returns-in-End-clause-replied : goal.returns-in-End-clause-replied
+returns-in-End-clause-replied g c = λ exact.
+    let done = c.end.ensures in
+    let same = disk_kept g.S.Store.facts _ _ _ c.args.session.now c.end.new.self _ c.end.result done.ok done.err in
+    rw c.in-End.is (replied g.S.Store.facts c.push_accepted-in-End.result _ _ _ _ _ _ (serves_staying g.S.Store.facts _ _ _ _ _ _ same done.exact done.step (λ stays. stays) tt exact) c.push_accepted-in-End.ensures.ok)
+
+pub returns-in-Abandon-clause-replied : goal.returns-in-Abandon-clause-replied
+returns-in-Abandon-clause-replied g c = λ exact.
+    let done = c.abandon.ensures in
+    rw c.in-Abandon.is (replied g.S.Store.facts c.push_accepted-in-Abandon.result _ _ _ _ _ _ (serves_passing g.S.Store.facts _ _ _ _ _ _ done.passes done.step (λ nothing. nothing) (λ free none. let taken = done.empty free none in (told_as_accepted _ taken.0, ap (λ s. s.disk) taken.1)) exact) c.push_accepted-in-Abandon.ensures.ok)
 
 -- Commits.
 pub returns-in-Update-clause-replied : goal.returns-in-Update-clause-replied
