@@ -19,7 +19,7 @@ pub(crate) struct Beside<S: Store> {
 }
 
 /// A session on a new file, or on the one that a store has, with so many frames; or what it is refused for, with the store.
-fn begun<S: Store>(
+pub(crate) fn begun<S: Store>(
     alloc: Global,
     store: S,
     frames: usize,

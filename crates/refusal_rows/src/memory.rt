@@ -2,8 +2,8 @@
 // make, with just that one refused, until a run meets no refusal.
 use crate::driver::Driver;
 use crate::rows::{
-    ARRAY_EDITS, ARRAYS, BLOCKS, CHAINS, CHUNK, ELEMENTS, FREED_CHUNK, LOCKED, NAMES, OPENED_AGAIN,
-    REFERENCES, Row, SAVED_AS,
+    ARRAY_EDITS, ARRAYS, BLOCKS, CHAINS, CHUNK, ELEMENTS, FREED_CHUNK, GROUPS, LOCKED, NAMES,
+    OPENED_AGAIN, REFERENCES, Row, SAVED_AS, SAVED_GROUPS,
 };
 use crate::shim::told_to_begin;
 use std::alloc::Global;
@@ -86,4 +86,14 @@ fn memory_runs_out_while_a_document_is_saved_as_another_file(rt: HostRuntime) ->
 #[test]
 fn memory_runs_out_while_blocks_are_locked(rt: HostRuntime) -> Result<(), Fail> {
     hold(rt.alloc(), &LOCKED)
+}
+
+#[test]
+fn memory_runs_out_while_groups_are_undone_and_abandoned(rt: HostRuntime) -> Result<(), Fail> {
+    hold(rt.alloc(), &GROUPS)
+}
+
+#[test]
+fn memory_runs_out_while_groups_are_saved(rt: HostRuntime) -> Result<(), Fail> {
+    hold(rt.alloc(), &SAVED_GROUPS)
 }

@@ -320,7 +320,107 @@ pub(crate) const LOCKED: Row = Row {
     former: "",
 };
 
-pub(crate) const ROWS: [&Row; 12] = [
+/// Groups in which four blocks are changed, one is freed and one is made; one that is abandoned, and some without an edit.
+pub(crate) const GROUPS: Row = Row {
+    least: 1,
+    openings: &[
+        "
+        newraw 1 1             = block 0001
+        newraw 2 2             = block 0002
+        newheap 3              = block 0003
+        alloc 0003 2           = chunk 0010
+        newraw 4 1             = block 0004
+        newraw 5 1             = block 0005
+        begin                  = ok
+        vwrite 0001 0 61       = ok
+        attach 0002 626262     = ok
+        write 0003 0010 0 6364 = ok
+        vfree 0005             = ok
+        newheap 6              = block 0005
+        uid 0004 9             = ok
+        vwrite 0004 0 65       = ok
+        undo                   = no 28 GroupOpen
+        end                    = ok
+        begin                  = ok
+        end                    = ok
+        undo                   = ok
+        begin                  = ok
+        abandon                = ok
+        redo                   = ok
+        begin                  = ok
+        vwrite 0001 0 66       = ok
+        free 0003 0010         = ok
+        vfree 0002             = ok
+        vcopy 0004             = block 0002
+        vwrite 0004 0 67       = ok
+        attach 0001 6868       = ok
+        begin                  = no 28 GroupOpen
+        abandon                = ok
+        abandon                = no 29 NoGroup
+        vread 0001             = bytes 61
+        read 0003 0010         = bytes 6364
+        redo                   = no 23 NothingToRedo
+        ",
+    ],
+    former: "",
+};
+
+/// Groups before a save, behind it and between commits, and one that is open when the file is closed.
+pub(crate) const SAVED_GROUPS: Row = Row {
+    least: 1,
+    openings: &[
+        "
+        newraw 1 1       = block 0001
+        newraw 2 1       = block 0002
+        begin            = ok
+        vwrite 0001 0 61 = ok
+        vwrite 0002 0 62 = ok
+        save             = no 28 GroupOpen
+        end              = ok
+        save             = ok
+        undo             = ok
+        vread 0001       = bytes 00
+        redo             = ok
+        begin            = ok
+        vwrite 0002 0 63 = ok
+        newraw 3 1       = block 0003
+        saveas           = no 28 GroupOpen
+        end              = ok
+        saveas           = ok
+        undo             = ok
+        undo             = ok
+        redo             = ok
+        vread 0002       = bytes 62
+        update           = ok
+        begin            = ok
+        vwrite 0001 0 64 = ok
+        vfree 0002       = ok
+        newheap 4        = block 0002
+        ",
+        "
+        list             = blocks 0001 0002
+        vread 0001       = bytes 61
+        vread 0002       = bytes 62
+        end              = no 29 NoGroup
+        begin            = ok
+        vwrite 0001 0 65 = ok
+        revert           = no 28 GroupOpen
+        abandon          = ok
+        revert           = ok
+        list             = blocks 0001 0002 0003
+        vread 0002       = bytes 63
+        ",
+    ],
+    former: "
+        list             = blocks 0001 0002
+        vread 0001       = bytes 61
+        vread 0002       = bytes 62
+        revert           = ok
+        vread 0002       = bytes 62
+        ",
+};
+
+pub(crate) const ROWS: [&Row; 14] = [
     &CHUNK,
     &FREED_CHUNK,
     &ARRAYS,
@@ -333,4 +433,6 @@ pub(crate) const ROWS: [&Row; 12] = [
     &OPENED_AGAIN,
     &SAVED_AS,
     &LOCKED,
+    &GROUPS,
+    &SAVED_GROUPS,
 ];

@@ -76,7 +76,7 @@ fn push_locks<S: Store>(out: &mut Vec<u8>, session: &Session<S>) -> Result<(), F
     Ok(())
 }
 
-/// The document, the locks of each block, and how much can be undone and redone.
+/// The document, the locks of each block, how much can be undone and redone, and whether a group is open.
 pub(crate) fn push_state<S: Store>(
     out: &mut Vec<u8>,
     session: &mut Session<S>,
@@ -84,5 +84,6 @@ pub(crate) fn push_state<S: Store>(
     push_document(out, session)?;
     push_locks(out, session)?;
     push_number(out, session.undo_count())?;
-    push_number(out, session.redo_count())
+    push_number(out, session.redo_count())?;
+    push_number(out, usize::from(session.in_group()))
 }

@@ -20,6 +20,10 @@ mod full_blocks;
 #[cfg(test)]
 mod given_bytes;
 #[cfg(test)]
+mod grouped_edits;
+#[cfg(test)]
+mod groups;
+#[cfg(test)]
 mod handles;
 #[cfg(test)]
 mod long_chains;
