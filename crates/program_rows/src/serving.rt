@@ -132,6 +132,21 @@ const SERVINGS: &[Serving] = &[
         closed: &[],
     },
     Serving {
+        name: "a group that is open where the script ends leaves what was saved",
+        document: Content::Made,
+        can_guard: true,
+        run: Run {
+            words: &["geosvm", "document"],
+            script: &[Piece::Text("newraw 1 1\nsave\nbegin\nnewraw 2 2\nvfree 0001\nsave\n")],
+            writes: 100,
+            replies: "block 0001\nok\nok\nblock 0002\nok\nno 28 GroupOpen\n",
+            told: "",
+            status: 0,
+        },
+        asked: "guard open:document ",
+        closed: &[Closed::Lists("blocks 0001\n")],
+    },
+    Serving {
         name: "a read that fails leaves what was saved",
         document: Content::Made,
         can_guard: true,

@@ -51,3 +51,52 @@ fn a_thousand_small_writes_weigh_little_beside_their_chunk(rt: HostRuntime) -> R
     session.validity();
     Ok(())
 }
+
+// Whether a session weighs more than it did, and no more than so many bytes beside that.
+fn has_gained(session: &Session<MemStore>, before: u64, most: u64) -> bool {
+    let weight = session.weight();
+    before < weight && weight <= before.saturating_add(most)
+}
+
+#[test]
+fn an_open_group_weighs_no_more_than_its_edits_cost_and_the_same_once_it_ends(
+    rt: HostRuntime,
+) -> Result<(), Fail> {
+    let mut session = with_chunk(&rt, 3)?;
+    let before = session.weight();
+    assert_eq!(rt; session.begin(), Ok(()));
+    // An edit, and what those up to it cost.
+    for (edit, cost) in [
+        (written(rt.alloc(), b"abc")?, 6),
+        (Edit::Alloc(BLOCK, 10), 16),
+        (Edit::SetUserId(BLOCK, 9), 16),
+        (Edit::NewRaw(8, 5), 22),
+        (Edit::FreeBlock(VmHandle(2)), 28),
+    ] {
+        assert!(rt; session.edit(&edit).is_ok());
+        assert!(rt; has_gained(&session, before, cost), "{}", session.weight());
+    }
+    let weight = session.weight();
+    assert_eq!(rt; session.undo_count(), 2);
+    assert_eq!(rt; session.end(), Ok(()));
+    assert_eq!(rt; session.weight(), weight);
+    assert_eq!(rt; session.undo_count(), 3);
+    assert_eq!(rt; session.undo(), Ok(()));
+    assert_eq!(rt; session.weight(), weight);
+    assert_eq!(rt; session.redo(), Ok(()));
+    assert_eq!(rt; session.weight(), weight);
+    Ok(())
+}
+
+#[test]
+fn an_abandoned_group_weighs_nothing(rt: HostRuntime) -> Result<(), Fail> {
+    let mut session = with_chunk(&rt, 3)?;
+    let before = session.weight();
+    assert_eq!(rt; session.begin(), Ok(()));
+    assert_eq!(rt; session.weight(), before);
+    assert!(rt; session.edit(&written(rt.alloc(), b"abc")?).is_ok());
+    assert!(rt; has_gained(&session, before, 6));
+    assert_eq!(rt; session.abandon(), Ok(()));
+    assert_eq!(rt; session.weight(), before);
+    Ok(())
+}

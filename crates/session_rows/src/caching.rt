@@ -8,8 +8,8 @@ use std::test::Fail;
 // Another block than the first.
 const OTHER: VmHandle = VmHandle(2);
 
-// A saved document of two raw blocks and a heap, of which the last one that was read is in memory.
-const SAVED: &str = "
+/// A saved document of two raw blocks and a heap, of which the last one that was read is in memory.
+pub(crate) const SAVED: &str = "
     newraw 1 1   = block 0001
     newraw 2 1   = block 0002
     newheap 3    = block 0003
@@ -18,20 +18,21 @@ const SAVED: &str = "
     vread 0001   = bytes 00
     ";
 
-// The store calls of a session with one frame on that document, when it has answered so.
-fn calls(alloc: Global, text: &str) -> Result<u64, Departure> {
+/// The store calls of a session with one frame on that document, when it has answered so.
+pub(crate) fn calls(alloc: Global, text: &str) -> Result<u64, Departure> {
     let store = fused(alloc, u64::MAX, false);
     Ok(made(alloc, store, 1, &[SAVED, text])?.calls())
 }
 
-// Whether this takes so many store calls behind that.
-fn takes(alloc: Global, before: &str, text: &str, more: u64) -> Result<bool, Departure> {
+/// Whether this takes so many store calls behind that.
+pub(crate) fn takes(alloc: Global, before: &str, text: &str, more: u64) -> Result<bool, Departure> {
     let first = calls(alloc, before)?;
     let all = calls(alloc, &format!(in alloc; "{before}\n{text}")?)?;
     Ok(first.checked_add(more) == Some(all))
 }
 
-const EDIT: &str = "vwrite 0001 0 61 = ok";
+/// An edit of the block that is in memory.
+pub(crate) const EDIT: &str = "vwrite 0001 0 61 = ok";
 
 // Whether the first block is in memory alone, or else the other one.
 fn is_first_alone(session: &Fused) -> Result<bool, Fail> {

@@ -15,6 +15,8 @@ mod crashing;
 #[cfg(test)]
 mod failing;
 #[cfg(test)]
+mod grouping;
+#[cfg(test)]
 mod limits;
 #[cfg(test)]
 mod locking;
