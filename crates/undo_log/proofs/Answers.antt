@@ -1,5 +1,5 @@
 -- What the machine answers to an edit, to undo and to redo, and to what begins and ends a group.
-use Rattle.std.proofs.Common.{◌≡◌, ◌+◌, ◌==◌, ℕ, suc, false, length, List, [], ◌∷◌, reverse, Option, Some, None, refl, sym, ap, subst, ◌∙◌, arith}
+use Rattle.std.proofs.Common.{◌≡◌, ◌+◌, ◌==◌, suc, false, length, List, [], ◌∷◌, reverse, Option, Some, None, refl, sym, ap, subst, ◌∙◌, arith}
 use Rattle.std.proofs.lemmas.Bool.{ne_eqb}
 use Rattle.std.proofs.lemmas.List.Sums.{sum_by-cons}
 use Rattle.std.proofs.lemmas.List.Sorted.{sum_by-IsPermutation, IsPermutation-reverse}
@@ -16,7 +16,7 @@ use Rattle.vm_blocks.specs.declared.change.Change.{Change}
 use Rattle.vm_blocks.specs.declared.change.Direction.{Direction}
 use Rattle.vm_blocks.specs.declared.change.Direction.TheVariants.{Forwards, Backwards}
 use Rattle.doc_edits.specs.Planning.{change_cost, Plans}
-use Rattle.undo_log.specs.Logging.{AreExclusive, Log, after_all, after_entry, all_changes, before, changes_cost, closed_with, entry_cost, kind_of_entry, open_changes, step, steps, turned_over, with_change}
+use Rattle.undo_log.specs.Logging.{AreExclusive, Log, after_all, after_entry, all_changes, changes_cost, closed_with, entry_cost, kind_of_entry, step, steps, turned_over, with_change}
 use Rattle.undo_log.specs.Records.{opposite, AreSteps}
 use Rattle.undo_log.specs.declared.entry.LogEntry.{LogEntry}
 use Rattle.undo_log.specs.declared.entry.LogEntry.TheVariants as entries

@@ -1,8 +1,8 @@
 -- A group that begins, ends or is abandoned, and what stays known of a log as its entries are made.
-use Rattle.std.proofs.Common.{◌≡◌, Bool, false, IsTrue, List, [], ◌∷◌, ◌++◌, map, Option, Some, None, refl, sym, ap, subst, ◌∙◌, inl}
+use Rattle.std.proofs.Common.{◌≡◌, Bool, false, List, [], ◌∷◌, ◌++◌, map, Option, Some, None, refl, sym, ap, subst, inl}
 use Rattle.std.specs.Prelude.{IfSome}
 use Rattle.std.specs.Option.{option_map}
-use Rattle.geos_model.specs.Document.{Document, IsValid}
+use Rattle.geos_model.specs.Document.{IsValid}
 use Rattle.geos_model.specs.Machine.{IsValidGroup, Step}
 use Rattle.geos_model.specs.Reply.{Accepted}
 use Rattle.geos_model.specs.declared.command.Command.TheVariants as commands
@@ -13,7 +13,7 @@ use Rattle.vm_blocks.specs.Changes.{turned}
 use Rattle.vm_blocks.specs.Preparing.{AllListed, MakesAll}
 use Rattle.vm_blocks.specs.declared.change.Change.{Change}
 use Rattle.vm_blocks.specs.declared.change.Direction.TheVariants.{Forwards, Backwards}
-use Rattle.undo_log.specs.Logging.{AreExclusive, IsFirst, Log, after_all, after_entry, all_changes, before, changes_in, closed_with, group_of, open_changes, redone, steps, to_redo, to_undo, turned_over, undone, with_group_closed}
+use Rattle.undo_log.specs.Logging.{AreExclusive, IsFirst, Log, after_all, all_changes, before, changes_in, closed_with, group_of, open_changes, redone, steps, to_redo, to_undo, turned_over, undone, with_group_closed}
 use Rattle.undo_log.specs.Records.{SessionState, machine_of, AreListed, AreSteps, IsExact}
 use Rattle.undo_log.specs.Turning.{MakesEntry}
 use Rattle.undo_log.specs.declared.entry.LogEntry.{LogEntry}

@@ -1,5 +1,5 @@
 -- What a call that keeps a session leaves, and when it gives up.
-use Rattle.std.proofs.Common.{◌≡◌, ℕ, Bool, true, IsTrue, List, Option, Some, None, inl, inr, refl, sym, ap, subst, ◌∙◌}
+use Rattle.std.proofs.Common.{◌≡◌, ℕ, Bool, true, IsTrue, Option, Some, None, inl, inr, refl, sym, ap, subst, ◌∙◌}
 use Rattle.std.specs.Ordering.{nat_cmp}
 use Rattle.std.specs.FinMap.{FinMap}
 use Rattle.std.specs.Option.{option_map}
@@ -11,7 +11,7 @@ use Rattle.geos_model.specs.declared.command.Command.{Command}
 use Rattle.geos_model.specs.declared.fault.Fault.{Fault}
 use Rattle.geos_model.specs.declared.fault.Fault.TheVariants.{Memory, File}
 use Rattle.vm_store.specs.Facts.{StoreFacts, Raised, raised}
-use Rattle.vm_file.specs.Disk.{Disk, Drifts, MarkDrifts, Passes}
+use Rattle.vm_file.specs.Disk.{Drifts, MarkDrifts, Passes}
 use Rattle.block_cache.specs.State.{CacheState, KeepsLocks}
 use Rattle.vm_blocks.specs.Keeping.{Keeps, Lacks}
 use Rattle.vm_blocks.specs.declared.change.Direction.TheVariants.{Forwards, Backwards}

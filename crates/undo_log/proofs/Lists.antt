@@ -1,5 +1,5 @@
 -- Lists of a log after a step, and how many steps they are.
-use Rattle.std.proofs.Common.{◌≡◌, ℕ, suc, List, [], ◌∷◌, ◌++◌, length, reverse, refl, sym, ap, ◌∙◌}
+use Rattle.std.proofs.Common.{◌≡◌, suc, List, [], ◌∷◌, ◌++◌, length, reverse, refl, ap, ◌∙◌}
 use Rattle.std.proofs.lemmas.List.{append_assoc, reverse-append}
 use Rattle.geos_model.specs.Document.{Document}
 use Rattle.vm_blocks.specs.declared.change.Direction.{Direction}

@@ -18,12 +18,11 @@ use Rattle.geos_model.specs.declared.fault.Fault.TheVariants.{NoBlock, LockLimit
 use Rattle.geos_model.specs.declared.handle.VmHandle.{VmHandle}
 use Rattle.geos_model.proofs.HeapEdits.{get-put_same, get-put_other, get-taken_same, get-taken_other}
 use Rattle.vm_store.specs.Facts.{StoreFacts}
-use Rattle.vm_file.specs.Disk.{Drifts}
 use Rattle.block_cache.specs.State.{CacheState, is_resident, locks_of}
 use Rattle.block_cache.proofs.Seats.{fewer_locked, locked_there}
 use Rattle.vm_blocks.specs.Keeping.{Keeps, Lacks, is_shut_out}
 use Rattle.vm_blocks.specs.Locking.{CantLock, GainsLock, HasNoLock, LosesLock}
-use Rattle.vm_blocks.proofs.KeepingLaws.{keeps-drifts, shut-unlocked}
+use Rattle.vm_blocks.proofs.KeepingLaws.{shut-unlocked}
 use Rattle.undo_log.specs.Logging.{Log}
 use Rattle.undo_log.specs.Records.{SessionState, blocks_of, has_failed, locks_in, machine_of, IsStep, KeepsSession}
 use Rattle.undo_log.proofs.Keeping.{Holds, drifted_listed, gives_up, kept_exact, kept_invariant, kept_machine, machine_is, none_marked, same_exact}

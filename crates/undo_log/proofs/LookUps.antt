@@ -1,5 +1,5 @@
 -- What is looked up of a session's document is a step of its machine.
-use Rattle.std.proofs.Common.{◌≡◌, true, IsTrue, Option, Some, None, List, ◌∷◌, map, refl, ap, subst, inl, inr}
+use Rattle.std.proofs.Common.{◌≡◌, true, IsTrue, Option, Some, None, ◌∷◌, map, refl, ap, subst, inl, inr}
 use Rattle.std.specs.Option.{option_map, option_map_or}
 use Rattle.geos_model.specs.Refusal.{first_refusal}
 use Rattle.geos_model.specs.ElementArray.{all_distinct}

@@ -3,7 +3,7 @@ use Rattle.std.proofs.Common.{◌≡◌, ◌⊎◌, ◌↔◌, ◌==◌, ◌||�
 use Rattle.std.specs.Option.{option_map}
 use Rattle.std.specs.Prelude.{◌∷◌, [], None, if◌then◌else◌, is_some, Result, Ok, Err, IfOk, MatchResult}
 use Rattle.std.specs.Result.{IsErrAnd}
-use Rattle.std.proofs.lemmas.Bool.{ne_eqb, eq-eqb, le-leb, or_left, or_right, true≢false}
+use Rattle.std.proofs.lemmas.Bool.{ne_eqb, eq-eqb, le-leb, or_left, or_right}
 use Rattle.geos_model.specs.Refusal.{first_refusal}
 use Rattle.geos_model.specs.Reply.{Accepted, Refused}
 use Rattle.geos_model.specs.Machine as machine

@@ -1,5 +1,5 @@
 -- What a step from one list of the log to the other leaves, and taking back the group that is open; and when either is sure or refused.
-use Rattle.std.proofs.Common.{◌≡◌, ◌≢◌, ◌⊎◌, ℕ, Bool, true, false, not, IsTrue, List, [], ◌∷◌, ◌++◌, ◌==◌, length, map, reverse, Option, Some, None, is_some, inl, inr, refl, sym, ap, subst, ◌∙◌, arith}
+use Rattle.std.proofs.Common.{◌≡◌, ◌≢◌, ℕ, Bool, true, false, not, IsTrue, List, [], ◌∷◌, ◌++◌, ◌==◌, length, map, reverse, Option, Some, None, is_some, inl, inr, refl, sym, ap, subst, ◌∙◌, arith}
 use Rattle.std.specs.Prelude.{if◌then◌else◌, Result, Ok, Err, IsOk, IfErr}
 use Rattle.std.specs.Option.{option_map}
 use Rattle.std.proofs.lemmas.Bool.{true≢false}
@@ -12,13 +12,13 @@ use Rattle.geos_model.specs.Reply.{Accepted, Refused}
 use Rattle.geos_model.specs.declared.command.Command.TheVariants as commands
 use Rattle.geos_model.specs.declared.command.Kind.{Kind}
 use Rattle.geos_model.specs.declared.fault.Fault.{Fault}
-use Rattle.geos_model.specs.declared.fault.Fault.TheVariants.{Damaged, GroupOpen, Locked, NoGroup, NothingToUndo, NothingToRedo}
+use Rattle.geos_model.specs.declared.fault.Fault.TheVariants.{GroupOpen, Locked, NoGroup, NothingToUndo, NothingToRedo}
 use Rattle.vm_store.specs.Facts.{StoreFacts}
-use Rattle.vm_file.specs.Disk.{Drifts, IsListed, Passes}
+use Rattle.vm_file.specs.Disk.{Drifts, Passes}
 use Rattle.block_cache.specs.State.{CacheState, KeepsLocks, Seat, locks_of}
-use Rattle.vm_blocks.specs.Changes.{made, turned, after, blocks_in, Applies}
-use Rattle.vm_blocks.specs.Keeping.{Keeps, Lacks, is_full}
-use Rattle.vm_blocks.specs.Preparing.{AllListed, AllTake, AreUnlocked, AreUnready, BodyTakes, IsAtHand, IsOutOfReach, IsUnready, Listed, Makes, MakesAll}
+use Rattle.vm_blocks.specs.Changes.{made, turned, Applies}
+use Rattle.vm_blocks.specs.Keeping.{Lacks, is_full}
+use Rattle.vm_blocks.specs.Preparing.{AllTake, AreUnlocked, AreUnready, IsOutOfReach, IsUnready, MakesAll}
 use Rattle.vm_blocks.specs.declared.change.Change.{Change}
 use Rattle.vm_blocks.specs.declared.change.Change.TheVariants as changes
 use Rattle.vm_blocks.specs.declared.change.Direction.{Direction}
@@ -26,14 +26,14 @@ use Rattle.vm_blocks.specs.declared.change.Direction.TheVariants.{Forwards, Back
 use Rattle.vm_blocks.proofs.KeepingLaws.{honest-steady, open-shut}
 use Rattle.vm_blocks.proofs.Preparing.{applies_takes}
 use Rattle.doc_edits.specs.Planning.{kind_of_change}
-use Rattle.undo_log.specs.Logging.{AreExclusive, IsFirst, Log, after_all, after_entry, all_changes, before, changes_in, group_of, kind_of_entry, open_changes, redone, steps, to_redo, to_undo, turned_over, undone}
-use Rattle.undo_log.specs.Records.{SessionState, blocks_of, has_locks, machine_of, has_failed, CanTake, AreListed, AreSteps, IsExact, IsStep, KeepsSession}
-use Rattle.undo_log.specs.Turning.{Abandons, MakesEntry, Moves, CanMakeEntry, CantMake, CantMakeEntry, IsNotTaken, IsRefusedTurn, IsSure, IsSureKind, abandon_fault, newest_made, rest_fault}
+use Rattle.undo_log.specs.Logging.{AreExclusive, IsFirst, Log, after_all, after_entry, all_changes, before, group_of, kind_of_entry, open_changes, redone, steps, to_redo, to_undo, turned_over, undone}
+use Rattle.undo_log.specs.Records.{SessionState, blocks_of, has_locks, machine_of, CanTake, AreSteps, IsExact, IsStep, KeepsSession}
+use Rattle.undo_log.specs.Turning.{MakesEntry, Moves, CanMakeEntry, CantMake, CantMakeEntry, IsNotTaken, IsSure, IsSureKind, abandon_fault, newest_made, rest_fault}
 use Rattle.undo_log.specs.declared.entry.LogEntry.{LogEntry}
 use Rattle.undo_log.specs.declared.entry.LogEntry.TheVariants as entries
 use Rattle.undo_log.proofs.Answers.{abandon_moved, redo_moved, some_steps, undo_moved}
 use Rattle.undo_log.proofs.Keeping.{answers_on, gives_up, kept_exact, kept_machine, machine_with, passed_machine}
-use Rattle.undo_log.proofs.Steps.{all_back, can_split, goes_back, moved_entry, swapped, swapped_back}
+use Rattle.undo_log.proofs.Steps.{all_back, can_split, moved_entry, swapped, swapped_back}
 
 -- whether carrying a step of this kind out may take memory
 abbrev turn_takes : Direction → Kind → Bool

@@ -1,5 +1,5 @@
 -- A session: what it holds, the machine that it is, and that what it keeps of each step can be taken.
-use Rattle.std.specs.Prelude.{◌≡◌, ℕ, Bool, IsTrue, nat_le, nat_lt, if◌then◌else◌, List, [], ◌∷◌, map, Some, None}
+use Rattle.std.specs.Prelude.{◌≡◌, ℕ, Bool, IsTrue, nat_le, nat_lt, if◌then◌else◌, List, [], ◌∷◌, map, Some}
 use Rattle.std.specs.FinMap.{FinMap, empty, insert, remove, len}
 use Rattle.std.specs.List.{sum_by}
 use Rattle.std.specs.Option.{option_map}

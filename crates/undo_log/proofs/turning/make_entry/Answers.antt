@@ -1,11 +1,9 @@
-use Rattle.std.proofs.Common.{Err, subst, sym}
-use Rattle.std.specs.Prelude.{Result, IfErr}
-use Rattle.geos_model.specs.declared.fault.Fault.{Fault}
+use Rattle.std.proofs.Common.{subst, sym}
+use Rattle.std.specs.Prelude.{IfErr}
 use Rattle.vm_blocks.specs.Changes.{turned}
 use Rattle.vm_blocks.proofs.KeepingLaws.{none-open}
 use Rattle.undo_log.specs.Turning.{CantMakeEntry}
 use Rattle.undo_log.specs.declared.entry.LogEntry.{LogEntry}
-use Rattle.undo_log.specs.declared.entry.LogEntry.TheVariants as entries
 use Rattle.undo_log.proofs.Locks.{none_of_count}
 use Rattle.undo_log.proofs.Turns.{none_locked, unready_refuses}
 use Rattle.undo_log.proofs.turning.make_entry.Goals as goal

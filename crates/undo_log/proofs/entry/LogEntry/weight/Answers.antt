@@ -1,4 +1,4 @@
-use Rattle.std.proofs.Common.{◌≡◌, ◌-◌, ◌^◌, List, min, reverse, sym, subst, ap, ◌∙◌}
+use Rattle.std.proofs.Common.{◌≡◌, ◌-◌, ◌^◌, List, min, sym, subst, ap, ◌∙◌}
 use Rattle.undo_log.specs.Logging.{entry_weight, total_weight}
 use Rattle.undo_log.specs.declared.entry.LogEntry.{LogEntry}
 use Rattle.vm_blocks.specs.declared.change.Change.{Change}

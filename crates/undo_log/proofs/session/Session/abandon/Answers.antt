@@ -1,5 +1,5 @@
-use Rattle.std.proofs.Common.{◌≡◌, ◌≢◌, Some, None, Err, IsOk, List, [], map, inl, inr, refl, ap, sym, subst, ◌∙◌}
-use Rattle.std.specs.Prelude.{IfErr, OnErr}
+use Rattle.std.proofs.Common.{Err, List, map, inr, refl, ap, sym, subst, ◌∙◌}
+use Rattle.std.specs.Prelude.{IfErr}
 use Rattle.std.proofs.lemmas.Result.{err_from_is_err_and}
 use Rattle.geos_model.specs.Reply.{Accepted, reply_by}
 use Rattle.geos_model.specs.declared.command.Command.TheVariants as commands
@@ -9,9 +9,9 @@ use Rattle.vm_blocks.specs.Preparing.{AllListed, AreUnready, MakesAll}
 use Rattle.vm_blocks.specs.declared.change.Change.{Change}
 use Rattle.vm_blocks.specs.declared.change.Direction.TheVariants.{Backwards}
 use Rattle.vm_blocks.proofs.KeepingLaws.{keeps-passes}
-use Rattle.undo_log.specs.Logging.{Log, open_changes}
-use Rattle.undo_log.specs.Records.{SessionState, blocks_of, IsStep, KeepsSession}
-use Rattle.undo_log.specs.Turning.{Abandons, IsNotAbandoned, abandon_fault}
+use Rattle.undo_log.specs.Logging.{open_changes}
+use Rattle.undo_log.specs.Records.{SessionState, blocks_of, IsStep}
+use Rattle.undo_log.specs.Turning.{IsNotAbandoned, abandon_fault}
 use Rattle.undo_log.proofs.Groups.{abandoned_invariant, group_listed}
 use Rattle.undo_log.proofs.Keeping.{Holds, keeps_refl, kept_invariant}
 use Rattle.undo_log.proofs.LookUps.{session_with}

@@ -1,4 +1,4 @@
-use Rattle.std.proofs.Common.{◌≡◌, ◌⊎◌, Bool, true, Ok, Err, List, ◌∷◌, reverse, inl, inr, refl, ap, sym, subst, ◌∙◌, rules}
+use Rattle.std.proofs.Common.{◌≡◌, ◌⊎◌, Bool, true, Ok, Err, inl, inr, refl, ap, sym, subst, ◌∙◌}
 use Rattle.std.specs.Prelude.{◌≢◌, IfErr, OnErr}
 use Rattle.std.specs.Result.{IsErrAnd}
 use Rattle.std.proofs.lemmas.Result.{err_from_is_err_and}
@@ -11,9 +11,8 @@ use Rattle.geos_model.specs.declared.fault.Fault.TheVariants.{Locked, Memory}
 use Rattle.vm_file.specs.Disk.{Passes}
 use Rattle.vm_file.proofs.Passing.{Passes-refl}
 use Rattle.vm_blocks.specs.Keeping.{Lacks}
-use Rattle.vm_blocks.specs.declared.change.Change.{Change}
 use Rattle.vm_blocks.specs.declared.change.Direction.TheVariants.{Backwards}
-use Rattle.vm_blocks.proofs.KeepingLaws.{keeps-refl, keeps-passes, keeps-drifts, lacks-memory}
+use Rattle.vm_blocks.proofs.KeepingLaws.{keeps-refl, keeps-passes, lacks-memory}
 use Rattle.doc_edits.specs.Planning.{IsChainEditFault, Refuses}
 use Rattle.doc_edits.specs.Room.{has_no_room, ReadsNothing}
 use Rattle.undo_log.specs.Editing.{EditsAtHand}

@@ -1,4 +1,4 @@
-use Rattle.std.proofs.Common.{reverse, sym, ◌∙◌, subst}
+use Rattle.std.proofs.Common.{sym, ◌∙◌, subst}
 use Rattle.std.specs.Prelude.{◌≡◌}
 use Rattle.geos_model.specs.Machine as machine
 use Rattle.undo_log.specs.Records.{SessionState, has_locks, machine_of}

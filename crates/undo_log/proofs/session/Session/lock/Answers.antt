@@ -1,4 +1,4 @@
-use Rattle.std.proofs.Common.{◌≡◌, Err, reverse, refl, ap, subst, rules}
+use Rattle.std.proofs.Common.{◌≡◌, Err, refl, ap, subst}
 use Rattle.std.proofs.lemmas.Result.{on_err_weaker}
 use Rattle.geos_model.specs.Reply.{Accepted, reply_by}
 use Rattle.geos_model.specs.declared.command.Command.TheVariants as commands

@@ -1,4 +1,4 @@
-use Rattle.std.proofs.Common.{Some, false, reverse, sym, subst, ◌∙◌}
+use Rattle.std.proofs.Common.{Some, false, sym, subst, ◌∙◌}
 use Rattle.geos_model.specs.Machine.{Step}
 use Rattle.geos_model.specs.Reply.{NumberIs}
 use Rattle.geos_model.specs.declared.command.Command.TheVariants as commands

@@ -1,5 +1,5 @@
-use Rattle.std.proofs.Common.{◌≡◌, ◌≢◌, Some, None, Err, IsOk, List, inl, inr, refl, ap, sym, subst, ◌∙◌}
-use Rattle.std.specs.Prelude.{IfErr, OnErr}
+use Rattle.std.proofs.Common.{◌≡◌, None, Err, IsOk, inr, refl, ap, sym, subst, ◌∙◌}
+use Rattle.std.specs.Prelude.{IfErr}
 use Rattle.std.proofs.lemmas.Result.{err_from_is_err_and}
 use Rattle.geos_model.specs.Reply.{Accepted, reply_by}
 use Rattle.geos_model.specs.declared.command.Command.TheVariants as commands

@@ -1,4 +1,4 @@
-use Rattle.std.proofs.Common.{◌≡◌, ◌||◌, false, true, IsTrue, IfErr, Some, None, Ok, MatchResult, reverse, refl, sym, ap, subst, ◌∙◌, rules}
+use Rattle.std.proofs.Common.{◌≡◌, ◌||◌, false, true, IsTrue, IfErr, Some, None, Ok, MatchResult, refl, sym, ap, subst, ◌∙◌}
 use Rattle.std.specs.Prelude.{IfOk, ◌↔◌}
 use Rattle.std.specs.Result.{IsErrAnd}
 use Rattle.geos_model.specs.File.{stands}

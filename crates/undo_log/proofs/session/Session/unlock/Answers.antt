@@ -1,4 +1,4 @@
-use Rattle.std.proofs.Common.{Some, false, reverse, refl, ap, subst}
+use Rattle.std.proofs.Common.{Some, false, refl, ap, subst}
 use Rattle.std.proofs.lemmas.Result.{on_err_weaker}
 use Rattle.geos_model.specs.Machine.{Step}
 use Rattle.geos_model.specs.Reply.{Accepted, reply_by}

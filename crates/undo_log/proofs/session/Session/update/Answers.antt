@@ -1,5 +1,5 @@
 use Rattle.std.proofs.Common.{Err, refl, ap, sym, subst, ◌∙◌}
-use Rattle.geos_model.specs.Reply.{Accepted, Refused, reply_by}
+use Rattle.geos_model.specs.Reply.{Accepted, reply_by}
 use Rattle.geos_model.specs.declared.command.Command.TheVariants as commands
 use Rattle.undo_log.specs.Locking.{TriesCommit}
 use Rattle.undo_log.specs.Records.{SessionState, IsStep}

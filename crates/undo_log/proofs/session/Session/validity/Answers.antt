@@ -1,4 +1,4 @@
-use Rattle.std.proofs.Common.{Bool, reverse, subst}
+use Rattle.std.proofs.Common.{Bool, subst}
 use Rattle.geos_model.specs.Machine.{AreValidLocks, IsValidMachine}
 use Rattle.vm_file.specs.Disk.{IsListed, IsSettled}
 use Rattle.undo_log.specs.Logging.{AreExclusive, open_changes}
