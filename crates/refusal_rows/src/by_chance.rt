@@ -461,7 +461,7 @@ fn go(alloc: Global, frames: usize, seed: u32, passes: u64) -> Result<End, Fail>
 }
 
 // How often steps are taken, each time others.
-const SEEDS: u32 = 20;
+const SEEDS: u32 = 200;
 
 #[test]
 fn edits_and_groups_by_chance_lead_to_the_documents_that_are_kept(
@@ -476,7 +476,7 @@ fn edits_and_groups_by_chance_lead_to_the_documents_that_are_kept(
             sum.turns = sum.turns.saturating_add(tally.turns);
         }
         assert!(rt;
-            100 < sum.groups && 50 < sum.abandons && 300 < sum.turns,
+            1_000 < sum.groups && 500 < sum.abandons && 3_000 < sum.turns,
             "{} groups, {} abandoned, {} turns",
             sum.groups,
             sum.abandons,
@@ -487,10 +487,10 @@ fn edits_and_groups_by_chance_lead_to_the_documents_that_are_kept(
 }
 
 // So often while a call fails.
-const FEW_SEEDS: u32 = 10;
+const FEW_SEEDS: u32 = 20;
 
 // Of the calls one of so many fails, each time from another one on.
-const EACH: usize = 600;
+const EACH: usize = 60;
 
 #[test]
 fn a_call_of_a_store_that_fails_among_edits_and_groups_by_chance_changes_nothing(
@@ -499,7 +499,7 @@ fn a_call_of_a_store_that_fails_among_edits_and_groups_by_chance_changes_nothing
     for frames in [1, 2] {
         for seed in 0..FEW_SEEDS {
             let calls = go(rt.alloc(), frames, seed, u64::MAX)?.calls;
-            let first = MAKING + 59 * u64::from(seed);
+            let first = MAKING + 3 * u64::from(seed);
             assert!(rt; first < calls, "{calls} calls");
             for passes in (first..calls).step_by(EACH) {
                 let tally = go(rt.alloc(), frames, seed, passes)?.tally;
