@@ -15,7 +15,8 @@ use Rattle.geos_model.specs.Document.{Block, Document, IsValid, IsValidBlock, mo
 use Rattle.geos_model.specs.Chain.{tree_mark, is_linked, link_count, link_place, links, relinked, is_member, chain, name_of, shape, relinked_block, renamed_blocks, free_handles, new_handles, copies_of}
 use Rattle.geos_model.specs.ChainLaws.{IsForest, nothing, block, link_words, IsCopied}
 use Rattle.geos_model.proofs.BlockLists.{distinct-first, distinct-rest, put_elsewhere, put_stands, put_map_block, put_valid}
-use Rattle.geos_model.proofs.Validity.{raw_bytes-few}
+use Rattle.geos_model.proofs.Validity.{raw_bytes-few, raw-typed}
+use Rattle.geos_model.specs.declared.block.Attributes.{Attributes}
 use Rattle.geos_model.proofs.Chains.{contains_first, contains_later, raw_block, member-raw, member-live, member-handle, chain-walk, walk-chain, chain-members}
 use Rattle.geos_model.proofs.Relinking.{relinked-relinked, relinked_twice}
 use Rattle.geos_model.proofs.ChainCopies.{kept-there, new-new}
@@ -209,6 +210,7 @@ module _ (d : Document) (hs new : List ℕ) (valid : IsValid d) (members : (x : 
     handle = new_handle n fresh;
     attributes = (let found = raw_block (get d.blocks h) (member-raw d h (members h there)) in
         subst (λ (o : Option Block). FitAttributes (unwrap_or o no_block).attributes) (sym found.1) (valid.blocks h found.0 found.1).attributes);
+    typed = λ _. ap (λ (a : Attributes). a.heap_type) (block-attributes d h) ∙ raw-typed d h valid (member-raw d h (members h there));
     body = (let same = (relinked-relinked rename (raw_bytes_of d h) (is_body h there) few).long in
         let few_bytes = raw_bytes-few d h valid in
         ap (λ (bytes : List ℕ). nat_le (length (relinked rename bytes)) capacity) (block-bytes d h)

@@ -1,23 +1,23 @@
 -- The document in an extent is valid, and rests on the bytes of its extents.
-use Rattle.std.proofs.Common.{◌≡◌, ℕ, zero, suc, ◌+◌, ◌*◌, ◌/◌, ◌<◌, ◌≤◌, true, ◌&&◌, List, [], ◌∷◌, length, drop, get_or, Option, Some, None, is_some, All, ◌==◌, nat_lt, nat_le, refl, sym, ap, ap₂, subst, ◌∙◌, arith, inl, inr, length-take, length-drop, ltb-true, leb-true, le-leb, ne_eqb}
+use Rattle.std.proofs.Common.{◌≡◌, ℕ, zero, suc, ◌+◌, ◌*◌, ◌/◌, ◌<◌, ◌≤◌, true, ◌&&◌, List, [], ◌∷◌, length, drop, get_or, Option, Some, None, is_some, All, Bool, false, cond, ◌||◌, ◌==◌, nat_lt, nat_le, refl, sym, ap, ap₂, subst, ◌∙◌, arith, inl, inr, length-take, length-drop, ltb-true, leb-true, le-leb, eqb-true, eq-eqb, ne_eqb}
 use Rattle.std.proofs.lemmas.Bool.{cases_Bool, cases_eq, and_parts, and_from, cond-true, cond-false}
 use Rattle.std.proofs.lemmas.Grind.{same_number_lists}
 use Rattle.std.proofs.lemmas.List.{get_or-take, get_or-drop}
-use Rattle.std.proofs.lemmas.List.Sums.{list_all-from_AllPass}
+use Rattle.std.proofs.lemmas.List.Sums.{list_all-from_AllPass, AllPass-from_list_all}
 use Rattle.std.specs.List.{list_all, list_any}
 use Rattle.std.specs.Option.{option_and_then, option_map}
 use Rattle.std.specs.Ordering.{nat_cmp}
 use Rattle.std.specs.FinMap.{FinMap, get, get-empty, insert, from_entries}
 use Rattle.geos_model.specs.declared.block.Attributes.{Attributes}
-use Rattle.geos_model.specs.Document.{Block, Document, is_vm_handle, IsValidBlock, IsValid, most_blocks, FitAttributes}
+use Rattle.geos_model.specs.Document.{Block, Document, is_vm_handle, is_heap_body, IsValidBlock, IsValid, most_blocks, FitAttributes}
 use Rattle.geos_model.specs.Image.{body_of}
-use Rattle.geos_model.specs.File.{Directory, bytes_in, is_in_file, directory_text, is_rising, is_entry, is_directory, directory_in, directory_of, prepended, block_of, blocks_of, document_of, document_at, longest_image, last_page}
+use Rattle.geos_model.specs.File.{Directory, bytes_in, is_in_file, directory_text, is_rising, is_entry, is_directory, directory_in, directory_of, prepended, if_typed, block_of, blocks_of, document_of, document_at, longest_image, greatest_handle, last_page_of}
 use Rattle.geos_model.specs.FileLaws.{Keeps}
 use Rattle.geos_model.specs.declared.command.Body.{Body}
 use Rattle.geos_model.specs.declared.file.Extent.{Extent}
 use Rattle.geos_model.specs.declared.file.Entry.{Entry}
 use Rattle.geos_model.proofs.HeapEdits.{get-put_same, get-put_other}
-use Rattle.geos_model.proofs.Files.{no_entry, or_later, listed, get_or_same, body_of-some, each_entry, IsEntry, is_entry-parts, is_directory-parts, is_directory-from, directory_in-some, directory_in-text}
+use Rattle.geos_model.proofs.Files.{no_entry, some_if, or_later, listed, get_or_same, body_of-some, last_page_of-most, is_version_in-newer, IsEntry, is_entry-parts, entry-low, entry-in_reach, is_directory-parts, is_directory-from, directory_in-some, directory_in-text}
 
 abbrev pub Numbered : Type 0
 Numbered = ℕ × Block
@@ -41,13 +41,35 @@ body_there : (h : ℕ) (a : Attributes) (o : Option Body) (b : Numbered) → opt
 body_there h a None b e = absurd (cc e)
 body_there h a (Some body) b e = (body, (refl, cc e))
 
+-- a body that can have a type is a heap, or the type is 0
+pub if_typed-some : (t : ℕ) (o : Option Body) (b : Body) → option_and_then (if_typed t) o ≡ Some b → (o ≡ Some b) × (is_heap_body b ≡ false → t ≡ 0)
+if_typed-some t None b e = absurd (cc e)
+if_typed-some t (Some body) b e =
+    let here = some_if (is_heap_body body || t == 0) body b e in
+    let typed : (is_heap_body b || t == 0) ≡ true = subst (λ (x : Body). (is_heap_body x || t == 0) ≡ true) here.1 here.0 in
+    (ap Some here.1, λ raw. eqb-true t 0 (or_later (is_heap_body b) (t == 0) typed raw))
+
+pub if_typed-is : (t : ℕ) (b : Body) → (is_heap_body b ≡ false → t ≡ 0) → if_typed t b ≡ Some b
+if_typed-is t b typed = elim (cases_Bool (is_heap_body b)) [
+  | inl heap ↦ ap (λ (k : Bool). cond (k || t == 0) (Some b) None) heap
+  | inr raw ↦ ap₂ (λ (k z : Bool). cond (k || z) (Some b) None) raw (eq-eqb t 0 (typed raw))
+]
+
+-- the block of an entry whose extent has the image of a body that can have its type
+pub block_of-is : (file : List ℕ) (e : Entry) (b : Body) → body_of (bytes_in file e.extent) ≡ Some b → (is_heap_body b ≡ false → e.attributes.heap_type ≡ 0)
+    → block_of file e ≡ Some (let made : Numbered = (e.handle.0, record { attributes = e.attributes; body = b }) in made)
+block_of-is file e b is typed =
+    let made : Body → Numbered = λ body. (e.handle.0, record { attributes = e.attributes; body = body }) in
+    ap (λ (o : Option Body). option_map made (option_and_then (if_typed e.attributes.heap_type) o)) is ∙ ap (option_map made) (if_typed-is e.attributes.heap_type b typed)
+
 -- the block that an entry has is valid
 block_valid : (file : List ℕ) (e : Entry) (b : Numbered) → block_of file e ≡ Some b → 1 ≤ e.handle.0 → e.handle.0 ≤ most_blocks → FitAttributes e.attributes → (b.0 ≡ e.handle.0) × IsValidBlock e.handle.0 b.1
 block_valid file e b is some low fit =
-    let body = body_there e.handle.0 e.attributes (body_of (bytes_in file e.extent)) b is in
-    let good = (body_of-some (bytes_in file e.extent) body.0 body.1.0).0 in
+    let body = body_there e.handle.0 e.attributes (option_and_then (if_typed e.attributes.heap_type) (body_of (bytes_in file e.extent))) b is in
+    let typed = if_typed-some e.attributes.heap_type (body_of (bytes_in file e.extent)) body.0 body.1.0 in
+    let good = (body_of-some (bytes_in file e.extent) body.0 typed.0).0 in
     let handle : is_vm_handle e.handle.0 ≡ true = and_from (nat_le 1 e.handle.0) (nat_le e.handle.0 most_blocks) (le-leb 1 e.handle.0 some) (le-leb e.handle.0 most_blocks low) in
-    subst (λ (x : Numbered). (x.0 ≡ e.handle.0) × IsValidBlock e.handle.0 x.1) (sym body.1.1) (refl, record { handle = handle; attributes = fit; body = good })
+    subst (λ (x : Numbered). (x.0 ≡ e.handle.0) × IsValidBlock e.handle.0 x.1) (sym body.1.1) (refl, record { handle = handle; attributes = fit; body = good; typed = typed.1 })
 
 -- each of these blocks is valid, under its entry's handle, and each entry has one
 pub record AreBlocks (entries : List Entry) (blocks : List Numbered) : Type 0 where
@@ -65,17 +87,17 @@ live_at : (m : FinMap nat_cmp Block) (b : Numbered) (e : Entry) (es : List Entry
 live_at m b e es same rest zero l = ap is_some (get-put_same m b.0 b.1 e.handle.0 (sym same))
 live_at m b e es same rest (suc k) l = under m b.0 (get_or es k no_entry).handle.0 b.1 (rest k (omega (arith, l)))
 
-blocks_are : (n : ℕ) (file : List ℕ) (last : ℕ) (es : List Entry) (blocks : List Numbered) → blocks_of file es ≡ Some blocks → is_rising last es ≡ true → list_all (is_entry n) es ≡ true → All (λ e. FitAttributes e.attributes) es → AreBlocks es blocks
-blocks_are n file last [] blocks is rising all users =
+blocks_are : (file_version n version : ℕ) (file : List ℕ) (last : ℕ) (es : List Entry) (blocks : List Numbered) → blocks_of file es ≡ Some blocks → is_rising last es ≡ true → list_all (is_entry file_version n version) es ≡ true → All (λ e. FitAttributes e.attributes) es → AreBlocks es blocks
+blocks_are file_version n version file last [] blocks is rising all users =
     let none : [] ≡ blocks = cc is in
     subst (λ (bs : List Numbered). AreBlocks [] bs) none (record { valid = λ q c there. absurd (cc (sym (get-empty nat_cmp q) ∙ there)); live = λ k l. absurd (omega (arith, l)) })
-blocks_are n file last (e ∷ es) blocks is rising all users =
+blocks_are file_version n version file last (e ∷ es) blocks is rising all users =
     let begins = prepended-some (block_of file e) (blocks_of file es) blocks is in
     let up = and_parts (nat_lt last e.handle.0) (is_rising e.handle.0 es) rising in
-    let each = and_parts (is_entry n e) (list_all (is_entry n) es) all in
+    let each = and_parts (is_entry file_version n version e) (list_all (is_entry file_version n version) es) all in
     let above : last < e.handle.0 = ltb-true last e.handle.0 up.0 in
-    let here = block_valid file e begins.block begins.first_is (omega (arith, above)) (is_entry-parts n e each.0).handle (users 0 e (omega arith)) in
-    let rest = blocks_are n file e.handle.0 es begins.rest begins.others_are up.1 each.1 (λ k d l. users (suc k) d (omega (arith, l))) in
+    let here = block_valid file e begins.block begins.first_is (omega (arith, above)) (entry-low file_version n version e (is_entry-parts file_version n version e each.0)) (users 0 e (omega arith)) in
+    let rest = blocks_are file_version n version file e.handle.0 es begins.rest begins.others_are up.1 each.1 (λ k d l. users (suc k) d (omega (arith, l))) in
     let m : FinMap nat_cmp Block = from_entries begins.rest in
     subst (λ (bs : List Numbered). AreBlocks (e ∷ es) bs) begins.all (record {
       valid = λ q c there. elim (cases_eq q begins.block.0) [
@@ -97,20 +119,21 @@ directory_there : (file : List ℕ) (o : Option Directory) (result : Document) �
 directory_there file None result e = absurd (cc e)
 directory_there file (Some d) result e = (d, (refl, e))
 
-pub directory_of-some : (file : List ℕ) (e : Extent) (d : Directory) → directory_of file e ≡ Some d → (is_in_file (length file) e ≡ true) × (directory_in (length file) (bytes_in file e) ≡ Some d)
-directory_of-some file e d is = elim (cases_Bool (is_in_file (length file) e)) [
+pub directory_of-some : (version : ℕ) (file : List ℕ) (e : Extent) (d : Directory) → directory_of version file e ≡ Some d
+    → (is_in_file version (length file) e ≡ true) × (directory_in version (length file) (bytes_in file e) ≡ Some d)
+directory_of-some version file e d is = elim (cases_Bool (is_in_file version (length file) e)) [
   | inl inside ↦ (inside, sym (cond-true _ _ _ inside) ∙ is)
   | inr outside ↦ (let none : None ≡ Some d = sym (cond-false _ _ _ outside) ∙ is in absurd (cc none))
 ]
 
-pub document_at-valid : (file : List ℕ) (e : Extent) (document : Document) → document_at file e ≡ Some document → IsValid document
-document_at-valid file e document is =
-    let found = directory_there file (directory_of file e) document is in
+pub document_at-valid : (version : ℕ) (file : List ℕ) (e : Extent) (document : Document) → document_at version file e ≡ Some document → IsValid document
+document_at-valid version file e document is =
+    let found = directory_there file (directory_of version file e) document is in
     let d : Directory = found.0 in
-    let stands = directory_in-some (length file) (bytes_in file e) d (directory_of-some file e d found.1.0).1 in
-    let parts = is_directory-parts (length file) d stands.0 in
+    let stands = directory_in-some version (length file) (bytes_in file e) d (directory_of-some version file e d found.1.0).1 in
+    let parts = is_directory-parts version (length file) d stands.0 in
     let made = document_there d (blocks_of file d.entries) document found.1.1 in
-    let are = blocks_are (length file) file 0 d.entries made.0 made.1.0 parts.rising parts.entries (λ k x l. (stands.2.entries k x l).attributes) in
+    let are = blocks_are version (length file) d.version file 0 d.entries made.0 made.1.0 parts.rising parts.entries (λ k x l. (stands.2.entries k x l).attributes) in
     subst IsValid made.1.1 (record {
       blocks = are.valid;
       map_block = λ some.
@@ -132,67 +155,117 @@ bytes_in-keeps old new e keeps inside =
     ∙ sym (get_or-take e.length (drop at old) k 0 below ∙ get_or-drop at old k 0))
 
 -- behind the slots and in reach, in a file that has its bytes
-pub is_in_file-from : (n : ℕ) (e : Extent) → 2 ≤ e.page → 512 * e.page + e.length ≤ n → e.page + (e.length + 511) / 512 ≤ last_page → is_in_file n e ≡ true
-is_in_file-from n e behind within reach =
-    and_from (nat_le 2 e.page && nat_le (512 * e.page + e.length) n) (nat_le (e.page + (e.length + 511) / 512) last_page)
-    (and_from (nat_le 2 e.page) (nat_le (512 * e.page + e.length) n) (le-leb 2 e.page behind) (le-leb (512 * e.page + e.length) n within)) (le-leb (e.page + (e.length + 511) / 512) last_page reach)
+pub is_in_file-from : (version n : ℕ) (e : Extent) → 2 ≤ e.page → 512 * e.page + e.length ≤ n → e.page + (e.length + 511) / 512 ≤ last_page_of version → is_in_file version n e ≡ true
+is_in_file-from version n e behind within reach =
+    and_from (nat_le 2 e.page && nat_le (512 * e.page + e.length) n) (nat_le (e.page + (e.length + 511) / 512) (last_page_of version))
+    (and_from (nat_le 2 e.page) (nat_le (512 * e.page + e.length) n) (le-leb 2 e.page behind) (le-leb (512 * e.page + e.length) n within)) (le-leb (e.page + (e.length + 511) / 512) (last_page_of version) reach)
 
--- Of an extent in a file of n bytes.
-pub record IsInFile (n : ℕ) (e : Extent) : Type 0 where
+-- Of an extent in a file of a version and of n bytes.
+pub record IsInFile (version n : ℕ) (e : Extent) : Type 0 where
   pub behind_slots : 2 ≤ e.page
   pub within : 512 * e.page + e.length ≤ n
-  pub in_reach : e.page + (e.length + 511) / 512 ≤ last_page
+  pub in_reach : e.page + (e.length + 511) / 512 ≤ last_page_of version
 
-pub is_in_file-parts : (n : ℕ) (e : Extent) → is_in_file n e ≡ true → IsInFile n e
-is_in_file-parts n e h =
-    let parts = and_parts (nat_le 2 e.page && nat_le (512 * e.page + e.length) n) (nat_le (e.page + (e.length + 511) / 512) last_page) h in
+pub is_in_file-parts : (version n : ℕ) (e : Extent) → is_in_file version n e ≡ true → IsInFile version n e
+is_in_file-parts version n e h =
+    let reach : ℕ = last_page_of version in
+    let parts = and_parts (nat_le 2 e.page && nat_le (512 * e.page + e.length) n) (nat_le (e.page + (e.length + 511) / 512) reach) h in
     let first = and_parts (nat_le 2 e.page) (nat_le (512 * e.page + e.length) n) parts.0 in
-    record { behind_slots = leb-true 2 e.page first.0; within = leb-true (512 * e.page + e.length) n first.1; in_reach = leb-true (e.page + (e.length + 511) / 512) last_page parts.1 }
+    record { behind_slots = leb-true 2 e.page first.0; within = leb-true (512 * e.page + e.length) n first.1; in_reach = leb-true (e.page + (e.length + 511) / 512) reach parts.1 }
 
-pub is_entry-from : (n : ℕ) (e : Entry) → IsEntry n e → is_entry n e ≡ true
-is_entry-from n e is =
-    and_from (nat_le e.handle.0 most_blocks && nat_le 1 e.extent.length && nat_le e.extent.length longest_image) (is_in_file n e.extent)
-    (and_from (nat_le e.handle.0 most_blocks && nat_le 1 e.extent.length) (nat_le e.extent.length longest_image) (and_from (nat_le e.handle.0 most_blocks) (nat_le 1 e.extent.length) (le-leb e.handle.0 most_blocks is.handle) (le-leb 1 e.extent.length is.some)) (le-leb e.extent.length longest_image is.short))
-    (is_in_file-from n e.extent is.behind_slots is.within is.in_reach)
+pub is_entry-from : (file_version n version : ℕ) (e : Entry) → IsEntry file_version n version e → is_entry file_version n version e ≡ true
+is_entry-from file_version n version e is =
+    let top : ℕ = greatest_handle version in
+    and_from (nat_le e.handle.0 top && nat_le 1 e.extent.length && nat_le e.extent.length longest_image) (is_in_file file_version n e.extent)
+    (and_from (nat_le e.handle.0 top && nat_le 1 e.extent.length) (nat_le e.extent.length longest_image) (and_from (nat_le e.handle.0 top) (nat_le 1 e.extent.length) (le-leb e.handle.0 top is.handle) (le-leb 1 e.extent.length is.some)) (le-leb e.extent.length longest_image is.short))
+    (is_in_file-from file_version n e.extent is.behind_slots is.within is.in_reach)
 
 -- an entry stays one in a file that has its bytes
-is_entry-kept : (n m : ℕ) (e : Entry) → is_entry n e ≡ true → 512 * e.extent.page + e.extent.length ≤ m → is_entry m e ≡ true
-is_entry-kept n m e is within =
-    let parts = is_entry-parts n e is in
-    is_entry-from m e (record { handle = parts.handle; some = parts.some; short = parts.short; behind_slots = parts.behind_slots; within = within; in_reach = parts.in_reach })
+is_entry-kept : (file_version n m version : ℕ) (e : Entry) → is_entry file_version n version e ≡ true → 512 * e.extent.page + e.extent.length ≤ m → is_entry file_version m version e ≡ true
+is_entry-kept file_version n m version e is within =
+    let parts = is_entry-parts file_version n version e is in
+    is_entry-from file_version m version e (record { handle = parts.handle; some = parts.some; short = parts.short; behind_slots = parts.behind_slots; within = within; in_reach = parts.in_reach })
 
-directory-kept : (n m : ℕ) (d : Directory) → is_directory n d ≡ true → All (λ e. 512 * e.extent.page + e.extent.length ≤ m) d.entries → is_directory m d ≡ true
-directory-kept n m d is within =
-    let parts = is_directory-parts n d is in
-    is_directory-from m d (record {
+-- what becomes of each entry becomes of all
+entries_become : (old new : Entry → Bool) (es : List Entry) → list_all old es ≡ true → ((k : ℕ) → k < length es → old (get_or es k no_entry) ≡ true → new (get_or es k no_entry) ≡ true) → list_all new es ≡ true
+entries_become old new es all each =
+    list_all-from_AllPass new es (λ k x l. subst (λ e. new e ≡ true) (get_or_same es k no_entry x l) (each k l (AllPass-from_list_all old es all k no_entry l)))
+
+directory-kept : (file_version n m : ℕ) (d : Directory) → is_directory file_version n d ≡ true → All (λ e. 512 * e.extent.page + e.extent.length ≤ m) d.entries → is_directory file_version m d ≡ true
+directory-kept file_version n m d is within =
+    let parts = is_directory-parts file_version n d is in
+    is_directory-from file_version m d (record {
+      version = parts.version;
       rising = parts.rising;
-      entries = list_all-from_AllPass (is_entry m) d.entries (λ k x l.
-          subst (λ e. is_entry m e ≡ true) (get_or_same d.entries k no_entry x l) (is_entry-kept n m (get_or d.entries k no_entry) (each_entry n d.entries parts.entries k l) (within k no_entry l)));
+      entries = entries_become (is_entry file_version n d.version) (is_entry file_version m d.version) d.entries parts.entries
+          (λ k l one. is_entry-kept file_version n m d.version (get_or d.entries k no_entry) one (within k no_entry l));
       map_block = parts.map_block;
     })
 
-blocks_of-kept : (n : ℕ) (old new : List ℕ) (es : List Entry) → n ≤ length old → list_all (is_entry n) es ≡ true → All (λ e. Keeps old new e.extent) es → blocks_of new es ≡ blocks_of old es
-blocks_of-kept n old new [] l all keeps = refl
-blocks_of-kept n old new (e ∷ es) l all keeps =
-    let each = and_parts (is_entry n e) (list_all (is_entry n) es) all in
-    let inside = (is_entry-parts n e each.0).within in
-    let first : block_of new e ≡ block_of old e = ap (λ (bytes : List ℕ). option_map (λ body. let made : Numbered = (e.handle.0, record { attributes = e.attributes; body = body }) in made) (body_of bytes)) (bytes_in-keeps old new e.extent (keeps 0 e (omega arith)) (omega (arith, inside, l))) in
-    ap₂ prepended first (blocks_of-kept n old new es l each.1 (λ k d below. keeps (suc k) d (omega (arith, below))))
+blocks_of-kept : (file_version n version : ℕ) (old new : List ℕ) (es : List Entry) → n ≤ length old → list_all (is_entry file_version n version) es ≡ true → All (λ e. Keeps old new e.extent) es → blocks_of new es ≡ blocks_of old es
+blocks_of-kept file_version n version old new [] l all keeps = refl
+blocks_of-kept file_version n version old new (e ∷ es) l all keeps =
+    let each = and_parts (is_entry file_version n version e) (list_all (is_entry file_version n version) es) all in
+    let inside = (is_entry-parts file_version n version e each.0).within in
+    let made : Body → Numbered = λ body. (e.handle.0, record { attributes = e.attributes; body = body }) in
+    let first : block_of new e ≡ block_of old e =
+    ap (λ (bytes : List ℕ). option_map made (option_and_then (if_typed e.attributes.heap_type) (body_of bytes))) (bytes_in-keeps old new e.extent (keeps 0 e (omega arith)) (omega (arith, inside, l))) in
+    ap₂ prepended first (blocks_of-kept file_version n version old new es l each.1 (λ k d below. keeps (suc k) d (omega (arith, below))))
 
-pub directory_of-kept : (old new : List ℕ) (e : Extent) (d : Directory) → directory_of old e ≡ Some d → Keeps old new e → All (λ entry. Keeps old new entry.extent) d.entries → directory_of new e ≡ Some d
-directory_of-kept old new e d is keeps all =
-    let there = directory_of-some old e d is in
-    let place = is_in_file-parts (length old) e there.0 in
-    let stands = directory_in-some (length old) (bytes_in old e) d there.1 in
-    let inside : is_in_file (length new) e ≡ true = is_in_file-from (length new) e place.behind_slots keeps.within place.in_reach in
+pub directory_of-kept : (version : ℕ) (old new : List ℕ) (e : Extent) (d : Directory) → directory_of version old e ≡ Some d → Keeps old new e → All (λ entry. Keeps old new entry.extent) d.entries → directory_of version new e ≡ Some d
+directory_of-kept version old new e d is keeps all =
+    let there = directory_of-some version old e d is in
+    let place = is_in_file-parts version (length old) e there.0 in
+    let stands = directory_in-some version (length old) (bytes_in old e) d there.1 in
+    let inside : is_in_file version (length new) e ≡ true = is_in_file-from version (length new) e place.behind_slots keeps.within place.in_reach in
     let same : bytes_in new e ≡ directory_text d = bytes_in-keeps old new e keeps place.within ∙ sym stands.1 in
-    let good : is_directory (length new) d ≡ true = directory-kept (length old) (length new) d stands.0 (λ k x l. (all k x l).within) in
-    cond-true _ _ _ inside ∙ ap (directory_in (length new)) same ∙ directory_in-text (length new) d good (λ k x l. (stands.2.entries k x l).attributes)
+    let good : is_directory version (length new) d ≡ true = directory-kept version (length old) (length new) d stands.0 (λ k x l. (all k x l).within) in
+    cond-true _ _ _ inside ∙ ap (directory_in version (length new)) same ∙ directory_in-text version (length new) d good (λ k x l. (stands.2.entries k x l).attributes) stands.2.types
 
-pub document_at-kept : (old new : List ℕ) (e : Extent) (d : Directory) → directory_of old e ≡ Some d → Keeps old new e → All (λ entry. Keeps old new entry.extent) d.entries → document_at new e ≡ document_at old e
-document_at-kept old new e d is keeps all =
-    let stands = directory_in-some (length old) (bytes_in old e) d (directory_of-some old e d is).1 in
-    let parts = is_directory-parts (length old) d stands.0 in
-    ap (option_and_then (document_of new)) (directory_of-kept old new e d is keeps all)
-    ∙ ap (option_map (λ blocks. let made : Document = record { blocks = from_entries blocks; map_block = d.map_block } in made)) (blocks_of-kept (length old) old new d.entries (omega arith) parts.entries all)
+pub document_at-kept : (version : ℕ) (old new : List ℕ) (e : Extent) (d : Directory) → directory_of version old e ≡ Some d → Keeps old new e → All (λ entry. Keeps old new entry.extent) d.entries
+    → document_at version new e ≡ document_at version old e
+document_at-kept version old new e d is keeps all =
+    let stands = directory_in-some version (length old) (bytes_in old e) d (directory_of-some version old e d is).1 in
+    let parts = is_directory-parts version (length old) d stands.0 in
+    ap (option_and_then (document_of new)) (directory_of-kept version old new e d is keeps all)
+    ∙ ap (option_map (λ blocks. let made : Document = record { blocks = from_entries blocks; map_block = d.map_block } in made)) (blocks_of-kept version (length old) d.version old new d.entries (omega arith) parts.entries all)
     ∙ ap (option_and_then (document_of old)) (sym is)
+
+-- What stands in a file of either version stands in one of version 2.
+
+pub is_in_file-newer : (version n : ℕ) (e : Extent) → is_in_file version n e ≡ true → is_in_file 2 n e ≡ true
+is_in_file-newer version n e is =
+    let place = is_in_file-parts version n e is in
+    is_in_file-from 2 n e place.behind_slots place.within (let most = last_page_of-most version in omega (arith, most, place.in_reach))
+
+pub is_entry-newer : (file_version n version : ℕ) (e : Entry) → is_entry file_version n version e ≡ true → is_entry 2 n version e ≡ true
+is_entry-newer file_version n version e is =
+    let parts = is_entry-parts file_version n version e is in
+    is_entry-from 2 n version e
+    (record { handle = parts.handle; some = parts.some; short = parts.short; behind_slots = parts.behind_slots; within = parts.within; in_reach = entry-in_reach file_version n version e parts })
+
+pub is_directory-newer : (file_version n : ℕ) (d : Directory) → is_directory file_version n d ≡ true → is_directory 2 n d ≡ true
+is_directory-newer file_version n d is =
+    let parts = is_directory-parts file_version n d is in
+    is_directory-from 2 n d (record {
+      version = is_version_in-newer file_version d.version parts.version;
+      rising = parts.rising;
+      entries = entries_become (is_entry file_version n d.version) (is_entry 2 n d.version) d.entries parts.entries (λ k l one. is_entry-newer file_version n d.version (get_or d.entries k no_entry) one);
+      map_block = parts.map_block;
+    })
+
+pub directory_of-newer : (version : ℕ) (file : List ℕ) (e : Extent) (d : Directory) → directory_of version file e ≡ Some d → directory_of 2 file e ≡ Some d
+directory_of-newer version file e d is =
+    let there = directory_of-some version file e d is in
+    let stands = directory_in-some version (length file) (bytes_in file e) d there.1 in
+    let good = is_directory-newer version (length file) d stands.0 in
+    cond-true _ _ _ (is_in_file-newer version (length file) e there.0) ∙ ap (directory_in 2 (length file)) (sym stands.1)
+    ∙ directory_in-text 2 (length file) d good (λ k x l. (stands.2.entries k x l).attributes) stands.2.types
+
+pub document_at-newer : (version : ℕ) (file : List ℕ) (e : Extent) (d : Directory) → directory_of version file e ≡ Some d → document_at 2 file e ≡ document_at version file e
+document_at-newer version file e d is = ap (option_and_then (document_of file)) (directory_of-newer version file e d is ∙ sym is)
+
+pub document_at-newer_some : (version : ℕ) (file : List ℕ) (e : Extent) (document : Document) → document_at version file e ≡ Some document → document_at 2 file e ≡ Some document
+document_at-newer_some version file e document is =
+    let found = directory_there file (directory_of version file e) document is in
+    document_at-newer version file e found.0 found.1.0 ∙ is

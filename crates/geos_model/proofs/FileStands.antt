@@ -1,5 +1,5 @@
 -- What a file stands for, from its slots and the documents of the one that counts.
-use Rattle.std.proofs.Common.{◌≡◌, ◌≢◌, ℕ, ◌+◌, ◌*◌, ◌<◌, ◌≤◌, Bool, false, cond, not, ◌||◌, List, length, take, drop, slice_index, Option, Some, None, Result, Ok, Err, ◌==◌, nat_lt, refl, sym, ap, ap₂, ◌∙◌, arith, inl, inr, length-take, length-drop, eqb-true, eq-eqb, ne_eqb, lt-ltb}
+use Rattle.std.proofs.Common.{◌≡◌, ◌≢◌, ◌⊎◌, ℕ, ◌+◌, ◌*◌, ◌<◌, ◌≤◌, Bool, false, cond, not, ◌||◌, List, length, take, drop, slice_index, Option, Some, None, Result, Ok, Err, ◌==◌, nat_lt, refl, sym, ap, ap₂, subst, ◌∙◌, arith, inl, inr, length-take, length-drop, eqb-true, eq-eqb, ne_eqb, lt-ltb}
 use Rattle.std.proofs.lemmas.Bool.{cases_Bool, cond-true, cond-false, le-ltb, ltb-false, or_parts}
 use Rattle.std.proofs.lemmas.Grind.{same_number_lists}
 use Rattle.std.proofs.lemmas.List.{get_or-take, get_or-drop}
@@ -11,7 +11,7 @@ use Rattle.geos_model.specs.FileLaws.{FitsSlot}
 use Rattle.geos_model.specs.declared.fault.Fault.{Fault}
 use Rattle.geos_model.specs.declared.fault.Fault.TheVariants.{NotDocument, Damaged}
 use Rattle.geos_model.specs.declared.file.Slot.{Slot}
-use Rattle.geos_model.proofs.Files.{slot_of-text}
+use Rattle.geos_model.proofs.Files.{or_later, slot_of-text}
 use Rattle.geos_model.proofs.Validity.{not_false}
 
 -- the 32 bytes of the slot at a page
@@ -22,11 +22,22 @@ slot_bytes file page = take 32 (drop (512 * page) file)
 pub record StandsBy (file : List ℕ) (s : Slot) (updated saved : Document) : Type 0 where
   pub long : 1024 ≤ length file
   pub counts : counting_slot (open_slot file 0) (open_slot file 1) ≡ Ok s
-  pub version : s.version ≡ 1
+  pub version : (s.version ≡ 1) ⊎ (s.version ≡ 2)
   pub reserved : s.reserved ≡ 0
   pub sequence : 1 ≤ s.sequence
-  pub working : document_at file s.working ≡ Some updated
-  pub saved_is : document_at file s.saved ≡ Some saved
+  pub working : document_at s.version file s.working ≡ Some updated
+  pub saved_is : document_at s.version file s.saved ≡ Some saved
+
+-- the versions of the format
+versioned : (v : ℕ) → (v ≡ 1) ⊎ (v ≡ 2) → not (v == 1 || v == 2) ≡ false
+versioned v (inl one) = subst (λ k. not (k == 1 || k == 2) ≡ false) (sym one) refl
+versioned v (inr two) = subst (λ k. not (k == 1 || k == 2) ≡ false) (sym two) refl
+
+version_of : (v : ℕ) → not (v == 1 || v == 2) ≡ false → (v ≡ 1) ⊎ (v ≡ 2)
+version_of v h = elim (cases_Bool (v == 1)) [
+  | inl one ↦ inl (eqb-true v 1 one)
+  | inr other ↦ inr (eqb-true v 2 (or_later (v == 1) (v == 2) (not_false (v == 1 || v == 2) h) other))
+]
 
 tested : (s : Slot) → s.reserved ≡ 0 → 1 ≤ s.sequence → (not (s.reserved == 0) || s.sequence == 0) ≡ false
 tested s none some =
@@ -36,7 +47,7 @@ pub stands-from : (file : List ℕ) (s : Slot) (updated saved : Document) → St
 stands-from file s updated saved by =
     cond-false _ _ _ (le-ltb (length file) 1024 by.long)
     ∙ ap (pair_of_counting file) by.counts
-    ∙ cond-false _ _ _ (ap not (eq-eqb s.version 1 by.version))
+    ∙ cond-false _ _ _ (versioned s.version by.version)
     ∙ cond-false _ _ _ (tested s by.reserved by.sequence)
     ∙ ap₂ both by.working by.saved_is
 
@@ -122,16 +133,18 @@ stands-by file pair e =
     let long = passed (nat_lt (length file) 1024) NotDocument (pair_of_counting file (counting_slot (open_slot file 0) (open_slot file 1))) pair e in
     let slot = slot_there file (counting_slot (open_slot file 0) (open_slot file 1)) pair long.1 in
     let s : Slot = slot.0 in
-    let version = passed (not (s.version == 1)) NotDocument (cond (not (s.reserved == 0) || s.sequence == 0) (Err Damaged) (both (document_at file s.working) (document_at file s.saved))) pair slot.1.1 in
-    let fields = passed (not (s.reserved == 0) || s.sequence == 0) Damaged (both (document_at file s.working) (document_at file s.saved)) pair version.1 in
+    let working : Option Document = document_at s.version file s.working in
+    let saved : Option Document = document_at s.version file s.saved in
+    let version = passed (not (s.version == 1 || s.version == 2)) NotDocument (cond (not (s.reserved == 0) || s.sequence == 0) (Err Damaged) (both working saved)) pair slot.1.1 in
+    let fields = passed (not (s.reserved == 0) || s.sequence == 0) Damaged (both working saved) pair version.1 in
     let zeros = or_parts (not (s.reserved == 0)) (s.sequence == 0) fields.0 in
-    let documents = both_there (document_at file s.working) (document_at file s.saved) pair fields.1 in
+    let documents = both_there working saved pair fields.1 in
     let some : s.sequence ≢ 0 = λ z. absurd (cc (sym (eq-eqb s.sequence 0 z) ∙ zeros.1)) in (
       s,
       record {
         long = ltb-false (length file) 1024 long.0;
         counts = slot.1.0;
-        version = eqb-true s.version 1 (not_false (s.version == 1) version.0);
+        version = version_of s.version version.0;
         reserved = eqb-true s.reserved 0 (not_false (s.reserved == 0) zeros.0);
         sequence = omega (arith, some);
         working = documents.0;

@@ -1,6 +1,6 @@
 -- What is written to a file reads back, and what stands in it rests on the bytes of its extents.
-use Rattle.std.proofs.Common.{◌≡◌, ℕ, zero, suc, ◌+◌, ◌*◌, ◌<◌, ◌≤◌, Bool, true, false, cond, ◌&&◌, ◌||◌, ◌/◌, List, [], ◌∷◌, ◌++◌, map, length, drop, Some, None, All, ◌==◌, nat_lt, nat_le, flat_map, get_or, refl, sym, ap, ap₂, subst, ◌∙◌, arith, inl, inr, leb-true, ltb-true, eqb-true}
-use Rattle.std.proofs.Math.Seq.{drop-cons}
+use Rattle.std.proofs.Common.{◌≡◌, ◌⊎◌, ℕ, zero, suc, ◌+◌, ◌*◌, ◌<◌, ◌≤◌, Bool, true, false, cond, ◌&&◌, ◌||◌, ◌/◌, List, [], ◌∷◌, ◌++◌, map, length, drop, Some, None, All, ◌==◌, nat_lt, nat_le, flat_map, get_or, refl, sym, ap, ap₂, subst, ◌∙◌, arith, inl, inr, leb-true, ltb-true, eqb-true, eq-eqb, append_assoc, length-append}
+use Rattle.std.proofs.Math.Seq.{drop-cons, drop-append-add}
 use Rattle.std.proofs.lemmas.Bool.{cases_Bool, and_parts, and_from, cond-true, cond-false}
 use Rattle.std.proofs.lemmas.List.FromFn.{fill_by_all, get_or-map-range_with_len}
 use Rattle.std.proofs.lemmas.List.Sums.{AllPass-from_list_all}
@@ -11,8 +11,8 @@ use Rattle.geos_model.specs.Words.{word, double_word, quad_word, word_at, quad_w
 use Rattle.geos_model.specs.Bytes.{same_bytes}
 use Rattle.geos_model.specs.Document.{is_valid_body, most_blocks, FitAttributes}
 use Rattle.geos_model.specs.Image.{image, body_read, body_of}
-use Rattle.geos_model.specs.File.{Directory, extent_text, extent_at, slot_text, slot_read, slot_of, entry_text, directory_text, entry_read, directory_read, is_in_file, is_rising, is_entry, is_map_block, is_directory, directory_in, longest_image, last_page}
-use Rattle.geos_model.specs.FileLaws.{FitsExtent, FitsSlot, FitsEntry, FitsDirectory}
+use Rattle.geos_model.specs.File.{Directory, extent_text, extent_at, slot_text, slot_read, slot_of, type_text, entry_text, directory_text, type_at, entry_read, directory_read, is_in_file, is_rising, is_entry, is_map_block, is_version_in, is_directory, directory_in, longest_image, greatest_handle, last_page, last_page_of}
+use Rattle.geos_model.specs.FileLaws.{FitsExtent, FitsSlot, FitsEntry, FitTypes, FitsDirectory}
 use Rattle.geos_model.specs.declared.command.Body.{Body}
 use Rattle.geos_model.specs.declared.file.Extent.{Extent}
 use Rattle.geos_model.specs.declared.file.Entry.{Entry}
@@ -83,123 +83,232 @@ slot_read-text s fits =
 pub slot_of-text : (s : Slot) → FitsSlot s → slot_of (slot_text s) ≡ Some s
 slot_of-text s fits = ap Some (slot_read-text s fits)
 
+-- Versions.
+
+-- a choice by a version is below what both are below
+chosen-most : (test : Bool) (a b m : ℕ) → a ≤ m → b ≤ m → cond test a b ≤ m
+chosen-most true a b m first second = first
+chosen-most false a b m first second = second
+
+pub last_page_of-most : (version : ℕ) → last_page_of version ≤ last_page
+last_page_of-most version = chosen-most (version == 1) (last_page_of 1) last_page last_page (omega arith) (omega arith)
+
+pub greatest_handle-most : (version : ℕ) → greatest_handle version ≤ most_blocks
+greatest_handle-most version = chosen-most (version == 1) (greatest_handle 1) most_blocks most_blocks (omega arith) (omega arith)
+
+-- in a file of a version a directory has version 1, or both have version 2
+pub is_version_in-parts : (file_version version : ℕ) → is_version_in file_version version ≡ true → (version ≡ 1) ⊎ ((version ≡ 2) × (file_version ≡ 2))
+is_version_in-parts file_version version h = elim (cases_Bool (version == 1)) [
+  | inl one ↦ inl (eqb-true version 1 one)
+  | inr other ↦
+      let parts = and_parts (version == 2) (file_version == 2) (or_later (version == 1) (version == 2 && file_version == 2) h other) in
+      inr (eqb-true version 2 parts.0, eqb-true file_version 2 parts.1)
+]
+
+pub is_version_in-one : (file_version : ℕ) → is_version_in file_version 1 ≡ true
+is_version_in-one file_version = refl
+
+pub is_version_in-two : is_version_in 2 2 ≡ true
+is_version_in-two = refl
+
+pub is_version_in-first : (version : ℕ) → is_version_in 1 version ≡ true → version ≡ 1
+is_version_in-first version h = elim (is_version_in-parts 1 version h) [
+  | inl one ↦ one
+  | inr two ↦ (let not_two : 1 ≡ 2 = two.1 in absurd (omega (arith, not_two)))
+]
+
+pub is_version_in-fits : (file_version version : ℕ) → is_version_in file_version version ≡ true → version < 65536
+is_version_in-fits file_version version h = elim (is_version_in-parts file_version version h) [
+  | inl one ↦ omega (arith, one)
+  | inr two ↦ (let is : version ≡ 2 = two.0 in omega (arith, is))
+]
+
+pub is_version_in-newer : (file_version version : ℕ) → is_version_in file_version version ≡ true → is_version_in 2 version ≡ true
+is_version_in-newer file_version version h = elim (is_version_in-parts file_version version h) [
+  | inl one ↦ subst (λ v. is_version_in 2 v ≡ true) (sym one) refl
+  | inr two ↦ subst (λ v. is_version_in 2 v ≡ true) (sym two.0) refl
+]
+
 -- Directories.
 
-pub length-entries : (es : List Entry) → length (flat_map entry_text es) ≡ 16 * length es
-length-entries [] = refl
-length-entries (e ∷ es) = let rest = length-entries es in omega (arith, rest)
+length-chosen : (test : Bool) (t : ℕ) → length (cond test (0 ∷ 0 ∷ []) (word t)) ≡ 2
+length-chosen true t = refl
+length-chosen false t = refl
+
+pub length-type : (version t : ℕ) → length (type_text version t) ≡ 2
+length-type version t = length-chosen (version == 1) t
+
+-- where a type fits the version its text is its word
+pub type_text-word : (version t : ℕ) → (version ≡ 1 → t ≡ 0) → type_text version t ≡ word t
+type_text-word version t none = elim (cases_Bool (version == 1)) [
+  | inl one ↦ cond-true _ _ _ one ∙ ap word (sym (none (eqb-true version 1 one)))
+  | inr other ↦ cond-false _ _ _ other
+]
+
+pub length-entry : (version : ℕ) (e : Entry) → length (entry_text version e) ≡ 16
+length-entry version e =
+    let here = length-type version e.attributes.heap_type in
+    let both : length (type_text version e.attributes.heap_type ++ 0 ∷ 0 ∷ []) ≡ length (type_text version e.attributes.heap_type) + 2 = length-append (type_text version e.attributes.heap_type) (0 ∷ 0 ∷ []) in
+    omega (arith, here, both)
+
+pub length-entries : (version : ℕ) (es : List Entry) → length (flat_map (entry_text version) es) ≡ 16 * length es
+length-entries version [] = refl
+length-entries version (e ∷ es) =
+    let rest = length-entries version es in
+    let here = length-entry version e in
+    let both : length (entry_text version e ++ flat_map (entry_text version) es) ≡ length (entry_text version e) + length (flat_map (entry_text version) es) = length-append (entry_text version e) (flat_map (entry_text version) es) in
+    omega (arith, rest, here, both)
 
 pub length-directory : (d : Directory) → length (directory_text d) ≡ 16 + 16 * length d.entries
-length-directory d = let rest = length-entries d.entries in omega (arith, rest)
+length-directory d = let rest = length-entries d.version d.entries in omega (arith, rest)
 
-pub entry-reads_back : (e : Entry) (rest : List ℕ) → FitsEntry e → entry_read (entry_text e ++ rest) ≡ e
-entry-reads_back e rest fits =
-    let zeros : List ℕ = 0 ∷ 0 ∷ 0 ∷ 0 ∷ rest in
-    let handle : little_number 2 (word e.handle.0 ++ word e.attributes.user_id ++ extent_text e.extent ++ zeros) ≡ e.handle.0 = word-reads_back e.handle.0 (word e.attributes.user_id ++ extent_text e.extent ++ zeros) fits.handle in
-    let user : little_number 2 (word e.attributes.user_id ++ extent_text e.extent ++ zeros) ≡ e.attributes.user_id = word-reads_back e.attributes.user_id (extent_text e.extent ++ zeros) fits.attributes in
-    let place : extent_at (extent_text e.extent ++ zeros) 0 ≡ e.extent = extent-reads_back e.extent zeros fits.extent in
-    let made : ℕ → ℕ → Extent → Entry = λ h u x. record { handle = record { 0 = h }; attributes = record { user_id = u }; extent = x } in
-    ap₂ (λ (h u : ℕ). made h u (extent_at (extent_text e.extent ++ zeros) 0)) handle user ∙ ap (λ (x : Extent). made e.handle.0 e.attributes.user_id x) place
+-- the type is read back, which in version 1 is none
+type-reads_back : (version t : ℕ) (rest : List ℕ) → t < 65536 → (version ≡ 1 → t ≡ 0) → type_at version (type_text version t ++ rest) 0 ≡ t
+type-reads_back version t rest fits none = elim (cases_Bool (version == 1)) [
+  | inl one ↦ cond-true _ _ _ one ∙ sym (none (eqb-true version 1 one))
+  | inr other ↦ cond-false _ _ _ other ∙ ap (λ (text : List ℕ). little_number 2 (text ++ rest)) (cond-false _ _ _ other) ∙ word-reads_back t rest fits
+]
+
+pub entry-reads_back : (version : ℕ) (e : Entry) (rest : List ℕ) → FitsEntry e → (version ≡ 1 → e.attributes.heap_type ≡ 0) → entry_read version (entry_text version e ++ rest) ≡ e
+entry-reads_back version e rest fits none =
+    let kind : List ℕ = type_text version e.attributes.heap_type in
+    let behind : List ℕ = (kind ++ 0 ∷ 0 ∷ []) ++ rest in
+    let handle : little_number 2 (word e.handle.0 ++ word e.attributes.user_id ++ extent_text e.extent ++ behind) ≡ e.handle.0 = word-reads_back e.handle.0 (word e.attributes.user_id ++ extent_text e.extent ++ behind) fits.handle in
+    let user : little_number 2 (word e.attributes.user_id ++ extent_text e.extent ++ behind) ≡ e.attributes.user_id = word-reads_back e.attributes.user_id (extent_text e.extent ++ behind) fits.attributes.user_id in
+    let place : extent_at (extent_text e.extent ++ behind) 0 ≡ e.extent = extent-reads_back e.extent behind fits.extent in
+    let seam : behind ≡ kind ++ 0 ∷ 0 ∷ rest = append_assoc kind (0 ∷ 0 ∷ []) rest in
+    let type_is : type_at version behind 0 ≡ e.attributes.heap_type = ap (λ (text : List ℕ). type_at version text 0) seam ∙ type-reads_back version e.attributes.heap_type (0 ∷ 0 ∷ rest) fits.attributes.heap_type none in
+    let made : ℕ → ℕ → Extent → ℕ → Entry = λ h u x t. record { handle = record { 0 = h }; attributes = record { user_id = u; heap_type = t }; extent = x } in
+    ap₂ (λ (h u : ℕ). made h u (extent_at (extent_text e.extent ++ behind) 0) (type_at version behind 0)) handle user
+    ∙ ap₂ (λ (x : Extent) (t : ℕ). made e.handle.0 e.attributes.user_id x t) place type_is
 
 -- some entry, where lists are asked past their end
 abbrev pub no_entry : Entry
-no_entry = record { handle = record { 0 = 0 }; attributes = record { user_id = 0 }; extent = record { page = 0; length = 0 } }
-
-sixteen : (n : ℕ) → 16 * suc n ≡ suc (suc (suc (suc (suc (suc (suc (suc (suc (suc (suc (suc (suc (suc (suc (suc (16 * n))))))))))))))))
-sixteen n = omega arith
+no_entry = record { handle = record { 0 = 0 }; attributes = record { user_id = 0; heap_type = 0 }; extent = record { page = 0; length = 0 } }
 
 -- the text of the entries from one on
-pub drop-entries : (es : List Entry) (i : ℕ) → i ≤ length es → drop (16 * i) (flat_map entry_text es) ≡ flat_map entry_text (drop i es)
-drop-entries es zero l = refl
-drop-entries [] (suc i) l = absurd (omega arith)
-drop-entries (e ∷ es) (suc i) l =
-    ap (λ (k : ℕ). drop k (flat_map entry_text (e ∷ es))) (sixteen i) ∙ drop-entries es i (omega arith)
+pub drop-entries : (version : ℕ) (es : List Entry) (i : ℕ) → i ≤ length es → drop (16 * i) (flat_map (entry_text version) es) ≡ flat_map (entry_text version) (drop i es)
+drop-entries version es zero l = refl
+drop-entries version [] (suc i) l = absurd (omega arith)
+drop-entries version (e ∷ es) (suc i) l =
+    let next : 16 * suc i ≡ length (entry_text version e) + 16 * i = (let here = length-entry version e in omega (arith, here)) in
+    ap (λ (k : ℕ). drop k (flat_map (entry_text version) (e ∷ es))) next
+    ∙ drop-append-add (entry_text version e) (flat_map (entry_text version) es) (16 * i) ∙ drop-entries version es i (omega arith)
+
+sixteen : (n : ℕ) → 16 + 16 * n ≡ suc (suc (suc (suc (suc (suc (suc (suc (suc (suc (suc (suc (suc (suc (suc (suc (16 * n))))))))))))))))
+sixteen n = omega arith
 
 -- in a directory
-pub drop-directory : (d : Directory) (i : ℕ) → i ≤ length d.entries → drop (16 + 16 * i) (directory_text d) ≡ flat_map entry_text (drop i d.entries)
-drop-directory d i l =
-    let next : 16 + 16 * i ≡ 16 * suc i = omega arith in
-    ap (λ (k : ℕ). drop k (directory_text d)) (next ∙ sixteen i) ∙ drop-entries d.entries i l
+pub drop-directory : (d : Directory) (i : ℕ) → i ≤ length d.entries → drop (16 + 16 * i) (directory_text d) ≡ flat_map (entry_text d.version) (drop i d.entries)
+drop-directory d i l = ap (λ (k : ℕ). drop k (directory_text d)) (sixteen i) ∙ drop-entries d.version d.entries i l
 
 -- an entry's text and those of the entries behind it
-pub drop-directory_at : (d : Directory) (i : ℕ) → i < length d.entries → drop (16 + 16 * i) (directory_text d) ≡ entry_text (get_or d.entries i no_entry) ++ flat_map entry_text (drop (suc i) d.entries)
-drop-directory_at d i l = drop-directory d i (omega (arith, l)) ∙ ap (flat_map entry_text) (drop-cons d.entries i no_entry l)
+pub drop-directory_at : (d : Directory) (i : ℕ) → i < length d.entries
+    → drop (16 + 16 * i) (directory_text d) ≡ entry_text d.version (get_or d.entries i no_entry) ++ flat_map (entry_text d.version) (drop (suc i) d.entries)
+drop-directory_at d i l = drop-directory d i (omega (arith, l)) ∙ ap (flat_map (entry_text d.version)) (drop-cons d.entries i no_entry l)
 
 pub directory_read-text : (d : Directory) → FitsDirectory d → directory_read (directory_text d) ≡ d
 directory_read-text d fits =
     let text : List ℕ = directory_text d in
-    let behind : List ℕ = 0 ∷ 0 ∷ 0 ∷ 0 ∷ 0 ∷ 0 ∷ flat_map entry_text d.entries in
+    let behind : List ℕ = 0 ∷ 0 ∷ 0 ∷ 0 ∷ 0 ∷ 0 ∷ flat_map (entry_text d.version) d.entries in
+    let version : word_at text 4 ≡ d.version = word-reads_back d.version (word (length d.entries) ++ word d.map_block ++ behind) fits.version in
     let count : word_at text 6 ≡ length d.entries = word-reads_back (length d.entries) (word d.map_block ++ behind) fits.count in
     let map_block : word_at text 8 ≡ d.map_block = word-reads_back d.map_block behind fits.map_block in
-    let each : (k : ℕ) → k < length d.entries → get_or d.entries k no_entry ≡ entry_read (drop (16 + 16 * k) text) =
-    λ k l. sym (ap entry_read (drop-directory_at d k l) ∙ entry-reads_back (get_or d.entries k no_entry) (flat_map entry_text (drop (suc k) d.entries)) (fits.entries k no_entry l)) in
-    let entries : map (λ i. entry_read (drop (16 + 16 * i) text)) (range_with_len 0 (length d.entries)) ≡ d.entries =
-    sym (fill_by_all (λ i. entry_read (drop (16 + 16 * i) text)) d.entries (length d.entries) no_entry refl each) in
-    let made : ℕ → List Entry → Directory = λ m es. record { map_block = m; entries = es } in
-    ap₂ (λ (m n : ℕ). made m (map (λ i. entry_read (drop (16 + 16 * i) text)) (range_with_len 0 n))) map_block count
-    ∙ ap (λ (es : List Entry). made d.map_block es) entries
+    let each : (k : ℕ) → k < length d.entries → get_or d.entries k no_entry ≡ entry_read d.version (drop (16 + 16 * k) text) =
+    λ k l. sym (ap (entry_read d.version) (drop-directory_at d k l)
+    ∙ entry-reads_back d.version (get_or d.entries k no_entry) (flat_map (entry_text d.version) (drop (suc k) d.entries)) (fits.entries k no_entry l) (λ one. fits.types one k no_entry l)) in
+    let entries : map (λ i. entry_read d.version (drop (16 + 16 * i) text)) (range_with_len 0 (length d.entries)) ≡ d.entries =
+    sym (fill_by_all (λ i. entry_read d.version (drop (16 + 16 * i) text)) d.entries (length d.entries) no_entry refl each) in
+    let made : ℕ → ℕ → List Entry → Directory = λ v m es. record { version = v; map_block = m; entries = es } in
+    let read : ℕ → ℕ → List Entry = λ v n. map (λ i. entry_read v (drop (16 + 16 * i) text)) (range_with_len 0 n) in
+    ap (λ (v : ℕ). made v (word_at text 8) (read v (word_at text 6))) version
+    ∙ ap₂ (λ (m n : ℕ). made d.version m (read d.version n)) map_block count
+    ∙ ap (λ (es : List Entry). made d.version d.map_block es) entries
 
 -- what holds of each entry
 
-pub each_entry : (n : ℕ) (es : List Entry) → list_all (is_entry n) es ≡ true → (k : ℕ) → k < length es → is_entry n (get_or es k no_entry) ≡ true
-each_entry n es all k l = AllPass-from_list_all (is_entry n) es all k no_entry l
+pub each_entry : (file_version n version : ℕ) (es : List Entry) → list_all (is_entry file_version n version) es ≡ true → (k : ℕ) → k < length es → is_entry file_version n version (get_or es k no_entry) ≡ true
+each_entry file_version n version es all k l = AllPass-from_list_all (is_entry file_version n version) es all k no_entry l
 
--- Of an entry that can stand in a file of n bytes.
-pub record IsEntry (n : ℕ) (e : Entry) : Type 0 where
-  pub handle : e.handle.0 ≤ most_blocks
+-- Of an entry of a directory of the last version that can stand in a file of the first one and of n bytes.
+pub record IsEntry (file_version n version : ℕ) (e : Entry) : Type 0 where
+  pub handle : e.handle.0 ≤ greatest_handle version
   pub some : 1 ≤ e.extent.length
   pub short : e.extent.length ≤ longest_image
   pub behind_slots : 2 ≤ e.extent.page
   pub within : 512 * e.extent.page + e.extent.length ≤ n
-  pub in_reach : e.extent.page + (e.extent.length + 511) / 512 ≤ last_page
+  pub in_reach : e.extent.page + (e.extent.length + 511) / 512 ≤ last_page_of file_version
 
-pub is_entry-parts : (n : ℕ) (e : Entry) → is_entry n e ≡ true → IsEntry n e
-is_entry-parts n e h =
-    let parts = and_parts (nat_le e.handle.0 most_blocks && nat_le 1 e.extent.length && nat_le e.extent.length longest_image) (is_in_file n e.extent) h in
-    let sizes = and_parts (nat_le e.handle.0 most_blocks && nat_le 1 e.extent.length) (nat_le e.extent.length longest_image) parts.0 in
-    let first = and_parts (nat_le e.handle.0 most_blocks) (nat_le 1 e.extent.length) sizes.0 in
-    let place = and_parts (nat_le 2 e.extent.page && nat_le (512 * e.extent.page + e.extent.length) n) (nat_le (e.extent.page + (e.extent.length + 511) / 512) last_page) parts.1 in
+pub is_entry-parts : (file_version n version : ℕ) (e : Entry) → is_entry file_version n version e ≡ true → IsEntry file_version n version e
+is_entry-parts file_version n version e h =
+    let top : ℕ = greatest_handle version in
+    let reach : ℕ = last_page_of file_version in
+    let parts = and_parts (nat_le e.handle.0 top && nat_le 1 e.extent.length && nat_le e.extent.length longest_image) (is_in_file file_version n e.extent) h in
+    let sizes = and_parts (nat_le e.handle.0 top && nat_le 1 e.extent.length) (nat_le e.extent.length longest_image) parts.0 in
+    let first = and_parts (nat_le e.handle.0 top) (nat_le 1 e.extent.length) sizes.0 in
+    let place = and_parts (nat_le 2 e.extent.page && nat_le (512 * e.extent.page + e.extent.length) n) (nat_le (e.extent.page + (e.extent.length + 511) / 512) reach) parts.1 in
     let inside = and_parts (nat_le 2 e.extent.page) (nat_le (512 * e.extent.page + e.extent.length) n) place.0 in
     record {
-      handle = leb-true e.handle.0 most_blocks first.0;
+      handle = leb-true e.handle.0 top first.0;
       some = leb-true 1 e.extent.length first.1;
       short = leb-true e.extent.length longest_image sizes.1;
       behind_slots = leb-true 2 e.extent.page inside.0;
       within = leb-true (512 * e.extent.page + e.extent.length) n inside.1;
-      in_reach = leb-true (e.extent.page + (e.extent.length + 511) / 512) last_page place.1;
+      in_reach = leb-true (e.extent.page + (e.extent.length + 511) / 512) reach place.1;
     }
 
--- handles that rise up to 2,048 are few
-rising_few : (n last : ℕ) (es : List Entry) → last ≤ most_blocks → is_rising last es ≡ true → list_all (is_entry n) es ≡ true → last + length es ≤ most_blocks
-rising_few n last [] l rising all = omega (arith, l)
-rising_few n last (e ∷ es) l rising all =
+-- whatever the versions
+
+pub entry-low : (file_version n version : ℕ) (e : Entry) → IsEntry file_version n version e → e.handle.0 ≤ most_blocks
+entry-low file_version n version e is = let most = greatest_handle-most version in omega (arith, is.handle, most)
+
+pub entry-in_reach : (file_version n version : ℕ) (e : Entry) → IsEntry file_version n version e → e.extent.page + (e.extent.length + 511) / 512 ≤ last_page
+entry-in_reach file_version n version e is = let most = last_page_of-most file_version in omega (arith, is.in_reach, most)
+
+-- handles that rise up to so many blocks are few
+rising_few : (file_version n version last : ℕ) (es : List Entry) → last ≤ most_blocks → is_rising last es ≡ true → list_all (is_entry file_version n version) es ≡ true → last + length es ≤ most_blocks
+rising_few file_version n version last [] l rising all = omega (arith, l)
+rising_few file_version n version last (e ∷ es) l rising all =
     let here = and_parts (nat_lt last e.handle.0) (is_rising e.handle.0 es) rising in
     let above : last < e.handle.0 = ltb-true last e.handle.0 here.0 in
-    let each = and_parts (is_entry n e) (list_all (is_entry n) es) all in
-    let rest = rising_few n e.handle.0 es (is_entry-parts n e each.0).handle here.1 each.1 in
+    let each = and_parts (is_entry file_version n version e) (list_all (is_entry file_version n version) es) all in
+    let rest = rising_few file_version n version e.handle.0 es (entry-low file_version n version e (is_entry-parts file_version n version e each.0)) here.1 each.1 in
     omega (arith, above, rest)
 
--- Of a directory that can stand in a file of n bytes.
-pub record IsDirectory (n : ℕ) (d : Directory) : Type 0 where
+-- Of a directory that can stand in a file of a version and of n bytes.
+pub record IsDirectory (file_version n : ℕ) (d : Directory) : Type 0 where
+  pub version : is_version_in file_version d.version ≡ true
   pub rising : is_rising 0 d.entries ≡ true
-  pub entries : list_all (is_entry n) d.entries ≡ true
+  pub entries : list_all (is_entry file_version n d.version) d.entries ≡ true
   pub map_block : is_map_block d.map_block d.entries ≡ true
 
-pub is_directory-parts : (n : ℕ) (d : Directory) → is_directory n d ≡ true → IsDirectory n d
-is_directory-parts n d h =
-    let parts = and_parts (is_rising 0 d.entries && list_all (is_entry n) d.entries) (is_map_block d.map_block d.entries) h in
-    let first = and_parts (is_rising 0 d.entries) (list_all (is_entry n) d.entries) parts.0 in
-    record { rising = first.0; entries = first.1; map_block = parts.1 }
+pub is_directory-parts : (file_version n : ℕ) (d : Directory) → is_directory file_version n d ≡ true → IsDirectory file_version n d
+is_directory-parts file_version n d h =
+    let fits : Bool = is_version_in file_version d.version in
+    let all : Bool = list_all (is_entry file_version n d.version) d.entries in
+    let parts = and_parts (fits && is_rising 0 d.entries && all) (is_map_block d.map_block d.entries) h in
+    let first = and_parts (fits && is_rising 0 d.entries) all parts.0 in
+    let begin = and_parts fits (is_rising 0 d.entries) first.0 in
+    record { version = begin.0; rising = begin.1; entries = first.1; map_block = parts.1 }
 
-pub is_directory-from : (n : ℕ) (d : Directory) → IsDirectory n d → is_directory n d ≡ true
-is_directory-from n d is =
-    and_from (is_rising 0 d.entries && list_all (is_entry n) d.entries) (is_map_block d.map_block d.entries)
-    (and_from (is_rising 0 d.entries) (list_all (is_entry n) d.entries) is.rising is.entries) is.map_block
+pub is_directory-from : (file_version n : ℕ) (d : Directory) → IsDirectory file_version n d → is_directory file_version n d ≡ true
+is_directory-from file_version n d is =
+    let fits : Bool = is_version_in file_version d.version in
+    let all : Bool = list_all (is_entry file_version n d.version) d.entries in
+    and_from (fits && is_rising 0 d.entries && all) (is_map_block d.map_block d.entries)
+    (and_from (fits && is_rising 0 d.entries) all (and_from fits (is_rising 0 d.entries) is.version is.rising) is.entries) is.map_block
 
-pub directory_few : (n : ℕ) (d : Directory) → is_directory n d ≡ true → length d.entries ≤ most_blocks
-directory_few n d h =
-    let is = is_directory-parts n d h in
-    let few = rising_few n 0 d.entries (omega arith) is.rising is.entries in
+-- whatever its version
+pub directory-low : (file_version n : ℕ) (d : Directory) → is_directory file_version n d ≡ true → All (λ e. e.handle.0 ≤ most_blocks) d.entries
+directory-low file_version n d h k x l =
+    let e : Entry = get_or d.entries k no_entry in
+    let is = is_entry-parts file_version n d.version e (each_entry file_version n d.version d.entries (is_directory-parts file_version n d h).entries k l) in
+    subst (λ (e : Entry). e.handle.0 ≤ most_blocks) (get_or_same d.entries k no_entry x l) (entry-low file_version n d.version e is)
+
+pub directory_few : (file_version n : ℕ) (d : Directory) → is_directory file_version n d ≡ true → length d.entries ≤ most_blocks
+directory_few file_version n d h =
+    let is = is_directory-parts file_version n d h in
+    let few = rising_few file_version n d.version 0 d.entries (omega arith) is.rising is.entries in
     omega (arith, few)
 
 -- the map block is one of them
@@ -213,59 +322,88 @@ listed m (e ∷ es) h = elim (cases_Bool (e.handle.0 == m)) [
       (suc found.0, (omega (arith, found.1.0), found.1.1))
 ]
 
-map_block_fits : (n : ℕ) (d : Directory) → is_directory n d ≡ true → d.map_block < 65536
-map_block_fits n d h =
-    let is = is_directory-parts n d h in
+map_block_fits : (file_version n : ℕ) (d : Directory) → is_directory file_version n d ≡ true → d.map_block < 65536
+map_block_fits file_version n d h =
+    let is = is_directory-parts file_version n d h in
     elim (cases_Bool (d.map_block == 0)) [
       | inl none ↦ (let zero_is : d.map_block ≡ 0 = eqb-true d.map_block 0 none in omega (arith, zero_is))
       | inr some ↦
           let found = listed d.map_block d.entries (or_later (d.map_block == 0) (list_any (λ e. e.handle.0 == d.map_block) d.entries) is.map_block some) in
-          let low = (is_entry-parts n (get_or d.entries found.0 no_entry) (each_entry n d.entries is.entries found.0 found.1.0)).handle in
+          let e : Entry = get_or d.entries found.0 no_entry in
+          let low = entry-low file_version n d.version e (is_entry-parts file_version n d.version e (each_entry file_version n d.version d.entries is.entries found.0 found.1.0)) in
           omega (arith, low, found.1.1)
     ]
 
-extent_fits : (n : ℕ) (e : Entry) → IsEntry n e → FitsExtent e.extent
-extent_fits n e is = (omega (arith, is.in_reach), omega (arith, is.short))
+extent_fits : (file_version n version : ℕ) (e : Entry) → IsEntry file_version n version e → FitsExtent e.extent
+extent_fits file_version n version e is = let reach = entry-in_reach file_version n version e is in (omega (arith, reach), omega (arith, is.short))
 
 -- a directory that can stand in a file fits its text, attributes aside
-pub directory_fits : (n : ℕ) (d : Directory) → is_directory n d ≡ true → All (λ e. FitAttributes e.attributes) d.entries → FitsDirectory d
-directory_fits n d h fit = record {
-  map_block = map_block_fits n d h;
-  count = (let few = directory_few n d h in omega (arith, few));
+pub directory_fits : (file_version n : ℕ) (d : Directory) → is_directory file_version n d ≡ true → All (λ e. FitAttributes e.attributes) d.entries → FitTypes d.version d.entries → FitsDirectory d
+directory_fits file_version n d h fit types = record {
+  version = is_version_in-fits file_version d.version (is_directory-parts file_version n d h).version;
+  types = types;
+  map_block = map_block_fits file_version n d h;
+  count = (let few = directory_few file_version n d h in omega (arith, few));
   entries = λ k _ l.
-      let is = is_entry-parts n (get_or d.entries k no_entry) (each_entry n d.entries (is_directory-parts n d h).entries k l) in
+      let e : Entry = get_or d.entries k no_entry in
+      let is = is_entry-parts file_version n d.version e (each_entry file_version n d.version d.entries (is_directory-parts file_version n d h).entries k l) in
       subst (λ e. FitsEntry e) (get_or_same d.entries k no_entry _ l) (record {
-        handle = (let low = is.handle in omega (arith, low));
+        handle = (let low = entry-low file_version n d.version e is in omega (arith, low));
         attributes = fit k no_entry l;
-        extent = extent_fits n (get_or d.entries k no_entry) is;
+        extent = extent_fits file_version n d.version e is;
       });
 }
 
-pub directory_in-text : (n : ℕ) (d : Directory) → is_directory n d ≡ true → All (λ e. FitAttributes e.attributes) d.entries → directory_in n (directory_text d) ≡ Some d
-directory_in-text n d h fit =
+pub directory_in-text : (file_version n : ℕ) (d : Directory) → is_directory file_version n d ≡ true → All (λ e. FitAttributes e.attributes) d.entries → FitTypes d.version d.entries
+    → directory_in file_version n (directory_text d) ≡ Some d
+directory_in-text file_version n d h fit types =
     let text : List ℕ = directory_text d in
-    let read : directory_read text ≡ d = directory_read-text d (directory_fits n d h fit) in
-    let tests : (is_directory n d && same_bytes text text) ≡ true = and_from (is_directory n d) (same_bytes text text) h (same_bytes-refl text) in
-    ap (λ (r : Directory). cond (is_directory n r && same_bytes (directory_text r) text) (Some r) None) read ∙ cond-true _ _ _ tests
+    let read : directory_read text ≡ d = directory_read-text d (directory_fits file_version n d h fit types) in
+    let tests : (is_directory file_version n d && same_bytes text text) ≡ true = and_from (is_directory file_version n d) (same_bytes text text) h (same_bytes-refl text) in
+    ap (λ (r : Directory). cond (is_directory file_version n r && same_bytes (directory_text r) text) (Some r) None) read ∙ cond-true _ _ _ tests
 
--- a word in a text
-user_id_lt : (u : ℕ) (e : Entry) (rest : List ℕ) → u ≡ (entry_read (entry_text e ++ rest)).attributes.user_id → u < 65536
-user_id_lt u e rest is = omega (arith, is)
+-- words in a text
 
-pub directory_in-some : (n : ℕ) (bytes : List ℕ) (d : Directory) → directory_in n bytes ≡ Some d
-    → (is_directory n d ≡ true) × (directory_text d ≡ bytes) × FitsDirectory d × (length d.entries ≤ most_blocks)
-directory_in-some n bytes d e =
+user_id_lt : (version : ℕ) (e : Entry) (rest : List ℕ) → (entry_read version (entry_text version e ++ rest)).attributes.user_id < 65536
+user_id_lt version e rest = omega arith
+
+type_lt : (version t : ℕ) (rest : List ℕ) → type_at version (type_text version t ++ rest) 0 < 65536
+type_lt version t rest = elim (cases_Bool (version == 1)) [
+  | inl one ↦ (let none : type_at version (type_text version t ++ rest) 0 ≡ 0 = cond-true _ _ _ one in omega (arith, none))
+  | inr other ↦
+      let is : type_at version (type_text version t ++ rest) 0 ≡ little_number 2 (word t ++ rest) = cond-false _ _ _ other ∙ ap (λ (text : List ℕ). little_number 2 (text ++ rest)) (cond-false _ _ _ other) in
+      omega (arith, is)
+]
+
+-- what is read from an entry's text fits
+read_fits : (version : ℕ) (e : Entry) (rest : List ℕ) → FitAttributes (entry_read version (entry_text version e ++ rest)).attributes
+read_fits version e rest = record {
+  user_id = user_id_lt version e rest;
+  heap_type =
+      subst (λ (text : List ℕ). type_at version text 0 < 65536) (sym (append_assoc (type_text version e.attributes.heap_type) (0 ∷ 0 ∷ []) rest)) (type_lt version e.attributes.heap_type (0 ∷ 0 ∷ rest));
+}
+
+pub directory_in-some : (file_version n : ℕ) (bytes : List ℕ) (d : Directory) → directory_in file_version n bytes ≡ Some d
+    → (is_directory file_version n d ≡ true) × (directory_text d ≡ bytes) × FitsDirectory d × (length d.entries ≤ most_blocks)
+directory_in-some file_version n bytes d e =
     let r : Directory = directory_read bytes in
-    let here = some_if (is_directory n r && same_bytes (directory_text r) bytes) r d e in
-    let parts = and_parts (is_directory n d) (same_bytes (directory_text d) bytes) (subst (λ (x : Directory). (is_directory n x && same_bytes (directory_text x) bytes) ≡ true) here.1 here.0) in
+    let here = some_if (is_directory file_version n r && same_bytes (directory_text r) bytes) r d e in
+    let parts = and_parts (is_directory file_version n d) (same_bytes (directory_text d) bytes) (subst (λ (x : Directory). (is_directory file_version n x && same_bytes (directory_text x) bytes) ≡ true) here.1 here.0) in
     let text : directory_text d ≡ bytes = same_bytes-is (directory_text d) bytes parts.1 in
     let read : directory_read (directory_text d) ≡ d = ap directory_read text ∙ here.1 in
-    let few = directory_few n d parts.0 in
+    let version : word_at (directory_text d) 4 ≡ d.version = ap (λ (r : Directory). r.version) read in
+    let few = directory_few file_version n d parts.0 in
     let count : word_at (directory_text d) 6 ≡ length d.entries = word-reads_back (length d.entries) (drop 8 (directory_text d)) (omega (arith, few)) in
+    let each : (k : ℕ) (x : Entry) → k < length d.entries → get_or d.entries k x ≡ entry_read d.version (drop (16 + 16 * k) (directory_text d)) = λ k x l.
+    let at : get_or (directory_read (directory_text d)).entries k x ≡ entry_read (word_at (directory_text d) 4) (drop (16 + 16 * k) (directory_text d)) =
+    get_or-map-range_with_len (λ i. entry_read (word_at (directory_text d) 4) (drop (16 + 16 * i) (directory_text d))) 0 (word_at (directory_text d) 6) k k x (subst (λ m. k < m) (sym count) l) (omega arith) in
+    ap (λ (r : Directory). get_or r.entries k x) (sym read) ∙ at ∙ ap (λ (v : ℕ). entry_read v (drop (16 + 16 * k) (directory_text d))) version in
     let fit : All (λ e. FitAttributes e.attributes) d.entries = λ k x l.
-    let at : get_or (directory_read (directory_text d)).entries k x ≡ entry_read (drop (16 + 16 * k) (directory_text d)) =
-    get_or-map-range_with_len (λ i. entry_read (drop (16 + 16 * i) (directory_text d))) 0 (word_at (directory_text d) 6) k k x (subst (λ m. k < m) (sym count) l) (omega arith) in
-    let is : get_or d.entries k x ≡ entry_read (entry_text (get_or d.entries k no_entry) ++ flat_map entry_text (drop (suc k) d.entries)) =
-    ap (λ (r : Directory). get_or r.entries k x) (sym read) ∙ at ∙ ap entry_read (drop-directory_at d k l) in
-    user_id_lt (get_or d.entries k x).attributes.user_id (get_or d.entries k no_entry) (flat_map entry_text (drop (suc k) d.entries)) (ap (λ (e : Entry). e.attributes.user_id) is) in
-    (parts.0, text, directory_fits n d parts.0 fit, few)
+    let is = each k x l ∙ ap (entry_read d.version) (drop-directory_at d k l) in
+    subst (λ (e : Entry). FitAttributes e.attributes) (sym is) (read_fits d.version (get_or d.entries k no_entry) (flat_map (entry_text d.version) (drop (suc k) d.entries))) in
+    let types : FitTypes d.version d.entries = λ one k x l. ap (λ (e : Entry). e.attributes.heap_type) (each k x l) ∙ cond-true _ _ _ (eq-eqb d.version 1 one) in
+    (parts.0, text, directory_fits file_version n d parts.0 fit types, few)
+
+-- a directory that is read gives no types in version 1
+pub directory_in-types : (file_version n : ℕ) (bytes : List ℕ) (d : Directory) → directory_in file_version n bytes ≡ Some d → FitTypes d.version d.entries
+directory_in-types file_version n bytes d e = (directory_in-some file_version n bytes d e).2.types

@@ -80,6 +80,7 @@ locked_none m q locked none = true≢false (sym locked ∙ none_locked m none q)
 pub locked-live : (e : Edit) (m : Machine) → is_barred e m ≡ false → (q : ℕ) → is_locked m q ≡ true → is_live m.document q ≡ true → is_live (effect e m.document).0 q ≡ true
 locked-live (edits.FreeBlock b) m free q locked live =
     ap is_some (get-taken_other m.document.blocks b.0 q (λ is. true≢false (sym locked ∙ ap (is_locked m) is ∙ free))) ∙ live
+locked-live (edits.SetType b heap_type) m free q locked live = attributes-live m.document b.0 (record (attributes_of m.document b.0) { heap_type = heap_type }) q live
 locked-live (edits.SetUserId b uid) m free q locked live = attributes-live m.document b.0 (record (attributes_of m.document b.0) { user_id = uid }) q live
 locked-live (edits.SetMap b) m free q locked live = live
 locked-live (edits.CopyChain b) m free q locked live = absurd (locked_none m q locked free)

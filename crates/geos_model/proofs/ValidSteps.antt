@@ -1,6 +1,6 @@
 -- Every step of the machine keeps validity: edits, then the machine.
 use Rattle.std.proofs.Common.{◌≡◌, ℕ, zero, suc, ◌+◌, ◌<◌, ◌≤◌, Bool, true, false, List, [], ◌∷◌, length, replicate, Option, Some, None, IfSome, unwrap_or, refl, sym, ap, subst, ◌∙◌, ◌==◌, inl, inr, arith, le-leb, ltb-false}
-use Rattle.std.proofs.lemmas.Bool.{cases_Bool, eqb-false}
+use Rattle.std.proofs.lemmas.Bool.{cases_Bool, eqb-false, true≢false}
 use Rattle.std.proofs.lemmas.List.{length-replicate}
 use Rattle.std.specs.List.{All}
 use Rattle.std.specs.Option.{option_map, option_map_or}
@@ -14,13 +14,13 @@ use Rattle.geos_model.specs.ElementEdits.{no_slots, element_added, reference_add
 use Rattle.geos_model.specs.NameArray.{name_bytes}
 use Rattle.geos_model.specs.NameEdits.{no_names, name_added, name_changed, name_reference_removed, on_name_token, create_names_conditions, add_name_conditions, change_name_conditions}
 use Rattle.geos_model.specs.Cost.{cost}
-use Rattle.geos_model.specs.Document.{Block, Document, empty_document, is_valid_body, is_live, raw_bytes_of, block_at, IsValid, attributes_of, no_block, FitAttributes}
+use Rattle.geos_model.specs.Document.{Block, Document, empty_document, is_valid_body, is_live, is_heap, is_heap_body, is_raw, raw_bytes_of, block_at, IsValid, attributes_of, no_block, FitAttributes, IsTyped}
 use Rattle.geos_model.specs.Meaning.{chunk_at, past_end, conditions, effect}
 use Rattle.geos_model.specs.Reply.{Reply, Accepted, Refused}
 use Rattle.geos_model.specs.Machine.{UndoStep, OpenGroup, Machine, Request, Call, IsValidGroup, IsValidMachine, AreValidLocks, Step, Run, opened_machine, has_locks, is_barred, command_conditions, done_by, recorded, edited, undone, redone, begun, ended, abandoned, after_lock, after_unlock, after_update, after_save, after_revert, after_save_as, kind_of}
-use Rattle.geos_model.specs.Validity.{user_id_given, user_id_asked, ValidityLaw}
+use Rattle.geos_model.specs.Validity.{word_given, word_asked, ValidityLaw}
 use Rattle.geos_model.specs.declared.fault.Fault.{Fault}
-use Rattle.geos_model.specs.declared.fault.Fault.TheVariants.{Locked, GroupOpen, NoBlock, TooBig, NoHandles, Range, IsMap}
+use Rattle.geos_model.specs.declared.fault.Fault.TheVariants.{Locked, GroupOpen, NoBlock, TooBig, NoHandles, Range, IsMap, WrongKind}
 use Rattle.geos_model.specs.declared.command.Body.TheVariants.{Raw, Heap}
 use Rattle.geos_model.specs.declared.command.Kind.{Kind}
 use Rattle.geos_model.specs.declared.command.Kind.TheVariants.{Group}
@@ -33,19 +33,20 @@ use Rattle.geos_model.proofs.InFront.{edit-accepted}
 use Rattle.geos_model.proofs.Locks.{no_locks-valid, kept_locks-valid, empty_locks-valid, locked-live, lock-valid, unlock-valid}
 use Rattle.geos_model.proofs.ChainEdits.{chain-copy, chain-free}
 use Rattle.geos_model.proofs.Undoing.{OnDone, IsAt, on_done, done_by-stays, same_machine, not_in_group}
-use Rattle.geos_model.proofs.Validity.{not_false, without_block-valid, with_body-valid, with_attributes-valid, with_map-valid, block_there, makes_block-valid, raw_bytes-few, length-written, length-deleted, new_chunk-valid, new_bytes-valid, fewer_bytes-valid, without_chunk-valid, empty-heap, empty_document-valid}
+use Rattle.geos_model.proofs.Validity.{not_false, attributes-fit, attributes-typed, raw-typed, without_block-valid, with_body-valid, with_attributes-valid, with_map-valid, block_there, makes_block-valid, raw_bytes-few, length-written, length-deleted, new_chunk-valid, new_bytes-valid, fewer_bytes-valid, without_chunk-valid, empty-heap, empty_document-valid}
 
 -- An edit that nothing refuses keeps validity.
-pub effect-valid : (e : Edit) (d : Document) → user_id_given e < 65536 → IsValid d → first_refusal (conditions e d) ≡ None → IsValid (effect e d).0
+pub effect-valid : (e : Edit) (d : Document) → word_given e < 65536 → IsValid d → first_refusal (conditions e d) ≡ None → IsValid (effect e d).0
 effect-valid (edits.NewRaw uid size) d low valid none =
     let cs : Conditions = conditions (edits.NewRaw uid size) d in
     let few : size ≤ 65520 = ltb-false 65520 size (or_none (none_applies cs none TooBig refl)).0 in
     let long = length-replicate {A = ℕ} size 0 in
-    makes_block-valid d (record { attributes = record { user_id = uid }; body = Raw (replicate size 0) }) valid (or_none (none_applies cs none NoHandles refl)).0 low
-    (le-leb (length (replicate size 0)) 65520 (omega (arith, few, long)))
+    makes_block-valid d (record { attributes = record { user_id = uid; heap_type = 0 }; body = Raw (replicate size 0) }) valid (or_none (none_applies cs none NoHandles refl)).0
+    (record { user_id = low; heap_type = omega arith }) (λ _. refl) (le-leb (length (replicate size 0)) 65520 (omega (arith, few, long)))
 effect-valid (edits.NewHeap uid) d low valid none =
     let cs : Conditions = conditions (edits.NewHeap uid) d in
-    makes_block-valid d (record { attributes = record { user_id = uid }; body = Heap empty }) valid (or_none (none_applies cs none NoHandles refl)).0 low empty-heap
+    makes_block-valid d (record { attributes = record { user_id = uid; heap_type = 0 }; body = Heap empty }) valid (or_none (none_applies cs none NoHandles refl)).0
+    (record { user_id = low; heap_type = omega arith }) (λ _. refl) empty-heap
 effect-valid (edits.FreeBlock b) d low valid none =
     let cs : Conditions = conditions (edits.FreeBlock b) d in
     without_block-valid d b.0 valid (eqb-false d.map_block b.0 (or_none (none_applies cs none IsMap refl)).0)
@@ -55,20 +56,30 @@ effect-valid (edits.CopyBlock b) d low valid none =
     let old = valid.blocks b.0 there.0 there.1 in
     let same : block_at d b.0 ≡ there.0 = ap (λ (o : Option Block). unwrap_or o no_block) there.1 in
     makes_block-valid d (block_at d b.0) valid (or_none (none_applies cs none NoHandles refl)).0
-    (subst (λ (x : Block). FitAttributes x.attributes) (sym same) old.attributes) (subst (λ (x : Block). is_valid_body x.body ≡ true) (sym same) old.body)
+    (subst (λ (x : Block). FitAttributes x.attributes) (sym same) old.attributes) (subst (λ (x : Block). IsTyped (is_heap_body x.body) x.attributes) (sym same) old.typed)
+    (subst (λ (x : Block). is_valid_body x.body ≡ true) (sym same) old.body)
 effect-valid (edits.WriteRaw b at bytes) d low valid none =
     let cs : Conditions = conditions (edits.WriteRaw b at bytes) d in
     let live = not_false (is_live d b.0) (or_none (none_applies cs none NoBlock refl)).0 in
+    let raw = not_false (is_raw d b.0) (or_none (none_applies cs none WrongKind refl)).0 in
     let within = ltb-false (length (raw_bytes_of d b.0)) (at + length bytes) (or_none (none_applies cs none Range refl)).0 in
     let same = length-written (raw_bytes_of d b.0) at bytes within in
     let few = raw_bytes-few d b.0 valid in
-    with_body-valid d b.0 (Raw (written (raw_bytes_of d b.0) at bytes)) valid live
+    with_body-valid d b.0 (Raw (written (raw_bytes_of d b.0) at bytes)) valid live (λ _. raw-typed d b.0 valid raw)
     (le-leb (length (written (raw_bytes_of d b.0) at bytes)) 65520 (omega (arith, same, few)))
 effect-valid (edits.Attach b bytes) d low valid none =
     let cs : Conditions = conditions (edits.Attach b bytes) d in
     let live = not_false (is_live d b.0) (or_none (none_applies cs none NoBlock refl)).0 in
-    with_body-valid d b.0 (Raw bytes) valid live (le-leb (length bytes) 65520 (ltb-false 65520 (length bytes) (or_none (none_applies cs none TooBig refl)).0))
-effect-valid (edits.SetUserId b uid) d low valid none = with_attributes-valid d b.0 (record (attributes_of d b.0) { user_id = uid }) valid low
+    let raw = not_false (is_raw d b.0) (or_none (none_applies cs none WrongKind refl)).0 in
+    with_body-valid d b.0 (Raw bytes) valid live (λ _. raw-typed d b.0 valid raw) (le-leb (length bytes) 65520 (ltb-false 65520 (length bytes) (or_none (none_applies cs none TooBig refl)).0))
+effect-valid (edits.SetUserId b uid) d low valid none =
+    with_attributes-valid d b.0 (record (attributes_of d b.0) { user_id = uid }) valid (record { user_id = low; heap_type = (attributes-fit d b.0 valid).heap_type })
+    (λ raw. attributes-typed d b.0 valid raw)
+effect-valid (edits.SetType b heap_type) d low valid none =
+    let cs : Conditions = conditions (edits.SetType b heap_type) d in
+    let heap = not_false (is_heap d b.0) (or_none (none_applies cs none WrongKind refl)).0 in
+    with_attributes-valid d b.0 (record (attributes_of d b.0) { heap_type = heap_type }) valid (record { user_id = (attributes-fit d b.0 valid).user_id; heap_type = low })
+    (λ raw. absurd (true≢false (sym heap ∙ raw)))
 effect-valid (edits.SetMap b) d low valid none =
     let cs : Conditions = conditions (edits.SetMap b) d in
     with_map-valid d b.0 valid (or_none (none_applies cs none NoBlock refl)).0
@@ -208,7 +219,7 @@ recorded-valid (Some g) kind n d m valid is good locks = record {
   locks = locks (recorded (Some g) kind n d m) refl refl refl;
 }
 
-edited-valid : (e : Edit) (m : Machine) → user_id_given e < 65536 → IsValidMachine m → is_barred e m ≡ false → first_refusal (conditions e m.document) ≡ None → IsValidMachine (edited e m).1
+edited-valid : (e : Edit) (m : Machine) → word_given e < 65536 → IsValidMachine m → is_barred e m ≡ false → first_refusal (conditions e m.document) ≡ None → IsValidMachine (edited e m).1
 edited-valid e m low valid free none =
     let after : Document = (effect e m.document).0 in
     recorded-valid m.group (kind_of e) (cost e m.document after) after m valid refl (effect-valid e m.document low valid.document none)
@@ -249,7 +260,7 @@ stays-valid : (m : Machine) (o : Option (Reply × Machine)) → IsValidMachine m
 stays-valid m None valid stays = tt
 stays-valid m (Some (reply, new)) valid stays = subst IsValidMachine (sym stays) valid
 
-done_by-valid : (c : Command) (m : Machine) → user_id_asked (Some c) < 65536 → IsValidMachine m → first_refusal (command_conditions c m) ≡ None → OnDone IsLeftValid (done_by c m)
+done_by-valid : (c : Command) (m : Machine) → word_asked (Some c) < 65536 → IsValidMachine m → first_refusal (command_conditions c m) ≡ None → OnDone IsLeftValid (done_by c m)
 done_by-valid (commands.Edit e) m low valid none =
     let free = (or_none (none_applies (command_conditions (commands.Edit e) m) none Locked refl)).0 in
     edited-valid e m low valid free (edit-accepted e m none)
@@ -331,13 +342,13 @@ answered-valid : (refusal : Option Fault) (m new : Machine) (o : Option (Reply �
 answered-valid (Some fault) m new o reply valid left is = subst IsValidMachine (same_machine is) valid
 answered-valid None m new o reply valid left is = on_done IsLeftValid o reply new (left refl) is
 
-step-valid : (old new : Machine) (request : Request) (reply : Reply) (failed : Bool) → user_id_asked request < 65536 → IsValidMachine old → Step failed old request reply new → IsValidMachine new
+step-valid : (old new : Machine) (request : Request) (reply : Reply) (failed : Bool) → word_asked request < 65536 → IsValidMachine old → Step failed old request reply new → IsValidMachine new
 step-valid old new None reply failed low valid (inl is) = subst IsValidMachine (same_machine is) valid
 step-valid old new (Some c) reply failed low valid (inl is) =
     answered-valid (first_refusal (command_conditions c old)) old new (done_by c old) reply valid (done_by-valid c old low valid) is
 step-valid old new request reply failed low valid (inr out) = subst IsValidMachine (sym out.stays) valid
 
-run-valid : (old new : Machine) (calls : List Call) → All (λ c. user_id_asked c.request < 65536) calls → IsValidMachine old → Run old calls new → IsValidMachine new
+run-valid : (old new : Machine) (calls : List Call) → All (λ c. word_asked c.request < 65536) calls → IsValidMachine old → Run old calls new → IsValidMachine new
 run-valid old new [] low valid run = subst IsValidMachine (sym run) valid
 run-valid old new (c ∷ cs) low valid run =
     run-valid run.0 new cs (λ k d l. low (suc k) d (omega arith)) (step-valid old run.0 c.request c.reply c.failed (low 0 c (omega arith)) valid run.1) run.2

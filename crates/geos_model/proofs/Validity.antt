@@ -1,6 +1,6 @@
 -- Documents after one change are valid, and so they are where nothing refuses an edit of a chunk.
 use Rattle.std.proofs.Common.{◌≡◌, ◌≢◌, ℕ, zero, suc, ◌+◌, ◌-◌, ◌<◌, ◌≤◌, Bool, true, false, not, ◌==◌, ◌&&◌, List, [], ◌∷◌, ◌++◌, length, take, drop, Option, Some, None, is_some, is_none, find, nat_cmp, unwrap_or, refl, sym, ap, subst, ◌∙◌, inl, inr, arith, le-leb, leb-true, ltb-false, length-append, length-drop, length-take-le}
-use Rattle.std.proofs.lemmas.Bool.{cases_Bool, cases_eq, cond-true, cond-false, eqb-true, and_from}
+use Rattle.std.proofs.lemmas.Bool.{cases_Bool, cases_eq, cond-true, cond-false, eqb-true, and_from, not-true}
 use Rattle.std.proofs.lemmas.List.Folds.{list_any-append}
 use Rattle.std.specs.List.{range_with_len, splice}
 use Rattle.std.specs.Option.{option_map_or}
@@ -8,7 +8,7 @@ use Rattle.std.specs.FinMap.{get, empty, get-empty, insert, remove, contains_key
 use Rattle.geos_model.specs.Refusal.{Conditions, number_of_fault, applies, first_refusal}
 use Rattle.geos_model.specs.Bytes.{written, deleted}
 use Rattle.geos_model.specs.Heap.{capacity, is_chunk_handle, is_heap_map, fits_with, fits_new}
-use Rattle.geos_model.specs.Document.{Block, Document, empty_document, is_vm_handle, vm_handles, next_handle, is_valid_body, is_heap_body, chunks_of_body, bytes_of_body, is_live, is_heap, chunks_of, raw_bytes_of, attributes_of, with_block, without_block, with_body, with_attributes, no_attributes, most_blocks, FitAttributes, IsValidBlock, IsValid}
+use Rattle.geos_model.specs.Document.{Block, Document, empty_document, is_vm_handle, vm_handles, next_handle, is_valid_body, is_heap_body, chunks_of_body, bytes_of_body, is_live, is_heap, chunks_of, raw_bytes_of, attributes_of, is_raw, with_block, without_block, with_body, with_attributes, no_attributes, most_blocks, FitAttributes, IsTyped, IsValidBlock, IsValid}
 use Rattle.geos_model.specs.Meaning.{chunk_at, with_chunk, without_chunk, past_end, new_chunk, makes_block, makes_chunk, on_chunk, on_new_chunk, on_new_bytes}
 use Rattle.geos_model.specs.declared.fault.Fault.TheVariants.{NoBlock, NoChunk, WrongKind, Full, Range}
 use Rattle.geos_model.specs.declared.block.Attributes.{Attributes}
@@ -60,26 +60,51 @@ without_block-valid d h valid other = record {
   map_block = λ some. ap is_some (get-taken_other d.blocks h d.map_block other) ∙ valid.map_block some;
 }
 
--- with a body of a live block
-pub with_body-valid : (d : Document) (h : ℕ) (body : Body) → IsValid d → is_live d h ≡ true → is_valid_body body ≡ true → IsValid (with_body d h body)
-with_body-valid d h body valid live good =
+-- The attributes of any block of a valid document are words, and only a heap has a type.
+
+pub attributes-fit : (d : Document) (h : ℕ) → IsValid d → FitAttributes (attributes_of d h)
+attributes-fit d h valid = by_block (get d.blocks h) (λ b is. (valid.blocks h b is).attributes)
+  where
+    by_block : (o : Option Block) → ((b : Block) → o ≡ Some b → FitAttributes b.attributes) → FitAttributes (option_map_or (λ b. b.attributes) o no_attributes)
+    by_block None fit = record { user_id = omega arith; heap_type = omega arith }
+    by_block (Some b) fit = fit b refl
+
+pub attributes-typed : (d : Document) (h : ℕ) → IsValid d → IsTyped (is_heap d h) (attributes_of d h)
+attributes-typed d h valid = by_block (get d.blocks h) (λ b is. (valid.blocks h b is).typed)
+  where
+    by_block : (o : Option Block) → ((b : Block) → o ≡ Some b → IsTyped (is_heap_body b.body) b.attributes)
+        → IsTyped (option_map_or (λ b. is_heap_body b.body) o false) (option_map_or (λ b. b.attributes) o no_attributes)
+    by_block None typed = λ _. refl
+    by_block (Some b) typed = typed b refl
+
+pub raw-typed : (d : Document) (h : ℕ) → IsValid d → is_raw d h ≡ true → (attributes_of d h).heap_type ≡ 0
+raw-typed d h valid raw = attributes-typed d h valid (by_block (get d.blocks h) raw)
+  where
+    by_block : (o : Option Block) → option_map_or (λ b. not (is_heap_body b.body)) o false ≡ true → option_map_or (λ b. is_heap_body b.body) o false ≡ false
+    by_block None raw = refl
+    by_block (Some b) raw = not-true (is_heap_body b.body) raw
+
+-- with a body of a live block, of a kind that can have its type
+pub with_body-valid : (d : Document) (h : ℕ) (body : Body) → IsValid d → is_live d h ≡ true → IsTyped (is_heap_body body) (attributes_of d h) → is_valid_body body ≡ true → IsValid (with_body d h body)
+with_body-valid d h body valid live typed good =
     let there = block_there (get d.blocks h) live in
     let old = valid.blocks h there.0 there.1 in
     with_block-valid d h (record { attributes = attributes_of d h; body = body }) valid (record {
       handle = old.handle;
       attributes = subst (λ (o : Option Block). FitAttributes (option_map_or (λ b. b.attributes) o no_attributes)) (sym there.1) old.attributes;
       body = good;
+      typed = typed;
     })
 
--- with attributes of a block, if it is live
-pub with_attributes-valid : (d : Document) (h : ℕ) (a : Attributes) → IsValid d → FitAttributes a → IsValid (with_attributes d h a)
-with_attributes-valid d h a valid fit = by_block (get d.blocks h) refl
+-- with attributes of a block, if it is live, which it can have
+pub with_attributes-valid : (d : Document) (h : ℕ) (a : Attributes) → IsValid d → FitAttributes a → IsTyped (is_heap d h) a → IsValid (with_attributes d h a)
+with_attributes-valid d h a valid fit typed = by_block (get d.blocks h) refl typed
   where
-    by_block : (o : Option Block) → get d.blocks h ≡ o → IsValid (option_map_or (λ b. with_block d h (record b { attributes = a })) o d)
-    by_block None is = valid
-    by_block (Some b) is =
+    by_block : (o : Option Block) → get d.blocks h ≡ o → IsTyped (option_map_or (λ b. is_heap_body b.body) o false) a → IsValid (option_map_or (λ b. with_block d h (record b { attributes = a })) o d)
+    by_block None is typed = valid
+    by_block (Some b) is typed =
         let old = valid.blocks h b is in
-        with_block-valid d h (record b { attributes = a }) valid (record { handle = old.handle; attributes = fit; body = old.body })
+        with_block-valid d h (record b { attributes = a }) valid (record { handle = old.handle; attributes = fit; body = old.body; typed = typed })
 
 -- with another map block
 pub with_map-valid : (d : Document) (h : ℕ) → IsValid d → (not (h == 0) && not (is_live d h)) ≡ false → IsValid (record d { map_block = h })
@@ -108,9 +133,10 @@ next_handle-valid d h is =
     and_from _ _ (le-leb 1 h within.0) (le-leb h most_blocks (omega (arith, within.1)))
 
 -- with a block that is made
-pub makes_block-valid : (d : Document) (b : Block) → IsValid d → is_none (next_handle d) ≡ false → FitAttributes b.attributes → is_valid_body b.body ≡ true → IsValid (makes_block d b).0
-makes_block-valid d b valid free low good =
-    with_block-valid d (unwrap_or (next_handle d) 0) b valid (record { handle = by_next (next_handle d) (next_handle-valid d) free; attributes = low; body = good })
+pub makes_block-valid : (d : Document) (b : Block) → IsValid d → is_none (next_handle d) ≡ false → FitAttributes b.attributes → IsTyped (is_heap_body b.body) b.attributes
+    → is_valid_body b.body ≡ true → IsValid (makes_block d b).0
+makes_block-valid d b valid free low typed good =
+    with_block-valid d (unwrap_or (next_handle d) 0) b valid (record { handle = by_next (next_handle d) (next_handle-valid d) free; attributes = low; body = good; typed = typed })
   where
     by_next : (o : Option ℕ) → ((h : ℕ) → o ≡ Some h → is_vm_handle h ≡ true) → is_none o ≡ false → is_vm_handle (unwrap_or o 0) ≡ true
     by_next None handle free = absurd (cc free)
@@ -171,7 +197,7 @@ module _ (d : Document) (valid : IsValid d) (b : ℕ) where
   -- other bytes of a chunk
   with_chunk-valid : (c : ℕ) (bytes : List ℕ) → is_live d b ≡ true → is_heap d b ≡ true → is_chunk_handle c ≡ true → fits_with (chunks_of d b) c bytes ≡ true → IsValid (with_chunk d b c bytes)
   with_chunk-valid c bytes live heap handle room =
-      with_body-valid d b (Heap (insert (chunks_of d b) c bytes)) valid live (heap-insert (chunks_of d b) c bytes (chunks-heap d b valid heap) handle room)
+      with_body-valid d b (Heap (insert (chunks_of d b) c bytes)) valid live (λ raw. absurd (cc raw)) (heap-insert (chunks_of d b) c bytes (chunks-heap d b valid heap) handle room)
 
   -- a chunk that is there has a chunk handle
   pub chunk_handle : (c : ℕ) → is_heap d b ≡ true → contains_key (chunks_of d b) c ≡ true → is_chunk_handle c ≡ true
@@ -215,7 +241,7 @@ module _ (d : Document) (valid : IsValid d) (b : ℕ) where
       let cs : Conditions = on_chunk d b c in
       let live = not_false (is_live d b) (or_none (none_applies cs none NoBlock refl)).0 in
       let heap = not_false (is_heap d b) (or_none (none_applies cs none WrongKind refl)).0 in
-      with_body-valid d b (Heap (remove (chunks_of d b) c)) valid live (heap-remove (chunks_of d b) c (chunks-heap d b valid heap))
+      with_body-valid d b (Heap (remove (chunks_of d b) c)) valid live (λ raw. absurd (cc raw)) (heap-remove (chunks_of d b) c (chunks-heap d b valid heap))
 
 -- a heap without chunks is a heap
 pub empty-heap : is_heap_map empty ≡ true

@@ -32,7 +32,7 @@ images_length blocks = sum_by (λ p. length (image p.1.body)) blocks
 abbrev pub both_lengths : Document → Document → ℕ → ℕ → ℕ
 both_lengths before after b c = length (chunk_at before b c) + length (chunk_at after b c)
 
--- For a user ID or the map block nothing. For blocks made or freed the lengths of their images, for a chunk made or freed its bytes. For a write twice the bytes
+-- For a user ID, a type or the map block nothing. For blocks made or freed the lengths of their images, for a chunk made or freed its bytes. For a write twice the bytes
 -- written, for other changes within a chunk the bytes that it gains or loses; for a raw body replaced the old and the new one; for an edit of an array all bytes of its
 -- chunk before and after.
 abbrev pub cost : Edit → Document → Document → ℕ
@@ -43,6 +43,7 @@ cost (edits.CopyBlock b) before after = image_length before b.0
 cost (edits.WriteRaw b at bytes) before after = 2 * length bytes
 cost (edits.Attach b bytes) before after = length (raw_bytes_of before b.0) + length bytes
 cost (edits.SetUserId b uid) before after = 0
+cost (edits.SetType b heap_type) before after = 0
 cost (edits.SetMap b) before after = 0
 cost (edits.Alloc b n) before after = n
 cost (edits.Free b c) before after = length (chunk_at before b.0 c.0)

@@ -16,7 +16,7 @@ pub record Block : Type 0 where
 
 -- those of no block, and an empty raw block with them
 abbrev pub no_attributes : Attributes
-no_attributes = record { user_id = 0 }
+no_attributes = record { user_id = 0; heap_type = 0 }
 
 abbrev pub no_block : Block
 no_block = record { attributes = no_attributes; body = Raw [] }
@@ -39,6 +39,10 @@ vm_handles = range_with_len 1 most_blocks
 abbrev pub is_vm_handle : ℕ → Bool
 is_vm_handle h = nat_le 1 h && nat_le h most_blocks
 
+abbrev pub is_heap_body : Body → Bool
+is_heap_body (Raw bytes) = false
+is_heap_body (Heap m) = true
+
 -- a body that can be
 abbrev pub is_valid_body : Body → Bool
 is_valid_body (Raw bytes) = nat_le (length bytes) capacity
@@ -52,14 +56,20 @@ abbrev pub is_live : Document → ℕ → Bool
 is_live d h = contains_key d.blocks h
 
 -- attributes whose numbers are words
-abbrev pub FitAttributes : Attributes → Type 0
-FitAttributes a = a.user_id < 65536
+pub record FitAttributes (a : Attributes) : Type 0 where
+  pub user_id : a.user_id < 65536
+  pub heap_type : a.heap_type < 65536
+
+-- a heap can have any type, and what is none has the type 0
+abbrev pub IsTyped : Bool → Attributes → Type 0
+IsTyped is_heap a = is_heap ≡ false → a.heap_type ≡ 0
 
 -- a block that can be under a handle
 pub record IsValidBlock (h : ℕ) (b : Block) : Type 0 where
   pub handle : is_vm_handle h ≡ true
   pub attributes : FitAttributes b.attributes
   pub body : is_valid_body b.body ≡ true
+  pub typed : IsTyped (is_heap_body b.body) b.attributes
 
 -- A document that can be: each block is valid, and the map block is 0 or live.
 pub record IsValid (d : Document) : Type 0 where
@@ -75,10 +85,6 @@ chunks_of_body (Heap m) = m
 abbrev pub bytes_of_body : Body → List ℕ
 bytes_of_body (Raw bytes) = bytes
 bytes_of_body (Heap m) = []
-
-abbrev pub is_heap_body : Body → Bool
-is_heap_body (Raw bytes) = false
-is_heap_body (Heap m) = true
 
 abbrev pub is_heap : Document → ℕ → Bool
 is_heap d h = option_map_or (λ b. is_heap_body b.body) (get d.blocks h) false
@@ -98,6 +104,9 @@ attributes_of d h = option_map_or (λ b. b.attributes) (get d.blocks h) no_attri
 
 abbrev pub user_id_of : Document → ℕ → ℕ
 user_id_of d h = (attributes_of d h).user_id
+
+abbrev pub heap_type_of : Document → ℕ → ℕ
+heap_type_of d h = (attributes_of d h).heap_type
 
 -- the block under a handle; where none is live, an empty raw one
 abbrev pub block_at : Document → ℕ → Block
@@ -127,9 +136,12 @@ without_blocks d (h ∷ hs) = without_blocks (without_block d h) hs
 abbrev pub with_body : Document → ℕ → Body → Document
 with_body d h body = with_block d h (record { attributes = attributes_of d h; body = body })
 
--- the document with these attributes of a block, if it is live, and with this user ID
+-- the document with these attributes of a block, if it is live, with this user ID, and with this type
 abbrev pub with_attributes : Document → ℕ → Attributes → Document
 with_attributes d h attributes = option_map_or (λ b. with_block d h (record b { attributes = attributes })) (get d.blocks h) d
 
 abbrev pub with_user_id : Document → ℕ → ℕ → Document
 with_user_id d h uid = with_attributes d h (record (attributes_of d h) { user_id = uid })
+
+abbrev pub with_heap_type : Document → ℕ → ℕ → Document
+with_heap_type d h heap_type = with_attributes d h (record (attributes_of d h) { heap_type = heap_type })

@@ -1,4 +1,5 @@
--- A document file: two slots, of which one counts and names the directories of the updated and of the saved document.
+-- A document file: two slots, of which one counts and names the directories of the updated and of the saved document. The file is of the
+-- version of the slot that counts, 1 or 2; a directory has a version of its own.
 use Rattle.std.specs.Prelude.{ℕ, List, [], ◌∷◌, ◌++◌, ◌+◌, ◌*◌, ◌/◌, Bool, true, not, ◌==◌, ◌&&◌, ◌||◌, nat_le, nat_lt, length, map, take, drop, slice_index, if◌then◌else◌, Option, Some, None, Result, Ok, Err}
 use Rattle.std.specs.List.{range_with_len, flat_map, list_all, list_any}
 use Rattle.std.specs.Option.{option_and_then, option_map}
@@ -6,9 +7,10 @@ use Rattle.std.specs.FinMap.{from_entries}
 use Rattle.geos_model.specs.Bytes.{same_bytes}
 use Rattle.geos_model.specs.Words.{word, double_word, quad_word, word_at, double_word_at, quad_word_at}
 use Rattle.geos_model.specs.Heap.{capacity}
-use Rattle.geos_model.specs.Document.{Block, Document, most_blocks}
+use Rattle.geos_model.specs.Document.{Block, Document, most_blocks, is_heap_body}
 use Rattle.geos_model.specs.Image.{body_of}
-use Rattle.geos_model.specs.declared.limit.TheConstants.{LAST_PAGE}
+use Rattle.geos_model.specs.declared.command.Body.{Body}
+use Rattle.geos_model.specs.declared.limit.TheConstants.{LAST_PAGE, LAST_PAGE_OF_VERSION_1, MOST_BLOCKS_OF_VERSION_1}
 use Rattle.geos_model.specs.declared.fault.Fault.{Fault}
 use Rattle.geos_model.specs.declared.fault.Fault.TheVariants.{NotDocument, Damaged}
 use Rattle.geos_model.specs.declared.file.Extent.{Extent}
@@ -25,17 +27,20 @@ pages_of n = (n + 511) / 512
 abbrev pub end_page : Extent → ℕ
 end_page e = e.page + pages_of e.length
 
--- the first page that can't be used
+-- the first page that can't be used, and that in a file of a version
 abbrev pub last_page : ℕ
 last_page = LAST_PAGE
+
+abbrev pub last_page_of : ℕ → ℕ
+last_page_of version = if version == 1 then LAST_PAGE_OF_VERSION_1 else last_page
 
 -- the bytes of an extent
 abbrev pub bytes_in : List ℕ → Extent → List ℕ
 bytes_in file e = take e.length (drop (512 * e.page) file)
 
--- in a file of so many bytes, behind its slots, on pages that can be used
-abbrev pub is_in_file : ℕ → Extent → Bool
-is_in_file file_length e = nat_le 2 e.page && nat_le (512 * e.page + e.length) file_length && nat_le (end_page e) last_page
+-- in a file of a version and of so many bytes, behind its slots, on pages that can be used
+abbrev pub is_in_file : ℕ → ℕ → Extent → Bool
+is_in_file version file_length e = nat_le 2 e.page && nat_le (512 * e.page + e.length) file_length && nat_le (end_page e) (last_page_of version)
 
 abbrev pub extent_text : Extent → List ℕ
 extent_text e = double_word e.page ++ double_word e.length
@@ -79,8 +84,9 @@ open_slot file page = option_and_then if_open (slot_of (take 32 (drop (512 * pag
 
 -- Directories.
 
--- what a directory says of a document: its map block, 0 for none, and its blocks
+-- what a directory says of a document: its map block, 0 for none, and its blocks. In one of version 1 no heap has a type.
 pub record Directory : Type 0 where
+  pub version : ℕ
   pub map_block : ℕ
   pub entries : List Entry
 
@@ -88,27 +94,41 @@ pub record Directory : Type 0 where
 abbrev pub directory_mark : List ℕ
 directory_mark = 0x47 ∷ 0x44 ∷ 0x49 ∷ 0x52 ∷ []
 
--- 16 bytes
-abbrev pub entry_text : Entry → List ℕ
-entry_text e = word e.handle.0 ++ word e.attributes.user_id ++ extent_text e.extent ++ 0 ∷ 0 ∷ 0 ∷ 0 ∷ []
+-- the type of a heap, for which version 1 has zeros
+abbrev pub type_text : ℕ → ℕ → List ℕ
+type_text version heap_type = if version == 1 then 0 ∷ 0 ∷ [] else word heap_type
 
--- before the entries: 16 bytes, with a version, the count of the entries and the map block
-abbrev pub header_text : ℕ → ℕ → List ℕ
-header_text count map_block = directory_mark ++ word 1 ++ word count ++ word map_block ++ 0 ∷ 0 ∷ 0 ∷ 0 ∷ 0 ∷ 0 ∷ []
+-- 16 bytes, in a directory of a version
+abbrev pub entry_text : ℕ → Entry → List ℕ
+entry_text version e = word e.handle.0 ++ word e.attributes.user_id ++ extent_text e.extent ++ type_text version e.attributes.heap_type ++ 0 ∷ 0 ∷ []
+
+-- before the entries: 16 bytes, with the version, the count of the entries and the map block
+abbrev pub header_text : ℕ → ℕ → ℕ → List ℕ
+header_text version count map_block = directory_mark ++ word version ++ word count ++ word map_block ++ 0 ∷ 0 ∷ 0 ∷ 0 ∷ 0 ∷ 0 ∷ []
 
 abbrev pub directory_text : Directory → List ℕ
-directory_text d = header_text (length d.entries) d.map_block ++ flat_map entry_text d.entries
+directory_text d = header_text d.version (length d.entries) d.map_block ++ flat_map (entry_text d.version) d.entries
 
--- the fields of an entry's text
-abbrev pub entry_read : List ℕ → Entry
-entry_read bytes = record { handle = record { 0 = word_at bytes 0 }; attributes = record { user_id = word_at bytes 2 }; extent = extent_at bytes 4 }
+-- the type at a place of a directory of a version
+abbrev pub type_at : ℕ → List ℕ → ℕ → ℕ
+type_at version bytes at = if version == 1 then 0 else word_at bytes at
+
+-- the fields of an entry's text, in a directory of a version
+abbrev pub entry_read : ℕ → List ℕ → Entry
+entry_read version bytes =
+    record {
+      handle = record { 0 = word_at bytes 0 };
+      attributes = record { user_id = word_at bytes 2; heap_type = type_at version bytes 12 };
+      extent = extent_at bytes 4;
+    }
 
 -- the fields of a directory's text
 abbrev pub directory_read : List ℕ → Directory
 directory_read bytes =
     record {
+      version = word_at bytes 4;
       map_block = word_at bytes 8;
-      entries = map (λ i. entry_read (drop (16 + 16 * i) bytes)) (range_with_len 0 (word_at bytes 6));
+      entries = map (λ i. entry_read (word_at bytes 4) (drop (16 + 16 * i) bytes)) (range_with_len 0 (word_at bytes 6));
     }
 
 -- the handles rise from above a number
@@ -123,37 +143,51 @@ longest_image = capacity + 1
 abbrev pub longest_directory : ℕ
 longest_directory = 16 + 16 * most_blocks
 
--- an entry that can stand in a file of so many bytes
-abbrev pub is_entry : ℕ → Entry → Bool
-is_entry file_length e =
-    nat_le e.handle.0 most_blocks && nat_le 1 e.extent.length && nat_le e.extent.length longest_image && is_in_file file_length e.extent
+-- the greatest handle in a directory of a version
+abbrev pub greatest_handle : ℕ → ℕ
+greatest_handle version = if version == 1 then MOST_BLOCKS_OF_VERSION_1 else most_blocks
+
+-- an entry of a directory of the last of these versions that can stand in a file of the first one and of so many bytes
+abbrev pub is_entry : ℕ → ℕ → ℕ → Entry → Bool
+is_entry file_version file_length version e =
+    nat_le e.handle.0 (greatest_handle version) && nat_le 1 e.extent.length && nat_le e.extent.length longest_image && is_in_file file_version file_length e.extent
 
 -- the map block is none or listed
 abbrev pub is_map_block : ℕ → List Entry → Bool
 is_map_block map_block entries = map_block == 0 || list_any (λ e. e.handle.0 == map_block) entries
 
--- a directory that can stand in a file of so many bytes
-abbrev pub is_directory : ℕ → Directory → Bool
-is_directory file_length d = is_rising 0 d.entries && list_all (is_entry file_length) d.entries && is_map_block d.map_block d.entries
+-- a directory has version 1 or 2; in a file of version 1 it has version 1
+abbrev pub is_version_in : ℕ → ℕ → Bool
+is_version_in file_version version = version == 1 || (version == 2 && file_version == 2)
 
--- the directory whose text these bytes are, if they are the text of one that can stand in a file of so many bytes
-abbrev pub directory_in : ℕ → List ℕ → Option Directory
-directory_in file_length bytes =
+-- a directory that can stand in a file of a version and of so many bytes
+abbrev pub is_directory : ℕ → ℕ → Directory → Bool
+is_directory file_version file_length d =
+    is_version_in file_version d.version && is_rising 0 d.entries && list_all (is_entry file_version file_length d.version) d.entries && is_map_block d.map_block d.entries
+
+-- the directory whose text these bytes are, if they are the text of one that can stand in a file of a version and of so many bytes
+abbrev pub directory_in : ℕ → ℕ → List ℕ → Option Directory
+directory_in file_version file_length bytes =
     let d = directory_read bytes in
-    if is_directory file_length d && same_bytes (directory_text d) bytes then Some d else None
+    if is_directory file_version file_length d && same_bytes (directory_text d) bytes then Some d else None
 
--- the directory in an extent
-abbrev pub directory_of : List ℕ → Extent → Option Directory
-directory_of file e = if is_in_file (length file) e then directory_in (length file) (bytes_in file e) else None
+-- the directory in an extent of a file of a version
+abbrev pub directory_of : ℕ → List ℕ → Extent → Option Directory
+directory_of version file e = if is_in_file version (length file) e then directory_in version (length file) (bytes_in file e) else None
 
 -- Documents.
 
 abbrev pub prepended : Option (ℕ × Block) → Option (List (ℕ × Block)) → Option (List (ℕ × Block))
 prepended block blocks = option_and_then (λ b. option_map (λ bs. b ∷ bs) blocks) block
 
--- the block of an entry, where its extent has the image of a body
+-- the body, where it is a heap or no type is given: a raw body has none
+abbrev pub if_typed : ℕ → Body → Option Body
+if_typed heap_type body = if is_heap_body body || heap_type == 0 then Some body else None
+
+-- the block of an entry, where its extent has the image of a body that can have its type
 abbrev pub block_of : List ℕ → Entry → Option (ℕ × Block)
-block_of file e = option_map (λ body. (e.handle.0, record { attributes = e.attributes; body = body })) (body_of (bytes_in file e.extent))
+block_of file e =
+    option_map (λ body. (e.handle.0, record { attributes = e.attributes; body = body })) (option_and_then (if_typed e.attributes.heap_type) (body_of (bytes_in file e.extent)))
 
 -- the blocks of these entries, where each of them has one
 abbrev pub blocks_of : List ℕ → List Entry → Option (List (ℕ × Block))
@@ -163,9 +197,9 @@ blocks_of file (e ∷ es) = prepended (block_of file e) (blocks_of file es)
 abbrev pub document_of : List ℕ → Directory → Option Document
 document_of file d = option_map (λ blocks. record { blocks = from_entries blocks; map_block = d.map_block }) (blocks_of file d.entries)
 
--- the document of the directory in an extent
-abbrev pub document_at : List ℕ → Extent → Option Document
-document_at file e = option_and_then (document_of file) (directory_of file e)
+-- the document of the directory in an extent of a file of a version
+abbrev pub document_at : ℕ → List ℕ → Extent → Option Document
+document_at version file e = option_and_then (document_of file) (directory_of version file e)
 
 -- What a file stands for.
 
@@ -184,9 +218,9 @@ both (Some updated) None = Err Damaged
 -- the documents of a slot: the updated and the saved one
 abbrev pub pair_of : List ℕ → Slot → Result (Document × Document) Fault
 pair_of file s =
-    if not (s.version == 1) then Err NotDocument
+    if not (s.version == 1 || s.version == 2) then Err NotDocument
     else if not (s.reserved == 0) || s.sequence == 0 then Err Damaged
-    else both (document_at file s.working) (document_at file s.saved)
+    else both (document_at s.version file s.working) (document_at s.version file s.saved)
 
 abbrev pub pair_of_counting : List ℕ → Result Slot Fault → Result (Document × Document) Fault
 pair_of_counting file (Err fault) = Err fault

@@ -1,8 +1,8 @@
 -- Laws of document files.
 use Rattle.std.specs.Prelude.{◌≡◌, ◌+◌, ◌*◌, ◌^◌, ◌<◌, ◌≤◌, ℕ, List, All, true, Some, length, slice_index}
-use Rattle.geos_model.specs.Document.{Document, IsValid, FitAttributes, is_valid_body, most_blocks}
+use Rattle.geos_model.specs.Document.{Block, Document, IsValid, FitAttributes, IsTyped, is_valid_body, is_heap_body, most_blocks}
 use Rattle.geos_model.specs.Image.{image, body_of}
-use Rattle.geos_model.specs.File.{Directory, slot_text, slot_of, directory_text, directory_read, is_directory, directory_in, directory_of, document_at}
+use Rattle.geos_model.specs.File.{Directory, slot_text, slot_of, directory_text, directory_read, is_directory, directory_in, directory_of, document_at, if_typed}
 use Rattle.geos_model.specs.declared.command.Body.{Body}
 use Rattle.geos_model.specs.declared.file.Extent.{Extent}
 use Rattle.geos_model.specs.declared.file.Entry.{Entry}
@@ -26,7 +26,13 @@ pub record FitsEntry (e : Entry) : Type 0 where
   pub attributes : FitAttributes e.attributes
   pub extent : FitsExtent e.extent
 
+-- version 1 has no room for types
+abbrev pub FitTypes : ℕ → List Entry → Type 0
+FitTypes version entries = version ≡ 1 → All (λ e. e.attributes.heap_type ≡ 0) entries
+
 pub record FitsDirectory (d : Directory) : Type 0 where
+  pub version : d.version < 65536
+  pub types : FitTypes d.version d.entries
   pub map_block : d.map_block < 65536
   pub count : length d.entries < 65536
   pub entries : All FitsEntry d.entries
@@ -40,6 +46,8 @@ pub record FileLaw : Type 0 where
   -- What is read as a body is one that can be, and is read from its image alone.
   pub body : (bytes : List ℕ) (b : Body) → body_of bytes ≡ Some b → (is_valid_body b ≡ true) × (image b ≡ bytes)
   pub body_back : (b : Body) → is_valid_body b ≡ true → body_of (image b) ≡ Some b
+  -- A heap can stand under any type, and a raw body under none.
+  pub typed : (b : Block) → IsTyped (is_heap_body b.body) b.attributes → if_typed b.attributes.heap_type b.body ≡ Some b.body
   -- A slot's text has 32 bytes and is read back.
   pub slot_size : (s : Slot) → length (slot_text s) ≡ 32
   pub slot_back : (s : Slot) → FitsSlot s → slot_of (slot_text s) ≡ Some s
@@ -47,11 +55,15 @@ pub record FileLaw : Type 0 where
   pub directory_size : (d : Directory) → length (directory_text d) ≡ 16 + 16 * length d.entries
   pub directory_back : (d : Directory) → FitsDirectory d → directory_read (directory_text d) ≡ d
   -- What is read as a directory can stand in the file, has numbers that fit and at most as many entries as a document can have blocks, and is read from its text alone.
-  pub directory : (n : ℕ) (bytes : List ℕ) (d : Directory) → directory_in n bytes ≡ Some d
-      → (is_directory n d ≡ true) × (directory_text d ≡ bytes) × FitsDirectory d × (length d.entries ≤ most_blocks)
-  pub directory_reads : (n : ℕ) (d : Directory) → is_directory n d ≡ true → All (λ e. FitAttributes e.attributes) d.entries → directory_in n (directory_text d) ≡ Some d
+  pub directory : (version n : ℕ) (bytes : List ℕ) (d : Directory) → directory_in version n bytes ≡ Some d
+      → (is_directory version n d ≡ true) × (directory_text d ≡ bytes) × FitsDirectory d × (length d.entries ≤ most_blocks)
+  pub directory_reads : (version n : ℕ) (d : Directory) → is_directory version n d ≡ true → All (λ e. FitAttributes e.attributes) d.entries → FitTypes d.version d.entries
+      → directory_in version n (directory_text d) ≡ Some d
   -- A document that stands in a file is valid.
-  pub valid : (file : List ℕ) (e : Extent) (d : Document) → document_at file e ≡ Some d → IsValid d
+  pub valid : (version : ℕ) (file : List ℕ) (e : Extent) (d : Document) → document_at version file e ≡ Some d → IsValid d
   -- It stands for as long as the bytes of its directory and of its blocks stay.
-  pub kept : (old new : List ℕ) (e : Extent) (d : Directory) → directory_of old e ≡ Some d → Keeps old new e → All (λ entry. Keeps old new entry.extent) d.entries
-      → (directory_of new e ≡ Some d) × (document_at new e ≡ document_at old e)
+  pub kept : (version : ℕ) (old new : List ℕ) (e : Extent) (d : Directory) → directory_of version old e ≡ Some d → Keeps old new e → All (λ entry. Keeps old new entry.extent) d.entries
+      → (directory_of version new e ≡ Some d) × (document_at version new e ≡ document_at version old e)
+  -- What stands in a file of any version stands in one of version 2: a commit may keep the saved directory.
+  pub newer : (version : ℕ) (file : List ℕ) (e : Extent) (d : Directory) → directory_of version file e ≡ Some d
+      → (directory_of 2 file e ≡ Some d) × (document_at 2 file e ≡ document_at version file e)

@@ -102,6 +102,7 @@ kind_of (edits.CopyBlock b) = Made
 kind_of (edits.WriteRaw b at bytes) = In b
 kind_of (edits.Attach b bytes) = In b
 kind_of (edits.SetUserId b uid) = Plain
+kind_of (edits.SetType b heap_type) = Plain
 kind_of (edits.SetMap b) = Plain
 kind_of (edits.Alloc b n) = In b
 kind_of (edits.Free b c) = In b
@@ -139,7 +140,7 @@ abbrev pub needs_of_kind : Kind → Needs
 needs_of_kind (In b) = OneBody b.0
 needs_of_kind kind = NoBody
 
--- but those that free or copy blocks which are there; a user ID and the map block are set without a body
+-- but those that free or copy blocks which are there; a user ID, a type and the map block are set without a body
 abbrev pub edit_needs : Edit → Needs
 edit_needs (edits.FreeBlock b) = OneBody b.0
 edit_needs (edits.CopyBlock b) = OneBody b.0
@@ -382,6 +383,7 @@ takes_memory (commands.Unlock b) m = false
 takes_memory (commands.Dirty b) m = false
 takes_memory (commands.Locks b) m = false
 takes_memory (commands.Info b) m = true
+takes_memory (commands.HeapType b) m = false
 takes_memory commands.List m = true
 takes_memory (commands.Find uid start) m = false
 takes_memory commands.MapBlock m = false
@@ -405,13 +407,13 @@ takes_memory (commands.ChainEqual b other) m = true
 takes_memory commands.Undos m = false
 takes_memory commands.Redos m = false
 
--- whether a step is of a user ID or of the map block, so that no body is looked into
+-- whether a step is of a user ID, a type or the map block, so that no body is looked into
 abbrev pub is_of_no_body : Kind → Bool
 is_of_no_body Plain = true
 is_of_no_body kind = false
 
 -- What calls the store, or the target of a save-as: the commits, and all that may have to bring a block into memory, or another one out
--- of it. The list of blocks is known without, and so is what an edit of a user ID or of the map block changes.
+-- of it. The list of blocks is known without, and so is what an edit of a user ID, a type or the map block changes.
 abbrev pub calls_store : Command → Machine → Bool
 calls_store commands.List m = false
 calls_store (commands.Edit e) m = not (is_of_no_body (kind_of e))

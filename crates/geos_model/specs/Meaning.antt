@@ -10,7 +10,7 @@ use Rattle.geos_model.specs.ElementEdits.{no_slots, element_added, token_added, 
 use Rattle.geos_model.specs.NameArray.{name_bytes}
 use Rattle.geos_model.specs.NameEdits.{no_names, name_added, name_token_added, name_changed, name_reference_removed, on_name_token, create_names_conditions, add_name_conditions, change_name_conditions}
 use Rattle.geos_model.specs.Heap.{ChunkMap, capacity, next_chunk, chunk_bytes, fits_with, fits_new}
-use Rattle.geos_model.specs.Document.{Block, Document, block_at, with_block, without_block, with_blocks, without_blocks, with_body, with_user_id, is_live, is_heap, is_raw, chunks_of, raw_bytes_of, next_handle}
+use Rattle.geos_model.specs.Document.{Block, Document, block_at, with_block, without_block, with_blocks, without_blocks, with_body, with_user_id, with_heap_type, is_live, is_heap, is_raw, chunks_of, raw_bytes_of, next_handle}
 use Rattle.geos_model.specs.Chain.{chain_blocks, new_handles, copies_of, copy_conditions, free_conditions}
 use Rattle.geos_model.specs.declared.fault.Fault.TheVariants.{NoBlock, NoChunk, WrongKind, Full, TooBig, NoHandles, Range, IsMap}
 use Rattle.geos_model.specs.declared.command.Body.TheVariants.{Raw, Heap}
@@ -78,6 +78,7 @@ conditions (edits.CopyBlock b) d = on_block d b.0 ++ (NoHandles, is_none (next_h
 conditions (edits.WriteRaw b at bytes) d = on_raw d b.0 ++ past_end (raw_bytes_of d b.0) (at + length bytes)
 conditions (edits.Attach b bytes) d = on_raw d b.0 ++ too_big (length bytes)
 conditions (edits.SetUserId b uid) d = on_block d b.0
+conditions (edits.SetType b heap_type) d = on_heap d b.0
 conditions (edits.SetMap b) d = (NoBlock, not (b.0 == 0) && not (is_live d b.0)) ∷ []
 conditions (edits.Alloc b n) d = on_heap d b.0 ++ no_place (chunks_of d b.0) (replicate n 0)
 conditions (edits.Free b c) d = on_chunk d b.0 c.0
@@ -130,13 +131,14 @@ copies_blocks d hs = (with_blocks d (copies_of d hs), done.Block (record { 0 = g
 
 -- what an edit does that nothing refuses
 abbrev pub effect : Edit → Document → Document × Done
-effect (edits.NewRaw uid size) d = makes_block d (record { attributes = record { user_id = uid }; body = Raw (replicate size 0) })
-effect (edits.NewHeap uid) d = makes_block d (record { attributes = record { user_id = uid }; body = Heap empty })
+effect (edits.NewRaw uid size) d = makes_block d (record { attributes = record { user_id = uid; heap_type = 0 }; body = Raw (replicate size 0) })
+effect (edits.NewHeap uid) d = makes_block d (record { attributes = record { user_id = uid; heap_type = 0 }; body = Heap empty })
 effect (edits.FreeBlock b) d = (without_block d b.0, done.Nothing)
 effect (edits.CopyBlock b) d = makes_block d (block_at d b.0)
 effect (edits.WriteRaw b at bytes) d = (with_body d b.0 (Raw (written (raw_bytes_of d b.0) at bytes)), done.Nothing)
 effect (edits.Attach b bytes) d = (with_body d b.0 (Raw bytes), done.Nothing)
 effect (edits.SetUserId b uid) d = (with_user_id d b.0 uid, done.Nothing)
+effect (edits.SetType b heap_type) d = (with_heap_type d b.0 heap_type, done.Nothing)
 effect (edits.SetMap b) d = (record d { map_block = b.0 }, done.Nothing)
 effect (edits.Alloc b n) d = makes_chunk d b.0 (replicate n 0)
 effect (edits.Free b c) d = (without_chunk d b.0 c.0, done.Nothing)

@@ -8,7 +8,7 @@ use Rattle.geos_model.specs.ElementEdits.{elements_in, count_at, bytes_at, used_
 use Rattle.geos_model.specs.NameEdits.{names_in, token_of_text, text_at, part_at, on_name_token, find_conditions}
 use Rattle.geos_model.specs.Chain.{chain_blocks, bytes_in, same_shape, on_chain, on_chains}
 use Rattle.geos_model.specs.Heap.{need}
-use Rattle.geos_model.specs.Document.{Document, chunks_of, raw_bytes_of}
+use Rattle.geos_model.specs.Document.{Document, chunks_of, raw_bytes_of, heap_type_of}
 use Rattle.geos_model.specs.Meaning.{on_block, on_raw, on_heap, on_chunk, chunk_at}
 use Rattle.geos_model.specs.declared.fault.Fault.{Fault}
 use Rattle.geos_model.specs.declared.command.Body.{Body}
@@ -62,6 +62,7 @@ look_up_conditions (commands.NamePart b c t) d = on_chunk d b.0 c.0 ++ on_name_t
 look_up_conditions (commands.Walk b) d = on_chain d b.0
 look_up_conditions (commands.ChainSize b) d = on_chain d b.0
 look_up_conditions (commands.ChainEqual b other) d = on_chains d b.0 other.0
+look_up_conditions (commands.HeapType b) d = on_heap d b.0
 look_up_conditions commands.List d = []
 look_up_conditions (commands.Find uid start) d = []
 look_up_conditions commands.MapBlock d = []
@@ -95,6 +96,7 @@ found d uid start = option_map (λ e. e.0) (find (λ e. nat_lt start e.0 && (e.1
 -- what a look-up that nothing refuses answers of the document; what is no look-up, or asks of more than the document, has no answer here
 abbrev pub look_up : Command → Document → Option Reply
 look_up (commands.Info b) d = option_map (λ block. body_info block.attributes.user_id block.body) (get d.blocks b.0)
+look_up (commands.HeapType b) d = Some (NumberIs (heap_type_of d b.0))
 look_up commands.List d = Some (BlocksAre (keys d.blocks))
 look_up (commands.Find uid start) d = Some (BlockIs (unwrap_or (found d uid start.0) 0))
 look_up commands.MapBlock d = Some (BlockIs d.map_block)

@@ -61,6 +61,10 @@ number word = if nat_le 1 (length word) && nat_le (length word) 7 && list_all is
 abbrev pub user_id : List ℕ → Option ℕ
 user_id word = option_and_then (λ n. if nat_le n 65535 then Some n else None) (number word)
 
+-- a type is spelled so too
+abbrev pub heap_type : List ℕ → Option ℕ
+heap_type word = user_id word
+
 -- the bytes that pairs of hexadecimal digits spell
 abbrev pub if_spelled : Result (List ℕ) FromHexError → Option (List ℕ)
 if_spelled (Ok bytes) = Some bytes
@@ -126,6 +130,7 @@ commands_by_name =
     ∷ (codes "vwrite", with_3 block number bytes (λ b at bs. commands.Edit (edits.WriteRaw b at bs)))
     ∷ (codes "attach", with_2 block bytes (λ b bs. commands.Edit (edits.Attach b bs)))
     ∷ (codes "uid", with_2 block user_id (λ b u. commands.Edit (edits.SetUserId b u)))
+    ∷ (codes "settype", with_2 block heap_type (λ b t. commands.Edit (edits.SetType b t)))
     ∷ (codes "map", with_1 block (λ b. commands.Edit (edits.SetMap b)))
     ∷ (codes "alloc", with_2 block number (λ b n. commands.Edit (edits.Alloc b n)))
     ∷ (codes "free", with_2 block chunk (λ b c. commands.Edit (edits.Free b c)))
@@ -161,6 +166,7 @@ commands_by_name =
     ∷ (codes "revert", with_none commands.Revert)
     ∷ (codes "saveas", with_none commands.SaveAs)
     ∷ (codes "info", with_1 block (λ b. commands.Info b))
+    ∷ (codes "gettype", with_1 block (λ b. commands.HeapType b))
     ∷ (codes "list", with_none commands.List)
     ∷ (codes "find", with_2 user_id block (λ u b. commands.Find u b))
     ∷ (codes "mapblock", with_none commands.MapBlock)

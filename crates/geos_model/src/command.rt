@@ -12,11 +12,11 @@ pub enum Body {
 pub enum Edit {
     /// A new raw block with this user ID, of so many zeros.
     NewRaw(u16, u32),
-    /// A new empty heap, with this user ID.
+    /// A new empty heap, with this user ID and the type 0.
     NewHeap(u16),
     /// The block is freed.
     FreeBlock(VmHandle),
-    /// A new block with the same body and user ID.
+    /// A new block with the same body, user ID and type.
     CopyBlock(VmHandle),
     /// Bytes written over those of a raw block, from a place on.
     WriteRaw(VmHandle, u32, Bytes),
@@ -24,6 +24,8 @@ pub enum Edit {
     Attach(VmHandle, Bytes),
     /// The block gets this user ID.
     SetUserId(VmHandle, u16),
+    /// The heap gets this type.
+    SetType(VmHandle, u16),
     /// The block becomes the map block; with 0 there is none.
     SetMap(VmHandle),
     /// A new chunk of so many zeros.
@@ -88,7 +90,7 @@ pub enum Done {
 /// What kind of step an edit or a group of edits makes.
 #[derive(Clone, Copy, Debug, PartialEq, Eq)]
 pub enum Kind {
-    /// Of a user ID or the map block.
+    /// Of a user ID, a type or the map block.
     Plain,
     /// Of the body of one block.
     In(VmHandle),
@@ -130,6 +132,8 @@ pub enum Command {
     /// How often a block is locked.
     Locks(VmHandle),
     Info(VmHandle),
+    /// The type of a heap.
+    HeapType(VmHandle),
     List,
     /// The least handle above a start that has this user ID.
     Find(u16, VmHandle),

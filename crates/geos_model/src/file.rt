@@ -3,6 +3,9 @@ use crate::{Attributes, VmHandle};
 /// How many bytes of a file make a page.
 pub const PAGE: u32 = 512;
 
+/// The version of the format in which files are written. Those of version 1 are read.
+pub const VERSION: u8 = 2;
+
 /// Bytes of a file: all of its pages but for the end of the last, which may lie past the file's end.
 #[derive(Clone, Copy, Debug, PartialEq, Eq)]
 pub struct Extent {
@@ -26,7 +29,7 @@ pub struct Entry {
 pub struct Slot {
     /// 1 is open; any other value is closed.
     pub gate: u8,
-    /// That of the file's format: 1.
+    /// That of the file's format: 1 or 2.
     pub version: u8,
     /// Zero.
     pub reserved: u16,

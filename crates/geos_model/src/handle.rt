@@ -1,4 +1,4 @@
-/// The name of a block, 1 to 2,048; 0 names none.
+/// The name of a block, 1 to 8,192; 0 names none.
 #[derive(Clone, Copy, Debug, PartialEq, Eq)]
 pub struct VmHandle(pub u16);
 

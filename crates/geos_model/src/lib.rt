@@ -15,11 +15,14 @@ pub use block::Attributes;
 pub use bytes::{Bytes, Chunks};
 pub use command::{Body, Command, Done, Edit, Info, Kind};
 pub use fault::Fault;
-pub use file::{Entry, Extent, PAGE, Slot};
+pub use file::{Entry, Extent, PAGE, Slot, VERSION};
 pub use handle::{ChunkHandle, Token, VmHandle};
 pub use law::{
     array_edits_law, array_law, chain_edits_law, chain_law, chunk_edits_law, chunk_law,
     element_array_law, element_edits_law, failing_law, file_law, image_law, name_array_law,
     name_edits_law, number_law, redo_law, save_law, undo_law, validity_law, word_law,
 };
-pub use limit::{CAPACITY, LAST_PAGE, LONGEST_CHUNK, MOST_BLOCKS};
+pub use limit::{
+    CAPACITY, LAST_PAGE, LAST_PAGE_OF_VERSION_1, LONGEST_CHUNK, MOST_BLOCKS,
+    MOST_BLOCKS_OF_VERSION_1,
+};

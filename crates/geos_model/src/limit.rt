@@ -1,5 +1,8 @@
 /// How many blocks a document can have: their handles are 1 to this number.
-pub const MOST_BLOCKS: u16 = 2_048;
+pub const MOST_BLOCKS: u16 = 8_192;
+
+/// So in a directory of version 1.
+pub const MOST_BLOCKS_OF_VERSION_1: u16 = 2_048;
 
 /// How many bytes a heap needs at most, and a raw body has.
 pub const CAPACITY: usize = 65_520;
@@ -8,4 +11,7 @@ pub const CAPACITY: usize = 65_520;
 pub const LONGEST_CHUNK: usize = 65_498;
 
 /// The first page of a file that can't be used, in pages of 512 bytes.
-pub const LAST_PAGE: u32 = 4_194_304;
+pub const LAST_PAGE: u32 = 33_554_432;
+
+/// So in a file of version 1.
+pub const LAST_PAGE_OF_VERSION_1: u32 = 4_194_304;

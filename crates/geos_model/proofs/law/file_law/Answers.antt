@@ -1,11 +1,12 @@
 use Rattle.geos_model.proofs.Files.{body_of-some, body_of-image, slot_size, slot_of-text, length-directory, directory_read-text, directory_in-some, directory_in-text}
-use Rattle.geos_model.proofs.FileDocuments.{document_at-valid, directory_of-kept, document_at-kept}
+use Rattle.geos_model.proofs.FileDocuments.{document_at-valid, directory_of-kept, document_at-kept, directory_of-newer, document_at-newer, if_typed-is}
 use Rattle.geos_model.proofs.law.file_law.Goals as goal
 
 pub returns : goal.returns
 returns c = record {
   body = body_of-some;
   body_back = body_of-image;
+  typed = λ b typed. if_typed-is b.attributes.heap_type b.body typed;
   slot_size = slot_size;
   slot_back = slot_of-text;
   directory_size = length-directory;
@@ -13,5 +14,6 @@ returns c = record {
   directory = directory_in-some;
   directory_reads = directory_in-text;
   valid = document_at-valid;
-  kept = λ old new e d is keeps all. (directory_of-kept old new e d is keeps all, document_at-kept old new e d is keeps all);
+  kept = λ version old new e d is keeps all. (directory_of-kept version old new e d is keeps all, document_at-kept version old new e d is keeps all);
+  newer = λ version file e d is. (directory_of-newer version file e d is, document_at-newer version file e d is);
 }
