@@ -5,19 +5,20 @@ use Rattle.std.proofs.lemmas.List.Sorted.{IsNonDecreasingBy-from_sort}
 use Rattle.geos_model.specs.File.{pages_of, end_page}
 use Rattle.geos_model.specs.declared.file.Extent.{Extent}
 use Rattle.geos_model.proofs.Files.{get_or_same}
+use Rattle.vm_space.specs.declared.placing.TheConstants.{MOST_EXTENTS}
 use Rattle.vm_space.specs.Placing.{IsFree, IsFirstFit, IsLength, AreExtents, AreInOrder}
 
--- so many bytes take 1 to 128 pages
+-- so many bytes take 1 to 257 pages
 pub pages_some : (n : ℕ) → IsLength n → 1 ≤ pages_of n
 pages_some n l = omega (arith, l)
 
-pub pages_few : (n : ℕ) → IsLength n → pages_of n ≤ 128
+pub pages_few : (n : ℕ) → IsLength n → pages_of n ≤ 257
 pages_few n l = omega (arith, l)
 
 -- Before the first i extents are passed no page would do, and this one is behind them.
 pub record Passed (taken : List Extent) (n i page : ℕ) : Type 0 where
   pub behind_slots : 2 ≤ page
-  pub in_reach : page ≤ 2 + 255 * i
+  pub in_reach : page ≤ 2 + 513 * i
   pub behind : (k : ℕ) (d : Extent) → k < i → end_page (get_or taken k d) ≤ page
   pub first : (p : ℕ) → 2 ≤ p → p < page → IsFree taken p n → ⊥
 
@@ -52,7 +53,7 @@ module _ (taken : List Extent) (n : ℕ) (extents : AreExtents taken) (is_length
       }
 
   -- where it begins behind the wanted pages, they are free
-  pub passed-fits : (i page : ℕ) (d : Extent) → length taken ≤ 16384 → AreInOrder taken → i < length taken → Passed taken n i page → page + pages_of n ≤ (get_or taken i d).page → IsFirstFit taken n (record { page = page; length = n })
+  pub passed-fits : (i page : ℕ) (d : Extent) → length taken ≤ MOST_EXTENTS → AreInOrder taken → i < length taken → Passed taken n i page → page + pages_of n ≤ (get_or taken i d).page → IsFirstFit taken n (record { page = page; length = n })
   passed-fits i page d few order l passed room =
       let rising = IsNonDecreasingBy-from_sort (λ e. e.page) taken order in
       let reach = passed.in_reach in
@@ -72,7 +73,7 @@ module _ (taken : List Extent) (n : ℕ) (extents : AreExtents taken) (is_length
       }
 
   -- and so they are behind all extents
-  pub passed-all : (page : ℕ) → length taken ≤ 16384 → Passed taken n (length taken) page → IsFirstFit taken n (record { page = page; length = n })
+  pub passed-all : (page : ℕ) → length taken ≤ MOST_EXTENTS → Passed taken n (length taken) page → IsFirstFit taken n (record { page = page; length = n })
   passed-all page few passed =
       let reach = passed.in_reach in
       let wanted = pages_few n is_length in

@@ -77,15 +77,15 @@ module _ {X : Type 0} (f : X → ℕ) where
     | inr many ↦ (let most = count_by-le-length (λ x. ltb (f x) (suc (length xs))) xs in absurd (omega (arith, many, most)))
   ]
 
--- Windows of 128 pages whose starts are 255 pages apart: an extent of at most 128 pages lies on no two of them. The one before
+-- Windows of 257 pages whose starts are 513 pages apart: an extent of at most 257 pages lies on no two of them. The one before
 -- whose next it ends:
 abbrev pub window_of : Extent → ℕ
-window_of e = (end_page e - 3) / 255
+window_of e = (end_page e - 3) / 513
 
-in_window : (start length_in end i : ℕ) → 1 ≤ length_in → length_in ≤ 128 → end ≡ start + length_in → start < 2 + 255 * i + 128 → 2 + 255 * i < end → (end - 3) / 255 ≡ i
+in_window : (start length_in end i : ℕ) → 1 ≤ length_in → length_in ≤ 257 → end ≡ start + length_in → start < 2 + 513 * i + 257 → 2 + 513 * i < end → (end - 3) / 513 ≡ i
 in_window start n end i some few is low high = omega (arith, some, few, is, low, high)
 
-pub free_window : (taken : List Extent) (n : ℕ) → AreExtents taken → IsLength n → (i : ℕ) × (i ≤ length taken) × IsFree taken (2 + 255 * i) n
+pub free_window : (taken : List Extent) (n : ℕ) → AreExtents taken → IsLength n → (i : ℕ) × (i ≤ length taken) × IsFree taken (2 + 513 * i) n
 free_window taken n extents is_length =
     let found = missing window_of taken in
     let wanted = pages_few n is_length in (
@@ -96,9 +96,9 @@ free_window taken n extents is_length =
           let some = pages_some e.length (extents k d l).1 in
           let few = pages_few e.length (extents k d l).1 in
           let other : window_of e ≡ found.0 → ⊥ = eqb-false (window_of e) found.0 (none_pass (λ x. eqb (window_of x) found.0) taken found.2 k d l) in
-          elim (cases_lt (2 + 255 * found.0) (end_page e)) [
+          elim (cases_lt (2 + 513 * found.0) (end_page e)) [
             | inr ends ↦ inr ends
-            | inl high ↦ elim (cases_lt e.page (2 + 255 * found.0 + 128)) [
+            | inl high ↦ elim (cases_lt e.page (2 + 513 * found.0 + 257)) [
               | inr behind ↦ inl (omega (arith, behind, wanted))
               | inl low ↦ absurd (other (in_window e.page (pages_of e.length) (end_page e) found.0 some few refl low high))
             ]

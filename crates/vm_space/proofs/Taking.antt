@@ -7,6 +7,7 @@ use Rattle.std.proofs.lemmas.List.Sums.{count_by-le-length}
 use Rattle.std.proofs.lemmas.List.{get_or-set_same, get_or-set_other, length-set, get_or-replicate, length-replicate}
 use Rattle.geos_model.specs.File.{pages_of, end_page}
 use Rattle.geos_model.specs.declared.file.Extent.{Extent}
+use Rattle.vm_space.specs.declared.placing.TheConstants.{MOST_EXTENTS}
 use Rattle.vm_space.specs.Placing.{IsFree, IsFirstFit, IsLength, AreExtents}
 use Rattle.vm_space.specs.Space.{Space, is_on, AreTaken, IsRun, IsFirstRun, IsHint, IsSound, AreRaised}
 use Rattle.vm_space.proofs.Fitting.{pages_some, pages_few}
@@ -80,22 +81,22 @@ taken_few taken space are page =
     omega (arith, is, most, count)
 
 -- The first run is near, and gives the first fit.
-pub run_near : (taken : List Extent) (counts : List ℕ) (count from n page : ℕ) → count < 16384 → IsLength n → AreTaken taken (record { counts = counts; count = count }) → IsHint counts (pages_of n) from → IsFirstRun counts from (pages_of n) page → page ≤ 2 + 255 * count
+pub run_near : (taken : List Extent) (counts : List ℕ) (count from n page : ℕ) → count < MOST_EXTENTS → IsLength n → AreTaken taken (record { counts = counts; count = count }) → IsHint counts (pages_of n) from → IsFirstRun counts from (pages_of n) page → page ≤ 2 + 513 * count
 run_near taken counts count from n page few is_length are hint is =
     let found = free_window taken n are.extents is_length in
     let size = are.count in
     let within = found.1 in
-    elim (cases_lt (2 + 255 * found.0) page) [
+    elim (cases_lt (2 + 513 * found.0) page) [
       | inr near ↦ omega (arith, near, within, size)
       | inl past ↦
-          let run = free_run taken counts (2 + 255 * found.0) n are.pages found.2 in
-          elim (cases_lt (2 + 255 * found.0) from) [
-            | inl before ↦ absurd (hint.none (2 + 255 * found.0) (omega arith) before run)
-            | inr on ↦ absurd (is.first (2 + 255 * found.0) on past run)
+          let run = free_run taken counts (2 + 513 * found.0) n are.pages found.2 in
+          elim (cases_lt (2 + 513 * found.0) from) [
+            | inl before ↦ absurd (hint.none (2 + 513 * found.0) (omega arith) before run)
+            | inr on ↦ absurd (is.first (2 + 513 * found.0) on past run)
           ]
     ]
 
-pub run_fits : (taken : List Extent) (counts : List ℕ) (count from n page : ℕ) → count < 16384 → IsLength n → AreTaken taken (record { counts = counts; count = count }) → IsHint counts (pages_of n) from → IsFirstRun counts from (pages_of n) page → IsFirstFit taken n (record { page = page; length = n })
+pub run_fits : (taken : List Extent) (counts : List ℕ) (count from n page : ℕ) → count < MOST_EXTENTS → IsLength n → AreTaken taken (record { counts = counts; count = count }) → IsHint counts (pages_of n) from → IsFirstRun counts from (pages_of n) page → IsFirstFit taken n (record { page = page; length = n })
 run_fits taken counts count from n page few is_length are hint is =
     let near = run_near taken counts count from n page few is_length are hint is in
     let wanted = pages_few n is_length in
@@ -123,7 +124,7 @@ hint-raised start end n hint old new raised is = record {
 }
 
 -- at least so many pages before the ones that are given back
-pub hint-lowered : (start end n hint lower : ℕ) (old new : List ℕ) → AreRaised start end new old → n ≤ 128 → 2 ≤ lower → ((lower ≡ 2) ⊎ (lower + 127 ≤ start)) → IsHint old n hint → IsHint new n (min hint lower)
+pub hint-lowered : (start end n hint lower : ℕ) (old new : List ℕ) → AreRaised start end new old → n ≤ 257 → 2 ≤ lower → ((lower ≡ 2) ⊎ (lower + 256 ≤ start)) → IsHint old n hint → IsHint new n (min hint lower)
 hint-lowered start end n hint lower old new raised few low near is = record {
   behind_slots = (let behind = is.behind_slots in omega (arith, behind, low));
   none = λ q from before run. elim near [
@@ -150,13 +151,13 @@ sound-more old new hints count e sound behind is_length raised = record {
   hint = λ n l. hint-raised e.page (end_page e) n (get_or hints n 0) old new raised (sound.hint n l);
 }
 
-pub first_near : (page first : ℕ) → first ≡ max (page - 127) 2 → (first ≡ 2) ⊎ (first + 127 ≤ page)
+pub first_near : (page first : ℕ) → first ≡ max (page - 256) 2 → (first ≡ 2) ⊎ (first + 256 ≤ page)
 first_near page first is = elim (cases_lt 2 first) [
   | inl past ↦ inr (omega (arith, is, past))
   | inr low ↦ inl (omega (arith, is, low))
 ]
 
-pub sound-less : (old new hints lowered : List ℕ) (count first : ℕ) (e : Extent) (rest : List Extent) → IsSound old hints count → AreTaken (e ∷ rest) (record { counts = old; count = count }) → AreRaised e.page (end_page e) new old → first ≡ max (e.page - 127) 2 → length lowered ≡ 129 → ((n : ℕ) → get_or lowered n 0 ≡ min (get_or hints n 0) first) → IsSound new lowered (count - 1)
+pub sound-less : (old new hints lowered : List ℕ) (count first : ℕ) (e : Extent) (rest : List Extent) → IsSound old hints count → AreTaken (e ∷ rest) (record { counts = old; count = count }) → AreRaised e.page (end_page e) new old → first ≡ max (e.page - 256) 2 → length lowered ≡ 258 → ((n : ℕ) → get_or lowered n 0 ≡ min (get_or hints n 0) first) → IsSound new lowered (count - 1)
 sound-less old new hints lowered count first e rest sound are raised is long lower = record {
   taken = rest;
   are = taken-less rest e old new count (count - 1) are raised (let some = are.count in omega (arith, some));
@@ -165,7 +166,7 @@ sound-less old new hints lowered count first e rest sound are raised is long low
 }
 
 -- a hint that was found
-pub sound-hinted : (old new hints : List ℕ) (start end from pages page count : ℕ) → IsSound new hints count → AreRaised start end old new → IsHint old pages from → IsFirstRun old from pages page → pages < 129 → IsSound new (set hints pages page) count
+pub sound-hinted : (old new hints : List ℕ) (start end from pages page count : ℕ) → IsSound new hints count → AreRaised start end old new → IsHint old pages from → IsFirstRun old from pages page → pages < 258 → IsSound new (set hints pages page) count
 sound-hinted old new hints start end from pages page count sound raised hint is l = record {
   taken = sound.taken;
   are = sound.are;
@@ -186,12 +187,12 @@ sound-hinted old new hints start end from pages page count sound raised hint is 
     }
 
 -- At first nothing is taken.
-pub sound-none : IsSound [] (replicate 129 2) 0
+pub sound-none : IsSound [] (replicate 258 2) 0
 sound-none = record {
   taken = [];
   are = record { extents = λ k d l. absurd (omega (arith, l)); count = refl; pages = λ page. refl };
-  hint_count = length-replicate {A = ℕ} 129 2;
-  hint = λ n l. (let is = get_or-replicate {A = ℕ} 129 n 2 0 l in record { behind_slots = omega (arith, is); none = λ q low before run. absurd (omega (arith, is, low, before)) });
+  hint_count = length-replicate {A = ℕ} 258 2;
+  hint = λ n l. (let is = get_or-replicate {A = ℕ} 258 n 2 0 l in record { behind_slots = omega (arith, is); none = λ q low before run. absurd (omega (arith, is, low, before)) });
 }
 
 -- what is taken before and behind one more says how the counts were raised

@@ -20,9 +20,9 @@ pub record IsFirstFit (taken : List Extent) (n : ℕ) (result : Extent) : Type 0
   pub first : (page : ℕ) → 2 ≤ page → page < result.page → IsFree taken page n → ⊥
   pub in_reach : end_page result ≤ last_page
 
--- so many bytes can be placed: they take 1 to 128 pages
+-- so many bytes can be placed: they take 1 to 257 pages, as many as the longest directory
 abbrev pub IsLength : ℕ → Type 0
-IsLength n = (1 ≤ n) × (n ≤ 65536)
+IsLength n = (1 ≤ n) × (n ≤ 131584)
 
 -- these can lie in a file
 abbrev pub AreExtents : List Extent → Type 0

@@ -48,8 +48,8 @@ pub record IsHint (counts : List ℕ) (n hint : ℕ) : Type 0 where
 pub record IsSound (counts hints : List ℕ) (count : ℕ) : Type 0 where
   pub taken : List Extent
   pub are : AreTaken taken (record { counts = counts; count = count })
-  pub hint_count : length hints ≡ 129
-  pub hint : (n : ℕ) → n < 129 → IsHint counts n (slice_index hints n)
+  pub hint_count : length hints ≡ 258
+  pub hint : (n : ℕ) → n < 258 → IsHint counts n (slice_index hints n)
 
 -- each count with one more from a page on and before another
 abbrev pub AreRaised : ℕ → ℕ → List ℕ → List ℕ → Type 0

@@ -10,10 +10,10 @@ use std::alloc::{AllocError, Global};
 use std::marker::Model;
 
 // How many pages an extent takes at most.
-const MOST_PAGES: u32 = 128;
+const MOST_PAGES: u32 = 257;
 
 // An extent takes from no page, which none that is taken does, to that many.
-const SIZES: usize = 129;
+const SIZES: usize = 258;
 
 /// The pages that are free while extents come and go.
 #[derive(Drop)]
@@ -48,7 +48,7 @@ impl FreeSpace {
         }
     }
 
-    /// One more extent is taken, of 1 to 128 pages; others may lie there too. Memory goes to pages behind all that were taken
+    /// One more extent is taken, of 1 to 257 pages; others may lie there too. Memory goes to pages behind all that were taken
     /// so far.
     pub fn hold(&mut self, extent: Extent) -> Result<(), AllocError>
         requires few { self.old.count < MOST_EXTENTS }
@@ -66,7 +66,7 @@ impl FreeSpace {
         Ok(())
     }
 
-    /// Takes the first free extent of `len` bytes, 1 to 128 pages.
+    /// Takes the first free extent of `len` bytes, 1 to 257 pages.
     pub fn take(&mut self, len: u32) -> Result<Extent, AllocError>
         requires few { self.old.count < MOST_EXTENTS }
         requires in_range { IsLength len }
@@ -102,7 +102,7 @@ impl FreeSpace {
 
 // Before the first page behind the slots nothing is free.
 fn first_hints() -> [u32; SIZES]
-    ensures { result ≡ replicate 129 2 }
+    ensures { result ≡ replicate 258 2 }
 {
     [FIRST_PAGE; SIZES]
 }

@@ -1,9 +1,9 @@
 // Extents counted in pages.
 ghost use Rattle.std.specs.Prelude.{◌≡◌, ◌^◌, ◌<◌};
 ghost use Rattle.geos_model.specs.File as file;
-ghost use Rattle.geos_model.specs.File.{pages_of, end_page};
+ghost use Rattle.geos_model.specs.File.{pages_of, end_page, last_page_of};
 
-use geos_model::{Extent, LAST_PAGE, PAGE};
+use geos_model::{Extent, LAST_PAGE, LAST_PAGE_OF_VERSION_1, PAGE};
 
 // The first page behind the slots.
 pub(crate) const FIRST_PAGE: u32 = 2;
@@ -28,12 +28,24 @@ pub(crate) fn page_behind(extent: Extent) -> u64
     u64::from(extent.page) + u64::from(page_count(extent.length))
 }
 
-/// Whether an extent lies behind the slots of a file of `file_length` bytes, within the file, and below `LAST_PAGE`.
-pub fn is_in_file(extent: Extent, file_length: u64) -> bool
-    ensures { result ≡ file.is_in_file file_length extent }
+// The first page that can't be used in a file of this version.
+fn last_page(version: u8) -> u32
+    ensures { result ≡ last_page_of version }
+{
+    if version == 1 {
+        LAST_PAGE_OF_VERSION_1
+    } else {
+        LAST_PAGE
+    }
+}
+
+/// Whether an extent lies behind the slots of a file of `file_length` bytes, within the file, and below the last page of a file of
+/// this version.
+pub fn is_in_file(extent: Extent, file_length: u64, version: u8) -> bool
+    ensures { result ≡ file.is_in_file version file_length extent }
 {
     let start = u64::from(PAGE) * u64::from(extent.page);
     extent.page >= FIRST_PAGE
         && start + u64::from(extent.length) <= file_length
-        && page_behind(extent) <= u64::from(LAST_PAGE)
+        && page_behind(extent) <= u64::from(last_page(version))
 }

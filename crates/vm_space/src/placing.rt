@@ -2,13 +2,14 @@ ghost use Rattle.std.specs.Prelude.{◌≤◌, length};
 ghost use Rattle.vm_space.specs.Placing.{AreExtents, AreInOrder, IsFirstFit, IsLength};
 
 use crate::pages::{FIRST_PAGE, page_behind, page_count};
-use geos_model::Extent;
+use geos_model::{Extent, MOST_BLOCKS};
 
-/// How many extents may be taken: whichever they are, the first fit lies below `LAST_PAGE`.
-pub const MOST_EXTENTS: usize = 16_384;
+/// How many extents may be taken: those of the blocks of seven documents, and four directories. Whichever they are, the first fit lies
+/// below `LAST_PAGE`.
+pub const MOST_EXTENTS: usize = 7 * MOST_BLOCKS as usize + 4;
 
 /// The first free extent of `len` bytes, behind the slots: in one pass over the extents that are taken, with no memory.
-/// Each takes 1 to 128 pages, and so does the wanted one; the taken ones may overlap each other.
+/// Each takes 1 to 257 pages, and so does the wanted one; the taken ones may overlap each other.
 pub fn place(taken: &[Extent], len: u32) -> Extent
     requires few { length taken.now ≤ MOST_EXTENTS }
     requires extents { AreExtents taken.now }

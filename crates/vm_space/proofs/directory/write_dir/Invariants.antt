@@ -4,4 +4,4 @@ use Rattle.geos_model.specs.File.{header_text, entry_text}
 use Rattle.vm_space.proofs.directory.write_dir.Given as goal
 
 abbrev pub invariant-loop-entry : goal.invariant-loop-entry
-invariant-loop-entry l = l.text.items ≡ header_text (length l.entries) l.fn.map_block.0 ++ flat_map entry_text (take l.entry-index l.entries)
+invariant-loop-entry l = l.text.items ≡ header_text 2 (length l.entries) l.fn.map_block.0 ++ flat_map (entry_text 2) (take l.entry-index l.entries)

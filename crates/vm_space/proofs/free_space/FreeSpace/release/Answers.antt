@@ -20,7 +20,7 @@ invariant_of-self c =
     let new : List ℕ = c.count_down.new.counts in
     let raised : AreRaised e.page (end_page e) new old = lowered_from e.page (end_page e) c.page_behind-end.result old c.deref_mut.result.now new c.deref_mut.ensures.value c.page_behind-end.ensures c.count_down.ensures in
     let before : AreTaken (e ∷ c.requires.0) (record { counts = old; count = c.self.inside.count }) = subst (λ (s : Space). AreTaken (e ∷ c.requires.0) s) (sym c.self.view_is) c.requires.1 in
-    let is : c.max-first.result ≡ max (e.page - 127) 2 = omega (arith, c.max-first.ensures, c.saturating_sub.ensures) in
+    let is : c.max-first.result ≡ max (e.page - 256) 2 = omega (arith, c.max-first.ensures, c.saturating_sub.ensures) in
     subst (λ (counts : List ℕ). IsSound counts c.lower.new.hints (c.self.inside.count - 1)) (sym (with_items_is c.self.inside.counts new (c.count_down.auto.counts ∙ c.deref_mut.ensures.len)))
     (sound-less old new c.self.inside.hints c.lower.new.hints c.self.inside.count c.max-first.result e c.requires.0 c.self.invariant before raised is (c.lower.auto.hints ∙ c.self.invariant.hint_count) c.lower.ensures)
 

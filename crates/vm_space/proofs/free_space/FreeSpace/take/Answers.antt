@@ -1,6 +1,7 @@
 use Rattle.std.proofs.Common.{ℕ, ◌+◌, ◌*◌, ◌<◌, ◌≤◌, List, ◌∷◌, get_or, set, sym, subst, arith}
 use Rattle.geos_model.specs.File.{pages_of, end_page}
 use Rattle.geos_model.specs.declared.file.Extent.{Extent}
+use Rattle.vm_space.specs.declared.placing.TheConstants.{MOST_EXTENTS}
 use Rattle.vm_space.specs.Space.{Space, AreRaised, AreTaken, IsSound}
 use Rattle.vm_space.proofs.Fitting.{pages_few}
 use Rattle.vm_space.proofs.Taking.{found_from, hint_for, run_near, run_fits, taken-raised, sound-hinted}
@@ -11,10 +12,10 @@ overflow_cast-page c =
     let counts : List ℕ = c.self.inside.counts.items in
     let hints : List ℕ = c.self.inside.hints in
     let count : ℕ = c.self.inside.count in
-    let few : count < 16384 = subst (λ (s : Space). s.count < 16384) (sym c.self.view_is) c.requires.few in
+    let few : count < MOST_EXTENTS = subst (λ (s : Space). s.count < MOST_EXTENTS) (sym c.self.view_is) c.requires.few in
     let found = found_from counts c.deref.result.now hints c.args.len c.page_count-pages.result c.first_run-page.result c.deref.ensures.value c.page_count-pages.ensures c.first_run-page.ensures in
     let hint = hint_for counts hints count c.args.len c.self.invariant c.requires.in_range in
-    let near : c.first_run-page.result ≤ 2 + 255 * count = run_near c.self.invariant.taken counts count (get_or hints (pages_of c.args.len) 0) c.args.len c.first_run-page.result few c.requires.in_range c.self.invariant.are hint found in
+    let near : c.first_run-page.result ≤ 2 + 513 * count = run_near c.self.invariant.taken counts count (get_or hints (pages_of c.args.len) 0) c.args.len c.first_run-page.result few c.requires.in_range c.self.invariant.are hint found in
     omega (arith, near, few)
 
 pub invariant_of-self : goal.invariant_of-self
@@ -42,7 +43,7 @@ returns-clause-placed c = λ taken are.
     let count : ℕ = c.self.inside.count in
     let page : ℕ = c.first_run-page.result in
     let e : Extent = record { page = page; length = c.args.len } in
-    let few : count < 16384 = subst (λ (s : Space). s.count < 16384) (sym c.self.view_is) c.requires.few in
+    let few : count < MOST_EXTENTS = subst (λ (s : Space). s.count < MOST_EXTENTS) (sym c.self.view_is) c.requires.few in
     let found = found_from counts c.deref.result.now hints c.args.len c.page_count-pages.result page c.deref.ensures.value c.page_count-pages.ensures c.first_run-page.ensures in
     let hint = hint_for counts hints count c.args.len c.self.invariant c.requires.in_range in
     let before : AreTaken taken (record { counts = counts; count = count }) = subst (λ (s : Space). AreTaken taken s) (sym c.self.view_is) are in (
