@@ -1,5 +1,5 @@
 -- A slot that is whole but for its gate: with the gate open, a file that a crash leaves stands for what the slot leads to.
-use Rattle.std.proofs.Common.{◌≡◌, ◌≢◌, ℕ, ◌+◌, ◌*◌, List, [], ◌∷◌, All, refl, ap, subst, ◌∙◌, arith}
+use Rattle.std.proofs.Common.{◌≡◌, ◌≢◌, ℕ, ◌+◌, ◌*◌, List, [], ◌∷◌, All, refl, ap, subst, ◌∙◌, arith, inr}
 use Rattle.vm_store.specs.Facts.{StoreFacts, byte}
 use Rattle.vm_store.specs.Bytes.{puts-put, torn-put}
 use Rattle.vm_file.specs.Ranges.{IsPlaced}
@@ -21,15 +21,15 @@ module _ (slots : Slots) (pair : Pair) (file : List ℕ) (is : slots.other ≡ H
   isnt : slots.other ≢ Shut
   isnt shut = cc (is, shut)
 
-  fits : FitsPair slots.sequence slots.committed
-  fits = fits_pair slots.sequence slots.committed are.some are.in_range (kept_pair IsPlaced slots are.placed)
+  fits : FitsPair slots.version slots.sequence slots.committed
+  fits = fits_pair slots.version slots.sequence slots.committed are.versioned are.some are.in_range are.tables (kept_pair IsPlaced slots are.placed)
 
   held : IsHeldReadable file slots.sequence (Held pair)
   held = subst (IsHeldReadable file slots.sequence) is are.held
 
-  fits_held : FitsPair (slots.sequence + 1) pair
+  fits_held : FitsPair 2 (slots.sequence + 1) pair
   unfolding held
-  fits_held = fits_pair (slots.sequence + 1) pair (omega arith) held.1 (subst (λ o. All IsPlaced (held_extents o)) is (kept_held IsPlaced slots are.placed))
+  fits_held = fits_pair 2 (slots.sequence + 1) pair (inr refl) (omega arith) held.1.1 held.1.0 (subst (λ o. All IsPlaced (held_extents o)) is (kept_held IsPlaced slots are.placed))
 
   module _ (c : List ℕ) (was : Outcome slots file c) where
     opened : List ℕ
@@ -45,7 +45,7 @@ module _ (slots : Slots) (pair : Pair) (file : List ℕ) (is : slots.other ≡ H
         let here : 512 * other_of slots + 4 ≡ 512 * other_of slots + 4 + 0 = omega arith in
         ap (byte opened) here ∙ (puts-put (512 * other_of slots + 4) (1 ∷ []) c).each 0 (omega arith)
 
-    leads : Leads (other_of slots) (slots.sequence + 1) pair file opened
+    leads : Leads (other_of slots) 2 (slots.sequence + 1) pair file opened
     unfolding opened outcome
     leads = subst (λ o. IsBeside o (other_of slots) slots.sequence file opened) is outcome.beside
 
@@ -58,11 +58,11 @@ module _ (slots : Slots) (pair : Pair) (file : List ℕ) (is : slots.other ≡ H
     stands_for = λ c left.
         let was = leaves c left in
         let now = outcome c was in
-        held_beats slots.second slots.sequence slots.committed pair file (opened c was) fits fits_held held.0 now.gate now.counts (gate c was) (leads c was);
+        held_beats slots.second slots.version slots.sequence slots.committed pair file (opened c was) fits fits_held held.0 now.gate now.counts (gate c was) (leads c was);
     numbered = λ c left.
         let was = leaves c left in
         let now = outcome c was in
-        held_numbered slots.second slots.sequence slots.committed pair file (opened c was) fits fits_held now.gate now.counts (gate c was) (leads c was);
+        held_numbered slots.second slots.version slots.sequence slots.committed pair file (opened c was) fits fits_held now.gate now.counts (gate c was) (leads c was);
   }
 
 away_of : (other : Other) (store : StoreFacts) (slots : Slots) (file : List ℕ) (d : Documents) → slots.other ≡ other → attempted_in file other ≡ d ∷ [] → AreReadable slots file → Leaves store slots file → IsOneGateAway store (slots.sequence + 1) d

@@ -24,8 +24,8 @@ module _ {S : Type 0} (facts : S → StoreFacts) (a b : S) (live : Table) (slots
   kept : IsTrue (facts a).honest → KeepsAll (pair_extents slots.committed) (facts a).content (facts b).content × KeepsAll (held_extents slots.other) (facts a).content (facts b).content
   kept so = outcome_keeps slots (facts a).content (facts b).content (leaves so (facts b).content (now (subst IsTrue (sym honest) so)))
 
-  committed : IsTrue (facts a).honest → AreStored (facts b).content slots.committed × (documents_in (facts b).content slots.committed ≡ documents_in (facts a).content slots.committed)
-  committed so = pair_again (facts a).content (facts b).content slots.committed (sound.whole so).committed (kept so).0
+  committed : IsTrue (facts a).honest → AreStored slots.version (facts b).content slots.committed × (documents_in (facts b).content slots.committed ≡ documents_in (facts a).content slots.committed)
+  committed so = pair_again slots.version (facts a).content (facts b).content slots.committed (sound.whole so).committed (kept so).0
 
   attempted : IsTrue (facts a).honest → IsHeldStored (facts b).content slots.other × (attempted_in (facts b).content slots.other ≡ attempted_in (facts a).content slots.other)
   attempted so = held_again (facts a).content (facts b).content slots.other (sound.whole so).held (kept so).1

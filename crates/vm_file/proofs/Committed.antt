@@ -15,6 +15,7 @@ use Rattle.vm_file.specs.Disk.{readable, StandsForOne, Crash, MarkDrifts, IsTrie
 use Rattle.vm_file.specs.Sound.{AreTables, IsFormed, IsWhole, IsSound, disk_of}
 use Rattle.vm_file.specs.declared.table.Table.{Table}
 use Rattle.vm_file.specs.declared.slots.Pair.{Pair}
+use Rattle.vm_file.specs.declared.slots.Other.{Other}
 use Rattle.vm_file.specs.declared.slots.Other.TheVariants.{Shut, Held}
 use Rattle.vm_file.specs.declared.slots.Slots.{Slots}
 use Rattle.vm_file.proofs.Away.{attempted_away}
@@ -23,14 +24,14 @@ use Rattle.vm_file.proofs.KeptDocuments.{stored_within, pair_again, held_again}
 use Rattle.vm_file.proofs.Marked.{kept_marked, marked_imaged, marked_drifts}
 use Rattle.vm_file.proofs.Outcomes.{outcome_keeps, shut_kept, with_pair_kept, failed_kept, turned_kept}
 use Rattle.vm_file.proofs.Steps.{leaves_rebased}
-use Rattle.vm_file.proofs.Stands.{outcome_stands, sound_settled, AreReadable, IsHeldReadable, held_readable, sound_numbered}
+use Rattle.vm_file.proofs.Stands.{outcome_stands, sound_readable, sound_settled, AreReadable, IsHeldReadable, held_readable, sound_numbered}
 use Rattle.vm_file.proofs.Tables.{blocks_same, images_same}
 
 -- What a file has, whatever a crash may leave of it.
 pub record HasAll (file : List ℕ) (live : Table) (slots : Slots) : Type 0 where
   pub images : AreImaged file live.places.items
   pub within : All (λ e. end_of e ≤ length file) (block_extents live.places.items)
-  pub committed : AreStored file slots.committed
+  pub committed : AreStored slots.version file slots.committed
   pub held : IsHeldStored file slots.other
   pub marked : IfSome slots.marked (λ t. AreImaged file t.places.items)
   pub marked_within : All (λ e. end_of e ≤ length file) (marked_extents slots.marked)
@@ -44,9 +45,9 @@ module _ (file : List ℕ) (b : StoreFacts) (live : Table) (slots : Slots) (now 
   kept : KeepsAll (pair_extents slots.committed) file b.content × KeepsAll (held_extents slots.other) file b.content
   kept = outcome_keeps slots file b.content (leaves b.content now)
 
-  committed_now : AreStored b.content slots.committed × (documents_in b.content slots.committed ≡ documents_in file slots.committed)
+  committed_now : AreStored slots.version b.content slots.committed × (documents_in b.content slots.committed ≡ documents_in file slots.committed)
   unfolding kept
-  committed_now = pair_again file b.content slots.committed has.committed kept.0
+  committed_now = pair_again slots.version file b.content slots.committed has.committed kept.0
 
   attempted_now : IsHeldStored b.content slots.other × (attempted_in b.content slots.other ≡ attempted_in file slots.other)
   unfolding kept
@@ -67,23 +68,32 @@ module _ (file : List ℕ) (b : StoreFacts) (live : Table) (slots : Slots) (now 
   }
 
 -- A commit of a pair that lies in the file.
-module _ (file : List ℕ) (slots : Slots) (pair : Pair) (numbered : 1 ≤ slots.sequence) (in_range : slots.sequence + 1 < 2 ^ 64) (kept : AreKept slots) (placed : All IsPlaced (pair_extents pair)) (committed : AreStored file slots.committed) (held : IsHeldReadable file slots.sequence slots.other) (stored : AreStored file pair) where
-  is_readable : AreReadable slots file
-  is_readable = record { some = numbered; in_range = omega (arith, in_range); placed = kept; committed = committed; held = held }
+module _ (file : List ℕ) (slots : Slots) (pair : Pair) (was_readable : AreReadable slots file) (range : slots.sequence + 1 < 2 ^ 64) (tables : AreTables pair) (placed : All IsPlaced (pair_extents pair)) (stored : AreStored 2 file pair) where
+  -- with another slot that doesn't count
+  readable_with : (other : Other) → AreKept (record slots { other = other }) → IsHeldReadable file slots.sequence other → AreReadable (record slots { other = other }) file
+  readable_with other kept held = record {
+    versioned = was_readable.versioned;
+    some = was_readable.some;
+    in_range = was_readable.in_range;
+    placed = kept;
+    tables = was_readable.tables;
+    committed = was_readable.committed;
+    held = held;
+  }
 
   before : List Documents
   before = documents_in file slots.committed ∷ attempted_in file slots.other
 
   -- what a crash leaves before the last step
   early_stands : (s : Slots) (c : List ℕ) → FailedEarly slots s → Outcome s file c → StandsForOne before c
-  unfolding is_readable before
+  unfolding before
   early_stands s c early was =
       let P : Slots → Type 0 = λ x. AreReadable x file in
       let Q : Slots → Type 0 = λ x. StandsForOne (documents_in file x.committed ∷ attempted_in file x.other) c in
       elim early as (λ _. StandsForOne before c) [
-        | inl same ↦ subst Q same (outcome_stands s file c (subst P (sym same) is_readable) was)
+        | inl same ↦ subst Q same (outcome_stands s file c (subst P (sym same) was_readable) was)
         | inr shut ↦
-            let readable_now : AreReadable s file = subst P (sym shut) (record { some = numbered; in_range = omega (arith, in_range); placed = shut_kept slots kept; committed = committed; held = tt }) in
+            let readable_now : AreReadable s file = subst P (sym shut) (readable_with Shut (shut_kept slots was_readable.placed) tt) in
             elim (subst Q shut (outcome_stands s file c readable_now was)) as (λ _. StandsForOne before c) [ inl here ↦ inl here | inr none ↦ absurd none ]
       ]
 
@@ -96,7 +106,7 @@ module _ (file : List ℕ) (slots : Slots) (pair : Pair) (numbered : 1 ≤ slots
       elim failed as (λ _. StandsForOne (documents_in file pair ∷ before) c) [
         | inl early ↦ inr (early_stands s c early was)
         | inr is_held ↦
-            let readable_now : AreReadable s file = subst P (sym is_held) (record { some = numbered; in_range = omega (arith, in_range); placed = with_pair_kept slots pair kept placed; committed = committed; held = (stored, in_range) }) in
+            let readable_now : AreReadable s file = subst P (sym is_held) (readable_with (Held pair) (with_pair_kept slots pair was_readable.placed placed) (stored, (tables, range))) in
             elim (subst Q is_held (outcome_stands s file c readable_now was)) as (λ _. StandsForOne (documents_in file pair ∷ before) c) [
               | inl here ↦ inr (inl here)
               | inr (inl other) ↦ inl other
@@ -120,7 +130,7 @@ module _ (file : List ℕ) (slots : Slots) (pair : Pair) (numbered : 1 ≤ slots
 
 -- The slots after a commit.
 
-failed_has : (file : List ℕ) (live : Table) (slots now : Slots) (pair : Pair) → Failed slots pair now → HasAll file live slots → AreStored file pair → HasAll file live now
+failed_has : (file : List ℕ) (live : Table) (slots now : Slots) (pair : Pair) → Failed slots pair now → HasAll file live slots → AreStored 2 file pair → HasAll file live now
 failed_has file live slots now pair failed has stored =
     let P : Slots → Type 0 = λ s. HasAll file live s in
     elim failed as (λ _. P now) [
@@ -135,8 +145,8 @@ failed_formed live slots now pair failed formed tables placed range =
     let kept = failed_kept slots now pair failed formed.kept placed in
     elim failed as (λ _. P now) [
       | inl (inl same) ↦ subst P (sym same) formed
-      | inl (inr shut) ↦ subst P (sym shut) (record { table = formed.table; placed = formed.placed; committed = formed.committed; held = tt; marked = formed.marked; kept = subst AreKept shut kept; numbered = formed.numbered; in_range = formed.in_range })
-      | inr is_held ↦ subst P (sym is_held) (record { table = formed.table; placed = formed.placed; committed = formed.committed; held = (tables, range); marked = formed.marked; kept = subst AreKept is_held kept; numbered = formed.numbered; in_range = formed.in_range })
+      | inl (inr shut) ↦ subst P (sym shut) (record { table = formed.table; placed = formed.placed; committed = formed.committed; held = tt; marked = formed.marked; kept = subst AreKept shut kept; version = formed.version; numbered = formed.numbered; in_range = formed.in_range })
+      | inr is_held ↦ subst P (sym is_held) (record { table = formed.table; placed = formed.placed; committed = formed.committed; held = (tables, range); marked = formed.marked; kept = subst AreKept is_held kept; version = formed.version; numbered = formed.numbered; in_range = formed.in_range })
     ]
 
 turned_formed : (live : Table) (slots : Slots) (pair : Pair) → IsFormed live slots → AreTables pair → All IsPlaced (pair_extents pair) → slots.sequence + 1 < 2 ^ 64 → IsFormed live (turned slots pair)
@@ -147,6 +157,7 @@ turned_formed live slots pair formed tables placed range = record {
   held = tt;
   marked = formed.marked;
   kept = turned_kept slots pair formed.kept placed;
+  version = inr refl;
   numbered = omega arith;
   in_range = range;
 }
@@ -158,7 +169,7 @@ pub record IsCommit {S : Type 0} (facts : S → StoreFacts) (a b : S) (live : Ta
   pub tables : AreTables pair
   pub placed : All IsPlaced (pair_extents pair)
   pub whole : IsTrue (facts a).honest → IsWhole (facts a) live slots
-  pub stored : IsTrue (facts a).honest → AreStored (facts a).content pair
+  pub stored : IsTrue (facts a).honest → AreStored 2 (facts a).content pair
   pub honest : (facts b).honest ≡ (facts a).honest
   pub failures : (facts a).failures ≤ (facts b).failures
   pub now_there : IsTrue (facts b).honest → (facts b).may_leave (facts b).content
@@ -178,8 +189,8 @@ counts_rise (Err x) a b more = omega (arith, more)
 module _ {S : Type 0} (facts : S → StoreFacts) (a b : S) (live : Table) (slots now : Slots) (pair : Pair) (call : IsCommit facts a b live slots now pair) where
   pair_there : IsTrue (facts a).honest → KeepsAll (pair_extents pair) (facts a).content (facts a).content
   pair_there so =
-      let updated = stored_within (facts a).content pair.updated (call.stored so).updated in
-      let saved = stored_within (facts a).content pair.saved (call.stored so).saved in
+      let updated = stored_within 2 (facts a).content pair.updated (call.stored so).updated in
+      let saved = stored_within 2 (facts a).content pair.saved (call.stored so).saved in
       keeps_itself (pair_extents pair) (facts a).content (All-append (λ e. end_of e ≤ length (facts a).content) (stored_extents pair.updated) (stored_extents pair.saved)
       (All-cons (λ e. end_of e ≤ length (facts a).content) pair.updated.directory (block_extents pair.updated.table.places.items) updated.0 updated.1)
       (All-cons (λ e. end_of e ≤ length (facts a).content) pair.saved.directory (block_extents pair.saved.table.places.items) saved.0 saved.1))
@@ -200,12 +211,12 @@ module _ {S : Type 0} (facts : S → StoreFacts) (a b : S) (live : Table) (slots
   pub settle_crash : IsTrue (facts a).honest → Crash (facts a) (facts b) (documents_in (facts a).content pair ∷ readable (disk_of facts a slots))
   settle_crash so =
       let was = call.whole so in
-      commit_crash (facts a).content slots pair call.formed.numbered call.range call.formed.kept call.placed was.committed (held_readable (facts a).content slots.sequence slots.other call.formed.held was.held) (call.stored so) (facts a) (facts b) (call.crash so was.leaves (pair_there so))
+      commit_crash (facts a).content slots pair (sound_readable (facts a) live slots call.formed was) call.range call.tables call.placed (call.stored so) (facts a) (facts b) (call.crash so was.leaves (pair_there so))
 
   settle_early : IsTrue (facts a).honest → Outlives (facts a) (facts b) (facts a).content (λ s. FailedEarly slots s) → Crash (facts a) (facts b) (readable (disk_of facts a slots))
   settle_early so outlives =
       let was = call.whole so in
-      early_crash (facts a).content slots pair call.formed.numbered call.range call.formed.kept call.placed was.committed (held_readable (facts a).content slots.sequence slots.other call.formed.held was.held) (call.stored so) (facts a) (facts b) outlives
+      early_crash (facts a).content slots pair (sound_readable (facts a) live slots call.formed was) call.range call.tables call.placed (call.stored so) (facts a) (facts b) outlives
 
   -- whichever slots are left, the file has all of what they lead to
   module _ (now_formed : IsFormed live now) (has : IsTrue (facts a).honest → HasAll (facts a).content live now) where
@@ -265,7 +276,7 @@ module _ {S : Type 0} (facts : S → StoreFacts) (a b : S) (live : Table) (slots
     readable_now : IsTrue (facts a).honest → AreReadable now (facts a).content
     readable_now so =
         let has = has_all so in
-        record { some = now_formed.numbered; in_range = now_formed.in_range; placed = now_formed.kept; committed = has.committed; held = held_readable (facts a).content now.sequence now.other now_formed.held has.held }
+        record { versioned = now_formed.version; some = now_formed.numbered; in_range = now_formed.in_range; placed = now_formed.kept; tables = now_formed.committed; committed = has.committed; held = held_readable (facts a).content now.sequence now.other now_formed.held has.held }
 
     -- the pair is held, and one gate away
     held_tried : IsTrue (facts a).honest → now ≡ record slots { other = Held pair } → IsTried facts (documents_in (facts a).content pair) (disk_of facts b now)

@@ -6,7 +6,7 @@ use Rattle.geos_model.specs.File.{Directory, directory_of}
 use Rattle.vm_file.specs.Ranges.{IsPlaced}
 use Rattle.vm_file.specs.Slots.{block_extents, stored_extents, pair_extents}
 use Rattle.vm_file.specs.Documents.{blocks_in, document_in, documents_in, entries_of, AreImaged, IsStored, AreStored}
-use Rattle.vm_file.specs.Sound.{IsTable, AreTables, IsSound}
+use Rattle.vm_file.specs.Sound.{ArePlaces, IsTable, AreTables, IsSound}
 use Rattle.vm_file.specs.Disk.{Drifts}
 use Rattle.vm_file.specs.Copies.{IsCopy, IsStoredCopy}
 use Rattle.vm_file.specs.declared.table.Place.{Place}
@@ -29,19 +29,21 @@ copy_document file copy table is = ap₂ (shown file) is.places is.map_block
 
 pub copy_formed : (copy table : Table) → IsCopy copy table → IsTable table → IsTable copy
 copy_formed copy table is was = record {
-  size = ap length is.places ∙ was.size;
+  size = (let long = ap length is.places in let few = was.size in omega (arith, long, few));
+  places = subst ArePlaces (sym is.places) was.places;
   map_block = copied (λ m ps. (m ≡ 0) ⊎ ((1 ≤ m) × (is_some (get_or ps (m - 1) None) ≡ true))) copy table is was.map_block;
 }
 
 pub copy_extents : (copy stored : Stored) → IsStoredCopy copy stored → stored_extents copy ≡ stored_extents stored
 copy_extents copy stored is = λ i. is.directory i ∷ block_extents (is.table.places i)
 
-abbrev listed : ℕ → List (Option Place) → Option Directory
-listed m ps = Some (record { map_block = m; entries = entries_of 1 ps })
+abbrev listed : ℕ → ℕ → List (Option Place) → Option Directory
+listed version m ps = Some (record { version = version; map_block = m; entries = entries_of 1 ps })
 
-pub copy_stored : (file : List ℕ) (copy stored : Stored) → IsStoredCopy copy stored → IsStored file stored → IsStored file copy
-copy_stored file copy stored is was = record {
-  directory = ap (directory_of file) is.directory ∙ was.directory ∙ sym (ap₂ (λ (m : ℕ) (ps : List (Option Place)). listed m ps) is.table.map_block is.table.places);
+pub copy_stored : (version : ℕ) (file : List ℕ) (copy stored : Stored) → IsStoredCopy copy stored → IsStored version file stored → IsStored version file copy
+copy_stored version file copy stored is was = record {
+  version = was.version;
+  directory = ap (directory_of version file) is.directory ∙ was.directory ∙ sym (ap₂ (λ (m : ℕ) (ps : List (Option Place)). listed was.version m ps) is.table.map_block is.table.places);
   images = subst (AreImaged file) (sym is.table.places) was.images;
 }
 
@@ -56,8 +58,8 @@ module _ (file : List ℕ) (pair : Pair) (updated saved : Stored) (first : IsSto
   pub pair_placed : All IsPlaced (stored_extents updated) → All IsPlaced (stored_extents saved) → All IsPlaced (pair_extents pair)
   pair_placed u s = All-append IsPlaced (stored_extents pair.updated) (stored_extents pair.saved) (subst (All IsPlaced) (sym (copy_extents pair.updated updated first)) u) (subst (All IsPlaced) (sym (copy_extents pair.saved saved second)) s)
 
-  pub pair_stored : IsStored file updated → IsStored file saved → AreStored file pair
-  pair_stored u s = record { updated = copy_stored file pair.updated updated first u; saved = copy_stored file pair.saved saved second s }
+  pub pair_stored : (version : ℕ) → IsStored version file updated → IsStored version file saved → AreStored version file pair
+  pair_stored version u s = record { updated = copy_stored version file pair.updated updated first u; saved = copy_stored version file pair.saved saved second s }
 
 -- the saved document, as the live one
 pub sound_saved : (store : StoreFacts) (live copy : Table) (slots : Slots) → IsCopy copy slots.committed.saved.table → IsSound store live slots → IsSound store copy slots
@@ -66,7 +68,7 @@ sound_saved store live copy slots is sound =
     let placed = all_right IsPlaced (stored_extents slots.committed.updated) (stored_extents saved) (kept_pair IsPlaced slots sound.formed.kept) in
     sound_live store live copy slots sound (copy_formed copy saved.table is sound.formed.committed.saved) (subst (λ ps. All IsPlaced (block_extents ps)) (sym is.places) (λ k d inside. placed (suc k) d (omega arith)))
     (λ so. subst (AreImaged store.content) (sym is.places) (sound.whole so).committed.saved.images)
-    (λ so. subst (λ ps. All (EndsIn store.content) (block_extents ps)) (sym is.places) (stored_within store.content saved (sound.whole so).committed.saved).1)
+    (λ so. subst (λ ps. All (EndsIn store.content) (block_extents ps)) (sym is.places) (stored_within slots.version store.content saved (sound.whole so).committed.saved).1)
 
 -- and the live one marked
 pub sound_copied : (store : StoreFacts) (live copy : Table) (slots : Slots) → IsCopy copy live → IsSound store live slots → IsSound store live (record slots { marked = Some copy })

@@ -125,13 +125,12 @@ holds_byte file at x within is = record {
 
 -- what is known of the slot that counts
 pub record IsGood (s : Slot) (pair : Pair) : Type 0 where
-  pub version : s.version ≡ 1
   pub reserved : s.reserved ≡ 0
   pub updated : pair.updated.directory ≡ s.working
   pub saved : pair.saved.directory ≡ s.saved
 
 pub slot_leads : (file : List ℕ) (page : ℕ) (s : Slot) (pair : Pair) → 512 * page + 32 ≤ length file → ((i : ℕ) → i < 32 → byte file (512 * page + i) < 256) → open_slot file page ≡ Some s → IsGood s pair
-    → All (λ e. end_of e ≤ length file) (pair_extents pair) → (byte file (512 * page + 4) ≡ 1) × Leads page s.sequence pair file file
+    → All (λ e. end_of e ≤ length file) (pair_extents pair) → (byte file (512 * page + 4) ≡ 1) × Leads page s.version s.sequence pair file file
 unfolding gate_text
 slot_leads file page s pair within small was good inside =
     let n : ℕ = 512 * page in
@@ -140,7 +139,7 @@ slot_leads file page s pair within small was good inside =
     let at : (i : ℕ) → i < 32 → byte bytes i ≡ byte file (n + i) = λ i low. get_or-take 32 (drop n file) i 0 low ∙ get_or-drop n file i 0 in
     let size : length bytes ≡ 32 = omega (arith, length-take 32 (drop n file), length-drop n file, within) in
     let held : (j k : ℕ) → j + k ≤ 32 → Holds file (n + j) (little_bytes k (little_number k (drop j bytes))) = λ j k low. field_held file n j k within low small in
-    let version : byte file (n + 5) ≡ 1 = sym (at 5 (omega arith)) ∙ sym (ap (λ x. x.version) one.read) ∙ good.version in
+    let version : byte file (n + 5) ≡ s.version = sym (at 5 (omega arith)) ∙ sym (ap (λ x. x.version) one.read) in
     let number : word_at bytes 6 ≡ 0 = sym (ap (λ x. x.reserved) one.read) ∙ good.reserved in
     let zeros : Holds file (n + 6) (0 ∷ 0 ∷ []) = subst (λ m. Holds file (n + 6) (little_bytes 2 m)) number (held 6 2 (omega arith)) in
     let sequence : Holds file (n + 8) (little_bytes 8 s.sequence) = subst (λ x. Holds file (n + 8) (little_bytes 8 x.sequence)) (sym one.read) (held 8 8 (omega arith)) in
@@ -159,7 +158,7 @@ slot_leads file page s pair within small was good inside =
               let less : i < 4 = omega (arith, low) in
               sym (at i (omega arith)) ∙ sym (get_or-take 4 bytes i 0 less) ∙ ap (λ xs. byte xs i) one.marked;
         };
-        rest = holds_append file (n + 5) (1 ∷ []) (0 ∷ 0 ∷ little_bytes 8 s.sequence ++ extent_text pair.updated.directory ++ extent_text pair.saved.directory) (holds_byte file (n + 5) 1 (omega (arith, within)) version) (held_at file (n + 6) (n + 5 + 1) _ (omega arith) behind);
+        rest = holds_append file (n + 5) (s.version ∷ []) (0 ∷ 0 ∷ little_bytes 8 s.sequence ++ extent_text pair.updated.directory ++ extent_text pair.saved.directory) (holds_byte file (n + 5) s.version (omega (arith, within)) version) (held_at file (n + 6) (n + 5 + 1) _ (omega arith) behind);
         kept = λ k d low. record { within = inside k d low; bytes = λ i from to. refl };
       },
     )

@@ -8,7 +8,7 @@ use Rattle.vm_file.proofs.Found.{apart_out}
 use Rattle.vm_store.specs.Facts.{StoreFacts, Torn, Holds}
 use Rattle.geos_model.specs.declared.file.Extent.{Extent}
 use Rattle.geos_model.proofs.Table.{table_map}
-use Rattle.geos_model.specs.File.{longest_image}
+use Rattle.geos_model.specs.File.{longest_directory}
 use Rattle.vm_file.specs.Ranges.{IsPlaced, KeepsAll, start_of, end_of, IsOut, IsClear}
 use Rattle.vm_file.specs.Slots.{Leaves, Outlives, block_extents, stored_extents, pair_extents, marked_extents, kept_extents}
 use Rattle.vm_file.specs.Documents.{document_in, documents_in, AreImaged, IsStored, AreStored}
@@ -23,6 +23,7 @@ use Rattle.vm_file.specs.declared.slots.Slots.{Slots}
 use Rattle.vm_file.proofs.Carried.{call_passes, call_sound}
 use Rattle.vm_file.proofs.Copied.{copy_formed, copy_extents, copy_stored, copy_document}
 use Rattle.vm_file.proofs.KeptBytes.{all_left, all_right, keeps_itself, keeps_within, torn_keeps}
+use Rattle.vm_file.proofs.KeptDocuments.{stored_newer}
 use Rattle.vm_file.proofs.Marked.{kept_pair, kept_marked}
 use Rattle.vm_file.proofs.Tables.{blocks_same, images_same}
 use Rattle.vm_file.proofs.Written.{directory_written}
@@ -70,7 +71,7 @@ module _ {S : Type 0} (facts : S → StoreFacts) (a b : S) (live : Table) (slots
   pub write_same : IsTrue (facts a).honest → document_in (facts b).content live ≡ document_in (facts a).content live
   write_same so = ap (λ bs. record { blocks = table_map 1 1 bs; map_block = live.map_block }) (blocks_same (facts a).content (facts b).content live.places.items (call.sound.whole so).within (live_keeps so))
 
-  pub write_stored : IsTrue (facts a).honest → Holds (facts b).content (start_of draft.stored.directory) draft.text.items → IsStored (facts b).content draft.stored
+  pub write_stored : IsTrue (facts a).honest → Holds (facts b).content (start_of draft.stored.directory) draft.text.items → IsStored 2 (facts b).content draft.stored
   write_stored so holds =
       let copy = call.is_draft.table in
       directory_written (facts b).content draft.stored (copy_formed draft.stored.table live copy call.sound.formed.table)
@@ -103,10 +104,14 @@ module _ (live : Table) (slots : Slots) (draft : Draft) (saved : Stored) (formed
     ];
   }
 
-  pub both_stored : (file : List ℕ) → IsStored file slots.committed.saved → IsStored file draft.stored → AreStored file (record { updated = draft.stored; saved = saved })
+  -- in a file that is of version 2 then, whichever it was of
+  pub both_stored : (file : List ℕ) → IsStored slots.version file slots.committed.saved → IsStored 2 file draft.stored → AreStored 2 file (record { updated = draft.stored; saved = saved })
   both_stored file committed written = record {
     updated = written;
-    saved = elim alike as (λ _. IsStored file saved) [ inl copy ↦ copy_stored file saved slots.committed.saved copy committed | inr same ↦ copy_stored file saved draft.stored same written ];
+    saved = elim alike as (λ _. IsStored 2 file saved) [
+      | inl copy ↦ copy_stored 2 file saved slots.committed.saved copy (stored_newer slots.version file slots.committed.saved committed)
+      | inr same ↦ copy_stored 2 file saved draft.stored same written
+    ];
   }
 
   -- what they are before and after the directory is written
@@ -134,5 +139,5 @@ room_clear all taken n e perm fits =
     All-permutation (λ x. IsOut (start_of e) e.length (start_of x) (end_of x)) taken all (IsPermutation-sym all taken perm)
     (λ k d inside. subst (λ m. IsOut (start_of e) m (start_of (get_or taken k d)) (end_of (get_or taken k d))) (sym fits.length_is) (apart_out e.page n (get_or taken k d) (fits.free k d inside)))
 
-pub room_placed : (taken : List Extent) (n : ℕ) (e : Extent) → 1 ≤ n → n ≤ longest_image → IsFirstFit taken n e → IsPlaced e
-room_placed taken n e some short fits = record { behind = fits.behind_slots; within = fits.in_reach; some = subst (λ m. 1 ≤ m) (sym fits.length_is) some; short = subst (λ m. m ≤ longest_image) (sym fits.length_is) short }
+pub room_placed : (taken : List Extent) (n : ℕ) (e : Extent) → 1 ≤ n → n ≤ longest_directory → IsFirstFit taken n e → IsPlaced e
+room_placed taken n e some short fits = record { behind = fits.behind_slots; within = fits.in_reach; some = subst (λ m. 1 ≤ m) (sym fits.length_is) some; short = subst (λ m. m ≤ longest_directory) (sym fits.length_is) short }

@@ -16,7 +16,7 @@ use Rattle.vm_file.specs.Effects.{IsFile, IsNewFile, OnlyReads, IsCommit, Fails,
 use Rattle.vm_file.specs.Making.{IsOne}
 use Rattle.vm_file.specs.Ranges.{KeepsAll}
 use Rattle.vm_file.specs.Slots.{marked_extents}
-use Rattle.vm_file.specs.Sound.{IsSound, disk_of}
+use Rattle.vm_file.specs.Sound.{IsTable, IsSound, disk_of}
 use Rattle.vm_file.specs.declared.slots.Slots.{Slots}
 use Rattle.vm_file.specs.declared.slots.Stored.{Stored}
 use Rattle.vm_file.specs.declared.table.Table.{Table}
@@ -68,8 +68,8 @@ module _ {S : Type 0} (facts : S → StoreFacts) where
     early = λ is. absurd (cc (is, by));
   }
 
-  stored_valid : (file : List ℕ) (s : Stored) → IsStored file s → IsValid (document_in file s.table)
-  stored_valid file s stored = document_at-valid file s.directory (document_in file s.table) (stored_document file s stored)
+  stored_valid : (version : ℕ) (file : List ℕ) (s : Stored) → IsTable s.table → IsStored version file s → IsValid (document_in file s.table)
+  stored_valid version file s table stored = document_at-valid version file s.directory (document_in file s.table) (stored_document version file s table stored)
 
   -- what is sound
   pub sound_file : (store : S) (live : Table) (slots : Slots) → IsSound (facts store) live slots → IsFile facts (record { disk = disk_of facts store slots; document = document_in (facts store).content live })
@@ -80,7 +80,10 @@ module _ {S : Type 0} (facts : S → StoreFacts) where
         document = listed f.honest f.content live sound.formed.table (λ so. (sound.whole so).images);
         updated = listed f.honest f.content pair.updated.table sound.formed.committed.updated (λ so. (sound.whole so).committed.updated.images);
         saved = listed f.honest f.content pair.saved.table sound.formed.committed.saved (λ so. (sound.whole so).committed.saved.images);
-        valid = λ so. (stored_valid f.content pair.updated (sound.whole so).committed.updated, stored_valid f.content pair.saved (sound.whole so).committed.saved);
+        valid = λ so. (
+          stored_valid slots.version f.content pair.updated sound.formed.committed.updated (sound.whole so).committed.updated,
+          stored_valid slots.version f.content pair.saved sound.formed.committed.saved (sound.whole so).committed.saved,
+        );
         settled = sound_settled facts store live slots sound;
         numbered = λ so none. sound_numbered facts store live slots sound so none;
         sequence = (sound.formed.numbered, omega (arith, sound.formed.in_range));

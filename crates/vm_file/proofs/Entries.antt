@@ -3,22 +3,23 @@ use Rattle.std.proofs.Common.{◌≡◌, ◌⊎◌, ℕ, zero, suc, ◌+◌, ◌
 use Rattle.std.specs.Prelude.{IfSome, ◌==◌, nat_lt}
 use Rattle.std.specs.Option.{option_map, option_and_then}
 use Rattle.std.specs.List.{list_any, list_all}
-use Rattle.std.proofs.lemmas.Bool.{and_parts, cases_Bool}
+use Rattle.std.proofs.lemmas.Bool.{and_parts, cases_Bool, cases_lt}
 use Rattle.std.proofs.lemmas.List.{get_or-set_other, take_more}
 use Rattle.std.specs.FinMap.{from_entries}
 use Rattle.geos_model.specs.Document.{Block, Document, most_blocks}
-use Rattle.geos_model.specs.declared.command.Body.{Body}
-use Rattle.geos_model.specs.File.{Directory, directory_of, document_at, document_of, both, is_rising, is_entry, is_map_block, is_directory, blocks_of, block_of, prepended, bytes_in}
-use Rattle.geos_model.specs.Image.{body_of}
+use Rattle.geos_model.specs.File.{Directory, directory_of, document_at, document_of, both, is_rising, is_entry, is_map_block, is_directory, blocks_of, block_of, prepended, longest_image}
 use Rattle.geos_model.specs.declared.fault.Fault.TheVariants.{Damaged}
 use Rattle.geos_model.specs.declared.file.Extent.{Extent}
 use Rattle.geos_model.specs.declared.file.Entry.{Entry}
 use Rattle.geos_model.proofs.Files as files
+use Rattle.geos_model.proofs.FileDocuments.{is_in_file-parts}
 use Rattle.geos_model.proofs.Tables.{slot_at}
 use Rattle.vm_file.specs.Ranges.{IsPlaced, end_of}
 use Rattle.vm_file.specs.Slots.{block_extents}
 use Rattle.vm_file.specs.Documents.{entries_of, directory_of_table, IsImaged, AreImaged}
 use Rattle.vm_file.specs.Opened.{IsDirectoryPlace, IsRead}
+use Rattle.vm_file.specs.Sound.{IsPlace, ArePlaces}
+use Rattle.vm_file.proofs.Tables.{EachPlace, each_set}
 use Rattle.vm_file.specs.declared.slots.Stored.{Stored}
 use Rattle.vm_file.specs.declared.table.Place.{Place}
 
@@ -26,8 +27,8 @@ all_more : {X : Type 0} (P : X → Type 0) (x : X) (xs : List X) → P x → All
 all_more P x xs first all zero d within = first
 all_more P x xs first all (suc k) d within = all k d (omega (arith, within))
 
-made : ℕ → List Entry → Directory
-made m es = record { map_block = m; entries = es }
+made : ℕ → ℕ → List Entry → Directory
+made v m es = record { version = v; map_block = m; entries = es }
 
 -- no block is there
 nones : (h : ℕ) (places : List (Option Place)) → ((j : ℕ) → slot_at places j ≡ None) → entries_of h places ≡ []
@@ -75,6 +76,16 @@ rising_pair last (e ∷ es) i zero d rising less inside = absurd (omega arith)
 rising_pair last (e ∷ es) zero (suc k) d rising less inside = rising_above e.handle.0 es k d (and_parts (nat_lt last e.handle.0) (is_rising e.handle.0 es) rising).1 (omega arith)
 rising_pair last (e ∷ es) (suc i) (suc k) d rising less inside = rising_pair e.handle.0 es i k d (and_parts (nat_lt last e.handle.0) (is_rising e.handle.0 es) rising).1 (omega arith) (omega arith)
 
+-- none is above the last one
+pub rising_last : (es : List Entry) (e : Entry) → is_rising 0 es ≡ true → e ≡ get_or es (length es - 1) e → All (λ x. x.handle.0 ≤ e.handle.0) es
+rising_last es e rising is k d inside =
+    let i = length es - 1 in
+    let same : (get_or es i d).handle.0 ≡ e.handle.0 = ap (λ x. x.handle.0) (files.get_or_same es i d e (omega (arith, inside)) ∙ sym is) in
+    elim (cases_lt k i) as (λ _. (get_or es k d).handle.0 ≤ e.handle.0) [
+      | inl less ↦ let below = rising_pair 0 es k i d rising less (omega (arith, inside)) in omega (arith, below, same)
+      | inr more ↦ let here : k ≡ i = omega (arith, more, inside) in let at : (get_or es k d).handle.0 ≡ (get_or es i d).handle.0 = ap (λ n. (get_or es n d).handle.0) here in omega (arith, at, same)
+    ]
+
 -- No place is taken at the handles of the entries from the i-th on, nor above them.
 abbrev pub IsFreeFrom : ℕ → List Entry → List (Option Place) → Type 0
 IsFreeFrom i es places = (k j : ℕ) (d : Entry) → i ≤ k → k < length es → (get_or es k d).handle.0 ≤ j + 1 → slot_at places j ≡ None
@@ -96,49 +107,54 @@ imaged_more file (o ∷ places) zero place one all (suc i) d within = all (suc i
 imaged_more file (o ∷ places) (suc k) place one all zero d within = all zero d (omega (arith, within))
 imaged_more file (o ∷ places) (suc k) place one all (suc i) d within = imaged_more file places k place one (λ j e inside. all (suc j) e (omega arith)) i d (omega (arith, within))
 
--- The places of the first i entries, and no others.
+-- The places of the first i entries, which can be, and no others.
 pub record IsPartRead (i : ℕ) (es : List Entry) (places : List (Option Place)) : Type 0 where
-  pub size : length places ≡ most_blocks
+  pub size : length places ≤ most_blocks
+  pub room : All (λ e. e.handle.0 ≤ length places) es
   pub entries : entries_of 1 places ≡ take i es
   pub free : IsFreeFrom i es places
+  pub can_be : ArePlaces places
 
-pub part_start : (es : List Entry) (places : List (Option Place)) → length places ≡ most_blocks → ((j : ℕ) → slot_at places j ≡ None) → IsPartRead 0 es places
-part_start es places size none = record { size = size; entries = nones 1 places none; free = λ k j d le below above. none j }
+-- of no places all holds
+each_start : (P : Place → Type 0) (places : List (Option Place)) → ((j : ℕ) → slot_at places j ≡ None) → EachPlace P places
+each_start P places none k d within = subst (λ o. IfSome o P) (sym (files.get_or_same places k d None within ∙ none k)) tt
+
+pub part_start : (es : List Entry) (places : List (Option Place)) → length places ≤ most_blocks → All (λ e. e.handle.0 ≤ length places) es → ((j : ℕ) → slot_at places j ≡ None) → IsPartRead 0 es places
+part_start es places size room none = record { size = size; room = room; entries = nones 1 places none; free = λ k j d le below above. none j; can_be = each_start IsPlace places none }
 
 pub imaged_start : (file : List ℕ) (places : List (Option Place)) → ((j : ℕ) → slot_at places j ≡ None) → AreImaged file places
-imaged_start file places none k d within = subst (λ o. IfSome o (IsImaged file)) (sym (files.get_or_same places k d None within ∙ none k)) tt
+imaged_start file places none = each_start (IsImaged file) places none
 
 -- the entry is that of its place
 same_entry : (e : Entry) (h : ℕ) (place : Place) → e.handle.0 ≡ h → place.attributes ≡ e.attributes → place.extent ≡ e.extent → entry_at h place ≡ e
 same_entry e h place handle attributes extent = λ i. record { handle = record { 0 = sym handle i }; attributes = attributes i; extent = extent i }
 
-pub part_more : (last i : ℕ) (es : List Entry) (places : List (Option Place)) (e : Entry) (place : Place) → is_rising last es ≡ true → All (λ x. x.handle.0 ≤ most_blocks) es → i < length es → get_or es i e ≡ e
-    → place.attributes ≡ e.attributes → place.extent ≡ e.extent → IsPartRead i es places → IsPartRead (i + 1) es (set places (e.handle.0 - 1) (Some place))
-part_more last i es places e place rising low inside is attributes extent part =
+pub part_more : (last i : ℕ) (es : List Entry) (places : List (Option Place)) (e : Entry) (place : Place) → is_rising last es ≡ true → i < length es → get_or es i e ≡ e
+    → place.attributes ≡ e.attributes → place.extent ≡ e.extent → IsPlace place → IsPartRead i es places → IsPartRead (i + 1) es (set places (e.handle.0 - 1) (Some place))
+part_more last i es places e place rising inside is attributes extent one part =
     let above : last < (get_or es i e).handle.0 = rising_above last es i e rising inside in
     let same = ap (λ x. x.handle.0) is in
-    let short : (get_or es i e).handle.0 ≤ most_blocks = low i e inside in
+    let short : (get_or es i e).handle.0 ≤ length places = part.room i e inside in
     let handle : e.handle.0 ≡ 1 + (e.handle.0 - 1) = omega (arith, above, same) in
     record {
-      size = length-set places (e.handle.0 - 1) (Some place) ∙ part.size;
-      entries = entries_more 1 (e.handle.0 - 1) places place (omega (arith, part.size, short, same, above)) (λ j le. part.free i j e (omega arith) inside (omega (arith, le, same, above)))
+      size = (let long = length-set places (e.handle.0 - 1) (Some place) in let few = part.size in omega (arith, long, few));
+      room = λ k d within. let was = part.room k d within in let long = length-set places (e.handle.0 - 1) (Some place) in omega (arith, was, long);
+      entries = entries_more 1 (e.handle.0 - 1) places place (omega (arith, short, same, above)) (λ j le. part.free i j e (omega arith) inside (omega (arith, le, same, above)))
           ∙ ap₂ (λ es x. es ++ x ∷ []) part.entries (same_entry e (1 + (e.handle.0 - 1)) place handle attributes extent ∙ sym is)
           ∙ sym (take_more es i e inside);
       free = subst (λ x. IsFreeFrom (i + 1) es (set places (x.handle.0 - 1) (Some place))) is (free_more last i es places e place rising inside part.free);
+      can_be = each_set IsPlace places (e.handle.0 - 1) (Some place) one part.can_be;
     }
 
--- an entry that has no image
+-- an entry that has no block
 
 none_prepended : (b : Option (ℕ × Block)) → prepended b None ≡ None
 none_prepended None = refl
 none_prepended (Some b) = refl
 
-abbrev numbered : Entry → Body → ℕ × Block
-numbered e body = (e.handle.0, record { attributes = e.attributes; body = body })
-
-pub no_blocks : (file : List ℕ) (es : List Entry) (i : ℕ) (d : Entry) → i < length es → body_of (bytes_in file (get_or es i d).extent) ≡ None → blocks_of file es ≡ None
+pub no_blocks : (file : List ℕ) (es : List Entry) (i : ℕ) (d : Entry) → i < length es → block_of file (get_or es i d) ≡ None → blocks_of file es ≡ None
 no_blocks file [] i d inside none = absurd (omega arith)
-no_blocks file (e ∷ es) zero d inside none = ap (λ b. prepended (option_map (numbered e) b) (blocks_of file es)) none
+no_blocks file (e ∷ es) zero d inside none = ap (λ b. prepended b (blocks_of file es)) none
 no_blocks file (e ∷ es) (suc i) d inside none = ap (prepended (block_of file e)) (no_blocks file es i d (omega arith) none) ∙ none_prepended (block_of file e)
 
 -- The table of a directory.
@@ -175,43 +191,49 @@ map_place m places is = elim (cases_Bool (m == 0)) as (λ _. (m ≡ 0) ⊎ ((1 �
 ]
 
 -- what is behind the slots and in reach is placed
-entry_placed : (n : ℕ) (e : Entry) → files.IsEntry n e → IsPlaced e.extent
-entry_placed n e is = record { behind = is.behind_slots; within = is.in_reach; some = is.some; short = omega (arith, is.short) }
+entry_placed : (file_version n version : ℕ) (e : Entry) → files.IsEntry file_version n version e → IsPlaced e.extent
+entry_placed file_version n version e is = record { behind = is.behind_slots; within = files.entry-in_reach file_version n version e is; some = is.some; short = omega (arith, is.short) }
 
-each_entry : (P : Entry → Type 0) (n : ℕ) (es : List Entry) → list_all (is_entry n) es ≡ true → ((e : Entry) → files.IsEntry n e → P e) → All P es
-each_entry P n es all has k d inside =
-    subst P (files.get_or_same es k files.no_entry d inside) (has (get_or es k files.no_entry) (files.is_entry-parts n (get_or es k files.no_entry) (files.each_entry n es all k inside)))
+each_entry : (P : Entry → Type 0) (file_version n version : ℕ) (es : List Entry) → list_all (is_entry file_version n version) es ≡ true → ((e : Entry) → files.IsEntry file_version n version e → P e) → All P es
+each_entry P file_version n version es all has k d inside =
+    let e = get_or es k files.no_entry in
+    subst P (files.get_or_same es k files.no_entry d inside) (has e (files.is_entry-parts file_version n version e (files.each_entry file_version n version es all k inside)))
 
-pub handles_low : (n : ℕ) (es : List Entry) → list_all (is_entry n) es ≡ true → All (λ e. e.handle.0 ≤ most_blocks) es
-handles_low n es all = each_entry (λ e. e.handle.0 ≤ most_blocks) n es all (λ e is. is.handle)
+-- the images of a directory's entries are short
+pub images_short : (file_version n : ℕ) (d : Directory) → is_directory file_version n d ≡ true → All (λ e. e.extent.length ≤ longest_image) d.entries
+images_short file_version n d good = each_entry (λ e. e.extent.length ≤ longest_image) file_version n d.version d.entries (files.is_directory-parts file_version n d good).entries (λ e is. is.short)
 
-pub read_formed : (n : ℕ) (d : Directory) (s : Stored) → is_directory n d ≡ true → IsDirectoryPlace n s.directory → entries_of 1 s.table.places.items ≡ d.entries
-    → length s.table.places.items ≡ most_blocks → s.table.map_block ≡ d.map_block → IsRead n s
-read_formed n d s good place entries long map =
-    let parts = files.is_directory-parts n d good in
-    let all : list_all (is_entry n) (entries_of 1 s.table.places.items) ≡ true = ap (list_all (is_entry n)) entries ∙ parts.entries in
-    let placed = entries_extents IsPlaced 1 s.table.places.items (each_entry (λ e. IsPlaced e.extent) n (entries_of 1 s.table.places.items) all (entry_placed n)) in
-    let inside = entries_extents (λ e. end_of e ≤ n) 1 s.table.places.items (each_entry (λ e. end_of e.extent ≤ n) n (entries_of 1 s.table.places.items) all (λ e is. is.within)) in
+pub read_formed : (version n : ℕ) (d : Directory) (s : Stored) → is_directory version n d ≡ true → IsDirectoryPlace version n s.directory → entries_of 1 s.table.places.items ≡ d.entries
+    → ArePlaces s.table.places.items → length s.table.places.items ≤ most_blocks → s.table.map_block ≡ d.map_block → IsRead n s
+read_formed version n d s good place entries are long map =
+    let ps = s.table.places.items in
+    let parts = files.is_directory-parts version n d good in
+    let there = is_in_file-parts version n s.directory place.in_file in
+    let reach = files.last_page_of-most version in
+    let all : list_all (is_entry version n d.version) (entries_of 1 ps) ≡ true = ap (list_all (is_entry version n d.version)) entries ∙ parts.entries in
+    let placed = entries_extents IsPlaced 1 ps (each_entry (λ e. IsPlaced e.extent) version n d.version (entries_of 1 ps) all (entry_placed version n d.version)) in
+    let inside = entries_extents (λ e. end_of e ≤ n) 1 ps (each_entry (λ e. end_of e.extent ≤ n) version n d.version (entries_of 1 ps) all (λ e is. is.within)) in
     record {
       table = record {
         size = long;
-        map_block = map_place s.table.map_block s.table.places.items (ap₂ is_map_block map entries ∙ parts.map_block);
+        places = are;
+        map_block = map_place s.table.map_block ps (ap₂ is_map_block map entries ∙ parts.map_block);
       };
-      placed = all_more IsPlaced s.directory (block_extents s.table.places.items) (record { behind = place.behind; within = place.in_reach; some = omega (arith, place.some); short = omega (arith, place.short) }) placed;
-      within = all_more (λ e. end_of e ≤ n) s.directory (block_extents s.table.places.items) place.within inside;
+      placed = all_more IsPlaced s.directory (block_extents ps) (record { behind = there.behind_slots; within = omega (arith, there.in_reach, reach); some = omega (arith, place.some); short = place.short }) placed;
+      within = all_more (λ e. end_of e ≤ n) s.directory (block_extents ps) there.within inside;
     }
 
-pub read_directory : (d : Directory) (s : Stored) → entries_of 1 s.table.places.items ≡ d.entries → s.table.map_block ≡ d.map_block → d ≡ directory_of_table s.table
+pub read_directory : (d : Directory) (s : Stored) → entries_of 1 s.table.places.items ≡ d.entries → s.table.map_block ≡ d.map_block → d ≡ directory_of_table d.version s.table
 unfolding made
-read_directory d s entries map = ap₂ made (sym map) (sym entries)
+read_directory d s entries map = ap₂ (made d.version) (sym map) (sym entries)
 
 -- a document of which an image is wrong
-pub no_document : (file : List ℕ) (e : Extent) (d : Directory) → directory_of file e ≡ Some d → blocks_of file d.entries ≡ None → document_at file e ≡ None
-no_document file e d is none = ap (option_and_then (document_of file)) is ∙ ap (option_map (λ blocks. let made : Document = record { blocks = from_entries blocks; map_block = d.map_block } in made)) none
+pub no_document : (version : ℕ) (file : List ℕ) (e : Extent) (d : Directory) → directory_of version file e ≡ Some d → blocks_of file d.entries ≡ None → document_at version file e ≡ None
+no_document version file e d is none = ap (option_and_then (document_of file)) is ∙ ap (option_map (λ blocks. let made : Document = record { blocks = from_entries blocks; map_block = d.map_block } in made)) none
 
 -- one of which the directory is wrong
-pub no_directory : (file : List ℕ) (e : Extent) → directory_of file e ≡ None → document_at file e ≡ None
-no_directory file e none = ap (option_and_then (document_of file)) none
+pub no_directory : (version : ℕ) (file : List ℕ) (e : Extent) → directory_of version file e ≡ None → document_at version file e ≡ None
+no_directory version file e none = ap (option_and_then (document_of file)) none
 
 -- a saved document that is wrong
 pub no_saved : (first second : Option Document) → second ≡ None → both first second ≡ Err Damaged

@@ -1,12 +1,12 @@
 -- Tables in which blocks come and go.
-use Rattle.std.proofs.Common.{◌≡◌, ◌≢◌, ℕ, zero, suc, ◌+◌, ◌-◌, ◌<◌, ◌==◌, Bool, true, false, cond, IsTrue, List, [], ◌∷◌, All, set, length, get_or, Option, None, Some, is_some, refl, sym, ap, ap₂, subst, ◌∙◌, arith, inl, inr, length-set}
+use Rattle.std.proofs.Common.{◌≡◌, ◌≢◌, ℕ, zero, suc, ◌+◌, ◌-◌, ◌<◌, ◌≤◌, ◌==◌, Bool, true, false, cond, IsTrue, List, [], ◌∷◌, All, set, length, get_or, Option, None, Some, is_some, refl, sym, ap, ap₂, subst, ◌∙◌, arith, inl, inr, length-set}
 use Rattle.std.specs.Cmp.{nat_cmp_total, unsigned_tied}
 use Rattle.std.specs.Option.{option_map, option_map_or}
 use Rattle.std.specs.FinMap.{FinMap, get, remove, get-insert, get-remove, same_map, nat_cmp-IsAntisymmetric}
 use Rattle.std.specs.Ordering.{nat_cmp}
 use Rattle.std.proofs.lemmas.Bool.{cases_Bool, cases_lt, cond-true, cond-false, eqb-true}
 use Rattle.std.proofs.lemmas.List.{get_or-set_other, set_past}
-use Rattle.geos_model.specs.Document.{Block, Document, is_heap, is_heap_body, is_live, attributes_of, with_block, without_block, no_attributes, most_blocks}
+use Rattle.geos_model.specs.Document.{Block, Document, is_heap, is_heap_body, is_live, attributes_of, with_block, without_block, no_attributes}
 use Rattle.geos_model.specs.Image.{image, body_read}
 use Rattle.geos_model.specs.File.{bytes_in}
 use Rattle.geos_model.specs.declared.file.Extent.{Extent}
@@ -104,21 +104,22 @@ full_with [] extents places k full = full
 full_with (p ∷ puts) [] places k full = full
 full_with (p ∷ puts) (e ∷ extents) places k full = full_with puts extents (set places (p.handle.0 - 1) (Some (placed_at p e))) k (full_set places (p.handle.0 - 1) k (placed_at p e) full)
 
-pub filled_drifts : (honest : Bool) (file : List ℕ) (puts : List Member) (extents : List Extent) (places : List (Option Place)) (map_block : ℕ) → length places ≡ most_blocks → All IsPut puts → length extents ≡ length puts
+pub filled_drifts : (honest : Bool) (file : List ℕ) (puts : List Member) (extents : List Extent) (places : List (Option Place)) (map_block : ℕ) → All (λ p. p.handle.0 ≤ length places) puts → All IsPut puts → length extents ≡ length puts
     → ((k : ℕ) (p : Member) (e : Extent) → k < length puts → IsTrue honest → bytes_in file (get_or extents k e) ≡ image (get_or puts k p).block.image)
     → Drifts honest (put_all puts (shown file places map_block)) (shown file (with_places puts extents places) map_block)
-filled_drifts honest file [] extents places map_block size are long images = Drifts-refl honest (shown file places map_block)
-filled_drifts honest file (p ∷ puts) [] places map_block size are long images = absurd (omega arith)
-filled_drifts honest file (p ∷ puts) (e ∷ extents) places map_block size are long images =
+filled_drifts honest file [] extents places map_block room are long images = Drifts-refl honest (shown file places map_block)
+filled_drifts honest file (p ∷ puts) [] places map_block room are long images = absurd (omega arith)
+filled_drifts honest file (p ∷ puts) (e ∷ extents) places map_block room are long images =
     let put : IsPut p = are 0 p (omega arith) in
     let bounds = handle_within p.handle.0 put in
     let h = p.handle.0 in
+    let last : h ≤ length places = room 0 p (omega arith) in
     let one = placed_at p e in
     let block = saved_block p.block in
     let body = p.block.image in
     let d = shown file places map_block in
     let next = set places (h - 1) (Some one) in
-    let made : shown file next map_block ≡ with_block d h (block_in file one) = shown_put file places map_block h one bounds.0 (omega (arith, bounds.0, bounds.1, size)) in
+    let made : shown file next map_block ≡ with_block d h (block_in file one) = shown_put file places map_block h one bounds.0 (omega (arith, bounds.0, last)) in
     let there : IsTrue honest → block_in file one ≡ block = λ so.
     ap (λ b. record { attributes = p.block.attributes; body = of_kind one.is_heap b }) (ap body_read (images 0 p e (omega arith) so) ∙ body_read-body body p.block.valid)
     ∙ ap (λ b. record { attributes = p.block.attributes; body = b }) (of_kind-same one.is_heap body refl) in
@@ -126,7 +127,7 @@ filled_drifts honest file (p ∷ puts) (e ∷ extents) places map_block size are
     let first : Drifts honest (with_block d h block) (shown file next map_block) =
     subst (Drifts honest (with_block d h block)) (sym made) (drifts_with honest d d h block (block_in file one) (Drifts-refl honest d) refl (kind_here (body_read (bytes_in file e))) there) in
     Drifts-trans honest _ _ _ (drifts_put_all honest puts (with_block d h block) (shown file next map_block) first)
-    (filled_drifts honest file puts extents next map_block (length-set places (h - 1) (Some one) ∙ size) (λ k q low. are (suc k) q (omega arith)) (omega (arith, long)) (λ k q x low so. images (suc k) q x (omega arith) so))
+    (filled_drifts honest file puts extents next map_block (λ k q low. let more = room (suc k) q (omega arith) in let same = length-set places (h - 1) (Some one) in omega (arith, more, same)) (λ k q low. are (suc k) q (omega arith)) (omega (arith, long)) (λ k q x low so. images (suc k) q x (omega arith) so))
 
 -- Blocks that go.
 

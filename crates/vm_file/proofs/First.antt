@@ -1,19 +1,19 @@
 -- What the making of a file leaves.
-use Rattle.std.proofs.Common.{◌≡◌, ◌≢◌, ◌⊎◌, ℕ, zero, suc, ◌+◌, ◌-◌, ◌*◌, ◌<◌, ◌≤◌, true, Bool, IsTrue, List, [], ◌∷◌, ◌++◌, All, length, get_or, is_some, Option, None, Some, refl, sym, ap, subst, ◌∙◌, arith, inl, inr}
-use Rattle.std.specs.Prelude.{if◌then◌else◌, IfSome, replicate}
+use Rattle.std.proofs.Common.{◌≡◌, ◌≢◌, ◌⊎◌, ℕ, ◌+◌, ◌-◌, ◌*◌, ◌<◌, ◌≤◌, true, Bool, IsTrue, List, [], ◌∷◌, ◌++◌, All, length, get_or, is_some, Option, None, Some, refl, sym, ap, subst, ◌∙◌, arith, inl, inr}
+use Rattle.std.specs.Prelude.{if◌then◌else◌, IfSome}
 use Rattle.std.specs.FinMap.{from_entries}
-use Rattle.std.proofs.lemmas.List.{append-nil, length-replicate}
-use Rattle.std.proofs.lemmas.List.Elements.{All-nil, All-cons, All-append, All-replicate}
+use Rattle.std.proofs.lemmas.List.{append-nil}
+use Rattle.std.proofs.lemmas.List.Elements.{All-nil, All-cons, All-append}
 use Rattle.vm_store.specs.Facts.{StoreFacts, byte, Holds, Puts, IsDurable}
 use Rattle.vm_store.specs.Laws.{Holds-Puts}
-use Rattle.geos_model.specs.Document.{empty_document, FitAttributes, most_blocks}
+use Rattle.geos_model.specs.Document.{empty_document, FitAttributes}
 use Rattle.geos_model.proofs.Table.{table_entries, table_map}
 use Rattle.geos_model.specs.File.{slot_mark, directory_of, directory_text}
 use Rattle.geos_model.specs.declared.file.Extent.{Extent}
 use Rattle.vm_file.specs.Ranges.{IsPlaced, start_of, end_of, KeepsAll, IsOut, IsClear}
 use Rattle.vm_file.specs.Slots.{gate_text, block_extents, stored_extents, pair_extents, held_extents, IsBeside, Leads, Outcome}
-use Rattle.vm_file.specs.Documents.{blocks_in, document_in, attempted_in, entries_of, directory_of_table, IsImaged, AreImaged, IsStored, IsHeldStored}
-use Rattle.vm_file.specs.Sound.{IsTable, IsHeldFormed, IsFormed, IsWhole, IsSound}
+use Rattle.vm_file.specs.Documents.{blocks_in, document_in, attempted_in, entries_of, directory_of_table, IsImaged, AreImaged, IsStored, AreStored, IsHeldStored}
+use Rattle.vm_file.specs.Sound.{IsPlace, ArePlaces, IsTable, IsHeldFormed, IsFormed, IsWhole, IsSound}
 use Rattle.vm_file.specs.Making.{first_directory, no_blocks, first_slot, IsLaid, IsLiveStored, IsFirst, IsFounding, IsOne}
 use Rattle.vm_file.specs.declared.table.Place.{Place}
 use Rattle.vm_file.specs.declared.table.Table.{Table}
@@ -42,7 +42,7 @@ first_long : (directory : Extent) → length (first_slot directory) ≡ 32
 unfolding gate_text
 first_long directory = refl
 
-gate_long : (directory : Extent) → length (gate_text 1 directory directory) ≡ 27
+gate_long : (directory : Extent) → length (gate_text 2 1 directory directory) ≡ 27
 unfolding gate_text
 gate_long directory = refl
 
@@ -53,7 +53,7 @@ slots_laid directory text a b c d behind directory_put first second =
     let rest = gate_long directory in
     let there = Holds-Puts 0 (first_slot directory) b c first in
     let text_there = Holds-Puts (start_of directory) text a b directory_put in
-    let gate : List ℕ = gate_text 1 directory directory in
+    let gate : List ℕ = gate_text 2 1 directory directory in
     let P : List ℕ → Type 0 = λ xs. Holds c 0 (slot_mark ++ 0 ∷ xs) in
     record {
       gate_is = second.below 4 (omega arith) ∙ first.each 4 (omega (arith, long));
@@ -74,18 +74,20 @@ copy_table directory live s copy is =
     let P : List (Option Place) → Type 0 = λ ps. (m ≡ 0) ⊎ ((1 ≤ m) × (is_some (get_or ps (m - 1) None) ≡ true)) in
     let Q : ℕ → Type 0 = λ n. (n ≡ 0) ⊎ ((1 ≤ n) × (is_some (get_or s.table.places.items (n - 1) None) ≡ true)) in
     record {
-      size = ap length copy.places ∙ is.size;
+      size = (let long = ap length copy.places in let few = is.size in omega (arith, long, few));
+      places = subst ArePlaces (sym copy.places) is.places;
       map_block = subst Q (sym copy.map_block) (subst P (sym copy.places) is.map_block);
     }
 
 copy_extents : (directory : Extent) (live : Table) (s : Stored) → IsLiveStored directory live s → stored_extents s ≡ directory ∷ block_extents live.places.items
 copy_extents directory live s copy = λ i. copy.directory_is i ∷ block_extents (copy.places i)
 
-copy_stored : (file : List ℕ) (directory : Extent) (live : Table) (s : Stored) → IsLiveStored directory live s → IsStored file (record { directory = directory; table = live }) → IsStored file s
+copy_stored : (file : List ℕ) (directory : Extent) (live : Table) (s : Stored) → IsLiveStored directory live s → IsStored 2 file (record { directory = directory; table = live }) → IsStored 2 file s
 copy_stored file directory live s copy is =
-    let same : directory_of_table s.table ≡ directory_of_table live = λ i. record { map_block = copy.map_block i; entries = entries_of 1 (copy.places i) } in
+    let same : directory_of_table is.version s.table ≡ directory_of_table is.version live = λ i. record { version = is.version; map_block = copy.map_block i; entries = entries_of 1 (copy.places i) } in
     record {
-      directory = ap (directory_of file) copy.directory_is ∙ is.directory ∙ sym (ap (λ d. Some d) same);
+      version = is.version;
+      directory = ap (directory_of 2 file) copy.directory_is ∙ is.directory ∙ sym (ap (λ d. Some d) same);
       images = subst (AreImaged file) (sym copy.places) is.images;
     }
 
@@ -115,6 +117,7 @@ module _ (directory : Extent) (text : List ℕ) (live : Table) (slots : Slots) (
     held = subst (IsHeldFormed slots.sequence) (sym first.other) tt;
     marked = nothing_marked IsTable slots.marked first.unmarked;
     kept = kept_all IsPlaced slots (all_pair IsPlaced founding.directory_placed founding.placed) (subst (λ o. All IsPlaced (held_extents o)) (sym first.other) (All-nil IsPlaced)) (nothing_kept IsPlaced slots.marked first.unmarked);
+    version = inr first.version;
     numbered = omega (arith, first.sequence);
     in_range = omega (arith, first.sequence);
   }
@@ -141,15 +144,15 @@ module _ (directory : Extent) (text : List ℕ) (live : Table) (slots : Slots) (
     images : AreImaged file live.places.items
     images = images_same old file live.places.items lying.within keeps lying.images
 
-    one_stored : IsStored file (record { directory = directory; table = live })
+    one_stored : IsStored 2 file (record { directory = directory; table = live })
     one_stored = directory_written file (record { directory = directory; table = live }) founding.table
         (All-cons IsPlaced directory es founding.directory_placed founding.placed)
         images within founding.attributes (sym founding.size ∙ ap length founding.text_is) (subst (λ t. Holds file (start_of directory) t) founding.text_is laid.there)
 
-    leads : Leads 0 1 slots.committed file file
+    leads : Leads 0 2 1 slots.committed file file
     leads = record {
       marked = laid.marked;
-      rest = subst (λ d. Holds file 5 (gate_text 1 d slots.committed.saved.directory)) (sym first.updated.directory_is) (subst (λ d. Holds file 5 (gate_text 1 directory d)) (sym first.saved.directory_is) laid.rest);
+      rest = subst (λ d. Holds file 5 (gate_text 2 1 d slots.committed.saved.directory)) (sym first.updated.directory_is) (subst (λ d. Holds file 5 (gate_text 2 1 directory d)) (sym first.saved.directory_is) laid.rest);
       kept = keeps_itself (pair_extents slots.committed) file (all_pair (λ e. end_of e ≤ length file) (omega (arith, laid.there.within, founding.size)) within);
     }
 
@@ -159,12 +162,12 @@ module _ (directory : Extent) (text : List ℕ) (live : Table) (slots : Slots) (
     outcome : Outcome slots file file
     outcome =
         let P : Bool → Type 0 = λ b. byte file (512 * (if b then 1 else 0) + 4) ≡ 1 in
-        let Q : Bool → Type 0 = λ b. Leads (if b then 1 else 0) slots.sequence slots.committed file file in
+        let Q : Bool → Type 0 = λ b. Leads (if b then 1 else 0) slots.version slots.sequence slots.committed file file in
         let R : Bool → Type 0 = λ b. IsBeside slots.other (if b then 0 else 1) slots.sequence file file in
         let T : Other → Type 0 = λ o. IsBeside o 1 slots.sequence file file in
         record {
           gate = subst P (sym first.second) laid.gate_is;
-          counts = subst Q (sym first.second) (subst (λ s. Leads 0 s slots.committed file file) (sym first.sequence) leads);
+          counts = subst Q (sym first.second) (subst (λ v. Leads 0 v slots.sequence slots.committed file file) (sym first.version) (subst (λ s. Leads 0 2 s slots.committed file file) (sym first.sequence) leads));
           beside = subst R (sym first.second) (subst T (sym first.other) shut);
         }
 
@@ -172,7 +175,7 @@ module _ (directory : Extent) (text : List ℕ) (live : Table) (slots : Slots) (
     whole = record {
       images = images;
       within = within;
-      committed = record { updated = copy_stored file directory live slots.committed.updated first.updated one_stored; saved = copy_stored file directory live slots.committed.saved first.saved one_stored };
+      committed = subst (λ v. AreStored v file slots.committed) (sym first.version) (record { updated = copy_stored file directory live slots.committed.updated first.updated one_stored; saved = copy_stored file directory live slots.committed.saved first.saved one_stored });
       held = subst (IsHeldStored file) (sym first.other) tt;
       marked = nothing_marked (λ t. AreImaged file t.places.items) slots.marked first.unmarked;
       marked_within = nothing_kept (λ e. end_of e ≤ length file) slots.marked first.unmarked;
@@ -185,55 +188,44 @@ module _ (directory : Extent) (text : List ℕ) (live : Table) (slots : Slots) (
 
 -- A file of no block.
 
-none_extents : (n : ℕ) → block_extents (replicate n None) ≡ []
-none_extents zero = refl
-none_extents (suc n) = none_extents n
-
-none_entries : (h n : ℕ) → entries_of h (replicate n None) ≡ []
-none_entries h zero = refl
-none_entries h (suc n) = none_entries (h + 1) n
-
-none_listed : (bytes : List ℕ) (h n : ℕ) → table_entries 1 h (blocks_in bytes (replicate n None)) ≡ []
-none_listed bytes h zero = refl
-none_listed bytes h (suc n) = none_listed bytes (h + 1) n
-
 -- a table of no block
-pub record IsEmpty (n : ℕ) (live : Table) : Type 0 where
+pub record IsEmpty (live : Table) : Type 0 where
   pub map_block : live.map_block ≡ 0
-  pub places : live.places.items ≡ replicate n None
+  pub places : live.places.items ≡ []
 
-pub empty_shown : (file : List ℕ) (n : ℕ) (live : Table) → IsEmpty n live → document_in file live ≡ empty_document
+pub empty_shown : (file : List ℕ) (live : Table) → IsEmpty live → document_in file live ≡ empty_document
 unfolding table_map
-empty_shown file n live is =
-    let none : table_entries 1 1 (blocks_in file live.places.items) ≡ [] = ap (λ ps. table_entries 1 1 (blocks_in file ps)) is.places ∙ none_listed file 1 n in
+empty_shown file live is =
+    let none : table_entries 1 1 (blocks_in file live.places.items) ≡ [] = ap (λ ps. table_entries 1 1 (blocks_in file ps)) is.places in
     λ i. record { blocks = from_entries (none i); map_block = is.map_block i }
 
-pub empty_listed : (n : ℕ) (live : Table) → IsEmpty n live → directory_of_table live ≡ no_blocks
-empty_listed n live is =
-    let no_entries : entries_of 1 live.places.items ≡ [] = ap (entries_of 1) is.places ∙ none_entries 1 n in
-    λ i. record { map_block = is.map_block i; entries = no_entries i }
+pub empty_listed : (live : Table) → IsEmpty live → directory_of_table 2 live ≡ no_blocks
+empty_listed live is = λ i. record { version = 2; map_block = is.map_block i; entries = entries_of 1 (is.places i) }
 
-pub empty_founding : (text : List ℕ) (n : ℕ) (live : Table) → n ≡ most_blocks → IsEmpty n live → text ≡ directory_text no_blocks → IsFounding first_directory text live
-empty_founding text n live all is text_is =
-    let no_extents : block_extents live.places.items ≡ [] = ap block_extents is.places ∙ none_extents n in
-    let no_entries = ap (λ d. d.entries) (empty_listed n live is) in
-    let same = empty_listed n live is in
+pub empty_founding : (text : List ℕ) (live : Table) → IsEmpty live → text ≡ directory_text no_blocks → IsFounding first_directory text live
+empty_founding text live is text_is =
+    let no_extents : block_extents live.places.items ≡ [] = ap block_extents is.places in
+    let no_entries : entries_of 1 live.places.items ≡ [] = ap (entries_of 1) is.places in
+    let none : length live.places.items ≡ 0 = ap length is.places in
     record {
-      table = record { size = ap length is.places ∙ length-replicate {A = Option Place} n None ∙ all; map_block = inl is.map_block };
+      table = record {
+        size = omega (arith, none);
+        places = subst ArePlaces (sym is.places) (All-nil (λ (o : Option Place). IfSome o IsPlace));
+        map_block = inl is.map_block;
+      };
       placed = subst (All IsPlaced) (sym no_extents) (All-nil IsPlaced);
       directory_placed = record { behind = omega arith; within = omega arith; some = omega arith; short = omega arith };
       clear = subst (IsClear 1024 16) (sym no_extents) (All-nil (λ e. IsOut 1024 16 (start_of e) (end_of e)));
       attributes = subst (All (λ e. FitAttributes e.attributes)) (sym no_entries) (All-nil (λ e. FitAttributes e.attributes));
-      text_is = text_is ∙ sym (ap directory_text same);
+      text_is = text_is ∙ sym (ap directory_text (empty_listed live is));
       size = ap length text_is;
     }
 
-pub empty_lying : (n : ℕ) (live : Table) → IsEmpty n live → AreLying live []
-empty_lying n live is =
-    let no_extents : block_extents live.places.items ≡ [] = ap block_extents is.places ∙ none_extents n in
-    let P : Option Place → Type 0 = λ place. IfSome place (IsImaged []) in
+pub empty_lying : (live : Table) → IsEmpty live → AreLying live []
+empty_lying live is =
+    let no_extents : block_extents live.places.items ≡ [] = ap block_extents is.places in
     record {
-      images = subst (AreImaged []) (sym is.places) (All-replicate P n None tt);
+      images = subst (AreImaged []) (sym is.places) (All-nil (λ (o : Option Place). IfSome o (IsImaged [])));
       within = subst (All (λ e. end_of e ≤ 0)) (sym no_extents) (All-nil (λ e. end_of e ≤ 0));
       beside = λ is. cc is;
     }
@@ -248,6 +240,7 @@ first_shown file directory live slots first = record {
   saved = copy_shown file directory live slots.committed.saved first.saved;
   attempted = ap (attempted_in file) first.other;
   unmarked = first.unmarked;
+  version = first.version;
   sequence = first.sequence;
 }
 

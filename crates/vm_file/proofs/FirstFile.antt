@@ -5,7 +5,7 @@ use Rattle.std.proofs.lemmas.Bool.{cases_lt}
 use Rattle.std.proofs.lemmas.Grind.{same_number_lists}
 use Rattle.std.proofs.lemmas.List.{length-append, length-replicate, get_or-append-add, get_or_append_left, get_or-replicate, get_or_past}
 use Rattle.vm_store.specs.Facts.{byte, Holds}
-use Rattle.geos_model.specs.File.{slot_mark, slot_text, directory_text}
+use Rattle.geos_model.specs.File.{slot_mark, slot_text, directory_text, bytes_in}
 use Rattle.geos_model.specs.declared.file.Extent.{Extent}
 use Rattle.vm_file.specs.Ranges.{start_of}
 use Rattle.vm_file.specs.Slots.{gate_text}
@@ -18,7 +18,7 @@ held_same a b bytes at k low high one other =
     let place : k ≡ at + (k - at) = omega arith in
     ap (byte a) place ∙ one.each (k - at) (omega arith) ∙ sym (other.each (k - at) (omega arith)) ∙ sym (ap (byte b) place)
 
-gate_long : (directory : Extent) → length (gate_text 1 directory directory) ≡ 27
+gate_long : (directory : Extent) → length (gate_text 2 1 directory directory) ≡ 27
 unfolding gate_text
 gate_long directory = refl
 
@@ -29,7 +29,7 @@ module _ (gate : ℕ) (directory : Extent) (text old a b : List ℕ) (one : IsLa
       elim (cases_lt k 4) as (λ _. byte a k ≡ byte b k) [
         | inl before ↦ held_same a b slot_mark 0 k (omega arith) (omega arith) one.marked other.marked
         | inr after ↦ elim (cases_lt 4 k) as (λ _. byte a k ≡ byte b k) [
-          | inl behind ↦ held_same a b (gate_text 1 directory directory) 5 k (omega arith) (omega arith) one.rest other.rest
+          | inl behind ↦ held_same a b (gate_text 2 1 directory directory) 5 k (omega arith) (omega arith) one.rest other.rest
           | inr four ↦ let is : k ≡ 4 = omega arith in ap (byte a) is ∙ one.gate_is ∙ sym other.gate_is ∙ sym (ap (byte b) is)
         ]
       ]
@@ -129,7 +129,7 @@ first_laid =
     let slot : List ℕ = slot_text first_open in
     let text : List ℕ = directory_text no_blocks in
     let here = slot_part slot slot_mark text 480 508 in
-    let gate : List ℕ = gate_text 1 first_directory first_directory in
+    let gate : List ℕ = gate_text 2 1 first_directory first_directory in
     record {
       gate_is = refl;
       marked = front first_file 0 slot_mark (1 ∷ gate) here;
@@ -151,6 +151,11 @@ first_laid =
 pub first_bytes : (c : List ℕ) → IsLaid 1 first_directory (directory_text no_blocks) [] c → c ≡ first_file
 unfolding laid_same
 first_bytes c laid = laid_same 1 first_directory (directory_text no_blocks) [] c first_file laid first_laid
+
+-- its directory
+pub first_text : bytes_in first_file first_directory ≡ directory_text no_blocks
+unfolding first_file
+first_text = refl
 
 pub first_file_law : FirstFileLaw
 unfolding first_file

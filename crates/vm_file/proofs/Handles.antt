@@ -114,9 +114,9 @@ empty_without [] places k none = none
 empty_without (h ∷ handles) places k none = empty_without handles (without_place h.0 places) k (empty_without_one h.0 places k none)
 
 -- a table in which blocks were put, and from which others were taken
-pub bounds_changed : (puts : List Member) (extents : List Extent) (removals : List VmHandle) (places : List (Option Place)) (old new : Bounds) → length places ≡ most_blocks → All IsPut puts → AreBounds places old → IsWidened puts removals old new
+pub bounds_changed : (puts : List Member) (extents : List Extent) (removals : List VmHandle) (places : List (Option Place)) (old new : Bounds) → new.end ≤ length places → All IsPut puts → AreBounds places old → IsWidened puts removals old new
     → AreBounds (without_places removals (with_places puts extents places)) new
-bounds_changed puts extents removals places old new size are bounds wide =
+bounds_changed puts extents removals places old new room are bounds wide =
     let filled = with_places puts extents places in
     record {
       full = λ k low. full_without removals filled k (λ i d inside same. let past = wide.freed i d inside in absurd (omega (arith, same, past, low)))
@@ -124,7 +124,7 @@ bounds_changed puts extents removals places old new size are bounds wide =
       past = λ k low. empty_without removals filled k
           (empty_with puts extents places k (λ i p inside. let h = handle_within (get_or puts i p).handle.0 (are i p inside) in let past = wide.reached i p inside in omega (arith, h.0, past, low))
           (bounds.past k (let e = wide.higher in omega (arith, low, e))));
-      within = let long = length-without_places removals filled in let longer = length-with_places puts extents places in let w = wide.within in omega (arith, long, longer, size, w);
+      within = let long = length-without_places removals filled in let longer = length-with_places puts extents places in omega (arith, long, longer, room);
     }
 
 -- a block that is there becomes another

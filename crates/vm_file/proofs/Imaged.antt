@@ -1,5 +1,5 @@
 -- Images of bodies.
-use Rattle.std.proofs.Common.{◌≡◌, ℕ, ◌-◌, ◌≤◌, ◌==◌, Bool, true, false, not, List, length, slice_index, Option, None, Some, is_some, refl, sym, ap, ◌∙◌, arith, inl, inr}
+use Rattle.std.proofs.Common.{◌≡◌, ℕ, ◌-◌, ◌≤◌, ◌==◌, Bool, true, false, not, List, length, get_or, slice_index, Option, None, Some, is_some, refl, sym, ap, ◌∙◌, arith, inl, inr}
 use Rattle.std.specs.Prelude.{◌&&◌, Result, Ok, Err, IfOk, IfSome, All}
 use Rattle.std.proofs.lemmas.Bool.{cases_Bool, cond-true, cond-false}
 use Rattle.geos_model.specs.Bytes.{same_bytes}
@@ -12,15 +12,16 @@ use Rattle.geos_model.proofs.Images.{length_image_body_le}
 use Rattle.geos_model.proofs.Tables.{slot_at}
 use Rattle.geos_model.specs.Document.{block_at}
 use Rattle.geos_model.specs.File.{bytes_in, longest_image}
-use Rattle.geos_model.specs.declared.file.Extent.{Extent}
 use Rattle.vm_store.specs.Facts.{Holds}
 use Rattle.vm_file.specs.Ranges.{start_of, IsPlaced}
+use Rattle.vm_file.specs.Slots.{block_extents}
+use Rattle.vm_file.specs.Sound.{IsPlace, ArePlaces}
 use Rattle.vm_file.specs.Calls.{IsImageLength}
 use Rattle.vm_file.specs.Documents.{IsImaged, AreImaged}
 use Rattle.vm_file.specs.declared.table.Place.{Place}
 use Rattle.vm_file.proofs.KeptBytes.{bytes_held}
 use Rattle.vm_file.proofs.BodyKinds.{of_kind-same}
-use Rattle.vm_file.proofs.Tables.{shown, each_at, block_at_is, IsPlaceOf, entry_lies}
+use Rattle.vm_file.proofs.Tables.{EachPlace, shown, each_at, places_of, block_at_is, IsPlaceOf, entry_lies}
 
 -- bytes that are the image of a body that can be
 pub record IsImage (bytes : List ℕ) : Type 0 where
@@ -74,9 +75,13 @@ pub entry_image : (H : Type 0) (file : List ℕ) (places : List (Option Place)) 
 entry_image H file places map_block h None images is = tt
 entry_image H file places map_block h (Some place) images is = λ so. let at = entry_lies places h place is in lying_image file places map_block h place at.0 at.1 (images so)
 
--- an extent that can be has as many bytes as an image has
-pub placed_lengths : (es : List Extent) → All IsPlaced es → All (λ e. IsImageLength e.length) es
-placed_lengths es placed k d inside = let one = placed k d inside in (one.some, one.short)
+-- a place that can be has as many bytes as an image has
+place_length : (o : Option Place) → IfSome o (λ p. IsPlaced p.extent) → IfSome o IsPlace → IfSome o (λ p. IsImageLength p.extent.length)
+place_length None placed is = tt
+place_length (Some place) placed is = (placed.some, is.short)
+
+pub image_lengths : (places : List (Option Place)) → All IsPlaced (block_extents places) → ArePlaces places → EachPlace (λ p. IsImageLength p.extent.length) places
+image_lengths places placed are k d inside = place_length (get_or places k d) (places_of IsPlaced places placed k d inside) (are k d inside)
 
 -- what was read of a block
 pub read_image : (file bytes : List ℕ) (places : List (Option Place)) (map_block h : ℕ) (place : Place) → 1 ≤ h → slot_at places (h - 1) ≡ Some place → AreImaged file places → length bytes ≡ place.extent.length → Holds file (start_of place.extent) bytes

@@ -6,7 +6,7 @@ use Rattle.std.proofs.lemmas.List.Elements.{All-nil, All-cons, All-head, All-tai
 use Rattle.std.proofs.lemmas.List.{map-append, take_more}
 use Rattle.vm_store.specs.Facts.{byte, Puts}
 use Rattle.vm_store.specs.Laws.{Holds-Puts}
-use Rattle.geos_model.specs.Document.{Block, is_heap, is_heap_body, is_live, attributes_of, no_attributes, FitAttributes}
+use Rattle.geos_model.specs.Document.{Block, most_blocks, is_heap, is_heap_body, is_live, attributes_of, no_attributes, FitAttributes}
 use Rattle.geos_model.proofs.Table.{table_map}
 use Rattle.geos_model.specs.Image.{body_of, body_read}
 use Rattle.geos_model.specs.File.{bytes_in, pages_of, directory_text, last_page}
@@ -16,7 +16,7 @@ use Rattle.vm_file.specs.Ranges.{IsPlaced, end_of, KeepsAll}
 use Rattle.vm_file.specs.Slots.{block_extents}
 use Rattle.vm_file.specs.Documents.{block_in, blocks_in, of_kind, document_in, entries_of, directory_of_table, IsImaged, AreImaged}
 use Rattle.vm_file.specs.Disk.{Drifts}
-use Rattle.vm_file.specs.Sound.{IsTable}
+use Rattle.vm_file.specs.Sound.{IsPlace, ArePlaces, IsTable}
 use Rattle.vm_file.specs.Making.{moved_to, pages_taken, laid_out, page_behind, IsWritten, IsCopied, AreCopied, IsFounding}
 use Rattle.vm_file.specs.declared.table.Table.{Table}
 use Rattle.vm_file.proofs.First.{AreLying}
@@ -142,9 +142,9 @@ copied_start honest source old = record {
 -- Places in turn, and the page behind those so far.
 pub record IsBehind (places : List (Option Place)) (i page : ℕ) : Type 0 where
   pub is : page ≡ page_behind 2 (take i places)
-  pub low : page ≤ 2 + 128 * i
+  pub low : page ≤ 2 + 257 * i
 
-pub pages_few : (o : Option Place) → IfSome o (λ p. IsPlaced p.extent) → pages_taken o ≤ 128
+pub pages_few : (o : Option Place) → IfSome o (λ p. IsPlaced p.extent) → pages_taken o ≤ 257
 pages_few None placed = omega arith
 pages_few (Some place) placed = let short = placed.short in omega (arith, short)
 
@@ -185,7 +185,7 @@ laid_some page zero (None ∷ ps) = refl
 laid_some page zero (Some place ∷ ps) = refl
 laid_some page (suc k) (o ∷ ps) = laid_some (page + pages_taken o) k ps
 
-behind_high : (page : ℕ) (ps : List (Option Place)) → EachPlace (λ p. IsPlaced p.extent) ps → page_behind page ps ≤ page + 128 * length ps
+behind_high : (page : ℕ) (ps : List (Option Place)) → EachPlace (λ p. IsPlaced p.extent) ps → page_behind page ps ≤ page + 257 * length ps
 behind_high page [] placed = omega arith
 behind_high page (o ∷ ps) placed =
     let P : Option Place → Type 0 = λ o. IfSome o (λ p. IsPlaced p.extent) in
@@ -204,6 +204,16 @@ laid_placed page last (o ∷ ps) low l high placed =
     All-cons P (moved_to page o) (laid_out (page + pages_taken o) ps) (one_laid page last o low (omega (arith, more, l)) high (All-head P o ps placed))
     (laid_placed (page + pages_taken o) last ps (omega (arith, low)) l high (All-tail P o ps placed))
 
+one_can : (page : ℕ) (o : Option Place) → IfSome o IsPlace → IfSome (moved_to page o) IsPlace
+one_can page None is = tt
+one_can page (Some place) is = record { short = is.short; typed = is.typed }
+
+laid_can : (page : ℕ) (ps : List (Option Place)) → ArePlaces ps → ArePlaces (laid_out page ps)
+laid_can page [] are = are
+laid_can page (o ∷ ps) are =
+    let P : Option Place → Type 0 = λ o. IfSome o IsPlace in
+    All-cons P (moved_to page o) (laid_out (page + pages_taken o) ps) (one_can page o (All-head P o ps are)) (laid_can (page + pages_taken o) ps (All-tail P o ps are))
+
 laid_table : (live new : Table) → IsTable live → new.map_block ≡ live.map_block → new.places.items ≡ laid_out 2 live.places.items → IsTable new
 laid_table live new is map_block places =
     let m = live.map_block in
@@ -214,22 +224,23 @@ laid_table live new is map_block places =
       | inr some ↦ inr (some.0, laid_some 2 (m - 1) live.places.items ∙ some.1)
     ] in
     record {
-      size = ap length places ∙ length-laid_out 2 live.places.items ∙ is.size;
+      size = (let long = ap length places ∙ length-laid_out 2 live.places.items in let was = is.size in omega (arith, long, was));
+      places = subst ArePlaces (sym places) (laid_can 2 live.places.items is.places);
       map_block = subst Q (sym map_block) (subst P (sym places) there);
     }
 
 pub plan_founding : (live new : Table) (directory : Extent) (text : List ℕ) → IsTable live → All IsPlaced (block_extents live.places.items) → new.map_block ≡ live.map_block → new.places.items ≡ laid_out 2 live.places.items
-    → directory.page ≡ page_behind 2 live.places.items → directory.length ≡ length text → text ≡ directory_text (directory_of_table new) → All (λ e. FitAttributes e.attributes) (entries_of 1 new.places.items) → IsFounding directory text new
+    → directory.page ≡ page_behind 2 live.places.items → directory.length ≡ length text → text ≡ directory_text (directory_of_table 2 new) → All (λ e. FitAttributes e.attributes) (entries_of 1 new.places.items) → IsFounding directory text new
 plan_founding live new directory text is placed map_block places page size text_is attributes =
     let ps = live.places.items in
     let each = places_of IsPlaced ps placed in
     let low = behind_low 2 ps in
     let high = behind_high 2 ps each in
-    let all = ap length places ∙ length-laid_out 2 ps ∙ is.size in
+    let all : length new.places.items ≤ most_blocks = (let long = ap length places ∙ length-laid_out 2 ps in let was = is.size in omega (arith, long, was)) in
     let laid = extents_of IsPlaced (laid_out 2 ps) (laid_placed 2 (page_behind 2 ps) ps (omega arith) (omega arith) (omega (arith, high, is.size)) each) in
     let ends = extents_of (λ e. end_of e ≤ 512 * page_behind 2 ps) (laid_out 2 ps) (ends_before 2 ps) in
     let count = entries_few 1 new.places.items in
-    let long = ap length text_is ∙ length-directory (directory_of_table new) in
+    let long = ap length text_is ∙ length-directory (directory_of_table 2 new) in
     let behind : All (λ e. end_of e ≤ 512 * page_behind 2 ps) (block_extents new.places.items) = subst (λ qs. All (λ e. end_of e ≤ 512 * page_behind 2 ps) (block_extents qs)) (sym places) ends in
     record {
       table = laid_table live new is map_block places;

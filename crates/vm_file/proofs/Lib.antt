@@ -15,6 +15,7 @@ pub mod Filled
 pub mod First
 pub mod FirstFile
 pub mod Found
+pub mod Grown
 pub mod Handles
 pub mod ImageLemmas
 pub mod Imaged

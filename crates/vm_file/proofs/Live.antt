@@ -2,14 +2,15 @@
 use Rattle.std.proofs.Common.{◌≡◌, ◌⊎◌, ℕ, ◌-◌, ◌≤◌, true, IsTrue, List, All, set, length, Option, None, Some, is_some, sym, ap, subst, ◌∙◌, arith, inl, inr, length-set}
 use Rattle.std.specs.Prelude.{IfSome}
 use Rattle.std.proofs.lemmas.List.Elements.{All-nil}
-use Rattle.vm_store.specs.Facts.{StoreFacts}
+use Rattle.vm_store.specs.Facts.{StoreFacts, Rests}
+use Rattle.geos_model.specs.Document.{IsTyped}
 use Rattle.geos_model.specs.declared.file.Extent.{Extent}
 use Rattle.geos_model.proofs.Tables.{slot_at}
 use Rattle.geos_model.specs.declared.block.Attributes.{Attributes}
 use Rattle.vm_file.specs.Ranges.{IsPlaced, end_of}
-use Rattle.vm_file.specs.Slots.{block_extents, marked_extents}
-use Rattle.vm_file.specs.Documents.{IsImaged, AreImaged}
-use Rattle.vm_file.specs.Sound.{IsTable, IsSound}
+use Rattle.vm_file.specs.Slots.{block_extents, marked_extents, Outcome}
+use Rattle.vm_file.specs.Documents.{IsImaged, AreImaged, AreStored, IsHeldStored}
+use Rattle.vm_file.specs.Sound.{IsPlace, ArePlaces, IsTable, IsSound}
 use Rattle.vm_file.specs.declared.table.Place.{Place}
 use Rattle.vm_file.specs.declared.table.Table.{Table}
 use Rattle.vm_file.specs.declared.slots.Slots.{Slots}
@@ -20,11 +21,30 @@ use Rattle.vm_file.proofs.Tables.{Lies, each_at, each_set, extents_of, places_of
 abbrev pub EndsIn : List ℕ → Extent → Type 0
 EndsIn file e = end_of e ≤ length file
 
+-- calls that only read
+pub sound_rested : (a b : StoreFacts) (live : Table) (slots : Slots) → IsSound a live slots → b.honest ≡ a.honest → (IsTrue a.honest → Rests a b) → IsSound b live slots
+sound_rested a b live slots sound honest rests = record {
+  formed = sound.formed;
+  whole = λ so.
+      let before : IsTrue a.honest = subst IsTrue honest so in
+      let was = sound.whole before in
+      let is : a.content ≡ b.content = sym (rests before).content in
+      record {
+        images = subst (λ f. AreImaged f live.places.items) is was.images;
+        within = subst (λ f. All (EndsIn f) (block_extents live.places.items)) is was.within;
+        committed = subst (λ f. AreStored slots.version f slots.committed) is was.committed;
+        held = subst (λ f. IsHeldStored f slots.other) is was.held;
+        marked = subst (λ f. IfSome slots.marked (λ t. AreImaged f t.places.items)) is was.marked;
+        marked_within = subst (λ f. All (EndsIn f) (marked_extents slots.marked)) is was.marked_within;
+        leaves = λ c left. subst (λ f. Outcome slots f c) is (was.leaves c ((rests before).crash c left));
+      };
+}
+
 -- another live table
 pub sound_live : (store : StoreFacts) (live new : Table) (slots : Slots) → IsSound store live slots → IsTable new → All IsPlaced (block_extents new.places.items) → (IsTrue store.honest → AreImaged store.content new.places.items)
     → (IsTrue store.honest → All (EndsIn store.content) (block_extents new.places.items)) → IsSound store new slots
 sound_live store live new slots sound table placed images within = record {
-  formed = record { table = table; placed = placed; committed = sound.formed.committed; held = sound.formed.held; marked = sound.formed.marked; kept = sound.formed.kept; numbered = sound.formed.numbered; in_range = sound.formed.in_range };
+  formed = record { table = table; placed = placed; committed = sound.formed.committed; held = sound.formed.held; marked = sound.formed.marked; kept = sound.formed.kept; version = sound.formed.version; numbered = sound.formed.numbered; in_range = sound.formed.in_range };
   whole = λ so. let was = sound.whole so in record { images = images so; within = within so; committed = was.committed; held = was.held; marked = was.marked; marked_within = was.marked_within; leaves = was.leaves };
 }
 
@@ -41,6 +61,7 @@ sound_marked store live slots marked sound tables placed images within =
         held = formed.held;
         marked = tables;
         kept = kept_all IsPlaced (record slots { marked = marked }) (kept_pair IsPlaced slots formed.kept) (kept_held IsPlaced slots formed.kept) placed;
+        version = formed.version;
         numbered = formed.numbered;
         in_range = formed.in_range;
       };
@@ -68,25 +89,27 @@ sound_back store live back slots is sound =
     (λ so. subst (λ m. IfSome m (λ t. AreImaged store.content t.places.items)) is (sound.whole so).marked) (λ so. subst (λ m. All (EndsIn store.content) (marked_extents m)) is (sound.whole so).marked_within))
 
 -- one place has another block
-pub table_set : (live new : Table) (i : ℕ) (place : Place) → IsTable live → new.map_block ≡ live.map_block → new.places.items ≡ set live.places.items i (Some place) → IsTable new
-table_set live new i place was map_block is = record {
-  size = ap length is ∙ length-set live.places.items i (Some place) ∙ was.size;
+pub table_set : (live new : Table) (i : ℕ) (place : Place) → IsTable live → IsPlace place → new.map_block ≡ live.map_block → new.places.items ≡ set live.places.items i (Some place) → IsTable new
+table_set live new i place was one map_block is = record {
+  size = (let long = ap length is ∙ length-set live.places.items i (Some place) in let few = was.size in omega (arith, long, few));
+  places = subst ArePlaces (sym is) (each_set IsPlace live.places.items i (Some place) one was.places);
   map_block = elim was.map_block as (λ _. (new.map_block ≡ 0) ⊎ ((1 ≤ new.map_block) × (is_some (slot_at new.places.items (new.map_block - 1)) ≡ true))) [
     | inl none ↦ inl (map_block ∙ none)
-    | inr one ↦ inr (omega (arith, map_block, one.0), ap (λ m. is_some (slot_at new.places.items (m - 1))) map_block ∙ ap (λ ps. is_some (slot_at ps (live.map_block - 1))) is ∙ full_set live.places.items i (live.map_block - 1) place one.1)
+    | inr some ↦ inr (omega (arith, map_block, some.0), ap (λ m. is_some (slot_at new.places.items (m - 1))) map_block ∙ ap (λ ps. is_some (slot_at ps (live.map_block - 1))) is ∙ full_set live.places.items i (live.map_block - 1) place some.1)
   ];
 }
 
--- a block has another user ID
-pub sound_attributes : (store : StoreFacts) (live new : Table) (slots : Slots) (h : ℕ) (attributes : Attributes) (place : Place) → IsSound store live slots → slot_at live.places.items (h - 1) ≡ Some place → new.map_block ≡ live.map_block
+-- a block has other attributes, which its kind can have
+pub sound_attributes : (store : StoreFacts) (live new : Table) (slots : Slots) (h : ℕ) (attributes : Attributes) (place : Place) → IsSound store live slots → slot_at live.places.items (h - 1) ≡ Some place → IsTyped place.is_heap attributes → new.map_block ≡ live.map_block
     → new.places.items ≡ set live.places.items (h - 1) (Some (record place { attributes = attributes })) → IsSound store new slots
-sound_attributes store live new slots h attributes place sound at map_block is =
+sound_attributes store live new slots h attributes place sound at typed map_block is =
     let i = h - 1 in
     let old = live.places.items in
     let one : Place = record place { attributes = attributes } in
     let kept = λ (Q : Extent → Type 0) (all : All Q (block_extents old)).
     subst (λ ps. All Q (block_extents ps)) (sym is) (extents_of Q (set old i (Some one)) (each_set (λ p. Q p.extent) old i (Some one) (each_at (λ p. Q p.extent) old i place at (places_of Q old all)) (places_of Q old all))) in
-    sound_live store live new slots sound (table_set live new i one sound.formed.table map_block is) (kept IsPlaced sound.formed.placed)
+    let can : IsPlace one = record { short = (each_at IsPlace old i place at sound.formed.table.places).short; typed = typed } in
+    sound_live store live new slots sound (table_set live new i one sound.formed.table can map_block is) (kept IsPlaced sound.formed.placed)
     (λ so.
     let images = (sound.whole so).images in
     let was = each_at (IsImaged store.content) old i place at images in
@@ -99,7 +122,8 @@ sound_map store live new slots sound is map_block =
     let P : Table → Type 0 = λ t. t.places.items ≡ live.places.items in
     sound_live store live new slots sound
     (record {
-      size = ap length is ∙ sound.formed.table.size;
+      size = (let long = ap length is in let few = sound.formed.table.size in omega (arith, long, few));
+      places = subst ArePlaces (sym is) sound.formed.table.places;
       map_block = elim map_block as (λ _. (new.map_block ≡ 0) ⊎ ((1 ≤ new.map_block) × (is_some (slot_at new.places.items (new.map_block - 1)) ≡ true))) [
         | inl none ↦ inl none
         | inr one ↦ inr (one.low, ap (λ ps. is_some (slot_at ps (new.map_block - 1))) is ∙ ap is_some one.at)

@@ -1,18 +1,15 @@
--- The slots and the directory of a file of no block.
-use Rattle.std.proofs.Common.{◌≡◌, ◌≢◌, ◌*◌, ◌+◌, ℕ, IsTrue, length, None, Some, sym, ap, subst, ◌∙◌}
+-- The slots of a file of no block.
+use Rattle.std.proofs.Common.{◌≡◌, ◌≢◌, ◌*◌, ◌+◌, IsTrue, None, Some, ap, subst, ◌∙◌}
 use Rattle.std.specs.Prelude.{if◌then◌else◌}
 use Rattle.vm_store.specs.Facts.{StoreFacts, byte}
-use Rattle.geos_model.specs.File.{bytes_in, directory_of, directory_text, open_slot}
-use Rattle.geos_model.proofs.FileDocuments.{directory_of-some}
-use Rattle.geos_model.proofs.Files.{directory_in-some}
+use Rattle.geos_model.specs.File.{open_slot}
 use Rattle.geos_model.proofs.FileStands.{open_slot-shut}
 use Rattle.vm_file.specs.Slots.{IsBeside, Leads, Outcome}
-use Rattle.vm_file.specs.Making.{first_directory, first_open, no_blocks, IsFirst}
+use Rattle.vm_file.specs.Making.{first_directory, first_open, IsFirst}
 use Rattle.vm_file.specs.Sound.{IsSound}
 use Rattle.vm_file.specs.Ranges.{IsPlaced}
 use Rattle.vm_file.specs.declared.table.Table.{Table}
 use Rattle.vm_file.specs.declared.slots.Slots.{Slots}
-use Rattle.vm_file.proofs.First.{IsEmpty, empty_listed}
 use Rattle.vm_file.proofs.Marked.{kept_pair}
 use Rattle.vm_file.proofs.Stands.{fits_pair, lead_open, slot_value}
 
@@ -25,11 +22,11 @@ module _ (store : StoreFacts) (live : Table) (slots : Slots) (sound : IsSound st
   made_open =
       let c = store.content in
       let pair = slots.committed in
-      let fits = fits_pair slots.sequence pair sound.formed.numbered sound.formed.in_range (kept_pair IsPlaced slots sound.formed.kept) in
+      let fits = fits_pair slots.version slots.sequence pair sound.formed.version sound.formed.numbered sound.formed.in_range sound.formed.committed (kept_pair IsPlaced slots sound.formed.kept) in
       let gate = subst (λ b. byte c (512 * (if b then 1 else 0) + 4) ≡ 1) first.second outcome.gate in
-      let leads = subst (λ b. Leads (if b then 1 else 0) slots.sequence pair c c) first.second outcome.counts in
-      let same : slot_value slots.sequence pair ≡ first_open = λ i. record { gate = 1; version = 1; reserved = 0; sequence = first.sequence i; working = first.updated.directory_is i; saved = first.saved.directory_is i } in
-      lead_open 0 slots.sequence pair c c fits gate leads ∙ ap (λ s. Some s) same
+      let leads = subst (λ b. Leads (if b then 1 else 0) slots.version slots.sequence pair c c) first.second outcome.counts in
+      let same : slot_value slots.version slots.sequence pair ≡ first_open = λ i. record { gate = 1; version = first.version i; reserved = 0; sequence = first.sequence i; working = first.updated.directory_is i; saved = first.saved.directory_is i } in
+      lead_open 0 slots.version slots.sequence pair c c fits gate leads ∙ ap (λ s. Some s) same
 
   -- the other one
   pub made_shut : open_slot store.content 1 ≡ None
@@ -38,13 +35,3 @@ module _ (store : StoreFacts) (live : Table) (slots : Slots) (sound : IsSound st
       let beside = subst (λ b. IsBeside slots.other (if b then 0 else 1) slots.sequence c c) first.second outcome.beside in
       let shut : byte c 516 ≢ 1 = subst (λ o. IsBeside o 1 slots.sequence c c) first.other beside in
       open_slot-shut c 1 shut
-
-  -- what both lead to
-  pub made_directory : (n : ℕ) → IsEmpty n live → bytes_in store.content first_directory ≡ directory_text no_blocks
-  made_directory n empty =
-      let c = store.content in
-      let updated = slots.committed.updated in
-      let copy : IsEmpty n updated.table = record { map_block = first.updated.map_block ∙ empty.map_block; places = first.updated.places ∙ empty.places } in
-      let there : directory_of c first_directory ≡ Some no_blocks =
-      sym (ap (directory_of c) first.updated.directory_is) ∙ (sound.whole so).committed.updated.directory ∙ ap (λ d. Some d) (empty_listed n updated.table copy) in
-      sym (directory_in-some (length c) (bytes_in c first_directory) no_blocks (directory_of-some c first_directory no_blocks there).1).1

@@ -48,17 +48,17 @@ outcome_long slots file c kept was =
     let same = (was.counts.kept 0 directory (omega arith)).within in
     omega (arith, placed, same)
 
-pub long_text : (sequence : ℕ) (updated saved : Extent) → length (gate_text sequence updated saved) ≡ 27
+pub long_text : (version sequence : ℕ) (updated saved : Extent) → length (gate_text version sequence updated saved) ≡ 27
 unfolding gate_text
-long_text sequence updated saved = refl
+long_text version sequence updated saved = refl
 
 -- Torn bytes.
 
-leads_torn : (at n slot sequence : ℕ) (pair : Pair) (file c d : List ℕ) → IsOut at n (512 * slot) (512 * slot + 4) → IsOut at n (512 * slot + 5) (512 * slot + 32) → IsClear at n (pair_extents pair)
-    → Torn at n c d → Leads slot sequence pair file c → Leads slot sequence pair file d
-leads_torn at n slot sequence pair file c d front behind clear torn was = record {
+leads_torn : (at n slot version sequence : ℕ) (pair : Pair) (file c d : List ℕ) → IsOut at n (512 * slot) (512 * slot + 4) → IsOut at n (512 * slot + 5) (512 * slot + 32) → IsClear at n (pair_extents pair)
+    → Torn at n c d → Leads slot version sequence pair file c → Leads slot version sequence pair file d
+leads_torn at n slot version sequence pair file c d front behind clear torn was = record {
   marked = torn_holds at n (512 * slot) (512 * slot + 4) slot_mark c d (omega arith) front torn was.marked;
-  rest = torn_holds at n (512 * slot + 5) (512 * slot + 32) (behind_gate sequence pair) c d (omega (arith, long_text sequence pair.updated.directory pair.saved.directory)) behind torn was.rest;
+  rest = torn_holds at n (512 * slot + 5) (512 * slot + 32) (behind_gate version sequence pair) c d (omega (arith, long_text version sequence pair.updated.directory pair.saved.directory)) behind torn was.rest;
   kept = torn_keeps at n (pair_extents pair) file c d clear torn was.kept;
 }
 
@@ -71,7 +71,7 @@ stale_torn at n slot sequence c d front behind torn was = elim was as (λ _. IsU
 beside_torn : (other : Other) (at n slot sequence : ℕ) (file c d : List ℕ) → 512 * slot + 4 < length c → IsBesideOut other slot at n → Torn at n c d → IsBeside other slot sequence file c → IsBeside other slot sequence file d
 beside_torn Shut at n slot sequence file c d long out torn was = λ is. was (sym (torn_byte at n (512 * slot + 4) (512 * slot + 5) (512 * slot + 4) c d out torn (omega arith) (omega arith) long) ∙ is)
 beside_torn Stale at n slot sequence file c d long out torn was = stale_torn at n slot sequence c d out.0 out.1 torn was
-beside_torn (Held pair) at n slot sequence file c d long out torn was = leads_torn at n slot (sequence + 1) pair file c d out.0 out.1 out.2 torn was
+beside_torn (Held pair) at n slot sequence file c d long out torn was = leads_torn at n slot 2 (sequence + 1) pair file c d out.0 out.1 out.2 torn was
 
 -- what is torn apart from all that the slots stand on
 pub outcome_torn : (at n : ℕ) (slots : Slots) (file c d : List ℕ) → AreKept slots → Spares at n slots → Torn at n c d → Outcome slots file c → Outcome slots file d
@@ -83,7 +83,7 @@ outcome_torn at n slots file c d kept spares torn was =
     let back : IsOut at n (512 * slot + 5) (512 * slot + 32) = elim spares.slot as (λ _. IsOut at n (512 * slot + 5) (512 * slot + 32)) [ inl before ↦ inl before | inr behind ↦ inr (omega arith) ] in
     record {
       gate = torn_byte at n (512 * slot) (512 * slot + 32) (512 * slot + 4) c d spares.slot torn (omega arith) (omega arith) (omega arith) ∙ was.gate;
-      counts = leads_torn at n slot slots.sequence slots.committed file c d front back spares.committed torn was.counts;
+      counts = leads_torn at n slot slots.version slots.sequence slots.committed file c d front back spares.committed torn was.counts;
       beside = beside_torn slots.other at n (other_of slots) slots.sequence file c d (omega arith) spares.beside torn was.beside;
     }
 
@@ -141,7 +141,7 @@ spares_behind slots kept shut = spares_in_other slots 5 27 (omega arith) kept (s
 pub outcome_shut : (slots : Slots) (file c : List ℕ) → byte c (512 * other_of slots + 4) ≡ 0 → Outcome slots file c → Outcome (record slots { other = Shut }) file c
 outcome_shut slots file c shut was = record { gate = was.gate; counts = was.counts; beside = λ is. omega (arith, shut, is) }
 
-pub outcome_held : (slots : Slots) (pair : Pair) (file c : List ℕ) → Leads (other_of slots) (slots.sequence + 1) pair file c → Outcome slots file c → Outcome (record slots { other = Held pair }) file c
+pub outcome_held : (slots : Slots) (pair : Pair) (file c : List ℕ) → Leads (other_of slots) 2 (slots.sequence + 1) pair file c → Outcome slots file c → Outcome (record slots { other = Held pair }) file c
 outcome_held slots pair file c leads was = record { gate = was.gate; counts = was.counts; beside = leads }
 
 not_other : (slots : Slots) (pair : Pair) → counting_of (turned slots pair) ≡ other_of slots
@@ -151,39 +151,39 @@ not_slot : (slots : Slots) (pair : Pair) → other_of (turned slots pair) ≡ co
 not_slot slots pair = elim slots.second as (λ b. (if not b then 0 else 1) ≡ (if b then 1 else 0)) [ true ↦ refl | false ↦ refl ]
 
 -- a slot's number stands behind its gate
-numbered : (slot sequence : ℕ) (updated saved : Extent) (c : List ℕ) → Holds c (512 * slot + 5) (gate_text sequence updated saved) → Holds c (512 * slot + 8) (little_bytes 8 sequence)
+numbered : (slot version sequence : ℕ) (updated saved : Extent) (c : List ℕ) → Holds c (512 * slot + 5) (gate_text version sequence updated saved) → Holds c (512 * slot + 8) (little_bytes 8 sequence)
 unfolding gate_text
-numbered slot sequence updated saved c holds =
+numbered slot version sequence updated saved c holds =
     let P : ℕ → Type 0 = λ n. Holds c n (little_bytes 8 sequence) in
     let place : 512 * slot + 5 + 3 ≡ 512 * slot + 8 = omega arith in
-    subst P place (holds_part c (512 * slot + 5) (1 ∷ 0 ∷ 0 ∷ []) (little_bytes 8 sequence) (extent_text updated ++ extent_text saved) holds)
+    subst P place (holds_part c (512 * slot + 5) (version ∷ 0 ∷ 0 ∷ []) (little_bytes 8 sequence) (extent_text updated ++ extent_text saved) holds)
 
 pub outcome_turned : (slots : Slots) (pair : Pair) (file c : List ℕ) → byte c (512 * other_of slots + 4) ≡ 1 → Outcome (record slots { other = Held pair }) file c → Outcome (turned slots pair) file c
 outcome_turned slots pair file c gate was =
     let directories = slots.committed in
-    let older : IsOlder (counting_of slots) (slots.sequence + 1) c = record { number = slots.sequence; lower = omega arith; there = numbered (counting_of slots) slots.sequence directories.updated.directory directories.saved.directory c was.counts.rest } in
+    let older : IsOlder (counting_of slots) (slots.sequence + 1) c = record { number = slots.sequence; lower = omega arith; there = numbered (counting_of slots) slots.version slots.sequence directories.updated.directory directories.saved.directory c was.counts.rest } in
     record {
       gate = ap (λ s. byte c (512 * s + 4)) (not_other slots pair) ∙ gate;
-      counts = subst (λ s. Leads s (slots.sequence + 1) pair file c) (sym (not_other slots pair)) was.beside;
+      counts = subst (λ s. Leads s 2 (slots.sequence + 1) pair file c) (sym (not_other slots pair)) was.beside;
       beside = inr (subst (λ s. IsOlder s (slots.sequence + 1) c) (sym (not_slot slots pair)) older);
     }
 
 -- In another file that has the same bytes.
 
-same_leads : (slot sequence : ℕ) (pair : Pair) (file now c : List ℕ) → (KeepsAll (pair_extents pair) file c → KeepsAll (pair_extents pair) now c) → Leads slot sequence pair file c → Leads slot sequence pair now c
-same_leads slot sequence pair file now c same was = record { marked = was.marked; rest = was.rest; kept = same was.kept }
+same_leads : (slot version sequence : ℕ) (pair : Pair) (file now c : List ℕ) → (KeepsAll (pair_extents pair) file c → KeepsAll (pair_extents pair) now c) → Leads slot version sequence pair file c → Leads slot version sequence pair now c
+same_leads slot version sequence pair file now c same was = record { marked = was.marked; rest = was.rest; kept = same was.kept }
 
 module _ (file now c : List ℕ) (same : (es : List Extent) → KeepsAll es file now → KeepsAll es file c → KeepsAll es now c) where
   beside_rebased : (other : Other) (slot sequence : ℕ) → IsBeside other slot sequence file now → IsBeside other slot sequence file c → IsBeside other slot sequence now c
   beside_rebased Shut slot sequence here was = was
   beside_rebased Stale slot sequence here was = was
-  beside_rebased (Held pair) slot sequence here was = same_leads slot (sequence + 1) pair file now c (same (pair_extents pair) here.kept) was
+  beside_rebased (Held pair) slot sequence here was = same_leads slot 2 (sequence + 1) pair file now c (same (pair_extents pair) here.kept) was
 
 -- the bytes may be taken from any file that a crash might have left
 pub outcome_rebased : (slots : Slots) (file now c : List ℕ) → Outcome slots file now → Outcome slots file c → Outcome slots now c
 outcome_rebased slots file now c here was = record {
   gate = was.gate;
-  counts = same_leads (counting_of slots) slots.sequence slots.committed file now c (keeps_of_both (pair_extents slots.committed) file now c here.counts.kept) was.counts;
+  counts = same_leads (counting_of slots) slots.version slots.sequence slots.committed file now c (keeps_of_both (pair_extents slots.committed) file now c here.counts.kept) was.counts;
   beside = beside_rebased file now c (λ es. keeps_of_both es file now c) slots.other (other_of slots) slots.sequence here.beside was.beside;
 }
 

@@ -1,5 +1,5 @@
 -- A file into which blocks are put, and from which others are taken.
-use Rattle.std.proofs.Common.{◌≡◌, ◌≢◌, ◌⊎◌, ℕ, ◌+◌, ◌-◌, ◌<◌, ◌≤◌, true, IsTrue, List, ◌++◌, All, take, drop, length, get_or, Option, None, Some, is_some, sym, ap, subst, ◌∙◌, arith, inl, inr, length-append}
+use Rattle.std.proofs.Common.{◌≡◌, ◌≢◌, ◌⊎◌, ℕ, ◌+◌, ◌-◌, ◌*◌, ◌<◌, ◌≤◌, true, IsTrue, List, ◌++◌, All, take, drop, length, get_or, Option, None, Some, is_some, sym, ap, subst, ◌∙◌, arith, inl, inr, length-append}
 use Rattle.std.specs.Prelude.{IfSome}
 use Rattle.std.proofs.lemmas.List.Elements.{All-append}
 use Rattle.vm_store.specs.Facts.{StoreFacts}
@@ -17,7 +17,7 @@ use Rattle.vm_file.specs.Slots.{block_extents, stored_extents, pair_extents, hel
 use Rattle.vm_file.specs.Documents.{IsImaged, AreImaged}
 use Rattle.vm_file.specs.Calls.{IsPut, put_all, remove_all}
 use Rattle.vm_file.specs.Disk.{Drifts, Passes}
-use Rattle.vm_file.specs.Sound.{IsTable, AreTables, IsHeldFormed, IsFormed, IsSound, disk_of}
+use Rattle.vm_file.specs.Sound.{IsPlace, IsTable, AreTables, IsHeldFormed, IsFormed, IsSound, disk_of}
 use Rattle.vm_file.specs.Writing.{AreFor, AreWritten, IsSpared, placed_at, with_places, without_places}
 use Rattle.vm_file.specs.declared.member.Member.{Member}
 use Rattle.vm_file.specs.declared.table.Place.{Place}
@@ -29,24 +29,25 @@ use Rattle.vm_file.specs.declared.slots.Other.TheVariants.{Shut, Stale, Held}
 use Rattle.vm_file.specs.declared.slots.Slots.{Slots}
 use Rattle.vm_file.proofs.Carried.{call_passes, call_sound}
 use Rattle.vm_file.proofs.Filled.{drifts_put_all, drifts_remove_all, filled_drifts, length-with_places, length-without_places, each_with, each_without, full_with, full_without, shown_without_all}
+use Rattle.vm_file.proofs.Imaged.{image_length}
 use Rattle.vm_file.proofs.KeptBytes.{all_left, all_right, keeps_within, bytes_held}
 use Rattle.vm_file.proofs.Live.{EndsIn}
 use Rattle.vm_file.proofs.Passing.{Drifts-trans}
 use Rattle.vm_file.proofs.Tables.{EachPlace, shown, places_drift, blocks_same, images_same, extents_of, places_of, length-block_extents, items_kept}
 
--- There are not too many extents.
+-- There are not too many extents: those of the blocks of six documents, and four directories.
 
-stored_few : (s : Stored) → IsTable s.table → length (stored_extents s) ≤ 2049
+stored_few : (s : Stored) → IsTable s.table → length (stored_extents s) ≤ most_blocks + 1
 stored_few s table = let few = length-block_extents s.table.places.items in let size = table.size in omega (arith, few, size)
 
-pair_few : (pair : Pair) → AreTables pair → length (pair_extents pair) ≤ 4098
+pair_few : (pair : Pair) → AreTables pair → length (pair_extents pair) ≤ 2 * most_blocks + 2
 pair_few pair tables =
     let first = stored_few pair.updated tables.updated in
     let second = stored_few pair.saved tables.saved in
     let both = length-append (stored_extents pair.updated) (stored_extents pair.saved) in
     omega (arith, first, second, both)
 
-held_few : (sequence : ℕ) (other : Other) → IsHeldFormed sequence other → length (held_extents other) ≤ 4098
+held_few : (sequence : ℕ) (other : Other) → IsHeldFormed sequence other → length (held_extents other) ≤ 2 * most_blocks + 2
 held_few sequence Shut formed = omega arith
 held_few sequence Stale formed = omega arith
 held_few sequence (Held pair) formed = pair_few pair formed.0
@@ -55,7 +56,7 @@ marked_few : (marked : Option Table) → IfSome marked IsTable → length (marke
 marked_few None formed = omega arith
 marked_few (Some table) formed = let few = length-block_extents table.places.items in let size = formed.size in omega (arith, few, size)
 
-pub few_extents : (live : Table) (slots : Slots) → IsFormed live slots → length (block_extents live.places.items ++ kept_extents slots) ≤ 12292
+pub few_extents : (live : Table) (slots : Slots) → IsFormed live slots → length (block_extents live.places.items ++ kept_extents slots) ≤ 6 * most_blocks + 4
 few_extents live slots formed =
     let mine = length-block_extents live.places.items in
     let size = formed.table.size in
@@ -70,6 +71,10 @@ few_extents live slots formed =
 -- a vector whose elements are changed twice
 pub kept_twice : {X : Type 0} (n : ℕ) (xs ws vs : List X) → n ≡ length xs → length ws ≡ length xs → length vs ≡ length ws → take n (vs ++ drop (length vs) (take n (ws ++ drop (length ws) xs))) ≡ vs
 kept_twice n xs ws vs size first second = ap (λ l. take n (vs ++ drop (length vs) l)) (items_kept n ws xs size first) ∙ items_kept n vs ws (omega (arith, size, first)) second
+
+-- the place of a block that is put can be
+written_place : (p : Member) (e : Extent) → e.length ≡ length (image p.block.image) → IsPlace (placed_at p e)
+written_place p e size = record { short = (let low = (image_length p.block.image p.block.valid).1 in omega (arith, size, low)); typed = p.block.typed }
 
 -- an image that stands in its extent
 written_imaged : (file : List ℕ) (p : Member) (e : Extent) → bytes_in file e ≡ image p.block.image → IsImaged file (placed_at p e)
@@ -111,6 +116,7 @@ module _ {S : Type 0} (facts : S → StoreFacts) (a b : S) (live : Table) (slots
   -- where the images were written, and the table is changed
   module _ (puts : List Member) (extents : List Extent) (removals : List VmHandle) (new : Table) (are : All IsPut puts) (taken : List Extent) (found : AreFor taken puts (length puts) extents)
       (written : IsTrue (facts a).honest → AreWritten (length puts) puts extents (facts b).content) (same : new.map_block ≡ live.map_block)
+      (room : All (λ p. p.handle.0 ≤ length live.places.items) puts)
       (is : new.places.items ≡ without_places removals (with_places puts extents live.places.items)) where
     bytes : (so : IsTrue (facts a).honest) (k : ℕ) (p : Member) (e : Extent) → k < length puts → bytes_in (facts b).content (get_or extents k e) ≡ image (get_or puts k p).block.image
     bytes so k p e low = bytes_held (facts b).content (image (get_or puts k p).block.image) (get_or extents k e) (sym (found.sizes k e p low)) (written so k e p low)
@@ -125,7 +131,7 @@ module _ {S : Type 0} (facts : S → StoreFacts) (a b : S) (live : Table) (slots
         let made : shown file new.places.items new.map_block ≡ remove_all removals (shown file filled live.map_block) =
         ap (λ m. shown file new.places.items m) same ∙ ap (λ ps. shown file ps live.map_block) is ∙ shown_without_all file removals filled live.map_block in
         subst P (sym made) (drifts_remove_all honestly removals _ _ (Drifts-trans honestly _ _ _ (drifts_put_all honestly puts _ _ spared_drifts)
-        (filled_drifts honestly file puts extents places live.map_block sound.formed.table.size are found.count (λ k p e low so. bytes so k p e low))))
+        (filled_drifts honestly file puts extents places live.map_block room are found.count (λ k p e low so. bytes so k p e low))))
 
     module _ (stays : All (λ h. h.0 ≢ live.map_block) removals) where
       each_new : (P : Place → Type 0) → ((k : ℕ) (p : Member) (e : Extent) → k < length puts → P (placed_at (get_or puts k p) (get_or extents k e))) → EachPlace P live.places.items → EachPlace P new.places.items
@@ -133,7 +139,8 @@ module _ {S : Type 0} (facts : S → StoreFacts) (a b : S) (live : Table) (slots
 
       new_table : IsTable new
       new_table = record {
-        size = ap length is ∙ length-without_places removals (with_places puts extents live.places.items) ∙ length-with_places puts extents live.places.items ∙ sound.formed.table.size;
+        size = (let long = ap length is ∙ length-without_places removals (with_places puts extents live.places.items) ∙ length-with_places puts extents live.places.items in let was = sound.formed.table.size in omega (arith, long, was));
+        places = each_new IsPlace (λ k p e low. written_place (get_or puts k p) (get_or extents k e) (found.sizes k e p low)) sound.formed.table.places;
         map_block = elim sound.formed.table.map_block as (λ _. (new.map_block ≡ 0) ⊎ ((1 ≤ new.map_block) × (is_some (slot_at new.places.items (new.map_block - 1)) ≡ true))) [
           | inl none ↦ inl (same ∙ none)
           | inr one ↦
@@ -156,6 +163,7 @@ module _ {S : Type 0} (facts : S → StoreFacts) (a b : S) (live : Table) (slots
             held = sound.formed.held;
             marked = sound.formed.marked;
             kept = sound.formed.kept;
+            version = sound.formed.version;
             numbered = sound.formed.numbered;
             in_range = sound.formed.in_range;
           })

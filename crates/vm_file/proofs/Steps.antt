@@ -72,11 +72,11 @@ pub turned_leaves : (slots : Slots) (pair : Pair) (file : List ℕ) (a : StoreFa
 turned_leaves slots pair file a durable holds leaves c left = outcome_turned slots pair file c (durable_byte a (512 * other_of slots + 4) 1 durable holds c left) (leaves c left)
 
 -- the other slot is whole but for its gate
-pub held_leaves : (slots : Slots) (pair : Pair) (file : List ℕ) (a : StoreFacts) → IsDurable a → Holds a.content (512 * other_of slots) slot_mark → Holds a.content (512 * other_of slots + 5) (behind_gate (slots.sequence + 1) pair)
+pub held_leaves : (slots : Slots) (pair : Pair) (file : List ℕ) (a : StoreFacts) → IsDurable a → Holds a.content (512 * other_of slots) slot_mark → Holds a.content (512 * other_of slots + 5) (behind_gate 2 (slots.sequence + 1) pair)
     → KeepsAll (pair_extents pair) file a.content → Leaves a slots file → Leaves a (record slots { other = Held pair }) file
 held_leaves slots pair file a durable marked rest kept leaves c left =
-    let there : Leads (other_of slots) (slots.sequence + 1) pair file a.content = record { marked = marked; rest = rest; kept = kept } in
-    outcome_held slots pair file c (subst (λ f. Leads (other_of slots) (slots.sequence + 1) pair file f) (sym (durable c left)) there) (leaves c left)
+    let there : Leads (other_of slots) 2 (slots.sequence + 1) pair file a.content = record { marked = marked; rest = rest; kept = kept } in
+    outcome_held slots pair file c (subst (λ f. Leads (other_of slots) 2 (slots.sequence + 1) pair file f) (sym (durable c left)) there) (leaves c left)
 
 -- the bytes may be taken from the content
 pub leaves_rebased : (slots : Slots) (file : List ℕ) (a : StoreFacts) → a.may_leave a.content → Leaves a slots file → Leaves a slots a.content

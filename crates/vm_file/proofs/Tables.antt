@@ -219,22 +219,26 @@ entry_attributes file places map_block h (Some place) is =
     let at = entry_lies places h place is in
     sym (attributes_is file places map_block h at.0 ∙ ap (λ o. option_map_or (λ (p : Place). p.attributes) o no_attributes) at.1)
 
--- what holds of all extents
-pub entry_extent : (P : Extent → Type 0) (places : List (Option Place)) (h : ℕ) (result : Option Place) → All P (block_extents places) → IsPlaceOf places h result → IfSome result (λ place. P place.extent)
-entry_extent P places h None all is = tt
-entry_extent P places h (Some place) all is = each_at (λ p. P p.extent) places (h - 1) place (entry_lies places h place is).1 (places_of P places all)
+-- what holds of all places
+pub entry_place : (P : Place → Type 0) (places : List (Option Place)) (h : ℕ) (result : Option Place) → EachPlace P places → IsPlaceOf places h result → IfSome result P
+entry_place P places h None each is = tt
+entry_place P places h (Some place) each is = each_at P places (h - 1) place (entry_lies places h place is).1 each
 
 -- the block under a handle, by its place
 pub block_at_is : (file : List ℕ) (places : List (Option Place)) (map_block h : ℕ) (place : Place) → 1 ≤ h → slot_at places (h - 1) ≡ Some place → block_at (shown file places map_block) h ≡ block_in file place
 block_at_is file places map_block h place low at = ap (λ o. unwrap_or o no_block) (block_is file places map_block h place low at)
 
+-- and its kind
+pub heap_at : (file : List ℕ) (places : List (Option Place)) (map_block h : ℕ) (place : Place) → 1 ≤ h → slot_at places (h - 1) ≡ Some place → is_heap (shown file places map_block) h ≡ place.is_heap
+heap_at file places map_block h place low at = heap_is file places map_block h low ∙ ap (λ o. option_map_or (λ (p : Place). p.is_heap) o false) at
+
 pub entry_kind : (file : List ℕ) (places : List (Option Place)) (map_block h : ℕ) (result : Option Place) → IsPlaceOf places h result → IfSome result (λ place. place.is_heap ≡ is_heap (shown file places map_block) h)
 entry_kind file places map_block h None is = tt
 entry_kind file places map_block h (Some place) is =
     let at = entry_lies places h place is in
-    sym (heap_is file places map_block h at.0 ∙ ap (λ o. option_map_or (λ (p : Place). p.is_heap) o false) at.1)
+    sym (heap_at file places map_block h place at.0 at.1)
 
-pub entry_handle : (places : List (Option Place)) (h : ℕ) (result : Option Place) → length places ≡ most_blocks → IsPlaceOf places h result → IfSome result (λ place. is_vm_handle h ≡ true)
+pub entry_handle : (places : List (Option Place)) (h : ℕ) (result : Option Place) → length places ≤ most_blocks → IsPlaceOf places h result → IfSome result (λ place. is_vm_handle h ≡ true)
 entry_handle places h None size is = tt
 entry_handle places h (Some place) size is =
     let at = entry_lies places h place is in

@@ -12,7 +12,7 @@ use Rattle.geos_model.proofs.FileStands.{stands-from}
 use Rattle.vm_file.specs.Ranges.{IsPlaced, end_of}
 use Rattle.vm_file.specs.Slots.{block_extents, stored_extents, pair_extents, held_extents, Outcome}
 use Rattle.vm_file.specs.Documents.{AreImaged, AreStored, IsHeldStored, document_in, sequence_of}
-use Rattle.vm_file.specs.Sound.{IsTable, IsHeldFormed, IsSound}
+use Rattle.vm_file.specs.Sound.{ArePlaces, IsTable, IsHeldFormed, IsSound}
 use Rattle.vm_file.specs.Opened.{Looks, AreRead, IsFound, IsReadSlots, IsReadWhole}
 use Rattle.vm_file.specs.declared.reading.Found.{Found}
 use Rattle.vm_file.specs.declared.table.Table.{Table}
@@ -28,11 +28,12 @@ use Rattle.vm_file.proofs.Counting.{slot_leads}
 
 -- From any store.
 
-pub slots_formed : (n sequence : ℕ) (second : Bool) (pair : Pair) (other : Other) → AreRead n pair → 1 ≤ sequence → sequence < 2 ^ 64 → (other ≡ Shut) ⊎ (other ≡ Stale)
-    → IsReadSlots (record { second = second; sequence = sequence; committed = pair; other = other; marked = None })
-slots_formed n sequence second pair other are some range alone = record {
+pub slots_formed : (n version sequence : ℕ) (second : Bool) (pair : Pair) (other : Other) → AreRead n pair → (version ≡ 1) ⊎ (version ≡ 2) → 1 ≤ sequence → sequence < 2 ^ 64 → (other ≡ Shut) ⊎ (other ≡ Stale)
+    → IsReadSlots (record { second = second; version = version; sequence = sequence; committed = pair; other = other; marked = None })
+slots_formed n version sequence second pair other are versioned some range alone = record {
   committed = record { updated = are.updated.table; saved = are.saved.table };
   placed = All-append IsPlaced (stored_extents pair.updated) (stored_extents pair.saved) are.updated.placed are.saved.placed;
+  version = versioned;
   numbered = some;
   in_range = range;
   other = alone;
@@ -47,17 +48,17 @@ one_within file false long = omega (arith, long)
 
 -- the fields of the slot that counts are those of a document
 pub record IsChecked (s : Slot) : Type 0 where
-  pub version : s.version ≡ 1
+  pub version : (s.version ≡ 1) ⊎ (s.version ≡ 2)
   pub reserved : s.reserved ≡ 0
   pub some : 1 ≤ s.sequence
 
-pub slots_whole : (file : List ℕ) (n : ℕ) (found : Found) (pair : Pair) → n ≡ length file → IsFound file found → IsChecked found.slot → AreRead n pair → AreStored file pair
+pub slots_whole : (file : List ℕ) (n : ℕ) (found : Found) (pair : Pair) → n ≡ length file → IsFound file found → IsChecked found.slot → AreRead n pair → AreStored found.slot.version file pair
     → pair.updated.directory ≡ found.slot.working → pair.saved.directory ≡ found.slot.saved
-    → IsReadWhole file (record { second = found.second; sequence = found.slot.sequence; committed = pair; other = found.other; marked = None })
+    → IsReadWhole file (record { second = found.second; version = found.slot.version; sequence = found.slot.sequence; committed = pair; other = found.other; marked = None })
 slots_whole file n found pair size is good are stored working saved =
     let inside : All (λ e. end_of e ≤ length file) (pair_extents pair) = subst (λ m. All (λ e. end_of e ≤ m) (pair_extents pair)) size
     (All-append (λ e. end_of e ≤ n) (stored_extents pair.updated) (stored_extents pair.saved) are.updated.within are.saved.within) in
-    let leads = slot_leads file (if found.second then 1 else 0) found.slot pair (one_within file found.second is.long) is.bytes is.opened (record { version = good.version; reserved = good.reserved; updated = working; saved = saved }) inside in
+    let leads = slot_leads file (if found.second then 1 else 0) found.slot pair (one_within file found.second is.long) is.bytes is.opened (record { reserved = good.reserved; updated = working; saved = saved }) inside in
     record {
       stored = stored;
       within = inside;
@@ -68,8 +69,8 @@ slots_whole file n found pair size is good are stored working saved =
         version = good.version;
         reserved = good.reserved;
         sequence = good.some;
-        working = ap (document_at file) (sym working) ∙ stored_document file pair.updated stored.updated;
-        saved_is = ap (document_at file) (sym saved) ∙ stored_document file pair.saved stored.saved;
+        working = ap (document_at found.slot.version file) (sym working) ∙ stored_document found.slot.version file pair.updated are.updated.table stored.updated;
+        saved_is = ap (document_at found.slot.version file) (sym saved) ∙ stored_document found.slot.version file pair.saved are.saved.table stored.saved;
       });
       numbered = ap sequence_of is.counts;
     }
@@ -82,8 +83,13 @@ slot_refused file found fault is refused = cond-false _ _ _ (le-ltb (length file
 tested : (s : Slot) → s.reserved ≡ 0 → 1 ≤ s.sequence → (not (s.reserved == 0) || s.sequence == 0) ≡ false
 tested s none some = ap (λ b. not b || s.sequence == 0) (eq-eqb s.reserved 0 none) ∙ ne_eqb s.sequence 0 (λ e. absurd (omega (arith, some, e)))
 
-pub pair_refused : (file : List ℕ) (s : Slot) → IsChecked s → both (document_at file s.working) (document_at file s.saved) ≡ Err Damaged → pair_of file s ≡ Err Damaged
-pair_refused file s good wrong = cond-false _ _ _ (ap not (eq-eqb s.version 1 good.version)) ∙ cond-false _ _ _ (tested s good.reserved good.some) ∙ wrong
+-- the versions of the format
+versioned : (v : ℕ) → (v ≡ 1) ⊎ (v ≡ 2) → not (v == 1 || v == 2) ≡ false
+versioned v (inl one) = subst (λ k. not (k == 1 || k == 2) ≡ false) (sym one) refl
+versioned v (inr two) = subst (λ k. not (k == 1 || k == 2) ≡ false) (sym two) refl
+
+pub pair_refused : (file : List ℕ) (s : Slot) → IsChecked s → both (document_at s.version file s.working) (document_at s.version file s.saved) ≡ Err Damaged → pair_of file s ≡ Err Damaged
+pair_refused file s good wrong = cond-false _ _ _ (versioned s.version good.version) ∙ cond-false _ _ _ (tested s good.reserved good.some) ∙ wrong
 
 -- Once it is synced.
 
@@ -102,7 +108,8 @@ nothing_stored file other (inr stale) = subst (IsHeldStored file) (sym stale) tt
 -- a copy of a table
 pub table_copied : (old new : Table) → new.map_block ≡ old.map_block → new.places.items ≡ old.places.items → IsTable old → IsTable new
 table_copied old new map items is = record {
-  size = ap length items ∙ is.size;
+  size = (let long = ap length items in let was = is.size in omega (arith, long, was));
+  places = subst ArePlaces (sym items) is.places;
   map_block = subst (λ m. (m ≡ 0) ⊎ ((1 ≤ m) × (is_some (get_or new.places.items (m - 1) None) ≡ true))) (sym map)
       (subst (λ ps. (old.map_block ≡ 0) ⊎ ((1 ≤ old.map_block) × (is_some (get_or ps (old.map_block - 1) None) ≡ true))) (sym items) is.map_block);
 }
@@ -120,6 +127,7 @@ opened_sound old new live slots looks formed whole durable map items =
         held = nothing_formed slots.sequence slots.other formed.other;
         marked = nothing_marked IsTable slots.marked formed.unmarked;
         kept = kept_all IsPlaced slots formed.placed (no_extents slots.other formed.other) (nothing_kept IsPlaced slots.marked formed.unmarked);
+        version = formed.version;
         numbered = formed.numbered;
         in_range = formed.in_range;
       };

@@ -1,22 +1,21 @@
 -- A table as a directory in the file.
-use Rattle.std.proofs.Common.{◌≡◌, ℕ, zero, suc, ◌+◌, ◌-◌, ◌*◌, ◌<◌, ◌≤◌, ◌==◌, nat_lt, true, false, List, [], ◌∷◌, ◌++◌, drop, take, length, get_or, Option, None, Some, is_some, All, refl, sym, ap, ap₂, subst, ◌∙◌, arith, inl, inr, eq-eqb, lt-ltb, length-take, length-drop}
+use Rattle.std.proofs.Common.{◌≡◌, ℕ, zero, suc, ◌+◌, ◌-◌, ◌<◌, ◌≤◌, ◌==◌, nat_lt, true, false, List, [], ◌∷◌, ◌++◌, take, length, get_or, Option, None, Some, is_some, All, refl, sym, ap, ap₂, subst, ◌∙◌, arith, inl, inr, eq-eqb, lt-ltb, length-take}
 use Rattle.std.specs.Prelude.{IfSome, ◌||◌}
 use Rattle.std.specs.List.{list_all, list_any}
 use Rattle.std.proofs.lemmas.Bool.{and_from, cond-true}
 use Rattle.std.proofs.lemmas.List.{get_or_past, take_more, append-nil}
 use Rattle.std.proofs.lemmas.List.Elements.{All-nil, All-cons, All-append}
 use Rattle.vm_store.specs.Facts.{Holds}
-use Rattle.geos_model.specs.Image.{body_read}
-use Rattle.geos_model.specs.File.{bytes_in, directory_in, directory_text, is_in_file, is_rising, is_entry, is_map_block, is_directory, longest_image}
+use Rattle.geos_model.specs.File.{directory_in, directory_text, is_in_file, is_rising, is_entry, is_map_block, is_directory}
+use Rattle.geos_model.specs.FileLaws.{FitTypes}
 use Rattle.geos_model.specs.declared.file.Entry.{Entry}
-use Rattle.geos_model.proofs.Images.{length_image_body_le}
-use Rattle.geos_model.proofs.Files.{body_of-some, is_directory-from, directory_in-text}
+use Rattle.geos_model.proofs.Files.{is_directory-from, directory_in-text}
 use Rattle.geos_model.proofs.FileDocuments.{is_in_file-from, is_entry-from}
-use Rattle.geos_model.specs.Document.{FitAttributes}
+use Rattle.geos_model.specs.Document.{most_blocks, FitAttributes}
 use Rattle.vm_file.specs.Ranges.{IsPlaced, start_of, end_of}
 use Rattle.vm_file.specs.Slots.{block_extents, stored_extents}
-use Rattle.vm_file.specs.Documents.{entries_of, directory_of_table, IsImaged, AreImaged, IsStored}
-use Rattle.vm_file.specs.Sound.{IsTable}
+use Rattle.vm_file.specs.Documents.{entries_of, directory_of_table, AreImaged, IsStored}
+use Rattle.vm_file.specs.Sound.{IsPlace, ArePlaces, IsTable}
 use Rattle.vm_file.specs.declared.table.Place.{Place}
 use Rattle.vm_file.specs.declared.table.Table.{Table}
 use Rattle.vm_file.specs.declared.slots.Stored.{Stored}
@@ -34,24 +33,17 @@ rising last h [] low = refl
 rising last h (None ∷ places) low = rising last (h + 1) places (omega arith)
 rising last h (Some place ∷ places) low = and_from (nat_lt last h) (is_rising h (entries_of (h + 1) places)) (lt-ltb last h low) (rising h (h + 1) places (omega arith))
 
--- an image is short
-image_short : (file : List ℕ) (place : Place) → IsImaged file place → end_of place.extent ≤ length file → place.extent.length ≤ longest_image
-image_short file place imaged within =
-    let body = body_of-some (bytes_in file place.extent) (body_read (bytes_in file place.extent)) imaged.image in
-    let low = length_image_body_le (body_read (bytes_in file place.extent)) body.0 in
-    let size = ap length body.1 in
-    omega (arith, low, size, within, length-take place.extent.length (drop (512 * place.extent.page) file), length-drop (512 * place.extent.page) file)
-
-entries_can_be : (file : List ℕ) (h : ℕ) (places : List (Option Place)) → h + length places ≤ 2049 → AreImaged file places → All IsPlaced (block_extents places) → All (λ e. end_of e ≤ length file) (block_extents places) → list_all (is_entry (length file)) (entries_of h places) ≡ true
-entries_can_be file h [] low imaged placed within = refl
-entries_can_be file h (None ∷ places) low imaged placed within = entries_can_be file (h + 1) places (omega (arith, low)) (λ i d inside. imaged (suc i) d (omega arith)) placed within
-entries_can_be file h (Some place ∷ places) low imaged placed within =
-    let one : IfSome (Some place) (IsImaged file) = imaged 0 None (omega arith) in
+-- in a file and a directory of version 2
+entries_can_be : (file : List ℕ) (h : ℕ) (places : List (Option Place)) → h + length places ≤ most_blocks + 1 → ArePlaces places → All IsPlaced (block_extents places) → All (λ e. end_of e ≤ length file) (block_extents places) → list_all (is_entry 2 (length file) 2) (entries_of h places) ≡ true
+entries_can_be file h [] low are placed within = refl
+entries_can_be file h (None ∷ places) low are placed within = entries_can_be file (h + 1) places (omega (arith, low)) (λ i d inside. are (suc i) d (omega arith)) placed within
+entries_can_be file h (Some place ∷ places) low are placed within =
+    let one : IfSome (Some place) IsPlace = are 0 None (omega arith) in
     let there = placed 0 place.extent (omega arith) in
-    let short = image_short file place one (within 0 place.extent (omega arith)) in
-    and_from (is_entry (length file) (record { handle = record { 0 = h }; attributes = place.attributes; extent = place.extent })) (list_all (is_entry (length file)) (entries_of (h + 1) places))
-    (is_entry-from (length file) (record { handle = record { 0 = h }; attributes = place.attributes; extent = place.extent }) (record { handle = omega (arith, low); some = there.some; short = short; behind_slots = there.behind; within = within 0 place.extent (omega arith); in_reach = there.within }))
-    (entries_can_be file (h + 1) places (omega (arith, low)) (λ i d inside. imaged (suc i) d (omega arith)) (λ i d inside. placed (suc i) d (omega arith)) (λ i d inside. within (suc i) d (omega arith)))
+    let e : Entry = record { handle = record { 0 = h }; attributes = place.attributes; extent = place.extent } in
+    and_from (is_entry 2 (length file) 2 e) (list_all (is_entry 2 (length file) 2) (entries_of (h + 1) places))
+    (is_entry-from 2 (length file) 2 e (record { handle = omega (arith, low); some = there.some; short = one.short; behind_slots = there.behind; within = within 0 place.extent (omega arith); in_reach = there.within }))
+    (entries_can_be file (h + 1) places (omega (arith, low)) (λ i d inside. are (suc i) d (omega arith)) (λ i d inside. placed (suc i) d (omega arith)) (λ i d inside. within (suc i) d (omega arith)))
 
 -- a handle with a place is listed
 listed : (h m k : ℕ) (places : List (Option Place)) → m ≡ h + k → is_some (get_or places k None) ≡ true → list_any (λ e. e.handle.0 == m) (entries_of h places) ≡ true
@@ -71,20 +63,23 @@ map_listed table is = elim is.map_block as (λ _. is_map_block table.map_block (
       elim (table.map_block == 0) as (λ b. (b || list_any (λ e. e.handle.0 == table.map_block) (entries_of 1 table.places.items)) ≡ true) [ true ↦ refl | false ↦ there ]
 ]
 
--- A directory whose text stands in the file is that of its table.
+-- A directory of version 2 whose text stands in a file of that version is that of its table.
 pub directory_written : (file : List ℕ) (s : Stored) → IsTable s.table → All IsPlaced (stored_extents s) → AreImaged file s.table.places.items → All (λ e. end_of e ≤ length file) (block_extents s.table.places.items)
-    → All (λ e. FitAttributes e.attributes) (entries_of 1 s.table.places.items) → s.directory.length ≡ length (directory_text (directory_of_table s.table)) → Holds file (start_of s.directory) (directory_text (directory_of_table s.table)) → IsStored file s
+    → All (λ e. FitAttributes e.attributes) (entries_of 1 s.table.places.items) → s.directory.length ≡ length (directory_text (directory_of_table 2 s.table)) → Holds file (start_of s.directory) (directory_text (directory_of_table 2 s.table)) → IsStored 2 file s
 directory_written file s is placed imaged within attributes size holds =
-    let d = directory_of_table s.table in
+    let d = directory_of_table 2 s.table in
     let here = placed 0 s.directory (omega arith) in
-    let good : is_directory (length file) d ≡ true = is_directory-from (length file) d (record {
+    let good : is_directory 2 (length file) d ≡ true = is_directory-from 2 (length file) d (record {
+      version = refl;
       rising = rising 0 1 s.table.places.items (omega arith);
-      entries = entries_can_be file 1 s.table.places.items (omega (arith, is.size)) imaged (λ i x inside. placed (suc i) x (omega arith)) within;
+      entries = entries_can_be file 1 s.table.places.items (omega (arith, is.size)) is.places (λ i x inside. placed (suc i) x (omega arith)) within;
       map_block = map_listed s.table is;
     }) in
-    let inside : is_in_file (length file) s.directory ≡ true = is_in_file-from (length file) s.directory here.behind (omega (arith, holds.within, size)) here.within in
+    let inside : is_in_file 2 (length file) s.directory ≡ true = is_in_file-from 2 (length file) s.directory here.behind (omega (arith, holds.within, size)) here.within in
+    let types : FitTypes 2 d.entries = λ one. absurd (cc one) in
     record {
-      directory = cond-true _ _ _ inside ∙ ap (directory_in (length file)) (bytes_held file (directory_text d) s.directory (sym size) holds) ∙ directory_in-text (length file) d good attributes;
+      version = 2;
+      directory = cond-true _ _ _ inside ∙ ap (directory_in 2 (length file)) (bytes_held file (directory_text d) s.directory (sym size) holds) ∙ directory_in-text 2 (length file) d good attributes types;
       images = imaged;
     }
 

@@ -3,7 +3,7 @@ use Rattle.std.specs.Prelude.{◌≡◌, ◌⊎◌, ℕ, ◌+◌, ◌*◌, ◌�
 use Rattle.std.specs.Coded.{Coded, code_by, coded×, coded_ℕ, coded_list, coded_option}
 use Rattle.vm_store.specs.Facts.{StoreFacts}
 use Rattle.vm_store.specs.Bytes.{put}
-use Rattle.geos_model.specs.Document.{Document, block_at, is_heap, is_live, is_valid_body, is_vm_handle, attributes_of}
+use Rattle.geos_model.specs.Document.{Document, block_at, is_heap, is_live, is_valid_body, is_vm_handle, attributes_of, IsTyped}
 use Rattle.geos_model.specs.File.{stands}
 use Rattle.geos_model.specs.declared.fault.Fault.{Fault}
 use Rattle.geos_model.proofs.Codes.{document_code}
@@ -82,7 +82,7 @@ pub record Crash (old new : StoreFacts) (pairs : List Documents) : Type 0 where
   pub later : old.moment ≤ new.moment
   pub each : (t : ℕ) (c : List ℕ) → t ≤ old.moment → new.left_since t c → old.left_since t c ⊎ StandsForOne pairs c
 
--- Over any store the handles, the user IDs, the kinds and the map block stay; over an honest one the document does.
+-- Over any store the handles, the user IDs, the types, the kinds and the map block stay; over an honest one the document does.
 pub record Drifts (honest : Bool) (old new : Document) : Type 0 where
   pub live : (h : ℕ) → is_live new h ≡ is_live old h
   pub attributes : (h : ℕ) → attributes_of new h ≡ attributes_of old h
@@ -99,10 +99,12 @@ MarkDrifts honest (Some d) new = (e : Document) × (new ≡ Some e) × Drifts ho
 abbrev pub unmarked : {S : Type 0} → Disk S → Disk S
 unmarked disk = record disk { marked = None }
 
--- What a document of a file is: its handles can be, its map block is none or live, and over an honest store so can its bodies.
+-- What a document of a file is: its handles can be, its map block is none or live, only its heaps have types, and over an honest store
+-- its bodies can be.
 pub record IsListed (honest : Bool) (d : Document) : Type 0 where
   pub handles : (h : ℕ) → is_live d h ≡ true → is_vm_handle h ≡ true
   pub map_block : (d.map_block ≡ 0) ⊎ (is_live d d.map_block ≡ true)
+  pub typed : (h : ℕ) → IsTyped (is_heap d h) (attributes_of d h)
   pub bodies : IsTrue honest → (h : ℕ) → is_live d h ≡ true → is_valid_body (block_at d h).body ≡ true
 
 -- Calls that commit nothing.

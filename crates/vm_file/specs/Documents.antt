@@ -55,8 +55,9 @@ entries_of h [] = []
 entries_of h (None ∷ places) = entries_of (h + 1) places
 entries_of h (Some place ∷ places) = record { handle = record { 0 = h }; attributes = place.attributes; extent = place.extent } ∷ entries_of (h + 1) places
 
-abbrev pub directory_of_table : Table → Directory
-directory_of_table table = record { map_block = table.map_block; entries = entries_of 1 table.places.items }
+-- its directory, in a version
+abbrev pub directory_of_table : ℕ → Table → Directory
+directory_of_table version table = record { version = version; map_block = table.map_block; entries = entries_of 1 table.places.items }
 
 -- the place has the image of a body of its kind
 pub record IsImaged (file : List ℕ) (place : Place) : Type 0 where
@@ -67,19 +68,21 @@ pub record IsImaged (file : List ℕ) (place : Place) : Type 0 where
 abbrev pub AreImaged : List ℕ → List (Option Place) → Type 0
 AreImaged file places = All (λ place. IfSome place (IsImaged file)) places
 
--- a document whose directory and images lie in the file
-pub record IsStored (file : List ℕ) (s : Stored) : Type 0 where
-  pub directory : directory_of file s.directory ≡ Some (directory_of_table s.table)
+-- a document whose directory, of whichever version, and images lie in the file, which is of a version
+pub record IsStored (file_version : ℕ) (file : List ℕ) (s : Stored) : Type 0 where
+  pub version : ℕ
+  pub directory : directory_of file_version file s.directory ≡ Some (directory_of_table version s.table)
   pub images : AreImaged file s.table.places.items
 
-pub record AreStored (file : List ℕ) (pair : Pair) : Type 0 where
-  pub updated : IsStored file pair.updated
-  pub saved : IsStored file pair.saved
+pub record AreStored (file_version : ℕ) (file : List ℕ) (pair : Pair) : Type 0 where
+  pub updated : IsStored file_version file pair.updated
+  pub saved : IsStored file_version file pair.saved
 
+-- every commit is of version 2
 abbrev pub IsHeldStored : List ℕ → Other → Type 0
 IsHeldStored file Shut = Unit {0}
 IsHeldStored file Stale = Unit {0}
-IsHeldStored file (Held pair) = AreStored file pair
+IsHeldStored file (Held pair) = AreStored 2 file pair
 
 abbrev pub sequence_of : Result Slot Fault → Option ℕ
 sequence_of (Ok s) = Some s.sequence
@@ -88,3 +91,11 @@ sequence_of (Err fault) = None
 -- the sequence number of the slot that counts
 abbrev pub sequence_in : List ℕ → Option ℕ
 sequence_in file = sequence_of (counting_slot (open_slot file 0) (open_slot file 1))
+
+abbrev pub version_of : Result Slot Fault → Option ℕ
+version_of (Ok s) = Some s.version
+version_of (Err fault) = None
+
+-- its version, which is the file's
+abbrev pub version_in : List ℕ → Option ℕ
+version_in file = version_of (counting_slot (open_slot file 0) (open_slot file 1))

@@ -10,10 +10,10 @@ use Rattle.vm_file.specs.declared.directory.Draft.{Draft}
 use Rattle.vm_file.specs.declared.table.Table.{Table}
 use Rattle.vm_file.specs.declared.slots.Slots.{Slots}
 
--- The directory of the live table, with its text and a place on which nothing lies that stays.
+-- The directory of the live table in version 2, with its text and a place on which nothing lies that stays.
 pub record IsDraft (live : Table) (slots : Slots) (draft : Draft) : Type 0 where
   pub table : IsCopy draft.stored.table live
-  pub text : draft.text.items ≡ directory_text (directory_of_table draft.stored.table)
+  pub text : draft.text.items ≡ directory_text (directory_of_table 2 draft.stored.table)
   pub size : draft.stored.directory.length ≡ length draft.text.items
   pub placed : IsPlaced draft.stored.directory
   pub clear : IsClear (start_of draft.stored.directory) draft.stored.directory.length (block_extents live.places.items ++ kept_extents slots)

@@ -1,5 +1,5 @@
 -- Where a table has blocks.
-use Rattle.std.specs.Prelude.{◌≡◌, ◌≤◌, ◌-◌, ◌<◌, ℕ, ◌==◌, ◌&&◌, nat_lt, List, All, Option, None, true, false, is_some, length, get_or, find}
+use Rattle.std.specs.Prelude.{◌≡◌, ◌≤◌, ◌-◌, ◌<◌, ℕ, ◌==◌, ◌&&◌, nat_lt, List, [], All, Option, None, true, false, is_some, length, get_or, find}
 use Rattle.std.specs.Option.{option_map}
 use Rattle.geos_model.specs.Document.{most_blocks}
 use Rattle.geos_model.specs.declared.handle.VmHandle.{VmHandle}
@@ -20,6 +20,7 @@ pub record IsWidened (puts : List Member) (removals : List VmHandle) (old new : 
   pub freed : All (λ h. new.gap ≤ h.0 - 1) removals
   pub higher : old.end ≤ new.end
   pub reached : All (λ p. p.handle.0 ≤ new.end) puts
+  pub alone : puts ≡ [] → new.end ≡ old.end
   pub within : new.end ≤ most_blocks
 
 -- the least handle above the start whose block has the user ID

@@ -18,13 +18,13 @@ use Rattle.vm_file.specs.declared.slots.Other.TheVariants.{Shut}
 
 -- what a first slot holds whose gate is shut
 abbrev pub first_slot : Extent → List ℕ
-first_slot directory = slot_mark ++ 0 ∷ gate_text 1 directory directory
+first_slot directory = slot_mark ++ 0 ∷ gate_text 2 1 directory directory
 
 -- Slot 0 has the number 1 and leads to one directory, which has this text, and slot 1 has its mark; all others are as they were.
 pub record IsLaid (gate : ℕ) (directory : Extent) (text old new : List ℕ) : Type 0 where
   pub gate_is : byte new 4 ≡ gate
   pub marked : Holds new 0 slot_mark
-  pub rest : Holds new 5 (gate_text 1 directory directory)
+  pub rest : Holds new 5 (gate_text 2 1 directory directory)
   pub second : Holds new 512 slot_mark
   pub beside : byte new 516 ≡ byte old 516
   pub there : Holds new (start_of directory) text
@@ -40,6 +40,7 @@ pub record IsLiveStored (directory : Extent) (live : Table) (s : Stored) : Type 
 -- the slots of a file that was just made: updated and saved is the live document
 pub record IsFirst (directory : Extent) (live : Table) (slots : Slots) : Type 0 where
   pub second : slots.second ≡ false
+  pub version : slots.version ≡ 2
   pub sequence : slots.sequence ≡ 1
   pub other : slots.other ≡ Shut
   pub updated : IsLiveStored directory live slots.committed.updated
@@ -52,6 +53,7 @@ pub record IsOne (file : List ℕ) (live : Table) (slots : Slots) : Type 0 where
   pub saved : document_in file slots.committed.saved.table ≡ document_in file live
   pub attempted : attempted_in file slots.other ≡ []
   pub unmarked : slots.marked ≡ None
+  pub version : slots.version ≡ 2
   pub sequence : slots.sequence ≡ 1
 
 -- what is known of a table whose directory is written
@@ -61,7 +63,7 @@ pub record IsFounding (directory : Extent) (text : List ℕ) (live : Table) : Ty
   pub directory_placed : IsPlaced directory
   pub clear : IsClear (start_of directory) directory.length (block_extents live.places.items)
   pub attributes : All (λ e. FitAttributes e.attributes) (entries_of 1 live.places.items)
-  pub text_is : text ≡ directory_text (directory_of_table live)
+  pub text_is : text ≡ directory_text (directory_of_table 2 live)
   pub size : length text ≡ directory.length
 
 -- The file of no block.
@@ -71,11 +73,11 @@ abbrev pub first_directory : Extent
 first_directory = record { page = 2; length = 16 }
 
 abbrev pub no_blocks : Directory
-no_blocks = record { map_block = 0; entries = [] }
+no_blocks = record { version = 2; map_block = 0; entries = [] }
 
 -- the slot that counts
 abbrev pub first_open : Slot
-first_open = record { gate = 1; version = 1; reserved = 0; sequence = 1; working = first_directory; saved = first_directory }
+first_open = record { gate = 1; version = 2; reserved = 0; sequence = 1; working = first_directory; saved = first_directory }
 
 -- its bytes: slot 0 at page 0, the mark of slot 1 at page 1, the directory at page 2, and zeros between them
 unfoldable pub first_file : List ℕ
@@ -84,11 +86,11 @@ first_file = slot_text first_open ++ replicate 480 0 ++ slot_mark ++ replicate 5
 -- which these bytes are
 pub record FirstFileLaw : Type 0 where
   pub size : length first_file ≡ 1040
-  pub slot : take 32 first_file ≡ 0x47 ∷ 0x56 ∷ 0x4d ∷ 0x46 ∷ 1 ∷ 1 ∷ 0 ∷ 0 ∷ 1 ∷ 0 ∷ 0 ∷ 0 ∷ 0 ∷ 0 ∷ 0 ∷ 0 ∷ 2 ∷ 0 ∷ 0 ∷ 0 ∷ 16 ∷ 0 ∷ 0 ∷ 0 ∷ 2 ∷ 0 ∷ 0 ∷ 0 ∷ 16 ∷ 0 ∷ 0 ∷ 0 ∷ []
+  pub slot : take 32 first_file ≡ 0x47 ∷ 0x56 ∷ 0x4d ∷ 0x46 ∷ 1 ∷ 2 ∷ 0 ∷ 0 ∷ 1 ∷ 0 ∷ 0 ∷ 0 ∷ 0 ∷ 0 ∷ 0 ∷ 0 ∷ 2 ∷ 0 ∷ 0 ∷ 0 ∷ 16 ∷ 0 ∷ 0 ∷ 0 ∷ 2 ∷ 0 ∷ 0 ∷ 0 ∷ 16 ∷ 0 ∷ 0 ∷ 0 ∷ []
   pub behind_slot : take 480 (drop 32 first_file) ≡ replicate 480 0
   pub mark : take 4 (drop 512 first_file) ≡ 0x47 ∷ 0x56 ∷ 0x4d ∷ 0x46 ∷ []
   pub behind_mark : take 508 (drop 516 first_file) ≡ replicate 508 0
-  pub directory : drop 1024 first_file ≡ 0x47 ∷ 0x44 ∷ 0x49 ∷ 0x52 ∷ 1 ∷ 0 ∷ 0 ∷ 0 ∷ 0 ∷ 0 ∷ 0 ∷ 0 ∷ 0 ∷ 0 ∷ 0 ∷ 0 ∷ []
+  pub directory : drop 1024 first_file ≡ 0x47 ∷ 0x44 ∷ 0x49 ∷ 0x52 ∷ 2 ∷ 0 ∷ 0 ∷ 0 ∷ 0 ∷ 0 ∷ 0 ∷ 0 ∷ 0 ∷ 0 ∷ 0 ∷ 0 ∷ []
 
 -- Copies.
 

@@ -1,9 +1,9 @@
 -- What the reading of a file finds in it.
-use Rattle.std.specs.Prelude.{◌≡◌, ◌⊎◌, ℕ, ◌+◌, ◌*◌, ◌/◌, ◌<◌, ◌≤◌, ◌^◌, Bool, IsTrue, List, All, Option, None, Some, Ok, length, take, drop, if◌then◌else◌}
+use Rattle.std.specs.Prelude.{◌≡◌, ◌⊎◌, ℕ, ◌+◌, ◌*◌, ◌<◌, ◌≤◌, ◌^◌, Bool, true, IsTrue, List, All, Option, None, Some, Ok, length, take, drop, if◌then◌else◌}
 use Rattle.vm_store.specs.Facts.{StoreFacts, byte, Rests}
 use Rattle.geos_model.specs.Document.{is_heap_body}
 use Rattle.geos_model.specs.Image.{body_of, body_read}
-use Rattle.geos_model.specs.File.{slot_of, open_slot, counting_slot, stands, longest_directory, last_page}
+use Rattle.geos_model.specs.File.{slot_of, open_slot, counting_slot, stands, longest_directory, is_in_file}
 use Rattle.geos_model.specs.declared.fault.Fault.{Fault}
 use Rattle.geos_model.specs.declared.fault.Fault.TheVariants.{Damaged}
 use Rattle.geos_model.specs.declared.file.Extent.{Extent}
@@ -35,11 +35,9 @@ pub record IsImageOf (is_heap : Bool) (bytes : List ℕ) : Type 0 where
   pub image : body_of bytes ≡ Some (body_read bytes)
   pub kind : is_heap ≡ is_heap_body (body_read bytes)
 
--- a directory can lie there, in a file of n bytes
-pub record IsDirectoryPlace (n : ℕ) (e : Extent) : Type 0 where
-  pub behind : 2 ≤ e.page
-  pub within : 512 * e.page + e.length ≤ n
-  pub in_reach : e.page + (e.length + 511) / 512 ≤ last_page
+-- a directory can lie there, in a file of a version and of n bytes
+pub record IsDirectoryPlace (version n : ℕ) (e : Extent) : Type 0 where
+  pub in_file : is_in_file version n e ≡ true
   pub some : 16 ≤ e.length
   pub short : e.length ≤ longest_directory
 
@@ -76,6 +74,7 @@ Beaten slot n = (slot ≡ None) ⊎ ((t : Slot) × (slot ≡ Some t) × (t.seque
 pub record IsReadSlots (slots : Slots) : Type 0 where
   pub committed : AreTables slots.committed
   pub placed : All IsPlaced (pair_extents slots.committed)
+  pub version : (slots.version ≡ 1) ⊎ (slots.version ≡ 2)
   pub numbered : 1 ≤ slots.sequence
   pub in_range : slots.sequence < 2 ^ 64
   pub other : (slots.other ≡ Shut) ⊎ (slots.other ≡ Stale)
@@ -83,7 +82,7 @@ pub record IsReadSlots (slots : Slots) : Type 0 where
 
 -- from an honest one
 pub record IsReadWhole (file : List ℕ) (slots : Slots) : Type 0 where
-  pub stored : AreStored file slots.committed
+  pub stored : AreStored slots.version file slots.committed
   pub within : All (λ e. end_of e ≤ length file) (pair_extents slots.committed)
   pub outcome : Outcome slots file file
   pub stands : stands file ≡ Ok (documents_in file slots.committed)

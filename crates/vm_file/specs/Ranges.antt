@@ -1,6 +1,6 @@
 -- Ranges of a file: the bytes of extents, and what a write leaves of them.
 use Rattle.std.specs.Prelude.{◌⊎◌, ℕ, ◌+◌, ◌*◌, ◌≤◌, List, All}
-use Rattle.geos_model.specs.File.{end_page, last_page, longest_image}
+use Rattle.geos_model.specs.File.{end_page, last_page, longest_directory}
 use Rattle.geos_model.specs.declared.file.Extent.{Extent}
 pub use Rattle.geos_model.specs.FileLaws.{Keeps}
 
@@ -12,12 +12,12 @@ start_of e = 512 * e.page
 abbrev pub end_of : Extent → ℕ
 end_of e = start_of e + e.length
 
--- an extent that can be: behind the slots, below the last page, of as many bytes as an image has; a directory has fewer
+-- an extent that can be: behind the slots, below the last page, of as many bytes as a directory has; an image has fewer
 pub record IsPlaced (e : Extent) : Type 0 where
   pub behind : 2 ≤ e.page
   pub within : end_page e ≤ last_page
   pub some : 1 ≤ e.length
-  pub short : e.length ≤ longest_image
+  pub short : e.length ≤ longest_directory
 
 -- the bytes of each of these extents stay
 abbrev pub KeepsAll : List Extent → List ℕ → List ℕ → Type 0

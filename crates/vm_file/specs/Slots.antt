@@ -50,9 +50,9 @@ counting_of slots = if slots.second then 1 else 0
 abbrev pub other_of : Slots → ℕ
 other_of slots = if slots.second then 0 else 1
 
--- the slots when what the other one leads to counts
+-- the slots when what the other one leads to counts: a commit is of version 2
 abbrev pub turned : Slots → Pair → Slots
-turned slots pair = record { second = not slots.second; sequence = slots.sequence + 1; committed = pair; other = Stale; marked = slots.marked }
+turned slots pair = record { second = not slots.second; version = 2; sequence = slots.sequence + 1; committed = pair; other = Stale; marked = slots.marked }
 
 -- what a commit that failed before its last step may leave of the slots
 abbrev pub FailedEarly : Slots → Slots → Type 0
@@ -63,16 +63,16 @@ abbrev pub Failed : Slots → Pair → Slots → Type 0
 Failed old pair new = FailedEarly old new ⊎ (new ≡ record old { other = Held pair })
 
 -- what stands behind the gate of a slot: version, two zeros, sequence number, the directories of the updated and the saved document
-unfoldable pub gate_text : ℕ → Extent → Extent → List ℕ
-gate_text sequence updated saved = 1 ∷ 0 ∷ 0 ∷ little_bytes 8 sequence ++ extent_text updated ++ extent_text saved
+unfoldable pub gate_text : ℕ → ℕ → Extent → Extent → List ℕ
+gate_text version sequence updated saved = version ∷ 0 ∷ 0 ∷ little_bytes 8 sequence ++ extent_text updated ++ extent_text saved
 
-abbrev pub behind_gate : ℕ → Pair → List ℕ
-behind_gate sequence pair = gate_text sequence pair.updated.directory pair.saved.directory
+abbrev pub behind_gate : ℕ → ℕ → Pair → List ℕ
+behind_gate version sequence pair = gate_text version sequence pair.updated.directory pair.saved.directory
 
--- Whatever its gate, the slot has this number and leads to this pair, whose bytes are those of the file.
-pub record Leads (slot sequence : ℕ) (pair : Pair) (file c : List ℕ) : Type 0 where
+-- Whatever its gate, the slot has this version and this number and leads to this pair, whose bytes are those of the file.
+pub record Leads (slot version sequence : ℕ) (pair : Pair) (file c : List ℕ) : Type 0 where
   pub marked : Holds c (512 * slot) slot_mark
-  pub rest : Holds c (512 * slot + 5) (behind_gate sequence pair)
+  pub rest : Holds c (512 * slot + 5) (behind_gate version sequence pair)
   pub kept : KeepsAll (pair_extents pair) file c
 
 -- the slot has another mark
@@ -92,12 +92,12 @@ pub record IsOlder (slot sequence : ℕ) (c : List ℕ) : Type 0 where
 abbrev pub IsBeside : Other → ℕ → ℕ → List ℕ → List ℕ → Type 0
 IsBeside Shut slot sequence file c = byte c (512 * slot + 4) ≢ 1
 IsBeside Stale slot sequence file c = IsUnmarked slot c ⊎ IsOlder slot sequence c
-IsBeside (Held pair) slot sequence file c = Leads slot (sequence + 1) pair file c
+IsBeside (Held pair) slot sequence file c = Leads slot 2 (sequence + 1) pair file c
 
 -- What a crash left: the slot that counts is open and whole, and the other is as it is known to be.
 pub record Outcome (slots : Slots) (file c : List ℕ) : Type 0 where
   pub gate : byte c (512 * counting_of slots + 4) ≡ 1
-  pub counts : Leads (counting_of slots) slots.sequence slots.committed file c
+  pub counts : Leads (counting_of slots) slots.version slots.sequence slots.committed file c
   pub beside : IsBeside slots.other (other_of slots) slots.sequence file c
 
 -- a crash now leaves such a file

@@ -1,8 +1,9 @@
 -- What always holds of a document file.
-use Rattle.std.specs.Prelude.{◌≡◌, ◌⊎◌, ℕ, ◌+◌, ◌-◌, ◌^◌, ◌<◌, ◌≤◌, ◌++◌, true, IsTrue, Option, None, IfSome, is_some, length, All, get_or}
+use Rattle.std.specs.Prelude.{◌≡◌, ◌⊎◌, ℕ, List, ◌+◌, ◌-◌, ◌^◌, ◌<◌, ◌≤◌, ◌++◌, true, IsTrue, Option, None, IfSome, is_some, length, All, get_or}
 use Rattle.std.specs.Option.{option_map}
 use Rattle.vm_store.specs.Facts.{StoreFacts}
-use Rattle.geos_model.specs.Document.{most_blocks}
+use Rattle.geos_model.specs.Document.{most_blocks, IsTyped}
+use Rattle.geos_model.specs.File.{longest_image}
 use Rattle.vm_file.specs.Ranges.{IsPlaced, end_of}
 use Rattle.vm_file.specs.Slots.{block_extents, kept_extents, marked_extents, AreKept, Leaves}
 use Rattle.vm_file.specs.Documents.{document_in, attempted_in, AreImaged, AreStored, IsHeldStored}
@@ -10,6 +11,7 @@ use Rattle.vm_file.specs.Disk.{Disk}
 use Rattle.vm_file.specs.Known.{IsKnown}
 use Rattle.vm_file.specs.Listing.{AreBounds}
 use Rattle.vm_space.specs.Space.{Space}
+use Rattle.vm_file.specs.declared.table.Place.{Place}
 use Rattle.vm_file.specs.declared.table.Table.{Table}
 use Rattle.vm_file.specs.declared.listing.Bounds.{Bounds}
 use Rattle.vm_file.specs.declared.slots.Pair.{Pair}
@@ -17,9 +19,18 @@ use Rattle.vm_file.specs.declared.slots.Other.{Other}
 use Rattle.vm_file.specs.declared.slots.Other.TheVariants.{Shut, Stale, Held}
 use Rattle.vm_file.specs.declared.slots.Slots.{Slots}
 
--- A table that can be: a place for each handle, and the map block none or live.
+-- A place that can be: of an image that isn't too long, and of attributes that its kind can have.
+pub record IsPlace (place : Place) : Type 0 where
+  pub short : place.extent.length ≤ longest_image
+  pub typed : IsTyped place.is_heap place.attributes
+
+abbrev pub ArePlaces : List (Option Place) → Type 0
+ArePlaces places = All (λ place. IfSome place IsPlace) places
+
+-- A table that can be: places for the handles up to some number, past which none is live, and the map block none or live.
 pub record IsTable (table : Table) : Type 0 where
-  pub size : length table.places.items ≡ most_blocks
+  pub size : length table.places.items ≤ most_blocks
+  pub places : ArePlaces table.places.items
   pub map_block : (table.map_block ≡ 0) ⊎ ((1 ≤ table.map_block) × (is_some (get_or table.places.items (table.map_block - 1) None) ≡ true))
 
 -- so are the tables of a pair
@@ -41,6 +52,7 @@ pub record IsFormed (live : Table) (slots : Slots) : Type 0 where
   pub held : IsHeldFormed slots.sequence slots.other
   pub marked : IfSome slots.marked IsTable
   pub kept : AreKept slots
+  pub version : (slots.version ≡ 1) ⊎ (slots.version ≡ 2)
   pub numbered : 1 ≤ slots.sequence
   pub in_range : slots.sequence < 2 ^ 64
 
@@ -48,7 +60,7 @@ pub record IsFormed (live : Table) (slots : Slots) : Type 0 where
 pub record IsWhole (store : StoreFacts) (live : Table) (slots : Slots) : Type 0 where
   pub images : AreImaged store.content live.places.items
   pub within : All (λ e. end_of e ≤ length store.content) (block_extents live.places.items)
-  pub committed : AreStored store.content slots.committed
+  pub committed : AreStored slots.version store.content slots.committed
   pub held : IsHeldStored store.content slots.other
   pub marked : IfSome slots.marked (λ table. AreImaged store.content table.places.items)
   pub marked_within : All (λ e. end_of e ≤ length store.content) (marked_extents slots.marked)

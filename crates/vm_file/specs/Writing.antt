@@ -1,5 +1,5 @@
 -- Images that are written where nothing lies that stays.
-use Rattle.std.specs.Prelude.{◌≡◌, ℕ, zero, suc, ◌-◌, ◌<◌, ◌≤◌, List, [], ◌∷◌, All, Option, None, Some, length, get_or, slice_set}
+use Rattle.std.specs.Prelude.{◌≡◌, ℕ, zero, suc, ◌-◌, ◌<◌, ◌≤◌, List, [], ◌∷◌, ◌++◌, All, Option, None, Some, length, replicate, get_or, slice_set}
 use Rattle.vm_store.specs.Facts.{StoreFacts, Holds}
 use Rattle.geos_model.specs.Document.{is_heap_body}
 use Rattle.geos_model.specs.Image.{image}
@@ -40,6 +40,11 @@ pub record IsSpared (extents : List Extent) (slots : Slots) (old new : StoreFact
   pub crash : (file : List ℕ) → Leaves old slots file → Outlives old new file (λ s. s ≡ slots)
 
 -- Changes of a table.
+
+-- with places of no block behind the others
+pub record IsGrown (old new : List (Option Place)) : Type 0 where
+  pub count : ℕ
+  pub is : new ≡ old ++ replicate count None
 
 -- where a block lies whose image is in this extent
 abbrev pub placed_at : Member → Extent → Place

@@ -7,7 +7,7 @@ ghost use Rattle.vm_file.specs.Ranges.{start_of, IsPlaced, KeepsAll, IsClear};
 ghost use Rattle.vm_file.specs.Slots.{gate_text, behind_gate, pair_extents, kept_extents, other_of, turned, AreKept, Leaves, Outlives, FailedEarly, Failed};
 
 use crate::slots::{Other, Pair, Slots};
-use geos_model::{Extent, Slot};
+use geos_model::{Extent, Slot, VERSION};
 use vm_space::{SLOT_LENGTH, SLOT_MARK, write_slot};
 use vm_store::{Store, StoreFault};
 
@@ -26,10 +26,10 @@ pub fn write_through<S: Store>(store: &mut S, at: u64, bytes: &[u8]) -> Result<(
     store.sync()
 }
 
-/// The bytes of a slot behind its gate: its version, its number, and the directories of the updated and the saved document.
+/// The bytes of a slot behind its gate: the version, its number, and the directories of the updated and the saved document.
 #[tactic(auto, unfolding(crate::specs::Slots::gate_text))]
 pub fn behind_gate_bytes(sequence: u64, working: Extent, saved: Extent) -> [u8; 27]
-    ensures { result ≡ gate_text sequence working saved }
+    ensures { result ≡ gate_text 2 sequence working saved }
 {
     let mut bytes = [0; 27];
     bytes.copy_from_slice(&slot_bytes(sequence, working, saved)[5..]);
@@ -39,11 +39,11 @@ pub fn behind_gate_bytes(sequence: u64, working: Extent, saved: Extent) -> [u8; 
 /// The bytes of a slot whose gate is shut.
 #[tactic(auto, unfolding(crate::specs::Slots::gate_text))]
 pub fn slot_bytes(sequence: u64, working: Extent, saved: Extent) -> [u8; SLOT_LENGTH]
-    ensures { result ≡ slot_mark ++ 0 ∷ gate_text sequence working saved }
+    ensures { result ≡ slot_mark ++ 0 ∷ gate_text 2 sequence working saved }
 {
     write_slot(&Slot {
         gate: 0,
-        version: 1,
+        version: VERSION,
         reserved: 0,
         sequence,
         working,
@@ -128,7 +128,7 @@ fn fill_slot<S: Store>(store: &mut S, slots: &Slots, pair: &Pair) -> Result<(), 
         → Outlives (S.facts store.old) (S.facts store.new) file (λ s. s ≡ slots.now) }
     ensures leaves { (file : List ℕ) → IsTrue (S.facts store.old).honest → Leaves (S.facts store.old) slots.now file → Leaves (S.facts store.new) slots.now file }
     ensures marked { OnOk result (IsTrue (S.facts store.old).honest → Holds (S.facts store.new).content (512 * other_of slots.now) slot_mark) }
-    ensures rest { OnOk result (IsTrue (S.facts store.old).honest → Holds (S.facts store.new).content (512 * other_of slots.now + 5) (behind_gate (slots.now.sequence + 1) pair.now)) }
+    ensures rest { OnOk result (IsTrue (S.facts store.old).honest → Holds (S.facts store.new).content (512 * other_of slots.now + 5) (behind_gate 2 (slots.now.sequence + 1) pair.now)) }
     ensures durable { OnOk result (IsTrue (S.facts store.old).honest → IsDurable (S.facts store.new)) }
 {
     let rest = behind_gate_bytes(
@@ -158,6 +158,7 @@ fn open_gate<S: Store>(store: &mut S, slots: &mut Slots, pair: Pair) -> Result<(
     match write_through(store, other_gate(slots), &[1]) {
         Ok(()) => {
             slots.second = !slots.second;
+            slots.version = VERSION;
             slots.sequence += 1;
             slots.committed = pair;
             slots.other = Other::Stale;

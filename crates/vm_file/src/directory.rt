@@ -16,7 +16,7 @@ use crate::commit::write_extent;
 use crate::copies::copy_table;
 use crate::placing::known_space;
 use crate::settle::settle;
-use crate::slots::{Pair, Slots, Stored};
+use crate::slots::{Other, Pair, Slots, Stored};
 use crate::table::{Place, Table};
 use geos_model::{Attributes, Entry, Extent, Fault, VmHandle};
 use std::alloc::{AllocError, Global};
@@ -109,7 +109,7 @@ pub fn write_draft<S: Store>(
     ensures passes { Passes S.facts (disk_of S.facts store.old slots.now) (disk_of S.facts store.new slots.now) }
     ensures sound { IsSound (S.facts store.new) live.now slots.now }
     ensures same { IsTrue (S.facts store.old).honest → document_in (S.facts store.new).content live.now ≡ document_in (S.facts store.old).content live.now }
-    ensures written { OnOk result (IsTrue (S.facts store.old).honest → IsStored (S.facts store.new).content draft.now.stored) }
+    ensures written { OnOk result (IsTrue (S.facts store.old).honest → IsStored 2 (S.facts store.new).content draft.now.stored) }
     ensures file { IsErrOf result Fault.File → Raised (S.facts store.old) (S.facts store.new) }
     ensures refusals { IfErr result (λ fault. fault ≡ Fault.File) }
 {
@@ -135,6 +135,7 @@ pub fn commit_draft<S: Store>(
     ensures commits { Commits S.facts (document_in (S.facts store.old).content live.now, document_in (S.facts store.old).content saved.table) (disk_of S.facts store.old slots.old) (disk_of S.facts store.new slots.new) result }
     ensures sound { IsSound (S.facts store.new) live.now slots.new }
     ensures same { IsTrue (S.facts store.old).honest → document_in (S.facts store.new).content live.now ≡ document_in (S.facts store.old).content live.now }
+    ensures turned { OnOk result ((slots.new.version ≡ 2) × (slots.new.other ≡ Other.Stale)) }
     ensures file { IsErrOf result Fault.File → Raised (S.facts store.old) (S.facts store.new) }
     ensures refusals { IfErr result (λ fault. fault ≡ Fault.File) }
 {

@@ -2,13 +2,13 @@ ghost use Rattle.std.specs.Prelude.{◌≡◌, ◌≢◌, ◌⊎◌, ◌↔◌, 
 ghost use Rattle.std.specs.Option.{option_map};
 ghost use Rattle.std.specs.FinMap.{get, keys};
 ghost use Rattle.vm_store.specs.Facts.{Raised, Rests};
-ghost use Rattle.geos_model.specs.Document.{empty_document, is_live, is_vm_handle, next_handle, most_blocks, attributes_of, with_attributes, block_at, is_heap};
+ghost use Rattle.geos_model.specs.Document.{empty_document, is_live, is_vm_handle, next_handle, most_blocks, attributes_of, with_attributes, block_at, is_heap, IsTyped};
 ghost use Rattle.geos_model.specs.Image.{image};
 ghost use Rattle.geos_model.specs.Reply.{found};
 ghost use Rattle.geos_model.specs.File.{bytes_in, directory_text, open_slot, stands};
 ghost use Rattle.vm_file.specs.Disk.{FileState, ContentStands, Drifts, Passes, IsSettled, Numbered, unmarked};
 ghost use Rattle.vm_file.specs.Effects.{IsFile, IsNewFile, Follows, OnlyReads, KeepsFile, IsCommit, Fails, NoFault, IsWorn};
-ghost use Rattle.vm_file.specs.Documents.{sequence_in};
+ghost use Rattle.vm_file.specs.Documents.{sequence_in, version_in};
 ghost use Rattle.vm_file.specs.Making.{first_directory, first_file, first_open, no_blocks};
 ghost use Rattle.vm_file.specs.Calls.{IsPut, put_all, remove_all, IsImageLength, IsSupply, IsOpenRefusal, last_sequence};
 
@@ -22,13 +22,16 @@ use crate::reading::{open_slots, read_extent};
 use crate::refused::Refused;
 use crate::settle::settle;
 use crate::slots::Slots;
-use crate::table::{Place, Table, place_of, put_places, remove_places, set_attributes};
+use crate::table::{Place, Table, make_room, place_of, put_places, remove_places, set_attributes};
 use crate::writing::write_puts;
 use geos_model::{Attributes, Fault, VmHandle};
 use std::alloc::{AllocError, Global};
 use std::marker::Model;
 use vm_space::FreeSpace;
 use vm_store::Store;
+
+// How many handles there are.
+const MOST_BLOCKS: usize = geos_model::MOST_BLOCKS as usize;
 
 /// A document file over a store. What was committed stays where it lies until another commit is acknowledged, so that a
 /// crash at any moment leaves the updated and the saved document of the last acknowledged commit, or those of a commit
@@ -206,7 +209,7 @@ impl<S: Store> VmFile<S> {
         ensures free { IfSome result (λ h. get self.now.document.blocks h.0 ≡ None) }
     {
         let gap = first_free(&self.live.places, self.bounds.gap);
-        if gap < self.live.places.len() {
+        if gap < MOST_BLOCKS {
             Some(VmHandle(gap as u16 + 1))
         } else {
             None
@@ -227,9 +230,10 @@ impl<S: Store> VmFile<S> {
         }
     }
 
-    /// Sets the attributes of a block.
+    /// Sets the attributes of a block. Only a heap has a type.
     pub fn set_attributes(&mut self, block: VmHandle, attributes: Attributes)
-        requires { is_live self.old.document block.0 ≡ true }
+        requires live { is_live self.old.document block.0 ≡ true }
+        requires typed { IsTyped (is_heap self.old.document block.0) attributes }
         ensures { self.new ≡ record self.old { document = with_attributes self.old.document block.0 attributes } }
     {
         set_attributes(&mut self.live.places, block, attributes);
@@ -257,6 +261,8 @@ impl<S: Store> VmFile<S> {
         ensures removals_alone { puts.now ≡ [] → IsOk result × (self.new ≡ record self.old { document = remove_all removals.now self.old.document }) }
         ensures fails { Fails S.facts NoFault self.old.disk.store self.new.disk.store result }
     {
+        let bounds = widened(self.bounds, puts, removals);
+        make_room(&mut self.live.places, bounds.end)?;
         let written = write_puts(
             self.alloc,
             &mut self.store,
@@ -275,7 +281,7 @@ impl<S: Store> VmFile<S> {
         );
         remove_places(&mut self.live.places, removals, &self.slots, &mut space);
         self.space = space;
-        self.bounds = tightened(&self.live.places, widened(self.bounds, puts, removals));
+        self.bounds = tightened(&self.live.places, bounds);
         Ok(())
     }
 
@@ -316,6 +322,7 @@ impl<S: Store> VmFile<S> {
     /// done; Memory, before anything is written; File.
     pub fn commit_update(&mut self) -> Result<(), Fault>
         ensures commit { IsCommit S.facts (self.old.document, self.old.disk.saved) self.old.document self.old self.new result }
+        ensures version { OnOk result (IsTrue (S.facts self.new.disk.store).honest → version_in (S.facts self.new.disk.store).content ≡ Some 2) }
         ensures early { IfErr result (λ fault. fault ≢ Fault.File → self.new ≡ self.old) }
         ensures fails { Fails S.facts IsWorn self.old.disk.store self.new.disk.store result }
     {
@@ -330,6 +337,7 @@ impl<S: Store> VmFile<S> {
     /// Makes the document as it is now the updated and the saved one. Refused as an update is.
     pub fn commit_save(&mut self) -> Result<(), Fault>
         ensures commit { IsCommit S.facts (self.old.document, self.old.document) self.old.document self.old self.new result }
+        ensures version { OnOk result (IsTrue (S.facts self.new.disk.store).honest → version_in (S.facts self.new.disk.store).content ≡ Some 2) }
         ensures early { IfErr result (λ fault. fault ≢ Fault.File → self.new ≡ self.old) }
         ensures fails { Fails S.facts IsWorn self.old.disk.store self.new.disk.store result }
     {
@@ -344,6 +352,7 @@ impl<S: Store> VmFile<S> {
     /// Makes the saved document the updated one and the document as it is now. Refused as an update is.
     pub fn commit_revert(&mut self) -> Result<(), Fault>
         ensures commit { IsCommit S.facts (self.old.disk.saved, self.old.disk.saved) self.old.disk.saved self.old self.new result }
+        ensures version { OnOk result (IsTrue (S.facts self.new.disk.store).honest → version_in (S.facts self.new.disk.store).content ≡ Some 2) }
         ensures early { IfErr result (λ fault. fault ≢ Fault.File → self.new ≡ self.old) }
         ensures fails { Fails S.facts IsWorn self.old.disk.store self.new.disk.store result }
     {
@@ -372,6 +381,7 @@ impl<S: Store> VmFile<S> {
         ensures copied { IfOk result (λ file. IsTrue (S.facts self.old.disk.store).honest → IsTrue (S.facts target).honest → file.document ≡ self.old.document) }
         ensures handles { IfOk result (λ file. Drifts false self.old.document file.document) }
         ensures made { IfOk result (λ file. IsNewFile S.facts file.document file.disk) }
+        ensures version { IfOk result (λ file. IsTrue (S.facts file.disk.store).honest → version_in (S.facts file.disk.store).content ≡ Some 2) }
         ensures file { IfErr result (λ refused. refused.fault ≡ Fault.File
             → Raised (S.facts self.old.disk.store) (S.facts self.new.disk.store) ⊎ Raised (S.facts target) (S.facts refused.store)) }
         ensures damaged { IfErr result (λ refused. refused.fault ≡ Fault.Damaged → IsTrue (S.facts self.old.disk.store).honest → ⊥) }

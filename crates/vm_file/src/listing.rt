@@ -1,5 +1,5 @@
 // Which handles are live, and where in a table to look for them.
-ghost use Rattle.std.specs.Prelude.{◌≡◌, ◌≤◌, ◌-◌, ◌<◌, ℕ, All, IfOk, length, map, get_or, is_some, true, false, None};
+ghost use Rattle.std.specs.Prelude.{◌≡◌, ◌≤◌, ◌-◌, ◌<◌, ℕ, [], All, IfOk, length, map, get_or, is_some, true, false, None};
 ghost use Rattle.std.specs.Option.{option_map};
 ghost use Rattle.geos_model.specs.Document.{most_blocks};
 ghost use Rattle.geos_model.proofs.Table.{table_entries, first_gap};
@@ -76,6 +76,7 @@ fn end_with(end: usize, puts: &[Member]) -> usize
     requires within { end ≤ most_blocks }
     ensures start { end ≤ result }
     ensures puts { All (λ p. p.handle.0 ≤ result) puts.now }
+    ensures alone { puts.now ≡ [] → result ≡ end }
     ensures within { result ≤ most_blocks }
 {
     let mut end = end;

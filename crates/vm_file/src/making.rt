@@ -1,8 +1,7 @@
 // The making of a file.
-ghost use Rattle.std.specs.Prelude.{◌≡◌, ◌≢◌, ◌≤◌, ℕ, List, [], ◌∷◌, IsTrue, OnOk, IfOk, IfErr, IsErrOf, None, replicate, length};
+ghost use Rattle.std.specs.Prelude.{◌≡◌, ◌≢◌, ◌≤◌, ℕ, List, [], ◌∷◌, IsTrue, OnOk, IfOk, IfErr, IsErrOf, length};
 ghost use Rattle.geos_model.specs.File.{slot_mark};
 ghost use Rattle.vm_store.specs.Facts.{IsDurable, Puts, Counts, Raised};
-ghost use Rattle.geos_model.specs.Document.{most_blocks};
 ghost use Rattle.vm_file.specs.Calls.{IsSupply};
 ghost use Rattle.vm_file.specs.Making.{first_directory, first_slot, first_file, IsLaid, IsFirst};
 ghost use Rattle.vm_file.specs.Sound.{IsSound};
@@ -11,13 +10,10 @@ use crate::commit::{PAGE, slot_bytes};
 use crate::copies::copy_table;
 use crate::slots::{Other, Pair, Slots, Stored};
 use crate::table::Table;
-use geos_model::{Extent, Fault, VmHandle};
+use geos_model::{Extent, Fault, VERSION, VmHandle};
 use std::alloc::{AllocError, Global};
 use vm_space::{SLOT_MARK, write_dir};
 use vm_store::{Store, StoreFault};
-
-/// How many handles there are.
-const MOST_BLOCKS: usize = geos_model::MOST_BLOCKS as usize;
 
 /// What is known in memory of a file that was made.
 #[derive(Drop)]
@@ -26,19 +22,15 @@ pub struct Made {
     pub slots: Slots,
 }
 
-/// A table of no block.
-pub fn empty_table(alloc: Global) -> Result<Table, AllocError>
-    ensures map_block { IfOk result (λ table. table.map_block ≡ 0) }
-    ensures places { IfOk result (λ table. table.places.items ≡ replicate most_blocks None) }
+/// A table of no block. It takes no memory.
+fn empty_table(alloc: Global) -> Table
+    ensures map_block { result.map_block ≡ 0 }
+    ensures places { result.places.items ≡ [] }
 {
-    let mut places = Vec::with_capacity(alloc, MOST_BLOCKS)?;
-    for _i in 0..MOST_BLOCKS {
-        places.push(None)?;
-    }
-    Ok(Table {
+    Table {
         map_block: 0,
-        places,
-    })
+        places: Vec::new(alloc),
+    }
 }
 
 /// The slots of a file whose document is updated and saved, under the number 1.
@@ -60,6 +52,7 @@ pub fn first_slots(alloc: Global, live: Table, directory: Extent) -> Result<Made
     };
     let slots = Slots {
         second: false,
+        version: VERSION,
         sequence: 1,
         committed,
         other: Other::Shut,
@@ -143,7 +136,7 @@ pub fn make_empty<S: Store>(alloc: Global, store: &mut S) -> Result<Made, Fault>
     ensures failures { (S.facts store.old).failures ≤ (S.facts store.new).failures }
     ensures sound { IfOk result (λ made. IsSound (S.facts store.new) made.live made.slots) }
     ensures map_block { IfOk result (λ made. made.live.map_block ≡ 0) }
-    ensures places { IfOk result (λ made. made.live.places.items ≡ replicate most_blocks None) }
+    ensures places { IfOk result (λ made. made.live.places.items ≡ []) }
     ensures first { IfOk result (λ made. IsFirst first_directory made.live made.slots) }
     ensures bytes { IfOk result (λ made. IsTrue (S.facts store.old).honest → (S.facts store.new).content ≡ first_file) }
     ensures size { IfOk result (λ made. IsTrue (S.facts store.old).honest → length (S.facts store.new).content ≡ 1040) }
@@ -155,7 +148,7 @@ pub fn make_empty<S: Store>(alloc: Global, store: &mut S) -> Result<Made, Fault>
         page: 2,
         length: 16,
     };
-    let live = empty_table(alloc)?;
+    let live = empty_table(alloc);
     let made = first_slots(alloc, live, directory)?;
     let text = write_dir(alloc, VmHandle(0), &[])?;
     empty(store)?;

@@ -3,11 +3,12 @@ ghost use Rattle.std.specs.Prelude.{◌≡◌, ◌⊎◌, ◌↔◌, ◌<◌, �
 ghost use Rattle.std.specs.Option.{option_and_then};
 ghost use Rattle.vm_store.specs.Facts.{Holds, IsDurable, Raised, Rests};
 ghost use Rattle.geos_model.specs.Image.{body_of};
-ghost use Rattle.geos_model.specs.File.{directory_of, is_directory, is_rising, blocks_of, bytes_in, document_at, both, if_open, counting_slot, pair_of, stands};
+ghost use Rattle.geos_model.specs.Document.{IsTyped};
+ghost use Rattle.geos_model.specs.File.{directory_of, is_directory, is_rising, block_of, blocks_of, bytes_in, document_at, both, if_open, counting_slot, pair_of, stands, longest_image};
 ghost use Rattle.vm_space.specs.Listed.{shown};
 ghost use Rattle.geos_model.specs.declared.file.Slot as slots;
 ghost use Rattle.vm_file.specs.Ranges.{start_of};
-ghost use Rattle.vm_file.specs.Sound.{IsSound};
+ghost use Rattle.vm_file.specs.Sound.{ArePlaces, IsSound};
 ghost use Rattle.vm_file.specs.Calls.{IsSupply, IsOpenRefusal};
 ghost use Rattle.vm_file.specs.Documents.{documents_in, sequence_in, entries_of, IsImaged, AreImaged, IsStored, AreStored};
 ghost use Rattle.vm_file.specs.Opened.{Looks, IsReadRefusal, IsImageOf, IsDirectoryPlace, IsRead, AreRead, IsFace, IsFound, Beaten, IsReadSlots, IsReadWhole};
@@ -15,11 +16,12 @@ ghost use Rattle.vm_file.specs.Opened.{Looks, IsReadRefusal, IsImageOf, IsDirect
 use crate::copies::copy_table;
 use crate::slots::{Other, Pair, Slots, Stored};
 use crate::table::{Place, Table};
-use geos_model::{Entry, Extent, Fault, LAST_PAGE, PAGE, Slot};
+use geos_model::{Entry, Extent, Fault, PAGE, Slot};
 use lmem_heap::Heap;
 use std::alloc::{AllocError, Global};
 use vm_space::{
-    Directory, LONGEST_DIRECTORY, LONGEST_IMAGE, MOST_ENTRIES, SLOT_LENGTH, read_dir, read_slot,
+    Directory, LONGEST_DIRECTORY, LONGEST_IMAGE, MOST_ENTRIES, SLOT_LENGTH, is_in_file, read_dir,
+    read_slot,
 };
 use vm_store::Store;
 
@@ -84,7 +86,7 @@ fn known_kind(known: &[Option<Place>], index: usize, extent: Extent) -> Option<b
     }
 }
 
-/// The place of an entry. An image that lies where a known one of the same handle does isn't read again.
+/// The place of an entry: only a heap has a type. An image that lies where a known one of the same handle does isn't read again.
 fn read_place<S: Store>(
     alloc: Global,
     store: &mut S,
@@ -94,8 +96,9 @@ fn read_place<S: Store>(
     requires { IsTrue (S.facts store.old).honest → AreImaged (S.facts store.old).content known.now }
     ensures looks { Looks (S.facts store.old) (S.facts store.new) }
     ensures place { IfOk result (λ place. (place.attributes ≡ entry.attributes) × (place.extent ≡ entry.extent)) }
+    ensures typed { IfOk result (λ place. IsTyped place.is_heap place.attributes) }
     ensures imaged { IfOk result (λ place. IsTrue (S.facts store.old).honest → IsImaged (S.facts store.old).content place) }
-    ensures damaged { IsErrOf result Fault.Damaged → IsTrue (S.facts store.old).honest → body_of (bytes_in (S.facts store.old).content entry.extent) ≡ None }
+    ensures damaged { IsErrOf result Fault.Damaged → IsTrue (S.facts store.old).honest → block_of (S.facts store.old).content entry ≡ None }
     ensures file { IsErrOf result Fault.File → Raised (S.facts store.old) (S.facts store.new) }
     ensures refusals { IfErr result IsReadRefusal }
 {
@@ -104,6 +107,9 @@ fn read_place<S: Store>(
         Some(is_heap) => is_heap,
         None => read_kind(alloc, store, entry.extent)?,
     };
+    if !is_heap && entry.attributes.heap_type != 0 {
+        return Err(Fault::Damaged);
+    }
     Ok(Place {
         attributes: entry.attributes,
         is_heap,
@@ -119,6 +125,19 @@ fn no_places(alloc: Global, count: usize) -> Result<Vec<Option<Place>>, AllocErr
     vec![in alloc; None; count]
 }
 
+/// How many places a table of these entries needs: up to the last handle.
+fn places_needed(entries: &[Entry]) -> usize
+    requires rising { is_rising 0 entries.now ≡ true }
+    requires handles { All (λ e. e.handle.0 ≤ MOST_ENTRIES) entries.now }
+    ensures enough { All (λ e. e.handle.0 ≤ result) entries.now }
+    ensures few { result ≤ MOST_ENTRIES }
+{
+    match entries.last() {
+        Some(entry) => usize::from(entry.handle.0),
+        None => 0,
+    }
+}
+
 /// The places of entries, each under its handle. Damaged, Memory, File.
 fn read_places<S: Store>(
     alloc: Global,
@@ -128,16 +147,18 @@ fn read_places<S: Store>(
 ) -> Result<Vec<Option<Place>>, Fault>
     requires rising { is_rising 0 entries.now ≡ true }
     requires handles { All (λ e. e.handle.0 ≤ MOST_ENTRIES) entries.now }
+    requires short { All (λ e. e.extent.length ≤ longest_image) entries.now }
     requires known { IsTrue (S.facts store.old).honest → AreImaged (S.facts store.old).content known.now }
     ensures looks { Looks (S.facts store.old) (S.facts store.new) }
-    ensures size { IfOk result (λ places. length places.items ≡ MOST_ENTRIES) }
+    ensures size { IfOk result (λ places. length places.items ≤ MOST_ENTRIES) }
     ensures entries { IfOk result (λ places. entries_of 1 places.items ≡ entries.now) }
+    ensures places { IfOk result (λ places. ArePlaces places.items) }
     ensures imaged { IfOk result (λ places. IsTrue (S.facts store.old).honest → AreImaged (S.facts store.old).content places.items) }
     ensures damaged { IsErrOf result Fault.Damaged → IsTrue (S.facts store.old).honest → blocks_of (S.facts store.old).content entries.now ≡ None }
     ensures file { IsErrOf result Fault.File → Raised (S.facts store.old) (S.facts store.new) }
     ensures refusals { IfErr result IsReadRefusal }
 {
-    let mut places = no_places(alloc, MOST_ENTRIES)?;
+    let mut places = no_places(alloc, places_needed(entries))?;
     for entry in entries.iter() {
         let place = read_place(alloc, store, *entry, known)?;
         places[usize::from(entry.handle.0) - 1] = Some(place);
@@ -148,47 +169,44 @@ fn read_places<S: Store>(
 // The directory of no block.
 const SHORTEST_DIRECTORY: u32 = 16;
 
-/// Whether a directory can lie there, in a file of so many bytes.
-fn can_have_directory(extent: Extent, file_length: u64) -> bool
-    ensures { IsTrue result ↔ IsDirectoryPlace file_length extent }
+/// Whether a directory can lie there, in a file of this version and of so many bytes.
+fn can_have_directory(extent: Extent, version: u8, file_length: u64) -> bool
+    ensures { IsTrue result ↔ IsDirectoryPlace version file_length extent }
 {
-    let page = u64::from(extent.page);
-    let length = u64::from(extent.length);
-    let size = u64::from(PAGE);
-    extent.page >= 2
-        && extent.length >= SHORTEST_DIRECTORY
+    extent.length >= SHORTEST_DIRECTORY
         && extent.length as usize <= LONGEST_DIRECTORY
-        && size * page + length <= file_length
-        && page + length.div_ceil(size) <= u64::from(LAST_PAGE)
+        && is_in_file(extent, file_length, version)
 }
 
 /// Reads a directory. Damaged, Memory, File.
 fn read_directory<S: Store>(
     alloc: Global,
     store: &mut S,
+    version: u8,
     file_length: u64,
     extent: Extent,
 ) -> Result<Directory, Fault>
     requires { IsTrue (S.facts store.old).honest → file_length ≡ length (S.facts store.old).content }
     ensures looks { Looks (S.facts store.old) (S.facts store.new) }
-    ensures formed { IfOk result (λ d. is_directory file_length (shown d) ≡ true) }
-    ensures place { IfOk result (λ d. IsDirectoryPlace file_length extent) }
-    ensures read { IfOk result (λ d. IsTrue (S.facts store.old).honest → directory_of (S.facts store.old).content extent ≡ Some (shown d)) }
-    ensures damaged { IsErrOf result Fault.Damaged → IsTrue (S.facts store.old).honest → directory_of (S.facts store.old).content extent ≡ None }
+    ensures formed { IfOk result (λ d. is_directory version file_length (shown d) ≡ true) }
+    ensures place { IfOk result (λ d. IsDirectoryPlace version file_length extent) }
+    ensures read { IfOk result (λ d. IsTrue (S.facts store.old).honest → directory_of version (S.facts store.old).content extent ≡ Some (shown d)) }
+    ensures damaged { IsErrOf result Fault.Damaged → IsTrue (S.facts store.old).honest → directory_of version (S.facts store.old).content extent ≡ None }
     ensures file { IsErrOf result Fault.File → Raised (S.facts store.old) (S.facts store.new) }
     ensures refusals { IfErr result IsReadRefusal }
 {
-    if !can_have_directory(extent, file_length) {
+    if !can_have_directory(extent, version, file_length) {
         return Err(Fault::Damaged);
     }
     let bytes = read_extent(alloc, store, extent)?;
-    read_dir(alloc, &bytes, file_length)
+    read_dir(alloc, &bytes, file_length, version)
 }
 
 /// Reads a document: its directory, and each image that isn't known. Damaged, Memory, File.
 fn read_stored<S: Store>(
     alloc: Global,
     store: &mut S,
+    version: u8,
     file_length: u64,
     extent: Extent,
     known: &[Option<Place>],
@@ -198,12 +216,12 @@ fn read_stored<S: Store>(
     ensures looks { Looks (S.facts store.old) (S.facts store.new) }
     ensures directory { IfOk result (λ stored. stored.directory ≡ extent) }
     ensures formed { IfOk result (λ stored. IsRead file_length stored) }
-    ensures stored { IfOk result (λ stored. IsTrue (S.facts store.old).honest → IsStored (S.facts store.old).content stored) }
-    ensures damaged { IsErrOf result Fault.Damaged → IsTrue (S.facts store.old).honest → document_at (S.facts store.old).content extent ≡ None }
+    ensures stored { IfOk result (λ stored. IsTrue (S.facts store.old).honest → IsStored version (S.facts store.old).content stored) }
+    ensures damaged { IsErrOf result Fault.Damaged → IsTrue (S.facts store.old).honest → document_at version (S.facts store.old).content extent ≡ None }
     ensures file { IsErrOf result Fault.File → Raised (S.facts store.old) (S.facts store.new) }
     ensures refusals { IfErr result IsReadRefusal }
 {
-    let directory = read_directory(alloc, store, file_length, extent)?;
+    let directory = read_directory(alloc, store, version, file_length, extent)?;
     let places = read_places(alloc, store, &directory.entries, known)?;
     Ok(Stored {
         directory: extent,
@@ -218,18 +236,19 @@ fn read_stored<S: Store>(
 fn read_saved<S: Store>(
     alloc: Global,
     store: &mut S,
+    version: u8,
     file_length: u64,
     extent: Extent,
     updated: &Stored,
 ) -> Result<Stored, Fault>
     requires length { IsTrue (S.facts store.old).honest → file_length ≡ length (S.facts store.old).content }
     requires formed { IsRead file_length updated.now }
-    requires stored { IsTrue (S.facts store.old).honest → IsStored (S.facts store.old).content updated.now }
+    requires stored { IsTrue (S.facts store.old).honest → IsStored version (S.facts store.old).content updated.now }
     ensures looks { Looks (S.facts store.old) (S.facts store.new) }
     ensures directory { IfOk result (λ stored. stored.directory ≡ extent) }
     ensures formed { IfOk result (λ stored. IsRead file_length stored) }
-    ensures stored { IfOk result (λ stored. IsTrue (S.facts store.old).honest → IsStored (S.facts store.old).content stored) }
-    ensures damaged { IsErrOf result Fault.Damaged → IsTrue (S.facts store.old).honest → document_at (S.facts store.old).content extent ≡ None }
+    ensures stored { IfOk result (λ stored. IsTrue (S.facts store.old).honest → IsStored version (S.facts store.old).content stored) }
+    ensures damaged { IsErrOf result Fault.Damaged → IsTrue (S.facts store.old).honest → document_at version (S.facts store.old).content extent ≡ None }
     ensures file { IsErrOf result Fault.File → Raised (S.facts store.old) (S.facts store.new) }
     ensures refusals { IfErr result IsReadRefusal }
 {
@@ -240,7 +259,14 @@ fn read_saved<S: Store>(
             table,
         });
     }
-    read_stored(alloc, store, file_length, extent, &updated.table.places)
+    read_stored(
+        alloc,
+        store,
+        version,
+        file_length,
+        extent,
+        &updated.table.places,
+    )
 }
 
 /// Reads the two documents of a slot. Damaged, Memory, File.
@@ -254,14 +280,15 @@ fn read_pair<S: Store>(
     ensures looks { Looks (S.facts store.old) (S.facts store.new) }
     ensures directories { IfOk result (λ pair. (pair.updated.directory ≡ slot.working) × (pair.saved.directory ≡ slot.saved)) }
     ensures formed { IfOk result (λ pair. AreRead file_length pair) }
-    ensures stored { IfOk result (λ pair. IsTrue (S.facts store.old).honest → AreStored (S.facts store.old).content pair) }
+    ensures stored { IfOk result (λ pair. IsTrue (S.facts store.old).honest → AreStored slot.version (S.facts store.old).content pair) }
     ensures damaged { IsErrOf result Fault.Damaged → IsTrue (S.facts store.old).honest
-        → both (document_at (S.facts store.old).content slot.working) (document_at (S.facts store.old).content slot.saved) ≡ Err Fault.Damaged }
+        → both (document_at slot.version (S.facts store.old).content slot.working) (document_at slot.version (S.facts store.old).content slot.saved) ≡ Err Fault.Damaged }
     ensures file { IsErrOf result Fault.File → Raised (S.facts store.old) (S.facts store.new) }
     ensures refusals { IfErr result IsReadRefusal }
 {
-    let updated = read_stored(alloc, store, file_length, slot.working, &[])?;
-    let saved = read_saved(alloc, store, file_length, slot.saved, &updated)?;
+    let version = slot.version;
+    let updated = read_stored(alloc, store, version, file_length, slot.working, &[])?;
+    let saved = read_saved(alloc, store, version, file_length, slot.saved, &updated)?;
     Ok(Pair { updated, saved })
 }
 
@@ -388,12 +415,12 @@ fn find_slot<S: Store>(store: &mut S, file_length: u64) -> Result<Found, Fault>
 
 /// Whether the fields of the slot that counts are those of a document. NotDocument, Damaged.
 fn check_slot(version: u8, reserved: u16, sequence: u64) -> Result<(), Fault>
-    ensures ok { OnOk result ((version ≡ 1) × (reserved ≡ 0) × (1 ≤ sequence) × (sequence < 2 ^ 64)) }
+    ensures ok { OnOk result (((version ≡ 1) ⊎ (version ≡ 2)) × (reserved ≡ 0) × (1 ≤ sequence) × (sequence < 2 ^ 64)) }
     ensures refused { IfErr result (λ fault. (file : List ℕ) (s : slots.Slot) → s.version ≡ version → s.reserved ≡ reserved → s.sequence ≡ sequence → pair_of file s ≡ Err fault) }
     ensures refusals { IfErr result IsOpenRefusal }
     ensures file { IsErrOf result Fault.File → ⊥ }
 {
-    if version != 1 {
+    if version != 1 && version != 2 {
         return Err(Fault::NotDocument);
     }
     if reserved != 0 || sequence == 0 {
@@ -431,6 +458,7 @@ fn read_slots<S: Store>(alloc: Global, store: &mut S) -> Result<Slots, Fault>
     let committed = read_pair(alloc, store, file_length, slot)?;
     Ok(Slots {
         second: found.second,
+        version: slot.version,
         sequence: slot.sequence,
         committed,
         other: found.other,

@@ -1,6 +1,6 @@
 ghost use Rattle.std.specs.Prelude.{◌≡◌, ◌≤◌, ◌<◌, ◌+◌, true, IfOk, length, replicate};
 ghost use Rattle.std.specs.FinMap.{empty};
-ghost use Rattle.geos_model.specs.Document.{FitAttributes, is_valid_body};
+ghost use Rattle.geos_model.specs.Document.{FitAttributes, IsTyped, is_heap_body, is_valid_body};
 ghost use Rattle.geos_model.specs.Heap.{capacity};
 ghost use Rattle.geos_model.specs.Image.{image};
 ghost use Rattle.geos_model.specs.declared.command.Body.TheVariants as bodies;
@@ -17,34 +17,38 @@ pub struct SavedBlock {
     // The law of changes has it from here, since there a number has no range.
     ghost fit: { FitAttributes attributes },
     ghost valid: { is_valid_body image ≡ true },
+    ghost typed: { IsTyped (is_heap_body image) attributes },
 }
 
 impl SavedBlock {
     ghost use Rattle.vm_file.specs.Members.{saved_block};
 
-    /// A block with this body.
+    /// A block with this body. Only a heap has a type.
     pub fn new(attributes: Attributes, image: Image) -> SavedBlock
+        requires { IsTyped (is_heap_body image) attributes }
         ensures { saved_block result ≡ record { attributes = attributes; body = image } }
     {
         image.validity();
         SavedBlock { attributes, image }
     }
 
-    /// A raw block of so many zeros.
+    /// A raw block of so many zeros. It has no type.
     pub fn zeros(
         alloc: Global,
         attributes: Attributes,
         size: usize,
     ) -> Result<SavedBlock, AllocError>
-        requires { size ≤ capacity }
+        requires size { size ≤ capacity }
+        requires typed { attributes.heap_type ≡ 0 }
         ensures { IfOk result (λ saved. saved_block saved ≡ record { attributes = attributes; body = bodies.Raw (replicate size 0) }) }
     {
         Ok(SavedBlock::new(attributes, Image::zeros(alloc, size)?))
     }
 
-    /// A raw block of these bytes.
+    /// A raw block of these bytes. It has no type.
     pub fn raw(attributes: Attributes, bytes: Vec<u8>) -> Result<SavedBlock, AllocError>
-        requires { length bytes.items ≤ capacity }
+        requires size { length bytes.items ≤ capacity }
+        requires typed { attributes.heap_type ≡ 0 }
         ensures { IfOk result (λ saved. saved_block saved ≡ record { attributes = attributes; body = bodies.Raw bytes.items }) }
     {
         Ok(SavedBlock::new(attributes, Image::from_raw(bytes)?))

@@ -8,7 +8,7 @@ ghost use Rattle.vm_file.specs.Disk.{Commits};
 ghost use Rattle.vm_file.specs.Sound.{AreTables, IsFormed, IsWhole, IsSound, disk_of};
 
 use crate::commit::commit;
-use crate::slots::{Pair, Slots};
+use crate::slots::{Other, Pair, Slots};
 use crate::table::Table;
 use geos_model::Fault;
 use vm_store::{Store, StoreFault};
@@ -25,11 +25,12 @@ pub fn settle<S: Store>(
     requires tables { AreTables pair }
     requires placed { All IsPlaced (pair_extents pair) }
     requires whole { IsTrue (S.facts store.old).honest → IsWhole (S.facts store.old) live.now slots.old }
-    requires stored { IsTrue (S.facts store.old).honest → AreStored (S.facts store.old).content pair }
+    requires stored { IsTrue (S.facts store.old).honest → AreStored 2 (S.facts store.old).content pair }
     ensures commits { Commits S.facts (documents_in (S.facts store.old).content pair) (disk_of S.facts store.old slots.old) (disk_of S.facts store.new slots.new) result }
     ensures sound { IsSound (S.facts store.new) live.now slots.new }
     ensures live { IsTrue (S.facts store.old).honest → document_in (S.facts store.new).content live.now ≡ document_in (S.facts store.old).content live.now }
     ensures committed { OnOk result (slots.new.committed ≡ pair) }
+    ensures turned { OnOk result ((slots.new.version ≡ 2) × (slots.new.other ≡ Other.Stale)) }
     ensures file { IsErrOf result Fault.File → Raised (S.facts store.old) (S.facts store.new) }
     ensures refusals { IfErr result (λ fault. fault ≡ Fault.File) }
 {

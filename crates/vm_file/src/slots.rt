@@ -32,6 +32,8 @@ pub enum Other {
 pub struct Slots {
     /// Whether slot 1 counts.
     pub second: bool,
+    /// That of the format of the slot that counts: 1 only where it was read so, since every commit writes 2.
+    pub version: u8,
     /// From 1 on.
     pub sequence: u64,
     pub committed: Pair,

@@ -1,17 +1,17 @@
 // The blocks of a document, and where their images lie in the file.
 ghost use Rattle.vm_file.specs.declared.table.Place.{Place};
-ghost use Rattle.std.specs.Prelude.{◌≡◌, ◌≤◌, ◌-◌, ◌++◌, ◌∷◌, [], List, All, IfSome, None, Some, get_or, length, slice_set};
+ghost use Rattle.std.specs.Prelude.{◌≡◌, ◌≤◌, ◌-◌, ◌++◌, ◌∷◌, [], List, All, IfSome, IsOk, OnOk, OnErr, None, Some, get_or, length, max, slice_set};
 ghost use Rattle.geos_model.specs.declared.file.Extent.{Extent};
 ghost use Rattle.vm_space.specs.Space.{AreTaken};
 ghost use Rattle.vm_file.specs.Known.{IsKnown};
 ghost use Rattle.vm_file.specs.Slots.{block_extents, kept_extents};
-ghost use Rattle.geos_model.specs.Document.{most_blocks};
 ghost use Rattle.vm_file.specs.Calls.{IsPut};
-ghost use Rattle.vm_file.specs.Writing.{placed_at, with_places, without_place, without_places};
+ghost use Rattle.vm_file.specs.Writing.{IsGrown, placed_at, with_places, without_place, without_places};
 
 use crate::member::Member;
 use crate::slots::Slots;
 use geos_model::{Attributes, Extent, VmHandle};
+use std::alloc::AllocError;
 use vm_space::FreeSpace;
 
 /// A block in the file.
@@ -24,7 +24,8 @@ pub struct Place {
     pub extent: Extent,
 }
 
-/// A document in the file. The block under the handle h is at h - 1, if it is live.
+/// A document in the file. The block under the handle h is at h - 1, if it is live. There are places up to the highest handle that
+/// was live since the table was made or read, and none past it.
 #[derive(Drop)]
 pub struct Table {
     /// The handle of the map block, 0 if there is none.
@@ -59,6 +60,19 @@ pub fn set_attributes(places: &mut [Option<Place>], block: VmHandle, attributes:
     }
 }
 
+/// Makes a table as long as this, where it is shorter, by places of no block. On an error it is as it was.
+pub fn make_room(places: &mut Vec<Option<Place>>, end: usize) -> Result<(), AllocError>
+    ensures grown { IsGrown places.old.items places.new.items }
+    ensures size { OnOk result (length places.new.items ≡ max (length places.old.items) end) }
+    ensures enough { end ≤ length places.old.items → IsOk result }
+    ensures err { OnErr result (places.new.items ≡ places.old.items) }
+{
+    if places.len() >= end {
+        return Ok(());
+    }
+    places.resize(end, None)
+}
+
 // Where a block lies whose image is in this extent.
 fn placed_at(put: &Member, extent: Extent) -> Place
     ensures { result ≡ placed_at put.now extent }
@@ -91,8 +105,8 @@ pub fn put_places(
     slots: &Slots,
     space: &mut Option<FreeSpace>,
 )
-    requires size { length places.old ≡ most_blocks }
     requires puts { All IsPut puts.now }
+    requires room { All (λ p. p.handle.0 ≤ length places.old) puts.now }
     requires extents { length extents.now ≡ length puts.now }
     requires known { IsKnown (extents.now ++ (block_extents places.old ++ kept_extents slots.now)) space.old }
     ensures places { places.new ≡ with_places puts.now extents.now places.old }

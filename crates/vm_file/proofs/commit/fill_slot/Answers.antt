@@ -20,7 +20,7 @@ returns-clause-crash g c file holds leaves =
     let first = Tears-Writes _ _ _ _ (c.write_at.ensures.writes holds) in
     let kept = mark_leaves slots file _ _ _ c.requires.kept leaves c.other_slot.ensures c.requires.shut first in
     let place : c.other_gate.result + 1 ≡ 512 * other_of slots + 5 = omega (arith, c.other_gate.ensures) in
-    let long : length c.behind_gate_bytes-rest.result ≡ 27 = ap length c.behind_gate_bytes-rest.ensures ∙ long_text _ _ _ in
+    let long : length c.behind_gate_bytes-rest.result ≡ 27 = ap length c.behind_gate_bytes-rest.ensures ∙ long_text _ _ _ _ in
     Outlives-trans _ _ _ file (λ s. s ≡ slots) (mark_outlives slots file _ _ _ c.requires.kept leaves c.other_slot.ensures c.requires.shut first)
     (behind_outlives slots file _ _ _ c.requires.kept kept _ place long c.requires.shut (c.write_through.ensures.tears still))
 
@@ -30,5 +30,5 @@ returns-clause-leaves g c file holds leaves =
     let still = subst IsTrue (sym c.write_at.ensures.honest) holds in
     let kept = mark_leaves slots file _ _ _ c.requires.kept leaves c.other_slot.ensures c.requires.shut (Tears-Writes _ _ _ _ (c.write_at.ensures.writes holds)) in
     let place : c.other_gate.result + 1 ≡ 512 * other_of slots + 5 = omega (arith, c.other_gate.ensures) in
-    let long : length c.behind_gate_bytes-rest.result ≡ 27 = ap length c.behind_gate_bytes-rest.ensures ∙ long_text _ _ _ in
+    let long : length c.behind_gate_bytes-rest.result ≡ 27 = ap length c.behind_gate_bytes-rest.ensures ∙ long_text _ _ _ _ in
     behind_leaves slots file _ _ _ c.requires.kept kept _ place long c.requires.shut (c.write_through.ensures.tears still)

@@ -38,7 +38,7 @@ overflow_cast-directory c =
     let laid = ap length c.in_ok-placed.ensures.places in
     let from = ap length (ap (laid_out 2) c.deref.ensures.value) in
     let text = ap length c.in_ok-text.ensures in
-    omega (arith, c.len.ensures, text, length-directory (record { map_block = c.args.live.now.map_block; entries = c.deref-3.result.now }), read, entries, few, all, laid, from, length-laid_out 2 ps, c.requires.table.size)
+    omega (arith, c.len.ensures, text, length-directory (record { version = 2; map_block = c.args.live.now.map_block; entries = c.deref-3.result.now }), read, entries, few, all, laid, from, length-laid_out 2 ps, c.requires.table.size)
 
 pub returns-clause-founding : goal.returns-clause-founding
 returns-clause-founding c =
@@ -52,5 +52,5 @@ returns-clause-founding c =
     let listed = c.in_ok-entries.ensures.entries ∙ ap (entries_of 1) (c.deref-2.ensures.value ∙ laid ∙ sym places) in
     plan_founding live new (record { page = c.in_ok-placed.placed.end; length = c.len.result }) text c.requires.table c.requires.placed map_block places
     (c.in_ok-placed.ensures.end ∙ ap (page_behind 2) c.deref.ensures.value) (omega (arith, c.len.ensures, c.in_ok-text.text.ok.0))
-    (c.in_ok-text.ensures ∙ λ i. directory_text (record { map_block = (sym map_block) i; entries = (c.deref-3.ensures.value ∙ listed) i }))
+    (c.in_ok-text.ensures ∙ λ i. directory_text (record { version = 2; map_block = (sym map_block) i; entries = (c.deref-3.ensures.value ∙ listed) i }))
     (subst (All (λ e. FitAttributes e.attributes)) listed c.in_ok-entries.ensures.attributes)

@@ -1,6 +1,6 @@
 use Rattle.std.proofs.Common.{IsTrue, subst}
 use Rattle.std.proofs.lemmas.Result.{err_from_is_err_and}
-use Rattle.vm_file.proofs.Drafted.{both_placed, both_stored, both_documents}
+use Rattle.vm_file.proofs.Drafted.{both_placed, both_tables, both_stored, both_documents}
 use Rattle.vm_file.proofs.Passing.{Passes-fails, Passes-Commits}
 use Rattle.vm_file.proofs.Stands.{sound_settled}
 use Rattle.vm_file.proofs.directory.commit_draft.Goals as goal
@@ -12,6 +12,9 @@ returns-in_err-write_draft-clause-commits g c =
 
 pub settle-requires-clause-placed : goal.settle-requires-clause-placed
 settle-requires-clause-placed g c = both_placed c.args.live.now c.args.slots.now c.args.draft c.args.saved c.requires.sound.formed c.requires.draft c.requires.saved
+
+pub settle-requires-clause-tables : goal.settle-requires-clause-tables
+settle-requires-clause-tables g c = both_tables c.args.live.now c.args.slots.now c.args.draft c.args.saved c.requires.sound.formed c.requires.draft c.requires.saved
 
 pub settle-requires-clause-stored : goal.settle-requires-clause-stored
 settle-requires-clause-stored g c so =

@@ -9,12 +9,12 @@ use Rattle.vm_file.proofs.Written.{entries_few}
 use Rattle.vm_file.proofs.directory.draft_of.Goals as goal
 
 abbrev listed : ℕ → List Entry → Directory
-listed m es = record { map_block = m; entries = es }
+listed m es = record { version = 2; map_block = m; entries = es }
 
 entries_are : (c : goal.After-len) → c.deref-2.result.now ≡ entries_of 1 c.args.live.now.places.items
 entries_are c = c.deref-2.ensures.value ∙ c.in_ok-entries.ensures.entries ∙ ap (entries_of 1) c.deref.ensures.value
 
--- a directory of at most 2,048 entries
+-- a directory of at most 8,192 entries
 text_short : (c : goal.After-len) → c.len.result ≤ longest_directory
 text_short c =
     let few = entries_few 1 c.args.live.now.places.items in

@@ -1,6 +1,5 @@
 use Rattle.std.proofs.Common.{◌≡◌, ◌∙◌, [], IsTrue, refl, sym, subst}
 use Rattle.geos_model.specs.File.{directory_text}
-use Rattle.geos_model.specs.Document.{most_blocks}
 use Rattle.vm_file.specs.Making.{first_directory, no_blocks, IsLaid}
 use Rattle.vm_file.specs.Sound.{IsSound}
 use Rattle.vm_file.proofs.FirstFile.{first_bytes}
@@ -9,17 +8,17 @@ use Rattle.vm_file.proofs.making.make_empty.Goals as goal
 
 pub returns-in-Ok-clause-sound : goal.returns-in-Ok-clause-sound
 returns-in-Ok-clause-sound g c =
-    let live = c.in_ok-live.live in
+    let live = c.empty_table-live.result in
     let slots = c.in_ok-made.made.slots in
     let store = g.S.Store.facts c.found.new.store in
     let text : c.deref.result.now ≡ directory_text no_blocks = c.deref.ensures.value ∙ c.in_ok-text.ensures in
-    let none : IsEmpty most_blocks live = record { map_block = c.in_ok-live.ensures.map_block; places = c.in_ok-live.ensures.places } in
+    let none : IsEmpty live = record { map_block = c.empty_table-live.ensures.map_block; places = c.empty_table-live.ensures.places } in
     subst (λ t. IsSound store t slots) (sym c.in_ok-made.ensures.live)
-    (first_sound first_directory _ live slots c.in_ok-made.ensures.first (empty_founding (directory_text no_blocks) most_blocks live refl none refl) store []
+    (first_sound first_directory _ live slots c.in_ok-made.ensures.first (empty_founding (directory_text no_blocks) live none refl) store []
     (λ so.
     let was = subst IsTrue c.found.ensures.honest so in
     let first = subst IsTrue c.empty.ensures.honest was in
-    (empty_lying most_blocks live none, subst (λ t. IsLaid 1 first_directory t [] store.content) text (subst (λ f. IsLaid 1 first_directory c.deref.result.now f store.content) (c.in_ok-empty.ensures.empty first) (c.in-Ok.ensures.laid was)), c.in-Ok.ensures.durable was)))
+    (empty_lying live none, subst (λ t. IsLaid 1 first_directory t [] store.content) text (subst (λ f. IsLaid 1 first_directory c.deref.result.now f store.content) (c.in_ok-empty.ensures.empty first) (c.in-Ok.ensures.laid was)), c.in-Ok.ensures.durable was)))
 
 pub returns-in-Ok-clause-bytes : goal.returns-in-Ok-clause-bytes
 returns-in-Ok-clause-bytes g c so =

@@ -15,7 +15,8 @@ returns-clause-looks g c = Looks-trans _ _ _ (λ so. g.met.S.Store.timely c.args
 pub returns-in_err-saved-clause-damaged : goal.returns-in_err-saved-clause-damaged
 returns-in_err-saved-clause-damaged g c =
     let p = err_from_is_err_and c.from_residual-in_err-saved.result c.from_residual-in_err-saved.ensures.1 in
+    let version = c.args.slot.version in
     rw (p.1, p.2) (λ err so.
     let file = (g.S.Store.facts c.args.store.now).content in
     let was : c.in_err-saved.field-0.0 ≡ Damaged = (cc) in
-    no_saved (document_at file c.args.slot.working) (document_at file c.args.slot.saved) (held_before (λ f. document_at f c.args.slot.saved ≡ None) _ _ c.read_stored.ensures.looks (c.in_err-saved.ensures.damaged (ap (λ f. Err f) was)) so))
+    no_saved (document_at version file c.args.slot.working) (document_at version file c.args.slot.saved) (held_before (λ f. document_at version f c.args.slot.saved ≡ None) _ _ c.read_stored.ensures.looks (c.in_err-saved.ensures.damaged (ap (λ f. Err f) was)) so))

@@ -45,7 +45,7 @@ returns-in_err-committed-clause-refused g c =
     elim c.in_err-committed.ensures.refusals as (λ _. IsSupply x ⊎ (stands file ≡ Err x)) [
       | inl supply ↦ inl supply
       | inr damaged ↦
-          let wrong = held_before (λ f. both (document_at f s.working) (document_at f s.saved) ≡ Err Damaged) _ _ two (c.in_err-committed.ensures.damaged (ap (λ f. Err f) damaged)) so in
+          let wrong = held_before (λ f. both (document_at s.version f s.working) (document_at s.version f s.saved) ≡ Err Damaged) _ _ two (c.in_err-committed.ensures.damaged (ap (λ f. Err f) damaged)) so in
           inr (slot_refused file c.in_ok-found.found Damaged found (pair_refused file s (record { version = good.0; reserved = good.1; some = good.2 }) wrong) ∙ ap (λ f. Err f) (sym damaged))
     ])
 
@@ -56,7 +56,8 @@ returns-clause-looks g c =
 pub returns-clause-formed : goal.returns-clause-formed
 returns-clause-formed g c =
     let good = c.in_ok-check_slot.ensures.ok in
-    slots_formed c.in_ok-file_length.file_length c.in_ok-found.found.slot.sequence c.in_ok-found.found.second c.in_ok-committed.committed c.in_ok-found.found.other c.in_ok-committed.ensures.formed good.2 good.3 c.in_ok-found.ensures.alone
+    let s = c.in_ok-found.found.slot in
+    slots_formed c.in_ok-file_length.file_length s.version s.sequence c.in_ok-found.found.second c.in_ok-committed.committed c.in_ok-found.found.other c.in_ok-committed.ensures.formed good.0 good.2 good.3 c.in_ok-found.ensures.alone
 
 pub returns-clause-whole : goal.returns-clause-whole
 returns-clause-whole g c so =
@@ -64,6 +65,6 @@ returns-clause-whole g c so =
     let two = Looks-trans _ _ _ (λ so. g.met.S.Store.timely c.args.store.now so) c.read_length.ensures.looks c.find_slot.ensures.looks in
     let good = c.in_ok-check_slot.ensures.ok in
     let found = held_before (λ f. IsFound f c.in_ok-found.found) _ _ c.read_length.ensures.looks c.in_ok-found.ensures.found so in
-    let stored = held_before (λ f. AreStored f c.in_ok-committed.committed) _ _ two c.in_ok-committed.ensures.stored so in
+    let stored = held_before (λ f. AreStored c.in_ok-found.found.slot.version f c.in_ok-committed.committed) _ _ two c.in_ok-committed.ensures.stored so in
     slots_whole file c.in_ok-file_length.file_length c.in_ok-found.found c.in_ok-committed.committed (c.in_ok-file_length.ensures.length so) found (record { version = good.0; reserved = good.1; some = good.2 })
     c.in_ok-committed.ensures.formed stored c.in_ok-committed.ensures.directories.0 c.in_ok-committed.ensures.directories.1

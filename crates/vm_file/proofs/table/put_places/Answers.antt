@@ -1,4 +1,4 @@
-use Rattle.std.proofs.Common.{◌≡◌, ℕ, ◌+◌, ◌-◌, ◌<◌, ◌++◌, ◌∷◌, [], List, Some, None, false, get_or, set, drop, length, length-set, sym, ap, ap₂, subst, refl, ◌∙◌, arith}
+use Rattle.std.proofs.Common.{◌≡◌, ℕ, ◌+◌, ◌-◌, ◌<◌, ◌≤◌, ◌++◌, ◌∷◌, [], List, Some, None, false, get_or, set, drop, length, length-set, sym, ap, ap₂, subst, refl, ◌∙◌, arith}
 use Rattle.std.proofs.lemmas.List.{drop_more}
 use Rattle.geos_model.specs.declared.file.Extent.{Extent}
 use Rattle.geos_model.specs.Document.{no_attributes}
@@ -24,7 +24,8 @@ give_back-requires c =
     let places = c.loop-i.places in
     let put : IsPut c.index-puts-i.result = subst IsPut (sym c.index-puts-i.is) (c.requires.puts i _ c.loop-i-test.true) in
     let handle = handle_within c.index-puts-i.result.handle.0 put in
-    let within : at < length places = omega (arith, handle.0, handle.1, c.from-at.ensures, c.loop-i.invariant.long, c.requires.size) in
+    let room : c.index-puts-i.result.handle.0 ≤ length c.args.places.now = subst (λ (x : Member). x.handle.0 ≤ length c.args.places.now) (sym c.index-puts-i.is) (c.requires.room i _ c.loop-i-test.true) in
+    let within : at < length places = omega (arith, handle.0, room, c.from-at.ensures, c.loop-i.invariant.long) in
     let inside : i < length extents = omega (arith, c.requires.extents, c.loop-i-test.true) in
     let before : IsKnown ((e ∷ drop (i + 1) extents) ++ (block_extents places ++ kept)) c.loop-i.space = subst (λ es. IsKnown (es ++ (block_extents places ++ kept)) c.loop-i.space) (drop_more extents i d inside) c.loop-i.invariant.known in
     known_rest (block_extents (get_or places at None ∷ [])) (drop (i + 1) extents ++ (block_extents (set places at (Some p)) ++ kept)) c.loop-i.space
@@ -42,7 +43,8 @@ loop-i-preserved c =
     let places = c.loop-i.places in
     let put : IsPut c.index-puts-i.result = subst IsPut (sym c.index-puts-i.is) (c.requires.puts i _ c.loop-i-test.true) in
     let handle = handle_within c.index-puts-i.result.handle.0 put in
-    let within : at < length places = omega (arith, handle.0, handle.1, c.from-at.ensures, c.loop-i.invariant.long, c.requires.size) in
+    let room : c.index-puts-i.result.handle.0 ≤ length c.args.places.now = subst (λ (x : Member). x.handle.0 ≤ length c.args.places.now) (sym c.index-puts-i.is) (c.requires.room i _ c.loop-i-test.true) in
+    let within : at < length places = omega (arith, handle.0, room, c.from-at.ensures, c.loop-i.invariant.long) in
     let inside : i < length extents = omega (arith, c.requires.extents, c.loop-i-test.true) in
     let before : IsKnown ((e ∷ drop (i + 1) extents) ++ (block_extents places ++ kept)) c.loop-i.space = subst (λ es. IsKnown (es ++ (block_extents places ++ kept)) c.loop-i.space) (drop_more extents i d inside) c.loop-i.invariant.known in
     let puts : List Member = c.args.puts.now in

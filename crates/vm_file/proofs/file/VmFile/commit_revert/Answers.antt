@@ -13,10 +13,11 @@ use Rattle.vm_file.specs.Slots.{stored_extents}
 use Rattle.vm_file.specs.Sound.{disk_of}
 use Rattle.vm_file.specs.declared.slots.Pair.{Pair}
 use Rattle.vm_file.proofs.KeptBytes.{all_right}
+use Rattle.vm_file.proofs.KeptDocuments.{stored_newer}
 use Rattle.vm_file.proofs.Marked.{kept_pair}
 use Rattle.vm_file.proofs.Copied.{pair_documents, pair_placed, pair_stored, sound_saved, copy_document, copies_alike, copy_itself, copy_drifts}
 use Rattle.vm_file.proofs.Effects.{refused, refused_by, tried}
-use Rattle.vm_file.proofs.Stands.{sound_settled}
+use Rattle.vm_file.proofs.Stands.{sound_settled, turned_versioned}
 use Rattle.vm_file.proofs.file.VmFile.commit_revert.Goals as goal
 
 pub returns-then-self-clause-commit : goal.returns-then-self-clause-commit
@@ -47,8 +48,9 @@ settle-requires-clause-placed g c =
 pub settle-requires-clause-stored : goal.settle-requires-clause-stored
 settle-requires-clause-stored g c so =
     let saved = c.self.inside.slots.committed.saved in
-    let stored = (c.self.invariant.sound.whole so).committed.saved in
-    pair_stored (g.S.Store.facts c.self.inside.store).content c.in_ok-pair.pair saved saved c.in_ok-pair.ensures.updated c.in_ok-pair.ensures.saved stored stored
+    let content = (g.S.Store.facts c.self.inside.store).content in
+    let stored = stored_newer c.self.inside.slots.version content saved (c.self.invariant.sound.whole so).committed.saved in
+    pair_stored content c.in_ok-pair.pair saved saved c.in_ok-pair.ensures.updated c.in_ok-pair.ensures.saved 2 stored stored
 
 pub returns-in_err-settle-clause-commit : goal.returns-in_err-settle-clause-commit
 returns-in_err-settle-clause-commit g c =
@@ -92,3 +94,7 @@ returns-clause-commit g c =
     (tried facts g.met.S.Store.timely old new _ _ (Ok tt)
     (subst (λ (d : Documents). Commits facts d old.disk new.disk (Ok tt)) documents c.in_ok-settle.ensures.commits)
     (copy_drifts a.honest a.content b.content copy saved.table c.in_ok-live.ensures same) tt c.if-self.false)
+
+pub returns-clause-version : goal.returns-clause-version
+returns-clause-version g c =
+    turned_versioned g.S.Store.facts c.settle.new.store c.self.inside.live c.settle.new.slots (g.met.S.Store.timely c.settle.new.store) c.settle.ensures.sound c.in_ok-settle.ensures.turned

@@ -9,7 +9,8 @@ use Rattle.vm_file.specs.Sound.{disk_of}
 use Rattle.vm_file.proofs.Copied.{copy_itself, copy_drifts, copy_document}
 use Rattle.vm_file.proofs.Effects.{refused, refused_by, tried}
 use Rattle.vm_file.proofs.Results.{either_way}
-use Rattle.vm_file.proofs.Stands.{sound_settled}
+use Rattle.vm_file.proofs.Stands.{sound_settled, turned_versioned}
+use Rattle.std.proofs.lemmas.Result.{on_ok_weaker}
 use Rattle.vm_file.proofs.file.VmFile.commit_update.Goals as goal
 
 pub returns-then-self-clause-commit : goal.returns-then-self-clause-commit
@@ -44,3 +45,8 @@ returns-clause-commit g c =
     (tried facts g.met.S.Store.timely old new _ _ c.commit_draft.result
     (subst (λ (d : Document). Commits facts (old.document, d) old.disk new.disk c.commit_draft.result) same c.commit_draft.ensures.commits)
     (either_way c.commit_draft.result _ (copy_drifts a.honest a.content b.content i.live i.live (copy_itself i.live) c.commit_draft.ensures.same)) c.commit_draft.ensures.refusals c.if-self.false)
+
+pub returns-clause-version : goal.returns-clause-version
+returns-clause-version g c =
+    let store = c.commit_draft.new.store in
+    on_ok_weaker c.commit_draft.result (turned_versioned g.S.Store.facts store c.self.inside.live c.commit_draft.new.slots (g.met.S.Store.timely store) c.commit_draft.ensures.sound) c.commit_draft.ensures.turned

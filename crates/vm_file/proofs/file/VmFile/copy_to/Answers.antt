@@ -1,5 +1,5 @@
-use Rattle.std.proofs.Common.{false, refl, sym, subst}
-use Rattle.vm_file.specs.Documents.{document_in}
+use Rattle.std.proofs.Common.{false, IsTrue, Some, ◌≡◌, refl, sym, subst}
+use Rattle.vm_file.specs.Documents.{document_in, version_in}
 use Rattle.std.specs.Prelude.{IfOk}
 use Rattle.vm_file.specs.Disk.{Drifts}
 use Rattle.vm_file.specs.Effects.{IsNewFile, OnlyReads}
@@ -7,6 +7,7 @@ use Rattle.vm_file.specs.Sound.{disk_of}
 use Rattle.vm_file.proofs.Effects.{rested, made_file}
 use Rattle.vm_file.proofs.LaidOut.{laid_drifts}
 use Rattle.vm_file.proofs.file.VmFile.copy_to.Goals.{in-Ok, in-Err}
+use Rattle.vm_file.proofs.Stands.{sound_versioned}
 use Rattle.vm_file.proofs.file.VmFile.copy_to.Goals as goal
 
 pub returns-clause-reads : goal.returns-clause-reads
@@ -36,4 +37,14 @@ returns-clause-made g c =
       | in-Ok w ↦ subst (λ r. IfOk r (λ file. IsNewFile g.S.Store.facts file.document file.disk)) (sym w.result-is)
           (made_file g.S.Store.facts g.met.S.Store.timely c.copy_document.new.target w.in-Ok.made.live w.in-Ok.made.slots w.in-Ok.ensures.sound w.in-Ok.ensures.one)
       | in-Err w ↦ subst (λ r. IfOk r (λ file. IsNewFile g.S.Store.facts file.document file.disk)) (sym w.result-is) tt
+    ]
+
+pub returns-clause-version : goal.returns-clause-version
+returns-clause-version g c =
+    let facts = g.S.Store.facts in
+    let target = c.copy_document.new.target in
+    elim c.match-copy_document.branch as (λ _. IfOk c.match-copy_document.result (λ file. IsTrue (facts file.disk.store).honest → version_in (facts file.disk.store).content ≡ Some 2)) [
+      | in-Ok w ↦ subst (λ r. IfOk r (λ file. IsTrue (facts file.disk.store).honest → version_in (facts file.disk.store).content ≡ Some 2)) (sym w.result-is)
+          (sound_versioned facts target w.in-Ok.made.live w.in-Ok.made.slots (g.met.S.Store.timely target) w.in-Ok.ensures.sound w.in-Ok.ensures.one.attempted w.in-Ok.ensures.one.version)
+      | in-Err w ↦ subst (λ r. IfOk r (λ file. IsTrue (facts file.disk.store).honest → version_in (facts file.disk.store).content ≡ Some 2)) (sym w.result-is) tt
     ]

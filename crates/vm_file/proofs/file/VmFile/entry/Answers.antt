@@ -4,10 +4,9 @@ use Rattle.geos_model.specs.Document.{is_live, attributes_of, block_at, is_heap}
 use Rattle.geos_model.specs.Image.{image}
 use Rattle.geos_model.specs.File.{bytes_in}
 use Rattle.geos_model.proofs.Tables.{slot_at}
-use Rattle.vm_file.specs.Slots.{block_extents}
 use Rattle.vm_file.specs.Calls.{IsImageLength}
-use Rattle.vm_file.proofs.Imaged.{entry_image, placed_lengths}
-use Rattle.vm_file.proofs.Tables.{IsPlaceOf, entry_live, entry_attributes, entry_kind, entry_handle, entry_extent}
+use Rattle.vm_file.proofs.Imaged.{entry_image, image_lengths}
+use Rattle.vm_file.proofs.Tables.{IsPlaceOf, entry_live, entry_attributes, entry_kind, entry_handle, entry_place}
 use Rattle.vm_file.proofs.file.VmFile.entry.Goals as goal
 
 pub returns-clause-live : goal.returns-clause-live
@@ -46,7 +45,7 @@ returns-clause-length g c =
     let live = c.self.inside.live in
     let h = c.args.block.0 in
     let is : IsPlaceOf live.places.items h c.place_of.result = record { nothing = c.place_of.ensures.zero; place = λ low. c.place_of.ensures.place low ∙ ap (λ ps. slot_at ps (h - 1)) c.deref.ensures.value } in
-    entry_extent (λ e. IsImageLength e.length) live.places.items h c.place_of.result (placed_lengths (block_extents live.places.items) c.self.invariant.sound.formed.placed) is
+    entry_place (λ p. IsImageLength p.extent.length) live.places.items h c.place_of.result (image_lengths live.places.items c.self.invariant.sound.formed.placed c.self.invariant.sound.formed.table.places) is
 
 pub returns-clause-image : goal.returns-clause-image
 returns-clause-image g c =

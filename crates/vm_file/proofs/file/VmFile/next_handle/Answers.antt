@@ -1,25 +1,24 @@
-use Rattle.std.proofs.Common.{◌+◌, ap, sym, ◌∙◌, arith}
+use Rattle.std.proofs.Common.{◌+◌, ap, sym, ◌∙◌}
 use Rattle.std.specs.FinMap.{get}
 use Rattle.geos_model.specs.Document.{next_handle}
 use Rattle.geos_model.proofs.Table.{first_gap}
 use Rattle.vm_file.proofs.Handles.{next_some, next_none, next_free}
 use Rattle.vm_file.proofs.file.VmFile.next_handle.Goals as goal
 
-pub returns-then-gap-len-clause-value : goal.returns-then-gap-len-clause-value
-returns-then-gap-len-clause-value g c =
+pub returns-then-gap-lt-MOST_BLOCKS-clause-value : goal.returns-then-gap-lt-MOST_BLOCKS-clause-value
+returns-then-gap-lt-MOST_BLOCKS-clause-value g c =
     let i = c.self.inside in
     let gap = c.first_free-gap.result in
-    let size = c.self.invariant.sound.formed.table.size in
-    sym (next_some (g.S.Store.facts i.store).content i.live.places.items i.live.map_block gap (c.first_free-gap.ensures ∙ ap (λ ps. first_gap ps) c.deref.ensures.value) (let low = c.if-gap-len.true in let long = c.len.ensures in let count = i.live.places.ok.0 in omega (arith, low, long, count, size))) ∙ ap (λ s. next_handle s.document) c.self.view_is
+    sym (next_some (g.S.Store.facts i.store).content i.live.places.items i.live.map_block gap (c.first_free-gap.ensures ∙ ap (λ ps. first_gap ps) c.deref.ensures.value) c.if-gap-lt-MOST_BLOCKS.true) ∙ ap (λ s. next_handle s.document) c.self.view_is
 
-pub returns-then-gap-len-clause-free : goal.returns-then-gap-len-clause-free
-returns-then-gap-len-clause-free g c =
+pub returns-then-gap-lt-MOST_BLOCKS-clause-free : goal.returns-then-gap-lt-MOST_BLOCKS-clause-free
+returns-then-gap-lt-MOST_BLOCKS-clause-free g c =
     let i = c.self.inside in
     let gap = c.first_free-gap.result in
     ap (λ s. get s.document.blocks (gap + 1)) (sym c.self.view_is) ∙ next_free (g.S.Store.facts i.store).content i.live.places.items i.live.map_block gap (c.first_free-gap.ensures ∙ ap (λ ps. first_gap ps) c.deref.ensures.value)
 
-pub returns-else-gap-len-clause-value : goal.returns-else-gap-len-clause-value
-returns-else-gap-len-clause-value g c =
+pub returns-else-gap-lt-MOST_BLOCKS-clause-value : goal.returns-else-gap-lt-MOST_BLOCKS-clause-value
+returns-else-gap-lt-MOST_BLOCKS-clause-value g c =
     let i = c.self.inside in
     let gap = c.first_free-gap.result in
-    sym (next_none (g.S.Store.facts i.store).content i.live.places.items i.live.map_block gap (c.first_free-gap.ensures ∙ ap (λ ps. first_gap ps) c.deref.ensures.value) (let past = c.if-gap-len.false in let long = c.len.ensures in let count = i.live.places.ok.0 in let size = c.self.invariant.sound.formed.table.size in omega (arith, past, long, count, size))) ∙ ap (λ s. next_handle s.document) c.self.view_is
+    sym (next_none (g.S.Store.facts i.store).content i.live.places.items i.live.map_block gap (c.first_free-gap.ensures ∙ ap (λ ps. first_gap ps) c.deref.ensures.value) c.if-gap-lt-MOST_BLOCKS.false) ∙ ap (λ s. next_handle s.document) c.self.view_is

@@ -6,13 +6,14 @@ use Rattle.geos_model.specs.Document.{is_live, block_at}
 use Rattle.geos_model.specs.Image.{image}
 use Rattle.geos_model.proofs.Tables.{slot_at}
 use Rattle.vm_file.specs.Calls.{IsImageLength}
-use Rattle.vm_file.specs.Ranges.{IsPlaced, start_of}
+use Rattle.vm_file.specs.Ranges.{start_of}
 use Rattle.vm_file.specs.Documents.{document_in}
 use Rattle.vm_file.specs.Effects.{OnlyReads}
 use Rattle.vm_file.specs.Sound.{disk_of}
 use Rattle.vm_file.proofs.Effects.{rested}
-use Rattle.vm_file.proofs.Imaged.{read_image, if_ok_both}
-use Rattle.vm_file.proofs.Tables.{IsPlaceOf, entry_live, entry_lies, each_at, places_of}
+use Rattle.vm_file.proofs.Live.{sound_rested}
+use Rattle.vm_file.proofs.Imaged.{read_image, image_lengths, if_ok_both}
+use Rattle.vm_file.proofs.Tables.{IsPlaceOf, entry_live, entry_lies, each_at}
 use Rattle.vm_file.proofs.file.VmFile.read_block.Goals as goal
 
 pub unreachable-requires : goal.unreachable-requires
@@ -21,6 +22,17 @@ unreachable-requires g c =
     let h = c.args.block.0 in
     let is : IsPlaceOf live.places.items h c.place_of.result = record { nothing = c.place_of.ensures.zero; place = λ low. c.place_of.ensures.place low ∙ ap (λ ps. slot_at ps (h - 1)) c.deref.ensures.value } in
     cc (sym (ap is_some c.in-None.is) ∙ entry_live (g.S.Store.facts c.self.inside.store).content live.places.items live.map_block h c.place_of.result is ∙ ap (λ s. is_live s.document h) c.self.view_is ∙ c.requires)
+
+pub invariant_of-self : goal.invariant_of-self
+invariant_of-self g c =
+    let i = c.self.inside in
+    let was = c.self.invariant in
+    let read = c.read_extent.ensures in
+    record {
+      sound = sound_rested (g.S.Store.facts i.store) (g.S.Store.facts c.read_extent.new.store) i.live i.slots was.sound read.honest read.rests;
+      bounded = was.bounded;
+      known = was.known;
+    }
 
 pub returns-clause-reads : goal.returns-clause-reads
 returns-clause-reads g c =
@@ -48,5 +60,6 @@ returns-clause-size g c =
     let e = c.in-Some.place.extent in
     let is : IsPlaceOf i.live.places.items h c.place_of.result = record { nothing = c.place_of.ensures.zero; place = λ low. c.place_of.ensures.place low ∙ ap (λ ps. slot_at ps (h - 1)) c.deref.ensures.value } in
     let at = entry_lies i.live.places.items h c.in-Some.place (subst (λ o. IsPlaceOf i.live.places.items h o) c.in-Some.is is) in
-    let placed : IsPlaced e = each_at (λ p. IsPlaced p.extent) i.live.places.items (h - 1) c.in-Some.place at.1 (places_of IsPlaced i.live.places.items c.self.invariant.sound.formed.placed) in
-    IfOk-weaker c.read_extent.result (λ bytes. length bytes.items ≡ e.length) (λ bytes. IsImageLength (length bytes.items)) (λ bytes size. (omega (arith, size, placed.some), omega (arith, size, placed.short))) c.read_extent.ensures.size
+    let formed = c.self.invariant.sound.formed in
+    let long : IsImageLength e.length = each_at (λ p. IsImageLength p.extent.length) i.live.places.items (h - 1) c.in-Some.place at.1 (image_lengths i.live.places.items formed.placed formed.table.places) in
+    IfOk-weaker c.read_extent.result (λ bytes. length bytes.items ≡ e.length) (λ bytes. IsImageLength (length bytes.items)) (λ bytes size. (omega (arith, size, long.0), omega (arith, size, long.1))) c.read_extent.ensures.size

@@ -10,6 +10,7 @@ use Rattle.vm_file.specs.Disk.{Drifts}
 use Rattle.vm_file.specs.Effects.{OnlyReads}
 use Rattle.vm_file.specs.Sound.{disk_of}
 use Rattle.vm_file.proofs.Effects.{rested}
+use Rattle.vm_file.proofs.Live.{sound_rested}
 use Rattle.vm_file.proofs.Imaged.{read_image, if_ok_both}
 use Rattle.vm_file.proofs.Tables.{IsPlaceOf, entry_live, entry_lies, places_drift}
 use Rattle.vm_file.proofs.file.VmFile.read_saved.Goals as goal
@@ -20,6 +21,17 @@ unreachable-requires g c =
     let h = c.args.block.0 in
     let is : IsPlaceOf saved.places.items h c.place_of.result = record { nothing = c.place_of.ensures.zero; place = λ low. c.place_of.ensures.place low ∙ ap (λ ps. slot_at ps (h - 1)) c.deref.ensures.value } in
     cc (sym (ap is_some c.in-None.is) ∙ entry_live (g.S.Store.facts c.self.inside.store).content saved.places.items saved.map_block h c.place_of.result is ∙ ap (λ s. is_live s.disk.saved h) c.self.view_is ∙ c.requires)
+
+pub invariant_of-self : goal.invariant_of-self
+invariant_of-self g c =
+    let i = c.self.inside in
+    let was = c.self.invariant in
+    let read = c.read_extent.ensures in
+    record {
+      sound = sound_rested (g.S.Store.facts i.store) (g.S.Store.facts c.read_extent.new.store) i.live i.slots was.sound read.honest read.rests;
+      bounded = was.bounded;
+      known = was.known;
+    }
 
 pub returns-clause-reads : goal.returns-clause-reads
 returns-clause-reads g c =
