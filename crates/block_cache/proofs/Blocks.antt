@@ -37,7 +37,7 @@ module _ (es : List (ℕ × Frame)) (d : Document) (h : ℕ) (b : Block) (away :
     each = λ q f is. elim (cases_eq q h) as (λ _. IsKept honest (with_block d h b) q f) [
       | inl here ↦ let wrong : None ≡ Some f = sym (ap (held es) here ∙ away) ∙ is in absurd (cc wrong)
       | inr other ↦ let same : get (with_block d h b).blocks q ≡ get d.blocks q = get-put_other d.blocks h b q other in
-          record { live = ap is_some same ∙ (kept.each q f is).live; few = (kept.each q f is).few; kind = λ clean. (kept.each q f is).kind clean ∙ sym (ap heap_by same); clean = λ so clean. ap body_by same ∙ (kept.each q f is).clean so clean }
+          record { live = ap is_some same ∙ (kept.each q f is).live; few = (kept.each q f is).few; kind = (kept.each q f is).kind ∙ sym (ap heap_by same); clean = λ so clean. ap body_by same ∙ (kept.each q f is).clean so clean }
     ];
   }
 
@@ -89,7 +89,7 @@ module _ (es : List (ℕ × Frame)) (d : Document) (h : ℕ) (distinct : IsDisti
       | inr other ↦
           let same : get (without_block d h).blocks q ≡ get d.blocks q = get-taken_other d.blocks h q other in
           let was = kept.each q f (sym (left_other q other) ∙ is) in
-          record { live = ap is_some same ∙ was.live; few = was.few; kind = λ clean. was.kind clean ∙ sym (ap heap_by same); clean = λ so clean. ap body_by same ∙ was.clean so clean }
+          record { live = ap is_some same ∙ was.live; few = was.few; kind = was.kind ∙ sym (ap heap_by same); clean = λ so clean. ap body_by same ∙ was.clean so clean }
     ];
   }
 

@@ -7,7 +7,7 @@ use Rattle.std.specs.Map.{set_value}
 use Rattle.std.specs.Borrow.{MutBor}
 use Rattle.std.specs.Option.{IsSome, option_copied_mut}
 use Rattle.std.specs.FinMap.{get}
-use Rattle.geos_model.specs.Document.{Document, is_live, attributes_of, with_body}
+use Rattle.geos_model.specs.Document.{Document, is_heap, is_heap_body, is_live, attributes_of, with_body}
 use Rattle.geos_model.proofs.HeapEdits.{get-put_same, get-put_other}
 use Rattle.block_cache.specs.Bodies.{body_of}
 use Rattle.block_cache.specs.Frames.{held, overlay, IsKept, AreKept}
@@ -44,15 +44,15 @@ module _ (es : List (ℕ × Frame)) (h : ℕ) (f : Frame) (here : held es h ≡ 
               ∙ sym (get-put_other over.blocks h (record { attributes = attributes_of over h; body = body_of g.body }) q other)
         ])
 
-    pub kept_lent : (honest : Bool) → g.locks ≡ f.locks → g.changed ≡ true → AreKept honest d es → AreKept honest d lent
-    kept_lent honest locks changed kept = record {
+    pub kept_lent : (honest : Bool) → g.locks ≡ f.locks → g.changed ≡ true → is_heap_body (body_of g.body) ≡ is_heap_body (body_of f.body) → AreKept honest d es → AreKept honest d lent
+    kept_lent honest locks changed kind kept = record {
       each = λ q k is. elim (cases_eq q h) as (λ _. IsKept honest d q k) [
         | inl at ↦ let found : Some g ≡ Some k = sym (now_here q at) ∙ is in
             let the : g ≡ k = ap (λ o. unwrap_or o g) found in
             record {
               live = ap (is_live d) at ∙ (kept.each h f here).live;
               few = subst (λ (x : Frame). x.locks ≤ 255) the (subst (λ n. n ≤ 255) (sym locks) (kept.each h f here).few);
-              kind = λ same. let wrong : true ≡ false = sym changed ∙ ap (λ (x : Frame). x.changed) the ∙ same in absurd (cc wrong);
+              kind = sym (ap (λ (x : Frame). is_heap_body (body_of x.body)) the) ∙ kind ∙ (kept.each h f here).kind ∙ sym (ap (is_heap d) at);
               clean = λ so same. let wrong : true ≡ false = sym changed ∙ ap (λ (x : Frame). x.changed) the ∙ same in absurd (cc wrong);
             }
         | inr other ↦ kept.each q k (sym (now_other q other) ∙ is)

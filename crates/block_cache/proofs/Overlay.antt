@@ -63,7 +63,16 @@ live_cover honest d h (Some f) kept = sym (kept f refl).live
 pub overlay_live : (honest : Bool) (es : List (ℕ × Frame)) (d : Document) (h : ℕ) → AreKept honest d es → is_live (overlay es d) h ≡ is_live d h
 overlay_live honest es d h kept = ap is_some (get-overlay es d h) ∙ live_cover honest d h (held es h) (kept.each h)
 
--- its handles can be, and its map block is none or live
+-- over the file a frame has a body of its block's kind
+
+covered_kind : (honest : Bool) (d : Document) (h : ℕ) (o : Option Frame) → ((f : Frame) → o ≡ Some f → IsKept honest d h f) → heap_by (cover o d h) ≡ is_heap d h
+covered_kind honest d h None kept = refl
+covered_kind honest d h (Some f) kept = (kept f refl).kind
+
+pub overlay_kind : (honest : Bool) (es : List (ℕ × Frame)) (d : Document) (h : ℕ) → AreKept honest d es → is_heap (overlay es d) h ≡ is_heap d h
+overlay_kind honest es d h kept = ap heap_by (get-overlay es d h) ∙ covered_kind honest d h (held es h) (kept.each h)
+
+-- its handles can be, its map block is none or live, and only its heaps have types
 pub listed_under : (honest : Bool) (es : List (ℕ × Frame)) (d : Document) → AreKept honest d es → IsListed honest d → IsListed false (overlay es d)
 listed_under honest es d kept listed =
     let over = overlay es d in
@@ -74,6 +83,7 @@ listed_under honest es d kept listed =
         | inl none ↦ inl (map ∙ none)
         | inr live ↦ inr (ap (is_live over) map ∙ overlay_live honest es d d.map_block kept ∙ live)
       ];
+      typed = λ h raw. ap (λ (a : Attributes). a.heap_type) (overlay_attributes es d h) ∙ listed.typed h (sym (overlay_kind honest es d h kept) ∙ raw);
       bodies = λ wrong. absurd (cc wrong);
     }
 
@@ -116,7 +126,9 @@ module _ (es : List (ℕ × Frame)) (d : Document) (valid : IsValid d) (kept : A
       let under = block_by (get d.blocks h) (kept.each h f here).live in
       let was = valid.blocks h under.0 under.1 in
       let attributes : attributes_of d h ≡ under.0.attributes = ap attributes_by under.1 in
-      let now : IsValidBlock h (record { attributes = attributes_of d h; body = body_of f.body }) = record { handle = was.handle; attributes = subst FitAttributes (sym attributes) was.attributes; body = bodies h f here } in
+      let kind : is_heap_body (body_of f.body) ≡ is_heap_body under.0.body = (kept.each h f here).kind ∙ ap heap_by under.1 in
+      let now : IsValidBlock h (record { attributes = attributes_of d h; body = body_of f.body }) =
+      record { handle = was.handle; attributes = subst FitAttributes (sym attributes) was.attributes; body = bodies h f here; typed = λ raw. ap (λ (a : Attributes). a.heap_type) attributes ∙ was.typed (sym kind ∙ raw) } in
       subst (IsValidBlock h) (cc is) now
 
   pub overlay_valid : IsValid (overlay es d)
@@ -135,7 +147,7 @@ kept_drifts honest es d e drifts kept = record {
   each = λ h f is. record {
     live = drifts.live h ∙ (kept.each h f is).live;
     few = (kept.each h f is).few;
-    kind = λ same. (kept.each h f is).kind same ∙ sym (drifts.kinds h);
+    kind = (kept.each h f is).kind ∙ sym (drifts.kinds h);
     clean = λ so same. ap (λ (x : Document). (block_at x h).body) (drifts.same so) ∙ (kept.each h f is).clean so same;
   };
 }
@@ -179,7 +191,7 @@ kept_more honest es d h f kept one = record {
 pub fetched : (honest : Bool) (es : List (ℕ × Frame)) (d : Document) (h : ℕ) (f : Frame) → AreKept honest d es → held es h ≡ None → is_live d h ≡ true → f.locks ≤ 255 → is_heap_body (body_of f.body) ≡ is_heap d h → (IsTrue honest → (block_at d h).body ≡ body_of f.body)
     → Drifts honest (overlay es d) (overlay ((h, f) ∷ es) d)
 fetched honest es d h f kept absent live few kind same =
-    agree honest es d ((h, f) ∷ es) d kept (kept_more honest es d h f kept (record { live = live; few = few; kind = λ _. kind; clean = λ so _. same so })) (λ _. refl) (λ _. refl) refl
+    agree honest es d ((h, f) ∷ es) d kept (kept_more honest es d h f kept (record { live = live; few = few; kind = kind; clean = λ so _. same so })) (λ _. refl) (λ _. refl) refl
     (λ q. elim (cases_eq q h) as (λ _. heap_by (cover (held ((h, f) ∷ es) q) d q) ≡ heap_by (cover (held es q) d q)) [
       | inl here ↦ ap (λ o. heap_by (cover o d q)) (held_here (h, f) es q here) ∙ kind ∙ sym (ap (is_heap d) here) ∙ sym (ap (λ o. heap_by (cover o d q)) (ap (held es) here ∙ absent))
       | inr other ↦ ap (λ o. heap_by (cover o d q)) (held_on (h, f) es q other)
@@ -261,14 +273,14 @@ module _ (honest : Bool) (es : List (ℕ × Frame)) (d : Document) (h : ℕ) (f 
           record {
             live = drifts.live q ∙ live-with_body d h (body_of f.body) live q ∙ ap (is_live d) at ∙ live;
             few = subst (λ (x : Frame). x.locks ≤ 255) the (subst (λ n. n ≤ 255) (sym locks) (kept.each h f here).few);
-            kind = λ clean. sym (ap (λ (x : Frame). is_heap_body (body_of x.body)) the) ∙ ap is_heap_body same ∙ sym (heap-with_body d h (body_of f.body) live q at) ∙ sym (drifts.kinds q);
+            kind = sym (ap (λ (x : Frame). is_heap_body (body_of x.body)) the) ∙ ap is_heap_body same ∙ sym (heap-with_body d h (body_of f.body) live q at) ∙ sym (drifts.kinds q);
             clean = λ so clean. body_now so q at ∙ ap (λ (x : Frame). body_of x.body) the;
           }
       | inr other ↦ let was = kept.each q k (sym (elsewhere q other) ∙ is) in
           record {
             live = drifts.live q ∙ live-with_body d h (body_of f.body) live q ∙ was.live;
             few = was.few;
-            kind = λ clean. was.kind clean ∙ sym (heap-with_other d h (body_of f.body) live q other) ∙ sym (drifts.kinds q);
+            kind = was.kind ∙ sym (heap-with_other d h (body_of f.body) live q other) ∙ sym (drifts.kinds q);
             clean = λ so clean. ap (λ (x : Document). body_by (get x.blocks q)) (drifts.same so) ∙ ap body_by (get-with_other d h (body_of f.body) live q other) ∙ was.clean so clean;
           }
     ];
@@ -286,11 +298,6 @@ module _ (honest : Bool) (es : List (ℕ × Frame)) (d : Document) (h : ℕ) (f 
             ∙ sym (ap (λ o. cover o d q) (ap (held es) at ∙ here))
         | inr other ↦ ap (λ o. cover o e q) (elsewhere q other) ∙ cover_by (held es q) d e q (ap (λ (x : Document). get x.blocks q) (drifts.same so) ∙ get-with_other d h (body_of f.body) live q other)
       ])
-
--- under an unchanged frame the file has a body of its kind
-uncovered_kind : (honest : Bool) (es : List (ℕ × Frame)) (d : Document) (h : ℕ) → AreKept honest d es → is_changed_in es h ≡ false → (o : Option Frame) → held es h ≡ o → is_heap d h ≡ heap_by (cover o d h)
-uncovered_kind honest es d h kept clean None is = refl
-uncovered_kind honest es d h kept clean (Some f) is = sym ((kept.each h f is).kind (sym (ap (λ o. option_map_or (λ (x : Frame). x.changed) o false) is) ∙ clean))
 
 -- a frame that isn't changed goes
 module _ (honest : Bool) (es : List (ℕ × Frame)) (d : Document) (h : ℕ) (fs : List (ℕ × Frame)) (kept : AreKept honest d es) (clean : is_changed_in es h ≡ false) (now : (q : ℕ) → held fs q ≡ cond (nat_eq h q) None (held es q)) where
@@ -317,7 +324,7 @@ module _ (honest : Bool) (es : List (ℕ × Frame)) (d : Document) (h : ℕ) (fs
 
   pub dropped : Drifts honest (overlay es d) (overlay fs d)
   dropped = agree honest es d fs d kept dropped_kept (λ _. refl) (λ _. refl) refl (λ q. elim (cases_eq q h) as (λ _. heap_by (cover (held fs q) d q) ≡ heap_by (cover (held es q) d q)) [
-    | inl at ↦ ap (λ o. heap_by (cover o d q)) (gone_at q at) ∙ subst (λ k. is_heap d k ≡ heap_by (cover (held es k) d k)) (sym at) (uncovered_kind honest es d h kept clean (held es h) refl)
+    | inl at ↦ ap (λ o. heap_by (cover o d q)) (gone_at q at) ∙ subst (λ k. is_heap d k ≡ heap_by (cover (held es k) d k)) (sym at) (sym (covered_kind honest d h (held es h) (kept.each h)))
     | inr other ↦ ap (λ o. heap_by (cover o d q)) (stays_at q other)
   ]) (λ so q. elim (cases_eq q h) as (λ _. cover (held fs q) d q ≡ cover (held es q) d q) [
     | inl at ↦ ap (λ o. cover o d q) (gone_at q at) ∙ subst (λ k. get d.blocks k ≡ cover (held es k) d k) (sym at) (uncovered so (held es h) refl)
@@ -346,7 +353,7 @@ module _ (es : List (ℕ × Frame)) (h : ℕ) (g : Frame → Frame) (body : (f :
       record {
         live = was.live;
         few = subst (λ (x : Frame). x.locks ≤ 255) at (few f refl was.few);
-        kind = λ same. sym (ap (λ (x : Frame). is_heap_body (body_of x.body)) at) ∙ ap is_heap_body (body f) ∙ was.kind (clean f (ap (λ (x : Frame). x.changed) at ∙ same));
+        kind = sym (ap (λ (x : Frame). is_heap_body (body_of x.body)) at) ∙ ap is_heap_body (body f) ∙ was.kind;
         clean = λ so same. was.clean so (clean f (ap (λ (x : Frame). x.changed) at ∙ same)) ∙ sym (body f) ∙ ap (λ (x : Frame). body_of x.body) at;
       }
 
@@ -377,7 +384,7 @@ pub bare : (honest : Bool) (es : List (ℕ × Frame)) (d : Document) → AreKept
 bare honest es d kept clean = record {
   live = λ h. sym (overlay_live honest es d h kept);
   attributes = λ h. sym (overlay_attributes es d h);
-  kinds = λ h. uncovered_kind honest es d h kept (clean h) (held es h) refl ∙ sym (ap heap_by (get-overlay es d h));
+  kinds = λ h. sym (overlay_kind honest es d h kept);
   map_block = sym (overlay_map es d);
   same = λ so. sym (clean_overlay honest es d so kept clean);
 }

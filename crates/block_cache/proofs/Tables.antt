@@ -67,13 +67,13 @@ module _ (u : Attributes) where
         | inl here ↦ record {
           live = ap is_some (get-named d h live q here);
           few = (kept.each q f is).few;
-          kind = λ same. (kept.each q f is).kind same ∙ ap (λ k. heap_by (get d.blocks k)) here ∙ sym (heap_body (get d.blocks h)) ∙ sym (ap heap_by (get-named d h live q here));
+          kind = (kept.each q f is).kind ∙ ap (λ k. heap_by (get d.blocks k)) here ∙ sym (heap_body (get d.blocks h)) ∙ sym (ap heap_by (get-named d h live q here));
           clean = λ so same. ap body_by (get-named d h live q here) ∙ ap (λ k. body_by (get d.blocks k)) (sym here) ∙ (kept.each q f is).clean so same;
         }
         | inr other ↦ record {
           live = ap is_some (get-unnamed d h live q other) ∙ (kept.each q f is).live;
           few = (kept.each q f is).few;
-          kind = λ same. (kept.each q f is).kind same ∙ sym (ap heap_by (get-unnamed d h live q other));
+          kind = (kept.each q f is).kind ∙ sym (ap heap_by (get-unnamed d h live q other));
           clean = λ so same. ap body_by (get-unnamed d h live q other) ∙ (kept.each q f is).clean so same;
         }
       ];

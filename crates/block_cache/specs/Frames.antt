@@ -50,12 +50,12 @@ pub record IsChangedBody (es : List (ℕ × Frame)) (h : ℕ) (body : BlockBody)
   pub changed : frame.changed ≡ true
   pub same : frame.body ≡ body
 
--- A frame is of a block of the file, locked 255 times at most. An unchanged one has the file's body, or, over a store that isn't honest,
--- one of its kind.
+-- A frame is of a block of the file and of its kind, also where its body is changed, and is locked 255 times at most. An unchanged one
+-- over an honest store has the file's body.
 pub record IsKept (honest : Bool) (file : Document) (h : ℕ) (f : Frame) : Type 0 where
   pub live : is_live file h ≡ true
   pub few : f.locks ≤ 255
-  pub kind : f.changed ≡ false → is_heap_body (body_of f.body) ≡ is_heap file h
+  pub kind : is_heap_body (body_of f.body) ≡ is_heap file h
   pub clean : IsTrue honest → f.changed ≡ false → (block_at file h).body ≡ body_of f.body
 
 pub record AreKept (honest : Bool) (file : Document) (es : List (ℕ × Frame)) : Type 0 where

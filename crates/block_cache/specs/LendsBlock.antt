@@ -1,13 +1,14 @@
--- What a cache ends as, once a `&mut` into the body of a block has ended.
-use Rattle.std.specs.Prelude.{ℕ}
+-- What a cache ends as, once a `&mut` into what the body of a block holds has ended.
+use Rattle.std.specs.Prelude.{ℕ, List}
 use Rattle.std.specs.Borrow.{Lends, MutBor, Fml, RattleType}
 use Rattle.geos_model.specs.Document.{with_body}
 use Rattle.geos_model.specs.declared.command.Body.{Body}
+use Rattle.geos_model.specs.declared.command.Body.TheVariants.{Raw, Heap}
+use Rattle.raw_region.specs.contracts.body.RawBody as raw_bodies
+use Rattle.lmem_heap.specs.Placed.{Placed}
+use Rattle.lmem_heap.specs.contracts.heap.Heap as heaps
 use Rattle.vm_store.specs.declared.store.Store as store
-use Rattle.block_cache.specs.Bodies.{body_of}
 use Rattle.block_cache.specs.State.{CacheState}
-use Rattle.block_cache.specs.declared.body.BlockBody.{BlockBody}
-use Rattle.block_cache.specs.contracts.body.BlockBody as bodies
 use Rattle.block_cache.specs.contracts.cache.Cache.{the_row}
 
 -- with another body of a block
@@ -15,5 +16,10 @@ abbrev pub with_body_of : {S : Type 0} → CacheState S → ℕ → Body → Cac
 with_body_of c h body = record c { document = with_body c.document h body }
 
 module _ (S : RattleType) (members : store.Ghosts S.Denot) where
-  abbrev pub lends_body : MutBor (CacheState S.Denot) → ℕ → MutBor BlockBody → Fml
-  lends_body cache h body = Lends (the_row S members) bodies.the_row cache body (λ w. with_body_of cache.now h (body_of w))
+  -- with other bytes of a raw block
+  abbrev pub lends_raw : MutBor (CacheState S.Denot) → ℕ → MutBor (List ℕ) → Fml
+  lends_raw cache h raw = Lends (the_row S members) raw_bodies.the_row cache raw (λ w. with_body_of cache.now h (Raw w))
+
+  -- with other chunks of a heap
+  abbrev pub lends_heap : MutBor (CacheState S.Denot) → ℕ → MutBor Placed → Fml
+  lends_heap cache h heap = Lends (the_row S members) heaps.the_row cache heap (λ w. with_body_of cache.now h (Heap w.chunks))

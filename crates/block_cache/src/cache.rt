@@ -4,7 +4,8 @@ ghost use Rattle.std.specs.FinMap.{get, keys};
 ghost use Rattle.std.specs.Map.{set_value};
 ghost use Rattle.std.specs.Option.{option_map};
 ghost use Rattle.std.specs.Result.{IsErrAnd};
-ghost use Rattle.geos_model.specs.Document.{IsValid, is_heap, is_vm_handle, is_live, next_handle, most_blocks, attributes_of, with_attributes};
+ghost use Rattle.geos_model.specs.Document.{IsValid, is_heap, is_vm_handle, is_live, next_handle, most_blocks, attributes_of, with_attributes, IsTyped};
+ghost use Rattle.geos_model.specs.declared.command.Body.TheVariants as bodies;
 ghost use Rattle.geos_model.specs.ElementArray.{all_distinct};
 ghost use Rattle.geos_model.specs.Reply.{found};
 ghost use Rattle.vm_file.specs.Calls.{IsPut, put_all, remove_all, last_sequence};
@@ -20,7 +21,9 @@ use crate::frame::{Frame, all_locked, body_in, has_locks, lock, locks_of, mark, 
 use crate::loading::{bring, drop_all, flush};
 use crate::{BlockBody, committing, saving_as};
 use geos_model::{Attributes, Fault, VmHandle};
+use lmem_heap::Heap;
 use lru::LruCache;
+use raw_region::RawBody;
 use std::alloc::{AllocError, Global};
 use std::marker::Model;
 use std::num::NonZeroUsize;
@@ -50,7 +53,7 @@ impl<S: Store> Model for Cache<S> {
 }
 
 impl<S: Store> Cache<S> {
-    ghost use Rattle.block_cache.specs.LendsBlock.{lends_body};
+    ghost use Rattle.block_cache.specs.LendsBlock.{lends_raw, lends_heap};
 
     /// Makes the store an empty document file with so many frames, whatever was in it. Memory, before the store is called; File.
     pub fn create(alloc: Global, store: S, frames: usize) -> Result<Cache<S>, Refused<S>>
@@ -151,10 +154,7 @@ impl<S: Store> Cache<S> {
         requires { is_live self.now.document block.0 ≡ true }
         ensures { result ≡ is_heap self.now.document block.0 }
     {
-        match self.frames.peek(&block.0) {
-            Some(frame) => frame.body.is_heap(),
-            None => self.file.entry(block).unwrap().is_heap,
-        }
+        self.file.entry(block).unwrap().is_heap
     }
 
     /// The attributes of a block, in memory or not.
@@ -203,18 +203,31 @@ impl<S: Store> Cache<S> {
         body_in(&self.frames, block.0)
     }
 
-    /// The body of a block in memory, to be changed: from now on the file may have another. No memory, no store.
-    pub fn body_mut(&mut self, block: VmHandle) -> &mut BlockBody
-        requires { is_resident self.old.resident block.0 ≡ true }
-        ensures* writes_back { sem 𝓛 (lends_body S.row S.Store self.entry block.0 result) }
-        ensures value { option_map (λ b. b.body) (get self.old.document.blocks block.0) ≡ Some (body_of result.now) }
+    /// The bytes of a raw block in memory, to be changed: from now on the file may have others. It stays a raw block, whose
+    /// attributes are those of one. No memory, no store.
+    pub fn raw_mut(&mut self, block: VmHandle) -> &mut RawBody
+        requires resident { is_resident self.old.resident block.0 ≡ true }
+        requires raw { is_heap self.old.document block.0 ≡ false }
+        ensures* writes_back { sem 𝓛 (lends_raw S.row S.Store self.entry block.0 result) }
+        ensures value { option_map (λ b. b.body) (get self.old.document.blocks block.0) ≡ Some (bodies.Raw result.now) }
     {
-        self.frames.peek_mut(&block.0).unwrap().body_mut()
+        self.frames.peek_mut(&block.0).unwrap().raw_mut()
     }
 
-    /// Sets the attributes of a block, in memory or not. No memory, no store.
+    /// The heap of a block in memory, to be changed: from now on the file may have another. No memory, no store.
+    pub fn heap_mut(&mut self, block: VmHandle) -> &mut Heap
+        requires resident { is_resident self.old.resident block.0 ≡ true }
+        requires heap { is_heap self.old.document block.0 ≡ true }
+        ensures* writes_back { sem 𝓛 (lends_heap S.row S.Store self.entry block.0 result) }
+        ensures value { option_map (λ b. b.body) (get self.old.document.blocks block.0) ≡ Some (bodies.Heap result.now.chunks) }
+    {
+        self.frames.peek_mut(&block.0).unwrap().heap_mut()
+    }
+
+    /// Sets the attributes of a block, in memory or not. Only a heap has a type. No memory, no store.
     pub fn set_attributes(&mut self, block: VmHandle, attributes: Attributes)
-        requires { is_live self.old.document block.0 ≡ true }
+        requires live { is_live self.old.document block.0 ≡ true }
+        requires typed { IsTyped (is_heap self.old.document block.0) attributes }
         ensures { self.new ≡ record self.old { document = with_attributes self.old.document block.0 attributes } }
     {
         self.file.set_attributes(block, attributes);

@@ -2,12 +2,16 @@
 ghost use Rattle.std.specs.Prelude.{◌≡◌, ◌<◌, ◌+◌, ◌-◌, true, false, nat_lt, is_some, Some, MatchOption};
 ghost use Rattle.std.specs.Borrow.{sem};
 ghost use Rattle.std.specs.Option.{option_map};
+ghost use Rattle.geos_model.specs.Document.{is_heap_body};
 ghost use Rattle.lru.specs.LruCache.{lru_cache};
+ghost use Rattle.block_cache.specs.Bodies.{body_of};
 ghost use Rattle.block_cache.specs.Frames.{held, seats, with_frame};
 ghost use Rattle.block_cache.specs.State.{locks_of, locked_count, all_locked, victim};
 
 use crate::body::BlockBody;
+use lmem_heap::Heap;
 use lru::LruCache;
+use raw_region::RawBody;
 
 /// A block in memory.
 #[derive(Drop)]
@@ -20,15 +24,27 @@ pub struct Frame {
 }
 
 impl Frame {
-    ghost use Rattle.block_cache.specs.LendsFrame.{lends_body};
+    ghost use Rattle.block_cache.specs.declared.body.BlockBody.TheVariants as variants;
+    ghost use Rattle.block_cache.specs.LendsFrame.{lends_raw, lends_heap};
 
-    /// The body of a frame, to be changed: from now on the file may have another.
-    pub(crate) fn body_mut(&mut self) -> &mut BlockBody
-        ensures* writes_back { sem 𝓛 (lends_body self.entry result) }
-        ensures value { self.old.body ≡ result.now }
+    /// The bytes of a raw body, to be changed: from now on the file may have others.
+    pub(crate) fn raw_mut(&mut self) -> &mut RawBody
+        requires { is_heap_body (body_of self.old.body) ≡ false }
+        ensures* writes_back { sem 𝓛 (lends_raw self.entry result) }
+        ensures value { self.old.body ≡ variants.Raw result.now }
     {
         self.changed = true;
-        &mut self.body
+        self.body.raw_mut()
+    }
+
+    /// The heap of a body, to be changed: from now on the file may have another.
+    pub(crate) fn heap_mut(&mut self) -> &mut Heap
+        requires { is_heap_body (body_of self.old.body) ≡ true }
+        ensures* writes_back { sem 𝓛 (lends_heap self.entry result) }
+        ensures value { self.old.body ≡ variants.Heap result.now }
+    {
+        self.changed = true;
+        self.body.heap_mut()
     }
 }
 

@@ -16,17 +16,19 @@ use std::alloc::{AllocError, Global};
 use vm_file::{Member, SavedBlock, VmFile};
 use vm_store::Store;
 
-// A block in memory as it is put into the file.
+// A block in memory, of the kind that it has in the file, as it is put there.
 fn put_of<S: Store>(
     alloc: Global,
     file: &VmFile<S>,
     block: VmHandle,
     body: &BlockBody,
 ) -> Result<Member, AllocError>
-    requires { is_live file.now.document block.0 ≡ true }
+    requires live { is_live file.now.document block.0 ≡ true }
+    requires kind { is_heap_body (body_of body.now) ≡ is_heap file.now.document block.0 }
     ensures put { IfOk result IsPut }
     ensures is { IfOk result (λ put. put_all (put ∷ []) file.now.document ≡ with_body file.now.document block.0 (body_of body.now)) }
 {
+    file.validity();
     let place = file.entry(block).unwrap();
     Ok(Member {
         handle: block,

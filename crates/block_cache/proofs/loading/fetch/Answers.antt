@@ -34,7 +34,7 @@ returns-clause-moves g c =
     let same : IsTrue (facts b.disk.store).honest → (block_at b.document h).body ≡ body_of f.body =
     λ so. ap (λ (x : Document). (block_at x h).body) (drifts.same (back so)) ∙ c.in_ok-body.ensures.same (back so) in
     let entries : c.put.new.self.entries ≡ (h, f) ∷ es = ap (λ (x : LruCache ℕ Frame). x.entries) c.in_ok-put.ensures.entries ∙ put_new c.args.frames.now h f c.requires.absent c.requires.room in
-    let kept = kept_more (facts b.disk.store).honest es b.document h f moves.kept (record { live = live; few = omega arith; kind = λ _. kind; clean = λ so _. same so }) in
+    let kept = kept_more (facts b.disk.store).honest es b.document h f moves.kept (record { live = live; few = omega arith; kind = kind; clean = λ so _. same so }) in
     subst (Moves facts a es b) (sym entries) (moves_both facts a es b es b ((h, f) ∷ es) moves (moves_frames facts b es ((h, f) ∷ es) kept (fetched (facts b.disk.store).honest es b.document h f moves.kept c.requires.absent live (omega arith) kind same)))
 
 pub returns-clause-ok : goal.returns-clause-ok

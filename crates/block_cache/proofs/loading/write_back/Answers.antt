@@ -1,12 +1,13 @@
 use Rattle.std.proofs.Common.{◌≡◌, ◌<◌, ℕ, List, [], ◌∷◌, false, cond, Some, nat_eq, refl, ap, sym, subst, ◌∙◌, eq-eqb}
 use Rattle.std.specs.Option.{option_map, option_map_or}
-use Rattle.geos_model.specs.Document.{with_body}
+use Rattle.geos_model.specs.Document.{is_heap_body, with_body}
 use Rattle.vm_file.specs.Disk.{Drifts}
 use Rattle.vm_file.specs.Calls.{put_all}
 use Rattle.std.specs.Map.{set_value}
 use Rattle.lru.specs.LruCache.{LruCache}
 use Rattle.block_cache.specs.Bodies.{body_of}
 use Rattle.block_cache.specs.Frames.{held, seats, with_frame, some_changed}
+use Rattle.block_cache.specs.declared.body.BlockBody.{BlockBody}
 use Rattle.block_cache.specs.declared.frame.Frame.{Frame}
 use Rattle.block_cache.proofs.Seats.{seats_kept, fewer_changed}
 use Rattle.block_cache.proofs.Steps.{moves_drift, moves_none, kept_passes}
@@ -14,7 +15,10 @@ use Rattle.block_cache.proofs.Overlay.{written, written_kept, held-with_frame}
 use Rattle.block_cache.proofs.loading.write_back.Goals as goal
 
 pub put_of-requires : goal.put_of-requires
-put_of-requires g c = (c.requires.kept.each c.args.block.0 c.in-Some.ensures.frame c.in-Some.ensures.here).live
+put_of-requires g c =
+    let b = c.in-Some.ensures in
+    let kept = c.requires.kept.each c.args.block.0 b.frame b.here in
+    record { live = kept.live; kind = ap (λ (x : BlockBody). is_heap_body (body_of x)) (sym b.same) ∙ kept.kind }
 
 pub returns-in_err-put_of-in-Some-clause-moves : goal.returns-in_err-put_of-in-Some-clause-moves
 returns-in_err-put_of-in-Some-clause-moves g c = moves_none g.S.Store.facts c.args.file.now c.args.frames.now.entries c.requires.kept

@@ -64,7 +64,7 @@ returns-clause-kept c = λ honest d handles kept.
           record {
             live = was.live;
             few = was.few;
-            kind = λ same. let set : f.changed ≡ true = l.invariant.marked h f (omega (arith, high)) is in absurd (cc (set, same));
+            kind = was.kind;
             clean = λ so same. let set : f.changed ≡ true = l.invariant.marked h f (omega (arith, high)) is in absurd (cc (set, same));
           };
     }

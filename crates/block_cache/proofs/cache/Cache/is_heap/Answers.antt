@@ -1,20 +1,14 @@
 use Rattle.std.proofs.Common.{◌≡◌, sym, ap, ◌∙◌}
 use Rattle.geos_model.specs.Document.{is_heap, is_live}
-use Rattle.block_cache.proofs.Overlay.{cover, heap_by, get-overlay, overlay_live}
+use Rattle.block_cache.proofs.Overlay.{overlay_kind, overlay_live}
 use Rattle.block_cache.proofs.cache.Cache.is_heap.Goals as goal
 
 pub unwrap-requires : goal.unwrap-requires
 unwrap-requires g c = c.entry.ensures.live ∙ sym (overlay_live _ c.self.inside.frames.entries c.self.inside.file.document c.args.block.0 c.self.invariant) ∙ ap (λ s. is_live s.document c.args.block.0) c.self.view_is ∙ c.requires
 
-pub returns-in-Some : goal.returns-in-Some
-returns-in-Some g c =
-    let d = c.self.inside.file.document in
-    let h = c.args.block.0 in
-    c.is_heap.ensures ∙ ap (λ o. heap_by (cover o d h)) c.in-Some.ensures ∙ sym (ap heap_by (get-overlay c.self.inside.frames.entries d h)) ∙ ap (λ s. is_heap s.document h) c.self.view_is
-
-pub returns-in-None : goal.returns-in-None
-returns-in-None g c =
+pub returns : goal.returns
+returns g c =
     let d = c.self.inside.file.document in
     let h = c.args.block.0 in
     let kind : c.unwrap.result.is_heap ≡ is_heap d h = rw c.unwrap.ensures at c.entry.ensures.kind in
-    kind ∙ ap (λ o. heap_by (cover o d h)) c.in-None.ensures ∙ sym (ap heap_by (get-overlay c.self.inside.frames.entries d h)) ∙ ap (λ s. is_heap s.document h) c.self.view_is
+    kind ∙ sym (overlay_kind _ c.self.inside.frames.entries d h c.self.invariant) ∙ ap (λ s. is_heap s.document h) c.self.view_is
