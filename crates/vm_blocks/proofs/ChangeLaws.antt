@@ -6,7 +6,7 @@ use Rattle.std.specs.Option.{option_map_or}
 use Rattle.std.specs.List.{All, list_all}
 use Rattle.std.specs.FinMap.{FinMap, get, insert, remove, keys, contains_key}
 use Rattle.geos_model.specs.Heap.{ChunkMap, capacity, fits, fits_with, is_chunk_handle, is_heap_map}
-use Rattle.geos_model.specs.Document.{Block, Document, IsValid, IsValidBlock, is_heap, is_heap_body, is_live, is_raw, is_valid_body, is_vm_handle, with_block, with_attributes, with_blocks, handles_of, without_blocks, FitAttributes}
+use Rattle.geos_model.specs.Document.{Block, Document, IsValid, IsValidBlock, is_heap, is_heap_body, is_live, is_raw, is_valid_body, is_vm_handle, with_block, with_attributes, with_blocks, handles_of, without_blocks, FitAttributes, IsTyped}
 use Rattle.geos_model.specs.Meaning.{chunk_at, with_chunk, without_chunk}
 use Rattle.geos_model.specs.declared.command.Body.{Body}
 use Rattle.geos_model.specs.declared.command.Body.TheVariants.{Raw, Heap}
@@ -28,7 +28,8 @@ use Rattle.vm_blocks.specs.declared.change.PartChange.{PartChange}
 use Rattle.vm_blocks.specs.declared.change.PartChange.TheVariants as parts
 use Rattle.vm_blocks.proofs.MapLemmas.{put_back, put_taken, taken_put}
 use Rattle.vm_blocks.proofs.ManyBlocks.{All-from_map, taken_gone, taken_valid, in_and_out, out_and_in, out_handles}
-use Rattle.vm_blocks.specs.Changes.{bytes_of, part_made, made, flipped_splice, flipped_part, flipped, IsFree, AreFree, CanAllGo, FitsRaw, FitsChunk, FitsNewChunk, HasChunk, HasAttributes, HasMap, PartApplies, Applies, ChangeLaw, FlipLaw}
+use Rattle.vm_blocks.specs.Changes.{bytes_of, fitted, part_made, made, flipped_splice, flipped_part, flipped, IsFree, AreFree, CanAllGo, FitsRaw, FitsChunk, FitsNewChunk, HasChunk, HasAttributes, HasMap, PartApplies, Applies, ChangeLaw, FlipLaw}
+use Rattle.vm_blocks.proofs.KindLemmas.{fitted-same}
 
 -- A change of a document leads back.
 abbrev Undone : Change → Document → Type 0
@@ -58,7 +59,7 @@ module _ (d : Document) (valid : IsValid d) where
       let each : All (λ m. IsFree d m.handle.0) ms = All-from_map (λ p. IsFree d p.0) (λ m. (m.handle.0, saved_block m.block)) ms free in
       let stands = put_stands d ps are.distinct in (
         put_valid d ps valid (All-map (λ p. IsValidBlock p.0 p.1) (λ m. (m.handle.0, saved_block m.block)) ms
-            (λ i m within. record { handle = (each i m within).handle; attributes = (get_or ms i m).block.fit; body = (get_or ms i m).block.valid })),
+            (λ i m within. record { handle = (each i m within).handle; attributes = (get_or ms i m).block.fit; body = (get_or ms i m).block.valid; typed = (get_or ms i m).block.typed })),
         record {
           go = λ i p within. record { stands = stands i p within; other = λ same. free_not_map (get_or ps i p).0 (free i p within) (sym (put_map_block d ps) ∙ same) };
           distinct = are.distinct;
@@ -84,8 +85,8 @@ module _ (d : Document) (b : ℕ) (old new : Block) (there : get d.blocks b ≡ 
   old_back : with_block (with_block d b new) b old ≡ d
   old_back = ap (λ (m : FinMap nat_cmp Block). record d { blocks = m }) (put_back d.blocks b old new there)
 
-  new_valid : IsValid d → FitAttributes new.attributes → is_valid_body new.body ≡ true → IsValid (with_block d b new)
-  new_valid valid fit good = with_block-valid d b new valid (record { handle = (valid.blocks b old there).handle; attributes = fit; body = good })
+  new_valid : IsValid d → FitAttributes new.attributes → IsTyped (is_heap_body new.body) new.attributes → is_valid_body new.body ≡ true → IsValid (with_block d b new)
+  new_valid valid fit typed good = with_block-valid d b new valid (record { handle = (valid.blocks b old there).handle; attributes = fit; body = good; typed = typed })
 
 -- Of a raw body.
 abbrev raw_block : Attributes → List ℕ → Block
@@ -131,7 +132,7 @@ raw_undone d b s valid fits =
     let back = spliced_back s bytes (raw_stands d b u bytes there s fits) in
     let few : length bytes ≤ capacity = leb-true (length bytes) capacity (valid.blocks b old there).body in
     part_undone b (parts.Raw s) d (with_block d b new) (raw_made d b u bytes there s)
-    (new_valid d b old new there valid (valid.blocks b old there).attributes (le-leb _ _ (raw_few d b u bytes there s fits)))
+    (new_valid d b old new there valid (valid.blocks b old there).attributes (valid.blocks b old there).typed (le-leb _ _ (raw_few d b u bytes there s fits)))
     (raw_fits (with_block d b new) b u (forwards s bytes) now (flipped_splice s) back.0 (omega (arith, few, ap length back.1)))
     (raw_made (with_block d b new) b u (forwards s bytes) now (flipped_splice s) ∙ ap (λ (x : List ℕ). with_block (with_block d b new) b (raw_block u x)) back.1 ∙ old_back d b old new there)
 
@@ -175,7 +176,7 @@ module _ (d : Document) (b : ℕ) (u : Attributes) (m : ChunkMap) (there : get d
     heap_now = new_there d b (heap_block u m) (heap_block u n) there
 
     heap_valid : IsValid d → is_heap_map n ≡ true → IsValid (with_block d b (heap_block u n))
-    heap_valid valid heap = new_valid d b (heap_block u m) (heap_block u n) there valid (valid.blocks b (heap_block u m) there).attributes heap
+    heap_valid valid heap = new_valid d b (heap_block u m) (heap_block u n) there valid (valid.blocks b (heap_block u m) there).attributes (λ raw. absurd (cc raw)) heap
 
     heap_back : (k : ChunkMap) → k ≡ m → with_block (with_block d b (heap_block u n)) b (heap_block u k) ≡ d
     heap_back k is = ap (λ (x : ChunkMap). with_block (with_block d b (heap_block u n)) b (heap_block u x)) is ∙ old_back d b (heap_block u m) (heap_block u n) there
@@ -271,10 +272,19 @@ attributes_undone d b old new valid has =
     let now : get (with_block d b after).blocks b ≡ Some after = new_there d b was after there in
     let good = valid.blocks b was there in
     subst (λ (x : Document). IsValid x × HasAttributes x b new old × (with_attributes x b old ≡ d)) (sym (attributes_made d b new was there)) (
-      new_valid d b was after there valid has.fit good.body,
-      record { live = ap is_some now; stands = rw now refl; fit = rw (← had) good.attributes },
+      new_valid d b was after there valid has.fit (rw there at has.typed) good.body,
+      record { live = ap is_some now; stands = rw now refl; fit = rw (← had) good.attributes; typed = rw (now, ← had) good.typed },
       attributes_made (with_block d b after) b old after now ∙ ap (λ (x : Attributes). with_block (with_block d b after) b (record was { attributes = x })) (sym had) ∙ old_back d b was after there,
     )
+
+-- so it is of attributes that the block can have
+fitted_undone : (d : Document) (b : ℕ) (old new : Attributes) → IsValid d → HasAttributes d b old new
+    → let after = with_attributes d b (fitted (is_heap d b) new) in IsValid after × HasAttributes after b new old × (with_attributes after b (fitted (is_heap after b) old) ≡ d)
+fitted_undone d b old new valid has =
+    let undone = attributes_undone d b old new valid has in
+    let made = with_attributes d b new in
+    subst (λ (a : Attributes). let after = with_attributes d b a in IsValid after × HasAttributes after b new old × (with_attributes after b (fitted (is_heap after b) old) ≡ d)) (sym (fitted-same (is_heap d b) new has.typed))
+    (undone.0, undone.1, ap (with_attributes made b) (fitted-same (is_heap made b) old undone.1.typed) ∙ undone.2)
 
 map_undone : (d : Document) (old new : ℕ) → IsValid d → HasMap d old new
     → IsValid (record d { map_block = new }) × HasMap (record d { map_block = new }) new old × (record d { map_block = old } ≡ d)
@@ -288,7 +298,7 @@ pub change_back : ChangeLaw
 change_back (changes.BlocksIn ms) d valid applies = blocks_in_undone d valid ms.list.items applies
 change_back (changes.BlocksOut ms) d valid applies = blocks_out_undone d valid (saved_blocks ms.list.items) applies
 change_back (changes.Part b part) d valid applies = part_back b.0 part d valid applies
-change_back (changes.Attributes b old new) d valid applies = attributes_undone d b.0 old new valid applies
+change_back (changes.Attributes b old new) d valid applies = fitted_undone d b.0 old new valid applies
 change_back (changes.Map old new) d valid applies = map_undone d old.0 new.0 valid applies
 
 part_twice : (p : PartChange) → flipped_part (flipped_part p) ≡ p

@@ -5,6 +5,7 @@ pub mod ChangingAll
 pub mod PartLemmas
 pub mod RoomLemmas
 pub mod KeepingLaws
+pub mod KindLemmas
 pub mod Preparing
 pub mod Residents
 pub mod Locking

@@ -56,7 +56,18 @@ part_is b (parts.Chunk c s) d block is = rw is refl
 part_is b (parts.ChunkIn c content) d block is = rw is refl
 part_is b (parts.ChunkOut c content) d block is = rw is refl
 
--- what a body takes leaves a body that can be
+-- what a body takes leaves a body of its kind, and one that can be
+
+pub part_kind : (p : PartChange) (body : Body) → Takes p body → is_heap_body (body_made p body) ≡ is_heap_body body
+part_kind (parts.Raw s) (Raw bytes) takes = refl
+part_kind (parts.Raw s) (Heap m) takes = absurd takes
+part_kind (parts.Chunk c s) (Raw bytes) takes = absurd takes
+part_kind (parts.Chunk c s) (Heap m) takes = refl
+part_kind (parts.ChunkIn c content) (Raw bytes) takes = absurd takes
+part_kind (parts.ChunkIn c content) (Heap m) takes = refl
+part_kind (parts.ChunkOut c content) (Raw bytes) takes = absurd takes
+part_kind (parts.ChunkOut c content) (Heap m) takes = refl
+
 pub part_valid : (p : PartChange) (body : Body) → is_valid_body body ≡ true → Takes p body → is_valid_body (body_made p body) ≡ true
 part_valid (parts.Raw s) (Raw bytes) valid takes = le-leb _ _ takes.room
 part_valid (parts.Raw s) (Heap m) valid takes = absurd takes

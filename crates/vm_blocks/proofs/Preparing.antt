@@ -5,7 +5,7 @@ use Rattle.std.specs.Option.{option_map, option_map_or}
 use Rattle.std.proofs.lemmas.Bool.{and_parts, cases_eq, true≢false}
 use Rattle.std.proofs.lemmas.List.Elements.{All-map}
 use Rattle.std.specs.FinMap.{get}
-use Rattle.geos_model.specs.Document.{Block, Document, is_heap_body, block_at, is_live, with_block, without_block, with_blocks, without_blocks, with_attributes, handles_of, no_attributes, no_block}
+use Rattle.geos_model.specs.Document.{Block, Document, is_heap, is_heap_body, block_at, is_live, with_block, without_block, with_blocks, without_blocks, with_attributes, handles_of, no_attributes, no_block}
 use Rattle.geos_model.specs.declared.command.Body.{Body}
 use Rattle.geos_model.proofs.HeapEdits.{get-put_same, get-put_other, get-taken_same, get-taken_other}
 use Rattle.geos_model.specs.declared.fault.Fault.{Fault}
@@ -14,7 +14,7 @@ use Rattle.vm_store.specs.Facts.{StoreFacts}
 use Rattle.vm_file.specs.Disk.{Drifts}
 use Rattle.block_cache.specs.State.{CacheState, is_resident}
 use Rattle.vm_file.specs.Members.{saved_blocks}
-use Rattle.vm_blocks.specs.Changes.{turned, turned_part, made, part_made, Applies, PartApplies, CanAllGo}
+use Rattle.vm_blocks.specs.Changes.{fitted, turned, turned_part, made, part_made, Applies, PartApplies, CanAllGo}
 use Rattle.vm_blocks.specs.Keeping.{Keeps, IsSteady, Lacks, is_loaded}
 use Rattle.vm_blocks.specs.Parts.{Takes}
 use Rattle.vm_blocks.specs.Preparing.{CanLeave, Listed, BodyTakes, IsAtHand, IsReady, IsUnready, Makes, AllListed, HalvesLaw, ListedLaw}
@@ -149,7 +149,9 @@ made_alike : (c : Change) (a b : Document) → Alike a b → Alike (made c a) (m
 made_alike (changes.BlocksIn ms) a b drifts = put_all_alike a b (saved_blocks ms.list.items) drifts
 made_alike (changes.BlocksOut ms) a b drifts = taken_all_alike a b (handles_of (saved_blocks ms.list.items)) drifts
 made_alike (changes.Part h part) a b drifts = part_alike a b h.0 part drifts
-made_alike (changes.Attributes h old new) a b drifts = attributes_alike a b h.0 new drifts
+made_alike (changes.Attributes h old new) a b drifts =
+    let given = fitted (is_heap a h.0) new in
+    subst (λ (x : Attributes). Alike (with_attributes a h.0 given) (with_attributes b h.0 x)) (ap (λ (k : Bool). fitted k new) (sym (drifts.kinds h.0))) (attributes_alike a b h.0 given drifts)
 made_alike (changes.Map old new) a b drifts = record { live = drifts.live; attributes = drifts.attributes; kinds = drifts.kinds; map_block = refl; same = λ no. absurd (true≢false (sym no)) }
 
 none_there : (o : Option Block) → is_some o ≡ false → o ≡ None

@@ -4,10 +4,10 @@ use Rattle.std.specs.Prelude.{Result, Ok, Err, IfOk, MatchResult, nat_eq}
 use Rattle.std.specs.Option.{option_map}
 use Rattle.std.specs.Map.{remove_entry}
 use Rattle.std.specs.FinMap.{get}
-use Rattle.geos_model.specs.Document.{Block, Document, IsValid, block_at, is_live, is_valid_body, empty_document, with_body, with_attributes, without_block, FitAttributes}
+use Rattle.geos_model.specs.Document.{Block, Document, IsValid, block_at, is_live, is_valid_body, empty_document, with_body, with_attributes, without_block, is_heap, is_heap_body, attributes_of, FitAttributes, IsTyped}
 use Rattle.geos_model.specs.declared.command.Body.{Body}
 use Rattle.geos_model.specs.declared.fault.Fault.{Fault}
-use Rattle.geos_model.proofs.Validity.{empty_document-valid, with_body-valid, with_attributes-valid, without_block-valid}
+use Rattle.geos_model.proofs.Validity.{attributes-typed, empty_document-valid, with_body-valid, with_attributes-valid, without_block-valid}
 use Rattle.geos_model.specs.declared.block.Attributes.{Attributes}
 use Rattle.vm_store.specs.Facts.{StoreFacts}
 use Rattle.vm_file.specs.Disk.{Drifts}
@@ -17,7 +17,8 @@ use Rattle.block_cache.specs.State.{CacheState, seen}
 use Rattle.vm_blocks.specs.Parts.{Takes, body_made}
 use Rattle.vm_blocks.specs.Sound.{IsSound}
 use Rattle.vm_blocks.specs.declared.change.PartChange.{PartChange}
-use Rattle.vm_blocks.proofs.PartLemmas.{part_valid}
+use Rattle.vm_blocks.proofs.KindLemmas.{kind_there}
+use Rattle.vm_blocks.proofs.PartLemmas.{part_kind, part_valid}
 use Rattle.vm_blocks.proofs.Preparing.{body_of_option, live_there, takes_body}
 
 module _ {S : Type 0} (facts : S → StoreFacts) where
@@ -44,8 +45,8 @@ module _ {S : Type 0} (facts : S → StoreFacts) where
     pub sound_map : (h : ℕ) → (h ≢ 0 → is_live state.document h ≡ true) → IsSound facts state → IsSound facts (record state { document = record state.document { map_block = h } })
     sound_map h live sound = sound_with (record state.document { map_block = h }) (λ valid. record { blocks = valid.blocks; map_block = live }) sound
 
-    pub sound_attributes : (h : ℕ) (attributes : Attributes) → FitAttributes attributes → IsSound facts state → IsSound facts (record state { document = with_attributes state.document h attributes })
-    sound_attributes h attributes fit sound = sound_with (with_attributes state.document h attributes) (λ valid. with_attributes-valid state.document h attributes valid fit) sound
+    pub sound_attributes : (h : ℕ) (attributes : Attributes) → FitAttributes attributes → IsTyped (is_heap state.document h) attributes → IsSound facts state → IsSound facts (record state { document = with_attributes state.document h attributes })
+    sound_attributes h attributes fit typed sound = sound_with (with_attributes state.document h attributes) (λ valid. with_attributes-valid state.document h attributes valid fit typed) sound
 
     -- a block was taken out
     pub sound_taken : (h : ℕ) → (state.document.map_block ≡ h → ⊥) → IsSound facts state → IsSound facts (record state { document = without_block state.document h; resident = remove_entry (nat_eq h) state.resident })
@@ -83,8 +84,11 @@ module _ {S : Type 0} (facts : S → StoreFacts) where
         let good : is_valid_body body ≡ true = subst (λ (b : Body). is_valid_body b ≡ true) (body_of_option (get state.document.blocks h) body there) (valid.blocks h (block_at state.document h) (live_there state.document h live)).body in
         ap is_valid_body is ∙ part_valid p body good taken
 
+    made_typed : IsValid state.document → IsTyped (is_heap_body made) (attributes_of state.document h)
+    made_typed valid = λ raw. attributes-typed state.document h valid (kind_there state.document h body there ∙ sym (part_kind p body taken) ∙ sym (ap is_heap_body is) ∙ raw)
+
     pub sound_part : is_live state.document h ≡ true → IsSound facts state → IsSound facts (record state { document = with_body state.document h made })
     sound_part live sound = record {
-      valid = λ so. let valid = sound.valid so in with_body-valid state.document h made valid live (made_valid valid live);
+      valid = λ so. let valid = sound.valid so in with_body-valid state.document h made valid live (made_typed valid) (made_valid valid live);
       room = sound.room;
     }

@@ -1,9 +1,9 @@
 -- What a change makes of a document, the same change the other way round, and in which documents it can be made.
-use Rattle.std.specs.Prelude.{◌≡◌, ◌≢◌, ◌≤◌, ◌+◌, ℕ, List, [], true, Some, None, length, map, replicate, reverse}
+use Rattle.std.specs.Prelude.{◌≡◌, ◌≢◌, ◌≤◌, ◌+◌, ℕ, Bool, List, [], true, false, Some, None, length, map, replicate, reverse}
 use Rattle.std.specs.List.{All}
 use Rattle.std.specs.FinMap.{get, contains_key}
 use Rattle.geos_model.specs.Heap.{capacity, fits_with, is_chunk_handle}
-use Rattle.geos_model.specs.Document.{Block, Document, IsValid, is_vm_handle, is_live, is_heap, is_raw, chunks_of, raw_bytes_of, attributes_of, with_body, with_attributes, with_blocks, handles_of, without_blocks, FitAttributes}
+use Rattle.geos_model.specs.Document.{Block, Document, IsValid, is_vm_handle, is_live, is_heap, is_raw, chunks_of, raw_bytes_of, attributes_of, with_body, with_attributes, with_blocks, handles_of, without_blocks, FitAttributes, IsTyped}
 use Rattle.geos_model.specs.ElementArray.{all_distinct}
 use Rattle.geos_model.specs.Meaning.{chunk_at, with_chunk, without_chunk}
 use Rattle.geos_model.specs.declared.command.Body.TheVariants.{Raw}
@@ -28,6 +28,11 @@ bytes_of (contents.Zeros n) = replicate n 0
 
 -- What a change makes of a document.
 
+-- attributes as a block of a kind has them: only a heap has a type
+abbrev pub fitted : Bool → Attributes → Attributes
+fitted true a = a
+fitted false a = record a { heap_type = 0 }
+
 abbrev pub part_made : ℕ → PartChange → Document → Document
 part_made b (parts.Raw s) d = with_body d b (Raw (forwards s (raw_bytes_of d b)))
 part_made b (parts.Chunk c s) d = with_chunk d b c.0 (forwards s (chunk_at d b c.0))
@@ -38,7 +43,7 @@ abbrev pub made : Change → Document → Document
 made (changes.BlocksIn ms) d = with_blocks d (saved_blocks ms.list.items)
 made (changes.BlocksOut ms) d = without_blocks d (handles_of (saved_blocks ms.list.items))
 made (changes.Part b part) d = part_made b.0 part d
-made (changes.Attributes b old new) d = with_attributes d b.0 new
+made (changes.Attributes b old new) d = with_attributes d b.0 (fitted (is_heap d b.0) new)
 made (changes.Map old new) d = record d { map_block = new.0 }
 
 -- The same change the other way round.
@@ -123,11 +128,12 @@ pub record HasChunk (d : Document) (b c : ℕ) (bytes : List ℕ) : Type 0 where
   pub heap : is_heap d b ≡ true
   pub stands : get (chunks_of d b) c ≡ Some bytes
 
--- the block has these attributes, and the new ones can be
+-- the block has these attributes, and the new ones can be: they are words, and only a heap has a type
 pub record HasAttributes (d : Document) (b : ℕ) (old new : Attributes) : Type 0 where
   pub live : is_live d b ≡ true
   pub stands : attributes_of d b ≡ old
   pub fit : FitAttributes new
+  pub typed : IsTyped (is_heap d b) new
 
 -- the map block is this one, and the new one is 0 or live
 pub record HasMap (d : Document) (old new : ℕ) : Type 0 where

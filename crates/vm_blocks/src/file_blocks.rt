@@ -5,7 +5,7 @@ ghost use Rattle.std.specs.Result.{IsErrAnd};
 ghost use Rattle.std.specs.FinMap.{get, keys};
 ghost use Rattle.std.specs.Map.{set_value};
 ghost use Rattle.std.specs.List.{All};
-ghost use Rattle.geos_model.specs.Document.{IsValid, block_at, is_heap, is_raw, next_handle, is_live, is_vm_handle, attributes_of, handles_of, without_block, without_blocks};
+ghost use Rattle.geos_model.specs.Document.{IsValid, block_at, is_heap, is_raw, next_handle, is_live, is_vm_handle, attributes_of, handles_of, without_block, without_blocks, IsTyped};
 ghost use Rattle.geos_model.specs.ElementArray.{all_distinct};
 ghost use Rattle.geos_model.specs.Reply.{found};
 ghost use Rattle.vm_file.specs.Calls.{last_sequence};
@@ -14,7 +14,7 @@ ghost use Rattle.vm_file.specs.Effects.{IsCommit, Fails, IsWorn};
 ghost use Rattle.vm_file.specs.Members.{saved_blocks};
 ghost use Rattle.block_cache.specs.Bodies.{body_of};
 ghost use Rattle.block_cache.specs.State.{is_resident, locks_of, locked_count, seen, KeepsLocks};
-ghost use Rattle.vm_blocks.specs.Changes.{made, part_made, turned, turned_all, turned_part, blocks_in, AreFree};
+ghost use Rattle.vm_blocks.specs.Changes.{fitted, made, part_made, turned, turned_all, turned_part, blocks_in, AreFree};
 ghost use Rattle.vm_blocks.specs.Committing.{IsSavedAs, IsNotSavedAs};
 ghost use Rattle.vm_blocks.specs.Keeping.{Keeps, Lacks, LacksFrame, is_full, is_loaded, is_shut_out};
 ghost use Rattle.vm_blocks.specs.Locking.{GainsLock, LosesLock, CantLock, HasNoLock};
@@ -23,7 +23,7 @@ ghost use Rattle.vm_blocks.specs.Parts.{Takes};
 ghost use Rattle.vm_blocks.specs.Kinds.{IsOfOther};
 ghost use Rattle.vm_blocks.specs.Preparing.{CanLeave, Listed, AllListed, AreUnlocked, BodyTakes, IsAtHand, IsOutOfReach, IsUnready, AreUnready, Makes, MakesAll, Turns};
 
-use crate::part::{can_take, carry_out};
+use crate::part::{can_take, carry_out_heap, carry_out_raw};
 use crate::{BlockBody, Change, Direction, Members, PartChange};
 use block_cache::Cache;
 use geos_model::{Attributes, Fault, VmHandle};
@@ -204,11 +204,13 @@ impl<S: Store> FileBlocks<S> {
         self.cache.is_heap(handle)
     }
 
-    /// The attributes of a block, in memory or not.
+    /// The attributes of a block, in memory or not. Only a heap has a type, over any store.
     pub fn attributes(&self, handle: VmHandle) -> Attributes
         requires { is_live self.now.document handle.0 ≡ true }
-        ensures { result ≡ attributes_of self.now.document handle.0 }
+        ensures value { result ≡ attributes_of self.now.document handle.0 }
+        ensures typed { IsTyped (is_heap self.now.document handle.0) result }
     {
+        self.cache.validity();
         self.cache.attributes(handle)
     }
 
@@ -587,10 +589,14 @@ impl<S: Store> FileBlocks<S> {
         requires takes { Takes (turned_part direction part.now) (block_at self.old.document handle.0).body }
         ensures { self.new ≡ record self.old { document = part_made handle.0 (turned_part direction part.now) self.old.document } }
     {
-        carry_out(self.cache.body_mut(handle), part, direction);
+        if self.is_heap(handle) {
+            carry_out_heap(self.cache.heap_mut(handle), part, direction);
+        } else {
+            carry_out_raw(self.cache.raw_mut(handle), part, direction);
+        }
     }
 
-    // Gives a block other attributes in place of the old ones.
+    // Gives a block other attributes in place of the old ones. Whichever kind it is of, only a heap has a type.
     fn set_attributes(
         &mut self,
         handle: VmHandle,
@@ -600,7 +606,8 @@ impl<S: Store> FileBlocks<S> {
         requires { is_live self.old.document handle.0 ≡ true }
         ensures { Turns S.facts (Change.Attributes handle old new) self.old self.new result }
     {
-        self.cache.set_attributes(handle, new);
+        let given = fitted(self.is_heap(handle), new);
+        self.cache.set_attributes(handle, given);
         Ok(())
     }
 
@@ -611,5 +618,19 @@ impl<S: Store> FileBlocks<S> {
     {
         self.cache.set_map(new);
         Ok(())
+    }
+}
+
+// Attributes as a block of a kind has them.
+fn fitted(is_heap: bool, attributes: Attributes) -> Attributes
+    ensures { result ≡ fitted is_heap attributes }
+{
+    if is_heap {
+        attributes
+    } else {
+        Attributes {
+            heap_type: 0,
+            ..attributes
+        }
     }
 }

@@ -134,19 +134,8 @@ fn is_handle(chunk: ChunkHandle) -> bool
     16 <= chunk.0 && chunk.0 <= 0xFFEE && chunk.0 % 2 == 0
 }
 
-/// Carries a change of a part of a body out in place.
-pub(crate) fn carry_out(body: &mut BlockBody, change: &PartChange, direction: Direction)
-    requires { Takes (turned_part direction change.now) (body_of body.old) }
-    ensures { body_of body.new ≡ body_made (turned_part direction change.now) (body_of body.old) }
-{
-    match body {
-        BlockBody::Raw(body) => carry_out_raw(body, change, direction),
-        BlockBody::Heap(heap) => carry_out_heap(heap, change, direction),
-    }
-}
-
-/// Of a raw body.
-fn carry_out_raw(body: &mut RawBody, change: &PartChange, direction: Direction)
+/// Carries a change of a part of a raw body out in place.
+pub(crate) fn carry_out_raw(body: &mut RawBody, change: &PartChange, direction: Direction)
     requires { RawTakes (turned_part direction change.now) body.old }
     ensures { bodies.Raw body.new ≡ body_made (turned_part direction change.now) (bodies.Raw body.old) }
 {
@@ -161,8 +150,8 @@ fn carry_out_raw(body: &mut RawBody, change: &PartChange, direction: Direction)
     }
 }
 
-/// Of a heap.
-fn carry_out_heap(heap: &mut Heap, change: &PartChange, direction: Direction)
+/// So of a heap.
+pub(crate) fn carry_out_heap(heap: &mut Heap, change: &PartChange, direction: Direction)
     requires { HeapTakes (turned_part direction change.now) heap.old.chunks }
     ensures { bodies.Heap heap.new.chunks ≡ body_made (turned_part direction change.now) (bodies.Heap heap.old.chunks) }
 {
