@@ -1,6 +1,6 @@
 ghost use Rattle.std.specs.Prelude.{◌≡◌, ◌≤◌, true, false, IfOk, MatchResult, length};
 ghost use Rattle.geos_model.specs.Chain.{is_member, relinked};
-ghost use Rattle.geos_model.specs.Document.{block_at, is_live, is_raw, raw_bytes_of};
+ghost use Rattle.geos_model.specs.Document.{block_at, is_heap, is_live, is_raw, raw_bytes_of};
 ghost use Rattle.geos_model.specs.Heap.{capacity};
 ghost use Rattle.vm_blocks.specs.Keeping.{Keeps, IsSteady, Lacks, is_full};
 ghost use Rattle.vm_file.specs.Members.{saved_block};
@@ -45,6 +45,7 @@ pub(crate) fn relinked_at<S: Store>(
     ensures keeps { Keeps S.facts blocks.old blocks.new }
     ensures value { MatchResult result (λ bytes. bytes.items ≡ relinked (name_in names.now) (raw_bytes_of blocks.new.document handle.0)) (Lacks S.facts blocks.old.disk.store blocks.new.disk.store) }
     ensures small { IfOk result (λ bytes. length bytes.items ≤ capacity) }
+    ensures raw { IfOk result (λ _. is_heap blocks.new.document handle.0 ≡ false) }
 {
     blocks.load(handle)?;
     match blocks.body(handle) {

@@ -60,6 +60,9 @@ attributes-requires g c =
     let keeps = keeps-trans g.S.Store.facts c.args.blocks.now c.loop-i.blocks c.relinked_at.new.blocks c.loop-i.invariant.keeps c.relinked_at.ensures.keeps in
     still_live g.S.Store.facts c.args.blocks.now c.relinked_at.new.blocks keeps (get_or c.args.handles.now c.loop-i.i no_handle).0 (c.requires.live.live c.loop-i.i no_handle (omega arith))
 
+pub raw-requires-clause-typed : goal.raw-requires-clause-typed
+raw-requires-clause-typed g c = c.attributes.ensures.typed c.in_ok-bytes.ensures.raw
+
 pub returns-in_err-block-clause-keeps : goal.returns-in_err-block-clause-keeps
 returns-in_err-block-clause-keeps g c = keeps-trans g.S.Store.facts c.args.blocks.now c.loop-i.blocks c.relinked_at.new.blocks c.loop-i.invariant.keeps c.relinked_at.ensures.keeps
 
@@ -86,7 +89,7 @@ loop-i-preserved g c =
     record {
       plan = λ steady.
           let same : e.document ≡ d = keeps-same g.S.Store.facts a e keeps steady in
-          let attributes_are : c.attributes.result ≡ attributes_of d h = c.attributes.ensures ∙ ap (λ (x : Document). attributes_of x h) same in
+          let attributes_are : c.attributes.result ≡ attributes_of d h = c.attributes.ensures.value ∙ ap (λ (x : Document). attributes_of x h) same in
           let read : c.in_ok-bytes.bytes.items ≡ relinked (name_in c.in_ok-names.names) (raw_bytes_of d h) = c.in_ok-bytes.ensures.value ∙ ap (λ (x : Document). relinked (name_in c.in_ok-names.names) (raw_bytes_of x h)) same in
           let block = c.in_ok-block.ensures ∙ renamed_block d h c.attributes.result c.in_ok-bytes.bytes.items (name_in c.in_ok-names.names) (name_of (zip (numbers hs) (numbers new))) attributes_are read (c.in_ok-names.ensures {u = tt}) in
           ap (λ (ms : List Member). saved_blocks ms ++ copies_from d hs new (drop (i + 1) hs) (drop (i + 1) new)) pushed

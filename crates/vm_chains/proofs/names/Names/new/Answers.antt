@@ -32,11 +32,11 @@ from_before hs i some within =
 pub loop-i-init : goal.loop-i-init
 loop-i-init c =
     let made = c.in_ok-by_handle.ensures {u = tt} in
-    let zeros : c.in_ok-by_handle.by_handle.items ≡ replicate 2049 0 = made.items_if_clones_equal (λ y e. e) in
+    let zeros : c.in_ok-by_handle.by_handle.items ≡ replicate (most_blocks + 1) 0 = made.items_if_clones_equal (λ y e. e) in
     let all = length c.args.handles.now in
     record {
       size = omega (arith, made.len, c.in_ok-by_handle.by_handle.ok.0);
-      named = λ h. ap (λ (xs : List ℕ). get_or xs h 0) zeros ∙ no_name 2049 h
+      named = λ h. ap (λ (xs : List ℕ). get_or xs h 0) zeros ∙ no_name (most_blocks + 1) h
           ∙ sym (ap (λ (hs : List VmHandle). name_of (zip (numbers hs) (numbers (drop all c.args.names.now))) h) (drop_all all c.args.handles.now (omega arith)));
     }
 
