@@ -5,7 +5,7 @@ use Rattle.std.proofs.lemmas.List.Elements.{All-nil, All-cons}
 use Rattle.std.specs.FinMap.{get}
 use Rattle.std.specs.Option.{option_map, option_map_or}
 use Rattle.geos_model.specs.Refusal.{first_refusal}
-use Rattle.geos_model.specs.Document.{Block, Document, block_at, is_live, next_handle, attributes_of, with_block, without_block, with_blocks, handles_of, without_blocks, no_block}
+use Rattle.geos_model.specs.Document.{Block, Document, block_at, is_heap, is_live, next_handle, attributes_of, with_attributes, with_block, without_block, with_blocks, handles_of, without_blocks, no_block, FitAttributes, IsTyped}
 use Rattle.geos_model.specs.Meaning.{conditions, effect}
 use Rattle.geos_model.specs.Cost.{cost, image_length, images_length}
 use Rattle.geos_model.specs.Machine.{kind_of}
@@ -19,9 +19,11 @@ use Rattle.geos_model.specs.declared.fault.Fault.TheVariants.{IsMap, NoHandles}
 use Rattle.geos_model.specs.declared.handle.VmHandle.{VmHandle}
 use Rattle.geos_model.specs.declared.command.Kind.TheVariants.{Made, Freed}
 use Rattle.geos_model.specs.declared.block.Attributes.{Attributes}
-use Rattle.vm_blocks.specs.Changes.{IsFree, AreFree, CanGo, CanAllGo}
+use Rattle.vm_blocks.specs.Changes.{fitted, HasAttributes, IsFree, AreFree, CanGo, CanAllGo}
 use Rattle.vm_file.specs.Members.{saved_blocks}
+use Rattle.vm_blocks.specs.declared.change.Change.TheVariants as changes
 use Rattle.vm_blocks.specs.declared.change.Change.TheVariants.{BlocksIn, BlocksOut}
+use Rattle.vm_blocks.proofs.KindLemmas.{fitted-same}
 use Rattle.vm_blocks.specs.declared.member.Members.{Members}
 use Rattle.doc_edits.specs.Planning.{Plans}
 use Rattle.doc_edits.proofs.Documents.{body_at}
@@ -81,3 +83,36 @@ module _ (d : Document) (handle : VmHandle) (attributes : Attributes) (body : Bo
         let at : block ≡ block_at d handle.0 = sym (ap (λ (o : Option Block). unwrap_or o no_block) there) in
         block_made (edits.CopyBlock handle) d ms new.0 block (done.Block new) one (rw (there, next) refl) free
         (λ i. with_block d (first i) (at i)) (ap (λ (n : ℕ). done.Block (record { 0 = n })) first) refl how_long
+
+-- Edits of attributes.
+
+-- the block gets these, which it can have
+attributes_given : (d : Document) (h : ℕ) (old new : Attributes) → old ≡ attributes_of d h → FitAttributes new → is_live d h ≡ true → IsTyped (is_heap d h) new
+    → HasAttributes d h old new × (with_attributes d h (fitted (is_heap d h) new) ≡ with_attributes d h new)
+attributes_given d h old new same fit live typed = (record { live = live; stands = sym same; fit = fit; typed = typed }, ap (with_attributes d h) (fitted-same (is_heap d h) new typed))
+
+pub user_id_planned : (d : Document) (h : VmHandle) (user_id : ℕ) (old : Attributes) → is_live d h.0 ≡ true → old ≡ attributes_of d h.0 → IsTyped (is_heap d h.0) old → FitAttributes (record old { user_id = user_id })
+    → Plans (edits.SetUserId h user_id) d (changes.Attributes h old (record old { user_id = user_id })) done.Nothing
+user_id_planned d h user_id old live same typed fit =
+    let given = attributes_given d h.0 old (record old { user_id = user_id }) same fit live typed in
+    record {
+      accepted = rw live refl;
+      applies = given.0;
+      document = given.1 ∙ ap (λ (a : Attributes). with_attributes d h.0 (record a { user_id = user_id })) same;
+      answer = refl;
+      kind = refl;
+      cost = refl;
+    }
+
+pub type_planned : (d : Document) (h : VmHandle) (heap_type : ℕ) (old : Attributes) → is_live d h.0 ≡ true → is_heap d h.0 ≡ true → old ≡ attributes_of d h.0 → FitAttributes (record old { heap_type = heap_type })
+    → Plans (edits.SetType h heap_type) d (changes.Attributes h old (record old { heap_type = heap_type })) done.Nothing
+type_planned d h heap_type old live heap same fit =
+    let given = attributes_given d h.0 old (record old { heap_type = heap_type }) same fit live (λ raw. absurd (true≢false (sym heap ∙ raw))) in
+    record {
+      accepted = rw (live, heap) refl;
+      applies = given.0;
+      document = given.1 ∙ ap (λ (a : Attributes). with_attributes d h.0 (record a { heap_type = heap_type })) same;
+      answer = refl;
+      kind = refl;
+      cost = refl;
+    }

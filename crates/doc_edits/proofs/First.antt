@@ -22,6 +22,7 @@ chunk_cases : (edit : Edit) (d : Document) → MatchOption (place_of edit) (Unit
 chunk_cases (edits.NewRaw b c) d = tt
 chunk_cases (edits.NewHeap b) d = tt
 chunk_cases (edits.SetUserId b c) d = tt
+chunk_cases (edits.SetType b c) d = tt
 chunk_cases (edits.SetMap b) d = tt
 chunk_cases (edits.FreeBlock b) d = tt
 chunk_cases (edits.CopyBlock b) d = tt
@@ -67,6 +68,7 @@ pub wanted_first : (edit : Edit) → FirstOfWanted edit (wanted edit)
 wanted_first (edits.NewRaw b c) = tt
 wanted_first (edits.NewHeap b) = tt
 wanted_first (edits.SetUserId b c) = tt
+wanted_first (edits.SetType b c) = tt
 wanted_first (edits.SetMap b) = tt
 wanted_first (edits.CopyChain b) = tt
 wanted_first (edits.FreeChain b) = tt

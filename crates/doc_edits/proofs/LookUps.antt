@@ -92,6 +92,7 @@ look_up_cases commands.Save d = tt
 look_up_cases commands.Revert d = tt
 look_up_cases commands.SaveAs d = tt
 look_up_cases (commands.Info b) d = tt
+look_up_cases (commands.HeapType b) d = tt
 look_up_cases commands.List d = tt
 look_up_cases (commands.Find uid start) d = tt
 look_up_cases commands.MapBlock d = tt

@@ -26,7 +26,11 @@ pub fn plan_new_raw<S: Store>(
         Some(handle) => handle,
         None => return Err(Fault::NoHandles),
     };
-    let block = SavedBlock::zeros(alloc, Attributes { user_id }, size as usize)?;
+    let attributes = Attributes {
+        user_id,
+        heap_type: 0,
+    };
+    let block = SavedBlock::zeros(alloc, attributes, size as usize)?;
     let made = Members::one(alloc, handle, block)?;
     Ok((Change::BlocksIn(made), Done::Block(handle)))
 }
@@ -44,7 +48,11 @@ pub fn plan_new_heap<S: Store>(
         Some(handle) => handle,
         None => return Err(Fault::NoHandles),
     };
-    let block = SavedBlock::empty_heap(alloc, Attributes { user_id })?;
+    let attributes = Attributes {
+        user_id,
+        heap_type: 0,
+    };
+    let block = SavedBlock::empty_heap(alloc, attributes)?;
     let made = Members::one(alloc, handle, block)?;
     Ok((Change::BlocksIn(made), Done::Block(handle)))
 }
@@ -101,6 +109,29 @@ pub fn plan_set_user_id<S: Store>(
         handle,
         old,
         new: Attributes { user_id, ..old },
+    };
+    Ok((change, Done::Nothing))
+}
+
+/// Of the edit that sets the type of a heap.
+pub fn plan_set_type<S: Store>(
+    blocks: &FileBlocks<S>,
+    handle: VmHandle,
+    heap_type: u16,
+) -> Result<(Change, Done), Fault>
+    ensures { MatchResult result (λ p. Plans (edits.SetType handle heap_type) blocks.now.document p.0 p.1) (RefusesAtHand (edits.SetType handle heap_type) blocks.now.document) }
+{
+    if !blocks.is_live(handle) {
+        return Err(Fault::NoBlock);
+    }
+    if !blocks.is_heap(handle) {
+        return Err(Fault::WrongKind);
+    }
+    let old = blocks.attributes(handle);
+    let change = Change::Attributes {
+        handle,
+        old,
+        new: Attributes { heap_type, ..old },
     };
     Ok((change, Done::Nothing))
 }

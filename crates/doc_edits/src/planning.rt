@@ -12,7 +12,8 @@ ghost use Rattle.doc_edits.specs.Planning.{freed_by, kind_of_change, IsChainEdit
 ghost use Rattle.doc_edits.specs.Room.{has_no_room, ReadsNothing};
 
 use crate::block_plans::{
-    plan_copy_block, plan_free_block, plan_new_heap, plan_new_raw, plan_set_map, plan_set_user_id,
+    plan_copy_block, plan_free_block, plan_new_heap, plan_new_raw, plan_set_map, plan_set_type,
+    plan_set_user_id,
 };
 use crate::chain_plans::{plan_copy_chain, plan_free_chain};
 use crate::chunk_plans::{plan_free_chunk, plan_in_chunk, plan_new_chunk};
@@ -117,6 +118,7 @@ fn block_wanted(edit: &Edit) -> Wanted
         Edit::NewRaw(_, _)
         | Edit::NewHeap(_)
         | Edit::SetUserId(_, _)
+        | Edit::SetType(_, _)
         | Edit::SetMap(_)
         | Edit::CopyChain(_)
         | Edit::FreeChain(_) => Wanted::Nothing,
@@ -166,6 +168,7 @@ fn plan_loaded<S: Store>(
         Edit::WriteRaw(handle, at, bytes) => plan_write_raw(alloc, blocks, *handle, *at, bytes),
         Edit::Attach(handle, bytes) => plan_attach(alloc, blocks, *handle, bytes),
         Edit::SetUserId(handle, user_id) => plan_set_user_id(blocks, *handle, *user_id),
+        Edit::SetType(handle, heap_type) => plan_set_type(blocks, *handle, *heap_type),
         Edit::SetMap(handle) => plan_set_map(blocks, *handle),
         Edit::Free(handle, chunk) => plan_free_chunk(alloc, blocks, *handle, *chunk),
         Edit::Alloc(handle, _)

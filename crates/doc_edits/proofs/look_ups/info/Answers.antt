@@ -38,12 +38,12 @@ pub returns-in-Raw : goal.returns-in-Raw
 returns-in-Raw g c =
     let a = c.args.blocks.now in let loaded = c.load.new.self in let b = c.args.block in let e = c.load.ensures in
     load_seen g.S.Store.facts is_live a loaded b.0 c.load.result e.keeps (early_dead a loaded b.0 c.load.result e.dead) e.shut (λ here live. e.already here) (commands.Info b) (looks b) refl tt c.in_ok-load.was _
-    (λ lacks no_room room. answered_with_room lacks no_room room (commands.Info b) loaded.document _ (rw (loaded-live loaded b.0 c.in_ok-load.ensures.ok) refl) (told (get loaded.document.blocks b.0) c.attributes-user_id.result (body_of (block_bodies.Raw c.in-Raw.body)) (c.body.ensures ∙ ap (λ (x : BlockBody). Some (body_of x)) c.in-Raw.is) c.attributes-user_id.ensures
+    (λ lacks no_room room. answered_with_room lacks no_room room (commands.Info b) loaded.document _ (rw (loaded-live loaded b.0 c.in_ok-load.ensures.ok) refl) (told (get loaded.document.blocks b.0) c.attributes-user_id.result (body_of (block_bodies.Raw c.in-Raw.body)) (c.body.ensures ∙ ap (λ (x : BlockBody). Some (body_of x)) c.in-Raw.is) c.attributes-user_id.ensures.value
     ∙ ap (λ (bytes : List ℕ). Some (RawIs c.attributes-user_id.result.user_id (length bytes))) (sym c.bytes.ensures.value)))
 
 pub returns-in-Heap : goal.returns-in-Heap
 returns-in-Heap g c =
     let a = c.args.blocks.now in let loaded = c.load.new.self in let b = c.args.block in let e = c.load.ensures in
     load_seen g.S.Store.facts is_live a loaded b.0 c.load.result e.keeps (early_dead a loaded b.0 c.load.result e.dead) e.shut (λ here live. e.already here) (commands.Info b) (looks b) refl tt c.in_ok-load.was _
-    (λ lacks no_room room. answered_with_room lacks no_room room (commands.Info b) loaded.document _ (rw (loaded-live loaded b.0 c.in_ok-load.ensures.ok) refl) (told (get loaded.document.blocks b.0) c.attributes-user_id.result (body_of (block_bodies.Heap c.in-Heap.heap)) (c.body.ensures ∙ ap (λ (x : BlockBody). Some (body_of x)) c.in-Heap.is) c.attributes-user_id.ensures
+    (λ lacks no_room room. answered_with_room lacks no_room room (commands.Info b) loaded.document _ (rw (loaded-live loaded b.0 c.in_ok-load.ensures.ok) refl) (told (get loaded.document.blocks b.0) c.attributes-user_id.result (body_of (block_bodies.Heap c.in-Heap.heap)) (c.body.ensures ∙ ap (λ (x : BlockBody). Some (body_of x)) c.in-Heap.is) c.attributes-user_id.ensures.value
     ∙ ap (λ (n : ℕ). Some (HeapIs c.attributes-user_id.result.user_id n)) (sym c.need.ensures)))
