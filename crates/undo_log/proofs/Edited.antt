@@ -75,13 +75,14 @@ unlocked_change edit (changes.Part b part) old mid keeps free kind alone = tt
 unlocked_change edit (changes.Attributes b was is) old mid keeps free kind alone = tt
 unlocked_change edit (changes.Map was is) old mid keeps free kind alone = tt
 
--- an edit of a user ID or of the map block needs no body
+-- an edit of a user ID, a type or the map block needs no body
 plain_needs : (edit : Edit) → kind_of edit ≡ Plain → edit_needs edit ≡ NoBody
 plain_needs (edits.FreeBlock b) kind = absurd (cc kind)
 plain_needs (edits.CopyBlock b) kind = absurd (cc kind)
 plain_needs (edits.CopyChain b) kind = absurd (cc kind)
 plain_needs (edits.FreeChain b) kind = absurd (cc kind)
 plain_needs (edits.SetUserId b uid) kind = refl
+plain_needs (edits.SetType b heap_type) kind = refl
 plain_needs (edits.SetMap b) kind = refl
 plain_needs _ kind = absurd (cc kind)
 

@@ -5,13 +5,13 @@ use Rattle.std.specs.List.{All}
 use Rattle.std.specs.FinMap.{get}
 use Rattle.std.proofs.lemmas.Bool.{cases_eq, true≢false}
 use Rattle.std.proofs.lemmas.List.Elements.{All-map}
-use Rattle.geos_model.specs.Document.{Block, Document, block_at, is_live, is_vm_handle, with_block, without_block, with_blocks, without_blocks, with_attributes, handles_of}
+use Rattle.geos_model.specs.Document.{Block, Document, block_at, is_heap, is_live, is_vm_handle, with_block, without_block, with_blocks, without_blocks, with_attributes, handles_of}
 use Rattle.geos_model.specs.ElementArray.{all_distinct}
 use Rattle.geos_model.proofs.BlockLists.{put_stands, put_map_block}
 use Rattle.geos_model.proofs.HeapEdits.{get-put_same, get-put_other, get-taken_same, get-taken_other}
 use Rattle.geos_model.specs.declared.block.Attributes.{Attributes}
 use Rattle.vm_file.specs.Disk.{Drifts, IsListed}
-use Rattle.vm_blocks.specs.Changes.{made, flipped, part_made, turned, AreFree, HasMap, IsFree}
+use Rattle.vm_blocks.specs.Changes.{fitted, made, flipped, part_made, turned, AreFree, HasMap, IsFree}
 use Rattle.vm_file.specs.Members.{saved_blocks}
 use Rattle.vm_blocks.specs.Preparing.{AllListed, CanLeave, Listed}
 use Rattle.vm_blocks.specs.declared.change.Change.{Change}
@@ -113,7 +113,9 @@ made_alike (changes.BlocksIn ms) a b same = put_all_alike a b (saved_blocks ms.l
 made_alike (changes.BlocksOut ms) a b same = taken_all_alike a b (handles_of (saved_blocks ms.list.items)) same
 made_alike (changes.Part h part) a b same = part_alike a b h.0 part same
 made_alike (changes.Attributes h old new) a b same =
-    alike-trans (with_attributes a h.0 new) a (with_attributes b h.0 new) (alike-back a (with_attributes a h.0 new) (attributes_keeps a h.0 new)) (alike-trans a b (with_attributes b h.0 new) same (attributes_keeps b h.0 new))
+    let c = made (changes.Attributes h old new) a in
+    let d = made (changes.Attributes h old new) b in
+    alike-trans c a d (alike-back a c (attributes_keeps a h.0 (fitted (is_heap a h.0) new))) (alike-trans a b d same (attributes_keeps b h.0 (fitted (is_heap b h.0) new)))
 made_alike (changes.Map old new) a b same = record { live = same.live; map_block = refl }
 
 -- What is known by handles alone stays known.
@@ -193,7 +195,7 @@ module _ (d : Document) (known : Known d) where
   back_listed (changes.BlocksIn ms) are = in_listed (saved_blocks ms.list.items) are
   back_listed (changes.BlocksOut ms) can = out_listed (handles_of (saved_blocks ms.list.items)) can
   back_listed (changes.Part h part) live = (part_keeps d h.0 part live).live h.0 ∙ live
-  back_listed (changes.Attributes h old new) live = (attributes_keeps d h.0 new).live h.0 ∙ live
+  back_listed (changes.Attributes h old new) live = (attributes_keeps d h.0 (fitted (is_heap d h.0) new)).live h.0 ∙ live
   back_listed (changes.Map old new) has = map_listed old.0 new.0 has
 
 -- Both leave the handles and the map block as they were.
@@ -232,7 +234,9 @@ back_alike (changes.BlocksOut ms) d can = out_back d (saved_blocks ms.list.items
 back_alike (changes.Part h part) d live =
     let keeps = part_keeps d h.0 part live in
     alike-trans d (made (changes.Part h part) d) _ keeps (part_keeps (made (changes.Part h part) d) h.0 _ (keeps.live h.0 ∙ live))
-back_alike (changes.Attributes h old new) d live = alike-trans d (with_attributes d h.0 new) _ (attributes_keeps d h.0 new) (attributes_keeps (with_attributes d h.0 new) h.0 old)
+back_alike (changes.Attributes h old new) d live =
+    let after = made (changes.Attributes h old new) d in
+    alike-trans d after _ (attributes_keeps d h.0 (fitted (is_heap d h.0) new)) (attributes_keeps after h.0 (fitted (is_heap after h.0) old))
 back_alike (changes.Map old new) d has = record { live = λ _. refl; map_block = sym has.stands }
 
 -- So it is of lists of changes: the newest of one is made, and is the newest of the other.
@@ -321,7 +325,7 @@ made_known (changes.BlocksIn ms) d known are =
     put_all_known (saved_blocks ms.list.items) d (λ i p within. (free i p within).handle) known
 made_known (changes.BlocksOut ms) d known can = taken_all_known (handles_of (saved_blocks ms.list.items)) d can.others known
 made_known (changes.Part h part) d known live = alike_known d (made (changes.Part h part) d) (part_keeps d h.0 part live) known
-made_known (changes.Attributes h old new) d known live = alike_known d (with_attributes d h.0 new) (attributes_keeps d h.0 new) known
+made_known (changes.Attributes h old new) d known live = alike_known d (made (changes.Attributes h old new) d) (attributes_keeps d h.0 (fitted (is_heap d h.0) new)) known
 made_known (changes.Map old new) d known has = record {
   handles = known.handles;
   map_block = elim (cases_eq new.0 0) [

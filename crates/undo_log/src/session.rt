@@ -549,6 +549,19 @@ impl<S: Store> Session<S> {
         self.blocks.map_block()
     }
 
+    /// The type of a heap. NoBlock, WrongKind.
+    pub fn heap_type(&self, block: VmHandle) -> Result<u16, Fault>
+        ensures { (target : Bool) → Step false (machine_of target self.now) (Some (commands.HeapType block)) (reply_by NumberIs result) (machine_of target self.now) }
+    {
+        if !self.blocks.is_live(block) {
+            return Err(Fault::NoBlock);
+        }
+        if !self.blocks.is_heap(block) {
+            return Err(Fault::WrongKind);
+        }
+        Ok(self.blocks.attributes(block).heap_type)
+    }
+
     /// A block's user ID and size.
     pub fn info(&mut self, block: VmHandle) -> Result<Info, Fault>
         ensures { Looks S.facts self.old self.new (commands.Info block) (reply_by info_is result) }
