@@ -9,7 +9,7 @@ use Rattle.geos_model.specs.declared.command.Edit.TheVariants as edits
 use Rattle.geos_model.specs.declared.command.Command.TheVariants as commands
 use Rattle.geos_model.specs.declared.handle.VmHandle.{VmHandle}
 use Rattle.geos_model.specs.declared.handle.ChunkHandle.{ChunkHandle}
-use Rattle.geos_shell.specs.Verbs.{takes, takes_on_chunk, alone, on_block, make, plain, single, on_token, with_bytes, pair, put, change}
+use Rattle.geos_shell.specs.Verbs.{takes, takes_on_chunk, alone, on_block, set_word, make, plain, single, on_token, with_bytes, pair, put, change}
 use Rattle.geos_shell.specs.declared.shapes.OnChunk.{OnChunk}
 use Rattle.geos_shell.specs.declared.shapes.OnChunk.TheVariants as on_chunks
 use Rattle.geos_shell.specs.declared.verbs.Verb.{Verb}
@@ -77,12 +77,12 @@ verb_words verbs.NewRaw = 2
 verb_words verbs.NewHeap = 1
 verb_words verbs.WriteRaw = 3
 verb_words verbs.Attach = 2
-verb_words verbs.SetUserId = 2
 verb_words verbs.CreateArray = 3
 verb_words verbs.Find = 2
 verb_words verbs.ChainEqual = 2
 verb_words (verbs.Alone verb) = 0
 verb_words (verbs.Block verb) = 1
+verb_words (verbs.SetWord verb) = 2
 verb_words (verbs.Make verb) = 2
 verb_words (verbs.Chunk verb) = suc (suc (on_chunk_words verb))
 
@@ -91,12 +91,12 @@ verb_few verbs.NewRaw = omega arith
 verb_few verbs.NewHeap = omega arith
 verb_few verbs.WriteRaw = omega arith
 verb_few verbs.Attach = omega arith
-verb_few verbs.SetUserId = omega arith
 verb_few verbs.CreateArray = omega arith
 verb_few verbs.Find = omega arith
 verb_few verbs.ChainEqual = omega arith
 verb_few (verbs.Alone verb) = omega arith
 verb_few (verbs.Block verb) = omega arith
+verb_few (verbs.SetWord verb) = omega arith
 verb_few (verbs.Make verb) = omega arith
 verb_few (verbs.Chunk verb) = let few = on_chunk_few verb in omega arith
 
@@ -105,12 +105,12 @@ verb_taken verbs.NewRaw = two_taken user_id number (λ u n. commands.Edit (edits
 verb_taken verbs.NewHeap = one_taken user_id (λ u. commands.Edit (edits.NewHeap u))
 verb_taken verbs.WriteRaw = three_taken block number bytes (λ b at bs. commands.Edit (edits.WriteRaw b at bs))
 verb_taken verbs.Attach = two_taken block bytes (λ b bs. commands.Edit (edits.Attach b bs))
-verb_taken verbs.SetUserId = two_taken block user_id (λ b u. commands.Edit (edits.SetUserId b u))
 verb_taken verbs.CreateArray = three_taken block number number (λ b e x. commands.Edit (edits.CreateArray b e x))
 verb_taken verbs.Find = two_taken user_id block (λ u b. commands.Find u b)
 verb_taken verbs.ChainEqual = two_taken block block (λ b other. commands.ChainEqual b other)
 verb_taken (verbs.Alone verb) = none_taken (alone verb)
 verb_taken (verbs.Block verb) = one_taken block (on_block verb)
+verb_taken (verbs.SetWord verb) = two_taken block user_id (set_word verb)
 verb_taken (verbs.Make verb) = two_taken block number (make verb)
 verb_taken (verbs.Chunk verb) =
     operand_taken block (λ b. operand chunk (λ c. takes_on_chunk verb b c)) (suc (on_chunk_words verb))

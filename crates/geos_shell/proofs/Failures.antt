@@ -89,6 +89,7 @@ module _ {S : Type 0} (facts : S → StoreFacts) where
   after_files old new (Some commands.SaveAs) reply files so = after_save_as old new old.target reply refl files so
   after_files old new (Some commands.Begin) reply files so = after_passes old new (nothing_of old new files) so
   after_files old new (Some commands.End) reply files so = after_passes old new (nothing_of old new files) so
+  after_files old new (Some (commands.HeapType b)) reply files so = after_passes old new (nothing_of old new files) so
   after_files old new (Some commands.List) reply files so = after_passes old new (nothing_of old new files) so
   after_files old new (Some (commands.Find uid start)) reply files so = after_passes old new (nothing_of old new files) so
   after_files old new (Some commands.MapBlock) reply files so = after_passes old new (nothing_of old new files) so

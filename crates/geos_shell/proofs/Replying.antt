@@ -36,6 +36,7 @@ module _ {S : Type 0} (facts : S → StoreFacts) where
   leaves commands.End old new reply asks stays nothing = cc asks
   leaves (commands.Unlock b) old new reply asks stays nothing = cc asks
   leaves (commands.Dirty b) old new reply asks stays nothing = cc asks
+  leaves (commands.HeapType b) old new reply asks stays nothing = stays refl
   leaves commands.List old new reply asks stays nothing = stays refl
   leaves (commands.Find uid start) old new reply asks stays nothing = stays refl
   leaves commands.MapBlock old new reply asks stays nothing = stays refl

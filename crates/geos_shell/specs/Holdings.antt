@@ -104,6 +104,7 @@ LeavesFiles facts old (Some commands.Revert) reply new = CommitsAsTold facts (ol
 LeavesFiles facts old (Some commands.SaveAs) reply new = SavesAs facts old old.target reply new
 LeavesFiles facts old (Some commands.Begin) reply new = Stays old new
 LeavesFiles facts old (Some commands.End) reply new = Stays old new
+LeavesFiles facts old (Some (commands.HeapType b)) reply new = Stays old new
 LeavesFiles facts old (Some commands.List) reply new = Stays old new
 LeavesFiles facts old (Some (commands.Find uid start)) reply new = Stays old new
 LeavesFiles facts old (Some commands.MapBlock) reply new = Stays old new

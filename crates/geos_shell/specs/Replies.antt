@@ -47,6 +47,7 @@ asks_chain command = asks_array command
 -- a command that only asks
 abbrev pub is_look_up : Command → Bool
 is_look_up (commands.Info b) = true
+is_look_up (commands.HeapType b) = true
 is_look_up commands.List = true
 is_look_up (commands.Find uid start) = true
 is_look_up commands.MapBlock = true
@@ -60,6 +61,7 @@ is_look_up command = asks_chain command
 
 -- a command that asks of no block's body
 abbrev pub asks_no_body : Command → Bool
+asks_no_body (commands.HeapType b) = true
 asks_no_body commands.List = true
 asks_no_body (commands.Find uid start) = true
 asks_no_body commands.MapBlock = true

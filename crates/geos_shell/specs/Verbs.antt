@@ -12,6 +12,8 @@ use Rattle.geos_shell.specs.declared.shapes.Alone.{Alone}
 use Rattle.geos_shell.specs.declared.shapes.Alone.TheVariants as alones
 use Rattle.geos_shell.specs.declared.shapes.OnBlock.{OnBlock}
 use Rattle.geos_shell.specs.declared.shapes.OnBlock.TheVariants as on_blocks
+use Rattle.geos_shell.specs.declared.shapes.SetWord.{SetWord}
+use Rattle.geos_shell.specs.declared.shapes.SetWord.TheVariants as set_words
 use Rattle.geos_shell.specs.declared.shapes.Make.{Make}
 use Rattle.geos_shell.specs.declared.shapes.Make.TheVariants as makes
 use Rattle.geos_shell.specs.declared.shapes.OnChunk.{OnChunk}
@@ -55,6 +57,7 @@ on_block on_blocks.Free b = commands.Edit (edits.FreeBlock b)
 on_block on_blocks.Copy b = commands.Edit (edits.CopyBlock b)
 on_block on_blocks.SetMap b = commands.Edit (edits.SetMap b)
 on_block on_blocks.Info b = commands.Info b
+on_block on_blocks.HeapType b = commands.HeapType b
 on_block on_blocks.Read b = commands.ReadRaw b
 on_block on_blocks.Chunks b = commands.Chunks b
 on_block on_blocks.CopyChain b = commands.Edit (edits.CopyChain b)
@@ -65,6 +68,10 @@ on_block on_blocks.Lock b = commands.Lock b
 on_block on_blocks.Unlock b = commands.Unlock b
 on_block on_blocks.Dirty b = commands.Dirty b
 on_block on_blocks.Locks b = commands.Locks b
+
+abbrev pub set_word : SetWord → VmHandle → ℕ → Command
+set_word set_words.UserId b word = commands.Edit (edits.SetUserId b word)
+set_word set_words.HeapType b word = commands.Edit (edits.SetType b word)
 
 abbrev pub make : Make → VmHandle → ℕ → Command
 make makes.Chunk b n = commands.Edit (edits.Alloc b n)
@@ -131,12 +138,12 @@ takes verbs.NewRaw = with_2 user_id number (λ u n. commands.Edit (edits.NewRaw 
 takes verbs.NewHeap = with_1 user_id (λ u. commands.Edit (edits.NewHeap u))
 takes verbs.WriteRaw = with_3 block number bytes (λ b at bs. commands.Edit (edits.WriteRaw b at bs))
 takes verbs.Attach = with_2 block bytes (λ b bs. commands.Edit (edits.Attach b bs))
-takes verbs.SetUserId = with_2 block user_id (λ b u. commands.Edit (edits.SetUserId b u))
 takes verbs.CreateArray = with_3 block number number (λ b e x. commands.Edit (edits.CreateArray b e x))
 takes verbs.Find = with_2 user_id block (λ u b. commands.Find u b)
 takes verbs.ChainEqual = with_2 block block (λ b other. commands.ChainEqual b other)
 takes (verbs.Alone verb) = with_none (alone verb)
 takes (verbs.Block verb) = with_1 block (on_block verb)
+takes (verbs.SetWord verb) = with_2 block user_id (set_word verb)
 takes (verbs.Make verb) = with_2 block number (make verb)
 takes (verbs.Chunk verb) = operand block (λ b. operand chunk (λ c. takes_on_chunk verb b c))
 

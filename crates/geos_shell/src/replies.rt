@@ -128,6 +128,7 @@ fn push_look_up<S: Store>(
 {
     match look_up {
         Command::Info(block) => text::push_info(alloc, out, session.info(*block)),
+        Command::HeapType(block) => text::push_heap_type(alloc, out, session.heap_type(*block)),
         Command::List => text::push_blocks(alloc, out, session.list()),
         Command::Find(user_id, start) => text::push_found(out, session.find(*user_id, *start)),
         Command::MapBlock => text::push_block(out, session.map_block()),

@@ -1,7 +1,7 @@
 //! The commands by the kinds of operands that they take.
 ghost use Rattle.std.specs.Prelude.{◌≡◌, map};
 ghost use Rattle.geos_shell.specs.Reading.{Reads, command_has_bytes};
-ghost use Rattle.geos_shell.specs.Verbs.{takes, takes_on_chunk, alone, on_block, make, plain, single, on_token, with_bytes, pair, put, change};
+ghost use Rattle.geos_shell.specs.Verbs.{takes, takes_on_chunk, alone, on_block, set_word, make, plain, single, on_token, with_bytes, pair, put, change};
 ghost use Rattle.geos_shell.specs.declared.shapes.OnChunk.TheVariants as on_chunks;
 ghost use Rattle.geos_shell.specs.declared.verbs.Verb.TheVariants as verbs;
 
@@ -65,6 +65,7 @@ pub(crate) enum OnBlock {
     Copy,
     SetMap,
     Info,
+    HeapType,
     Read,
     Chunks,
     CopyChain,
@@ -86,6 +87,7 @@ impl OnBlock {
             Self::Copy => Command::Edit(Edit::CopyBlock(block)),
             Self::SetMap => Command::Edit(Edit::SetMap(block)),
             Self::Info => Command::Info(block),
+            Self::HeapType => Command::HeapType(block),
             Self::Read => Command::ReadRaw(block),
             Self::Chunks => Command::Chunks(block),
             Self::CopyChain => Command::Edit(Edit::CopyChain(block)),
@@ -106,6 +108,33 @@ impl OnBlock {
             return Err(Fault::BadCommand);
         };
         Ok(self.command(block(first)?))
+    }
+}
+
+/// A block and the word that it gets.
+#[derive(Clone, Copy)]
+pub(crate) enum SetWord {
+    UserId,
+    HeapType,
+}
+
+impl SetWord {
+    fn command(self, block: VmHandle, word: u16) -> Command
+        ensures { result ≡ set_word self block word }
+    {
+        Command::Edit(match self {
+            Self::UserId => Edit::SetUserId(block, word),
+            Self::HeapType => Edit::SetType(block, word),
+        })
+    }
+
+    pub(crate) fn read(self, operands: &[&[u8]]) -> Result<Command, Fault>
+        ensures { Reads command_has_bytes (takes (verbs.SetWord self) (map (λ w. w.now) operands.now)) result }
+    {
+        let [first, second] = operands else {
+            return Err(Fault::BadCommand);
+        };
+        Ok(self.command(block(first)?, user_id(second)?))
     }
 }
 
@@ -476,15 +505,6 @@ pub(crate) fn attach(alloc: Global, operands: &[&[u8]]) -> Result<Command, Fault
         return Err(Fault::BadCommand);
     };
     Ok(Command::Edit(Edit::Attach(block(first)?, bytes(alloc, second)?)))
-}
-
-pub(crate) fn set_user_id(operands: &[&[u8]]) -> Result<Command, Fault>
-    ensures { Reads command_has_bytes (takes verbs.SetUserId (map (λ w. w.now) operands.now)) result }
-{
-    let [first, second] = operands else {
-        return Err(Fault::BadCommand);
-    };
-    Ok(Command::Edit(Edit::SetUserId(block(first)?, user_id(second)?)))
 }
 
 pub(crate) fn create_array(operands: &[&[u8]]) -> Result<Command, Fault>

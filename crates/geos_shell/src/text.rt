@@ -127,6 +127,20 @@ pub(crate) fn push_lock_count(
     }
 }
 
+pub(crate) fn push_heap_type(
+    alloc: Global,
+    out: &mut Vec<u8>,
+    heap_type: Result<u16, Fault>,
+) -> Result<(), AllocError>
+    ensures ok { OnOk result (out.new.items ≡ out.old.items ++ reply_text (reply_by NumberIs heap_type)) }
+    ensures err { OnErr result (Extends out.old.items out.new.items) }
+{
+    match heap_type {
+        Ok(heap_type) => push_count(alloc, out, usize::from(heap_type)),
+        Err(fault) => push_refusal(alloc, out, fault),
+    }
+}
+
 pub(crate) fn push_array_count(
     alloc: Global,
     out: &mut Vec<u8>,

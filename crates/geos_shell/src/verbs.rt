@@ -4,7 +4,8 @@ ghost use Rattle.geos_shell.specs.Verbs.{command_named, rows, takes};
 ghost use Rattle.geos_model.specs.Script.{by_name};
 
 use crate::shapes::{
-    self, Alone, Change, Make, OnBlock, OnChunk, OnToken, Pair, Plain, Put, Single, WithBytes,
+    self, Alone, Change, Make, OnBlock, OnChunk, OnToken, Pair, Plain, Put, SetWord, Single,
+    WithBytes,
 };
 use geos_model::{Command, Fault};
 use std::alloc::Global;
@@ -16,25 +17,26 @@ pub(crate) enum Verb {
     NewHeap,
     WriteRaw,
     Attach,
-    SetUserId,
     CreateArray,
     Find,
     ChainEqual,
     Alone(Alone),
     Block(OnBlock),
+    SetWord(SetWord),
     Make(Make),
     Chunk(OnChunk),
 }
 
 /// Each verb by its name.
-const VERBS: [(&[u8], Verb); 68] = [
+const VERBS: [(&[u8], Verb); 70] = [
     (b"newraw", Verb::NewRaw),
     (b"newheap", Verb::NewHeap),
     (b"vfree", Verb::Block(OnBlock::Free)),
     (b"vcopy", Verb::Block(OnBlock::Copy)),
     (b"vwrite", Verb::WriteRaw),
     (b"attach", Verb::Attach),
-    (b"uid", Verb::SetUserId),
+    (b"uid", Verb::SetWord(SetWord::UserId)),
+    (b"settype", Verb::SetWord(SetWord::HeapType)),
     (b"map", Verb::Block(OnBlock::SetMap)),
     (b"alloc", Verb::Make(Make::Chunk)),
     (b"free", Verb::Chunk(OnChunk::Plain(Plain::Free))),
@@ -76,6 +78,7 @@ const VERBS: [(&[u8], Verb); 68] = [
     (b"revert", Verb::Alone(Alone::Revert)),
     (b"saveas", Verb::Alone(Alone::SaveAs)),
     (b"info", Verb::Block(OnBlock::Info)),
+    (b"gettype", Verb::Block(OnBlock::HeapType)),
     (b"list", Verb::Alone(Alone::List)),
     (b"find", Verb::Find),
     (b"mapblock", Verb::Alone(Alone::MapBlock)),
@@ -143,12 +146,12 @@ pub(crate) fn command_of(alloc: Global, verb: Verb, operands: &[&[u8]]) -> Resul
         Verb::NewHeap => shapes::new_heap(operands),
         Verb::WriteRaw => shapes::write_raw(alloc, operands),
         Verb::Attach => shapes::attach(alloc, operands),
-        Verb::SetUserId => shapes::set_user_id(operands),
         Verb::CreateArray => shapes::create_array(operands),
         Verb::Find => shapes::find(operands),
         Verb::ChainEqual => shapes::chain_equal(operands),
         Verb::Alone(verb) => verb.read(operands),
         Verb::Block(verb) => verb.read(operands),
+        Verb::SetWord(verb) => verb.read(operands),
         Verb::Make(verb) => verb.read(operands),
         Verb::Chunk(verb) => verb.read(alloc, operands),
     }

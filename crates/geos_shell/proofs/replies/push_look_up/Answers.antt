@@ -25,6 +25,9 @@ returns-in-Chunks-clause-told g c = rw c.in-Chunks.is (told g.S.Store.facts c.pu
 pub returns-in-Read-clause-told : goal.returns-in-Read-clause-told
 returns-in-Read-clause-told g c = rw c.in-Read.is (told g.S.Store.facts c.push_bytes-in-Read.result _ _ _ _ c.args.session.now c.read_chunk.follows.lender-at-none c.read_chunk.follows.holds-at-none.step (kept_passes g.S.Store.facts _ _ c.read_chunk.follows.holds-at-none.keeps) c.push_bytes-in-Read.ensures.ok)
 
+pub returns-in-HeapType-clause-told : goal.returns-in-HeapType-clause-told
+returns-in-HeapType-clause-told g c = rw c.in-HeapType.is (told_at_rest g.S.Store.facts c.push_heap_type.result _ _ _ _ c.args.session.now c.heap_type.ensures c.push_heap_type.ensures.ok)
+
 pub returns-in-Locks-clause-told : goal.returns-in-Locks-clause-told
 returns-in-Locks-clause-told g c = rw c.in-Locks.is (told_at_rest g.S.Store.facts c.push_lock_count.result _ _ _ _ c.args.session.now c.locks.ensures c.push_lock_count.ensures.ok)
 
