@@ -21,7 +21,30 @@ pub(crate) fn raw_block(alloc: Global, handle: u16, body: &[u8]) -> Result<Membe
     }
     Ok(Member {
         handle: VmHandle(handle),
-        block: SavedBlock::new(Attributes { user_id: handle }, Image::of_raw(alloc, body)?),
+        block: SavedBlock::new(
+            Attributes {
+                user_id: handle,
+                heap_type: 0,
+            },
+            Image::of_raw(alloc, body)?,
+        ),
+    })
+}
+
+/// An empty heap. Range where there can be none like it.
+pub(crate) fn heap_block(alloc: Global, handle: u16, heap_type: u16) -> Result<Member, Fault>
+    ensures { IfOk result IsPut }
+{
+    if handle == 0 || handle > MOST_BLOCKS {
+        return Err(Fault::Range);
+    }
+    let attributes = Attributes {
+        user_id: handle,
+        heap_type,
+    };
+    Ok(Member {
+        handle: VmHandle(handle),
+        block: SavedBlock::empty_heap(alloc, attributes)?,
     })
 }
 
@@ -43,6 +66,17 @@ pub(crate) fn put<S: Store>(
     body: &[u8],
 ) -> Result<(), Fault> {
     let block = raw_block(alloc, handle, body)?;
+    put_block(cache, block)
+}
+
+/// Puts an empty heap into the document. Range where it is in memory, or there can be none like it.
+pub(crate) fn put_heap<S: Store>(
+    alloc: Global,
+    cache: &mut Cache<S>,
+    handle: u16,
+    heap_type: u16,
+) -> Result<(), Fault> {
+    let block = heap_block(alloc, handle, heap_type)?;
     put_block(cache, block)
 }
 
@@ -121,17 +155,46 @@ pub(crate) fn set<S: Store>(cache: &mut Cache<S>, handle: u16, bytes: &[u8]) -> 
     ensures { cache.new.disk ≡ cache.old.disk }
 {
     let block = VmHandle(handle);
-    if !cache.is_resident(block) || bytes.len() > CAPACITY {
+    if !cache.is_resident(block) || !cache.is_live(block) || bytes.len() > CAPACITY {
         return Err(Fault::Range);
     }
-    match cache.body_mut(block) {
-        BlockBody::Raw(raw) => {
-            let length = raw.bytes().len();
-            raw.replace(0, length, bytes);
-            Ok(())
-        }
-        BlockBody::Heap(_) => Err(Fault::Range),
+    if cache.is_heap(block) {
+        return Err(Fault::Range);
     }
+    let raw = cache.raw_mut(block);
+    let length = raw.bytes().len();
+    raw.replace(0, length, bytes);
+    Ok(())
+}
+
+/// The type of a block, in memory or not, `None` where it isn't live.
+pub(crate) fn type_of<S: Store>(cache: &Cache<S>, handle: u16) -> Option<u16> {
+    let block = VmHandle(handle);
+    if !cache.is_live(block) {
+        return None;
+    }
+    Some(cache.attributes(block).heap_type)
+}
+
+/// Gives a heap another type, in memory or not. NoBlock where it isn't live; WrongKind where it is raw.
+pub(crate) fn set_type<S: Store>(
+    cache: &mut Cache<S>,
+    handle: u16,
+    heap_type: u16,
+) -> Result<(), Fault> {
+    let block = VmHandle(handle);
+    if !cache.is_live(block) {
+        return Err(Fault::NoBlock);
+    }
+    if !cache.is_heap(block) {
+        return Err(Fault::WrongKind);
+    }
+    let attributes = Attributes {
+        heap_type,
+        ..cache.attributes(block)
+    };
+    cache.set_attributes(block, attributes);
+    Ok(())
 }
 
 /// Whether the document has blocks under these handles alone.

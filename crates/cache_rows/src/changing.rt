@@ -1,7 +1,8 @@
 // Blocks that come into a document and go from it, and documents that move to another file.
 use crate::calls::{created, save_as};
 use crate::steps::Step::{
-    Finds, Has, IsAway, Lists, Load, NextHandle, NoLoad, Put, Remove, Save, Set, Update,
+    Finds, Has, HasType, IsAway, Lists, Load, NextHandle, NoLoad, Put, PutHeap, Remove, Save, Set,
+    SetType, Update,
 };
 use crate::steps::{Departure, Step, closed, kept, made, take};
 use block_cache::Cache;
@@ -56,13 +57,15 @@ fn the_handles_are_those_in_memory_and_not(rt: HostRuntime) -> Result<(), Fail> 
     Ok(())
 }
 
-// A saved document of two blocks, the first of them in memory and changed since.
-const TWO: [Step; 5] = [
+// A saved document of two raw blocks and a heap: the first is in memory and changed since, and the heap has another type.
+const THREE: [Step; 7] = [
     Put(1, b"one"),
     Put(2, b"two"),
+    PutHeap(3, 4_660),
     Save,
     Load(1),
     Set(1, b"changed"),
+    SetType(3, 1),
 ];
 
 // A new store in memory of which so many calls succeed.
@@ -72,7 +75,7 @@ fn fused(alloc: Global, passes: u64) -> Fused {
 
 // Begins that document, and makes another file of it, where it goes on. Returns the file so far.
 fn go_on(alloc: Global, cache: &mut Cache<Fused>) -> Result<Fused, Departure> {
-    take(alloc, cache, &TWO)?;
+    take(alloc, cache, &THREE)?;
     let so_far = save_as(cache, fused(alloc, u64::MAX)).map_err(Departure::NoCopy)?;
     take(
         alloc,
@@ -97,19 +100,22 @@ fn both_files(alloc: Global) -> Result<(Fused, Fused), Departure> {
 fn a_save_as_goes_on_in_the_other_file(rt: HostRuntime) -> Result<(), Fail> {
     let alloc = rt.alloc();
     let (so_far, other) = both_files(alloc)?;
-    kept(alloc, so_far, 2, &[Load(1), Has(1, b"one")])?;
-    kept(
-        alloc,
-        other,
-        2,
-        &[Load(1), Load(2), Has(1, b"later"), Has(2, b"two")],
-    )?;
+    let steps = [Load(1), Has(1, b"one"), HasType(3, 4_660)];
+    kept(alloc, so_far, 2, &steps)?;
+    let steps = [
+        Load(1),
+        Load(2),
+        Has(1, b"later"),
+        Has(2, b"two"),
+        HasType(3, 1),
+    ];
+    kept(alloc, other, 2, &steps)?;
     Ok(())
 }
 
 // Begins that document, and makes no other file of it over stores that fail, so that it stays in its own.
 fn stay(alloc: Global, cache: &mut Cache<Fused>) -> Result<(), Departure> {
-    take(alloc, cache, &TWO)?;
+    take(alloc, cache, &THREE)?;
     for passes in 0..6 {
         if save_as(cache, fused(alloc, passes)).is_ok() {
             return Err(Departure::Copied(passes));

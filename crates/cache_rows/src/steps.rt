@@ -1,10 +1,10 @@
 // Work on a cache as a row of steps, and where it went another way.
 use crate::calls::{
-    created, found, has, is_there, lists, load, lock, next_handle, opened, put, remove, revert,
-    save, set, update,
+    created, found, has, is_there, lists, load, lock, next_handle, opened, put, put_heap, remove,
+    revert, save, set, set_type, type_of, update,
 };
 use block_cache::Cache;
-use geos_model::Fault;
+use geos_model::{Fault, VmHandle};
 use std::alloc::Global;
 use vm_store::Store;
 
@@ -13,6 +13,8 @@ use vm_store::Store;
 pub(crate) enum Step {
     /// A raw block comes into the document.
     Put(u16, &'static [u8]),
+    /// An empty heap of a type comes into the document.
+    PutHeap(u16, u16),
     Remove(u16),
     Load(u16),
     /// A look-up of a block is refused.
@@ -20,11 +22,17 @@ pub(crate) enum Step {
     Lock(u16),
     /// A raw block in memory gets other bytes.
     Set(u16, &'static [u8]),
+    /// A heap, in memory or not, gets another type.
+    SetType(u16, u16),
+    /// A block in memory is written when it goes.
+    Dirty(u16),
     Update,
     Save,
     Revert,
     /// A block is in memory, raw, and has these bytes.
     Has(u16, &'static [u8]),
+    /// A block has this type, in memory or not.
+    HasType(u16, u16),
     /// A block isn't in memory.
     IsAway(u16),
     /// The handles of all blocks.
@@ -53,15 +61,19 @@ pub(crate) enum Departure {
 fn take_step<S: Store>(alloc: Global, cache: &mut Cache<S>, step: Step) -> Result<bool, Fault> {
     match step {
         Step::Put(handle, body) => put(alloc, cache, handle, body)?,
+        Step::PutHeap(handle, heap_type) => put_heap(alloc, cache, handle, heap_type)?,
         Step::Remove(handle) => remove(cache, handle)?,
         Step::Load(handle) => load(cache, handle)?,
         Step::NoLoad(handle, fault) => return Ok(load(cache, handle) == Err(fault)),
         Step::Lock(handle) => lock(cache, handle)?,
         Step::Set(handle, body) => set(cache, handle, body)?,
+        Step::SetType(handle, heap_type) => set_type(cache, handle, heap_type)?,
+        Step::Dirty(handle) => cache.dirty(VmHandle(handle)),
         Step::Update => update(cache)?,
         Step::Save => save(cache)?,
         Step::Revert => revert(cache)?,
         Step::Has(handle, body) => return Ok(has(cache, handle, body)),
+        Step::HasType(handle, heap_type) => return Ok(type_of(cache, handle) == Some(heap_type)),
         Step::IsAway(handle) => return Ok(!is_there(cache, handle)),
         Step::Lists(handles) => return lists(cache, handles),
         Step::NextHandle(handle) => return Ok(next_handle(cache) == handle),

@@ -1,5 +1,8 @@
 // Caches with few frames over files in memory.
-use crate::steps::Step::{Has, IsAway, Load, Lock, NoLoad, Put, Revert, Save, Set, Update};
+use crate::steps::Step::{
+    Dirty, Has, HasType, IsAway, Load, Lock, NoLoad, Put, PutHeap, Revert, Save, Set, SetType,
+    Update,
+};
 use crate::steps::{Departure, Step, kept, made};
 use geos_model::Fault;
 use std::alloc::Global;
@@ -107,5 +110,43 @@ fn a_revert_takes_all_changes_back(rt: HostRuntime) -> Result<(), Fail> {
         Has(1, b"one"),
     ];
     changed(rt.alloc(), &steps)?;
+    Ok(())
+}
+
+// A saved heap of a type, beside a raw block.
+const TYPED: [Step; 3] = [PutHeap(1, 4_660), Put(2, b"two"), Save];
+
+// In the one frame it gets another type and goes, and away from there it gets a third one and comes back.
+const RETYPED: [Step; 14] = [
+    Load(1),
+    HasType(1, 4_660),
+    SetType(1, 1),
+    Dirty(1),
+    Load(2),
+    IsAway(1),
+    HasType(1, 1),
+    SetType(1, 65_535),
+    Load(1),
+    HasType(1, 65_535),
+    HasType(2, 0),
+    Update,
+    SetType(1, 9),
+    HasType(1, 9),
+];
+
+// What is updated, and what is saved.
+const TYPES: [Step; 5] = [
+    HasType(1, 65_535),
+    Load(1),
+    Revert,
+    HasType(1, 4_660),
+    HasType(2, 0),
+];
+
+#[test]
+fn a_type_stays_where_its_heap_goes_and_comes_back(rt: HostRuntime) -> Result<(), Fail> {
+    let alloc = rt.alloc();
+    let file = made(alloc, MemStore::new(alloc), 1, &TYPED, &RETYPED)?;
+    kept(alloc, file, 1, &TYPES)?;
     Ok(())
 }

@@ -37,12 +37,18 @@ pub(crate) fn raw_block(
     }
     Ok(Member {
         handle: VmHandle(handle),
-        block: SavedBlock::new(Attributes { user_id }, Image::of_raw(alloc, body)?),
+        block: SavedBlock::new(
+            Attributes {
+                user_id,
+                heap_type: 0,
+            },
+            Image::of_raw(alloc, body)?,
+        ),
     })
 }
 
 /// A block of a heap. Range where there can be none like it.
-pub(crate) fn heap_block(handle: u16, user_id: u16, heap: &Heap) -> Result<Member, Fault>
+pub(crate) fn heap_block(handle: u16, attributes: Attributes, heap: &Heap) -> Result<Member, Fault>
     ensures { IfOk result IsPut }
 {
     if handle == 0 || handle > MOST_BLOCKS {
@@ -50,7 +56,7 @@ pub(crate) fn heap_block(handle: u16, user_id: u16, heap: &Heap) -> Result<Membe
     }
     Ok(Member {
         handle: VmHandle(handle),
-        block: SavedBlock::new(Attributes { user_id }, Image::of_heap(heap)?),
+        block: SavedBlock::new(attributes, Image::of_heap(heap)?),
     })
 }
 
@@ -81,6 +87,17 @@ pub(crate) fn put<S: Store>(
     body: &[u8],
 ) -> Result<(), Fault> {
     let block = raw_block(alloc, handle, user_id, body)?;
+    file.put_blocks(&[block], &[])
+}
+
+/// Puts an empty heap into the document.
+pub(crate) fn put_heap<S: Store>(
+    alloc: Global,
+    file: &mut VmFile<S>,
+    handle: u16,
+    attributes: Attributes,
+) -> Result<(), Fault> {
+    let block = heap_block(handle, attributes, &Heap::new(alloc)?)?;
     file.put_blocks(&[block], &[])
 }
 
@@ -146,10 +163,24 @@ pub(crate) fn has<S: Store>(
     }
 }
 
-/// The user ID of a block, `None` where it isn't live.
-pub(crate) fn user_id_of<S: Store>(file: &VmFile<S>, handle: u16) -> Option<u16> {
+/// The attributes of a block, `None` where it isn't live.
+pub(crate) fn attributes_of<S: Store>(file: &VmFile<S>, handle: u16) -> Option<Attributes> {
     match file.entry(VmHandle(handle)) {
-        Some(place) => Some(place.attributes.user_id),
+        Some(place) => Some(place.attributes),
+        None => None,
+    }
+}
+
+pub(crate) fn user_id_of<S: Store>(file: &VmFile<S>, handle: u16) -> Option<u16> {
+    match attributes_of(file, handle) {
+        Some(attributes) => Some(attributes.user_id),
+        None => None,
+    }
+}
+
+pub(crate) fn type_of<S: Store>(file: &VmFile<S>, handle: u16) -> Option<u16> {
+    match attributes_of(file, handle) {
+        Some(attributes) => Some(attributes.heap_type),
         None => None,
     }
 }
@@ -159,12 +190,48 @@ pub(crate) fn set_user_id<S: Store>(
     handle: u16,
     user_id: u16,
 ) -> Result<(), Fault> {
+    match attributes_of(file, handle) {
+        Some(attributes) => set_attributes(
+            file,
+            handle,
+            Attributes {
+                user_id,
+                ..attributes
+            },
+        ),
+        None => Err(Fault::NoBlock),
+    }
+}
+
+pub(crate) fn set_type<S: Store>(
+    file: &mut VmFile<S>,
+    handle: u16,
+    heap_type: u16,
+) -> Result<(), Fault> {
+    match attributes_of(file, handle) {
+        Some(attributes) => set_attributes(
+            file,
+            handle,
+            Attributes {
+                heap_type,
+                ..attributes
+            },
+        ),
+        None => Err(Fault::NoBlock),
+    }
+}
+
+// WrongKind where a raw block would have a type.
+fn set_attributes<S: Store>(
+    file: &mut VmFile<S>,
+    handle: u16,
+    attributes: Attributes,
+) -> Result<(), Fault> {
     match file.entry(VmHandle(handle)) {
         Some(place) => {
-            let attributes = Attributes {
-                user_id,
-                ..place.attributes
-            };
+            if !place.is_heap && attributes.heap_type != 0 {
+                return Err(Fault::WrongKind);
+            }
             file.set_attributes(VmHandle(handle), attributes);
             Ok(())
         }
@@ -226,13 +293,23 @@ pub(crate) fn found<S: Store>(file: &VmFile<S>, user_id: u16, start: u16) -> Opt
     }
 }
 
-pub(crate) fn has_no_block<S: Store>(file: &VmFile<S>) -> bool {
+/// The first live block, 0 where there is none.
+pub(crate) fn first_block<S: Store>(file: &VmFile<S>) -> u16 {
     for handle in 1..=MOST_BLOCKS {
         if file.entry(VmHandle(handle)).is_some() {
-            return false;
+            return handle;
         }
     }
-    true
+    0
+}
+
+pub(crate) fn has_saved_block<S: Store>(file: &VmFile<S>) -> bool {
+    for handle in 1..=MOST_BLOCKS {
+        if file.saved_entry(VmHandle(handle)).is_some() {
+            return true;
+        }
+    }
+    false
 }
 
 /// Whether each commit is refused.

@@ -1,6 +1,8 @@
 // A document that is copied into another store.
 use crate::calls::{copy, create, first_other_byte, why};
-use crate::steps::Step::{Has, HasUserId, Lives, MapBlock, Put, Revert, Save, SetMap, Update};
+use crate::steps::Step::{
+    Has, HasType, HasUserId, Lives, MapBlock, Put, PutHeap, Revert, Save, SetMap, Update,
+};
 use crate::steps::{Departure, Step, closed, given_back, made, read, take};
 use geos_model::Fault;
 use std::alloc::Global;
@@ -15,7 +17,12 @@ fn fused(alloc: Global, passes: u64) -> Fused {
 }
 
 // Two blocks, of which the first is updated and the second lies in the file alone.
-const SOURCE: [Step; 4] = [Put(1, 7, b"ab"), Update, Put(3, 9, &[5; 512]), SetMap(3)];
+const SOURCE: [Step; 4] = [
+    PutHeap(1, 7, 4_660),
+    Update,
+    Put(3, 9, &[5; 512]),
+    SetMap(3),
+];
 
 // The file of that document.
 fn source(alloc: Global) -> Result<Fused, Departure> {
@@ -26,10 +33,10 @@ fn source(alloc: Global) -> Result<Fused, Departure> {
 fn copied_images() -> [u8; 2_560] {
     let mut bytes = [0; 2_560];
     bytes[..32].copy_from_slice(
-        b"GVMF\x01\x01\0\0\x01\0\0\0\0\0\0\0\x05\0\0\0\x30\0\0\0\x05\0\0\0\x30\0\0\0",
+        b"GVMF\x01\x02\0\0\x01\0\0\0\0\0\0\0\x05\0\0\0\x30\0\0\0\x05\0\0\0\x30\0\0\0",
     );
     bytes[512..516].copy_from_slice(b"GVMF");
-    bytes[1_024..1_027].copy_from_slice(b"\0ab");
+    bytes[1_024..1_027].copy_from_slice(b"\x01\0\0");
     bytes[1_537..2_049].fill(5);
     bytes
 }
@@ -37,18 +44,19 @@ fn copied_images() -> [u8; 2_560] {
 // Behind the images lies the directory.
 fn copied(alloc: Global) -> Result<Vec<u8>, Fault> {
     let mut bytes = copied_images().to_vec(alloc)?;
-    bytes.extend_from_slice(b"GDIR\x01\0\x02\0\x03\0\0\0\0\0\0\0")?;
-    bytes.extend_from_slice(b"\x01\0\x07\0\x02\0\0\0\x03\0\0\0\0\0\0\0")?;
+    bytes.extend_from_slice(b"GDIR\x02\0\x02\0\x03\0\0\0\0\0\0\0")?;
+    bytes.extend_from_slice(b"\x01\0\x07\0\x02\0\0\0\x03\0\0\0\x34\x12\0\0")?;
     bytes.extend_from_slice(b"\x03\0\x09\0\x03\0\0\0\x01\x02\0\0\0\0\0\0")?;
     Ok(bytes)
 }
 
 // The document that is copied.
-const COPIED: [Step; 5] = [
+const COPIED: [Step; 6] = [
     Lives(&[1, 3]),
     HasUserId(1, 7),
     HasUserId(3, 9),
-    Has(1, b"\0ab"),
+    HasType(1, 4_660),
+    Has(1, b"\x01\0\0"),
     MapBlock(3),
 ];
 
@@ -113,17 +121,19 @@ fn what_is_copied_stays(rt: HostRuntime) -> Result<(), Fail> {
 }
 
 // What a crash leaves of a copy, and what is saved there.
-const LEFT: [Step; 11] = [
+const LEFT: [Step; 13] = [
     Lives(&[1, 3]),
     HasUserId(1, 7),
     HasUserId(3, 9),
-    Has(1, b"\0ab"),
+    HasType(1, 4_660),
+    Has(1, b"\x01\0\0"),
     MapBlock(3),
     Revert,
     Lives(&[1, 3]),
     HasUserId(1, 7),
     HasUserId(3, 9),
-    Has(1, b"\0ab"),
+    HasType(1, 4_660),
+    Has(1, b"\x01\0\0"),
     MapBlock(3),
 ];
 

@@ -1,5 +1,6 @@
 // What a crash leaves while the store fails: the documents last acknowledged, or those of a commit that was tried since.
-use crate::calls::{create, image_of, open, put, revert, save, update};
+use crate::calls::{create, image_of, open, put, revert, save, update, why};
+use crate::example::{LENGTH, example, with};
 use crate::steps::closed;
 use geos_model::Fault;
 use std::alloc::Global;
@@ -334,5 +335,51 @@ fn a_crash_behind_any_step_leaves_what_was_tried_under_great_numbers(
     rt: HostRuntime,
 ) -> Result<(), Fail> {
     assert_eq!(rt; first_loss(rt.alloc(), 255)?, None);
+    Ok(())
+}
+
+// A file of version 1: the byte of the updated document is 0x61, and the saved one has no block.
+fn file_of_version_1() -> [u8; LENGTH] {
+    with(&example(1), 1_048, &[2])
+}
+
+const OF_VERSION_1: Pair = Pair {
+    updated: Some(0x61),
+    saved: None,
+};
+
+// The store calls that open it.
+const OPENING: u64 = 7;
+
+// The store of that file on which the steps were played, where its call after so many fails, and what may be read after a crash.
+fn played_on(alloc: Global, passes: u64, steps: &[Step]) -> Result<(Fused, Record), Fault> {
+    let store = MemStore::from_bytes(alloc, &file_of_version_1())?;
+    let mut record = Record::new(alloc);
+    record.live = OF_VERSION_1.updated;
+    record.acknowledged = OF_VERSION_1;
+    let mut file = VmFile::open(alloc, FuseStore::new(store, passes, false)).map_err(why)?;
+    let end = record.play(alloc, &mut file, steps);
+    Ok((closed(file, end)?, record))
+}
+
+// Whether each crash behind the steps leaves what it may leave.
+fn is_kept_on(alloc: Global, passes: u64, steps: &[Step]) -> Result<bool, Fault> {
+    let (store, record) = played_on(alloc, passes, steps)?;
+    Ok(record.stands(alloc, store.inner(), 0)? && record.stands(alloc, store.inner(), 255)?)
+}
+
+// A save and an update, each of which is made of a file whose slot is of version 1 where the one before failed.
+#[test]
+fn a_file_of_version_1_stands_until_a_commit_is_done(rt: HostRuntime) -> Result<(), Fail> {
+    let alloc = rt.alloc();
+    let (store, _) = played_on(alloc, u64::MAX, &STEPS[..4])?;
+    for passes in OPENING..=store.calls() {
+        for steps in 1..=4 {
+            assert!(rt;
+                is_kept_on(alloc, passes, &STEPS[..steps])?,
+                "call {passes} failed, {steps} steps"
+            );
+        }
+    }
     Ok(())
 }

@@ -8,13 +8,13 @@ use vm_file::VmFile;
 use vm_store::{FuseStore, MemStore};
 
 const SLOT: &[u8; 32] =
-    b"GVMF\x01\x01\0\0\x01\0\0\0\0\0\0\0\x02\0\0\0\x10\0\0\0\x02\0\0\0\x10\0\0\0";
+    b"GVMF\x01\x02\0\0\x01\0\0\0\0\0\0\0\x02\0\0\0\x10\0\0\0\x02\0\0\0\x10\0\0\0";
 
 fn made_bytes() -> [u8; 1_040] {
     let mut bytes = [0; 1_040];
     bytes[..32].copy_from_slice(SLOT);
     bytes[512..516].copy_from_slice(b"GVMF");
-    bytes[1_024..1_030].copy_from_slice(b"GDIR\x01\0");
+    bytes[1_024..1_030].copy_from_slice(b"GDIR\x02\0");
     bytes
 }
 

@@ -1,5 +1,6 @@
-// A file of two documents. The updated one has one block, handle 1, user ID 7, raw, with the bytes `ab`; it is the map block. The
-// saved one has no block.
+// A file of two documents, in each version of the format. The updated one has one block, handle 1, user ID 7, which is the map block;
+// the saved one has no block. In version 1 the block is raw, with the bytes `ab`. In version 2 it is an empty heap of the type 4660, of
+// which each byte tells.
 
 const SLOT: &[u8; 32] =
     b"GVMF\x01\x01\0\0\x05\0\0\0\0\0\0\0\x02\0\0\0\x20\0\0\0\x03\0\0\0\x10\0\0\0";
@@ -11,11 +12,29 @@ const SAVED: &[u8; 6] = b"GDIR\x01\0";
 
 pub(crate) const LENGTH: usize = 2_051;
 
-pub(crate) fn example() -> [u8; LENGTH] {
+/// That of version 1, or else of version 2.
+pub(crate) fn example(version: u8) -> [u8; LENGTH] {
     let mut bytes = [0; LENGTH];
     bytes[..32].copy_from_slice(SLOT);
     bytes[1_024..1_056].copy_from_slice(UPDATED);
     bytes[1_536..1_542].copy_from_slice(SAVED);
     bytes[2_048..].copy_from_slice(b"\0ab");
+    if version == 1 {
+        return bytes;
+    }
+    bytes[5] = 2;
+    bytes[1_028] = 2;
+    bytes[1_052..1_054].copy_from_slice(b"\x34\x12");
+    bytes[1_540] = 2;
+    bytes[2_048..].copy_from_slice(b"\x01\0\0");
     bytes
+}
+
+/// These bytes with others from a place on.
+pub(crate) fn with(bytes: &[u8; LENGTH], at: usize, others: &[u8]) -> [u8; LENGTH] {
+    let mut edited = *bytes;
+    for (byte, other) in edited.iter_mut().skip(at).zip(others) {
+        *byte = *other;
+    }
+    edited
 }

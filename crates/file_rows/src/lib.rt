@@ -26,4 +26,6 @@ mod room;
 #[cfg(test)]
 mod steps;
 #[cfg(test)]
+mod versions;
+#[cfg(test)]
 mod wearing;

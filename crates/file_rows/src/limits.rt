@@ -1,11 +1,11 @@
 // As much as a file can hold.
-use crate::calls::{create, has, heap_block, open, put, save, user_id_of};
+use crate::calls::{attributes_of, create, has, heap_block, open, put, save};
 use crate::steps::Step::{
     Finds, Has, IsFull, ListsLive, Lives, MapBlock, NextHandle, NoRemove, PutAll, Remove,
-    RemoveOthers, Revert, Save, SetMap, Update,
+    RemoveOthers, Revert, Save, SetMap, SetUserId, Update,
 };
 use crate::steps::{Departure, Step, closed, made, read};
-use geos_model::Fault;
+use geos_model::{Attributes, Fault};
 use lmem_heap::Heap;
 use std::alloc::Global;
 use std::test::Fail;
@@ -21,9 +21,9 @@ fn full_store(alloc: Global) -> Result<MemStore, Departure> {
 fn each_handle_has_a_block(rt: HostRuntime) -> Result<(), Fail> {
     let alloc = rt.alloc();
     let store = full_store(alloc)?;
-    // 2,050 pages with the slots and the first directory, and 64 whole ones and 16 bytes of the new one.
-    assert_eq!(rt; store.bytes().len(), (3 + 2_048 + 64) * 512 + 16);
-    let steps = [IsFull, Has(1, b"\0a"), Has(2_048, b"\0a")];
+    // The slots, the first directory, the images, and 256 whole pages and 16 bytes of the new directory.
+    assert_eq!(rt; store.bytes().len(), (3 + 8_192 + 256) * 512 + 16);
+    let steps = [IsFull, Has(1, b"\0a"), Has(8_192, b"\0a")];
     read(alloc, store.bytes(), &steps)?;
     Ok(())
 }
@@ -35,9 +35,9 @@ fn all_handles_are_listed(rt: HostRuntime) -> Result<(), Fail> {
     let steps = [
         ListsLive,
         NextHandle(None),
-        Finds(2_048, 0, Some(2_048)),
-        Remove(1_024),
-        NextHandle(Some(1_024)),
+        Finds(8_192, 0, Some(8_192)),
+        Remove(4_096),
+        NextHandle(Some(4_096)),
         ListsLive,
     ];
     read(alloc, store.bytes(), &steps)?;
@@ -45,10 +45,10 @@ fn all_handles_are_listed(rt: HostRuntime) -> Result<(), Fail> {
 }
 
 // All of them put again and updated, while none of the old ones may be written over, and once more and not updated.
-const AGAIN: [Step; 4] = [PutAll(b"b"), Update, PutAll(b"c"), Has(1_024, b"\0c")];
+const AGAIN: [Step; 4] = [PutAll(b"b"), Update, PutAll(b"c"), Has(4_096, b"\0c")];
 
 // What is updated and what is saved then.
-const UPDATED: [Step; 4] = [IsFull, Has(1_024, b"\0b"), Revert, Has(1_024, b"\0a")];
+const UPDATED: [Step; 4] = [IsFull, Has(4_096, b"\0b"), Revert, Has(4_096, b"\0a")];
 
 #[test]
 fn each_block_is_put_again(rt: HostRuntime) -> Result<(), Fail> {
@@ -56,6 +56,63 @@ fn each_block_is_put_again(rt: HostRuntime) -> Result<(), Fail> {
     let full = full_store(alloc)?;
     let store = read(alloc, full.bytes(), &AGAIN)?;
     read(alloc, store.bytes(), &UPDATED)?;
+    Ok(())
+}
+
+// What is done with a file of all blocks, in which page 2 and those from 8,452 on are free; a place in a slot, and the page that stands
+// there then for that of the updated directory; and the file's length.
+type Row = (&'static [Step], usize, u32, usize);
+
+const ROWS: [Row; 6] = [
+    // A directory of 257 pages goes behind all others, and the third one where the first was.
+    (&[SetUserId(1, 9), Update], 16, 8_452, 8_452 * 512 + 131_088),
+    (
+        &[SetUserId(1, 9), Update, Update],
+        528,
+        8_709,
+        8_709 * 512 + 131_088,
+    ),
+    (
+        &[SetUserId(1, 9), Update, Update, Update],
+        16,
+        8_452,
+        8_709 * 512 + 131_088,
+    ),
+    // The images too: the first at page 2, the others behind the directory, and those of the third time behind all.
+    (&AGAIN, 16, 16_643, 25_091 * 512 + 2),
+    // One block needs a directory of one page.
+    (
+        &[SetMap(9), RemoveOthers(9), Save],
+        16,
+        2,
+        8_195 * 512 + 131_088,
+    ),
+    // Around its image and its directory all that was given up is used again.
+    (
+        &[SetMap(9), RemoveOthers(9), Save, PutAll(b"b"), Save],
+        528,
+        8_196,
+        8_196 * 512 + 131_088,
+    ),
+];
+
+// Whether this page stands at a place.
+fn has_page(bytes: &[u8], at: usize, page: u32) -> bool {
+    match bytes.get(at..) {
+        Some(rest) => rest.starts_with(&page.to_le_bytes()),
+        None => false,
+    }
+}
+
+#[test]
+fn a_long_directory_takes_the_first_gap_of_257_pages(rt: HostRuntime) -> Result<(), Fail> {
+    let alloc = rt.alloc();
+    let full = full_store(alloc)?;
+    for (row, (steps, at, page, length)) in ROWS.into_iter().enumerate() {
+        let store = read(alloc, full.bytes(), steps)?;
+        assert!(rt; has_page(store.bytes(), at, page), "row {row}");
+        assert_eq!(rt; store.bytes().len(), length, "row {row}");
+    }
     Ok(())
 }
 
@@ -101,9 +158,14 @@ fn raw_bodies_have_up_to_65520_bytes(rt: HostRuntime) -> Result<(), Fail> {
     Ok(())
 }
 
+const TYPED: Attributes = Attributes {
+    user_id: 6,
+    heap_type: 65_535,
+};
+
 // Saves a heap in a block.
 fn save_heap(file: &mut VmFile<MemStore>, heap: &Heap) -> Result<(), Fault> {
-    file.put_blocks(&[heap_block(5, 6, heap)?], &[])?;
+    file.put_blocks(&[heap_block(5, TYPED, heap)?], &[])?;
     save(file)
 }
 
@@ -114,12 +176,16 @@ fn heap_file(alloc: Global, heap: &Heap) -> Result<MemStore, Fault> {
     closed(file, end)
 }
 
-// Whether that block has this image, and its user ID, in a file with these bytes.
-fn has_heap(alloc: Global, bytes: &[u8], image: &[u8]) -> Result<(bool, Option<u16>), Fault> {
+// Whether that block has this image, and its attributes, in a file with these bytes.
+fn has_heap(
+    alloc: Global,
+    bytes: &[u8],
+    image: &[u8],
+) -> Result<(bool, Option<Attributes>), Fault> {
     let mut file = open(alloc, bytes)?;
     let has_image = has(&mut file, 5, image);
-    let user_id = user_id_of(&file, 5);
-    Ok((has_image?, user_id))
+    let attributes = attributes_of(&file, 5);
+    Ok((has_image?, attributes))
 }
 
 // One chunk takes all of a heap but for its header and its entry.
@@ -131,7 +197,8 @@ fn a_heap_has_up_to_65520_bytes(rt: HostRuntime) -> Result<(), Fail> {
     heap.alloc(65_498);
     let image = heap.image()?;
     let store = heap_file(alloc, &heap)?;
-    assert_eq!(rt; has_heap(alloc, store.bytes(), &image)?, (true, Some(6)));
+    let answer = has_heap(alloc, store.bytes(), &image)?;
+    assert_eq!(rt; answer, (true, Some(TYPED)));
     Ok(())
 }
 

@@ -1,8 +1,8 @@
 // A document that is marked, so that it can be brought back.
 ghost use Rattle.vm_file.specs.Calls.{IsPut};
 
-use crate::calls::{create, has, open, put, raw_block, save, update};
-use geos_model::Fault;
+use crate::calls::{attributes_of, create, has, open, put, put_heap, raw_block, save, update};
+use geos_model::{Attributes, Fault};
 use std::alloc::Global;
 use std::test::Fail;
 use vm_file::{Member, VmFile};
@@ -24,9 +24,14 @@ fn put_and_roll_back<S: Store>(
     Ok(())
 }
 
+const TYPED: Attributes = Attributes {
+    user_id: 7,
+    heap_type: 4_660,
+};
+
 // Puts a block twice behind a mark, which was neither updated nor saved before.
 fn put_twice<S: Store>(alloc: Global, file: &mut VmFile<S>) -> Result<(), Fault> {
-    put(alloc, file, 1, 7, b"one")?;
+    put_heap(alloc, file, 1, TYPED)?;
     let first = raw_block(alloc, 1, 8, b"two")?;
     let second = raw_block(alloc, 1, 9, b"six")?;
     put_and_roll_back(file, first, second)
@@ -37,10 +42,12 @@ fn a_marked_document_is_brought_back(rt: HostRuntime) -> Result<(), Fail> {
     let alloc = rt.alloc();
     let mut file = create(alloc, MemStore::new(alloc))?;
     put_twice(alloc, &mut file)?;
-    assert!(rt; has(&mut file, 1, b"\0one")?);
+    assert!(rt; has(&mut file, 1, b"\x01\0\0")?);
+    assert_eq!(rt; attributes_of(&file, 1), Some(TYPED));
     save(&mut file)?;
     let mut file = open(alloc, file.close().bytes())?;
-    assert!(rt; has(&mut file, 1, b"\0one")?);
+    assert!(rt; has(&mut file, 1, b"\x01\0\0")?);
+    assert_eq!(rt; attributes_of(&file, 1), Some(TYPED));
     Ok(())
 }
 

@@ -1,10 +1,10 @@
 // Work on a document file as a row of steps, and where it went another way.
 use crate::calls::{
-    create, found, has, has_no_block, is_full, is_worn_out, listed, live_blocks, next_handle, put,
-    put_all, remove, remove_others, revert, save, set_map_block, set_user_id, update, user_id_of,
-    why,
+    create, first_block, found, has, is_full, is_worn_out, listed, live_blocks, next_handle, put,
+    put_all, put_heap, remove, remove_others, revert, save, set_map_block, set_type, set_user_id,
+    type_of, update, user_id_of, why,
 };
-use geos_model::Fault;
+use geos_model::{Attributes, Fault};
 use std::alloc::{AllocError, Global};
 use vm_file::{Refused, VmFile};
 use vm_store::{MemStore, Store};
@@ -14,7 +14,9 @@ use vm_store::{MemStore, Store};
 pub(crate) enum Step {
     /// A raw block with a user ID comes into the document.
     Put(u16, u16, &'static [u8]),
-    /// One with this body under each handle.
+    /// An empty heap, with a user ID and a type.
+    PutHeap(u16, u16, u16),
+    /// A raw block with this body under each handle.
     PutAll(&'static [u8]),
     Remove(u16),
     /// All blocks go but this one.
@@ -22,6 +24,8 @@ pub(crate) enum Step {
     /// A block can't be taken out.
     NoRemove(u16, Fault),
     SetUserId(u16, u16),
+    /// A heap gets this type.
+    SetType(u16, u16),
     SetMap(u16),
     Update,
     Save,
@@ -32,6 +36,7 @@ pub(crate) enum Step {
     /// A block is live and has this image.
     Has(u16, &'static [u8]),
     HasUserId(u16, u16),
+    HasType(u16, u16),
     HasNoBlock(u16),
     MapBlock(u16),
     /// The live blocks.
@@ -75,11 +80,12 @@ fn sees<S: Store>(alloc: Global, file: &mut VmFile<S>, step: Step) -> Result<boo
         Step::IsNotWorn => Ok(!file.is_worn()),
         Step::Has(handle, image) => has(file, handle, image),
         Step::HasUserId(handle, user_id) => Ok(user_id_of(file, handle) == Some(user_id)),
+        Step::HasType(handle, heap_type) => Ok(type_of(file, handle) == Some(heap_type)),
         Step::HasNoBlock(handle) => Ok(user_id_of(file, handle).is_none()),
         Step::MapBlock(handle) => Ok(file.map_block().0 == handle),
         Step::Lives(handles) => Ok(live_blocks(alloc, file)?.as_slice() == handles),
         Step::IsFull => is_full(alloc, file),
-        Step::IsEmpty => Ok(has_no_block(file)),
+        Step::IsEmpty => Ok(first_block(file) == 0),
         Step::Lists(handles) => Ok(listed(alloc, file)?.as_slice() == handles),
         Step::ListsLive => {
             Ok(listed(alloc, file)?.as_slice() == live_blocks(alloc, file)?.as_slice())
@@ -94,11 +100,15 @@ fn sees<S: Store>(alloc: Global, file: &mut VmFile<S>, step: Step) -> Result<boo
 fn take_step<S: Store>(alloc: Global, file: &mut VmFile<S>, step: Step) -> Result<bool, Fault> {
     match step {
         Step::Put(handle, user_id, body) => put(alloc, file, handle, user_id, body)?,
+        Step::PutHeap(handle, user_id, heap_type) => {
+            put_heap(alloc, file, handle, Attributes { user_id, heap_type })?
+        }
         Step::PutAll(body) => put_all(alloc, file, body)?,
         Step::Remove(handle) => remove(file, handle)?,
         Step::RemoveOthers(handle) => remove_others(file, handle)?,
         Step::NoRemove(handle, fault) => return Ok(remove(file, handle) == Err(fault)),
         Step::SetUserId(handle, user_id) => set_user_id(file, handle, user_id)?,
+        Step::SetType(handle, heap_type) => set_type(file, handle, heap_type)?,
         Step::SetMap(handle) => set_map_block(file, handle)?,
         Step::Update => update(file)?,
         Step::Save => save(file)?,

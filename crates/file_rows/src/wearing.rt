@@ -8,7 +8,7 @@ use crate::steps::{Step, read};
 use std::test::Fail;
 
 fn worn() -> [u8; LENGTH] {
-    let mut bytes = example();
+    let mut bytes = example(1);
     bytes[8..16].fill(255);
     bytes
 }

@@ -4,6 +4,8 @@
 #[cfg(test)]
 mod directories;
 #[cfg(test)]
+mod extents;
+#[cfg(test)]
 mod placing;
 #[cfg(test)]
 mod slots;

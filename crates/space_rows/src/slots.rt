@@ -6,10 +6,10 @@ use vm_space::{read_slot, write_slot};
 const TEXT: &[u8; 32] =
     b"GVMF\x01\x01\0\0\x05\0\0\0\0\0\0\0\x02\0\0\0\x20\0\0\0\x03\0\0\0\x10\0\0\0";
 
-fn slot() -> Slot {
+fn slot(version: u8) -> Slot {
     Slot {
         gate: 1,
-        version: 1,
+        version,
         reserved: 0,
         sequence: 5,
         working: Extent {
@@ -24,9 +24,13 @@ fn slot() -> Slot {
 }
 
 #[test]
-fn a_slot_is_written_and_read(rt: HostRuntime) -> Result<(), Fail> {
-    assert!(rt; write_slot(&slot()) == *TEXT);
-    assert!(rt; read_slot(TEXT) == Some(slot()));
+fn a_slot_of_any_version_is_written_and_read(rt: HostRuntime) -> Result<(), Fail> {
+    let mut text = *TEXT;
+    for version in [1, 2, 255] {
+        text[5] = version;
+        assert!(rt; write_slot(&slot(version)) == text);
+        assert!(rt; read_slot(&text) == Some(slot(version)));
+    }
     Ok(())
 }
 
