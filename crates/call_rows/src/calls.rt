@@ -11,6 +11,12 @@ use vm_store::{MemStore, Store};
 
 const BLOCK: VmHandle = VmHandle(1);
 
+/// Those of each block here.
+pub(crate) const ATTRIBUTES: Attributes = Attributes {
+    user_id: 7,
+    heap_type: 0,
+};
+
 #[test]
 fn a_fault_has_a_number_and_a_name(rt: HostRuntime) {
     assert_eq!(rt; Fault::Memory.number(), 1);
@@ -54,7 +60,7 @@ fn images_are_written_and_read(rt: HostRuntime) -> Result<(), Fail> {
 
 // The least free handle gets a block with an empty heap.
 pub(crate) fn put<S: Store>(alloc: Global, blocks: &mut FileBlocks<S>) -> Result<(), Fault> {
-    let block = SavedBlock::empty_heap(alloc, Attributes { user_id: 7 })?;
+    let block = SavedBlock::empty_heap(alloc, ATTRIBUTES)?;
     match blocks.next_handle() {
         None => Err(Fault::NoHandles),
         Some(handle) => {
@@ -89,7 +95,7 @@ fn blocks_come_in_and_are_saved(rt: HostRuntime) -> Result<(), Fail> {
     set_map(&mut blocks, BLOCK)?;
     assert_eq!(rt; blocks.map_block(), BLOCK);
     blocks.load(BLOCK)?;
-    let saved = saved_block(alloc, Attributes { user_id: 7 }, blocks.body(BLOCK))?;
+    let saved = saved_block(alloc, ATTRIBUTES, blocks.body(BLOCK))?;
     assert_eq!(rt; saved.byte_count(), 3);
     Ok(())
 }

@@ -3,9 +3,9 @@ ghost use Rattle.std.specs.Prelude.{◌≡◌, None, true, IsTrue, IfOk};
 ghost use Rattle.geos_model.specs.Document.{is_live};
 ghost use Rattle.vm_blocks.specs.declared.change.PartChange.{PartChange};
 
-use crate::calls::put;
+use crate::calls::{ATTRIBUTES, put};
 use chunk_edits::copied;
-use geos_model::{Attributes, ChunkHandle, Fault, VmHandle};
+use geos_model::{ChunkHandle, Fault, VmHandle};
 use std::alloc::{AllocError, Global};
 use std::test::Fail;
 use vm_blocks::{Change, Content, Direction, FileBlocks, PartChange, saved_block};
@@ -83,7 +83,7 @@ fn size<S: Store>(alloc: Global, blocks: &mut FileBlocks<S>, handle: u16) -> Res
 {
     let handle = VmHandle(handle);
     blocks.load(handle)?;
-    Ok(saved_block(alloc, Attributes { user_id: 7 }, blocks.body(handle))?.byte_count())
+    Ok(saved_block(alloc, ATTRIBUTES, blocks.body(handle))?.byte_count())
 }
 
 // Whether so many bytes have the images of all four.

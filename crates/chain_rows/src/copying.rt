@@ -43,7 +43,7 @@ fn a_copy_takes_the_least_free_handles_and_keeps_user_ids(
 fn a_copy_needs_as_many_free_handles_as_blocks(rt: HostRuntime) -> Result<(), Departure> {
     let mut dialogue = Dialogue::new(rt.alloc());
     say_blocks(rt.alloc(), &mut dialogue, &["0200", "0000"])?;
-    for handle in 3..2_049 {
+    for handle in 3..8_193 {
         say_block(rt.alloc(), &mut dialogue, handle, "0000")?;
     }
     dialogue.tell(

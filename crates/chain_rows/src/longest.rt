@@ -27,7 +27,7 @@ fn say_row(
 #[test]
 fn a_ring_has_no_end(rt: HostRuntime) -> Result<(), Departure> {
     let mut dialogue = Dialogue::new(rt.alloc());
-    say_row(rt.alloc(), &mut dialogue, 2_048, 1)?;
+    say_row(rt.alloc(), &mut dialogue, 8_192, 1)?;
     dialogue.say("walk 0001", "no 17 BadChain")?;
     dialogue.say("walk 0009", "no 17 BadChain")?;
     dialogue.hold()
@@ -46,10 +46,10 @@ fn say_thicket(alloc: Global, dialogue: &mut Dialogue) -> Result<(), Departure> 
 #[test]
 fn more_branches_than_blocks_are_no_chain(rt: HostRuntime) -> Result<(), Departure> {
     let mut dialogue = Dialogue::new(rt.alloc());
-    say_row(rt.alloc(), &mut dialogue, 2_048, 0)?;
+    say_row(rt.alloc(), &mut dialogue, 8_192, 0)?;
     say_thicket(rt.alloc(), &mut dialogue)?;
     dialogue.say("walk 0001", "no 17 BadChain")?;
-    dialogue.say("chsize 0041", "number 3968")?;
+    dialogue.say("chsize 0041", "number 16256")?;
     dialogue.hold()
 }
 
@@ -57,9 +57,9 @@ fn more_branches_than_blocks_are_no_chain(rt: HostRuntime) -> Result<(), Departu
 // others link to none.
 fn say_star(alloc: Global, dialogue: &mut Dialogue, more: u16) -> Result<(), Departure> {
     say_blocks(alloc, dialogue, &["-"])?;
-    let count = word(alloc, 2_047 + usize::from(more))?;
+    let count = word(alloc, 8_191 + usize::from(more))?;
     let mut line = format!(in alloc; "attach 0001 ffff0600{count}")?;
-    for handle in 2..2_049 {
+    for handle in 2..8_193 {
         say_block(alloc, dialogue, handle, "0000")?;
         let link = word(alloc, handle)?;
         line.push_str("0000")?;
@@ -74,7 +74,7 @@ fn say_star(alloc: Global, dialogue: &mut Dialogue, more: u16) -> Result<(), Dep
 // The reply that names all blocks that there can be.
 fn all_blocks(alloc: Global) -> Result<String, Departure> {
     let mut line = String::from_str(alloc, "blocks")?;
-    for i in 1..2_049 {
+    for i in 1..8_193 {
         let handle = format!(in alloc; " {i:04x}")?;
         line.push_str(&handle)?;
     }
@@ -82,7 +82,7 @@ fn all_blocks(alloc: Global) -> Result<String, Departure> {
 }
 
 #[test]
-fn a_root_has_branches_to_up_to_2047_blocks(rt: HostRuntime) -> Result<(), Departure> {
+fn a_root_has_branches_to_up_to_8191_blocks(rt: HostRuntime) -> Result<(), Departure> {
     let mut dialogue = Dialogue::new(rt.alloc());
     say_star(rt.alloc(), &mut dialogue, 0)?;
     dialogue.say("walk 0001", &all_blocks(rt.alloc())?)?;

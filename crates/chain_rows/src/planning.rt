@@ -29,7 +29,11 @@ fn put(alloc: Global, blocks: &mut Blocks, bytes: &[u8]) -> Result<(), Fault> {
     if bytes.len() > SIZE {
         return Err(Fault::TooBig);
     }
-    let block = SavedBlock::raw(Attributes { user_id: 0 }, bytes.to_vec(alloc)?)?;
+    let attributes = Attributes {
+        user_id: 0,
+        heap_type: 0,
+    };
+    let block = SavedBlock::raw(attributes, bytes.to_vec(alloc)?)?;
     match blocks.next_handle() {
         None => Err(Fault::NoHandles),
         Some(handle) => {

@@ -24,7 +24,7 @@ fn the_root_is_a_live_raw_block(rt: HostRuntime) -> Result<(), Departure> {
         "
         walk 0002   = no 5 NoBlock
         walk 0000   = no 5 NoBlock
-        walk 0801   = no 5 NoBlock
+        walk 2001   = no 5 NoBlock
         newheap 0   = block 0002
         walk 0002   = no 7 WrongKind
         chsize 0002 = no 7 WrongKind

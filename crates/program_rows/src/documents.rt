@@ -2,11 +2,14 @@
 use std::alloc::{AllocError, Global};
 
 const FIRST_SLOT: &[u8; 32] =
-    b"GVMF\x01\x01\0\0\x01\0\0\0\0\0\0\0\x02\0\0\0\x10\0\0\0\x02\0\0\0\x10\0\0\0";
+    b"GVMF\x01\x02\0\0\x01\0\0\0\0\0\0\0\x02\0\0\0\x10\0\0\0\x02\0\0\0\x10\0\0\0";
 
 const SECOND_SLOT: &[u8; 4] = b"GVMF";
 
-const NO_BLOCKS: &[u8; 16] = b"GDIR\x01\0\0\0\0\0\0\0\0\0\0\0";
+const NO_BLOCKS: &[u8; 16] = b"GDIR\x02\0\0\0\0\0\0\0\0\0\0\0";
+
+// The same in a file of version 1.
+const NO_BLOCKS_BEFORE: &[u8; 16] = b"GDIR\x01\0\0\0\0\0\0\0\0\0\0\0";
 
 const ONE_BLOCK: &[u8; 32] =
     b"GDIR\x01\0\x01\0\x01\0\0\0\0\0\0\0\x01\0\x07\0\x04\0\0\0\x03\0\0\0\0\0\0\0";
@@ -24,7 +27,7 @@ pub(crate) enum Content {
     Made,
     /// The first bytes of that, so many.
     Cut(usize),
-    /// Two documents, as they are said below.
+    /// Two documents in a file of version 1, as they are said below.
     Two(&'static [u8; 8]),
 }
 
@@ -49,7 +52,7 @@ fn made(alloc: Global) -> Result<Vec<u8>, AllocError> {
     Ok(bytes)
 }
 
-// A file of two documents, with this sequence number. The updated one has one block, handle 1, user ID 7, raw, with the bytes
+// A file of version 1 with two documents and this sequence number. The updated one has one block, handle 1, user ID 7, raw, with the bytes
 // `ab`; it is the map block. The saved one has no block.
 fn two_documents(alloc: Global, sequence: &[u8; 8]) -> Result<Vec<u8>, AllocError> {
     let mut bytes = Vec::new(alloc);
@@ -57,7 +60,7 @@ fn two_documents(alloc: Global, sequence: &[u8; 8]) -> Result<Vec<u8>, AllocErro
     bytes.extend_from_slice(sequence)?;
     bytes.extend_from_slice(SLOT_END)?;
     put_page(&mut bytes, 2, ONE_BLOCK)?;
-    put_page(&mut bytes, 3, NO_BLOCKS)?;
+    put_page(&mut bytes, 3, NO_BLOCKS_BEFORE)?;
     put_page(&mut bytes, 4, b"\0ab")?;
     Ok(bytes)
 }

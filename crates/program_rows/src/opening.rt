@@ -24,6 +24,11 @@ const DROPPED: &str = "program_rows_dropped";
 
 const EXAMPLE: &str = "program_rows_example";
 
+// The first slot of that file, and what it begins with once two commits have come.
+const SLOT_OF_VERSION_1: &[u8] = b"GVMF\x01\x01\0\0\x05";
+
+const SLOT_OF_VERSION_2: &[u8] = b"GVMF\x01\x02\0\0\x07";
+
 const WORN: &str = "program_rows_worn";
 
 const OPENING: &[Row] = &[
@@ -79,9 +84,16 @@ const OPENING: &[Row] = &[
             Step::Write(EXAMPLE, Content::Two(FIFTH)),
             Step::Answers(
                 &["geosvm", EXAMPLE],
-                "info 0001\nmapblock\nrevert\nlist\n",
-                "raw 7 2\nblock 0001\nok\nblocks\n",
+                "info 0001\nmapblock\nnewheap 5\nsettype 0002 3\nupdate\n",
+                "raw 7 2\nblock 0001\nblock 0002\nok\nok\n",
             ),
+            Step::BeginsWith(EXAMPLE, Content::Text(SLOT_OF_VERSION_1)),
+            Step::Answers(
+                &["geosvm", EXAMPLE],
+                "gettype 0002\nmapblock\nrevert\nlist\n",
+                "number 3\nblock 0001\nok\nblocks\n",
+            ),
+            Step::BeginsWith(EXAMPLE, Content::Text(SLOT_OF_VERSION_2)),
             Step::Remove(EXAMPLE),
         ],
     ),

@@ -70,6 +70,7 @@ fn an_open_group_weighs_no_more_than_its_edits_cost_and_the_same_once_it_ends(
         (written(rt.alloc(), b"abc")?, 6),
         (Edit::Alloc(BLOCK, 10), 16),
         (Edit::SetUserId(BLOCK, 9), 16),
+        (Edit::SetType(BLOCK, 9), 16),
         (Edit::NewRaw(8, 5), 22),
         (Edit::FreeBlock(VmHandle(2)), 28),
     ] {

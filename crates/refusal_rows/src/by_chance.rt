@@ -63,7 +63,7 @@ impl Chance {
     // An edit by which blocks are made or freed, or of what is known of one without its body.
     fn edit_of_blocks(&mut self) -> Edit {
         let user_id = self.number() % 4;
-        match self.number() % 12 {
+        match self.number() % 14 {
             0 => Edit::NewRaw(user_id, 2),
             1 => Edit::NewHeap(user_id),
             2..=4 => Edit::FreeBlock(self.block()),
@@ -71,6 +71,7 @@ impl Chance {
             6 | 7 => Edit::SetUserId(self.block(), user_id),
             8 => Edit::SetMap(self.block()),
             9 => Edit::CopyChain(self.raw()),
+            10 | 11 => Edit::SetType(self.block(), user_id),
             _ => Edit::FreeChain(self.raw()),
         }
     }

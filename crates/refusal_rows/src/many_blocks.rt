@@ -17,24 +17,26 @@ const MANY_BLOCKS: Row = Row {
         "
         newraw 7 1       = no 10 NoHandles
         vwrite 0001 0 61 = ok
-        vwrite 0400 0 62 = ok
-        vwrite 0800 0 63 = ok
+        vwrite 1000 0 62 = ok
+        vwrite 2000 0 63 = ok
         update           = ok
         vfree 0002       = ok
         newheap 9        = block 0002
         alloc 0002 3     = chunk 0010
+        settype 0002 3   = ok
         vwrite 0001 0 64 = ok
         save             = ok
-        vread 0800       = bytes 63
+        vread 2000       = bytes 63
         undo             = ok
         vread 0001       = bytes 61
+        gettype 0002     = number 3
         ",
     ],
     former: "",
 };
 
 fn fill(session: &mut Session<MemStore>) -> Result<(), Fault> {
-    for _ in 0..2_048 {
+    for _ in 0..8_192 {
         session.edit(&Edit::NewRaw(7, 1))?;
     }
     session.save()
@@ -123,7 +125,7 @@ impl Many {
 }
 
 // Of the calls that open the file, whose reads of images are all alike, one of so many fails.
-const EACH: usize = 128;
+const EACH: usize = 512;
 
 #[test]
 fn a_document_of_all_handles_is_committed_behind_each_call_that_failed(

@@ -226,6 +226,18 @@ pub(crate) const BLOCKS: Row = Row {
         mapblock           = block 0002
         undos              = number 5
         redos              = number 1
+        newheap 3          = block 0003
+        settype 0003 4     = ok
+        vcopy 0003         = block 0004
+        settype 0004 5     = ok
+        undo               = ok
+        gettype 0004       = number 4
+        redo               = ok
+        settype 0001 4     = no 7 WrongKind
+        gettype 0001       = no 7 WrongKind
+        vfree 0003         = ok
+        undo               = ok
+        gettype 0003       = number 4
         ",
     ],
     former: "",
@@ -240,7 +252,10 @@ pub(crate) const OPENED_AGAIN: Row = Row {
         newraw 3 1       = block 0003
         newraw 4 1       = block 0004
         newraw 5 1       = block 0005
+        newheap 6        = block 0006
+        settype 0006 7   = ok
         save             = ok
+        settype 0006 8   = ok
         vwrite 0001 0 61 = ok
         vwrite 0002 0 61 = ok
         vwrite 0003 0 61 = ok
@@ -251,9 +266,11 @@ pub(crate) const OPENED_AGAIN: Row = Row {
         "
         vread 0001       = bytes 61
         vread 0005       = bytes 61
+        gettype 0006     = number 8
         revert           = ok
         vread 0001       = bytes 00
         vread 0005       = bytes 00
+        gettype 0006     = number 7
         find 3 0000      = block 0003
         undo             = no 22 NothingToUndo
         ",
@@ -266,7 +283,10 @@ pub(crate) const SAVED_AS: Row = Row {
     openings: &[
         "
         newraw 1 1       = block 0001
+        newheap 2        = block 0002
+        settype 0002 3   = ok
         save             = ok
+        settype 0002 4   = ok
         vwrite 0001 0 61 = ok
         saveas           = ok
         saveas           = no 24 NoTarget
@@ -276,14 +296,18 @@ pub(crate) const SAVED_AS: Row = Row {
         ",
         "
         vread 0001       = bytes 61
+        gettype 0002     = number 4
         revert           = ok
         vread 0001       = bytes 61
+        gettype 0002     = number 4
         ",
     ],
     former: "
         vread 0001       = bytes 00
+        gettype 0002     = number 3
         revert           = ok
         vread 0001       = bytes 00
+        gettype 0002     = number 3
         ",
 };
 
@@ -338,6 +362,7 @@ pub(crate) const GROUPS: Row = Row {
         vfree 0005             = ok
         newheap 6              = block 0005
         uid 0004 9             = ok
+        settype 0003 5         = ok
         vwrite 0004 0 65       = ok
         undo                   = no 28 GroupOpen
         end                    = ok
@@ -349,6 +374,7 @@ pub(crate) const GROUPS: Row = Row {
         redo                   = ok
         begin                  = ok
         vwrite 0001 0 66       = ok
+        settype 0003 6         = ok
         free 0003 0010         = ok
         vfree 0002             = ok
         vcopy 0004             = block 0002
@@ -359,6 +385,7 @@ pub(crate) const GROUPS: Row = Row {
         abandon                = no 29 NoGroup
         vread 0001             = bytes 61
         read 0003 0010         = bytes 6364
+        gettype 0003           = number 5
         redo                   = no 23 NothingToRedo
         ",
     ],

@@ -36,7 +36,7 @@ fn push_chunks<S: Store>(
     Ok(())
 }
 
-// A block's user ID, its kind and its body.
+// A block's user ID, its kind, the type of a heap, and its body.
 fn push_block<S: Store>(
     out: &mut Vec<u8>,
     session: &mut Session<S>,
@@ -50,6 +50,7 @@ fn push_block<S: Store>(
         }
         Info::Heap(user_id, need) => {
             push_number(out, usize::from(user_id))?;
+            push_number(out, usize::from(session.heap_type(block)?))?;
             push_number(out, need as usize)?;
             push_chunks(out, session, block)
         }

@@ -235,7 +235,7 @@ const DOCUMENTS: &[Row] = &[
         undo       = ok
         undo       = ok
         mapblock   = block 0001
-        map 0900   = no 5 NoBlock
+        map 2001   = no 5 NoBlock
         ",
     ),
     (
@@ -315,6 +315,98 @@ const DOCUMENTS: &[Row] = &[
         vcopy 0001  = block 0002
         uid 0002 8  = ok
         vfree 0002  = ok
+        ",
+    ),
+    (
+        "the type of a heap is set, undone and redone",
+        "
+        newheap 5          = block 0001
+        gettype 0001       = number 0
+        settype 0001 3     = ok
+        gettype 0001       = number 3
+        settype 0001 65535 = ok
+        gettype 0001       = number 65535
+        info 0001          = heap 5 16
+        undo               = ok
+        gettype 0001       = number 3
+        settype 0001 65536 = no 25 BadCommand
+        settype 0002 4     = no 5 NoBlock
+        redos              = number 1
+        undo               = ok
+        gettype 0001       = number 0
+        redo               = ok
+        redo               = ok
+        gettype 0001       = number 65535
+        redo               = no 23 NothingToRedo
+        settype 0001 65535 = ok
+        undos              = number 4
+        ",
+    ),
+    (
+        "only a live heap has a type",
+        "
+        settype 0001 1        = no 5 NoBlock
+        gettype 0001          = no 5 NoBlock
+        settype 0000 1        = no 5 NoBlock
+        gettype 0000          = no 5 NoBlock
+        gettype 2001          = no 5 NoBlock
+        newraw 1 1            = block 0001
+        settype 0001 0        = no 7 WrongKind
+        settype 0001 0000001  = no 7 WrongKind
+        gettype 0001          = no 7 WrongKind
+        newheap 1             = block 0002
+        settype               = no 25 BadCommand
+        settype 0002          = no 25 BadCommand
+        settype 0002 1 1      = no 25 BadCommand
+        settype 2 1           = no 25 BadCommand
+        settype 0002 00000001 = no 25 BadCommand
+        settype 0002 -1       = no 25 BadCommand
+        settype 0002 -        = no 25 BadCommand
+        settype 0002 65536    = no 25 BadCommand
+        settype 0002 a        = no 25 BadCommand
+        settype 0009 65536    = no 25 BadCommand
+        Settype 0002 1        = no 25 BadCommand
+        gettype               = no 25 BadCommand
+        gettype 2             = no 25 BadCommand
+        gettype 0002 1        = no 25 BadCommand
+        gettype 0002          = number 0
+        undos                 = number 2
+        ",
+    ),
+    (
+        "a type stays with its block",
+        "
+        newheap 5              = block 0001
+        settype 0001 3         = ok
+        alloc 0001 1           = chunk 0010
+        uid 0001 9             = ok
+        write 0001 0010 0 61   = ok
+        gettype 0001           = number 3
+        vcopy 0001             = block 0002
+        gettype 0002           = number 3
+        settype 0002 4         = ok
+        gettype 0001           = number 3
+        vfree 0001             = ok
+        gettype 0001           = no 5 NoBlock
+        newheap 6              = block 0001
+        gettype 0001           = number 0
+        vfree 0001             = ok
+        newraw 6 1             = block 0001
+        gettype 0001           = no 7 WrongKind
+        undo                   = ok
+        undo                   = ok
+        undo                   = ok
+        undo                   = ok
+        gettype 0001           = number 3
+        info 0001              = heap 9 24
+        undo                   = ok
+        gettype 0002           = number 3
+        redo                   = ok
+        redo                   = ok
+        redo                   = ok
+        gettype 0001           = number 0
+        gettype 0002           = number 4
+        undos                  = number 9
         ",
     ),
     (

@@ -19,6 +19,7 @@ const MADE: Part = Part::Lines(
     newheap 1                     = block 0001
     alloc 0001 4                  = chunk 0010
     write 0001 0010 0 61626364    = ok
+    settype 0001 2                = ok
     acreate 0001 0 1              = chunk 0012
     ainsert 0001 0012 0 61        = ok
     ainsert 0001 0012 1 6262      = ok
@@ -62,7 +63,9 @@ const AS_MADE: Part = Part::Lines(
     read 0005 0010 = bytes 00
     info 0006      = raw 6 2
     vread 0006     = bytes 0000
-    undos          = number 21
+    gettype 0001   = number 2
+    gettype 0005   = number 0
+    undos          = number 22
     ",
 );
 
@@ -76,6 +79,7 @@ const EDITS: Part = Part::Lines(
     vwrite 0002 1 39              = ok
     attach 0004 00006162          = ok
     uid 0001 9                    = ok
+    settype 0001 6                = ok
     map 0007                      = ok
     alloc 0001 1                  = chunk 001a
     free 0001 0018                = ok
@@ -132,6 +136,10 @@ const AS_EDITED: Part = Part::Lines(
     info 0007      = raw 7 2
     vread 0007     = bytes 0000
     info 0008      = heap 8 16
+    gettype 0001   = number 6
+    gettype 0005   = number 0
+    gettype 0006   = number 2
+    gettype 0008   = number 0
     info 0009      = raw 3 2
     vread 0009     = bytes 0a00
     info 000a      = raw 4 4
@@ -215,10 +223,10 @@ const GROUPED: &[BuiltRow] = &[
             BEGIN,
             EDITS,
             AS_EDITED,
-            Part::Lines("undos = number 21"),
+            Part::Lines("undos = number 22"),
             END,
             AS_EDITED,
-            Part::Lines("undos = number 22"),
+            Part::Lines("undos = number 23"),
             UNDO,
             AS_MADE,
             REDO,

@@ -308,6 +308,40 @@ const GROUPS: &[Row] = &[
         ",
     ),
     (
+        "types that a group set go and come with it",
+        "
+        newheap 1       = block 0001
+        settype 0001 2  = ok
+        begin           = ok
+        settype 0001 3  = ok
+        settype 0001 4  = ok
+        newheap 4       = block 0002
+        settype 0002 5  = ok
+        vcopy 0002      = block 0003
+        vfree 0001      = ok
+        newheap 6       = block 0001
+        gettype 0001    = number 0
+        gettype 0003    = number 5
+        abandon         = ok
+        list            = blocks 0001
+        gettype 0001    = number 2
+        begin           = ok
+        settype 0001 6  = ok
+        settype 0002 6  = no 5 NoBlock
+        settype 0001 7  = ok
+        vcopy 0001      = block 0002
+        settype 0001 8  = ok
+        end             = ok
+        undos           = number 3
+        undo            = ok
+        list            = blocks 0001
+        gettype 0001    = number 2
+        redo            = ok
+        gettype 0001    = number 8
+        gettype 0002    = number 7
+        ",
+    ),
+    (
         "a block is made, written and freed in a group, and its handle is taken again",
         "
         newraw 1 2         = block 0001

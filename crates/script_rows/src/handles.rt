@@ -7,20 +7,20 @@ const BLOCKS: &[Part] = &[
         Numbers {
             first: 1,
             step: 1,
-            count: 2_047,
+            count: 8_191,
         },
         "newheap 7 = block <handle>",
     ),
     Part::Lines(
         "
         find 65535 0000 = block 0000
-        newheap 65535   = block 0800
+        newheap 65535   = block 2000
         newheap 65535   = no 10 NoHandles
-        find 65535 0000 = block 0800
-        find 65535 07ff = block 0800
-        find 65535 0800 = block 0000
-        find 7 07fe     = block 07ff
-        find 7 07ff     = block 0000
+        find 65535 0000 = block 2000
+        find 65535 1fff = block 2000
+        find 65535 2000 = block 0000
+        find 7 1ffe     = block 1fff
+        find 7 1fff     = block 0000
         ",
     ),
     Part::Named("list", "blocks", ALL_BLOCKS),

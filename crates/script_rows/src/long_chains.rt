@@ -14,16 +14,16 @@ const OF_ALL: &[Part] = &[
     Part::Named("walk 0001", "blocks", ALL_BLOCKS),
     Part::Lines(
         "
-        chsize 0001       = number 4096
+        chsize 0001       = number 16384
         chequal 0001 0001 = same
         chequal 0001 0002 = differ
         chcopy 0001       = no 10 NoHandles
-        undos             = number 4095
+        undos             = number 16383
         chfree 0001       = ok
         list              = blocks
-        undos             = number 4096
+        undos             = number 16384
         undo              = ok
-        chsize 0001       = number 4096
+        chsize 0001       = number 16384
         redo              = ok
         newraw 0 0        = block 0001
         ",
@@ -41,32 +41,32 @@ const OF_HALF: &[Part] = &[
         Numbers {
             first: 2,
             step: 1,
-            count: 1_023,
+            count: 4_095,
         },
         LINKED,
     ),
     Part::Lines(
         "
-        chcopy 0001       = block 0401
-        chequal 0001 0401 = same
+        chcopy 0001       = block 1001
+        chequal 0001 1001 = same
         newraw 0 0        = no 10 NoHandles
         undo              = ok
-        walk 0401         = no 5 NoBlock
-        chsize 0001       = number 2048
+        walk 1001         = no 5 NoBlock
+        chsize 0001       = number 8192
         redo              = ok
-        chequal 0401 0001 = same
+        chequal 1001 0001 = same
         ",
     ),
     Part::Named(
-        "walk 0401",
+        "walk 1001",
         "blocks",
         Numbers {
-            first: 1_025,
+            first: 4_097,
             step: 1,
-            count: 1_024,
+            count: 4_096,
         },
     ),
-    Part::Lines("chcopy 0401 = no 10 NoHandles"),
+    Part::Lines("chcopy 1001 = no 10 NoHandles"),
 ];
 
 #[test]

@@ -14,14 +14,14 @@ pub(crate) struct Numbers {
 pub(crate) const ALL_BLOCKS: Numbers = Numbers {
     first: 1,
     step: 1,
-    count: 2_048,
+    count: 8_192,
 };
 
 /// Those but for the first.
 pub(crate) const LATER_BLOCKS: Numbers = Numbers {
     first: 2,
     step: 1,
-    count: 2_047,
+    count: 8_191,
 };
 
 /// A part of a dialogue.

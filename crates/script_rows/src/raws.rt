@@ -80,7 +80,7 @@ const RAWS: &[Row] = &[
         vread 0001            = no 7 WrongKind
         vwrite 0001 9999999 - = no 7 WrongKind
         attach 0001 61        = no 7 WrongKind
-        vread 0801            = no 5 NoBlock
+        vread 2001            = no 5 NoBlock
         undos                 = number 1
         ",
     ),
@@ -119,8 +119,8 @@ const LIMITS: &[Part] = &[
         vwrite 0001 65520 -  = ok
         vwrite 0001 65520 61 = no 11 Range
         info 0001            = raw 0 65520
-        vfree 0800           = ok
-        newraw 5 1           = block 0800
+        vfree 2000           = ok
+        newraw 5 1           = block 2000
         ",
     ),
 ];

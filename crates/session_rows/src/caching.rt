@@ -78,7 +78,7 @@ fn a_block_is_in_memory_behind_an_edit_of_it_an_undo_and_a_redo(
 }
 
 // What stands before a command, the command, and its store calls.
-const ASKED: [(&str, &str, u64); 9] = [
+const ASKED: [(&str, &str, u64); 12] = [
     ("", "vread 0001 = bytes 00", 0),
     ("", "info 0001 = raw 1 1", 0),
     ("", "vread 0002 = bytes 00", 1),
@@ -88,6 +88,13 @@ const ASKED: [(&str, &str, u64); 9] = [
     (EDIT, "vread 0002 = bytes 00", 2),
     ("", "list = blocks 0001 0002 0003", 0),
     (EDIT, "find 2 0000 = block 0002", 0),
+    ("", "gettype 0003 = number 0", 0),
+    (EDIT, "settype 0003 9 = ok\ngettype 0003 = number 9", 0),
+    (
+        "settype 0003 9 = ok\nwrite 0003 0010 0 61 = ok\nvread 0001 = bytes 00",
+        "gettype 0003 = number 9\nread 0003 0010 = bytes 610000\ngettype 0003 = number 9",
+        1,
+    ),
 ];
 
 #[test]
@@ -102,7 +109,7 @@ fn a_look_up_reads_a_block_that_is_away_and_writes_a_changed_one_that_goes(
 }
 
 // Commands that want a block of the other kind, which is away.
-const OTHERWISE: [&str; 8] = [
+const OTHERWISE: [&str; 10] = [
     "vread 0003 = no 7 WrongKind",
     "chunks 0002 = no 7 WrongKind",
     "read 0002 0010 = no 7 WrongKind",
@@ -111,6 +118,8 @@ const OTHERWISE: [&str; 8] = [
     "walk 0003 = no 7 WrongKind",
     "chequal 0002 0003 = no 7 WrongKind",
     "chcopy 0003 = no 7 WrongKind",
+    "gettype 0002 = no 7 WrongKind",
+    "settype 0002 1 = no 7 WrongKind",
 ];
 
 #[test]
@@ -124,11 +133,21 @@ fn a_block_of_the_other_kind_is_refused_without_a_look_into_it(
     Ok(())
 }
 
-const UNDONE: [(&str, &str, u64); 6] = [
+const UNDONE: [(&str, &str, u64); 8] = [
     (EDIT, "undo = ok", 0),
     (EDIT, "undo = ok\nredo = ok", 0),
     ("uid 0002 9 = ok", "undo = ok", 0),
     ("map 0002 = ok", "undo = ok", 0),
+    (
+        "settype 0003 9 = ok",
+        "undo = ok\ngettype 0003 = number 0",
+        0,
+    ),
+    (
+        "settype 0003 9 = ok\nundo = ok",
+        "redo = ok\ngettype 0003 = number 9",
+        0,
+    ),
     (
         "vwrite 0001 0 61 = ok\nvread 0002 = bytes 00",
         "undo = ok",
@@ -154,12 +173,18 @@ fn such_an_undo_is_sure_while_the_store_fails(rt: HostRuntime) -> Result<(), Fai
         vread 0001 = bytes 00
         redo = ok
         vread 0001 = bytes 61
+        settype 0003 9 = ok
+        undo = ok
+        gettype 0003 = number 0
+        redo = ok
+        gettype 0003 = number 9
+        undo = ok
         vread 0002 = no 2 File
         update = no 2 File
         undo = ok
         vread 0001 = bytes 00
         undos = number 4
-        redos = number 1";
+        redos = number 2";
     made(alloc, fused(alloc, passes, true), 1, &[SAVED, EDIT, sure])?;
     Ok(())
 }

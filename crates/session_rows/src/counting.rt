@@ -20,7 +20,7 @@ const SAVED: &str = "
     ";
 
 // Edits of it, how many blocks come in by them, and how many a commit has to write behind them.
-const EDITS: [(&str, u64, u64); 11] = [
+const EDITS: [(&str, u64, u64); 13] = [
     ("vwrite 0001 0 61 = ok", 0, 1),
     ("vwrite 0001 0 61 = ok\nvwrite 0002 0 61 = ok", 0, 2),
     ("vwrite 0001 0 61 = ok\nvwrite 0001 0 62 = ok", 0, 1),
@@ -36,6 +36,8 @@ const EDITS: [(&str, u64, u64); 11] = [
     ("vwrite 0001 0 61 = ok\nvfree 0001 = ok", 0, 0),
     ("vfree 0001 = ok\nvfree 0003 = ok", 0, 0),
     ("map 0001 = ok", 0, 0),
+    ("settype 0003 9 = ok", 0, 0),
+    ("settype 0003 9 = ok\nwrite 0003 0010 0 61 = ok", 0, 1),
 ];
 
 const LOOK_UPS: &str = "
@@ -44,6 +46,8 @@ const LOOK_UPS: &str = "
     mapblock              = block 0000
     info 0001             = raw 1 1
     vread 0002            = bytes 00
+    gettype 0003          = number 0
+    gettype 0002          = no 7 WrongKind
     chunks 0003           = chunks 0010
     read 0003 0010        = bytes 000000
     info 0009             = no 5 NoBlock

@@ -4,7 +4,7 @@ use crate::calls::{fused, made};
 use std::test::Fail;
 
 // What stands before, with one frame, and what calls no store behind it.
-const FREE: [(&str, &str); 5] = [
+const FREE: [(&str, &str); 6] = [
     (
         "",
         "begin   = ok
@@ -42,6 +42,22 @@ const FREE: [(&str, &str); 5] = [
         save   = no 28 GroupOpen
         revert = no 28 GroupOpen
         saveas = no 28 GroupOpen",
+    ),
+    (
+        "settype 0003 8  = ok",
+        "begin          = ok
+        settype 0003 9  = ok
+        gettype 0003    = number 9
+        settype 0002 9  = no 7 WrongKind
+        abandon         = ok
+        gettype 0003    = number 8
+        begin           = ok
+        settype 0003 10 = ok
+        end             = ok
+        undo            = ok
+        gettype 0003    = number 8
+        redo            = ok
+        gettype 0003    = number 10",
     ),
     (
         "begin            = ok

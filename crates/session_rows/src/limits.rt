@@ -1,5 +1,6 @@
 // As much as a document can hold, in a file.
 use crate::calls::{BLOCK, closed, create, open};
+use crate::vectors::example;
 use geos_model::{Bytes, ChunkHandle, Edit, Fault, VmHandle};
 use std::alloc::Global;
 use std::test::Fail;
@@ -22,9 +23,9 @@ fn repeat(session: &mut Session<MemStore>, edit: &Edit, count: u32) -> Result<()
     Ok(())
 }
 
-// Fills the document with blocks, until there is no handle left.
+// Fills the document of one block with blocks, until there is no handle left.
 fn fill_blocks(session: &mut Session<MemStore>) -> Result<(), Fail> {
-    repeat(session, &Edit::NewRaw(7, 1), 2_048)?;
+    repeat(session, &Edit::NewRaw(7, 1), 8_191)?;
     match session.edit(&Edit::NewRaw(7, 1)) {
         Err(Fault::NoHandles) => Ok(()),
         _ => Err(Fail::new("a block comes in under no handle")),
@@ -57,20 +58,28 @@ fn fill(alloc: Global, session: &mut Session<MemStore>, limit: Limit) -> Result<
     Ok(())
 }
 
+// A session on the document that is filled. Blocks come to the one of a file of version 1.
+fn begun(alloc: Global, limit: Limit) -> Result<Session<MemStore>, Fault> {
+    match limit {
+        Limit::Blocks => open(alloc, example().as_slice()),
+        _ => create(alloc, MemStore::new(alloc)),
+    }
+}
+
 // The file of a document that is full.
 fn full(alloc: Global, limit: Limit) -> Result<MemStore, Fail> {
-    let mut session = create(alloc, MemStore::new(alloc))?;
+    let mut session = begun(alloc, limit)?;
     let end = fill(alloc, &mut session, limit);
     closed(session, end)
 }
 
-const LAST: VmHandle = VmHandle(2_048);
+const LAST: VmHandle = VmHandle(8_192);
 
 // A block under each handle, and so many are live. The last one has a byte, 00.
 fn is_full(session: &mut Session<MemStore>) -> Result<bool, Fault> {
     let live = session.list()?.len();
     let byte = session.read_raw(LAST)?;
-    Ok(live == 2_048 && byte == [0].as_slice())
+    Ok(live == 8_192 && byte == [0].as_slice())
 }
 
 // The last block is freed, which a revert takes back.

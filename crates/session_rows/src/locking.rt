@@ -115,6 +115,10 @@ const FREE: &str = "
     dirty 0000             = no 5 NoBlock
     dirty 0001             = ok
     info 0001              = raw 1 2
+    gettype 0002           = number 0
+    gettype 0001           = no 7 WrongKind
+    settype 0001 9         = no 7 WrongKind
+    settype 0009 9         = no 5 NoBlock
     vread 0001             = bytes 0000
     lock 0001              = ok
     unlock 0001            = ok
@@ -131,6 +135,9 @@ const FREE: &str = "
 const SHUT_OUT: &str = "
     info 0002              = no 21 CacheFull
     info 0009              = no 5 NoBlock
+    gettype 0002           = number 0
+    gettype 0003           = no 7 WrongKind
+    settype 0003 9         = no 7 WrongKind
     vread 0003             = no 21 CacheFull
     vread 0002             = no 7 WrongKind
     chunks 0002            = no 21 CacheFull
@@ -231,7 +238,9 @@ fn other_blocks_are_shut_out_while_each_frame_has_a_locked_one(
 }
 
 #[test]
-fn a_user_id_the_map_block_and_new_blocks_want_no_frame(rt: HostRuntime) -> Result<(), Fail> {
+fn a_user_id_a_type_the_map_block_and_new_blocks_want_no_frame(
+    rt: HostRuntime,
+) -> Result<(), Fail> {
     let alloc = rt.alloc();
     hold_in(
         alloc,
@@ -243,10 +252,19 @@ fn a_user_id_the_map_block_and_new_blocks_want_no_frame(rt: HostRuntime) -> Resu
         map 0002 = ok
         newraw 3 1 = block 0003
         newheap 4 = block 0004
+        gettype 0004 = number 0
+        settype 0004 5 = ok
+        gettype 0004 = number 5
+        settype 0002 5 = no 7 WrongKind
+        gettype 0002 = no 7 WrongKind
+        settype 0009 5 = no 5 NoBlock
+        gettype 0009 = no 5 NoBlock
         find 7 0000 = block 0002
         mapblock = block 0002
-        undos = number 6
+        undos = number 7
         unlock 0001 = ok
+        undo = ok
+        gettype 0004 = number 0
         undo = ok
         undo = ok
         undo = ok
@@ -272,6 +290,7 @@ fn a_locked_block_is_edited_and_the_edits_are_undone_once_it_is_not_locked(
             alloc 0001 2 = chunk 0010
             write 0001 0010 0 6162 = ok
             write 0001 0010 2 61 = no 11 Range
+            settype 0001 6 = ok
             vcopy 0001 = block 0002
             locks 0002 = number 0
             uid 0001 9 = ok
@@ -281,6 +300,9 @@ fn a_locked_block_is_edited_and_the_edits_are_undone_once_it_is_not_locked(
             unlock 0001 = ok
             undo = ok
             undo = ok
+            gettype 0001 = number 6
+            undo = ok
+            gettype 0001 = number 0
             undo = ok
             read 0001 0010 = bytes 0000
             undo = ok
@@ -288,6 +310,8 @@ fn a_locked_block_is_edited_and_the_edits_are_undone_once_it_is_not_locked(
             redo = ok
             redo = ok
             redo = ok
+            redo = ok
+            gettype 0002 = number 6
             read 0002 0010 = bytes 6162",
         )?;
     }

@@ -74,9 +74,10 @@ const BLOCKS: &str = "newraw 7 1 = block 0001
     vfree 0003 = ok
     update = ok";
 
-const COMMANDS: [&str; 10] = [
+const COMMANDS: [&str; 11] = [
     "newraw 6 1\n",
     "uid 0001 5\n",
+    "settype 0002 3\n",
     "undo\n",
     "redo\n",
     "update\n",
@@ -89,7 +90,7 @@ const COMMANDS: [&str; 10] = [
 
 // What tells the blocks, their user IDs, the map block, and how much can be undone.
 const QUESTIONS: &str =
-    "list\nfind 5 0000\nfind 6 0000\nfind 7 0000\nfind 8 0000\nfind 9 0000\nmapblock\nundos\nredos\n";
+    "list\ngettype 0002\nfind 5 0000\nfind 6 0000\nfind 7 0000\nfind 8 0000\nfind 9 0000\nmapblock\nundos\nredos\n";
 
 fn is_refusal(reply: &[u8]) -> bool {
     reply.starts_with(b"no ")
@@ -105,6 +106,9 @@ fn may_be_refused(command: &str, reply: &[u8]) -> bool {
         "undo\n" => reply == b"no 22 NothingToUndo\n".as_slice(),
         "redo\n" => reply == b"no 23 NothingToRedo\n".as_slice(),
         "uid 0001 5\n" => reply == b"no 5 NoBlock\n".as_slice(),
+        "settype 0002 3\n" => {
+            reply == b"no 5 NoBlock\n".as_slice() || reply == b"no 7 WrongKind\n".as_slice()
+        }
         _ => false,
     }
 }

@@ -6,7 +6,7 @@ use std::test::Fail;
 use undo_log::Session;
 use vm_store::MemStore;
 
-// Five edits, and commits between them.
+// Six edits, and commits between them.
 const EDITED: &str = "newraw 7 1 = block 0001
     save = ok
     vwrite 0001 0 61 = ok
@@ -15,7 +15,8 @@ const EDITED: &str = "newraw 7 1 = block 0001
     alloc 0002 3 = chunk 0010
     save = ok
     uid 0001 9 = ok
-    undos = number 5
+    settype 0002 4 = ok
+    undos = number 6
     redos = number 0";
 
 // Has this dialogue behind those edits.
@@ -43,6 +44,8 @@ fn edits_before_commits_are_undone_and_made_again(rt: HostRuntime) -> Result<(),
         alloc,
         None,
         "undo = ok
+        gettype 0002 = number 0
+        undo = ok
         info 0001 = raw 7 1
         undo = ok
         chunks 0002 = chunks
@@ -56,7 +59,7 @@ fn edits_before_commits_are_undone_and_made_again(rt: HostRuntime) -> Result<(),
         list = blocks
         save = ok
         undos = number 0
-        redos = number 5
+        redos = number 6
         redo = ok
         redo = ok
         vread 0001 = bytes 61
@@ -65,9 +68,11 @@ fn edits_before_commits_are_undone_and_made_again(rt: HostRuntime) -> Result<(),
         redo = ok
         chunks 0002 = chunks 0010
         redo = ok
+        redo = ok
         redo = no 23 NothingToRedo
         info 0001 = raw 9 1
-        undos = number 5",
+        gettype 0002 = number 4
+        undos = number 6",
     )?;
     assert_eq!(rt; pair_in(alloc, store.bytes())?, both(0x61));
     Ok(())
@@ -81,13 +86,14 @@ fn an_update_keeps_what_can_be_undone_and_a_revert_drops_it(rt: HostRuntime) -> 
         None,
         "undo = ok
         update = ok
-        undos = number 4
+        undos = number 5
         redos = number 1
         redo = ok
+        gettype 0002 = number 4
         update = ok
         undo = ok
         undo = ok
-        undos = number 3
+        undos = number 4
         redos = number 2
         revert = ok
         undos = number 0
@@ -96,6 +102,7 @@ fn an_update_keeps_what_can_be_undone_and_a_revert_drops_it(rt: HostRuntime) -> 
         redo = no 23 NothingToRedo
         info 0001 = raw 7 1
         vread 0001 = bytes 61
+        gettype 0002 = number 0
         chunks 0002 = chunks 0010",
     )?;
     Ok(())
@@ -110,8 +117,10 @@ fn edits_on_both_sides_of_a_save_as_are_undone(rt: HostRuntime) -> Result<(), Fa
         target,
         "saveas = ok
         vwrite 0001 0 62 = ok
-        undos = number 6
+        undos = number 7
         undo = ok
+        undo = ok
+        gettype 0002 = number 0
         undo = ok
         undo = ok
         undo = ok
@@ -122,11 +131,12 @@ fn edits_on_both_sides_of_a_save_as_are_undone(rt: HostRuntime) -> Result<(), Fa
         undo = ok
         list = blocks
         undos = number 0
-        redos = number 6
+        redos = number 7
         redo = ok
         redo = ok
         revert = ok
         info 0001 = raw 9 1
+        gettype 0002 = number 4
         chunks 0002 = chunks 0010
         redos = number 0",
     )?;
