@@ -6,7 +6,7 @@ ghost use Rattle.geos_shell.specs.Holdings.{AreExact, held};
 ghost use Rattle.geos_shell.specs.Runs.{AnswersOf};
 ghost use Rattle.dialogues.specs.Dialogues.{Goes};
 
-use crate::told::push_told;
+use crate::shorthand::push_expanded;
 use geos_model::Fault;
 use geos_shell::{RunFault, run};
 use std::alloc::{AllocError, Global};
@@ -16,7 +16,7 @@ use vm_store::{MemStore, Store};
 
 /// Why a run did not go as the dialogue is written.
 #[derive(Debug, Drop)]
-pub enum Departure {
+pub enum Mismatch {
     /// Memory ran out.
     Memory,
     /// There was no new document.
@@ -33,15 +33,15 @@ pub enum Departure {
     ReplyCount,
 }
 
-impl From<AllocError> for Departure {
-    fn from(_: AllocError) -> Departure {
-        Departure::Memory
+impl From<AllocError> for Mismatch {
+    fn from(_: AllocError) -> Mismatch {
+        Mismatch::Memory
     }
 }
 
-impl From<RunFault> for Departure {
-    fn from(fault: RunFault) -> Departure {
-        Departure::Run(fault)
+impl From<RunFault> for Mismatch {
+    fn from(fault: RunFault) -> Mismatch {
+        Mismatch::Run(fault)
     }
 }
 
@@ -73,7 +73,7 @@ impl Dialogue {
     }
 
     /// Text behind the script, and behind the replies, as it stands.
-    pub fn put(&mut self, script: &str, replies: &str) -> Result<(), AllocError>
+    pub fn add_text(&mut self, script: &str, replies: &str) -> Result<(), AllocError>
         ensures { OnOk result (self.new ≡ (self.old.0 ++ script.now, self.old.1 ++ replies.now)) }
     {
         self.script.push_str(script)?;
@@ -81,26 +81,26 @@ impl Dialogue {
     }
 
     /// A command and its reply.
-    pub fn say(&mut self, command: &str, reply: &str) -> Result<(), AllocError>
+    pub fn add_line(&mut self, command: &str, reply: &str) -> Result<(), AllocError>
         ensures { OnOk result (self.new ≡ ((self.old.0 ++ command.now) ++ line_feed ∷ [], (self.old.1 ++ reply.now) ++ line_feed ∷ [])) }
     {
-        self.put(command, reply)?;
-        self.put("\n", "\n")
+        self.add_text(command, reply)?;
+        self.add_text("\n", "\n")
     }
 
     /// Lines, each a command, then ` = ` and its reply, or one that gets no reply. Spaces round each are left out. In a word
     /// `61+00*4` stands for `6100000000`.
-    pub fn tell(&mut self, text: &str) -> Result<(), AllocError> {
+    pub fn add_lines(&mut self, text: &str) -> Result<(), AllocError> {
         for line in text.lines() {
             match line.split_once(" = ") {
                 Some((command, reply)) => {
-                    push_told(&mut self.script, command)?;
-                    push_told(&mut self.replies, reply)?;
-                    self.put("\n", "\n")?;
+                    push_expanded(&mut self.script, command)?;
+                    push_expanded(&mut self.replies, reply)?;
+                    self.add_text("\n", "\n")?;
                 }
                 None => {
-                    push_told(&mut self.script, line)?;
-                    self.put("\n", "")?;
+                    push_expanded(&mut self.script, line)?;
+                    self.add_text("\n", "")?;
                 }
             }
         }
@@ -122,39 +122,39 @@ impl Dialogue {
     }
 
     /// Runs the script on a new document, in a file in memory, with 1, 2, 8 and 64 frames, and compares the replies.
-    pub fn hold(&self) -> Result<(), Departure>
+    pub fn expect_replies(&self) -> Result<(), Mismatch>
         ensures one { OnOk result (Goes 1 self.now.0 self.now.1) }
         ensures two { OnOk result (Goes 2 self.now.0 self.now.1) }
         ensures eight { OnOk result (Goes 8 self.now.0 self.now.1) }
         ensures most { OnOk result (Goes 64 self.now.0 self.now.1) }
     {
-        self.hold_in(1)?;
-        self.hold_in(2)?;
-        self.hold_in(8)?;
-        self.hold_in(64)
+        self.expect_replies_in(1)?;
+        self.expect_replies_in(2)?;
+        self.expect_replies_in(8)?;
+        self.expect_replies_in(64)
     }
 
     /// Runs the script on a new document that is held in so many frames, in a file in memory, and compares the replies.
-    pub fn hold_in(&self, frames: usize) -> Result<(), Departure>
+    pub fn expect_replies_in(&self, frames: usize) -> Result<(), Mismatch>
         requires { (1 ≤ frames) × (frames ≤ 64) }
         ensures { OnOk result (Goes frames self.now.0 self.now.1) }
     {
         match Session::create(self.alloc, MemStore::new(self.alloc), frames) {
             Ok(session) => {
-                self.hold_on(session, None)?;
+                self.expect_replies_on(session, None)?;
                 Ok(())
             }
-            Err(refused) => Err(Departure::Refused(refused.fault)),
+            Err(refused) => Err(Mismatch::Refused(refused.fault)),
         }
     }
 
     /// Runs the script on the document of a session, with what a save-as may make a file of, and compares the replies. Gives the
     /// session back.
-    pub fn hold_on<S: Store>(
+    pub fn expect_replies_on<S: Store>(
         &self,
         session: Session<S>,
         target: Option<S>,
-    ) -> Result<Session<S>, Departure>
+    ) -> Result<Session<S>, Mismatch>
         ensures answers { IfOk result (λ after. AreExact S.facts (held session target None) → (left former : Option S)
             × AnswersOf S.facts (held session target None) (requests (lines self.now.0)) self.now.1 (held after left former)) }
         ensures exact { IfOk result (λ after. AreExact S.facts (held session target None) → IsExact S.facts after) }
@@ -170,28 +170,28 @@ impl Dialogue {
         if written.as_slice() == self.replies.as_bytes() {
             return Ok(session);
         }
-        Err(first_departure(self.alloc, &self.replies, &written)?)
+        Err(first_mismatch(self.alloc, &self.replies, &written)?)
     }
 }
 
-/// Runs a dialogue that is told in lines, as by `tell`.
-pub fn hold(alloc: Global, text: &str) -> Result<(), Departure> {
+/// Runs a dialogue that is written in lines, as for `add_lines`.
+pub fn expect_replies(alloc: Global, text: &str) -> Result<(), Mismatch> {
     let mut dialogue = Dialogue::new(alloc);
-    dialogue.tell(text)?;
-    dialogue.hold()
+    dialogue.add_lines(text)?;
+    dialogue.expect_replies()
 }
 
 // Finds the first reply that differs.
-fn first_departure(alloc: Global, wanted: &str, given: &[u8]) -> Result<Departure, AllocError> {
+fn first_mismatch(alloc: Global, wanted: &str, given: &[u8]) -> Result<Mismatch, AllocError> {
     let given = String::from_utf8_lossy(alloc, given)?;
     for (number, (want, give)) in wanted.lines().zip(given.lines()).enumerate() {
         if want != give {
-            return Ok(Departure::Reply {
+            return Ok(Mismatch::Reply {
                 number,
                 wanted: want.to_string(alloc)?,
                 given: give.to_string(alloc)?,
             });
         }
     }
-    Ok(Departure::ReplyCount)
+    Ok(Mismatch::ReplyCount)
 }

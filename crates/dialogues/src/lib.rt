@@ -2,6 +2,6 @@
 #![tactic(auto)]
 
 mod dialogue;
-mod told;
+mod shorthand;
 
-pub use dialogue::{Departure, Dialogue, hold};
+pub use dialogue::{Dialogue, Mismatch, expect_replies};

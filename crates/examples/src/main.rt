@@ -3,7 +3,7 @@
 
 mod playing;
 
-use dialogues::Departure;
+use dialogues::Mismatch;
 use playing::{answer, begin};
 use std::process::ExitCode;
 use std::{fs, io};
@@ -27,20 +27,20 @@ fn play(
     rt: &HostRuntime,
     name: &str,
     left: Option<MemStore>,
-) -> io::Result<Result<MemStore, Departure>> {
+) -> io::Result<Result<MemStore, Mismatch>> {
     let alloc = rt.alloc();
     let script = fs::read_to_string(rt, format!(in alloc; "{name}.script")?.as_str())?;
     let replies = fs::read_to_string(rt, format!(in alloc; "{name}.replies")?.as_str())?;
     match begin(alloc, left) {
         Ok(session) => Ok(answer(alloc, session, &script, &replies)),
-        Err(departure) => Ok(Err(departure)),
+        Err(mismatch) => Ok(Err(mismatch)),
     }
 }
 
-/// Tells how an example went that departs from its replies.
-fn tell(rt: &HostRuntime, name: &str, departure: &Departure) -> io::Result<()> {
-    match departure {
-        Departure::Reply {
+/// Tells how an example went that differs from its replies.
+fn tell(rt: &HostRuntime, name: &str, mismatch: &Mismatch) -> io::Result<()> {
+    match mismatch {
+        Mismatch::Reply {
             number,
             wanted,
             given,
@@ -63,8 +63,8 @@ fn play_all(rt: &HostRuntime, names: &[&str]) -> io::Result<bool> {
                 println!(rt; "{name}: as expected")?;
                 left = Some(store);
             }
-            Err(departure) => {
-                tell(rt, name, &departure)?;
+            Err(mismatch) => {
+                tell(rt, name, &mismatch)?;
                 return Ok(false);
             }
         }

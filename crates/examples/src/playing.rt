@@ -4,7 +4,7 @@ ghost use Rattle.vm_store.specs.History.{facts_of};
 ghost use Rattle.undo_log.specs.Records.{IsExact};
 ghost use Rattle.examples.specs.Playing.{IsNew, IsOpened, IsOn, Plays};
 
-use dialogues::{Departure, Dialogue};
+use dialogues::{Dialogue, Mismatch};
 use std::alloc::Global;
 use undo_log::Session;
 use vm_store::MemStore;
@@ -13,29 +13,29 @@ use vm_store::MemStore;
 const FRAMES: usize = 8;
 
 /// A session on a new document.
-fn create(alloc: Global) -> Result<Session<MemStore>, Departure>
+fn create(alloc: Global) -> Result<Session<MemStore>, Mismatch>
     ensures new { IfOk result IsNew }
     ensures exact { IfOk result (IsExact facts_of) }
 {
     match Session::create(alloc, MemStore::new(alloc), FRAMES) {
         Ok(session) => Ok(session),
-        Err(refused) => Err(Departure::Refused(refused.fault)),
+        Err(refused) => Err(Mismatch::Refused(refused.fault)),
     }
 }
 
 /// A session on the document in a file.
-fn open(alloc: Global, file: MemStore) -> Result<Session<MemStore>, Departure>
+fn open(alloc: Global, file: MemStore) -> Result<Session<MemStore>, Mismatch>
     ensures opened { IfOk result (IsOpened file) }
     ensures exact { IfOk result (IsExact facts_of) }
 {
     match Session::open(alloc, file, FRAMES) {
         Ok(session) => Ok(session),
-        Err(refused) => Err(Departure::Refused(refused.fault)),
+        Err(refused) => Err(Mismatch::Refused(refused.fault)),
     }
 }
 
 /// A session on the document in a file that was left, or on a new one.
-pub(crate) fn begin(alloc: Global, left: Option<MemStore>) -> Result<Session<MemStore>, Departure>
+pub(crate) fn begin(alloc: Global, left: Option<MemStore>) -> Result<Session<MemStore>, Mismatch>
     ensures on { IfOk result (IsOn left) }
     ensures exact { IfOk result (IsExact facts_of) }
 {
@@ -51,12 +51,12 @@ pub(crate) fn answer(
     session: Session<MemStore>,
     script: &str,
     replies: &str,
-) -> Result<MemStore, Departure>
+) -> Result<MemStore, Mismatch>
     requires { IsExact facts_of session }
     ensures { IfOk result (Plays session script.now replies.now) }
 {
     let mut dialogue = Dialogue::new(alloc);
-    dialogue.put(script, replies)?;
-    let after = dialogue.hold_on(session, None)?;
+    dialogue.add_text(script, replies)?;
+    let after = dialogue.expect_replies_on(session, None)?;
     Ok(after.close())
 }

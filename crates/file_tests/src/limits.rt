@@ -1,0 +1,232 @@
+// As much as a file can hold.
+use crate::calls::{attributes_of, create, has, heap_block, open, put, save};
+use crate::steps::Step::{
+    Finds, Has, IsFull, ListsLive, Lives, MapBlock, NextHandle, NoRemove, PutAll, Remove,
+    RemoveOthers, Revert, Save, SetMap, SetUserId, Update,
+};
+use crate::steps::{Mismatch, Step, closed, made, read};
+use geos_model::{Attributes, Fault};
+use lmem_heap::Heap;
+use std::alloc::Global;
+use std::test::Fail;
+use vm_file::VmFile;
+use vm_store::MemStore;
+
+// A store of a file that was saved with all blocks.
+fn full_store(alloc: Global) -> Result<MemStore, Mismatch> {
+    made(alloc, MemStore::new(alloc), &[], &[PutAll(b"a"), Save])
+}
+
+#[test]
+fn each_handle_has_a_block(rt: HostRuntime) -> Result<(), Fail> {
+    let alloc = rt.alloc();
+    let store = full_store(alloc)?;
+    // The slots, the first directory, the images, and 256 whole pages and 16 bytes of the new directory.
+    assert_eq!(rt; store.bytes().len(), (3 + 8_192 + 256) * 512 + 16);
+    let steps = [IsFull, Has(1, b"\0a"), Has(8_192, b"\0a")];
+    read(alloc, store.bytes(), &steps)?;
+    Ok(())
+}
+
+#[test]
+fn all_handles_are_listed(rt: HostRuntime) -> Result<(), Fail> {
+    let alloc = rt.alloc();
+    let store = full_store(alloc)?;
+    let steps = [
+        ListsLive,
+        NextHandle(None),
+        Finds(8_192, 0, Some(8_192)),
+        Remove(4_096),
+        NextHandle(Some(4_096)),
+        ListsLive,
+    ];
+    read(alloc, store.bytes(), &steps)?;
+    Ok(())
+}
+
+// All of them put again and updated, while none of the old ones may be written over, and once more and not updated.
+const AGAIN: [Step; 4] = [PutAll(b"b"), Update, PutAll(b"c"), Has(4_096, b"\0c")];
+
+// What is updated and what is saved then.
+const UPDATED: [Step; 4] = [IsFull, Has(4_096, b"\0b"), Revert, Has(4_096, b"\0a")];
+
+#[test]
+fn each_block_is_put_again(rt: HostRuntime) -> Result<(), Fail> {
+    let alloc = rt.alloc();
+    let full = full_store(alloc)?;
+    let store = read(alloc, full.bytes(), &AGAIN)?;
+    read(alloc, store.bytes(), &UPDATED)?;
+    Ok(())
+}
+
+// What is done with a file of all blocks, in which page 2 and those from 8,452 on are free; a place in a slot, and the page that stands
+// there then for that of the updated directory; and the file's length.
+type Case = (&'static [Step], usize, u32, usize);
+
+const CASES: [Case; 6] = [
+    // A directory of 257 pages goes behind all others, and the third one where the first was.
+    (&[SetUserId(1, 9), Update], 16, 8_452, 8_452 * 512 + 131_088),
+    (
+        &[SetUserId(1, 9), Update, Update],
+        528,
+        8_709,
+        8_709 * 512 + 131_088,
+    ),
+    (
+        &[SetUserId(1, 9), Update, Update, Update],
+        16,
+        8_452,
+        8_709 * 512 + 131_088,
+    ),
+    // The images too: the first at page 2, the others behind the directory, and those of the third time behind all.
+    (&AGAIN, 16, 16_643, 25_091 * 512 + 2),
+    // One block needs a directory of one page.
+    (
+        &[SetMap(9), RemoveOthers(9), Save],
+        16,
+        2,
+        8_195 * 512 + 131_088,
+    ),
+    // Around its image and its directory all that was given up is used again.
+    (
+        &[SetMap(9), RemoveOthers(9), Save, PutAll(b"b"), Save],
+        528,
+        8_196,
+        8_196 * 512 + 131_088,
+    ),
+];
+
+// Whether this page stands at a place.
+fn has_page(bytes: &[u8], at: usize, page: u32) -> bool {
+    match bytes.get(at..) {
+        Some(rest) => rest.starts_with(&page.to_le_bytes()),
+        None => false,
+    }
+}
+
+#[test]
+fn a_long_directory_takes_the_first_gap_of_257_pages(rt: HostRuntime) -> Result<(), Fail> {
+    let alloc = rt.alloc();
+    let full = full_store(alloc)?;
+    for (case, (steps, at, page, length)) in CASES.into_iter().enumerate() {
+        let store = read(alloc, full.bytes(), steps)?;
+        assert!(rt; has_page(store.bytes(), at, page), "case {case}");
+        assert_eq!(rt; store.bytes().len(), length, "case {case}");
+    }
+    Ok(())
+}
+
+const LONG_BLOCKS: u16 = 20;
+
+// Saves blocks with this body.
+fn save_long(alloc: Global, file: &mut VmFile<MemStore>, body: &[u8]) -> Result<(), Fault> {
+    for handle in 1..=LONG_BLOCKS {
+        put(alloc, file, handle, handle, body)?;
+    }
+    save(file)
+}
+
+// The file of such blocks.
+fn long_file(alloc: Global, body: &[u8]) -> Result<MemStore, Fault> {
+    let mut file = create(alloc, MemStore::new(alloc))?;
+    let end = save_long(alloc, &mut file, body);
+    closed(file, end)
+}
+
+// The first of these blocks that is another one, in a file with these bytes.
+fn first_wrong(alloc: Global, bytes: &[u8], image: &[u8]) -> Result<Option<u16>, Fault> {
+    let mut file = open(alloc, bytes)?;
+    first_other(&mut file, image)
+}
+
+fn first_other(file: &mut VmFile<MemStore>, image: &[u8]) -> Result<Option<u16>, Fault> {
+    for handle in 1..=LONG_BLOCKS {
+        if !has(file, handle, image)? {
+            return Ok(Some(handle));
+        }
+    }
+    Ok(None)
+}
+
+#[test]
+fn raw_bodies_have_up_to_65520_bytes(rt: HostRuntime) -> Result<(), Fail> {
+    let alloc = rt.alloc();
+    let mut image = vec![in alloc; 7; 65_521]?;
+    image[0] = 0;
+    let store = long_file(alloc, &image[1..])?;
+    assert_eq!(rt; first_wrong(alloc, store.bytes(), &image)?, None);
+    Ok(())
+}
+
+const TYPED: Attributes = Attributes {
+    user_id: 6,
+    heap_type: 65_535,
+};
+
+// Saves a heap in a block.
+fn save_heap(file: &mut VmFile<MemStore>, heap: &Heap) -> Result<(), Fault> {
+    file.put_blocks(&[heap_block(5, TYPED, heap)?], &[])?;
+    save(file)
+}
+
+// The file of that block.
+fn heap_file(alloc: Global, heap: &Heap) -> Result<MemStore, Fault> {
+    let mut file = create(alloc, MemStore::new(alloc))?;
+    let end = save_heap(&mut file, heap);
+    closed(file, end)
+}
+
+// Whether that block has this image, and its attributes, in a file with these bytes.
+fn has_heap(
+    alloc: Global,
+    bytes: &[u8],
+    image: &[u8],
+) -> Result<(bool, Option<Attributes>), Fault> {
+    let mut file = open(alloc, bytes)?;
+    let has_image = has(&mut file, 5, image);
+    let attributes = attributes_of(&file, 5);
+    Ok((has_image?, attributes))
+}
+
+// One chunk takes all of a heap but for its header and its entry.
+#[test]
+fn a_heap_has_up_to_65520_bytes(rt: HostRuntime) -> Result<(), Fail> {
+    let alloc = rt.alloc();
+    let mut heap = Heap::new(alloc)?;
+    assert!(rt; heap.fits_alloc(65_498));
+    heap.alloc(65_498);
+    let image = heap.image()?;
+    let store = heap_file(alloc, &heap)?;
+    let answer = has_heap(alloc, store.bytes(), &image)?;
+    assert_eq!(rt; answer, (true, Some(TYPED)));
+    Ok(())
+}
+
+// All blocks but the map block are taken out.
+const ONE: [Step; 3] = [PutAll(b"a"), SetMap(9), RemoveOthers(9)];
+
+// The file of the one block, when the steps were taken on it.
+fn one_block(alloc: Global, steps: &[Step]) -> Result<MemStore, Mismatch> {
+    made(alloc, MemStore::new(alloc), &ONE, steps)
+}
+
+// To take out a block that isn't there changes nothing.
+#[test]
+fn blocks_are_taken_out(rt: HostRuntime) -> Result<(), Fail> {
+    let steps = [
+        NoRemove(9, Fault::IsMap),
+        Remove(10),
+        Remove(0),
+        Lives(&[9]),
+    ];
+    one_block(rt.alloc(), &steps)?;
+    Ok(())
+}
+
+#[test]
+fn blocks_that_were_taken_out_are_not_saved(rt: HostRuntime) -> Result<(), Fail> {
+    let alloc = rt.alloc();
+    let store = one_block(alloc, &[Save])?;
+    read(alloc, store.bytes(), &[Lives(&[9]), MapBlock(9)])?;
+    Ok(())
+}

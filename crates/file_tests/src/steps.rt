@@ -1,0 +1,192 @@
+// Work on a document file as a list of steps, and where it went another way.
+use crate::calls::{
+    create, first_block, found, has, is_full, is_worn_out, listed, live_blocks, next_handle, put,
+    put_all, put_heap, remove, remove_others, revert, save, set_map_block, set_type, set_user_id,
+    type_of, update, user_id_of, why,
+};
+use geos_model::{Attributes, Fault};
+use std::alloc::{AllocError, Global};
+use vm_file::{Refused, VmFile};
+use vm_store::{MemStore, Store};
+
+/// A step of work on a document file, or something that has to be seen there.
+#[derive(Clone, Copy, Debug)]
+pub(crate) enum Step {
+    /// A raw block with a user ID comes into the document.
+    Put(u16, u16, &'static [u8]),
+    /// An empty heap, with a user ID and a type.
+    PutHeap(u16, u16, u16),
+    /// A raw block with this body under each handle.
+    PutAll(&'static [u8]),
+    Remove(u16),
+    /// All blocks go but this one.
+    RemoveOthers(u16),
+    /// A block can't be taken out.
+    NoRemove(u16, Fault),
+    SetUserId(u16, u16),
+    /// A heap gets this type.
+    SetType(u16, u16),
+    SetMap(u16),
+    Update,
+    Save,
+    Revert,
+    /// No commit is taken any more.
+    IsWornOut,
+    IsNotWorn,
+    /// A block is live and has this image.
+    Has(u16, &'static [u8]),
+    HasUserId(u16, u16),
+    HasType(u16, u16),
+    HasNoBlock(u16),
+    MapBlock(u16),
+    /// The live blocks.
+    Lives(&'static [u16]),
+    /// There is a block under each handle, which has it as user ID.
+    IsFull,
+    IsEmpty,
+    /// The handles that the document tells.
+    Lists(&'static [u16]),
+    /// The document tells the handles of the live blocks.
+    ListsLive,
+    NextHandle(Option<u16>),
+    /// The first block with a user ID above a handle.
+    Finds(u16, u16, Option<u16>),
+}
+
+/// Why work on a document file did not go as its steps say.
+#[derive(Debug, Drop)]
+pub(crate) enum Mismatch {
+    Memory,
+    /// There is no file.
+    NoFile(Fault),
+    /// A step is refused.
+    Refused(Step, Fault),
+    /// Something else is seen.
+    Seen(Step),
+    /// A store that fails is made a file.
+    NotRefused,
+}
+
+impl From<AllocError> for Mismatch {
+    fn from(_: AllocError) -> Mismatch {
+        Mismatch::Memory
+    }
+}
+
+// Whether all is seen that a step says.
+fn sees<S: Store>(alloc: Global, file: &mut VmFile<S>, step: Step) -> Result<bool, Fault> {
+    match step {
+        Step::IsWornOut => Ok(is_worn_out(file)),
+        Step::IsNotWorn => Ok(!file.is_worn()),
+        Step::Has(handle, image) => has(file, handle, image),
+        Step::HasUserId(handle, user_id) => Ok(user_id_of(file, handle) == Some(user_id)),
+        Step::HasType(handle, heap_type) => Ok(type_of(file, handle) == Some(heap_type)),
+        Step::HasNoBlock(handle) => Ok(user_id_of(file, handle).is_none()),
+        Step::MapBlock(handle) => Ok(file.map_block().0 == handle),
+        Step::Lives(handles) => Ok(live_blocks(alloc, file)?.as_slice() == handles),
+        Step::IsFull => is_full(alloc, file),
+        Step::IsEmpty => Ok(first_block(file) == 0),
+        Step::Lists(handles) => Ok(listed(alloc, file)?.as_slice() == handles),
+        Step::ListsLive => {
+            Ok(listed(alloc, file)?.as_slice() == live_blocks(alloc, file)?.as_slice())
+        }
+        Step::NextHandle(handle) => Ok(next_handle(file) == handle),
+        Step::Finds(user_id, start, handle) => Ok(found(file, user_id, start) == handle),
+        _ => Ok(false),
+    }
+}
+
+// Takes a step. Returns whether all is seen that it says.
+fn take_step<S: Store>(alloc: Global, file: &mut VmFile<S>, step: Step) -> Result<bool, Fault> {
+    match step {
+        Step::Put(handle, user_id, body) => put(alloc, file, handle, user_id, body)?,
+        Step::PutHeap(handle, user_id, heap_type) => {
+            put_heap(alloc, file, handle, Attributes { user_id, heap_type })?
+        }
+        Step::PutAll(body) => put_all(alloc, file, body)?,
+        Step::Remove(handle) => remove(file, handle)?,
+        Step::RemoveOthers(handle) => remove_others(file, handle)?,
+        Step::NoRemove(handle, fault) => return Ok(remove(file, handle) == Err(fault)),
+        Step::SetUserId(handle, user_id) => set_user_id(file, handle, user_id)?,
+        Step::SetType(handle, heap_type) => set_type(file, handle, heap_type)?,
+        Step::SetMap(handle) => set_map_block(file, handle)?,
+        Step::Update => update(file)?,
+        Step::Save => save(file)?,
+        Step::Revert => revert(file)?,
+        _ => return sees(alloc, file, step),
+    }
+    Ok(true)
+}
+
+/// Takes the steps up to one that does not go as it says.
+pub(crate) fn take<S: Store>(
+    alloc: Global,
+    file: &mut VmFile<S>,
+    steps: &[Step],
+) -> Result<(), Mismatch> {
+    for step in steps {
+        match take_step(alloc, file, *step) {
+            Ok(true) => {}
+            Ok(false) => return Err(Mismatch::Seen(*step)),
+            Err(fault) => return Err(Mismatch::Refused(*step, fault)),
+        }
+    }
+    Ok(())
+}
+
+/// The store of a file, where all that was done with it has ended well.
+pub(crate) fn closed<S: Store, E>(file: VmFile<S>, end: Result<(), E>) -> Result<S, E> {
+    let store = file.close();
+    match end {
+        Ok(()) => Ok(store),
+        Err(mismatch) => Err(mismatch),
+    }
+}
+
+// Takes these steps and then those.
+fn take_both<S: Store>(
+    alloc: Global,
+    file: &mut VmFile<S>,
+    begun: &[Step],
+    steps: &[Step],
+) -> Result<(), Mismatch> {
+    take(alloc, file, begun)?;
+    take(alloc, file, steps)
+}
+
+/// The store of a new document, when the steps were taken on it: some that begin it, and the others.
+pub(crate) fn made<S: Store>(
+    alloc: Global,
+    store: S,
+    begun: &[Step],
+    steps: &[Step],
+) -> Result<S, Mismatch> {
+    let mut file = create(alloc, store).map_err(Mismatch::NoFile)?;
+    let end = take_both(alloc, &mut file, begun, steps);
+    closed(file, end)
+}
+
+/// The store of the document that it has, when the steps were taken on it.
+pub(crate) fn kept<S: Store>(alloc: Global, store: S, steps: &[Step]) -> Result<S, Mismatch> {
+    let mut file = VmFile::open(alloc, store)
+        .map_err(why)
+        .map_err(Mismatch::NoFile)?;
+    let end = take(alloc, &mut file, steps);
+    closed(file, end)
+}
+
+/// The store of a document with these bytes, when the steps were taken on it.
+pub(crate) fn read(alloc: Global, bytes: &[u8], steps: &[Step]) -> Result<MemStore, Mismatch> {
+    kept(alloc, MemStore::from_bytes(alloc, bytes)?, steps)
+}
+
+/// The store that is given back since it fails.
+pub(crate) fn given_back<S: Store>(answer: Result<VmFile<S>, Refused<S>>) -> Result<S, Mismatch> {
+    match answer {
+        Ok(_) => Err(Mismatch::NotRefused),
+        Err(refused) => match refused.fault {
+            Fault::File => Ok(refused.store),
+            fault => Err(Mismatch::NoFile(fault)),
+        },
+    }
+}

@@ -1,0 +1,129 @@
+// Commits in files of each version, and types of heaps from one opening to the next.
+use crate::example::example;
+use crate::steps::Step::{
+    HasType, HasUserId, IsEmpty, Lives, Put, PutHeap, Revert, Save, SetType, SetUserId, Update,
+};
+use crate::steps::{Mismatch, Step, made, read};
+use std::alloc::Global;
+use std::test::Fail;
+use vm_store::MemStore;
+
+// What is done with an example, the slot that stands at a place then, and what is seen when the file is opened again.
+type Case = (&'static [Step], usize, &'static [u8; 32], &'static [Step]);
+
+// The updated directory is the first free page's, and the saved one stays at page 3 until another one is saved.
+const CASES: [Case; 5] = [
+    (
+        &[Update],
+        512,
+        b"GVMF\x01\x02\0\0\x06\0\0\0\0\0\0\0\x05\0\0\0\x20\0\0\0\x03\0\0\0\x10\0\0\0",
+        &[Lives(&[1]), Revert, IsEmpty],
+    ),
+    (
+        &[PutHeap(2, 8, 4_660), Update],
+        512,
+        b"GVMF\x01\x02\0\0\x06\0\0\0\0\0\0\0\x06\0\0\0\x30\0\0\0\x03\0\0\0\x10\0\0\0",
+        &[Lives(&[1, 2]), HasType(2, 4_660), Revert, IsEmpty],
+    ),
+    (
+        &[Save],
+        512,
+        b"GVMF\x01\x02\0\0\x06\0\0\0\0\0\0\0\x05\0\0\0\x20\0\0\0\x05\0\0\0\x20\0\0\0",
+        &[Lives(&[1]), Revert, Lives(&[1])],
+    ),
+    (
+        &[Revert],
+        512,
+        b"GVMF\x01\x02\0\0\x06\0\0\0\0\0\0\0\x03\0\0\0\x10\0\0\0\x03\0\0\0\x10\0\0\0",
+        &[IsEmpty, Revert, IsEmpty],
+    ),
+    (
+        &[Update, Revert],
+        0,
+        b"GVMF\x01\x02\0\0\x07\0\0\0\0\0\0\0\x03\0\0\0\x10\0\0\0\x03\0\0\0\x10\0\0\0",
+        &[IsEmpty, Revert, IsEmpty],
+    ),
+];
+
+// The file of an example, when the steps were taken on it, and then these on the file that is opened again.
+fn opened_twice(
+    alloc: Global,
+    version: u8,
+    steps: &[Step],
+    again: &[Step],
+) -> Result<MemStore, Mismatch> {
+    let store = read(alloc, &example(version), steps)?;
+    read(alloc, store.bytes(), again)?;
+    Ok(store)
+}
+
+// Whether this slot stands at a place.
+fn has_slot(store: &MemStore, at: usize, slot: &[u8; 32]) -> bool {
+    match store.bytes().get(at..) {
+        Some(rest) => rest.starts_with(slot),
+        None => false,
+    }
+}
+
+#[test]
+fn each_commit_writes_a_slot_of_version_2(rt: HostRuntime) -> Result<(), Fail> {
+    for version in [1, 2] {
+        for (case, (steps, at, slot, again)) in CASES.into_iter().enumerate() {
+            let store = opened_twice(rt.alloc(), version, steps, again)?;
+            assert!(rt;
+                has_slot(&store, at, slot),
+                "version {version}, case {case}"
+            );
+            // The saved directory is as it was.
+            let saved = example(version);
+            assert!(rt; store.bytes().get(1_536..1_552) == saved.get(1_536..1_552));
+        }
+    }
+    Ok(())
+}
+
+// What is done from one opening to the next.
+const ROUNDS: [&[Step]; 3] = [
+    &[
+        PutHeap(1, 7, 4_660),
+        PutHeap(2, 8, 65_535),
+        Put(3, 9, b"c"),
+        Save,
+        SetType(1, 1),
+        SetUserId(2, 6),
+        Update,
+        SetType(1, 2),
+    ],
+    &[
+        HasType(1, 1),
+        HasType(2, 65_535),
+        HasType(3, 0),
+        HasUserId(1, 7),
+        HasUserId(2, 6),
+        SetType(2, 0),
+        Revert,
+        HasType(1, 4_660),
+        HasType(2, 65_535),
+        HasUserId(2, 8),
+    ],
+    &[HasType(1, 4_660), HasType(2, 65_535), HasType(3, 0)],
+];
+
+// All of it with the document of a file with these bytes.
+fn all_rounds(alloc: Global, bytes: &[u8]) -> Result<(), Mismatch> {
+    let mut store = MemStore::from_bytes(alloc, bytes)?;
+    for round in ROUNDS {
+        store = read(alloc, store.bytes(), round)?;
+    }
+    Ok(())
+}
+
+#[test]
+fn types_are_kept_by_commits_and_openings(rt: HostRuntime) -> Result<(), Fail> {
+    let alloc = rt.alloc();
+    let file = made(alloc, MemStore::new(alloc), &[], &[])?;
+    all_rounds(alloc, file.bytes())?;
+    all_rounds(alloc, &example(1))?;
+    all_rounds(alloc, &example(2))?;
+    Ok(())
+}

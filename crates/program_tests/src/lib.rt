@@ -1,0 +1,40 @@
+//! Tests of the program and of runs: command lines, files in the folder where the tests run and in memory, readers and writers that are slow,
+//! are interrupted or fail, what a run leaves in places that its caller lends, and what the records of a session weigh.
+#![tactic(auto)]
+
+#[cfg(test)]
+mod command_lines;
+#[cfg(test)]
+mod documents;
+#[cfg(test)]
+mod fakes;
+#[cfg(test)]
+mod faults;
+#[cfg(test)]
+mod lending;
+#[cfg(test)]
+mod memory;
+#[cfg(test)]
+mod mismatches;
+#[cfg(test)]
+mod opening;
+#[cfg(test)]
+mod outcomes;
+#[cfg(test)]
+mod programs;
+#[cfg(test)]
+mod reading;
+#[cfg(test)]
+mod refusals;
+#[cfg(test)]
+mod runs;
+#[cfg(test)]
+mod serving;
+#[cfg(test)]
+mod targets;
+#[cfg(test)]
+mod weights;
+#[cfg(test)]
+mod words;
+#[cfg(test)]
+mod writing;
