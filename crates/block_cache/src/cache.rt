@@ -1,3 +1,4 @@
+//! The document of a file, of which some blocks are in memory: the cache that the layers above call.
 ghost use Rattle.std.specs.Prelude.{◌≡◌, ◌≢◌, ◌⊎◌, ◌↔◌, ◌≤◌, ◌<◌, ◌+◌, ◌-◌, ℕ, true, false, IsTrue, is_some, MatchResult, IfOk, IfErr, IfSome, IsOk, OnOk, OnErr, Ok, Some, None, [], All, length, map, nat_eq, nat_lt};
 ghost use Rattle.std.specs.Borrow.{sem};
 ghost use Rattle.std.specs.FinMap.{get, keys};

@@ -1,4 +1,4 @@
-// Blocks that go from the document.
+//! Blocks that go from the document.
 ghost use Rattle.std.specs.Prelude.{◌≡◌};
 ghost use Rattle.lru.specs.LruCache.{lru_cache};
 ghost use Rattle.block_cache.specs.Frames.{frames_without};

@@ -1,4 +1,4 @@
-// What the commits of a cache do to its file.
+//! What the commits of a cache do to its file.
 ghost use Rattle.std.specs.Prelude.{◌≡◌, OnOk, OnErr, []};
 ghost use Rattle.vm_file.specs.Effects.{IsCommit, Fails, IsWorn};
 ghost use Rattle.block_cache.specs.Frames.{seats, overlay, covered, AreKept};

@@ -1,4 +1,4 @@
-// The blocks in memory, in the order of their use.
+//! The blocks in memory, in the order of their use.
 ghost use Rattle.std.specs.Prelude.{◌≡◌, ◌<◌, ◌+◌, ◌-◌, true, false, nat_lt, is_some, Some, MatchOption};
 ghost use Rattle.std.specs.Borrow.{sem};
 ghost use Rattle.std.specs.Option.{option_map};

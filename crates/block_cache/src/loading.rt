@@ -1,4 +1,4 @@
-// Blocks that come into memory and go out of it.
+//! Blocks that come into memory and go out of it.
 ghost use Rattle.std.specs.Prelude.{◌≡◌, ◌⊎◌, ◌<◌, false, true, cond, nat_lt, List, [], ◌∷◌, length, IsTrue, is_some, None, Some, IfOk, OnOk, OnErr, MatchOption};
 ghost use Rattle.geos_model.specs.Document.{block_at, is_heap, is_heap_body, is_live, with_body};
 ghost use Rattle.vm_file.specs.Calls.{IsPut, put_all};

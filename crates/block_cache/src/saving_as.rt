@@ -1,4 +1,4 @@
-// What a save-as does to the file so far and to the target.
+//! What a save-as does to the file so far and to the target.
 ghost use Rattle.std.specs.Prelude.{◌≡◌, ◌↔◌, ℕ, Bool, true, false, IsTrue, IfOk, IfSome, MatchResult};
 ghost use Rattle.std.specs.Result.{IsErrAnd};
 ghost use Rattle.geos_model.specs.Document.{Document, IsValid, is_live, is_valid_body, is_vm_handle};

@@ -1,4 +1,4 @@
-// Calls of a cache, each with what it has to know beforehand.
+//! Calls of a cache, each with what it has to know beforehand.
 ghost use Rattle.std.specs.Prelude.{◌≡◌, true, is_some, IfOk};
 ghost use Rattle.vm_file.specs.Calls.{IsPut};
 

@@ -1,4 +1,4 @@
-// Blocks that come into a document and go from it, and documents that move to another file.
+//! Blocks that come into a document and go from it, and documents that move to another file.
 use crate::calls::{created, save_as};
 use crate::steps::Step::{
     Finds, Has, HasType, IsAway, Lists, Load, NextHandle, NoLoad, Put, PutHeap, Remove, Save, Set,

@@ -1,4 +1,4 @@
-// How often the store is called, and what a call that fails leaves.
+//! How often the store is called, and what a call that fails leaves.
 use crate::steps::Step::{Has, Load, NoLoad, Put, Save, Set, Update};
 use crate::steps::{Mismatch, Step, kept, made};
 use geos_model::Fault;

@@ -1,4 +1,4 @@
-// Documents that are marked and brought back, with one frame.
+//! Documents that are marked and brought back, with one frame.
 ghost use Rattle.std.specs.Prelude.{◌≡◌, true, is_some, OnOk};
 
 use crate::calls::{created, has, is_there, load, opened, put, save, set, update};

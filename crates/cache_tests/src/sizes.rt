@@ -1,4 +1,4 @@
-// The same document through a few frames and through many.
+//! The same document through a few frames and through many.
 use crate::calls::{created, has, load, opened, put, remove, save, set, update};
 use block_cache::Cache;
 use geos_model::Fault;

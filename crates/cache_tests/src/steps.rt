@@ -1,4 +1,4 @@
-// Work on a cache as a list of steps, and where it went another way.
+//! Work on a cache as a list of steps, and where it went another way.
 use crate::calls::{
     created, found, has, is_there, lists, load, lock, next_handle, opened, put, put_heap, remove,
     revert, save, set, set_type, type_of, update,

@@ -1,4 +1,4 @@
-// Caches with few frames over files in memory.
+//! Caches with few frames over files in memory.
 use crate::steps::Step::{
     Dirty, Has, HasType, IsAway, Load, Lock, NoLoad, Put, PutHeap, Revert, Save, Set, SetType,
     Update,

@@ -1,4 +1,4 @@
-// Arrays that are read where they lie.
+//! Arrays that are read where they lie.
 use chunk_arrays::{check, create_bytes, empty_bytes};
 use element_arrays::slots_in;
 use geos_model::{

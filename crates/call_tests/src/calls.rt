@@ -1,4 +1,4 @@
-// Faults, laws, images, and documents of blocks.
+//! Faults, laws, images, and documents of blocks.
 use geos_model::{
     Attributes, Fault, VmHandle, chunk_edits_law, chunk_law, image_law, number_law, redo_law,
     undo_law, validity_law, word_law,

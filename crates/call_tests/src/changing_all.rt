@@ -1,4 +1,4 @@
-// Changes of four blocks, of which one may be in memory: all of them are made, or none.
+//! Changes of four blocks, of which one may be in memory: all of them are made, or none.
 ghost use Rattle.std.specs.Prelude.{◌≡◌, None, true, IsTrue, IfOk};
 ghost use Rattle.geos_model.specs.Document.{is_live};
 ghost use Rattle.vm_blocks.specs.declared.change.PartChange.{PartChange};

@@ -1,4 +1,4 @@
-// The calls of a heap.
+//! The calls of a heap.
 use crate::plain_chunks::handle_of;
 use geos_model::ChunkHandle;
 use lmem_heap::Heap;

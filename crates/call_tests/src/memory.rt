@@ -1,4 +1,4 @@
-// More regions come and go than there is memory for, if any were kept: in each test 400,000 of 65,520 bytes, 26 GB.
+//! More regions come and go than there is memory for, if any were kept: in each test 400,000 of 65,520 bytes, 26 GB.
 use lmem_heap::Heap;
 use raw_region::{RawBody, Region};
 use std::test::Fail;

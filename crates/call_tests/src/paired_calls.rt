@@ -1,5 +1,5 @@
-// Each makes one call of a heap and the same of plain chunks, and says whether both agree then: of the slot that was
-// touched, of the bytes that are needed and of the least free handle.
+//! Calls of a heap, each made of plain chunks too, and whether both agree then.
+// They agree of the slot that was touched, of the bytes that are needed and of the least free handle.
 use crate::places;
 use crate::plain_chunks::{CAPACITY, PlainChunks, handle_of};
 use geos_model::Fault;

@@ -1,4 +1,4 @@
-// Where the chunks of a heap lie, beside plain chunks.
+//! Where the chunks of a heap lie, beside plain chunks.
 use crate::plain_chunks::{CAPACITY, PlainChunks, handle_of, space_of};
 use lmem_heap::Heap;
 use std::alloc::{AllocError, Global};

@@ -1,4 +1,4 @@
-// Chunks as plain vectors by slot. What a heap of them needs is summed from the start each time.
+//! Chunks as plain vectors by slot. What a heap of them needs is summed from the start each time.
 ghost use Rattle.std.specs.Prelude.{IsTrue};
 ghost use Rattle.geos_model.specs.Heap.{is_chunk_handle};
 

@@ -1,3 +1,4 @@
+//! Numbers, sizes, slots and bytes that look random, and are the same in each run.
 ghost use Rattle.std.specs.Prelude.{◌<◌};
 
 use std::alloc::{AllocError, Global};

@@ -1,4 +1,4 @@
-// Random calls of a heap that is kept nearly full, each beside the same call of plain chunks.
+//! Random calls of a heap that is kept nearly full, each beside the same call of plain chunks.
 use crate::paired_calls;
 use crate::plain_chunks::PlainChunks;
 use crate::random::Random;

@@ -1,3 +1,4 @@
+//! Regions and raw bodies: the calls of both.
 use raw_region::{RawBody, Region, SIZE};
 use std::alloc::{AllocError, Global};
 use std::test::Fail;

@@ -1,4 +1,4 @@
-// Splices are built, applied and taken back.
+//! Splices are built, applied and taken back.
 use chunk_edits::{
     apply, apply_back, apply_raw, apply_raw_back, raw_replace, raw_write, splice_law, write,
 };

@@ -1,4 +1,4 @@
-// Which bodies a block of a chain can have.
+//! Which bodies a block of a chain can have.
 use crate::dialogue::expect_replies_on;
 use dialogues::Mismatch;
 

@@ -1,4 +1,4 @@
-// Chains that are equal, and chains that aren't.
+//! Chains that are equal, and chains that aren't.
 use crate::dialogue::{TREE, expect_replies_on};
 use dialogues::Mismatch;
 

@@ -1,4 +1,4 @@
-// Copies of chains.
+//! Copies of chains.
 use crate::dialogue::{TREE, add_block, add_blocks, expect_replies_on};
 use dialogues::{Dialogue, Mismatch};
 

@@ -1,4 +1,4 @@
-// Dialogues on documents of raw blocks.
+//! Dialogues on documents of raw blocks.
 use dialogues::{Dialogue, Mismatch};
 use std::alloc::Global;
 

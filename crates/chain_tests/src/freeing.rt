@@ -1,4 +1,4 @@
-// Chains that are freed.
+//! Chains that are freed.
 use crate::dialogue::{TREE, expect_replies_on};
 use dialogues::Mismatch;
 

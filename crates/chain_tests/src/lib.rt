@@ -1,5 +1,4 @@
-//! Tests of chains: the bodies that can be in one, walks, sizes, comparisons, and what is copied and freed, by scripts; the plans
-//! of a copy and of a freeing by calls.
+//! Tests of chains: bodies, walks, sizes, comparisons, copies and freeings by scripts, and plans by calls.
 #![tactic(auto)]
 
 #[cfg(test)]

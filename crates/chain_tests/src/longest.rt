@@ -1,4 +1,4 @@
-// As many blocks and branches as there can be. `script_tests` has the longest chains.
+//! As many blocks and branches as there can be. `script_tests` has the longest chains.
 use crate::dialogue::{add_block, add_blocks};
 use dialogues::{Dialogue, Mismatch};
 use std::alloc::Global;

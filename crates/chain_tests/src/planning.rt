@@ -1,4 +1,4 @@
-// What only a call shows of a plan: the order of its blocks, and what a change with it weighs.
+//! What only a call shows of a plan: the order of its blocks, and what a change with it weighs.
 use geos_model::{Attributes, Fault, VmHandle};
 use raw_region::SIZE;
 use std::alloc::{AllocError, Global};

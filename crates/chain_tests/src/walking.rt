@@ -1,4 +1,4 @@
-// Walks along chains, and what they measure.
+//! Walks along chains, and what they measure.
 use crate::dialogue::{TREE, expect_replies_on};
 use dialogues::Mismatch;
 

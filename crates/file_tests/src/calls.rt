@@ -1,4 +1,4 @@
-// Calls of a document file, each with what it has to know beforehand.
+//! Calls of a document file, each with what it has to know beforehand.
 ghost use Rattle.std.specs.Prelude.{◌≤◌, All, IfOk, length};
 ghost use Rattle.vm_file.specs.Calls.{IsPut};
 ghost use Rattle.geos_model.specs.Document.{most_blocks};

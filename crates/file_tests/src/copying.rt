@@ -1,4 +1,4 @@
-// A document that is copied into another store.
+//! A document that is copied into another store.
 use crate::calls::{copy, create, first_other_byte, why};
 use crate::steps::Step::{
     Has, HasType, HasUserId, Lives, MapBlock, Put, PutHeap, Revert, Save, SetMap, Update,

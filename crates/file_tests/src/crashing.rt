@@ -1,4 +1,4 @@
-// What a crash leaves while the store fails: the documents last acknowledged, or those of a commit that was tried since.
+//! What a crash leaves while the store fails: the documents last acknowledged, or those of a commit tried since.
 use crate::calls::{create, image_of, open, put, revert, save, update, why};
 use crate::example::{LENGTH, example, with};
 use crate::steps::closed;

@@ -1,4 +1,4 @@
-// A file that was made.
+//! A file that was made.
 use crate::calls::first_other_byte;
 use crate::steps::Step::{IsEmpty, MapBlock};
 use crate::steps::{Mismatch, given_back, made};

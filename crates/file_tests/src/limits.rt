@@ -1,4 +1,4 @@
-// As much as a file can hold.
+//! As much as a file can hold.
 use crate::calls::{attributes_of, create, has, heap_block, open, put, save};
 use crate::steps::Step::{
     Finds, Has, IsFull, ListsLive, Lives, MapBlock, NextHandle, NoRemove, PutAll, Remove,

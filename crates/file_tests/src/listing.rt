@@ -1,4 +1,4 @@
-// What a document tells of its handles.
+//! What a document tells of its handles.
 use crate::steps::Step::{Finds, Lists, NextHandle, Put, Remove, Revert, Save};
 use crate::steps::{Mismatch, Step, made, read};
 use std::alloc::Global;

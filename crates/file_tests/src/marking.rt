@@ -1,4 +1,4 @@
-// A document that is marked, so that it can be brought back.
+//! A document that is marked, so that it can be brought back.
 ghost use Rattle.vm_file.specs.Calls.{IsPut};
 
 use crate::calls::{attributes_of, create, has, open, put, put_heap, raw_block, save, update};

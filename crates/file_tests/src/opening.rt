@@ -1,4 +1,4 @@
-// What opens, and to which documents.
+//! What opens, and to which documents.
 ghost use Rattle.std.specs.Prelude.{◌<◌, ◌≤◌};
 
 use crate::calls::{attributes_of, first_block, first_other_byte, has_saved_block, image_of, open};

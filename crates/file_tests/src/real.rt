@@ -1,4 +1,4 @@
-// A real file, in the folder where the tests run.
+//! A real file, in the folder where the tests run.
 use crate::calls::create;
 use crate::steps::Step::{Has, HasUserId, Lives, Put, Revert, Save, Update};
 use crate::steps::{Mismatch, Step, closed, kept, take};

@@ -1,4 +1,4 @@
-// Pages that were given up are used again.
+//! Pages that were given up are used again.
 use crate::calls::{create, has, put, revert, save, update};
 use crate::steps::closed;
 use geos_model::Fault;

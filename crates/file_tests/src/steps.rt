@@ -1,4 +1,4 @@
-// Work on a document file as a list of steps, and where it went another way.
+//! Work on a document file as a list of steps, and where it went another way.
 use crate::calls::{
     create, first_block, found, has, is_full, is_worn_out, listed, live_blocks, next_handle, put,
     put_all, put_heap, remove, remove_others, revert, save, set_map_block, set_type, set_user_id,

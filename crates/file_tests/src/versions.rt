@@ -1,4 +1,4 @@
-// Commits in files of each version, and types of heaps from one opening to the next.
+//! Commits in files of each version, and types of heaps from one opening to the next.
 use crate::example::example;
 use crate::steps::Step::{
     HasType, HasUserId, IsEmpty, Lives, Put, PutHeap, Revert, Save, SetType, SetUserId, Update,

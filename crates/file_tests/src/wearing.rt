@@ -1,4 +1,4 @@
-// A file whose number is at its last value.
+//! A file whose number is at its last value.
 use crate::calls::first_other_byte;
 use crate::example::{LENGTH, example};
 use crate::steps::Step::{

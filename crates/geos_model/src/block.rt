@@ -1,3 +1,5 @@
+//! What a block has beside its body.
+
 /// What a block has beside its body.
 #[derive(Clone, Copy, Debug, PartialEq, Eq)]
 pub struct Attributes {

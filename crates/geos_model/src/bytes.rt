@@ -1,3 +1,4 @@
+//! Bytes and chunks, which contracts see as a list and as a finite map.
 ghost use Rattle.std.specs.Prelude.{◌≡◌, List, ℕ};
 
 use crate::ChunkHandle;

@@ -1,3 +1,4 @@
+//! The commands of a script, the edits among them, and what an accepted edit answers.
 use crate::{Bytes, ChunkHandle, Chunks, Token, VmHandle};
 
 /// What a block holds.

@@ -1,3 +1,4 @@
+//! Why a call is refused: each fault with its number and its name.
 ghost use Rattle.std.specs.Prelude.{◌≡◌};
 ghost use Rattle.geos_model.specs.Refusal.{number_of_fault, name_of_fault};
 

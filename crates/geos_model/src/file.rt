@@ -1,3 +1,4 @@
+//! The records of a file: extents, entries of a directory, and slots.
 use crate::{Attributes, VmHandle};
 
 /// How many bytes of a file make a page.

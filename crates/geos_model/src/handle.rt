@@ -1,3 +1,5 @@
+//! The names of blocks, chunks and elements.
+
 /// The name of a block, 1 to 8,192; 0 names none.
 #[derive(Clone, Copy, Debug, PartialEq, Eq)]
 pub struct VmHandle(pub u16);

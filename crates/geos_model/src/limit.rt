@@ -1,3 +1,5 @@
+//! The limits: how many blocks, bytes and pages there can be.
+
 /// How many blocks a document can have: their handles are 1 to this number.
 pub const MOST_BLOCKS: u16 = 8_192;
 

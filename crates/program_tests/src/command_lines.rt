@@ -1,4 +1,4 @@
-// What command lines give: options, or the outcome that the program ends with.
+//! What command lines give: options, or the outcome that the program ends with.
 use geos_shell::{Options, Outcome, options};
 use std::alloc::Global;
 use std::test::Fail;

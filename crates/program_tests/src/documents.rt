@@ -1,4 +1,4 @@
-// Bytes of files.
+//! Bytes of files.
 use std::alloc::{AllocError, Global};
 
 const FIRST_SLOT: &[u8; 32] =

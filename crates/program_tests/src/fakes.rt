@@ -1,4 +1,4 @@
-// Readers and writers that are slow, are interrupted or fail.
+//! Readers and writers that are slow, are interrupted or fail.
 ghost use Rattle.std.specs.Prelude.{◌≤◌, length};
 
 use geos_model::Fault;

@@ -1,4 +1,4 @@
-// The texts of faults.
+//! The texts of faults.
 use geos_shell::RunFault;
 use std::test::Fail;
 

@@ -1,4 +1,4 @@
-// Lines and scripts that are answered in places which their caller keeps.
+//! Lines and scripts that are answered in places which their caller keeps.
 use crate::fakes::{Piece, Pieces, new_session, writer_that_tires};
 use crate::mismatches::{Mismatch, same};
 use geos_shell::{RunFault, answer_line, run_in};

@@ -1,5 +1,4 @@
-//! Tests of the program and of runs: command lines, files in the folder where the tests run and in memory, readers and writers that are slow,
-//! are interrupted or fail, what a run leaves in places that its caller lends, and what the records of a session weigh.
+//! Tests of the program and of runs: command lines, files, readers and writers, and what records weigh.
 #![tactic(auto)]
 
 #[cfg(test)]

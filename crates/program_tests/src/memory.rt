@@ -1,4 +1,4 @@
-// Files in memory, and what is asked of them.
+//! Files in memory, and what is asked of them.
 use geos_shell::Files;
 use std::alloc::{AllocError, Global};
 use vm_store::{MemStore, StoreFault};

@@ -1,4 +1,4 @@
-// How a test differs from what is written.
+//! How a test differs from what is written.
 use geos_model::Fault;
 use geos_shell::RunFault;
 use std::alloc::{AllocError, Global};

@@ -1,4 +1,4 @@
-// Documents that are made, updated, saved and opened again.
+//! Documents that are made, updated, saved and opened again.
 use crate::documents::{Content, FIFTH, LAST};
 use crate::programs::{Case, Step, take_each};
 use std::test::Fail;

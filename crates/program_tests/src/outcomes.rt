@@ -1,4 +1,4 @@
-// Outcomes of the program.
+//! Outcomes of the program.
 use geos_model::{Bytes, Fault};
 use geos_shell::{Outcome, RunFault};
 use std::test::Fail;

@@ -1,4 +1,4 @@
-// Runs of the program on files of the machine, step by step.
+//! Runs of the program on files of the machine, step by step.
 use crate::documents::{Content, bytes_of};
 use crate::mismatches::{Mismatch, holds, same};
 use geos_shell::{machine_files, serve};

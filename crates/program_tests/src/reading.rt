@@ -1,4 +1,4 @@
-// Readers that fail, are interrupted, or give a byte a read.
+//! Readers that fail, are interrupted, or give a byte a read.
 use crate::fakes::{Drops, Piece, fault_of};
 use crate::runs::{Run, each_goes};
 use dialogues::Dialogue;

@@ -1,4 +1,4 @@
-// Files that can't be opened.
+//! Files that can't be opened.
 use crate::documents::Content;
 use crate::programs::{Case, Step, take_each};
 use std::test::Fail;

@@ -1,4 +1,4 @@
-// Runs over pieces of a script, and how they end.
+//! Runs over pieces of a script, and how they end.
 use crate::fakes::{Piece, Pieces, fault_of, writer_that_tires};
 use crate::mismatches::{Mismatch, are, same};
 use geos_shell::RunFault;

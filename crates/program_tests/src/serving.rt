@@ -1,4 +1,4 @@
-// Which files are opened and when, and what they have when they are closed, however a run ends.
+//! Which files are opened and when, and what they have when they are closed, however a run ends.
 use crate::documents::{Content, FIFTH, bytes_of};
 use crate::fakes::{Piece, Pieces, writer_that_tires};
 use crate::memory::MemFiles;

@@ -1,4 +1,4 @@
-// The file that a save-as writes.
+//! The file that a save-as writes.
 use crate::documents::{Content, FIFTH};
 use crate::programs::{Case, Step, take_each};
 use std::test::Fail;

@@ -1,4 +1,4 @@
-// What the records of a session hold.
+//! What the records of a session hold.
 use crate::fakes::new_session;
 use geos_model::{Bytes, ChunkHandle, Edit, VmHandle};
 use std::alloc::{AllocError, Global};

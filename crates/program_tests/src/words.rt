@@ -1,4 +1,4 @@
-// Command lines.
+//! Command lines.
 use crate::documents::Content;
 use crate::programs::{Case, Step, take_each};
 use std::test::Fail;

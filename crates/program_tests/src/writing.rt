@@ -1,4 +1,4 @@
-// Writers that fail, or take a byte a write, and the order of reads and writes.
+//! Writers that fail, or take a byte a write, and the order of reads and writes.
 use crate::fakes::{Counting, Desk, Line, Piece, Waiting, fault_of};
 use crate::runs::{Run, each_goes};
 use geos_shell::RunFault;

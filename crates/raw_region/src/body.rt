@@ -1,3 +1,4 @@
+//! A raw body: up to 65,520 bytes in a region of their own.
 ghost use Rattle.std.specs.Prelude.{◌≡◌, ◌+◌, ◌≤◌, ℕ, IfOk, List, [], ◌++◌, length, take, drop, replicate, slice_index, slice_range};
 ghost use Rattle.std.specs.Borrow.{sem};
 ghost use Rattle.std.specs.List.{splice};

@@ -1,3 +1,4 @@
+//! Bytes that are moved within a slice, as if they were copied aside first.
 ghost use Rattle.std.specs.Prelude.{◌≡◌, ◌+◌, ◌≤◌, length, slice_range};
 ghost use Rattle.raw_region.specs.Bytes.{put};
 

@@ -1,3 +1,4 @@
+//! A region: 65,520 bytes from the allocator, which go back to it once.
 ghost use Rattle.std.specs.Prelude.{◌≡◌, ◌+◌, ◌≤◌, IfOk, length, replicate, slice_range};
 ghost use Rattle.std.specs.Borrow.{sem};
 ghost use Rattle.geos_model.specs.Words.{word, word_at};

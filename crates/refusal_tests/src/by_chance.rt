@@ -1,6 +1,6 @@
-// Edits, groups, undos, redos, abandons and commits by chance, the same each time, against whole documents that are kept here: the one before
-// each step and the one before the group that is open. A refused command changes nothing; nor does one while a call of the store fails, each
-// in turn, and it is done when it is said again.
+//! Edits, groups, undos, redos, abandons and commits by chance, against whole documents that are kept here.
+// They are the same each time. Kept are the document before each step and the one before the group that is open. A refused command changes
+// nothing; nor does one while a call of the store fails, each in turn, and it is done when it is said again.
 use crate::driver::begun;
 use crate::lasting_failures::{MAKING, documents_in};
 use crate::single_failures::FRAMES;

@@ -1,4 +1,4 @@
-// What the files of a scenario stand for, line by line.
+//! What the files of a scenario stand for, line by line.
 
 /// The updated and the saved document of a file: each the one before which line of the scenario.
 #[derive(Clone, Copy)]

@@ -1,5 +1,6 @@
-// A scenario is gone through line by line: a first time, with nothing refused; again, with each line and opening that is refused once more;
-// or up to where the store fails and beyond.
+//! A scenario that is gone through, line by line.
+// A first time with nothing refused; again, with each line and opening that is refused once more; or up to where the store fails and
+// beyond.
 use crate::committed::{Committed, Pair, Side, is_commit};
 use crate::scenarios::{COMMITS, Scenario};
 use crate::shim::signal_refusal;

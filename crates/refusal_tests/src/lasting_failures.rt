@@ -1,5 +1,5 @@
-// From a call on a store serves nothing, each call in turn, and then comes each crash: what it leaves opens to the documents of the
-// commit that was acknowledged last, or of the one that was tried then.
+//! Stores that fail for good from a call on, each call in turn, and then each crash.
+// What a crash leaves opens to the documents of the commit that was acknowledged last, or of the one that was tried then.
 use crate::committed::{Pair, Side};
 use crate::driver::Driver;
 use crate::scenarios::{SCENARIOS, Scenario};

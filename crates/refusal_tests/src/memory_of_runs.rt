@@ -1,4 +1,4 @@
-// One request for memory is refused while a script is run, as `docs/each_request.sh` has it.
+//! One request for memory is refused while a script is run, as `docs/each_request.sh` has it.
 use crate::driver::Driver;
 use crate::running::{Lent, Script, count_lines, ended_by, is_led_to, lend, what_is_left};
 use crate::scenarios::{ARRAYS, CHAINS, CHUNK, NAMES, OPENED_AGAIN, SAVED_AS, Scenario};

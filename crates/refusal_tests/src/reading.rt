@@ -1,4 +1,4 @@
-// A reader that fails, at each read in turn, and one that never ends.
+//! A reader that fails, at each read in turn, and one that never ends.
 use crate::driver::Driver;
 use crate::running::{Lent, Script, ended_by, is_led_to, lend, what_is_left};
 use crate::scenarios::{SCENARIOS, Scenario};

@@ -1,4 +1,4 @@
-// The first lines of a scenario as a script that is run, and what there must be behind some of them.
+//! The first lines of a scenario as a script that is run, and what there must be behind some of them.
 use crate::committed::Side;
 use crate::driver::Driver;
 use crate::lasting_failures::{Documents, documents_in};

@@ -1,4 +1,4 @@
-// Dialogues in which each kind of edit, look-up and commit stands, each on a file of its own.
+//! Dialogues in which each kind of edit, look-up and commit stands, each on a file of its own.
 
 /// A dialogue with sessions on one file. Each line is a command, then ` = ` and its reply.
 pub(crate) struct Scenario {

@@ -1,5 +1,5 @@
-// What is told to the program that has one request for memory refused, `docs/each_request.sh`, by requests of sizes that are asked for
-// nowhere else. Without it they do nothing.
+//! What is told to the program that has one request for memory refused, `docs/each_request.sh`.
+// It is told by requests of sizes that are asked for nowhere else. Without that program they do nothing.
 use std::alloc::{AllocError, Global};
 
 // Requests are counted from here on.

@@ -1,5 +1,5 @@
-// One call of a store fails, each in turn: of the file's and of the target's. It is answered File, nothing is changed, and the line is
-// answered as ever when it is said again.
+//! One call of a store fails, each in turn: of the file's and of the target's.
+// It is answered File, nothing is changed, and the line is answered as ever when it is said again.
 use crate::committed::Side;
 use crate::driver::Driver;
 use crate::scenarios::{SCENARIOS, Scenario};

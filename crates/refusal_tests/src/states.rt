@@ -1,4 +1,4 @@
-// What a session shows: its document, and what else a refused command leaves as it was.
+//! What a session shows: its document, and what else a refused command leaves as it was.
 use geos_model::{ChunkHandle, Fault, Info, VmHandle};
 use undo_log::Session;
 use vm_store::Store;

@@ -1,4 +1,4 @@
-// A writer that fails, at each write and at each flush in turn.
+//! A writer that fails, at each write and at each flush in turn.
 use crate::driver::Driver;
 use crate::running::{Script, ended_by, is_led_to, lend, what_is_left};
 use crate::scenarios::{SCENARIOS, Scenario};

@@ -1,4 +1,4 @@
-// Scripts of chains and trees of raw blocks, each with the replies that it must get.
+//! Scripts of chains and trees of raw blocks, each with the replies that it must get.
 use crate::tables::{Case, expect_each};
 use std::test::Fail;
 

@@ -1,4 +1,4 @@
-// Scripts of edits of chunks, each with the replies that it must get.
+//! Scripts of edits of chunks, each with the replies that it must get.
 use crate::parts::{Numbers, Part, expect_parts};
 use crate::tables::{Case, expect_each};
 use dialogues::Mismatch;

@@ -1,4 +1,4 @@
-// Scripts of documents, each with the replies that it must get.
+//! Scripts of documents, each with the replies that it must get.
 use crate::parts::{ALL_BLOCKS, Part};
 use crate::tables::{BuiltCase, Case, expect_each, expect_each_built};
 use std::test::Fail;

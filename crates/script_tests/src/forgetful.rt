@@ -1,4 +1,4 @@
-// A store in memory that keeps its bytes and nothing of how they came to be.
+//! A store in memory that keeps its bytes and nothing of how they came to be.
 ghost use Rattle.std.specs.Prelude.{◌≡◌};
 ghost use Rattle.vm_store.specs.Facts.{raised};
 ghost use Rattle.script_tests.specs.Forgetful.{forgetful_facts, forgetful_timely};

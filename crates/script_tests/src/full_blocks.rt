@@ -1,4 +1,4 @@
-// Raw blocks and heaps without room for a byte more, each read back.
+//! Raw blocks and heaps without room for a byte more, each read back.
 use crate::tables::{Case, expect_each};
 use std::test::Fail;
 

@@ -1,4 +1,4 @@
-// Scripts of arrays whose bytes are written first, and read after each edit.
+//! Scripts of arrays whose bytes are written first, and read after each edit.
 use crate::tables::{Case, expect_each};
 use std::test::Fail;
 

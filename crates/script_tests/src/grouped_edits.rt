@@ -1,4 +1,4 @@
-// Groups of each kind of edit, of more blocks than are in memory, and of many edits: undone and redone as one, and abandoned.
+//! Groups of each kind of edit, of many blocks and of many edits: undone and redone as one, and abandoned.
 use crate::parts::{ALL_BLOCKS, Numbers, Part};
 use crate::tables::{BuiltCase, expect_each_built};
 use std::test::Fail;

@@ -1,4 +1,4 @@
-// Scripts of groups: what opens and closes one, what waits until it is closed, and in which order groups and single edits are undone.
+//! Scripts of groups: what opens and closes one, what waits for that, and in which order steps are undone.
 use crate::tables::{Case, expect_each};
 use std::test::Fail;
 

@@ -1,4 +1,4 @@
-// As many blocks as there are handles, and many chunks.
+//! As many blocks as there are handles, and many chunks.
 use crate::parts::{ALL_BLOCKS, Numbers, Part, expect_parts};
 use dialogues::Mismatch;
 

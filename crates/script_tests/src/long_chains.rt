@@ -1,4 +1,4 @@
-// The longest chains: as many blocks as there are handles, and half as many, copied.
+//! The longest chains: as many blocks as there are handles, and half as many, copied.
 use crate::parts::{ALL_BLOCKS, LATER_BLOCKS, Numbers, Part, expect_parts};
 use dialogues::Mismatch;
 

@@ -1,4 +1,4 @@
-// The longest elements and names that there can be.
+//! The longest elements and names that there can be.
 use crate::tables::{Case, expect_each};
 use std::test::Fail;
 

@@ -1,4 +1,4 @@
-// Lines of 140,000 bytes, which are commands, and of one byte more, which are not.
+//! Lines of 140,000 bytes, which are commands, and of one byte more, which are not.
 use crate::parts::{Part, expect_parts};
 use crate::tables::{Case, expect_each};
 use dialogues::Mismatch;

@@ -1,4 +1,4 @@
-// Long runs of edits, taken back and brought back: arrays of two thousand elements, and a heap with many holes.
+//! Long runs of edits, taken back and brought back: arrays of two thousand elements, and a heap with many holes.
 use crate::parts::{Numbers, Part, expect_parts};
 use dialogues::Mismatch;
 

@@ -1,4 +1,4 @@
-// Dialogues that do not go as they are written, and what the shorthand in a text stands for.
+//! Dialogues that do not go as they are written, and what the shorthand in a text stands for.
 use dialogues::{Dialogue, Mismatch, expect_replies};
 use std::test::Fail;
 

@@ -1,4 +1,4 @@
-// Dialogues that are built of parts, since they are too long to be written out.
+//! Dialogues that are built of parts, since they are too long to be written out.
 use dialogues::{Dialogue, Mismatch};
 use std::alloc::{AllocError, Global};
 

@@ -1,4 +1,4 @@
-// Scripts of raw blocks, each with the replies that it must get.
+//! Scripts of raw blocks, each with the replies that it must get.
 use crate::parts::{LATER_BLOCKS, Part, expect_parts};
 use crate::tables::{Case, expect_each};
 use dialogues::Mismatch;

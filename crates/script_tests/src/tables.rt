@@ -1,4 +1,4 @@
-// Tables of dialogues, and the first of a table that differs from its replies.
+//! Tables of dialogues, and the first of a table that differs from its replies.
 use crate::parts::{Part, expect_parts};
 use dialogues::expect_replies;
 use std::alloc::Global;

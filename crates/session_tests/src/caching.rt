@@ -1,4 +1,4 @@
-// Sessions with one frame: which block is in memory, and how often the store is called for it.
+//! Sessions with one frame: which block is in memory, and how often the store is called for it.
 use crate::calls::{BLOCK, Fused, create_in, expect_replies, fused, made};
 use dialogues::Mismatch;
 use geos_model::VmHandle;

@@ -1,4 +1,4 @@
-// Sessions, scripts that they answer, and what their files hold.
+//! Sessions, scripts that they answer, and what their files hold.
 use dialogues::{Dialogue, Mismatch};
 use geos_model::{Fault, VmHandle};
 use geos_shell::{RunFault, run_in};

@@ -1,4 +1,4 @@
-// Save-as: a file of its own for the document, and the file so far.
+//! Save-as: a file of its own for the document, and the file so far.
 use crate::calls::{
     Byte, FRAMES, Fused, Pair, both, byte_in, create, expect_replies, fused, made, pair_in,
 };

@@ -1,5 +1,5 @@
-// How often a session calls its store, while all blocks that it looks into are in memory: blocks that come in are written, and commits
-// write those that were changed, and no other.
+//! How often a session calls its store, while all blocks that it looks into are in memory.
+// Blocks that come in are written, and commits write those that were changed, and no other.
 use crate::calls::{FRAMES, fused, made};
 use dialogues::Mismatch;
 use std::alloc::Global;

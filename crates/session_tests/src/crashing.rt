@@ -1,4 +1,4 @@
-// What a crash leaves while the store fails: the documents last acknowledged, or those of the commit that was tried next.
+//! What a crash leaves while the store fails: the documents last acknowledged, or those of the commit tried next.
 use crate::calls::{Byte, Pair, answer, are_all, create, fused, pair_in};
 use dialogues::Mismatch;
 use geos_model::Fault;

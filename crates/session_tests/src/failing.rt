@@ -1,4 +1,4 @@
-// A call of the store that fails once.
+//! A call of the store that fails once.
 use crate::calls::{
     FRAMES, Fused, answer, both, create, create_in, expect_replies, fused, made, pair_in,
 };

@@ -1,4 +1,5 @@
-// Groups of edits, and calls of the store: none is called where a group is opened or ended, nor where one without an edit is abandoned.
+//! Groups of edits, and calls of the store.
+// None is called where a group is opened or ended, nor where one without an edit is abandoned.
 use crate::caching::{EDIT, SAVED, calls, takes};
 use crate::calls::{fused, made};
 use std::test::Fail;

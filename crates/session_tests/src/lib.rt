@@ -1,5 +1,4 @@
-//! Tests of sessions over document files: what a crash and a store that fails leave, how often a store is called, undo over commits, files of
-//! their own, limits, locks, and stores that lie.
+//! Tests of sessions over files: crashes, failing stores, calls of the store, undo over commits, limits and locks.
 #![tactic(auto)]
 
 #[cfg(test)]

@@ -1,4 +1,4 @@
-// As much as a document can hold, in a file.
+//! As much as a document can hold, in a file.
 use crate::calls::{BLOCK, closed, create, open};
 use crate::vectors::example;
 use geos_model::{Bytes, ChunkHandle, Edit, Fault, VmHandle};

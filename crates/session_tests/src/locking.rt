@@ -1,4 +1,4 @@
-// Locks: what they refuse, what they keep in memory, and the bytes that are lent of a locked block.
+//! Locks: what they refuse, what they keep in memory, and the bytes that are lent of a locked block.
 use crate::calls::{
     BLOCK, create, create_in, expect_all_replies, expect_replies, fused, kept, made,
 };

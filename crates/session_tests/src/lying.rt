@@ -1,4 +1,4 @@
-// A store that lies: all that a session does over it ends, and a refused call leaves what can be known.
+//! A store that lies: all that a session does over it ends, and a refused call leaves what can be known.
 ghost use Rattle.std.specs.Prelude.{◌≡◌};
 ghost use Rattle.session_tests.specs.Lying.{lying_facts, lying_timely};
 

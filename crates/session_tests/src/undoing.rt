@@ -1,4 +1,4 @@
-// Undo over commits.
+//! Undo over commits.
 use crate::calls::{both, closed, create, expect_replies, pair_in};
 use dialogues::Mismatch;
 use std::alloc::Global;

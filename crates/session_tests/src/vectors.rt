@@ -1,4 +1,4 @@
-// A file of version 1 that was written elsewhere: what it stands for, and what becomes of it.
+//! A file of version 1 that was written elsewhere: what it stands for, and what becomes of it.
 use crate::calls::{FRAMES, kept};
 use dialogues::Mismatch;
 use geos_model::Fault;

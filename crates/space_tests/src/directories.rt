@@ -1,4 +1,4 @@
-// A directory's bytes, as files have them.
+//! A directory's bytes, as files have them.
 use geos_model::{Attributes, Entry, Extent, Fault, VmHandle};
 use std::test::Fail;
 use vm_space::{MOST_ENTRIES, read_dir, write_dir};

@@ -1,4 +1,4 @@
-// Which extents can lie in a file.
+//! Which extents can lie in a file.
 use geos_model::Extent;
 use std::test::Fail;
 use vm_space::is_in_file;

@@ -1,4 +1,4 @@
-// Extents are placed at the first pages that are free.
+//! Extents are placed at the first pages that are free.
 ghost use Rattle.std.specs.Prelude.{◌≡◌, IfOk};
 
 use geos_model::Extent;

@@ -1,4 +1,4 @@
-// A slot's bytes, as files have them.
+//! A slot's bytes, as files have them.
 use geos_model::{Extent, Slot};
 use std::test::Fail;
 use vm_space::{read_slot, write_slot};

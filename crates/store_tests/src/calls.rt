@@ -1,4 +1,4 @@
-// Calls of any store, of which some fail.
+//! Calls of any store, of which some fail.
 use std::alloc::AllocError;
 use vm_store::{Store, StoreFault};
 

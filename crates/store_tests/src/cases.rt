@@ -1,4 +1,4 @@
-// Cases for stores in memory, with a fuse before them and without.
+//! Cases for stores in memory, with a fuse before them and without.
 use crate::calls::{Call, Mismatch, refuse, serve, touch_the_end};
 use std::alloc::Global;
 use std::test::Fail;

@@ -1,4 +1,4 @@
-// What a crash leaves of a store in memory.
+//! What a crash leaves of a store in memory.
 use crate::calls::{Call, serve};
 use crate::cases::{Case, FusedCase, Step, leaves, take_each, take_each_fused};
 use std::test::Fail;

@@ -1,4 +1,4 @@
-// Real files, in the folder where the tests run.
+//! Real files, in the folder where the tests run.
 use crate::calls::{Call, PLAY, refuse, serve, touch_the_end};
 use std::fs;
 use std::test::Fail;

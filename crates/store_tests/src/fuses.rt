@@ -1,4 +1,4 @@
-// Stores that fail on order.
+//! Stores that fail on order.
 use crate::calls::{Call, Mismatch, PLAY, refuse, serve};
 use crate::cases::{FusedCase, Step, take_each_fused};
 use std::test::Fail;

@@ -1,4 +1,4 @@
-// Stores in memory.
+//! Stores in memory.
 use crate::calls::{Call, Mismatch, PLAY, serve};
 use crate::cases::{Case, Step, take_each};
 use std::test::Fail;

@@ -1,4 +1,4 @@
-// Stores on files whose calls are cut short, interrupted and refused.
+//! Stores on files whose calls are cut short, interrupted and refused.
 use crate::calls::{Call, PLAY, refuse, serve, touch_the_end};
 use std::alloc::Global;
 use std::test::Fail;

@@ -1,3 +1,4 @@
+//! What is kept of one step: the change of an edit, or the changes of a group.
 ghost use Rattle.std.specs.Prelude.{◌≡◌, ◌-◌, ◌^◌, min, reverse};
 ghost use Rattle.undo_log.specs.Logging.{entry_weight, turned_over};
 

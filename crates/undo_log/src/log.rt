@@ -1,3 +1,4 @@
+//! The log: what can be undone, what can be made again, and the group that is open.
 ghost use Rattle.std.specs.Prelude.{◌≡◌, ◌+◌, ◌-◌, ◌^◌, [], true, Some, None, OnOk, MatchOption, is_some, length, min, reverse};
 ghost use Rattle.std.specs.Option.{option_map};
 ghost use Rattle.undo_log.specs.Logging.{AreExclusive, IsFirst, empty_log, open_changes, redone, to_redo, to_undo, total_weight, undone, with_change, with_group_closed};

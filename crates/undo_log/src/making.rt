@@ -1,3 +1,4 @@
+//! Edits that are planned and made, and which of them a lock bars.
 ghost use Rattle.std.specs.Prelude.{◌≡◌, ◌≢◌, ◌⊎◌, ◌∷◌, true, false, Some, IsTrue, IfOk, IfErr, MatchResult, OnErr};
 ghost use Rattle.std.specs.Result.{IsErrAnd};
 ghost use Rattle.geos_model.specs.Machine.{edit_needs, kind_of};

@@ -1,3 +1,4 @@
+//! Entries that are made in a direction, and changes that are taken back.
 ghost use Rattle.std.specs.Prelude.{◌≡◌, [], true, false, None, map, nat_lt, IsOk, IfErr, OnOk, OnErr, reverse};
 ghost use Rattle.block_cache.specs.State.{locked_count};
 ghost use Rattle.vm_blocks.specs.Changes.{turned};

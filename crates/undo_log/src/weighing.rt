@@ -1,3 +1,4 @@
+//! How many content bytes changes and entries hold together.
 ghost use Rattle.std.specs.Prelude.{◌≡◌, ◌-◌, ◌^◌, min};
 ghost use Rattle.std.specs.List.{sum_by};
 ghost use Rattle.undo_log.specs.Logging.{entry_weight, total_weight};

@@ -1,3 +1,4 @@
+//! A change of a document, with all that carrying it out takes in either direction.
 ghost use Rattle.std.specs.Prelude.{◌≡◌};
 ghost use Rattle.vm_blocks.specs.Changes.{weight, part_weight, content_weight};
 

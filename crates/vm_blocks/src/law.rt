@@ -1,3 +1,4 @@
+//! The laws of changes.
 ghost use Rattle.vm_blocks.specs.Changes.{ChangeLaw, FlipLaw};
 ghost use Rattle.vm_blocks.specs.Preparing.{HalvesLaw, ListedLaw};
 

@@ -1,3 +1,4 @@
+//! Blocks that come in or go together.
 ghost use Rattle.std.specs.Prelude.{◌≡◌, ◌≤◌, ◌∷◌, [], IfOk, length};
 ghost use Rattle.geos_model.specs.Document.{most_blocks};
 ghost use Rattle.vm_file.specs.Members.{saved_block, saved_blocks};

@@ -1,3 +1,4 @@
+//! Changes of a part of a body: whether a body takes one, and its carrying out in place.
 ghost use Rattle.std.specs.Prelude.{◌≡◌, ◌+◌, ◌≤◌, ◌↔◌, ℕ, List, IsTrue, None, length};
 ghost use Rattle.std.specs.FinMap.{get, insert, contains_key};
 ghost use Rattle.geos_model.specs.Heap.{chunk_bytes, fits_with, is_chunk_handle, is_heap_map};

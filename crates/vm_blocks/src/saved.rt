@@ -1,3 +1,4 @@
+//! A block with its body, as it is now.
 ghost use Rattle.std.specs.Prelude.{◌≡◌, IfOk};
 ghost use Rattle.block_cache.specs.Bodies.{body_of};
 ghost use Rattle.geos_model.specs.Document.{IsTyped, is_heap_body};

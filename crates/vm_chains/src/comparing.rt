@@ -1,3 +1,4 @@
+//! Whether two chains are equal.
 ghost use Rattle.std.specs.Prelude.{◌≡◌, ◌≤◌, ℕ, Some, true, false, IfOk, IfErr, MatchResult, length};
 ghost use Rattle.std.specs.List.{All};
 ghost use Rattle.geos_model.specs.Bytes.{same_bytes};

@@ -1,3 +1,4 @@
+//! The links in the body of a block of a chain.
 ghost use Rattle.std.specs.Prelude.{◌≡◌, ◌≤◌, ◌+◌, ◌*◌, ◌<◌, ◌==◌, true, false, MatchOption, IfOk, ◌++◌, length};
 ghost use Rattle.std.specs.List.{list_all, range_with_len};
 ghost use Rattle.geos_model.specs.Words.{word_at};

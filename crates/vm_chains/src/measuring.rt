@@ -1,3 +1,4 @@
+//! How many bytes the blocks of a chain have.
 ghost use Rattle.std.specs.Prelude.{◌≡◌, false, IfOk, IfErr};
 ghost use Rattle.geos_model.specs.Chain.{bytes_in, chain_blocks, on_chain};
 ghost use Rattle.geos_model.specs.Document.{is_raw};

@@ -1,3 +1,4 @@
+//! The blocks that a walk has met, in order.
 ghost use Rattle.std.specs.Prelude.{◌≡◌, [], ◌∷◌, ◌++◌, ◌==◌, true, IfOk, map};
 ghost use Rattle.std.specs.List.{list_any};
 ghost use Rattle.geos_model.specs.Document.{is_vm_handle};

@@ -1,3 +1,4 @@
+//! Names for the handles of a chain, and bodies with their links renamed.
 ghost use Rattle.std.specs.Prelude.{◌≡◌, ◌≤◌, ◌+◌, ℕ, true, IfOk, length};
 ghost use Rattle.std.specs.List.{All, zip};
 ghost use Rattle.geos_model.specs.Chain.{name_of, relinked};

@@ -1,3 +1,4 @@
+//! The handles that a walk has still to come to.
 ghost use Rattle.std.specs.Prelude.{◌≡◌, [], ◌∷◌, IfOk, MatchOption, length};
 
 use geos_model::VmHandle;

@@ -1,3 +1,4 @@
+//! The blocks of a copy of a chain, and the blocks that the freeing of one takes.
 ghost use Rattle.std.specs.Prelude.{◌≡◌, ◌⊎◌, ◌==◌, ◌<◌, false, IfOk, IfErr, length};
 ghost use Rattle.std.specs.List.{list_any};
 ghost use Rattle.geos_model.specs.Chain.{blocks_of, chain_blocks, copies_of, copy_conditions, free_conditions, new_handles, renamed_blocks};

@@ -1,3 +1,4 @@
+//! What is read of a block that a walk has met.
 ghost use Rattle.std.specs.Prelude.{◌≡◌, ◌≤◌, true, false, IfOk, MatchResult, length};
 ghost use Rattle.geos_model.specs.Chain.{is_member, relinked};
 ghost use Rattle.geos_model.specs.Document.{block_at, is_heap, is_live, is_raw, raw_bytes_of};
@@ -13,8 +14,8 @@ use std::alloc::Global;
 use vm_blocks::{BlockBody, FileBlocks, SavedBlock, saved_block};
 use vm_store::Store;
 
-// What is read of a block that a walk has met. It is loaded again, since blocks that were met later may have taken its place. Only a
-// store that isn't steady gives another body then: where no chain can have that, it is Damaged.
+// The block is loaded again, since blocks that were met later may have taken its place. Only a store that isn't steady gives another
+// body then: where no chain can have that, it is Damaged.
 
 /// How many bytes it has.
 pub(crate) fn len_at<S: Store>(blocks: &mut FileBlocks<S>, handle: VmHandle) -> Result<usize, Fault>

@@ -1,3 +1,4 @@
+//! Walks along chains: their blocks, each before those that it links to.
 ghost use Rattle.std.specs.Prelude.{◌≡◌, ◌⊎◌, None, Some, true, false, IfOk, IfErr, MatchResult};
 ghost use Rattle.geos_model.specs.Chain.{chain, is_member, on_chain};
 ghost use Rattle.geos_model.specs.Document.{is_raw};

@@ -1,5 +1,5 @@
-// The machine's own files. No contract can say what they give or take, so they claim no honesty: that they do what an honest
-// file does is shown by tests alone.
+//! The machine's own files.
+// No contract can say what they give or take, so they claim no honesty: that they do what an honest file does is shown by tests alone.
 ghost use Rattle.std.specs.Prelude.{◌≡◌, ◌≤◌, length, IfOk};
 ghost use Rattle.vm_store.specs.Machine.{machine_facts, machine_timely};
 

@@ -1,4 +1,4 @@
-// A file in memory whose calls are cut short and interrupted, and which shows that what is promised of a file can be met.
+//! A file in memory whose calls are cut short and interrupted, which shows that what is promised of a file can be met.
 ghost use Rattle.std.specs.Prelude.{◌≡◌, ◌+◌, ◌<◌, ◌≤◌, List, Some, false, not, IsTrue, length, OnOk, IfOk};
 ghost use Rattle.vm_store.specs.Facts.{raised, IsDurable, Rests, Writes, Elapses, Sizes};
 ghost use Rattle.vm_store.specs.History.{fresh};

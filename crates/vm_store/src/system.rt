@@ -1,4 +1,4 @@
-// The calls of a system that a store on a file of it makes, and what is promised of them.
+//! The calls of a system that a store on a file of it makes, and what is promised of them.
 ghost use Rattle.std.specs.Prelude.{◌≡◌, ◌≤◌, false, IsTrue, length, OnOk, IfOk};
 ghost use Rattle.vm_store.specs.Facts.{StoreFacts, IsTimely, IsDurable, Rests, Writes, Elapses, Sizes};
 ghost use Rattle.vm_store.specs.System.{FileFacts, SystemCalls, Tells, IsInterrupted, HasFailed, Idles, Reads, WritesTo, WritesPart};
