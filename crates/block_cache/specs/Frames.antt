@@ -66,7 +66,8 @@ abbrev pub covered : {S : Type 0} → FileState S → List (ℕ × Frame) → Fi
 covered file es = record { disk = file.disk; document = overlay es file.document }
 
 -- The document stays, or drifts as the store does, whatever is written or read.
-pub record Moves {S : Type 0} (facts : S → StoreFacts) (file : FileState S) (frames : List (ℕ × Frame)) (file' : FileState S) (frames' : List (ℕ × Frame)) : Type 0 where
+pub record Moves {S : Type 0} (facts : S → StoreFacts) (file : FileState S) (frames : List (ℕ × Frame))
+    (file' : FileState S) (frames' : List (ℕ × Frame)) : Type 0 where
   pub passes : Passes facts file.disk file'.disk
   pub drifts : Drifts (facts file.disk.store).honest (overlay frames file.document) (overlay frames' file'.document)
   pub kept : AreKept (facts file'.disk.store).honest file'.document frames'

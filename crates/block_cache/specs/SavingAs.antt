@@ -13,7 +13,8 @@ use Rattle.vm_file.specs.Effects.{Follows, IsNewFile}
 pub record IsSavedAs {S : Type 0} (facts : S → StoreFacts) (target store : S) (old new : FileState S) : Type 0 where
   pub reverted : (disk : Disk S) × (disk.store ≡ store) × Commits facts (old.disk.saved, old.disk.saved) old.disk disk (Ok tt)
   pub new_file : IsNewFile facts new.disk.updated new.disk
-  pub made : IsTrue (facts old.disk.store).honest → IsTrue (facts target).honest → (new.disk.updated ≡ old.document) × (new.disk.saved ≡ old.document)
+  pub made : IsTrue (facts old.disk.store).honest → IsTrue (facts target).honest
+      → (new.disk.updated ≡ old.document) × (new.disk.saved ≡ old.document)
   pub live : (h : ℕ) → is_live new.disk.updated h ≡ is_live old.document h
   pub follows : Follows facts target new.disk.store
   pub document : Drifts ((facts old.disk.store).honest && (facts target).honest) old.document new.document

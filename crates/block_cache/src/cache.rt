@@ -48,7 +48,12 @@ impl<S: Store> Model for Cache<S> {
 
     ghost use Rattle.block_cache.specs.Frames.{overlay, seats, AreKept};
 
-    ghost view = { λ a. record { disk = a.file.disk; document = overlay a.frames.entries a.file.document; resident = seats a.frames.entries; frames = a.frames.cap } };
+    ghost view = { λ a. record {
+      disk = a.file.disk;
+      document = overlay a.frames.entries a.file.document;
+      resident = seats a.frames.entries;
+      frames = a.frames.cap;
+    } };
 
     ghost invariant = { λ a. AreKept (S.facts a.file.disk.store).honest a.file.document a.frames.entries };
 }
@@ -220,7 +225,8 @@ impl<S: Store> Cache<S> {
         requires resident { is_resident self.old.resident block.0 ≡ true }
         requires heap { is_heap self.old.document block.0 ≡ true }
         ensures* writes_back { sem 𝓛 (lends_heap S.row S.Store self.entry block.0 result) }
-        ensures value { option_map (λ b. b.body) (get self.old.document.blocks block.0) ≡ Some (bodies.Heap result.now.chunks) }
+        ensures value { option_map (λ b. b.body) (get self.old.document.blocks block.0)
+            ≡ Some (bodies.Heap result.now.chunks) }
     {
         self.frames.peek_mut(&block.0).unwrap().heap_mut()
     }
@@ -264,7 +270,10 @@ impl<S: Store> Cache<S> {
     /// stays. No memory, no store.
     pub fn remove_blocks(&mut self, handles: &[VmHandle])
         requires { All (λ h. h.0 ≢ self.old.document.map_block) handles.now }
-        ensures { self.new ≡ record self.old { document = remove_all handles.now self.old.document; resident = seats_without handles.now self.old.resident } }
+        ensures { self.new ≡ record self.old {
+          document = remove_all handles.now self.old.document;
+          resident = seats_without handles.now self.old.resident;
+        } }
     {
         let _count = self.frames.len();
         drop_blocks(&mut self.frames, handles);
@@ -276,13 +285,17 @@ impl<S: Store> Cache<S> {
     /// image, which an honest store never gives. For a block that is in memory it takes no memory, calls no store and isn't refused.
     pub fn load(&mut self, block: VmHandle) -> Result<(), Fault>
         requires live { is_live self.old.document block.0 ≡ true }
-        requires room { (is_resident self.old.resident block.0 ≡ true) ⊎ (all_locked self.old.frames self.old.resident ≡ false) }
+        requires room { (is_resident self.old.resident block.0 ≡ true)
+            ⊎ (all_locked self.old.frames self.old.resident ≡ false) }
         ensures stays { Stays S.facts self.old self.new }
         ensures ok { OnOk result (self.new.resident ≡ seated self.old.frames block.0 self.old.resident) }
-        ensures err { OnErr result ((self.new.resident ≡ self.old.resident) ⊎ (self.new.resident ≡ evicted self.old.resident)) }
+        ensures err { OnErr result
+            ((self.new.resident ≡ self.old.resident) ⊎ (self.new.resident ≡ evicted self.old.resident)) }
         ensures locks { KeepsLocks self.old.resident self.new.resident }
-        ensures already { is_resident self.old.resident block.0 ≡ true → (result ≡ Ok tt) × (self.new.disk ≡ self.old.disk) × (self.new.document ≡ self.old.document) }
-        ensures fails { Fails S.facts (IsDamage (S.facts self.old.disk.store).honest) self.old.disk.store self.new.disk.store result }
+        ensures already { is_resident self.old.resident block.0 ≡ true
+            → (result ≡ Ok tt) × (self.new.disk ≡ self.old.disk) × (self.new.document ≡ self.old.document) }
+        ensures fails { Fails S.facts
+            (IsDamage (S.facts self.old.disk.store).honest) self.old.disk.store self.new.disk.store result }
     {
         let _count = self.frames.len();
         if self.frames.contains(&block.0) {
@@ -297,7 +310,10 @@ impl<S: Store> Cache<S> {
     pub fn lock(&mut self, block: VmHandle)
         requires resident { is_resident self.old.resident block.0 ≡ true }
         requires few { locks_of self.old.resident block.0 < 255 }
-        ensures { self.new ≡ record self.old { resident = set_value (nat_eq block.0) self.old.resident (locks_of self.old.resident block.0 + 1) } }
+        ensures { self.new ≡ record self.old {
+          resident = set_value (nat_eq block.0) self.old.resident
+              (locks_of self.old.resident block.0 + 1);
+        } }
     {
         lock(&mut self.frames, block.0);
     }
@@ -305,7 +321,10 @@ impl<S: Store> Cache<S> {
     /// One lock less of a block. No memory, no store.
     pub fn unlock(&mut self, block: VmHandle)
         requires { 0 < locks_of self.old.resident block.0 }
-        ensures { self.new ≡ record self.old { resident = set_value (nat_eq block.0) self.old.resident (locks_of self.old.resident block.0 - 1) } }
+        ensures { self.new ≡ record self.old {
+          resident = set_value (nat_eq block.0) self.old.resident
+              (locks_of self.old.resident block.0 - 1);
+        } }
     {
         unlock(&mut self.frames, block.0);
     }
@@ -374,7 +393,8 @@ impl<S: Store> Cache<S> {
     /// sequence number can't rise, before anything is written; Memory, where nothing is committed; File, where what was to be
     /// may be read after a crash.
     pub fn commit_update(&mut self) -> Result<(), Fault>
-        ensures commit { IsCommit S.facts (self.old.document, self.old.disk.saved) self.old.document (seen self.old) (seen self.new) result }
+        ensures commit { IsCommit S.facts (self.old.document, self.old.disk.saved) self.old.document
+            (seen self.old) (seen self.new) result }
         ensures resident { (self.new.resident ≡ self.old.resident) × (self.new.frames ≡ self.old.frames) }
         ensures fails { Fails S.facts IsWorn self.old.disk.store self.new.disk.store result }
     {
@@ -383,7 +403,8 @@ impl<S: Store> Cache<S> {
 
     /// Makes the document as it is now the updated and the saved one. Refused as an update is.
     pub fn commit_save(&mut self) -> Result<(), Fault>
-        ensures commit { IsCommit S.facts (self.old.document, self.old.document) self.old.document (seen self.old) (seen self.new) result }
+        ensures commit { IsCommit S.facts (self.old.document, self.old.document) self.old.document
+            (seen self.old) (seen self.new) result }
         ensures resident { (self.new.resident ≡ self.old.resident) × (self.new.frames ≡ self.old.frames) }
         ensures fails { Fails S.facts IsWorn self.old.disk.store self.new.disk.store result }
     {
@@ -393,7 +414,8 @@ impl<S: Store> Cache<S> {
     /// Makes the saved document the updated one and the document as it is now. All blocks go from memory, the locked ones too,
     /// with what was changed in them; where it is refused they stay. Refused as an update is.
     pub fn commit_revert(&mut self) -> Result<(), Fault>
-        ensures commit { IsCommit S.facts (self.old.disk.saved, self.old.disk.saved) self.old.disk.saved (seen self.old) (seen self.new) result }
+        ensures commit { IsCommit S.facts (self.old.disk.saved, self.old.disk.saved) self.old.disk.saved
+            (seen self.old) (seen self.new) result }
         ensures ok { OnOk result (self.new.resident ≡ []) }
         ensures err { OnErr result (self.new.resident ≡ self.old.resident) }
         ensures frames { self.new.frames ≡ self.old.frames }
@@ -411,7 +433,8 @@ impl<S: Store> Cache<S> {
             (λ store. IsSavedAs S.facts target store (seen self.old) (seen self.new))
             (λ refused. IsNotSavedAs S.facts target refused.store (seen self.old) (seen self.new) refused.fault) }
         ensures valid { IfOk result (λ _. IsTrue (S.facts self.new.disk.store).honest → IsValid self.new.document) }
-        ensures worn { IsErrAnd result (λ refused. refused.fault ≡ Fault.Worn) ↔ self.old.disk.sequence ≡ last_sequence }
+        ensures worn { IsErrAnd result (λ refused. refused.fault ≡ Fault.Worn)
+            ↔ self.old.disk.sequence ≡ last_sequence }
         ensures resident { (self.new.resident ≡ self.old.resident) × (self.new.frames ≡ self.old.frames) }
     {
         saving_as::save_as(self.alloc, &mut self.file, &mut self.frames, target)
@@ -421,9 +444,11 @@ impl<S: Store> Cache<S> {
     /// document as it is now has what was done to it.
     pub fn validity(&self)
         ensures settled { IsSettled S.facts self.now.disk }
-        ensures valid { IsTrue (S.facts self.now.disk.store).honest → IsValid self.now.disk.updated × IsValid self.now.disk.saved }
+        ensures valid { IsTrue (S.facts self.now.disk.store).honest
+            → IsValid self.now.disk.updated × IsValid self.now.disk.saved }
         ensures listed { IsListed false self.now.document }
-        ensures numbered { IsTrue (S.facts self.now.disk.store).honest → self.now.disk.attempted ≡ [] → Numbered (S.facts self.now.disk.store) self.now.disk.sequence }
+        ensures numbered { IsTrue (S.facts self.now.disk.store).honest → self.now.disk.attempted ≡ []
+            → Numbered (S.facts self.now.disk.store) self.now.disk.sequence }
         ensures sequence { (1 ≤ self.now.disk.sequence) × (self.now.disk.sequence ≤ last_sequence) }
         ensures resident { (h : ℕ) → is_resident self.now.resident h ≡ true → is_live self.now.document h ≡ true }
         ensures room { length self.now.resident ≤ self.now.frames }

@@ -19,7 +19,8 @@ pub fn update<S: Store>(
     frames: &mut LruCache<u16, Frame>,
 ) -> Result<(), Fault>
     requires kept { AreKept (S.facts file.old.disk.store).honest file.old.document frames.old.entries }
-    ensures commit { IsCommit S.facts (overlay frames.old.entries file.old.document, file.old.disk.saved) (overlay frames.old.entries file.old.document)
+    ensures commit { IsCommit S.facts (overlay frames.old.entries file.old.document, file.old.disk.saved)
+        (overlay frames.old.entries file.old.document)
         (covered file.old frames.old.entries) (covered file.new frames.new.entries) result }
     ensures kept { AreKept (S.facts file.new.disk.store).honest file.new.document frames.new.entries }
     ensures seats { seats frames.new.entries ≡ seats frames.old.entries }
@@ -41,7 +42,9 @@ pub fn save<S: Store>(
     frames: &mut LruCache<u16, Frame>,
 ) -> Result<(), Fault>
     requires kept { AreKept (S.facts file.old.disk.store).honest file.old.document frames.old.entries }
-    ensures commit { IsCommit S.facts (overlay frames.old.entries file.old.document, overlay frames.old.entries file.old.document) (overlay frames.old.entries file.old.document)
+    ensures commit { IsCommit S.facts
+        (overlay frames.old.entries file.old.document, overlay frames.old.entries file.old.document)
+        (overlay frames.old.entries file.old.document)
         (covered file.old frames.old.entries) (covered file.new frames.new.entries) result }
     ensures kept { AreKept (S.facts file.new.disk.store).honest file.new.document frames.new.entries }
     ensures seats { seats frames.new.entries ≡ seats frames.old.entries }

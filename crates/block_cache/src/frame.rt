@@ -50,7 +50,8 @@ impl Frame {
 
 /// Says whether a block in memory may differ from what the file has of it.
 pub fn mark(frames: &mut LruCache<u16, Frame>, block: u16, changed: bool)
-    ensures { frames.new ≡ lru_cache (with_frame frames.old.entries block (λ f. record f { changed = changed })) frames.old.cap }
+    ensures { frames.new
+        ≡ lru_cache (with_frame frames.old.entries block (λ f. record f { changed = changed })) frames.old.cap }
 {
     if let Some(frame) = frames.peek_mut(&block) {
         frame.changed = changed;
@@ -60,7 +61,8 @@ pub fn mark(frames: &mut LruCache<u16, Frame>, block: u16, changed: bool)
 /// One more lock of a block in memory.
 pub fn lock(frames: &mut LruCache<u16, Frame>, block: u16)
     requires { MatchOption (held frames.old.entries block) (Unit {0}) (λ f. f.locks < 255) }
-    ensures { frames.new ≡ lru_cache (with_frame frames.old.entries block (λ f. record f { locks = f.locks + 1 })) frames.old.cap }
+    ensures { frames.new
+        ≡ lru_cache (with_frame frames.old.entries block (λ f. record f { locks = f.locks + 1 })) frames.old.cap }
 {
     if let Some(frame) = frames.peek_mut(&block) {
         frame.locks += 1;
@@ -70,7 +72,8 @@ pub fn lock(frames: &mut LruCache<u16, Frame>, block: u16)
 /// One lock less of a block in memory.
 pub fn unlock(frames: &mut LruCache<u16, Frame>, block: u16)
     requires { MatchOption (held frames.old.entries block) (Unit {0}) (λ f. 0 < f.locks) }
-    ensures { frames.new ≡ lru_cache (with_frame frames.old.entries block (λ f. record f { locks = f.locks - 1 })) frames.old.cap }
+    ensures { frames.new
+        ≡ lru_cache (with_frame frames.old.entries block (λ f. record f { locks = f.locks - 1 })) frames.old.cap }
 {
     if let Some(frame) = frames.peek_mut(&block) {
         frame.locks -= 1;

@@ -26,7 +26,8 @@ fn put_of<S: Store>(
     requires live { is_live file.now.document block.0 ≡ true }
     requires kind { is_heap_body (body_of body.now) ≡ is_heap file.now.document block.0 }
     ensures put { IfOk result IsPut }
-    ensures is { IfOk result (λ put. put_all (put ∷ []) file.now.document ≡ with_body file.now.document block.0 (body_of body.now)) }
+    ensures is { IfOk result
+        (λ put. put_all (put ∷ []) file.now.document ≡ with_body file.now.document block.0 (body_of body.now)) }
 {
     file.validity();
     let place = file.entry(block).unwrap();
@@ -38,7 +39,9 @@ fn put_of<S: Store>(
 
 // The body of a block in memory, if it is changed.
 fn changed_body(frames: &LruCache<u16, Frame>, block: u16) -> Option<&BlockBody>
-    ensures { MatchOption result (is_changed_in frames.now.entries block ≡ false) (λ body. IsChangedBody frames.now.entries block body.now) }
+    ensures { MatchOption result
+        (is_changed_in frames.now.entries block ≡ false)
+        (λ body. IsChangedBody frames.now.entries block body.now) }
 {
     match frames.peek(&block) {
         Some(frame) => {
@@ -64,7 +67,8 @@ pub fn write_back<S: Store>(
     ensures seats { seats frames.new.entries ≡ seats frames.old.entries }
     ensures cap { frames.new.cap ≡ frames.old.cap }
     ensures clean { OnOk result (is_changed_in frames.new.entries block.0 ≡ false) }
-    ensures fewer { OnOk result (is_changed_in frames.old.entries block.0 ≡ true → some_changed frames.new.entries < some_changed frames.old.entries) }
+    ensures fewer { OnOk result (is_changed_in frames.old.entries block.0 ≡ true
+        → some_changed frames.new.entries < some_changed frames.old.entries) }
     ensures fails { Fails S.facts NoFault file.old.disk.store file.new.disk.store result }
 {
     match changed_body(frames, block.0) {
@@ -110,7 +114,9 @@ pub fn make_room<S: Store>(
     requires kept { AreKept (S.facts file.old.disk.store).honest file.old.document frames.old.entries }
     requires room { all_locked frames.old.cap (seats frames.old.entries) ≡ false }
     ensures moves { Moves S.facts file.old frames.old.entries file.new frames.new.entries }
-    ensures ok { OnOk result (seats frames.new.entries ≡ cond (nat_lt (length (seats frames.old.entries)) frames.old.cap) (seats frames.old.entries) (evicted (seats frames.old.entries))) }
+    ensures ok { OnOk result
+        (seats frames.new.entries ≡ cond (nat_lt (length (seats frames.old.entries)) frames.old.cap)
+        (seats frames.old.entries) (evicted (seats frames.old.entries))) }
     ensures room { OnOk result (length frames.new.entries < frames.new.cap) }
     ensures err { OnErr result (seats frames.new.entries ≡ seats frames.old.entries) }
     ensures cap { frames.new.cap ≡ frames.old.cap }
@@ -132,8 +138,10 @@ fn read_body<S: Store>(
     requires live { is_live file.old.document block.0 ≡ true }
     ensures reads { OnlyReads S.facts file.old file.new }
     ensures kind { IfOk result (λ body. is_heap_body (body_of body) ≡ is_heap file.old.document block.0) }
-    ensures same { IfOk result (λ body. IsTrue (S.facts file.old.disk.store).honest → (block_at file.old.document block.0).body ≡ body_of body) }
-    ensures fails { Fails S.facts (IsDamage (S.facts file.old.disk.store).honest) file.old.disk.store file.new.disk.store result }
+    ensures same { IfOk result (λ body. IsTrue (S.facts file.old.disk.store).honest
+        → (block_at file.old.document block.0).body ≡ body_of body) }
+    ensures fails { Fails S.facts
+        (IsDamage (S.facts file.old.disk.store).honest) file.old.disk.store file.new.disk.store result }
 {
     file.validity();
     let is_heap = file.entry(block).unwrap().is_heap;
@@ -165,7 +173,8 @@ pub fn fetch<S: Store>(
     ensures ok { OnOk result (seats frames.new.entries ≡ (block.0, 0) ∷ seats frames.old.entries) }
     ensures err { OnErr result (seats frames.new.entries ≡ seats frames.old.entries) }
     ensures cap { frames.new.cap ≡ frames.old.cap }
-    ensures fails { Fails S.facts (IsDamage (S.facts file.old.disk.store).honest) file.old.disk.store file.new.disk.store result }
+    ensures fails { Fails S.facts
+        (IsDamage (S.facts file.old.disk.store).honest) file.old.disk.store file.new.disk.store result }
 {
     let body = read_body(file, block, region)?;
     frames.put(
@@ -191,10 +200,14 @@ pub fn bring<S: Store>(
     requires absent { held frames.old.entries block.0 ≡ None }
     requires room { all_locked frames.old.cap (seats frames.old.entries) ≡ false }
     ensures moves { Moves S.facts file.old frames.old.entries file.new frames.new.entries }
-    ensures ok { OnOk result (seats frames.new.entries ≡ (block.0, 0) ∷ cond (nat_lt (length (seats frames.old.entries)) frames.old.cap) (seats frames.old.entries) (evicted (seats frames.old.entries))) }
-    ensures err { OnErr result ((seats frames.new.entries ≡ seats frames.old.entries) ⊎ (seats frames.new.entries ≡ evicted (seats frames.old.entries))) }
+    ensures ok { OnOk result
+        (seats frames.new.entries ≡ (block.0, 0) ∷ cond (nat_lt (length (seats frames.old.entries)) frames.old.cap)
+        (seats frames.old.entries) (evicted (seats frames.old.entries))) }
+    ensures err { OnErr result ((seats frames.new.entries ≡ seats frames.old.entries)
+        ⊎ (seats frames.new.entries ≡ evicted (seats frames.old.entries))) }
     ensures cap { frames.new.cap ≡ frames.old.cap }
-    ensures fails { Fails S.facts (IsDamage (S.facts file.old.disk.store).honest) file.old.disk.store file.new.disk.store result }
+    ensures fails { Fails S.facts
+        (IsDamage (S.facts file.old.disk.store).honest) file.old.disk.store file.new.disk.store result }
 {
     let region = make_room(alloc, file, frames)?;
     fetch(file, frames, block, region)
@@ -202,7 +215,9 @@ pub fn bring<S: Store>(
 
 // A block in memory that is changed.
 fn first_changed(frames: &LruCache<u16, Frame>) -> Option<u16>
-    ensures { MatchOption result (AreClean frames.now.entries) (λ block. IsTrue (is_changed_in frames.now.entries block)) }
+    ensures { MatchOption result
+        (AreClean frames.now.entries)
+        (λ block. IsTrue (is_changed_in frames.now.entries block)) }
 {
     let _count = frames.len();
     match frames.iter().find(|(_, frame)| frame.changed) {

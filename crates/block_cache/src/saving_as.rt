@@ -19,7 +19,8 @@ use vm_store::Store;
 
 // Says of a block, if it is in memory, that the file may have another body of it.
 fn mark_one(frames: &mut LruCache<u16, Frame>, block: u16)
-    ensures entries { frames.new ≡ lru_cache (with_frame frames.old.entries block (λ f. record f { changed = true })) frames.old.cap }
+    ensures entries { frames.new
+        ≡ lru_cache (with_frame frames.old.entries block (λ f. record f { changed = true })) frames.old.cap }
     ensures valid { IfSome (held frames.new.entries block) (λ f. is_valid_body (body_of f.body) ≡ true) }
 {
     mark(frames, block, true);
@@ -31,8 +32,10 @@ fn mark_one(frames: &mut LruCache<u16, Frame>, block: u16)
 // Says so of each block in memory.
 fn mark_all(frames: &mut LruCache<u16, Frame>)
     ensures shown { (d : Document) → overlay frames.new.entries d ≡ overlay frames.old.entries d }
-    ensures valid { (d : Document) → IsValid d → AreKept false d frames.new.entries → IsValid (overlay frames.new.entries d) }
-    ensures kept { (honest : Bool) (d : Document) → ((h : ℕ) → is_live d h ≡ true → is_vm_handle h ≡ true) → AreKept false d frames.old.entries → AreKept honest d frames.new.entries }
+    ensures valid { (d : Document) → IsValid d → AreKept false d frames.new.entries
+        → IsValid (overlay frames.new.entries d) }
+    ensures kept { (honest : Bool) (d : Document) → ((h : ℕ) → is_live d h ≡ true → is_vm_handle h ≡ true)
+        → AreKept false d frames.old.entries → AreKept honest d frames.new.entries }
     ensures seats { seats frames.new.entries ≡ seats frames.old.entries }
     ensures cap { frames.new.cap ≡ frames.old.cap }
 {
@@ -53,9 +56,12 @@ pub fn save_as<S: Store>(
 ) -> Result<S, Refused<S>>
     requires kept { AreKept (S.facts file.old.disk.store).honest file.old.document frames.old.entries }
     ensures saved_as { MatchResult result
-        (λ store. IsSavedAs S.facts target store (covered file.old frames.old.entries) (covered file.new frames.new.entries))
-        (λ refused. IsNotSavedAs S.facts target refused.store (covered file.old frames.old.entries) (covered file.new frames.new.entries) refused.fault) }
-    ensures valid { IfOk result (λ _. IsTrue (S.facts file.new.disk.store).honest → IsValid (overlay frames.new.entries file.new.document)) }
+        (λ store. IsSavedAs S.facts target store (covered file.old frames.old.entries)
+        (covered file.new frames.new.entries))
+        (λ refused. IsNotSavedAs S.facts target refused.store
+        (covered file.old frames.old.entries) (covered file.new frames.new.entries) refused.fault) }
+    ensures valid { IfOk result
+        (λ _. IsTrue (S.facts file.new.disk.store).honest → IsValid (overlay frames.new.entries file.new.document)) }
     ensures worn { IsErrAnd result (λ refused. refused.fault ≡ Fault.Worn) ↔ file.old.disk.sequence ≡ last_sequence }
     ensures kept { AreKept (S.facts file.new.disk.store).honest file.new.document frames.new.entries }
     ensures seats { seats frames.new.entries ≡ seats frames.old.entries }

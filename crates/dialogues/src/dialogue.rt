@@ -82,7 +82,8 @@ impl Dialogue {
 
     /// A command and its reply.
     pub fn add_line(&mut self, command: &str, reply: &str) -> Result<(), AllocError>
-        ensures { OnOk result (self.new ≡ ((self.old.0 ++ command.now) ++ line_feed ∷ [], (self.old.1 ++ reply.now) ++ line_feed ∷ [])) }
+        ensures { OnOk result
+            (self.new ≡ ((self.old.0 ++ command.now) ++ line_feed ∷ [], (self.old.1 ++ reply.now) ++ line_feed ∷ [])) }
     {
         self.add_text(command, reply)?;
         self.add_text("\n", "\n")
@@ -156,7 +157,8 @@ impl Dialogue {
         target: Option<S>,
     ) -> Result<Session<S>, Mismatch>
         ensures answers { IfOk result (λ after. AreExact S.facts (held session target None) → (left former : Option S)
-            × AnswersOf S.facts (held session target None) (requests (lines self.now.0)) self.now.1 (held after left former)) }
+            × AnswersOf S.facts (held session target None) (requests (lines self.now.0)) self.now.1
+            (held after left former)) }
         ensures exact { IfOk result (λ after. AreExact S.facts (held session target None) → IsExact S.facts after) }
     {
         let mut written = Vec::new(self.alloc);

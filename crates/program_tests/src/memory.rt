@@ -54,7 +54,11 @@ impl MemFiles {
 impl Files for MemFiles {
     type Opened = MemStore;
 
-    ghost calls = { record { guards = λ old result new. Unit {0}; opens = λ old name make result new. Unit {0}; closes = λ old store new. Unit {0} } };
+    ghost calls = { record {
+      guards = λ old result new. Unit {0};
+      opens = λ old name make result new. Unit {0};
+      closes = λ old store new. Unit {0};
+    } };
 
     fn guard_streams(&mut self) -> Result<(), StoreFault> {
         self.note("guard", "")?;

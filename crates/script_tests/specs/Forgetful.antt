@@ -3,7 +3,14 @@ use Rattle.std.specs.Prelude.{ℕ, false, []}
 use Rattle.vm_store.specs.Facts.{StoreFacts, IsTimely}
 
 abbrev pub forgetful_facts : ℕ → StoreFacts
-forgetful_facts failures = record { content = []; honest = false; failures = failures; may_leave = λ c. Unit {0}; moment = 0; left_since = λ t c. Unit {0} }
+forgetful_facts failures = record {
+  content = [];
+  honest = false;
+  failures = failures;
+  may_leave = λ c. Unit {0};
+  moment = 0;
+  left_since = λ t c. Unit {0};
+}
 
 -- it isn't honest, so nothing is owed
 abbrev pub forgetful_timely : (n : ℕ) → IsTimely (forgetful_facts n)

@@ -3,7 +3,14 @@ use Rattle.std.specs.Prelude.{ℕ, false, []}
 use Rattle.vm_store.specs.Facts.{StoreFacts, IsTimely}
 
 abbrev pub lying_facts : ℕ → StoreFacts
-lying_facts failures = record { content = []; honest = false; failures = failures; may_leave = λ c. Unit {0}; moment = 0; left_since = λ t c. Unit {0} }
+lying_facts failures = record {
+  content = [];
+  honest = false;
+  failures = failures;
+  may_leave = λ c. Unit {0};
+  moment = 0;
+  left_since = λ t c. Unit {0};
+}
 
 -- it isn't honest, so nothing is owed
 abbrev pub lying_timely : (n : ℕ) → IsTimely (lying_facts n)

@@ -8,7 +8,8 @@ use Rattle.doc_edits.specs.Planning.{RefusesAtHand}
 use Rattle.undo_log.specs.Locking.{IsBarred}
 use Rattle.undo_log.specs.Records.{SessionState}
 
--- Over any store it is what it means of the document as it was, or a refusal that leaves that: by a lock, for want of memory or by the rules.
+-- Over any store it is what it means of the document as it was, or a refusal that leaves that: by a lock, for want of memory or by the
+-- rules.
 pub record EditsAtHand {S : Type 0} (edit : Edit) (old new : SessionState S) (result : Result Done Fault) : Type 0 where
   pub disk : new.disk ≡ old.disk
   pub ok : IfOk result (λ done. (new.document ≡ (effect edit old.document).0) × (done ≡ (effect edit old.document).1))

@@ -32,7 +32,8 @@ IsHeld s fault = rest_fault s ≡ Some fault
 
 -- A call that tries to commit a pair, with this document behind it where it does: where no group is open and no block is locked a commit of
 -- the file, and otherwise refused before all else.
-pub record TriesCommit {S : Type 0} (facts : S → StoreFacts) (pair : Documents) (d : Document) (old new : SessionState S) (result : Result (Unit {0}) Fault) : Type 0 where
+pub record TriesCommit {S : Type 0} (facts : S → StoreFacts) (pair : Documents) (d : Document) (old new : SessionState S)
+    (result : Result (Unit {0}) Fault) : Type 0 where
   pub commits : Commits facts pair old.disk new.disk result
   pub passes : IfErr result (λ fault. fault ≢ File → Passes facts old.disk new.disk)
   pub free : rest_fault old ≡ None → IsCommit facts pair d (file_of old) (file_of new) result

@@ -15,16 +15,18 @@ use Rattle.doc_edits.specs.Building.{is_of_chain}
 use Rattle.doc_edits.specs.Planning.{kind_of_change, Plans}
 use Rattle.doc_edits.specs.Room.{has_no_room}
 
--- What a change means that was made, over any store: the edit, of the document as it was held once its block was loaded, and the answer. Where no
--- block comes in, the document from then on is just what the edit makes of that one.
-pub record IsMeant {S : Type 0} (facts : S → StoreFacts) (edit : Edit) (old new : CacheState S) (change : Change) (done : Done) : Type 0 where
+-- What a change means that was made, over any store: the edit, of the document as it was held once its block was loaded, and the answer.
+-- Where no block comes in, the document from then on is just what the edit makes of that one.
+pub record IsMeant {S : Type 0} (facts : S → StoreFacts) (edit : Edit) (old new : CacheState S)
+    (change : Change) (done : Done) : Type 0 where
   pub loaded : Document
   pub drifts : Drifts (facts old.disk.store).honest old.document loaded
   pub plans : Plans edit loaded change done
   pub document : kind_of edit ≢ Made → new.document ≡ (effect edit loaded).0
 
 -- There was room for what the edit needed, and its change was made and means it; that of a chain over an honest store.
-pub record IsMade {S : Type 0} (facts : S → StoreFacts) (edit : Edit) (old new : CacheState S) (change : Change) (done : Done) : Type 0 where
+pub record IsMade {S : Type 0} (facts : S → StoreFacts) (edit : Edit) (old new : CacheState S)
+    (change : Change) (done : Done) : Type 0 where
   pub listed : Listed change old.document
   pub makes : Makes facts change old new
   pub room : has_no_room old (edit_needs edit) ≡ false

@@ -96,15 +96,17 @@ pub record IsExact {S : Type 0} (facts : S → StoreFacts) (s : SessionState S) 
 -- A call is a step of the machine, and the session is exact still.
 abbrev pub IsStep : {S : Type 0} → (S → StoreFacts) → SessionState S → SessionState S → Command → Reply → Type 0
 IsStep facts old new command reply = IsExact facts old
-    → IsExact facts new × ((target : Bool) → Step (has_failed (facts old.disk.store) (facts new.disk.store)) (machine_of target old) (Some command) reply (machine_of target new))
+    → IsExact facts new
+    × ((target : Bool) → Step (has_failed (facts old.disk.store) (facts new.disk.store)) (machine_of target old)
+    (Some command) reply (machine_of target new))
 
 -- Nothing is committed, the document stays as far as the store gives back what it has, and so do the locks and the log.
 pub record KeepsSession {S : Type 0} (facts : S → StoreFacts) (old new : SessionState S) : Type 0 where
   pub blocks : Keeps facts (blocks_of old) (blocks_of new)
   pub log : new.log ≡ old.log
 
--- What a look-up into one block comes to: a step of the machine that keeps the session. What is answered is looked up of the document as it is
--- held from then on, or of the one before where no body has to be read, for which no store is called.
+-- What a look-up into one block comes to: a step of the machine that keeps the session. What is answered is looked up of the document as it
+-- is held from then on, or of the one before where no body has to be read, for which no store is called.
 pub record Looks {S : Type 0} (facts : S → StoreFacts) (old new : SessionState S) (command : Command) (reply : Reply) : Type 0 where
   pub keeps : KeepsSession facts old new
   pub step : IsStep facts old new command reply

@@ -27,7 +27,8 @@ MakesEntry facts direction (entries.Group cs) old new = MakesAll facts (map (tur
 -- gives back what it has.
 abbrev pub CantMake : {S : Type 0} → (S → StoreFacts) → Change → CacheState S → CacheState S → Fault → Type 0
 CantMake facts change old new fault =
-    Lacks facts old.disk.store new.disk.store fault ⊎ ((fault ≡ Damaged) × (IsSteady facts old.disk.store → BodyTakes change old.document → ⊥))
+    Lacks facts old.disk.store new.disk.store fault
+    ⊎ ((fault ≡ Damaged) × (IsSteady facts old.disk.store → BodyTakes change old.document → ⊥))
 
 -- why those of an entry can't
 abbrev pub CantMakeEntry : {S : Type 0} → (S → StoreFacts) → Direction → LogEntry → CacheState S → CacheState S → Fault → Type 0
@@ -36,11 +37,13 @@ CantMakeEntry facts direction (entries.Group cs) old new fault = AreUnready fact
 
 -- That of one edit can: no block comes in, and the body that changes is in memory and takes the change.
 abbrev pub CanMakeEntry : {S : Type 0} → Direction → LogEntry → CacheState S → Type 0
-CanMakeEntry direction (entries.One c) blocks = (blocks_in (turned direction c) ≡ []) × IsAtHand (turned direction c) blocks × BodyTakes (turned direction c) blocks.document
+CanMakeEntry direction (entries.One c) blocks = (blocks_in (turned direction c) ≡ []) × IsAtHand (turned direction c) blocks
+    × BodyTakes (turned direction c) blocks.document
 CanMakeEntry direction (entries.Group cs) blocks = ⊥
 
 -- the newest entry of a list is made, and is the newest of the other
-pub record Moves {S : Type 0} (facts : S → StoreFacts) (direction : Direction) (old new : CacheState S) (from to from' to' : List LogEntry) : Type 0 where
+pub record Moves {S : Type 0} (facts : S → StoreFacts) (direction : Direction) (old new : CacheState S)
+    (from to from' to' : List LogEntry) : Type 0 where
   pub entry : LogEntry
   pub makes : MakesEntry facts direction entry old new
   pub from_was : from ≡ entry ∷ from'

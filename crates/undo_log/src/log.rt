@@ -34,12 +34,19 @@ impl Model for UndoLog {
     ghost use Rattle.std.specs.Option.{option_map};
 
     ghost view = { λ l. record {
-      lists = record { undo = reverse l.undo.items; redo = reverse l.redo.items; group = option_map (λ changes. reverse changes.items) l.group };
-      room = has_room (vec_len l.undo + vec_len l.redo) (vec_capacity l.undo) (vec_capacity l.redo) (option_map (λ changes. (vec_len changes, vec_capacity changes)) l.group);
+      lists = record {
+        undo = reverse l.undo.items;
+        redo = reverse l.redo.items;
+        group = option_map (λ changes. reverse changes.items) l.group;
+      };
+      room = has_room (vec_len l.undo + vec_len l.redo) (vec_capacity l.undo) (vec_capacity l.redo)
+          (option_map (λ changes. (vec_len changes, vec_capacity changes)) l.group);
     } };
 
-    ghost invariant = { λ l. (vec_len l.undo + vec_len l.redo + waiting (option_map (λ changes. (vec_len changes, vec_capacity changes)) l.group) ≤ vec_capacity l.undo)
-        × (vec_len l.undo + vec_len l.redo + waiting (option_map (λ changes. (vec_len changes, vec_capacity changes)) l.group) ≤ vec_capacity l.redo)
+    ghost invariant = { λ l. (vec_len l.undo + vec_len l.redo + waiting
+        (option_map (λ changes. (vec_len changes, vec_capacity changes)) l.group) ≤ vec_capacity l.undo)
+        × (vec_len l.undo + vec_len l.redo + waiting
+        (option_map (λ changes. (vec_len changes, vec_capacity changes)) l.group) ≤ vec_capacity l.redo)
         × AreExclusive (open_changes (option_map (λ changes. reverse changes.items) l.group)) (reverse l.redo.items) };
 }
 
@@ -186,7 +193,8 @@ impl UndoLog {
 
     /// How many content bytes it holds, 2^64 - 1 where these are more.
     pub(crate) fn weight(&self) -> u64
-        ensures { result ≡ min (total_weight (to_undo self.now.lists) + total_weight (to_redo self.now.lists)) (2 ^ 64 - 1) }
+        ensures { result
+            ≡ min (total_weight (to_undo self.now.lists) + total_weight (to_redo self.now.lists)) (2 ^ 64 - 1) }
     {
         self.group_weight()
             .saturating_add(entries_weight(self.undo.as_slice()))

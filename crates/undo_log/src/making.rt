@@ -38,14 +38,22 @@ pub fn make<S: Store>(
     requires unlocked { bars blocks.old.resident edit.now ≡ false }
     ensures ok { IfOk result (λ p. IsMade S.facts edit.now blocks.old blocks.new p.0 p.1) }
     ensures err { OnErr result (Keeps S.facts blocks.old blocks.new) }
-    ensures refusals { IfErr result (λ fault. Refuses (Lacks S.facts blocks.old.disk.store blocks.new.disk.store) (has_no_room blocks.old (edit_needs edit.now)) edit.now blocks.new.document fault ⊎ IsChainEditFault edit.now blocks.old.document fault) }
-    ensures rules { IsTrue (S.facts blocks.old.disk.store).honest → IfErr result (Refuses (Lacks S.facts blocks.old.disk.store blocks.new.disk.store) (has_no_room blocks.old (edit_needs edit.now)) edit.now blocks.new.document) }
-    ensures plain { kind_of edit.now ≡ Plain → (blocks.new.disk ≡ blocks.old.disk) × IfErr result (RefusesAtHand edit.now blocks.new.document) }
+    ensures refusals { IfErr result (λ fault. Refuses (Lacks S.facts blocks.old.disk.store blocks.new.disk.store)
+        (has_no_room blocks.old (edit_needs edit.now)) edit.now blocks.new.document fault
+        ⊎ IsChainEditFault edit.now blocks.old.document fault) }
+    ensures rules { IsTrue (S.facts blocks.old.disk.store).honest
+        → IfErr result (Refuses (Lacks S.facts blocks.old.disk.store blocks.new.disk.store)
+        (has_no_room blocks.old (edit_needs edit.now)) edit.now blocks.new.document) }
+    ensures plain { kind_of edit.now ≡ Plain
+        → (blocks.new.disk ≡ blocks.old.disk) × IfErr result (RefusesAtHand edit.now blocks.new.document) }
     ensures shut { has_no_room blocks.old (edit_needs edit.now) ≡ true → (blocks.new ≡ blocks.old)
-        × IsErrAnd result (λ fault. first_refusal ((CacheFull, true) ∷ conditions edit.now blocks.old.document) ≡ Some fault) }
-    ensures already { kind_of edit.now ≢ Made → ReadsNothing blocks.old (edit_needs edit.now) (conditions edit.now blocks.old.document)
+        × IsErrAnd result
+        (λ fault. first_refusal ((CacheFull, true) ∷ conditions edit.now blocks.old.document) ≡ Some fault) }
+    ensures already { kind_of edit.now ≢ Made
+        → ReadsNothing blocks.old (edit_needs edit.now) (conditions edit.now blocks.old.document)
         → (blocks.new.disk ≡ blocks.old.disk)
-        × MatchResult result (λ p. (blocks.new.document ≡ (effect edit.now blocks.old.document).0) × (p.1 ≡ (effect edit.now blocks.old.document).1))
+        × MatchResult result (λ p. (blocks.new.document ≡ (effect edit.now blocks.old.document).0)
+        × (p.1 ≡ (effect edit.now blocks.old.document).1))
         (λ fault. (blocks.new.document ≡ blocks.old.document) × RefusesAtHand edit.now blocks.old.document fault) }
 {
     let (change, done) = plan(alloc, blocks, edit)?;

@@ -67,7 +67,13 @@ impl<S: Store> Model for Session<S> {
     ghost use Rattle.undo_log.specs.Logging.{to_redo, to_undo};
     ghost use Rattle.undo_log.specs.Records.{AreListed};
 
-    ghost view = { λ s. record { disk = s.blocks.disk; document = s.blocks.document; resident = s.blocks.resident; frames = s.blocks.frames; log = s.log.lists } };
+    ghost view = { λ s. record {
+      disk = s.blocks.disk;
+      document = s.blocks.document;
+      resident = s.blocks.resident;
+      frames = s.blocks.frames;
+      log = s.log.lists;
+    } };
 
     ghost invariant = { λ s. AreListed Backwards s.blocks.document (to_undo s.log.lists) (to_redo s.log.lists)
         × (s.blocks.disk.marked ≡ None) };
@@ -97,7 +103,8 @@ impl<S: Store> Session<S> {
             (λ refused. IsNotMade S.facts store refused.store refused.fault) }
         ensures new { IfOk result (λ session. (session.log ≡ empty_log) × (session.frames ≡ frames)) }
         ensures exact { IfOk result (λ session. IsTrue (S.facts store).honest → IsExact S.facts session) }
-        ensures machine { IfOk result (λ session. (target : Bool) → machine_of target session ≡ empty_machine frames target) }
+        ensures machine { IfOk result
+            (λ session. (target : Bool) → machine_of target session ≡ empty_machine frames target) }
     {
         match FileBlocks::create(alloc, store, frames) {
             Ok(blocks) => Ok(Session::start(alloc, blocks)),
@@ -115,7 +122,8 @@ impl<S: Store> Session<S> {
             (λ refused. IsNotOpened S.facts store refused.store refused.fault) }
         ensures new { IfOk result (λ session. (session.log ≡ empty_log) × (session.frames ≡ frames)) }
         ensures exact { IfOk result (λ session. IsTrue (S.facts store).honest → IsExact S.facts session) }
-        ensures machine { IfOk result (λ session. IsTrue (S.facts store).honest → (updated saved : Document) (sequence : ℕ) (target : Bool)
+        ensures machine { IfOk result
+            (λ session. IsTrue (S.facts store).honest → (updated saved : Document) (sequence : ℕ) (target : Bool)
             → stands (S.facts store).content ≡ Ok (updated, saved) → sequence_in (S.facts store).content ≡ Some sequence
             → machine_of target session ≡ opened_machine updated saved sequence frames target) }
     {
@@ -137,8 +145,10 @@ impl<S: Store> Session<S> {
     /// crash.
     pub fn update(&mut self) -> Result<(), Fault>
         ensures step { IsStep S.facts self.old self.new commands.Update (reply_by (λ _. Accepted) result) }
-        ensures commit { TriesCommit S.facts (self.old.document, self.old.disk.saved) self.old.document self.old self.new result }
-        ensures fails { Fails S.facts (λ fault. IsWorn fault ⊎ IsHeld self.old fault) self.old.disk.store self.new.disk.store result }
+        ensures commit { TriesCommit S.facts
+            (self.old.document, self.old.disk.saved) self.old.document self.old self.new result }
+        ensures fails { Fails S.facts
+            (λ fault. IsWorn fault ⊎ IsHeld self.old fault) self.old.disk.store self.new.disk.store result }
         ensures lists { (self.new.log ≡ self.old.log) × (self.new.frames ≡ self.old.frames) }
         ensures resident { self.new.resident ≡ self.old.resident }
     {
@@ -152,8 +162,10 @@ impl<S: Store> Session<S> {
     /// Makes the document as it is now the updated and the saved one. Refused as an update is.
     pub fn save(&mut self) -> Result<(), Fault>
         ensures step { IsStep S.facts self.old self.new commands.Save (reply_by (λ _. Accepted) result) }
-        ensures commit { TriesCommit S.facts (self.old.document, self.old.document) self.old.document self.old self.new result }
-        ensures fails { Fails S.facts (λ fault. IsWorn fault ⊎ IsHeld self.old fault) self.old.disk.store self.new.disk.store result }
+        ensures commit { TriesCommit S.facts
+            (self.old.document, self.old.document) self.old.document self.old self.new result }
+        ensures fails { Fails S.facts
+            (λ fault. IsWorn fault ⊎ IsHeld self.old fault) self.old.disk.store self.new.disk.store result }
         ensures lists { (self.new.log ≡ self.old.log) × (self.new.frames ≡ self.old.frames) }
         ensures resident { self.new.resident ≡ self.old.resident }
     {
@@ -169,11 +181,17 @@ impl<S: Store> Session<S> {
     /// document, over an honest store, and both lists stay. Refused as an update is.
     pub fn revert(&mut self) -> Result<(), Fault>
         ensures step { IsStep S.facts self.old self.new commands.Revert (reply_by (λ _. Accepted) result) }
-        ensures commit { TriesCommit S.facts (self.old.disk.saved, self.old.disk.saved) self.old.disk.saved self.old self.new result }
-        ensures fails { Fails S.facts (λ fault. IsWorn fault ⊎ IsHeld self.old fault) self.old.disk.store self.new.disk.store result }
+        ensures commit { TriesCommit S.facts
+            (self.old.disk.saved, self.old.disk.saved) self.old.disk.saved self.old self.new result }
+        ensures fails { Fails S.facts
+            (λ fault. IsWorn fault ⊎ IsHeld self.old fault) self.old.disk.store self.new.disk.store result }
         ensures exact { OnOk result (IsTrue (S.facts self.old.disk.store).honest → IsExact S.facts self.new) }
-        ensures lists { MatchResult result (λ _. self.new.log ≡ empty_log) (λ _. self.new.log ≡ self.old.log) × (self.new.frames ≡ self.old.frames) }
-        ensures resident { MatchResult result (λ _. self.new.resident ≡ []) (λ _. self.new.resident ≡ self.old.resident) }
+        ensures lists { MatchResult result
+            (λ _. self.new.log ≡ empty_log)
+            (λ _. self.new.log ≡ self.old.log) × (self.new.frames ≡ self.old.frames) }
+        ensures resident { MatchResult result
+            (λ _. self.new.resident ≡ [])
+            (λ _. self.new.resident ≡ self.old.resident) }
     {
         self.blocks.validity();
         if let Some(fault) = self.rest_fault() {
@@ -193,10 +211,12 @@ impl<S: Store> Session<S> {
     pub fn save_as(&mut self, target: S) -> Result<S, Refused<S>>
         // a step of the machine, where it is accepted into an honest target
         ensures ok { IfOk result (λ _. IsExact S.facts self.old → IsTrue (S.facts target).honest
-            → IsExact S.facts self.new × Step false (machine_of true self.old) (Some commands.SaveAs) Accepted (machine_of false self.new)) }
+            → IsExact S.facts self.new
+            × Step false (machine_of true self.old) (Some commands.SaveAs) Accepted (machine_of false self.new)) }
         ensures err { IfErr result (λ refused. IsExact S.facts self.old
             → IsExact S.facts self.new
-            × Step (has_failed (S.facts self.old.disk.store) (S.facts self.new.disk.store) || has_failed (S.facts target) (S.facts refused.store))
+            × Step (has_failed (S.facts self.old.disk.store) (S.facts self.new.disk.store) || has_failed
+            (S.facts target) (S.facts refused.store))
             (machine_of true self.old) (Some commands.SaveAs) (RefusedWith refused.fault) (machine_of true self.new)) }
         ensures saved_as { MatchResult result
             (λ store. IsSavedAs S.facts target store (file_of self.old) (file_of self.new))
@@ -204,10 +224,12 @@ impl<S: Store> Session<S> {
         ensures held { (fault : Fault) → rest_fault self.old ≡ Some fault
             → IsErrAnd result (λ refused. (refused.fault ≡ fault) × (refused.store ≡ target)) × (self.new ≡ self.old) }
         // of the store that comes back
-        ensures reverted { IfOk result (λ store. IsTrue (S.facts self.old.disk.store).honest → stands (S.facts store).content ≡ Ok (self.old.disk.saved, self.old.disk.saved)) }
+        ensures reverted { IfOk result (λ store. IsTrue (S.facts self.old.disk.store).honest
+            → stands (S.facts store).content ≡ Ok (self.old.disk.saved, self.old.disk.saved)) }
         ensures lists { (self.new.log ≡ self.old.log) × (self.new.frames ≡ self.old.frames) }
         ensures resident { self.new.resident ≡ self.old.resident }
-        ensures worn { IsErrAnd result (λ refused. refused.fault ≡ Fault.Worn) ↔ (rest_fault self.old ≡ None) × (self.old.disk.sequence ≡ last_sequence) }
+        ensures worn { IsErrAnd result (λ refused. refused.fault ≡ Fault.Worn)
+            ↔ (rest_fault self.old ≡ None) × (self.old.disk.sequence ≡ last_sequence) }
     {
         self.blocks.validity();
         if let Some(fault) = self.rest_fault() {
@@ -228,15 +250,20 @@ impl<S: Store> Session<S> {
         ensures ok { IfOk result (λ done. Records S.facts edit.now done self.old self.new) }
         ensures err { OnErr result (KeepsSession S.facts self.old self.new) }
         ensures refusals { IfErr result (λ fault. IsBarred edit.now self.old fault
-            ⊎ (Refuses (Lacks S.facts self.old.disk.store self.new.disk.store) (has_no_room (blocks_of self.old) (edit_needs edit.now)) edit.now self.new.document fault
+            ⊎ (Refuses (Lacks S.facts self.old.disk.store self.new.disk.store)
+            (has_no_room (blocks_of self.old) (edit_needs edit.now)) edit.now self.new.document fault
             ⊎ IsChainEditFault edit.now self.old.document fault)) }
-        ensures locked { ((target : Bool) → is_barred edit.now (machine_of target self.old) ≡ true) → (result ≡ Err Fault.Locked) × (self.new ≡ self.old) }
+        ensures locked { ((target : Bool) → is_barred edit.now (machine_of target self.old) ≡ true)
+            → (result ≡ Err Fault.Locked) × (self.new ≡ self.old) }
         ensures shut { has_no_room (blocks_of self.old) (edit_needs edit.now) ≡ true → (self.new ≡ self.old)
-            × IsErrAnd result (λ fault. IsBarred edit.now self.old fault ⊎ Refuses (λ f. f ≡ Fault.Memory) true edit.now self.old.document fault) }
-        ensures at_hand { OnOk result ((b : VmHandle) → kind_of edit.now ≡ In b → is_loaded (blocks_of self.new) b.0 ≡ true) }
+            × IsErrAnd result (λ fault. IsBarred edit.now self.old fault
+            ⊎ Refuses (λ f. f ≡ Fault.Memory) true edit.now self.old.document fault) }
+        ensures at_hand { OnOk result ((b : VmHandle) → kind_of edit.now ≡ In b
+            → is_loaded (blocks_of self.new) b.0 ≡ true) }
         ensures passes { Passes S.facts self.old.disk self.new.disk }
         // No store is called where no block comes in and no body has to be read.
-        ensures already { kind_of edit.now ≢ Made → ReadsNothing (blocks_of self.old) (edit_needs edit.now) (conditions edit.now self.old.document)
+        ensures already { kind_of edit.now ≢ Made
+            → ReadsNothing (blocks_of self.old) (edit_needs edit.now) (conditions edit.now self.old.document)
             → EditsAtHand edit.now self.old self.new result }
     {
         self.blocks.validity();
@@ -255,13 +282,18 @@ impl<S: Store> Session<S> {
     /// so no block may be in memory afterwards.
     pub fn undo(&mut self) -> Result<(), Fault>
         ensures step { IsStep S.facts self.old self.new commands.Undo (reply_by (λ _. Accepted) result) }
-        ensures ok { OnOk result (Moves S.facts Backwards (blocks_of self.old) (blocks_of self.new) self.old.log.undo self.old.log.redo self.new.log.undo self.new.log.redo) }
+        ensures ok { OnOk result (Moves S.facts Backwards (blocks_of self.old)
+            (blocks_of self.new) self.old.log.undo self.old.log.redo self.new.log.undo self.new.log.redo) }
         ensures err { OnErr result (KeepsSession S.facts self.old self.new) }
-        ensures refusals { IfErr result (IsRefusedTurn S.facts Fault.NothingToUndo self.old.log.undo self.old self.new) }
-        ensures held { (fault : Fault) → rest_fault self.old ≡ Some fault → (result ≡ Err fault) × (self.new ≡ self.old) }
+        ensures refusals { IfErr result
+            (IsRefusedTurn S.facts Fault.NothingToUndo self.old.log.undo self.old self.new) }
+        ensures held { (fault : Fault) → rest_fault self.old ≡ Some fault
+            → (result ≡ Err fault) × (self.new ≡ self.old) }
         ensures group { self.new.log.group ≡ self.old.log.group }
         ensures passes { Passes S.facts self.old.disk self.new.disk }
-        ensures sure { rest_fault self.old ≡ None → IsSure S.facts self.old Backwards self.old.log.undo → IsOk result × (self.new.disk ≡ self.old.disk) × (self.new.document ≡ newest_made Backwards self.old.log.undo self.old.document) }
+        ensures sure { rest_fault self.old ≡ None → IsSure S.facts self.old Backwards self.old.log.undo
+            → IsOk result × (self.new.disk ≡ self.old.disk)
+            × (self.new.document ≡ newest_made Backwards self.old.log.undo self.old.document) }
     {
         self.blocks.validity();
         if let Some(fault) = self.rest_fault() {
@@ -281,13 +313,18 @@ impl<S: Store> Session<S> {
     /// Makes the step again that the newest undo took back. Refused as an undo is; NothingToRedo.
     pub fn redo(&mut self) -> Result<(), Fault>
         ensures step { IsStep S.facts self.old self.new commands.Redo (reply_by (λ _. Accepted) result) }
-        ensures ok { OnOk result (Moves S.facts Forwards (blocks_of self.old) (blocks_of self.new) self.old.log.redo self.old.log.undo self.new.log.redo self.new.log.undo) }
+        ensures ok { OnOk result (Moves S.facts Forwards (blocks_of self.old)
+            (blocks_of self.new) self.old.log.redo self.old.log.undo self.new.log.redo self.new.log.undo) }
         ensures err { OnErr result (KeepsSession S.facts self.old self.new) }
-        ensures refusals { IfErr result (IsRefusedTurn S.facts Fault.NothingToRedo self.old.log.redo self.old self.new) }
-        ensures held { (fault : Fault) → rest_fault self.old ≡ Some fault → (result ≡ Err fault) × (self.new ≡ self.old) }
+        ensures refusals { IfErr result
+            (IsRefusedTurn S.facts Fault.NothingToRedo self.old.log.redo self.old self.new) }
+        ensures held { (fault : Fault) → rest_fault self.old ≡ Some fault
+            → (result ≡ Err fault) × (self.new ≡ self.old) }
         ensures group { self.new.log.group ≡ self.old.log.group }
         ensures passes { Passes S.facts self.old.disk self.new.disk }
-        ensures sure { rest_fault self.old ≡ None → IsSure S.facts self.old Forwards self.old.log.redo → IsOk result × (self.new.disk ≡ self.old.disk) × (self.new.document ≡ newest_made Forwards self.old.log.redo self.old.document) }
+        ensures sure { rest_fault self.old ≡ None → IsSure S.facts self.old Forwards self.old.log.redo
+            → IsOk result × (self.new.disk ≡ self.old.disk)
+            × (self.new.document ≡ newest_made Forwards self.old.log.redo self.old.document) }
     {
         self.blocks.validity();
         if let Some(fault) = self.rest_fault() {
@@ -305,9 +342,12 @@ impl<S: Store> Session<S> {
 
     /// Opens a group: the edits from here on are one step, once it ends. GroupOpen where one is open. No memory, no store.
     pub fn begin(&mut self) -> Result<(), Fault>
-        ensures step { (target : Bool) → Step false (machine_of target self.old) (Some commands.Begin) (reply_by (λ _. Accepted) result) (machine_of target self.new) }
-        ensures ok { OnOk result ((self.old.log.group ≡ None) × (self.new ≡ record self.old { log = record self.old.log { group = Some [] } })) }
-        ensures err { IfErr result (λ fault. (fault ≡ Fault.GroupOpen) × (is_some self.old.log.group ≡ true) × (self.new ≡ self.old)) }
+        ensures step { (target : Bool) → Step false (machine_of target self.old) (Some commands.Begin)
+            (reply_by (λ _. Accepted) result) (machine_of target self.new) }
+        ensures ok { OnOk result ((self.old.log.group ≡ None)
+            × (self.new ≡ record self.old { log = record self.old.log { group = Some [] } })) }
+        ensures err { IfErr result
+            (λ fault. (fault ≡ Fault.GroupOpen) × (is_some self.old.log.group ≡ true) × (self.new ≡ self.old)) }
         ensures exact { IsExact S.facts self.old → IsExact S.facts self.new }
     {
         if self.log.in_group() {
@@ -320,9 +360,12 @@ impl<S: Store> Session<S> {
     /// Ends the group: its edits are the newest step. Where it has none it leaves no step, and what can be made again stays. NoGroup where
     /// none is open. No memory, no store.
     pub fn end(&mut self) -> Result<(), Fault>
-        ensures step { (target : Bool) → Step false (machine_of target self.old) (Some commands.End) (reply_by (λ _. Accepted) result) (machine_of target self.new) }
-        ensures ok { OnOk result ((is_some self.old.log.group ≡ true) × (self.new ≡ record self.old { log = with_group_closed self.old.log })) }
-        ensures err { IfErr result (λ fault. (fault ≡ Fault.NoGroup) × (self.old.log.group ≡ None) × (self.new ≡ self.old)) }
+        ensures step { (target : Bool) → Step false (machine_of target self.old) (Some commands.End)
+            (reply_by (λ _. Accepted) result) (machine_of target self.new) }
+        ensures ok { OnOk result ((is_some self.old.log.group ≡ true)
+            × (self.new ≡ record self.old { log = with_group_closed self.old.log })) }
+        ensures err { IfErr result
+            (λ fault. (fault ≡ Fault.NoGroup) × (self.old.log.group ≡ None) × (self.new ≡ self.old)) }
         ensures exact { IsExact S.facts self.old → IsExact S.facts self.new }
     {
         if !self.log.in_group() {
@@ -340,9 +383,11 @@ impl<S: Store> Session<S> {
         ensures ok { OnOk result (Abandons S.facts self.old self.new) }
         ensures err { OnErr result (KeepsSession S.facts self.old self.new) }
         ensures refusals { IfErr result (IsNotAbandoned S.facts self.old self.new) }
-        ensures held { (fault : Fault) → abandon_fault self.old ≡ Some fault → (result ≡ Err fault) × (self.new ≡ self.old) }
+        ensures held { (fault : Fault) → abandon_fault self.old ≡ Some fault
+            → (result ≡ Err fault) × (self.new ≡ self.old) }
         ensures passes { Passes S.facts self.old.disk self.new.disk }
-        ensures empty { abandon_fault self.old ≡ None → self.old.log.group ≡ Some [] → IsOk result × (self.new ≡ record self.old { log = record self.old.log { group = None } }) }
+        ensures empty { abandon_fault self.old ≡ None → self.old.log.group ≡ Some []
+            → IsOk result × (self.new ≡ record self.old { log = record self.old.log { group = None } }) }
     {
         self.blocks.validity();
         self.log.validity();
@@ -421,8 +466,10 @@ impl<S: Store> Session<S> {
 
     /// How many content bytes the records of undo, redo and an open group hold, 2^64 - 1 where these are more.
     pub fn weight(&self) -> u64
-        ensures exact { result ≡ min (total_weight (to_undo self.now.log) + total_weight (to_redo self.now.log)) (2 ^ 64 - 1) }
-        ensures charged { (target : Bool) → result ≤ total_cost (machine_of target self.now).past + total_cost (machine_of target self.now).future + option_map_or (λ g. g.cost) (machine_of target self.now).group 0 }
+        ensures exact { result
+            ≡ min (total_weight (to_undo self.now.log) + total_weight (to_redo self.now.log)) (2 ^ 64 - 1) }
+        ensures charged { (target : Bool) → result ≤ total_cost (machine_of target self.now).past + total_cost
+            (machine_of target self.now).future + option_map_or (λ g. g.cost) (machine_of target self.now).group 0 }
     {
         self.log.weight()
     }
@@ -434,8 +481,10 @@ impl<S: Store> Session<S> {
         ensures step { IsStep S.facts self.old self.new (commands.Lock block) (reply_by (λ _. Accepted) result) }
         ensures ok { OnOk result (GainsLock S.facts block.0 (blocks_of self.old) (blocks_of self.new)) }
         ensures err { OnErr result (KeepsSession S.facts self.old self.new) }
-        ensures refusals { IfErr result (λ fault. Lacks S.facts self.old.disk.store self.new.disk.store fault ⊎ CantLock (blocks_of self.old) block.0 fault) }
-        ensures early { (fault : Fault) → CantLock (blocks_of self.old) block.0 fault → (result ≡ Err fault) × (self.new ≡ self.old) }
+        ensures refusals { IfErr result (λ fault. Lacks S.facts self.old.disk.store self.new.disk.store fault
+            ⊎ CantLock (blocks_of self.old) block.0 fault) }
+        ensures early { (fault : Fault) → CantLock (blocks_of self.old) block.0 fault
+            → (result ≡ Err fault) × (self.new ≡ self.old) }
         ensures log { self.new.log ≡ self.old.log }
         ensures already { is_loaded (blocks_of self.old) block.0 ≡ true → locks_of self.old.resident block.0 < 255
             → IsOk result × (self.new.disk ≡ self.old.disk) × (self.new.document ≡ self.old.document) }
@@ -446,7 +495,8 @@ impl<S: Store> Session<S> {
 
     /// Takes one lock of a block away. NoBlock; NotLocked where it has none. No memory, no store.
     pub fn unlock(&mut self, block: VmHandle) -> Result<(), Fault>
-        ensures step { (target : Bool) → Step false (machine_of target self.old) (Some (commands.Unlock block)) (reply_by (λ _. Accepted) result) (machine_of target self.new) }
+        ensures step { (target : Bool) → Step false (machine_of target self.old) (Some (commands.Unlock block))
+            (reply_by (λ _. Accepted) result) (machine_of target self.new) }
         ensures ok { OnOk result (LosesLock block.0 (blocks_of self.old) (blocks_of self.new)) }
         ensures err { OnErr result (self.new ≡ self.old) }
         ensures refusals { IfErr result (HasNoLock (blocks_of self.old) block.0) }
@@ -459,7 +509,8 @@ impl<S: Store> Session<S> {
     /// Has a locked block written to the file by the next commit, as one that was edited is. NoBlock; NotLocked where it isn't locked.
     /// No memory, no store.
     pub fn dirty(&mut self, block: VmHandle) -> Result<(), Fault>
-        ensures step { (target : Bool) → Step false (machine_of target self.old) (Some (commands.Dirty block)) (reply_by (λ _. Accepted) result) (machine_of target self.new) }
+        ensures step { (target : Bool) → Step false (machine_of target self.old) (Some (commands.Dirty block))
+            (reply_by (λ _. Accepted) result) (machine_of target self.new) }
         ensures refusals { IfErr result (HasNoLock (blocks_of self.old) block.0) }
         ensures same { self.new ≡ self.old }
     {
@@ -468,7 +519,8 @@ impl<S: Store> Session<S> {
 
     /// How often a block is locked. NoBlock.
     pub fn locks(&self, block: VmHandle) -> Result<u8, Fault>
-        ensures { (target : Bool) → Step false (machine_of target self.now) (Some (commands.Locks block)) (reply_by NumberIs result) (machine_of target self.now) }
+        ensures { (target : Bool) → Step false (machine_of target self.now) (Some (commands.Locks block))
+            (reply_by NumberIs result) (machine_of target self.now) }
     {
         if self.blocks.is_live(block) {
             Ok(self.blocks.locks(block))
@@ -490,7 +542,8 @@ impl<S: Store> Session<S> {
     /// The bytes of a chunk of a heap that is locked, straight from memory; None where there is no such block, lock or chunk, or the
     /// block is raw.
     pub fn locked_chunk(&self, block: VmHandle, chunk: ChunkHandle) -> Option<&[u8]>
-        ensures { (target : Bool) → option_map (λ bytes. bytes.now) result ≡ locked_chunk (machine_of target self.now) block.0 chunk.0 }
+        ensures { (target : Bool)
+            → option_map (λ bytes. bytes.now) result ≡ locked_chunk (machine_of target self.now) block.0 chunk.0 }
     {
         match self.locked_body(block)? {
             BlockBody::Heap(heap) => heap.chunk(chunk),
@@ -500,7 +553,8 @@ impl<S: Store> Session<S> {
 
     /// The bytes of a raw block that is locked, straight from memory; None where there is no such block or lock, or it is a heap.
     pub fn locked_raw(&self, block: VmHandle) -> Option<&[u8]>
-        ensures { (target : Bool) → option_map (λ bytes. bytes.now) result ≡ locked_raw (machine_of target self.now) block.0 }
+        ensures { (target : Bool)
+            → option_map (λ bytes. bytes.now) result ≡ locked_raw (machine_of target self.now) block.0 }
     {
         match self.locked_body(block)? {
             BlockBody::Raw(body) => Some(body.bytes()),
@@ -511,7 +565,8 @@ impl<S: Store> Session<S> {
     // The body of a block that is locked.
     fn locked_body(&self, block: VmHandle) -> Option<&BlockBody>
         ensures { MatchOption result (locks_of self.now.resident block.0 ≡ 0)
-            (λ body. (0 < locks_of self.now.resident block.0) × (option_map (λ b. b.body) (get self.now.document.blocks block.0) ≡ Some (body_of body.now))) }
+            (λ body. (0 < locks_of self.now.resident block.0)
+            × (option_map (λ b. b.body) (get self.now.document.blocks block.0) ≡ Some (body_of body.now))) }
     {
         self.blocks.validity();
         if self.blocks.locks(block) > 0 {
@@ -530,7 +585,8 @@ impl<S: Store> Session<S> {
 
     /// The live blocks, rising.
     pub fn list(&self) -> Result<Vec<VmHandle>, Fault>
-        ensures { (target : Bool) → Step false (machine_of target self.now) (Some commands.List) (reply_by (λ handles. blocks_are handles.items) result) (machine_of target self.now) }
+        ensures { (target : Bool) → Step false (machine_of target self.now) (Some commands.List)
+            (reply_by (λ handles. blocks_are handles.items) result) (machine_of target self.now) }
     {
         Ok(self.blocks.list()?)
     }
@@ -551,7 +607,8 @@ impl<S: Store> Session<S> {
 
     /// The type of a heap. NoBlock, WrongKind.
     pub fn heap_type(&self, block: VmHandle) -> Result<u16, Fault>
-        ensures { (target : Bool) → Step false (machine_of target self.now) (Some (commands.HeapType block)) (reply_by NumberIs result) (machine_of target self.now) }
+        ensures { (target : Bool) → Step false (machine_of target self.now) (Some (commands.HeapType block))
+            (reply_by NumberIs result) (machine_of target self.now) }
     {
         if !self.blocks.is_live(block) {
             return Err(Fault::NoBlock);
@@ -572,7 +629,8 @@ impl<S: Store> Session<S> {
 
     /// The bytes of a raw block.
     pub fn read_raw(&mut self, block: VmHandle) -> Result<&[u8], Fault>
-        ensures* leaves { sem 𝓛 (Leaves (the_row S.row S.Store) self.entry (λ new. Looks S.facts self.old new (commands.ReadRaw block) (reply_by (λ bytes. BytesAre bytes.now) result))) }
+        ensures* leaves { sem 𝓛 (Leaves (the_row S.row S.Store) self.entry (λ new. Looks S.facts self.old new
+            (commands.ReadRaw block) (reply_by (λ bytes. BytesAre bytes.now) result))) }
     {
         self.blocks.validity();
         look_ups::read_raw(&mut self.blocks, block)
@@ -580,7 +638,8 @@ impl<S: Store> Session<S> {
 
     /// The live chunks of a heap, rising.
     pub fn chunks(&mut self, block: VmHandle) -> Result<Vec<ChunkHandle>, Fault>
-        ensures { Looks S.facts self.old self.new (commands.Chunks block) (reply_by (λ handles. chunks_are handles.items) result) }
+        ensures { Looks S.facts self.old self.new (commands.Chunks block)
+            (reply_by (λ handles. chunks_are handles.items) result) }
     {
         self.blocks.validity();
         look_ups::chunks(&mut self.blocks, block)
@@ -588,7 +647,8 @@ impl<S: Store> Session<S> {
 
     /// The bytes of a chunk.
     pub fn read_chunk(&mut self, block: VmHandle, chunk: ChunkHandle) -> Result<&[u8], Fault>
-        ensures* leaves { sem 𝓛 (Leaves (the_row S.row S.Store) self.entry (λ new. Looks S.facts self.old new (commands.Read block chunk) (reply_by (λ bytes. BytesAre bytes.now) result))) }
+        ensures* leaves { sem 𝓛 (Leaves (the_row S.row S.Store) self.entry (λ new. Looks S.facts self.old new
+            (commands.Read block chunk) (reply_by (λ bytes. BytesAre bytes.now) result))) }
     {
         self.blocks.validity();
         look_ups::read_chunk(&mut self.blocks, block, chunk)
@@ -609,7 +669,8 @@ impl<S: Store> Session<S> {
         chunk: ChunkHandle,
         i: u32,
     ) -> Result<&[u8], Fault>
-        ensures* leaves { sem 𝓛 (Leaves (the_row S.row S.Store) self.entry (λ new. Looks S.facts self.old new (commands.ArrayElement block chunk i) (reply_by (λ bytes. BytesAre bytes.now) result))) }
+        ensures* leaves { sem 𝓛 (Leaves (the_row S.row S.Store) self.entry (λ new. Looks S.facts self.old new
+            (commands.ArrayElement block chunk i) (reply_by (λ bytes. BytesAre bytes.now) result))) }
     {
         self.blocks.validity();
         look_ups::array_element(&mut self.blocks, block, chunk, i)
@@ -622,7 +683,8 @@ impl<S: Store> Session<S> {
         chunk: ChunkHandle,
         token: Token,
     ) -> Result<u32, Fault>
-        ensures { Looks S.facts self.old self.new (commands.ElementReferences block chunk token) (reply_by NumberIs result) }
+        ensures { Looks S.facts self.old self.new (commands.ElementReferences block chunk token)
+            (reply_by NumberIs result) }
     {
         self.blocks.validity();
         look_ups::element_refs(&mut self.blocks, block, chunk, token)
@@ -635,7 +697,8 @@ impl<S: Store> Session<S> {
         chunk: ChunkHandle,
         token: Token,
     ) -> Result<&[u8], Fault>
-        ensures* leaves { sem 𝓛 (Leaves (the_row S.row S.Store) self.entry (λ new. Looks S.facts self.old new (commands.ElementBytes block chunk token) (reply_by (λ bytes. BytesAre bytes.now) result))) }
+        ensures* leaves { sem 𝓛 (Leaves (the_row S.row S.Store) self.entry (λ new. Looks S.facts self.old new
+            (commands.ElementBytes block chunk token) (reply_by (λ bytes. BytesAre bytes.now) result))) }
     {
         self.blocks.validity();
         look_ups::element_bytes(&mut self.blocks, block, chunk, token)
@@ -656,7 +719,8 @@ impl<S: Store> Session<S> {
         chunk: ChunkHandle,
         k: u32,
     ) -> Result<Token, Fault>
-        ensures { Looks S.facts self.old self.new (commands.TokenOfUsed block chunk k) (reply_by (λ token. TokenIs token.0) result) }
+        ensures { Looks S.facts self.old self.new (commands.TokenOfUsed block chunk k)
+            (reply_by (λ token. TokenIs token.0) result) }
     {
         self.blocks.validity();
         look_ups::token_of_used(&mut self.blocks, block, chunk, k)
@@ -682,7 +746,8 @@ impl<S: Store> Session<S> {
         chunk: ChunkHandle,
         name: &Bytes,
     ) -> Result<Token, Fault>
-        ensures { Looks S.facts self.old self.new (commands.NameFind block chunk name.now) (reply_by (λ token. TokenIs token.0) result) }
+        ensures { Looks S.facts self.old self.new (commands.NameFind block chunk name.now)
+            (reply_by (λ token. TokenIs token.0) result) }
     {
         self.blocks.validity();
         look_ups::name_find(&mut self.blocks, block, chunk, name)
@@ -695,7 +760,8 @@ impl<S: Store> Session<S> {
         chunk: ChunkHandle,
         token: Token,
     ) -> Result<u32, Fault>
-        ensures { Looks S.facts self.old self.new (commands.NameReferences block chunk token) (reply_by NumberIs result) }
+        ensures { Looks S.facts self.old self.new (commands.NameReferences block chunk token)
+            (reply_by NumberIs result) }
     {
         self.blocks.validity();
         look_ups::name_refs(&mut self.blocks, block, chunk, token)
@@ -708,7 +774,8 @@ impl<S: Store> Session<S> {
         chunk: ChunkHandle,
         token: Token,
     ) -> Result<&[u8], Fault>
-        ensures* leaves { sem 𝓛 (Leaves (the_row S.row S.Store) self.entry (λ new. Looks S.facts self.old new (commands.NameText block chunk token) (reply_by (λ bytes. BytesAre bytes.now) result))) }
+        ensures* leaves { sem 𝓛 (Leaves (the_row S.row S.Store) self.entry (λ new. Looks S.facts self.old new
+            (commands.NameText block chunk token) (reply_by (λ bytes. BytesAre bytes.now) result))) }
     {
         self.blocks.validity();
         look_ups::name_text(&mut self.blocks, block, chunk, token)
@@ -721,7 +788,8 @@ impl<S: Store> Session<S> {
         chunk: ChunkHandle,
         token: Token,
     ) -> Result<&[u8], Fault>
-        ensures* leaves { sem 𝓛 (Leaves (the_row S.row S.Store) self.entry (λ new. Looks S.facts self.old new (commands.NamePart block chunk token) (reply_by (λ bytes. BytesAre bytes.now) result))) }
+        ensures* leaves { sem 𝓛 (Leaves (the_row S.row S.Store) self.entry (λ new. Looks S.facts self.old new
+            (commands.NamePart block chunk token) (reply_by (λ bytes. BytesAre bytes.now) result))) }
     {
         self.blocks.validity();
         look_ups::name_part(&mut self.blocks, block, chunk, token)
@@ -730,10 +798,15 @@ impl<S: Store> Session<S> {
     /// The blocks of a chain, each before those that it links to, branches in order.
     pub fn walk(&mut self, root: VmHandle) -> Result<Vec<VmHandle>, Fault>
         ensures keeps { KeepsSession S.facts self.old self.new }
-        ensures step { IsStep S.facts self.old self.new (commands.Walk root) (reply_by (λ handles. blocks_are handles.items) result) }
-        ensures value { IsSteady S.facts self.old.disk.store → LooksUp (Lacks S.facts self.old.disk.store self.new.disk.store) (is_full (blocks_of self.old)) (commands.Walk root) self.new.document (reply_by (λ handles. blocks_are handles.items) result) }
-        ensures shut { is_full (blocks_of self.old) ≡ true → (self.new ≡ self.old) × (answer_of true (commands.Walk root) self.old.document ≡ Some (reply_by (λ handles. blocks_are handles.items) result)) }
-        ensures refusals { IfErr result (IsChainRefusal (Lacks S.facts self.old.disk.store self.new.disk.store) (IsOfOther is_raw self.old.document root.0) (is_full (blocks_of self.old))) }
+        ensures step { IsStep S.facts self.old self.new (commands.Walk root)
+            (reply_by (λ handles. blocks_are handles.items) result) }
+        ensures value { IsSteady S.facts self.old.disk.store
+            → LooksUp (Lacks S.facts self.old.disk.store self.new.disk.store) (is_full (blocks_of self.old))
+            (commands.Walk root) self.new.document (reply_by (λ handles. blocks_are handles.items) result) }
+        ensures shut { is_full (blocks_of self.old) ≡ true → (self.new ≡ self.old) × (answer_of true
+            (commands.Walk root) self.old.document ≡ Some (reply_by (λ handles. blocks_are handles.items) result)) }
+        ensures refusals { IfErr result (IsChainRefusal (Lacks S.facts self.old.disk.store self.new.disk.store)
+            (IsOfOther is_raw self.old.document root.0) (is_full (blocks_of self.old))) }
     {
         self.blocks.validity();
         look_ups::walk(self.alloc, &mut self.blocks, root)
@@ -743,9 +816,13 @@ impl<S: Store> Session<S> {
     pub fn chain_size(&mut self, root: VmHandle) -> Result<u32, Fault>
         ensures keeps { KeepsSession S.facts self.old self.new }
         ensures step { IsStep S.facts self.old self.new (commands.ChainSize root) (reply_by NumberIs result) }
-        ensures value { IsSteady S.facts self.old.disk.store → LooksUp (Lacks S.facts self.old.disk.store self.new.disk.store) (is_full (blocks_of self.old)) (commands.ChainSize root) self.new.document (reply_by NumberIs result) }
-        ensures shut { is_full (blocks_of self.old) ≡ true → (self.new ≡ self.old) × (answer_of true (commands.ChainSize root) self.old.document ≡ Some (reply_by NumberIs result)) }
-        ensures refusals { IfErr result (IsChainRefusal (Lacks S.facts self.old.disk.store self.new.disk.store) (IsOfOther is_raw self.old.document root.0) (is_full (blocks_of self.old))) }
+        ensures value { IsSteady S.facts self.old.disk.store
+            → LooksUp (Lacks S.facts self.old.disk.store self.new.disk.store)
+            (is_full (blocks_of self.old)) (commands.ChainSize root) self.new.document (reply_by NumberIs result) }
+        ensures shut { is_full (blocks_of self.old) ≡ true → (self.new ≡ self.old)
+            × (answer_of true (commands.ChainSize root) self.old.document ≡ Some (reply_by NumberIs result)) }
+        ensures refusals { IfErr result (IsChainRefusal (Lacks S.facts self.old.disk.store self.new.disk.store)
+            (IsOfOther is_raw self.old.document root.0) (is_full (blocks_of self.old))) }
     {
         self.blocks.validity();
         look_ups::chain_size(self.alloc, &mut self.blocks, root)
@@ -755,9 +832,13 @@ impl<S: Store> Session<S> {
     pub fn chain_equal(&mut self, first: VmHandle, second: VmHandle) -> Result<bool, Fault>
         ensures keeps { KeepsSession S.facts self.old self.new }
         ensures step { IsStep S.facts self.old self.new (commands.ChainEqual first second) (reply_by AreEqual result) }
-        ensures value { IsSteady S.facts self.old.disk.store → LooksUp (Lacks S.facts self.old.disk.store self.new.disk.store) (is_full (blocks_of self.old)) (commands.ChainEqual first second) self.new.document (reply_by AreEqual result) }
-        ensures shut { is_full (blocks_of self.old) ≡ true → (self.new ≡ self.old) × (answer_of true (commands.ChainEqual first second) self.old.document ≡ Some (reply_by AreEqual result)) }
-        ensures refusals { IfErr result (IsChainRefusal (Lacks S.facts self.old.disk.store self.new.disk.store) (IsOfEither self.old.document first.0 second.0) (is_full (blocks_of self.old))) }
+        ensures value { IsSteady S.facts self.old.disk.store
+            → LooksUp (Lacks S.facts self.old.disk.store self.new.disk.store) (is_full (blocks_of self.old))
+            (commands.ChainEqual first second) self.new.document (reply_by AreEqual result) }
+        ensures shut { is_full (blocks_of self.old) ≡ true → (self.new ≡ self.old)
+            × (answer_of true (commands.ChainEqual first second) self.old.document ≡ Some (reply_by AreEqual result)) }
+        ensures refusals { IfErr result (IsChainRefusal (Lacks S.facts self.old.disk.store self.new.disk.store)
+            (IsOfEither self.old.document first.0 second.0) (is_full (blocks_of self.old))) }
     {
         self.blocks.validity();
         look_ups::chain_equal(self.alloc, &mut self.blocks, first, second)

@@ -26,7 +26,8 @@ pub fn make_entry<S: Store>(
     ensures err { OnErr result (Keeps S.facts blocks.old blocks.new) }
     ensures refusals { IfErr result (CantMakeEntry S.facts direction entry.now blocks.old blocks.new) }
     ensures sure { CanMakeEntry direction entry.now blocks.old
-        → IsOk result × (blocks.new.disk ≡ blocks.old.disk) × (blocks.new.document ≡ after_entry direction entry.now blocks.old.document) }
+        → IsOk result × (blocks.new.disk ≡ blocks.old.disk)
+        × (blocks.new.document ≡ after_entry direction entry.now blocks.old.document) }
 {
     blocks.validity();
     match entry {
@@ -42,7 +43,8 @@ pub fn take_back<S: Store>(blocks: &mut FileBlocks<S>, changes: &[Change]) -> Re
     requires listed { AllListed (map (turned Backwards) (reverse changes.now)) blocks.old.document }
     ensures ok { OnOk result (MakesAll S.facts (map (turned Backwards) (reverse changes.now)) blocks.old blocks.new) }
     ensures err { OnErr result (Keeps S.facts blocks.old blocks.new) }
-    ensures refusals { IfErr result (AreUnready S.facts (map (turned Backwards) (reverse changes.now)) blocks.old blocks.new) }
+    ensures refusals { IfErr result
+        (AreUnready S.facts (map (turned Backwards) (reverse changes.now)) blocks.old blocks.new) }
     ensures none { changes.now ≡ [] → IsOk result × (blocks.new ≡ blocks.old) }
 {
     if changes.is_empty() {

@@ -155,7 +155,8 @@ Applies (changes.Map old new) d = HasMap d old.0 new.0
 
 -- A change of a valid document leaves a valid one, to which the same change the other way round applies and gives back the first.
 abbrev pub ChangeLaw : Type 0
-ChangeLaw = (c : Change) (d : Document) → IsValid d → Applies c d → IsValid (made c d) × Applies (flipped c) (made c d) × (made (flipped c) (made c d) ≡ d)
+ChangeLaw = (c : Change) (d : Document) → IsValid d → Applies c d
+    → IsValid (made c d) × Applies (flipped c) (made c d) × (made (flipped c) (made c d) ≡ d)
 
 -- The other way round twice is the change itself.
 abbrev pub FlipLaw : Type 0

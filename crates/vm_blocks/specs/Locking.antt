@@ -26,8 +26,10 @@ pub record LosesLock {S : Type 0} (h : ℕ) (old new : CacheState S) : Type 0 wh
 abbrev pub CantLock : {S : Type 0} → CacheState S → ℕ → Fault → Type 0
 CantLock state h fault =
     ((fault ≡ NoBlock) × (is_live state.document h ≡ false))
-    ⊎ (((fault ≡ LockLimit) × (is_live state.document h ≡ true) × (locks_of state.resident h ≡ 255)) ⊎ ((is_live state.document h ≡ true) × LacksFrame state h fault))
+    ⊎ (((fault ≡ LockLimit) × (is_live state.document h ≡ true) × (locks_of state.resident h ≡ 255))
+    ⊎ ((is_live state.document h ≡ true) × LacksFrame state h fault))
 
 -- why there is no lock to be taken away or used: the block isn't live, or it isn't locked
 abbrev pub HasNoLock : {S : Type 0} → CacheState S → ℕ → Fault → Type 0
-HasNoLock state h fault = ((fault ≡ NoBlock) × (is_live state.document h ≡ false)) ⊎ ((fault ≡ NotLocked) × (is_live state.document h ≡ true) × (locks_of state.resident h ≡ 0))
+HasNoLock state h fault = ((fault ≡ NoBlock) × (is_live state.document h ≡ false))
+    ⊎ ((fault ≡ NotLocked) × (is_live state.document h ≡ true) × (locks_of state.resident h ≡ 0))

@@ -82,15 +82,18 @@ pub record Makes {S : Type 0} (facts : S → StoreFacts) (change : Change) (old 
 abbrev pub IsUnready : {S : Type 0} → (S → StoreFacts) → Change → CacheState S → CacheState S → Fault → Type 0
 IsUnready facts change old new fault =
     Lacks facts old.disk.store new.disk.store fault
-    ⊎ (((fault ≡ Damaged) × (IsSteady facts old.disk.store → BodyTakes change old.document → ⊥)) ⊎ ((fault ≡ CacheFull) × IsOutOfReach change old))
+    ⊎ (((fault ≡ Damaged) × (IsSteady facts old.disk.store → BodyTakes change old.document → ⊥))
+    ⊎ ((fault ≡ CacheFull) × IsOutOfReach change old))
 
 -- What a call leaves that makes a change or is refused. It is sure where no block comes in, and the one that changes is in memory and
 -- takes it: then the store isn't called, and over any store the document is the one that the change makes.
-pub record Turns {S : Type 0} (facts : S → StoreFacts) (change : Change) (old new : CacheState S) (result : Result (Unit {0}) Fault) : Type 0 where
+pub record Turns {S : Type 0} (facts : S → StoreFacts) (change : Change) (old new : CacheState S)
+    (result : Result (Unit {0}) Fault) : Type 0 where
   pub ok : OnOk result (Makes facts change old new)
   pub err : OnErr result (Keeps facts old new)
   pub refusals : IfErr result (IsUnready facts change old new)
-  pub sure : blocks_in change ≡ [] → IsAtHand change old → BodyTakes change old.document → IsOk result × (new.disk ≡ old.disk) × (new.document ≡ made change old.document)
+  pub sure : blocks_in change ≡ [] → IsAtHand change old → BodyTakes change old.document
+      → IsOk result × (new.disk ≡ old.disk) × (new.document ≡ made change old.document)
   pub shut : IsOutOfReach change old → (result ≡ Err CacheFull) × (new ≡ old)
 
 -- A change that applies is one of the first kind, and its body takes it.
@@ -128,4 +131,5 @@ pub record MakesAll {S : Type 0} (facts : S → StoreFacts) (changes : List Chan
 -- didn't before, if the store gives back what it has.
 abbrev pub AreUnready : {S : Type 0} → (S → StoreFacts) → List Change → CacheState S → CacheState S → Fault → Type 0
 AreUnready facts changes old new fault =
-    Lacks facts old.disk.store new.disk.store fault ⊎ ((fault ≡ Damaged) × (IsSteady facts old.disk.store → AllTake changes old.document → ⊥))
+    Lacks facts old.disk.store new.disk.store fault
+    ⊎ ((fault ≡ Damaged) × (IsSteady facts old.disk.store → AllTake changes old.document → ⊥))

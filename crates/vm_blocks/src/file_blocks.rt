@@ -103,7 +103,8 @@ impl<S: Store> FileBlocks<S> {
         ensures document { IsTrue (S.facts self.now.disk.store).honest → IsValid self.now.document }
         ensures listed { IsListed (S.facts self.now.disk.store).honest self.now.document }
         ensures settled { IsSettled S.facts self.now.disk }
-        ensures valid { IsTrue (S.facts self.now.disk.store).honest → IsValid self.now.disk.updated × IsValid self.now.disk.saved }
+        ensures valid { IsTrue (S.facts self.now.disk.store).honest
+            → IsValid self.now.disk.updated × IsValid self.now.disk.saved }
         ensures few { length self.now.resident ≤ self.now.frames }
         ensures some { 1 ≤ self.now.frames }
         ensures resident { (h : ℕ) → is_resident self.now.resident h ≡ true → is_live self.now.document h ≡ true }
@@ -116,7 +117,8 @@ impl<S: Store> FileBlocks<S> {
     /// Makes the document as it is now the updated one. The blocks in memory stay there, with their locks. Worn where the sequence number can't rise, before anything is written;
     /// Memory, where nothing is committed; File, where what was to be may be read after a crash.
     pub fn update(&mut self) -> Result<(), Fault>
-        ensures commit { IsCommit S.facts (self.old.document, self.old.disk.saved) self.old.document (seen self.old) (seen self.new) result }
+        ensures commit { IsCommit S.facts (self.old.document, self.old.disk.saved) self.old.document
+            (seen self.old) (seen self.new) result }
         ensures fails { Fails S.facts IsWorn self.old.disk.store self.new.disk.store result }
         ensures resident { (self.new.resident ≡ self.old.resident) × (self.new.frames ≡ self.old.frames) }
     {
@@ -125,7 +127,8 @@ impl<S: Store> FileBlocks<S> {
 
     /// Makes the document as it is now the updated and the saved one. Refused as an update is.
     pub fn save(&mut self) -> Result<(), Fault>
-        ensures commit { IsCommit S.facts (self.old.document, self.old.document) self.old.document (seen self.old) (seen self.new) result }
+        ensures commit { IsCommit S.facts (self.old.document, self.old.document) self.old.document
+            (seen self.old) (seen self.new) result }
         ensures fails { Fails S.facts IsWorn self.old.disk.store self.new.disk.store result }
         ensures resident { (self.new.resident ≡ self.old.resident) × (self.new.frames ≡ self.old.frames) }
     {
@@ -135,7 +138,8 @@ impl<S: Store> FileBlocks<S> {
     /// Makes the saved document the updated one and the document as it is now; no block is in memory then, or locked. Where it is
     /// refused, as an update is, those in memory stay.
     pub fn revert(&mut self) -> Result<(), Fault>
-        ensures commit { IsCommit S.facts (self.old.disk.saved, self.old.disk.saved) self.old.disk.saved (seen self.old) (seen self.new) result }
+        ensures commit { IsCommit S.facts (self.old.disk.saved, self.old.disk.saved) self.old.disk.saved
+            (seen self.old) (seen self.new) result }
         ensures fails { Fails S.facts IsWorn self.old.disk.store self.new.disk.store result }
         ensures ok { OnOk result (self.new.resident ≡ []) }
         ensures err { OnErr result (self.new.resident ≡ self.old.resident) }
@@ -153,7 +157,8 @@ impl<S: Store> FileBlocks<S> {
         ensures saved_as { MatchResult result
             (λ store. IsSavedAs S.facts target store (seen self.old) (seen self.new))
             (λ refused. IsNotSavedAs S.facts target refused.store (seen self.old) (seen self.new) refused.fault) }
-        ensures worn { IsErrAnd result (λ refused. refused.fault ≡ Fault.Worn) ↔ self.old.disk.sequence ≡ last_sequence }
+        ensures worn { IsErrAnd result (λ refused. refused.fault ≡ Fault.Worn)
+            ↔ self.old.disk.sequence ≡ last_sequence }
         ensures resident { (self.new.resident ≡ self.old.resident) × (self.new.frames ≡ self.old.frames) }
     {
         let result = self.cache.save_as(target);
@@ -230,10 +235,14 @@ impl<S: Store> FileBlocks<S> {
         ensures keeps { Keeps S.facts self.old self.new }
         ensures ok { OnOk result (is_loaded self.new handle.0 ≡ true) }
         ensures err { IfErr result (λ fault. Lacks S.facts self.old.disk.store self.new.disk.store fault
-            ⊎ (((fault ≡ Fault.NoBlock) × (is_live self.new.document handle.0 ≡ false)) ⊎ LacksFrame self.old handle.0 fault)) }
-        ensures already { is_loaded self.old handle.0 ≡ true → IsOk result × (self.new.disk ≡ self.old.disk) × (self.new.document ≡ self.old.document) }
-        ensures dead { is_live self.old.document handle.0 ≡ false → (result ≡ Err Fault.NoBlock) × (self.new ≡ self.old) }
-        ensures shut { is_live self.old.document handle.0 ≡ true → is_shut_out self.old handle.0 ≡ true → (result ≡ Err Fault.CacheFull) × (self.new ≡ self.old) }
+            ⊎ (((fault ≡ Fault.NoBlock) × (is_live self.new.document handle.0 ≡ false))
+            ⊎ LacksFrame self.old handle.0 fault)) }
+        ensures already { is_loaded self.old handle.0 ≡ true
+            → IsOk result × (self.new.disk ≡ self.old.disk) × (self.new.document ≡ self.old.document) }
+        ensures dead { is_live self.old.document handle.0 ≡ false
+            → (result ≡ Err Fault.NoBlock) × (self.new ≡ self.old) }
+        ensures shut { is_live self.old.document handle.0 ≡ true → is_shut_out self.old handle.0 ≡ true
+            → (result ≡ Err Fault.CacheFull) × (self.new ≡ self.old) }
     {
         if self.cache.is_live(handle) {
             self.load_live(handle)
@@ -249,9 +258,12 @@ impl<S: Store> FileBlocks<S> {
         ensures ok { OnOk result ((is_loaded self.new handle.0 ≡ true) × (is_raw self.new.document handle.0 ≡ true)) }
         ensures err { IfErr result (λ fault. Lacks S.facts self.old.disk.store self.new.disk.store fault
             ⊎ (IsOfOther is_raw self.new.document handle.0 fault ⊎ LacksFrame self.old handle.0 fault)) }
-        ensures already { is_loaded self.old handle.0 ≡ true → is_raw self.old.document handle.0 ≡ true → IsOk result × (self.new.disk ≡ self.old.disk) × (self.new.document ≡ self.old.document) }
-        ensures early { (fault : Fault) → IsOfOther is_raw self.old.document handle.0 fault → (result ≡ Err fault) × (self.new ≡ self.old) }
-        ensures shut { is_raw self.old.document handle.0 ≡ true → is_shut_out self.old handle.0 ≡ true → (result ≡ Err Fault.CacheFull) × (self.new ≡ self.old) }
+        ensures already { is_loaded self.old handle.0 ≡ true → is_raw self.old.document handle.0 ≡ true
+            → IsOk result × (self.new.disk ≡ self.old.disk) × (self.new.document ≡ self.old.document) }
+        ensures early { (fault : Fault) → IsOfOther is_raw self.old.document handle.0 fault
+            → (result ≡ Err fault) × (self.new ≡ self.old) }
+        ensures shut { is_raw self.old.document handle.0 ≡ true → is_shut_out self.old handle.0 ≡ true
+            → (result ≡ Err Fault.CacheFull) × (self.new ≡ self.old) }
     {
         if !self.cache.is_live(handle) {
             return Err(Fault::NoBlock);
@@ -269,9 +281,12 @@ impl<S: Store> FileBlocks<S> {
         ensures ok { OnOk result ((is_loaded self.new handle.0 ≡ true) × (is_heap self.new.document handle.0 ≡ true)) }
         ensures err { IfErr result (λ fault. Lacks S.facts self.old.disk.store self.new.disk.store fault
             ⊎ (IsOfOther is_heap self.new.document handle.0 fault ⊎ LacksFrame self.old handle.0 fault)) }
-        ensures already { is_loaded self.old handle.0 ≡ true → is_heap self.old.document handle.0 ≡ true → IsOk result × (self.new.disk ≡ self.old.disk) × (self.new.document ≡ self.old.document) }
-        ensures early { (fault : Fault) → IsOfOther is_heap self.old.document handle.0 fault → (result ≡ Err fault) × (self.new ≡ self.old) }
-        ensures shut { is_heap self.old.document handle.0 ≡ true → is_shut_out self.old handle.0 ≡ true → (result ≡ Err Fault.CacheFull) × (self.new ≡ self.old) }
+        ensures already { is_loaded self.old handle.0 ≡ true → is_heap self.old.document handle.0 ≡ true
+            → IsOk result × (self.new.disk ≡ self.old.disk) × (self.new.document ≡ self.old.document) }
+        ensures early { (fault : Fault) → IsOfOther is_heap self.old.document handle.0 fault
+            → (result ≡ Err fault) × (self.new ≡ self.old) }
+        ensures shut { is_heap self.old.document handle.0 ≡ true → is_shut_out self.old handle.0 ≡ true
+            → (result ≡ Err Fault.CacheFull) × (self.new ≡ self.old) }
     {
         if !self.cache.is_live(handle) {
             return Err(Fault::NoBlock);
@@ -287,8 +302,10 @@ impl<S: Store> FileBlocks<S> {
         requires { is_live self.old.document handle.0 ≡ true }
         ensures keeps { Keeps S.facts self.old self.new }
         ensures ok { OnOk result (is_loaded self.new handle.0 ≡ true) }
-        ensures err { IfErr result (λ fault. Lacks S.facts self.old.disk.store self.new.disk.store fault ⊎ LacksFrame self.old handle.0 fault) }
-        ensures already { is_loaded self.old handle.0 ≡ true → IsOk result × (self.new.disk ≡ self.old.disk) × (self.new.document ≡ self.old.document) }
+        ensures err { IfErr result (λ fault. Lacks S.facts self.old.disk.store self.new.disk.store fault
+            ⊎ LacksFrame self.old handle.0 fault) }
+        ensures already { is_loaded self.old handle.0 ≡ true
+            → IsOk result × (self.new.disk ≡ self.old.disk) × (self.new.document ≡ self.old.document) }
         ensures shut { is_shut_out self.old handle.0 ≡ true → (result ≡ Err Fault.CacheFull) × (self.new ≡ self.old) }
     {
         self.validity();
@@ -311,8 +328,10 @@ impl<S: Store> FileBlocks<S> {
     pub fn lock(&mut self, handle: VmHandle) -> Result<(), Fault>
         ensures ok { OnOk result (GainsLock S.facts handle.0 self.old self.new) }
         ensures err { OnErr result (Keeps S.facts self.old self.new) }
-        ensures refusals { IfErr result (λ fault. Lacks S.facts self.old.disk.store self.new.disk.store fault ⊎ CantLock self.old handle.0 fault) }
-        ensures early { (fault : Fault) → CantLock self.old handle.0 fault → (result ≡ Err fault) × (self.new ≡ self.old) }
+        ensures refusals { IfErr result
+            (λ fault. Lacks S.facts self.old.disk.store self.new.disk.store fault ⊎ CantLock self.old handle.0 fault) }
+        ensures early { (fault : Fault) → CantLock self.old handle.0 fault
+            → (result ≡ Err fault) × (self.new ≡ self.old) }
         ensures already { is_loaded self.old handle.0 ≡ true → locks_of self.old.resident handle.0 < 255
             → IsOk result × (self.new.disk ≡ self.old.disk) × (self.new.document ≡ self.old.document) }
     {
@@ -331,7 +350,10 @@ impl<S: Store> FileBlocks<S> {
     fn lock_loaded(&mut self, handle: VmHandle)
         requires loaded { is_loaded self.old handle.0 ≡ true }
         requires few { locks_of self.old.resident handle.0 < 255 }
-        ensures { self.new ≡ record self.old { resident = set_value (nat_eq handle.0) self.old.resident (locks_of self.old.resident handle.0 + 1) } }
+        ensures { self.new ≡ record self.old {
+          resident = set_value (nat_eq handle.0) self.old.resident
+              (locks_of self.old.resident handle.0 + 1);
+        } }
     {
         self.cache.lock(handle);
     }
@@ -425,9 +447,12 @@ impl<S: Store> FileBlocks<S> {
         ensures ok { OnOk result (Makes S.facts (turned direction change.now) self.old self.new) }
         ensures err { OnErr result (Keeps S.facts self.old self.new) }
         ensures refusals { IfErr result (IsUnready S.facts (turned direction change.now) self.old self.new) }
-        ensures sure { blocks_in (turned direction change.now) ≡ [] → IsAtHand (turned direction change.now) self.old → BodyTakes (turned direction change.now) self.old.document
-            → IsOk result × (self.new.disk ≡ self.old.disk) × (self.new.document ≡ made (turned direction change.now) self.old.document) }
-        ensures shut { IsOutOfReach (turned direction change.now) self.old → (result ≡ Err Fault.CacheFull) × (self.new ≡ self.old) }
+        ensures sure { blocks_in (turned direction change.now) ≡ [] → IsAtHand (turned direction change.now) self.old
+            → BodyTakes (turned direction change.now) self.old.document
+            → IsOk result × (self.new.disk ≡ self.old.disk)
+            × (self.new.document ≡ made (turned direction change.now) self.old.document) }
+        ensures shut { IsOutOfReach (turned direction change.now) self.old
+            → (result ≡ Err Fault.CacheFull) × (self.new ≡ self.old) }
     {
         self.turn(change, direction)
     }
@@ -512,7 +537,8 @@ impl<S: Store> FileBlocks<S> {
     // Takes each of these blocks out. It isn't refused.
     fn take_out(&mut self, members: &Members) -> Result<(), Fault>
         requires leave { CanLeave self.old.document (handles_of (saved_blocks members.now.list.items)) }
-        requires unlocked { All (λ h. locks_of self.old.resident h ≡ 0) (handles_of (saved_blocks members.now.list.items)) }
+        requires unlocked { All
+            (λ h. locks_of self.old.resident h ≡ 0) (handles_of (saved_blocks members.now.list.items)) }
         ensures { Turns S.facts (Change.BlocksOut members.now) self.old self.new result }
     {
         self.take_all(members);
@@ -521,9 +547,11 @@ impl<S: Store> FileBlocks<S> {
 
     fn take_all(&mut self, members: &Members)
         requires leave { CanLeave self.old.document (handles_of (saved_blocks members.now.list.items)) }
-        requires unlocked { All (λ h. locks_of self.old.resident h ≡ 0) (handles_of (saved_blocks members.now.list.items)) }
+        requires unlocked { All
+            (λ h. locks_of self.old.resident h ≡ 0) (handles_of (saved_blocks members.now.list.items)) }
         ensures disk { self.new.disk ≡ self.old.disk }
-        ensures document { self.new.document ≡ without_blocks self.old.document (handles_of (saved_blocks members.now.list.items)) }
+        ensures document { self.new.document
+            ≡ without_blocks self.old.document (handles_of (saved_blocks members.now.list.items)) }
         ensures frames { self.new.frames ≡ self.old.frames }
         ensures locks { KeepsLocks self.old.resident self.new.resident }
     {
@@ -569,9 +597,12 @@ impl<S: Store> FileBlocks<S> {
         requires { is_live self.old.document handle.0 ≡ true }
         ensures keeps { Keeps S.facts self.old self.new }
         ensures loaded { OnOk result (is_loaded self.new handle.0 ≡ true) }
-        ensures takes { OnOk result (Takes (turned_part direction part.now) (block_at self.new.document handle.0).body) }
-        ensures err { IfErr result (IsUnready S.facts (Change.Part handle (turned_part direction part.now)) self.old self.new) }
-        ensures sure { is_loaded self.old handle.0 ≡ true → Takes (turned_part direction part.now) (block_at self.old.document handle.0).body
+        ensures takes { OnOk result
+            (Takes (turned_part direction part.now) (block_at self.new.document handle.0).body) }
+        ensures err { IfErr result
+            (IsUnready S.facts (Change.Part handle (turned_part direction part.now)) self.old self.new) }
+        ensures sure { is_loaded self.old handle.0 ≡ true
+            → Takes (turned_part direction part.now) (block_at self.old.document handle.0).body
             → IsOk result × (self.new.disk ≡ self.old.disk) × (self.new.document ≡ self.old.document) }
         ensures shut { is_shut_out self.old handle.0 ≡ true → (result ≡ Err Fault.CacheFull) × (self.new ≡ self.old) }
     {
@@ -587,7 +618,8 @@ impl<S: Store> FileBlocks<S> {
     fn carry_out_part(&mut self, handle: VmHandle, part: &PartChange, direction: Direction)
         requires loaded { is_loaded self.old handle.0 ≡ true }
         requires takes { Takes (turned_part direction part.now) (block_at self.old.document handle.0).body }
-        ensures { self.new ≡ record self.old { document = part_made handle.0 (turned_part direction part.now) self.old.document } }
+        ensures { self.new
+            ≡ record self.old { document = part_made handle.0 (turned_part direction part.now) self.old.document } }
     {
         if self.is_heap(handle) {
             carry_out_heap(self.cache.heap_mut(handle), part, direction);

@@ -29,9 +29,12 @@ pub fn equal<S: Store>(
     requires room { is_full blocks.old ≡ false }
     ensures keeps { Keeps S.facts blocks.old blocks.new }
     ensures value { IsSteady S.facts blocks.old.disk.store
-        → Answers (Lacks S.facts blocks.old.disk.store blocks.new.disk.store) (on_chains blocks.new.document first.0 second.0)
-        (λ same. same ≡ same_shape blocks.new.document (chain_blocks blocks.new.document first.0) (chain_blocks blocks.new.document second.0)) result }
-    ensures refusals { IfErr result (IsWalkRefusal (Lacks S.facts blocks.old.disk.store blocks.new.disk.store) (IsOfEither blocks.old.document first.0 second.0)) }
+        → Answers (Lacks S.facts blocks.old.disk.store blocks.new.disk.store)
+        (on_chains blocks.new.document first.0 second.0)
+        (λ same. same ≡ same_shape blocks.new.document (chain_blocks blocks.new.document first.0)
+        (chain_blocks blocks.new.document second.0)) result }
+    ensures refusals { IfErr result (IsWalkRefusal (Lacks S.facts blocks.old.disk.store blocks.new.disk.store)
+        (IsOfEither blocks.old.document first.0 second.0)) }
 {
     test_roots(blocks, first, second)?;
     let first = walk_from(alloc, blocks, first)?;
@@ -67,9 +70,11 @@ fn same_shape<S: Store>(
     requires room { is_full blocks.old ≡ false }
     requires first { AreBlocks blocks.old.document first.now }
     requires second { AreBlocks blocks.old.document second.now }
-    requires members { IsSteady S.facts blocks.old.disk.store → AreMembers blocks.old.document first.now × AreMembers blocks.old.document second.now }
+    requires members { IsSteady S.facts blocks.old.disk.store
+        → AreMembers blocks.old.document first.now × AreMembers blocks.old.document second.now }
     ensures keeps { Keeps S.facts blocks.old blocks.new }
-    ensures value { IsSteady S.facts blocks.old.disk.store → IfOk result (λ same. same ≡ same_shape blocks.new.document (numbers first.now) (numbers second.now)) }
+    ensures value { IsSteady S.facts blocks.old.disk.store
+        → IfOk result (λ same. same ≡ same_shape blocks.new.document (numbers first.now) (numbers second.now)) }
     ensures refusals { IfErr result (Lacks S.facts blocks.old.disk.store blocks.new.disk.store) }
 {
     if first.len() != second.len() {

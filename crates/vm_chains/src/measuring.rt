@@ -26,7 +26,8 @@ pub fn size<S: Store>(
     ensures value { IsSteady S.facts blocks.old.disk.store
         → Answers (Lacks S.facts blocks.old.disk.store blocks.new.disk.store) (on_chain blocks.new.document root.0)
         (λ n. n ≡ bytes_in blocks.new.document (chain_blocks blocks.new.document root.0)) result }
-    ensures refusals { IfErr result (IsWalkRefusal (Lacks S.facts blocks.old.disk.store blocks.new.disk.store) (IsOfOther is_raw blocks.old.document root.0)) }
+    ensures refusals { IfErr result (IsWalkRefusal (Lacks S.facts blocks.old.disk.store blocks.new.disk.store)
+        (IsOfOther is_raw blocks.old.document root.0)) }
 {
     let handles = walk(alloc, blocks, root)?;
     total_len(blocks, &handles)
@@ -38,7 +39,8 @@ fn total_len<S: Store>(blocks: &mut FileBlocks<S>, handles: &[VmHandle]) -> Resu
     requires live { AreBlocks blocks.old.document handles.now }
     requires members { IsSteady S.facts blocks.old.disk.store → AreMembers blocks.old.document handles.now }
     ensures keeps { Keeps S.facts blocks.old blocks.new }
-    ensures value { IsSteady S.facts blocks.old.disk.store → IfOk result (λ n. n ≡ bytes_in blocks.new.document (numbers handles.now)) }
+    ensures value { IsSteady S.facts blocks.old.disk.store
+        → IfOk result (λ n. n ≡ bytes_in blocks.new.document (numbers handles.now)) }
     ensures refusals { IfErr result (Lacks S.facts blocks.old.disk.store blocks.new.disk.store) }
 {
     let mut total = 0;

@@ -33,7 +33,8 @@ impl Names {
     ) -> Result<Names, AllocError>
         requires handles { All (λ h. is_vm_handle h.0 ≡ true) handles.now }
         requires names { length handles.now ≤ length names.now }
-        ensures { IfOk result (λ found. (h : ℕ) → name_in found h ≡ name_of (zip (numbers handles.now) (numbers names.now)) h) }
+        ensures { IfOk result
+            (λ found. (h : ℕ) → name_in found h ≡ name_of (zip (numbers handles.now) (numbers names.now)) h) }
     {
         let mut by_handle = vec![in alloc; 0; MOST_BLOCKS + 1]?;
         // From the last on, so that of two names for a handle the first stands.

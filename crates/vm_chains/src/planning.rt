@@ -31,11 +31,14 @@ pub fn copy_plan<S: Store>(
     requires room { is_full blocks.old ≡ false }
     ensures keeps { Keeps S.facts blocks.old blocks.new }
     ensures value { IsSteady S.facts blocks.old.disk.store
-        → Answers (Lacks S.facts blocks.old.disk.store blocks.new.disk.store) (copy_conditions blocks.new.document root.0)
-        (λ plan. saved_blocks plan.list.items ≡ copies_of blocks.new.document (chain_blocks blocks.new.document root.0)) result }
+        → Answers (Lacks S.facts blocks.old.disk.store blocks.new.disk.store)
+        (copy_conditions blocks.new.document root.0)
+        (λ plan. saved_blocks plan.list.items
+        ≡ copies_of blocks.new.document (chain_blocks blocks.new.document root.0)) result }
     ensures applies { IfOk result (λ plan. Applies (changes.BlocksIn plan) blocks.new.document) }
     ensures some { IfOk result (λ plan. 0 < length plan.list.items) }
-    ensures refusals { IfErr result (λ fault. Lacks S.facts blocks.old.disk.store blocks.new.disk.store fault ⊎ IsChainFault (IsOfOther is_raw blocks.old.document root.0) fault ⊎ (fault ≡ NoHandles)) }
+    ensures refusals { IfErr result (λ fault. Lacks S.facts blocks.old.disk.store blocks.new.disk.store fault
+        ⊎ IsChainFault (IsOfOther is_raw blocks.old.document root.0) fault ⊎ (fault ≡ NoHandles)) }
 {
     let handles = walk(alloc, blocks, root)?;
     let new = free_handles(alloc, blocks, handles.len())?;
@@ -54,11 +57,15 @@ pub fn free_plan<S: Store>(
     requires room { is_full blocks.old ≡ false }
     ensures keeps { Keeps S.facts blocks.old blocks.new }
     ensures value { IsSteady S.facts blocks.old.disk.store
-        → Answers (Lacks S.facts blocks.old.disk.store blocks.new.disk.store) (free_conditions blocks.new.document root.0)
-        (λ plan. saved_blocks plan.list.items ≡ blocks_of blocks.new.document (chain_blocks blocks.new.document root.0)) result }
-    ensures applies { IsSteady S.facts blocks.old.disk.store → IfOk result (λ plan. Applies (changes.BlocksOut plan) blocks.new.document) }
+        → Answers (Lacks S.facts blocks.old.disk.store blocks.new.disk.store)
+        (free_conditions blocks.new.document root.0)
+        (λ plan. saved_blocks plan.list.items
+        ≡ blocks_of blocks.new.document (chain_blocks blocks.new.document root.0)) result }
+    ensures applies { IsSteady S.facts blocks.old.disk.store
+        → IfOk result (λ plan. Applies (changes.BlocksOut plan) blocks.new.document) }
     ensures handles { IfOk result (λ plan. CanLeave blocks.new.document (handles_of (saved_blocks plan.list.items))) }
-    ensures refusals { IfErr result (λ fault. Lacks S.facts blocks.old.disk.store blocks.new.disk.store fault ⊎ IsChainFault (IsOfOther is_raw blocks.old.document root.0) fault ⊎ (fault ≡ IsMap)) }
+    ensures refusals { IfErr result (λ fault. Lacks S.facts blocks.old.disk.store blocks.new.disk.store fault
+        ⊎ IsChainFault (IsOfOther is_raw blocks.old.document root.0) fault ⊎ (fault ≡ IsMap)) }
 {
     let handles = walk(alloc, blocks, root)?;
     if contains(&handles, blocks.map_block()) {
@@ -83,7 +90,8 @@ fn saved<S: Store>(
     requires room { is_full blocks.old ≡ false }
     requires live { AreBlocks blocks.old.document handles.now }
     ensures keeps { Keeps S.facts blocks.old blocks.new }
-    ensures value { IsSteady S.facts blocks.old.disk.store → IfOk result (λ plan. saved_blocks plan.list.items ≡ blocks_of blocks.new.document (numbers handles.now)) }
+    ensures value { IsSteady S.facts blocks.old.disk.store
+        → IfOk result (λ plan. saved_blocks plan.list.items ≡ blocks_of blocks.new.document (numbers handles.now)) }
     ensures handles { IfOk result (λ plan. handles_of (saved_blocks plan.list.items) ≡ numbers handles.now) }
     ensures refusals { IfErr result (Lacks S.facts blocks.old.disk.store blocks.new.disk.store) }
 {
@@ -131,7 +139,8 @@ fn copies<S: Store>(
     requires members { IsSteady S.facts blocks.old.disk.store → AreMembers blocks.old.document handles.now }
     requires new { length handles.now ≡ length new.now }
     ensures keeps { Keeps S.facts blocks.old blocks.new }
-    ensures value { IsSteady S.facts blocks.old.disk.store → IfOk result (λ plan. saved_blocks plan.list.items ≡ renamed_blocks blocks.new.document (numbers handles.now) (numbers new.now)) }
+    ensures value { IsSteady S.facts blocks.old.disk.store → IfOk result (λ plan. saved_blocks plan.list.items
+        ≡ renamed_blocks blocks.new.document (numbers handles.now) (numbers new.now)) }
     ensures handles { IfOk result (λ plan. handles_of (saved_blocks plan.list.items) ≡ numbers new.now) }
     ensures refusals { IfErr result (Lacks S.facts blocks.old.disk.store blocks.new.disk.store) }
 {

@@ -23,7 +23,9 @@ pub(crate) fn len_at<S: Store>(blocks: &mut FileBlocks<S>, handle: VmHandle) -> 
     requires live { is_live blocks.old.document handle.0 ≡ true }
     requires raw { IsSteady S.facts blocks.old.disk.store → is_raw blocks.old.document handle.0 ≡ true }
     ensures keeps { Keeps S.facts blocks.old blocks.new }
-    ensures value { MatchResult result (λ n. n ≡ length (raw_bytes_of blocks.new.document handle.0)) (Lacks S.facts blocks.old.disk.store blocks.new.disk.store) }
+    ensures value { MatchResult result
+        (λ n. n ≡ length (raw_bytes_of blocks.new.document handle.0))
+        (Lacks S.facts blocks.old.disk.store blocks.new.disk.store) }
     ensures small { IfOk result (λ n. n ≤ capacity) }
 {
     blocks.load(handle)?;
@@ -44,7 +46,9 @@ pub(crate) fn relinked_at<S: Store>(
     requires live { is_live blocks.old.document handle.0 ≡ true }
     requires member { IsSteady S.facts blocks.old.disk.store → is_member blocks.old.document handle.0 ≡ true }
     ensures keeps { Keeps S.facts blocks.old blocks.new }
-    ensures value { MatchResult result (λ bytes. bytes.items ≡ relinked (name_in names.now) (raw_bytes_of blocks.new.document handle.0)) (Lacks S.facts blocks.old.disk.store blocks.new.disk.store) }
+    ensures value { MatchResult result
+        (λ bytes. bytes.items ≡ relinked (name_in names.now) (raw_bytes_of blocks.new.document handle.0))
+        (Lacks S.facts blocks.old.disk.store blocks.new.disk.store) }
     ensures small { IfOk result (λ bytes. length bytes.items ≤ capacity) }
     ensures raw { IfOk result (λ _. is_heap blocks.new.document handle.0 ≡ false) }
 {
@@ -67,7 +71,9 @@ pub(crate) fn saved_at<S: Store>(
     requires room { is_full blocks.old ≡ false }
     requires live { is_live blocks.old.document handle.0 ≡ true }
     ensures keeps { Keeps S.facts blocks.old blocks.new }
-    ensures value { MatchResult result (λ saved. saved_block saved ≡ block_at blocks.new.document handle.0) (Lacks S.facts blocks.old.disk.store blocks.new.disk.store) }
+    ensures value { MatchResult result
+        (λ saved. saved_block saved ≡ block_at blocks.new.document handle.0)
+        (Lacks S.facts blocks.old.disk.store blocks.new.disk.store) }
 {
     blocks.load(handle)?;
     let attributes = blocks.attributes(handle);

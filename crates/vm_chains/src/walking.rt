@@ -26,11 +26,14 @@ pub fn walk<S: Store>(
     requires room { is_full blocks.old ≡ false }
     ensures keeps { Keeps S.facts blocks.old blocks.new }
     ensures value { IsSteady S.facts blocks.old.disk.store
-        → Answers (Lacks S.facts blocks.old.disk.store blocks.new.disk.store) (on_chain blocks.new.document root.0) (λ handles. chain blocks.new.document root.0 ≡ Some (numbers handles.items)) result }
+        → Answers (Lacks S.facts blocks.old.disk.store blocks.new.disk.store) (on_chain blocks.new.document root.0)
+        (λ handles. chain blocks.new.document root.0 ≡ Some (numbers handles.items)) result }
     ensures root { IfOk result (λ handles. BeginsWith root.0 (numbers handles.items)) }
     ensures live { IfOk result (λ handles. AreBlocks blocks.new.document handles.items) }
-    ensures members { IsSteady S.facts blocks.old.disk.store → IfOk result (λ handles. AreMembers blocks.new.document handles.items) }
-    ensures refusals { IfErr result (IsWalkRefusal (Lacks S.facts blocks.old.disk.store blocks.new.disk.store) (IsOfOther is_raw blocks.old.document root.0)) }
+    ensures members { IsSteady S.facts blocks.old.disk.store
+        → IfOk result (λ handles. AreMembers blocks.new.document handles.items) }
+    ensures refusals { IfErr result (IsWalkRefusal (Lacks S.facts blocks.old.disk.store blocks.new.disk.store)
+        (IsOfOther is_raw blocks.old.document root.0)) }
 {
     test_root(blocks, root)?;
     walk_from(alloc, blocks, root)
@@ -38,7 +41,9 @@ pub fn walk<S: Store>(
 
 /// Tests the root of a chain: NoBlock where no block is there, WrongKind where a heap is. No block is looked into.
 pub fn test_root<S: Store>(blocks: &FileBlocks<S>, root: VmHandle) -> Result<(), Fault>
-    ensures { MatchResult result (λ _. is_raw blocks.now.document root.0 ≡ true) (IsOfOther is_raw blocks.now.document root.0) }
+    ensures { MatchResult result
+        (λ _. is_raw blocks.now.document root.0 ≡ true)
+        (IsOfOther is_raw blocks.now.document root.0) }
 {
     if !blocks.is_live(root) {
         return Err(Fault::NoBlock);
@@ -62,8 +67,10 @@ pub(crate) fn walk_from<S: Store>(
         (Stops (Lacks S.facts blocks.old.disk.store blocks.new.disk.store) (chain blocks.new.document root.0 ≡ None)) }
     ensures root { IfOk result (λ handles. BeginsWith root.0 (numbers handles.items)) }
     ensures live { IfOk result (λ handles. AreBlocks blocks.new.document handles.items) }
-    ensures members { IsSteady S.facts blocks.old.disk.store → IfOk result (λ handles. AreMembers blocks.new.document handles.items) }
-    ensures refusals { IfErr result (λ fault. Lacks S.facts blocks.old.disk.store blocks.new.disk.store fault ⊎ (fault ≡ BadChain)) }
+    ensures members { IsSteady S.facts blocks.old.disk.store
+        → IfOk result (λ handles. AreMembers blocks.new.document handles.items) }
+    ensures refusals { IfErr result
+        (λ fault. Lacks S.facts blocks.old.disk.store blocks.new.disk.store fault ⊎ (fault ≡ BadChain)) }
 {
     blocks.validity();
     let mut met = Met::new(alloc)?;
@@ -96,7 +103,8 @@ fn follow<S: Store>(
     ensures keeps { Keeps S.facts blocks.old blocks.new }
     ensures value { MatchResult result
         (λ _. GoesOn blocks.new.document handle.0 pending.old pending.new)
-        (Stops (Lacks S.facts blocks.old.disk.store blocks.new.disk.store) (is_member blocks.new.document handle.0 ≡ false)) }
+        (Stops (Lacks S.facts blocks.old.disk.store blocks.new.disk.store)
+        (is_member blocks.new.document handle.0 ≡ false)) }
 {
     if !blocks.is_live(handle) {
         return Err(Fault::BadChain);

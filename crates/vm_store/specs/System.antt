@@ -44,7 +44,8 @@ pub record Reads (file : List ℕ) (at k : ℕ) (buffer : List ℕ) : Type 0 whe
   pub each : (i : ℕ) → i < k → byte file (at + i) ≡ byte buffer i
   pub none : k ≡ 0 → 0 < length buffer → length file ≤ at
 
--- The first k of the bytes stand at `at`, and any in the others' range. If some do, or the file gets longer, a gap before them is zeros; nothing else changes.
+-- The first k of the bytes stand at `at`, and any in the others' range. If some do, or the file gets longer, a gap before them is zeros;
+-- nothing else changes.
 pub record Begins (at k : ℕ) (bytes old new : List ℕ) : Type 0 where
   pub below : (i : ℕ) → i < at → byte new i ≡ byte old i
   pub each : (i : ℕ) → i < k → byte new (at + i) ≡ byte bytes i
@@ -94,7 +95,8 @@ pub record IsInterruptedOften {S T : Type 0} (call : S → Result T SystemFault 
   pub count : length states ≡ n
 
 -- a call was made again as often as it was interrupted, and then had this result
-pub record Makes {S T : Type 0} (call : S → Result T SystemFault → S → Type 0) (old : S) (result : Result T SystemFault) (new : S) : Type 0 where
+pub record Makes {S T : Type 0} (call : S → Result T SystemFault → S → Type 0)
+    (old : S) (result : Result T SystemFault) (new : S) : Type 0 where
   pub tries : ℕ
   pub last : S
   pub interrupted : IsInterruptedOften call old tries last
@@ -122,7 +124,8 @@ pub record IsReady {S H F : Type 0} (calls : SystemCalls S H F) (path : List ℕ
 abbrev pub IsNotNamed : {S H F : Type 0} → SystemCalls S H F → List ℕ → Bool → S → S → Type 0
 IsNotNamed {S} {H} calls path make old new =
     GivesUpOn (λ s. calls.opens s path make) old new
-    ⊎ ((handle : H) × (opened : S) × Makes (λ s. calls.opens s path make) old (Ok handle) opened × (make ≡ true) × GivesUpOn (λ s. calls.syncs_folder s path) opened new)
+    ⊎ ((handle : H) × (opened : S) × Makes (λ s. calls.opens s path make) old (Ok handle) opened × (make ≡ true)
+    × GivesUpOn (λ s. calls.syncs_folder s path) opened new)
 
 -- it was opened, and named if it was to be made, and couldn't be locked
 pub record IsInUse {S H F : Type 0} (calls : SystemCalls S H F) (path : List ℕ) (make : Bool) (old new : S) : Type 0 where

@@ -45,7 +45,11 @@ impl System<HostFile> for HostSystem {
     type Handle = HostHandle;
 
     // Of what the machine does nothing is known.
-    ghost calls = { record { opens = λ old path make result new. Unit {0}; syncs_folder = λ old path result new. Unit {0}; locks = λ old handle result new. Unit {0} } };
+    ghost calls = { record {
+      opens = λ old path make result new. Unit {0};
+      syncs_folder = λ old path result new. Unit {0};
+      locks = λ old handle result new. Unit {0};
+    } };
 
     fn open(&mut self, path: &str, make: bool) -> Result<HostHandle, SystemFault> {
         let mut options = OpenOptions::new();

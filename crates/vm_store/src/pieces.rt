@@ -36,12 +36,24 @@ impl Model for PiecewiseFile {
 
     ghost Value = { Pieces };
 
-    ghost view = { λ f. record { store = f.store; calls = f.calls; failures = f.failures; interruptions = f.interruptions; has_failed_sync = f.has_failed_sync } };
+    ghost view = { λ f. record {
+      store = f.store;
+      calls = f.calls;
+      failures = f.failures;
+      interruptions = f.interruptions;
+      has_failed_sync = f.has_failed_sync;
+    } };
 }
 
 impl PiecewiseFile {
     pub fn new(store: MemStore, pace: Pace) -> PiecewiseFile
-        ensures { result ≡ record { store = store; calls = 0; failures = 0; interruptions = 0; has_failed_sync = false } }
+        ensures { result ≡ record {
+          store = store;
+          calls = 0;
+          failures = 0;
+          interruptions = 0;
+          has_failed_sync = false;
+        } }
     {
         PiecewiseFile {
             store,
@@ -56,7 +68,8 @@ impl PiecewiseFile {
     // Counts a call, and says whether it is interrupted.
     fn is_interrupted(&mut self) -> bool
         ensures stays { IsTrue (not result) → self.new ≡ record self.old { calls = self.new.calls } }
-        ensures counted { IsTrue result → self.new ≡ record self.old { calls = self.new.calls; interruptions = self.old.interruptions + 1 } }
+        ensures counted { IsTrue result
+            → self.new ≡ record self.old { calls = self.new.calls; interruptions = self.old.interruptions + 1 } }
     {
         self.calls = self.calls.wrapping_add(1);
         if self.pace.every == 0
@@ -222,9 +235,11 @@ impl System<PiecewiseFile> for PiecewiseSystem {
     type Handle = PiecewiseHandle;
 
     ghost calls = { record {
-      opens = λ old path make result new. IfOk result (λ handle. (old.store ≡ Some handle.store) × (new.served ≡ raised old.served));
+      opens = λ old path make result new. IfOk result
+          (λ handle. (old.store ≡ Some handle.store) × (new.served ≡ raised old.served));
       syncs_folder = λ old path result new. OnOk result (new.served ≡ raised old.served);
-      locks = λ old handle result new. IfOk result (λ file. (file.store ≡ handle.store) × (new.served ≡ raised old.served));
+      locks = λ old handle result new. IfOk result
+          (λ file. (file.store ≡ handle.store) × (new.served ≡ raised old.served));
     } };
 
     fn open(&mut self, _path: &str, _make: bool) -> Result<PiecewiseHandle, SystemFault> {

@@ -26,7 +26,8 @@ pub trait SystemFile: Drop {
         ensures honest { (facts self.new).store.honest ≡ (facts self.old).store.honest }
         ensures told { IsTrue (facts self.old).store.honest → Tells result (facts self.old) (facts self.new) }
         ensures idles { IsTrue (facts self.old).store.honest → Idles (facts self.old) (facts self.new) }
-        ensures len { IfOk result (λ n. IsTrue (facts self.old).store.honest → n ≡ length (facts self.old).store.content) };
+        ensures len { IfOk result
+            (λ n. IsTrue (facts self.old).store.honest → n ≡ length (facts self.old).store.content) };
 
     /// Reads bytes from `at` on into the buffer's first, and answers how many: none if the buffer is empty or they lie at the
     /// end or past it.
@@ -35,27 +36,34 @@ pub trait SystemFile: Drop {
         ensures told { IsTrue (facts self.old).store.honest → Tells result (facts self.old) (facts self.new) }
         ensures idles { IsTrue (facts self.old).store.honest → Idles (facts self.old) (facts self.new) }
         ensures room { IfOk result (λ k. k ≤ length buffer.old) }
-        ensures read { IfOk result (λ k. IsTrue (facts self.old).store.honest → Reads (facts self.old).store.content at k buffer.new) };
+        ensures read { IfOk result
+            (λ k. IsTrue (facts self.old).store.honest → Reads (facts self.old).store.content at k buffer.new) };
 
     /// Writes the first of the bytes over what is there and past the end, and answers how many: one at least, where there are
     /// any.
     fn write_at(&mut self, at: u64, bytes: &[u8]) -> Result<usize, SystemFault>
         ensures honest { (facts self.new).store.honest ≡ (facts self.old).store.honest }
         ensures told { IsTrue (facts self.old).store.honest → Tells result (facts self.old) (facts self.new) }
-        ensures writes { IsTrue (facts self.old).store.honest → WritesTo at (length bytes.now) (facts self.old) (facts self.new) }
+        ensures writes { IsTrue (facts self.old).store.honest
+            → WritesTo at (length bytes.now) (facts self.old) (facts self.new) }
         ensures room { IfOk result (λ k. k ≤ length bytes.now) }
-        ensures part { IsTrue (facts self.old).store.honest → WritesPart at bytes.now result (facts self.old).store.content (facts self.new).store.content };
+        ensures part { IsTrue (facts self.old).store.honest
+            → WritesPart at bytes.now result (facts self.old).store.content (facts self.new).store.content };
 
     /// Cuts the bytes or adds zeros, so that there are `n`. After a crash anything may be left where it cuts bytes; where it adds
     /// zeros, what a write of no bytes at `n` would leave.
     fn set_len(&mut self, n: u64) -> Result<(), SystemFault>
         ensures honest { (facts self.new).store.honest ≡ (facts self.old).store.honest }
         ensures told { IsTrue (facts self.old).store.honest → Tells result (facts self.old) (facts self.new) }
-        ensures syncs { IsTrue (facts self.old).store.honest → (facts self.new).has_failed_sync ≡ (facts self.old).has_failed_sync }
+        ensures syncs { IsTrue (facts self.old).store.honest
+            → (facts self.new).has_failed_sync ≡ (facts self.old).has_failed_sync }
         ensures time { IsTrue (facts self.old).store.honest → Elapses (facts self.old).store (facts self.new).store }
-        ensures sized { OnOk result (IsTrue (facts self.old).store.honest → Sizes n (facts self.old).store.content (facts self.new).store.content) }
-        ensures grows { IsTrue (facts self.old).store.honest → length (facts self.old).store.content ≤ n → Writes n 0 (facts self.old).store (facts self.new).store }
-        ensures interrupted { IsInterrupted result → IsTrue (facts self.old).store.honest → Rests (facts self.old).store (facts self.new).store };
+        ensures sized { OnOk result (IsTrue (facts self.old).store.honest
+            → Sizes n (facts self.old).store.content (facts self.new).store.content) }
+        ensures grows { IsTrue (facts self.old).store.honest → length (facts self.old).store.content ≤ n
+            → Writes n 0 (facts self.old).store (facts self.new).store }
+        ensures interrupted { IsInterrupted result → IsTrue (facts self.old).store.honest
+            → Rests (facts self.old).store (facts self.new).store };
 
     /// After a sync that succeeds a crash leaves the content, until the next write or `set_len`; but not if an earlier sync of the
     /// file has failed: the system may have dropped what it could not write then, and tells so only once.
@@ -63,8 +71,10 @@ pub trait SystemFile: Drop {
         ensures honest { (facts self.new).store.honest ≡ (facts self.old).store.honest }
         ensures told { IsTrue (facts self.old).store.honest → Tells result (facts self.old) (facts self.new) }
         ensures rests { IsTrue (facts self.old).store.honest → Rests (facts self.old).store (facts self.new).store }
-        ensures syncs { (HasFailed result → ⊥) → IsTrue (facts self.old).store.honest → (facts self.new).has_failed_sync ≡ (facts self.old).has_failed_sync }
-        ensures durable { OnOk result (IsTrue (facts self.old).store.honest → (facts self.old).has_failed_sync ≡ false → IsDurable (facts self.new).store) };
+        ensures syncs { (HasFailed result → ⊥) → IsTrue (facts self.old).store.honest
+            → (facts self.new).has_failed_sync ≡ (facts self.old).has_failed_sync }
+        ensures durable { OnOk result (IsTrue (facts self.old).store.honest → (facts self.old).has_failed_sync ≡ false
+            → IsDurable (facts self.new).store) };
 
     ghost timely: { (s : Self) → IsTrue (facts s).store.honest → IsTimely (facts s).store };
 }
@@ -88,5 +98,6 @@ pub trait System<F: SystemFile> {
     /// Locks a file against every other open of it, until it is dropped. It doesn't wait, and fails where another holds a lock.
     fn lock(&mut self, handle: Self::Handle) -> Result<F, SystemFault>
         ensures locks { calls.locks self.old handle result self.new }
-        ensures syncs { IfOk result (λ file. IsTrue (F.facts file).store.honest → (F.facts file).has_failed_sync ≡ false) };
+        ensures syncs { IfOk result
+            (λ file. IsTrue (F.facts file).store.honest → (F.facts file).has_failed_sync ≡ false) };
 }
