@@ -112,9 +112,9 @@ impl<S: Store> Session<S> {
         }
     }
 
-    /// Opens the file that a store has, with its updated document as it is now and nothing to undo. Where it is refused the store
-    /// comes back, and nothing was written to an honest one: NotDocument or Damaged where it has no file; Memory, File. Where a crash left the store, what is read
-    /// is on the disk from then on.
+    /// Opens the file that a store has, with its updated document as it is now and nothing to undo. Where it is refused the store comes
+    /// back, and nothing was written to an honest one: NotDocument or Damaged where it has no file; Memory, File. Where a crash left the
+    /// store, what is read is on the disk from then on.
     pub fn open(alloc: Global, store: S, frames: usize) -> Result<Session<S>, Refused<S>>
         requires { (1 ≤ frames) × (frames ≤ 64) }
         ensures opened { MatchResult result
@@ -140,9 +140,9 @@ impl<S: Store> Session<S> {
         self.blocks.close()
     }
 
-    /// Makes the document as it is now the updated one. GroupOpen while a group is open, and then Locked where any block is, before all else; Worn
-    /// where the sequence number can't rise, before anything is written; Memory, where nothing is committed; File, where what was to be may be read after a
-    /// crash.
+    /// Makes the document as it is now the updated one. GroupOpen while a group is open, and then Locked where any block is, before all
+    /// else; Worn where the sequence number can't rise, before anything is written; Memory, where nothing is committed; File, where what
+    /// was to be may be read after a crash.
     pub fn update(&mut self) -> Result<(), Fault>
         ensures step { IsStep S.facts self.old self.new commands.Update (reply_by (λ _. Accepted) result) }
         ensures commit { TriesCommit S.facts
@@ -203,11 +203,11 @@ impl<S: Store> Session<S> {
         Ok(())
     }
 
-    /// Makes another store a file of its own, with the document as it is now as its updated and its saved one, and goes on in
-    /// that. The file so far goes back to its saved document, and its store comes back. Where it is refused the session stays in
-    /// its file, and the target comes back, with any bytes; in the file so far nothing is committed then, but where its store
-    /// fails. GroupOpen while a group is open, and then Locked where any block is, before all else, and Worn where the sequence number of the file so far can't rise, before
-    /// anything is written; over a store that isn't honest what is read may be no image, which is Damaged; Memory, File.
+    /// Makes another store a file of its own, with the document as it is now as its updated and its saved one, and goes on in that. The
+    /// file so far goes back to its saved document, and its store comes back. Where it is refused the session stays in its file, and the
+    /// target comes back, with any bytes; in the file so far nothing is committed then, but where its store fails. GroupOpen while a group
+    /// is open, and then Locked where any block is, before all else, and Worn where the sequence number of the file so far can't rise,
+    /// before anything is written; over a store that isn't honest what is read may be no image, which is Damaged; Memory, File.
     pub fn save_as(&mut self, target: S) -> Result<S, Refused<S>>
         // What is done: a step of the machine, where it is accepted into an honest target
         ensures ok { IfOk result (λ _. IsExact S.facts self.old → IsTrue (S.facts target).honest
@@ -244,10 +244,10 @@ impl<S: Store> Session<S> {
         self.blocks.save_as(target)
     }
 
-    /// Makes an edit, after which nothing is left to redo. Outside of a group it is the newest step; in one it is a part of the step that the
-    /// group becomes. Locked where it frees a locked block, or copies or frees a chain while any
-    /// block is locked, before all else; CacheFull where each frame has a locked block, and it looks into the body of another one. For an edit of a user ID, of the map block or of
-    /// the body of a block in memory, and for one that frees such a block, no store is called.
+    /// Makes an edit, after which nothing is left to redo. Outside of a group it is the newest step; in one it is a part of the step that
+    /// the group becomes. Locked where it frees a locked block, or copies or frees a chain while any block is locked, before all else;
+    /// CacheFull where each frame has a locked block, and it looks into the body of another one. For an edit of a user ID, of the map block
+    /// or of the body of a block in memory, and for one that frees such a block, no store is called.
     pub fn edit(&mut self, edit: &Edit) -> Result<Done, Fault>
         // What is done
         ensures step { IsStep S.facts self.old self.new (commands.Edit edit.now) (reply_by reply_of_done result) }
@@ -470,8 +470,9 @@ impl<S: Store> Session<S> {
         self.log.redo_count()
     }
 
-    /// It does nothing: its caller learns that each document of the machine of an exact session is valid, as it always is, that its
-    /// locks are, what a crash now leaves, and that nothing is left to redo while the open group has an edit. What a store that isn't honest has isn't known, but for handles and the map block.
+    /// It does nothing: its caller learns that each document of the machine of an exact session is valid, as it always is, that its locks
+    /// are, what a crash now leaves, and that nothing is left to redo while the open group has an edit. What a store that isn't honest has
+    /// isn't known, but for handles and the map block.
     pub fn validity(&self)
         ensures machine { IsExact S.facts self.now → (target : Bool) → IsValidMachine (machine_of target self.now) }
         ensures locks { (target : Bool) → AreValidLocks (machine_of target self.now) }

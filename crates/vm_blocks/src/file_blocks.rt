@@ -116,8 +116,8 @@ impl<S: Store> FileBlocks<S> {
         self.cache.validity();
     }
 
-    /// Makes the document as it is now the updated one. The blocks in memory stay there, with their locks. Worn where the sequence number can't rise, before anything is written;
-    /// Memory, where nothing is committed; File, where what was to be may be read after a crash.
+    /// Makes the document as it is now the updated one. The blocks in memory stay there, with their locks. Worn where the sequence number
+    /// can't rise, before anything is written; Memory, where nothing is committed; File, where what was to be may be read after a crash.
     pub fn update(&mut self) -> Result<(), Fault>
         ensures commit { IsCommit S.facts (self.old.document, self.old.disk.saved) self.old.document
             (seen self.old) (seen self.new) result }
@@ -151,9 +151,9 @@ impl<S: Store> FileBlocks<S> {
         self.cache.commit_revert()
     }
 
-    /// Makes the target a file of its own of the document as it is now, and goes on in that, with the same blocks in memory. The file
-    /// so far goes back to its saved document, and its store comes back. Where it is refused the file stays, and the target comes back, with any bytes;
-    /// nothing is committed then, but where the store of the file so far fails. Worn, before anything is written; Damaged where
+    /// Makes the target a file of its own of the document as it is now, and goes on in that, with the same blocks in memory. The file so
+    /// far goes back to its saved document, and its store comes back. Where it is refused the file stays, and the target comes back, with
+    /// any bytes; nothing is committed then, but where the store of the file so far fails. Worn, before anything is written; Damaged where
     /// what is read is no image, which an honest store never gives; Memory, File.
     pub fn save_as(&mut self, target: S) -> Result<S, Refused<S>>
         ensures saved_as { MatchResult result
