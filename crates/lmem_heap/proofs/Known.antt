@@ -1,9 +1,8 @@
 -- What is known of a slot's entry, of the piece that it names, and of a free piece.
-use Rattle.std.proofs.Common.{◌≡◌, ℕ, ◌+◌, ◌*◌, ◌<◌, ◌≤◌, ◌++◌, ◌∷◌, ◌∙◌, refl, arith}
+use Rattle.std.proofs.Common.{◌≡◌, ℕ, ◌+◌, ◌*◌, ◌<◌, ◌≤◌, ◌++◌, ◌∷◌, refl, arith}
 use Rattle.lmem_heap.specs.declared.space.Space.{Space}
 use Rattle.lmem_heap.specs.Pieces.{word_in, entry, piece_space, Used, Free, size_head}
 use Rattle.lmem_heap.specs.Kept.{IsSpaced, IsLoose, HasFree, HasNext}
-use Rattle.lmem_heap.proofs.Writes.{entry_word}
 use Rattle.lmem_heap.proofs.Tiles.{lies_end}
 use Rattle.lmem_heap.proofs.Rooms.{free_facts}
 use Rattle.lmem_heap.proofs.Filling.{IsLivePiece, live_piece}
@@ -16,15 +15,11 @@ low_ends {s = s} k = omega (arith, lies_end size_head s.region s.low k.pieces 65
 pub entry_ends : {loose : ℕ} {s : Space} → IsSpaced s loose → (i : ℕ) → i < s.slots → 18 + 2 * i ≤ 65520
 entry_ends k i within = omega (arith, k.held.tiled.table, low_ends k)
 
--- the word p that was read there
-pub read_entry : (s : Space) (i p : ℕ) → p ≡ word_in s.region (16 + 2 * i) → p ≡ entry s.region i
-read_entry s i p is = is ∙ entry_word s.region i (16 + 2 * i) refl
-
 -- the piece at p, of the size n that was read there
-pub piece_read : {loose : ℕ} {s : Space} (k : IsSpaced s loose) (i p n : ℕ) → i < s.slots → 1 < entry s.region i → p ≡ word_in s.region (16 + 2 * i) → n ≡ word_in s.region p → IsLivePiece s k i p n
-piece_read {s = s} k i p n within live is value = live_piece s k i p n within live (read_entry s i p is) value
+pub piece_read : {loose : ℕ} {s : Space} (k : IsSpaced s loose) (i p n : ℕ) → i < s.slots → 1 < entry s.region i → p ≡ entry s.region i → n ≡ word_in s.region p → IsLivePiece s k i p n
+piece_read {s = s} k i p n within live is value = live_piece s k i p n within live is value
 
-pub head_ends : {loose : ℕ} {s : Space} → IsSpaced s loose → (i p : ℕ) → i < s.slots → 1 < entry s.region i → p ≡ word_in s.region (16 + 2 * i) → p + 2 ≤ 65520
+pub head_ends : {loose : ℕ} {s : Space} → IsSpaced s loose → (i p : ℕ) → i < s.slots → 1 < entry s.region i → p ≡ entry s.region i → p + 2 ≤ 65520
 head_ends {s = s} k i p within live is = omega (arith, (piece_read k i p (word_in s.region p) within live is refl).ends)
 
 pub size_ends : {loose : ℕ} {s : Space} → IsSpaced s loose → (i : ℕ) → i < s.slots → 1 < entry s.region i → piece_space (word_in s.region (entry s.region i)) ≤ 65520

@@ -12,9 +12,8 @@ ghost use Rattle.lmem_heap.specs.HeapImage.{IsHeapImage, HasHeapTable};
 
 use crate::image::{HEAP_KIND, PREFIX, heap_slots, image_len, push_chunks, push_sizes, unpack};
 use crate::sizes::{need_of, space_of};
-use crate::space::NO_CHUNK;
 use crate::table::Table;
-use crate::words::{HEADER, SIZE};
+use crate::words::{HEADER, NO_CHUNK, SIZE, entry_at, slot_at};
 use geos_model::{ChunkHandle, Fault};
 use raw_region::Region;
 use std::alloc::{AllocError, Global};
@@ -328,7 +327,7 @@ fn handle_of(i: usize) -> ChunkHandle
     requires { i < most_chunks }
     ensures { result.0 ≡ handle_of i }
 {
-    ChunkHandle((HEADER + 2 * i) as u16)
+    ChunkHandle(entry_at(i) as u16)
 }
 
 /// The slot of a handle, in a table this long.
@@ -341,7 +340,7 @@ fn slot_of(h: ChunkHandle, slots: usize) -> Option<usize>
     if offset < HEADER || offset % 2 == 1 {
         return None;
     }
-    let i = (offset - HEADER) / 2;
+    let i = slot_at(offset);
     if i < slots { Some(i) } else { None }
 }
 
@@ -351,7 +350,7 @@ fn slot(h: ChunkHandle) -> usize
     ensures at { h.0 ≡ handle_of result }
     ensures within { result < most_chunks }
 {
-    (h.0 as usize - HEADER) / 2
+    slot_at(h.0 as usize)
 }
 
 /// The first slot from `start` on that has no chunk, or the table's length.

@@ -2,15 +2,14 @@
 #![tactic(auto)]
 
 mod compaction;
+mod entries;
 mod heap;
 mod image;
-mod lowering;
-mod packing;
+mod pieces;
 mod resizing;
 mod sizes;
 mod space;
 mod table;
-mod trading;
 mod words;
 
 pub use heap::Heap;

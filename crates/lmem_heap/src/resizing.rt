@@ -1,11 +1,13 @@
+//! A slot's chunk is cut or gets zeros: in its piece, in a part of it, with the free room behind it, or elsewhere.
 ghost use Rattle.std.specs.Prelude.{◌≡◌, ◌+◌, ◌-◌, ◌*◌, ◌/◌, ◌≤◌, ◌<◌, ℕ};
 ghost use Rattle.lmem_heap.specs.Pieces.{word_in, entry, piece_space};
-ghost use Rattle.lmem_heap.specs.Tiled.{table_end};
+ghost use Rattle.lmem_heap.specs.Tiled.{chunks_in, table_end};
 ghost use Rattle.lmem_heap.specs.Kept.{IsKept, IsLoose, HasNext, IsStill, IsReady, IsResized};
 
+use crate::compaction::lower_entries;
 use crate::sizes::piece_space;
-use crate::space::{NO_CHUNK, Space};
-use crate::words::{HEADER, copy_piece, set_size, set_word, word_in};
+use crate::space::Space;
+use crate::words::{NO_CHUNK, copy_piece, entry, set_entry, set_size, set_word, slide, word_in};
 
 impl Space {
     /// A slot's chunk gets `n` bytes where it lies, in a piece that is no larger and no smaller.
@@ -18,7 +20,7 @@ impl Space {
         ensures kept { IsKept self.new }
         ensures resized { IsResized self.old self.new i n }
     {
-        let p = word_in(&self.region, HEADER + 2 * i);
+        let p = entry(&self.region, i);
         let size = word_in(&self.region, p);
         set_size(&mut self.region, p, size, n);
     }
@@ -33,7 +35,7 @@ impl Space {
         ensures loose { IsLoose self.new result (piece_space (word_in self.old.region (entry self.old.region i)) - piece_space n) }
         ensures resized { IsResized self.old self.new i n }
     {
-        let p = word_in(&self.region, HEADER + 2 * i);
+        let p = entry(&self.region, i);
         let size = word_in(&self.region, p);
         let kept = piece_space(n);
         let rest = piece_space(size) - kept;
@@ -51,7 +53,7 @@ impl Space {
         ensures kept { IsKept self.new }
         ensures resized { IsResized self.old self.new i n }
     {
-        let p = word_in(&self.region, HEADER + 2 * i);
+        let p = entry(&self.region, i);
         let size = word_in(&self.region, p);
         set_size(&mut self.region, p, size, n);
         self.total += piece_space(n) - piece_space(size);
@@ -67,7 +69,7 @@ impl Space {
         ensures still { IsStill self.old self.new }
         ensures ready { IsReady self.new i q n }
     {
-        let p = word_in(&self.region, HEADER + 2 * i);
+        let p = entry(&self.region, i);
         let size = word_in(&self.region, p);
         copy_piece(&mut self.region, p, q, size, n);
     }
@@ -82,13 +84,13 @@ impl Space {
         ensures loose { IsLoose self.new result (piece_space (word_in self.old.region (entry self.old.region i))) }
         ensures resized { IsResized self.old self.new i n }
     {
-        let p = word_in(&self.region, HEADER + 2 * i);
+        let p = entry(&self.region, i);
         let size = word_in(&self.region, p);
         let room = piece_space(size);
         set_word(&mut self.region, p, room + 1);
-        set_word(&mut self.region, HEADER + 2 * i, NO_CHUNK);
+        set_entry(&mut self.region, i, NO_CHUNK);
         set_word(&mut self.region, q, n);
-        set_word(&mut self.region, HEADER + 2 * i, q);
+        set_entry(&mut self.region, i, q);
         self.total = self.total - room + piece_space(n);
         p
     }
@@ -140,6 +142,31 @@ impl Space {
         let size = self.find_run(i).size;
         self.open_gap(i, room - piece_space(size));
         self.absorb(i, n);
+    }
+
+    /// The pieces up to a slot's go down, and a free piece of this room, in no list, opens behind it. No other is free.
+    pub(crate) fn open_gap(&mut self, i: usize, room: usize)
+        requires kept { IsKept self.old }
+        requires packed { self.old.head ≡ 0 }
+        requires slot { i < self.old.slots }
+        requires live { 1 < entry self.old.region i }
+        requires some { 0 < room }
+        requires whole { room ≡ 4 * (room / 4) }
+        requires fits { table_end self.old.slots + room ≤ self.old.low }
+        ensures next { HasNext self.new i room }
+        ensures slots { self.new.slots ≡ self.old.slots }
+        ensures total { self.new.total ≡ self.old.total }
+        ensures chunks { chunks_in self.new.region self.new.slots ≡ chunks_in self.old.region self.old.slots }
+        ensures low { self.new.low ≡ self.old.low - room }
+    {
+        let p = entry(&self.region, i);
+        let n = word_in(&self.region, p);
+        let end = p + piece_space(n);
+        let low = self.low - room;
+        slide(&mut self.region, self.low, low, end - self.low);
+        set_word(&mut self.region, end - room, room + 1);
+        lower_entries(&mut self.region, self.slots, end, room);
+        self.low = low;
     }
 
     /// A slot's chunk with bytes is cut to `n` bytes, or gets zeros at its end.

@@ -7,7 +7,8 @@ ghost use Rattle.geos_model.proofs.Table.{IsTrimmed};
 ghost use Rattle.raw_region.specs.Bytes.{put};
 ghost use Rattle.lmem_heap.specs.Slots.{space_in, need_in, need_of};
 
-use crate::space::{EMPTY, Space};
+use crate::space::Space;
+use crate::words::EMPTY;
 use raw_region::Region;
 use std::marker::Model;
 

@@ -1,4 +1,5 @@
-ghost use Rattle.std.specs.Prelude.{◌≡◌, ◌+◌, ◌*◌, ◌≤◌, ◌<◌, length};
+//! A region's words, read and written, and among them the table's entries, one for each slot.
+ghost use Rattle.std.specs.Prelude.{◌≡◌, ◌+◌, ◌-◌, ◌*◌, ◌/◌, ◌≤◌, ◌<◌, length};
 ghost use Rattle.lmem_heap.specs.Pieces.{entry, word_in};
 ghost use Rattle.lmem_heap.specs.Edits.{IsSet, IsSlid, IsZeroed, IsSized, IsCopied};
 
@@ -10,6 +11,28 @@ pub(crate) const SIZE: usize = CAPACITY;
 
 /// The bytes of the header.
 pub(crate) const HEADER: usize = 16;
+
+/// The entry of a slot that has no chunk.
+pub(crate) const NO_CHUNK: usize = 0;
+
+/// The entry of a slot whose chunk has no bytes.
+pub(crate) const EMPTY: usize = 1;
+
+/// Where a slot's entry stands.
+pub(crate) fn entry_at(i: usize) -> usize
+    requires { i < 65536 }
+    ensures { result ≡ 16 + 2 * i }
+{
+    HEADER + 2 * i
+}
+
+/// The slot whose entry stands there.
+pub(crate) fn slot_at(at: usize) -> usize
+    requires { 16 ≤ at }
+    ensures { result ≡ (at - 16) / 2 }
+{
+    (at - HEADER) / 2
+}
 
 /// The word at a place.
 #[tactic(auto, unfolding(crate::specs::Pieces::word_in))]
@@ -29,6 +52,25 @@ pub(crate) fn set_word(region: &mut Region, p: usize, v: usize)
     ensures { IsSet region.old region.new p v }
 {
     region.set_word(p, v as u16);
+}
+
+/// A slot's entry.
+pub(crate) fn entry(region: &Region, i: usize) -> usize
+    requires { 18 + 2 * i ≤ 65520 }
+    ensures value { result ≡ entry region.now i }
+    ensures small { result < 65536 }
+{
+    word_in(region, entry_at(i))
+}
+
+/// Writes a slot's entry.
+pub(crate) fn set_entry(region: &mut Region, i: usize, e: usize)
+    requires within { 18 + 2 * i ≤ 65520 }
+    requires small { e < 65536 }
+    requires long { length region.old ≡ 65520 }
+    ensures { IsSet region.old region.new (16 + 2 * i) e }
+{
+    set_word(region, entry_at(i), e);
 }
 
 /// Moves `n` bytes.

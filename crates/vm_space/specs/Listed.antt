@@ -6,7 +6,7 @@ use Rattle.geos_model.specs.Bytes.{same_bytes}
 use Rattle.geos_model.specs.File as file
 use Rattle.geos_model.specs.File.{directory_read, header_text, entry_text, is_rising, is_entry, is_version_in}
 use Rattle.geos_model.specs.declared.file.Entry.{Entry}
-use Rattle.vm_space.specs.declared.directory.Directory.{Directory}
+use Rattle.vm_space.specs.declared.format.directory.Directory.{Directory}
 
 -- a directory as the definitions see it
 abbrev pub shown : Directory → file.Directory

@@ -1,3 +1,4 @@
+//! The pages that are free while extents come and go: for each page on how many of the taken extents it lies.
 ghost use Rattle.std.specs.Prelude.{◌≡◌, ◌∷◌, [], ◌+◌, ◌^◌, ◌<◌, ◌≤◌, List, All, ℕ, length, min, replicate, false, IfOk, OnOk, OnErr, slice_index};
 ghost use Rattle.geos_model.specs.declared.file.Extent.{Extent};
 ghost use Rattle.vm_space.specs.Placing.{IsFirstFit, IsLength};
@@ -18,8 +19,8 @@ const SIZES: usize = 258;
 /// The pages that are free while extents come and go.
 #[derive(Drop)]
 pub struct FreeSpace {
-    // For each page, how many of the extents that are taken lie on it: extents of a file may overlap. A page behind the last
-    // one is free.
+    // For each page, how many of the extents that are taken lie on it: extents of a file may overlap. A page behind the
+    // last one is free.
     counts: Vec<u16>,
     // For each number of pages, one before which so many are free nowhere.
     hints: [u32; SIZES],
@@ -48,13 +49,14 @@ impl FreeSpace {
         }
     }
 
-    /// One more extent is taken, of 1 to 257 pages; others may lie there too. Memory goes to pages behind all that were taken
-    /// so far.
+    /// One more extent is taken, of 1 to 257 pages; others may lie there too. Memory goes to pages behind all that were
+    /// taken so far.
     pub fn hold(&mut self, extent: Extent) -> Result<(), AllocError>
         requires few { self.old.count < MOST_EXTENTS }
         requires behind_slots { 2 ≤ extent.page }
         requires in_range { IsLength extent.length }
-        ensures held { OnOk result ((taken : List Extent) → AreTaken taken self.old → AreTaken (extent ∷ taken) self.new) }
+        ensures held { OnOk result ((taken : List Extent) →
+            AreTaken taken self.old → AreTaken (extent ∷ taken) self.new) }
         ensures count { OnOk result (self.new.count ≡ self.old.count + 1) }
         ensures refused { OnErr result (self.new ≡ self.old) }
     {
@@ -70,7 +72,8 @@ impl FreeSpace {
     pub fn take(&mut self, len: u32) -> Result<Extent, AllocError>
         requires few { self.old.count < MOST_EXTENTS }
         requires in_range { IsLength len }
-        ensures placed { IfOk result (λ extent. (taken : List Extent) → AreTaken taken self.old → IsFirstFit taken len extent × AreTaken (extent ∷ taken) self.new) }
+        ensures placed { IfOk result (λ extent. (taken : List Extent) → AreTaken taken self.old →
+            IsFirstFit taken len extent × AreTaken (extent ∷ taken) self.new) }
         ensures count { OnOk result (self.new.count ≡ self.old.count + 1) }
         ensures refused { OnErr result (self.new ≡ self.old) }
     {

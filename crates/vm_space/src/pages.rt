@@ -1,4 +1,4 @@
-// Extents counted in pages.
+//! Extents counted in pages.
 ghost use Rattle.std.specs.Prelude.{◌≡◌, ◌^◌, ◌<◌};
 ghost use Rattle.geos_model.specs.File as file;
 ghost use Rattle.geos_model.specs.File.{pages_of, end_page, last_page_of};
@@ -39,8 +39,8 @@ fn last_page(version: u8) -> u32
     }
 }
 
-/// Whether an extent lies behind the slots of a file of `file_length` bytes, within the file, and below the last page of a file of
-/// this version.
+/// Whether an extent lies behind the slots of a file of `file_length` bytes, within the file, and below the last page of
+/// a file of this version.
 pub fn is_in_file(extent: Extent, file_length: u64, version: u8) -> bool
     ensures { result ≡ file.is_in_file version file_length extent }
 {

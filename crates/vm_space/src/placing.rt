@@ -1,11 +1,12 @@
+//! The first free extent of a length, found in one pass over those that are taken.
 ghost use Rattle.std.specs.Prelude.{◌≤◌, length};
 ghost use Rattle.vm_space.specs.Placing.{AreExtents, AreInOrder, IsFirstFit, IsLength};
 
 use crate::pages::{FIRST_PAGE, page_behind, page_count};
 use geos_model::{Extent, MOST_BLOCKS};
 
-/// How many extents may be taken: those of the blocks of seven documents, and four directories. Whichever they are, the first fit lies
-/// below `LAST_PAGE`.
+/// How many extents may be taken: those of the blocks of seven documents, and four directories. Whichever they are, the
+/// first fit lies below `LAST_PAGE`.
 pub const MOST_EXTENTS: usize = 7 * MOST_BLOCKS as usize + 4;
 
 /// The first free extent of `len` bytes, behind the slots: in one pass over the extents that are taken, with no memory.

@@ -6,14 +6,14 @@ use Rattle.lmem_heap.proofs.Exchanging.{exchanged, exchange_resized}
 use Rattle.lmem_heap.proofs.space.Space.exchange.Goals.{After-word_in-size}
 use Rattle.lmem_heap.proofs.space.Space.exchange.Goals as goal
 
-piece : (c : After-word_in-size) → IsLivePiece c.args.self.now (loose_kept c.requires.loose) c.args.i c.word_in-p.result c.word_in-size.result
-piece c = piece_read (loose_kept c.requires.loose) c.args.i c.word_in-p.result c.word_in-size.result c.requires.slot c.requires.live c.word_in-p.ensures.value c.word_in-size.ensures.value
+piece : (c : After-word_in-size) → IsLivePiece c.args.self.now (loose_kept c.requires.loose) c.args.i c.entry-p.result c.word_in-size.result
+piece c = piece_read (loose_kept c.requires.loose) c.args.i c.entry-p.result c.word_in-size.result c.requires.slot c.requires.live c.entry-p.ensures.value c.word_in-size.ensures.value
 
-pub word_in-p-requires : goal.word_in-p-requires
-word_in-p-requires c = omega (arith, entry_ends (loose_kept c.requires.loose) c.args.i c.requires.slot)
+pub entry-p-requires : goal.entry-p-requires
+entry-p-requires c = omega (arith, entry_ends (loose_kept c.requires.loose) c.args.i c.requires.slot)
 
 pub word_in-size-requires : goal.word_in-size-requires
-word_in-size-requires c = head_ends (loose_kept c.requires.loose) c.args.i c.word_in-p.result c.requires.slot c.requires.live c.word_in-p.ensures.value
+word_in-size-requires c = head_ends (loose_kept c.requires.loose) c.args.i c.entry-p.result c.requires.slot c.requires.live c.entry-p.ensures.value
 
 pub set_word-requires-clause-within : goal.set_word-requires-clause-within
 set_word-requires-clause-within c = omega (arith, (piece (goal.at.set_word-requires-clause-within c).After-word_in-size).ends)
@@ -24,29 +24,29 @@ set_word-requires-clause-small c = omega (arith, (piece (goal.at.set_word-requir
 pub set_word-requires-clause-long : goal.set_word-requires-clause-long
 set_word-requires-clause-long c = c.requires.loose.held.tiled.long
 
+pub set_entry-requires-clause-within : goal.set_entry-requires-clause-within
+set_entry-requires-clause-within c = omega (arith, entry_ends (loose_kept c.requires.loose) c.args.i c.requires.slot)
+
+pub set_entry-requires-clause-long : goal.set_entry-requires-clause-long
+set_entry-requires-clause-long c = c.set_word.ensures.long ∙ c.requires.loose.held.tiled.long
+
 pub set_word-requires-2-clause-within : goal.set_word-requires-2-clause-within
-set_word-requires-2-clause-within c = omega (arith, entry_ends (loose_kept c.requires.loose) c.args.i c.requires.slot)
+set_word-requires-2-clause-within c = let room = loose_room c.requires.loose in omega (arith)
+
+pub set_word-requires-2-clause-small : goal.set_word-requires-2-clause-small
+set_word-requires-2-clause-small c = let room = loose_room c.requires.loose in omega (arith)
 
 pub set_word-requires-2-clause-long : goal.set_word-requires-2-clause-long
-set_word-requires-2-clause-long c = c.set_word.ensures.long ∙ c.requires.loose.held.tiled.long
+set_word-requires-2-clause-long c = c.set_entry.ensures.long ∙ (c.set_word.ensures.long ∙ c.requires.loose.held.tiled.long)
 
-pub set_word-requires-3-clause-within : goal.set_word-requires-3-clause-within
-set_word-requires-3-clause-within c = let room = loose_room c.requires.loose in omega (arith)
+pub set_entry-requires-2-clause-within : goal.set_entry-requires-2-clause-within
+set_entry-requires-2-clause-within c = omega (arith, entry_ends (loose_kept c.requires.loose) c.args.i c.requires.slot)
 
-pub set_word-requires-3-clause-small : goal.set_word-requires-3-clause-small
-set_word-requires-3-clause-small c = let room = loose_room c.requires.loose in omega (arith)
+pub set_entry-requires-2-clause-small : goal.set_entry-requires-2-clause-small
+set_entry-requires-2-clause-small c = let room = loose_room c.requires.loose in omega (arith)
 
-pub set_word-requires-3-clause-long : goal.set_word-requires-3-clause-long
-set_word-requires-3-clause-long c = c.set_word-2.ensures.long ∙ (c.set_word.ensures.long ∙ c.requires.loose.held.tiled.long)
-
-pub set_word-requires-4-clause-within : goal.set_word-requires-4-clause-within
-set_word-requires-4-clause-within c = omega (arith, entry_ends (loose_kept c.requires.loose) c.args.i c.requires.slot)
-
-pub set_word-requires-4-clause-small : goal.set_word-requires-4-clause-small
-set_word-requires-4-clause-small c = let room = loose_room c.requires.loose in omega (arith)
-
-pub set_word-requires-4-clause-long : goal.set_word-requires-4-clause-long
-set_word-requires-4-clause-long c = c.set_word-3.ensures.long ∙ (c.set_word-2.ensures.long ∙ (c.set_word.ensures.long ∙ c.requires.loose.held.tiled.long))
+pub set_entry-requires-2-clause-long : goal.set_entry-requires-2-clause-long
+set_entry-requires-2-clause-long c = c.set_word-2.ensures.long ∙ (c.set_entry.ensures.long ∙ (c.set_word.ensures.long ∙ c.requires.loose.held.tiled.long))
 
 pub overflow_sub-self : goal.overflow_sub-self
 overflow_sub-self c = rw c.piece_space-room.ensures (piece (goal.at.overflow_sub-self c).After-word_in-size).less
@@ -59,8 +59,8 @@ overflow_add-self c = let k = loose_kept c.requires.loose in let room = loose_ro
 
 pub returns-clause-loose : goal.returns-clause-loose
 returns-clause-loose c =
-    rw (c.piece_space-room.ensures, c.piece_space.ensures) (exchanged c.args.self.now c.args.i c.word_in-p.result c.args.q c.word_in-size.result c.args.n (piece_space c.args.n) _ c.requires.loose (piece (goal.at.returns-clause-loose c).After-word_in-size) c.requires.slot c.requires.some refl c.requires.ready c.set_word.new.region c.set_word-2.new.region c.set_word-3.new.region c.set_word-4.new.region (rw c.piece_space-room.ensures at c.set_word.ensures) c.set_word-2.ensures c.set_word-3.ensures c.set_word-4.ensures refl)
+    rw (c.piece_space-room.ensures, c.piece_space.ensures) (exchanged c.args.self.now c.args.i c.entry-p.result c.args.q c.word_in-size.result c.args.n (piece_space c.args.n) _ c.requires.loose (piece (goal.at.returns-clause-loose c).After-word_in-size) c.requires.slot c.requires.some refl c.requires.ready c.set_word.new.region c.set_entry.new.region c.set_word-2.new.region c.set_entry-2.new.region (rw c.piece_space-room.ensures at c.set_word.ensures) c.set_entry.ensures c.set_word-2.ensures c.set_entry-2.ensures refl)
 
 pub returns-clause-resized : goal.returns-clause-resized
 returns-clause-resized c =
-    rw (c.piece_space-room.ensures, c.piece_space.ensures) (exchange_resized c.args.self.now c.args.i c.word_in-p.result c.args.q c.word_in-size.result c.args.n (piece_space c.args.n) _ c.requires.loose (piece (goal.at.returns-clause-resized c).After-word_in-size) c.requires.slot c.requires.some refl c.requires.ready c.set_word.new.region c.set_word-2.new.region c.set_word-3.new.region c.set_word-4.new.region (rw c.piece_space-room.ensures at c.set_word.ensures) c.set_word-2.ensures c.set_word-3.ensures c.set_word-4.ensures refl)
+    rw (c.piece_space-room.ensures, c.piece_space.ensures) (exchange_resized c.args.self.now c.args.i c.entry-p.result c.args.q c.word_in-size.result c.args.n (piece_space c.args.n) _ c.requires.loose (piece (goal.at.returns-clause-resized c).After-word_in-size) c.requires.slot c.requires.some refl c.requires.ready c.set_word.new.region c.set_entry.new.region c.set_word-2.new.region c.set_entry-2.new.region (rw c.piece_space-room.ensures at c.set_word.ensures) c.set_entry.ensures c.set_word-2.ensures c.set_entry-2.ensures refl)

@@ -1,22 +1,17 @@
-use Rattle.std.proofs.Common.{◌≡◌, ◌+◌, ℕ, ap, refl, arith}
-use Rattle.lmem_heap.specs.Pieces.{entry}
-use Rattle.lmem_heap.proofs.Known.{entry_ends, head_ends, read_entry, piece_read}
-use Rattle.lmem_heap.proofs.space.Space.find_run.Goals.{After-word_in-p}
+use Rattle.std.proofs.Common.{◌+◌, ℕ, ap, refl, arith}
+use Rattle.lmem_heap.proofs.Known.{entry_ends, head_ends, piece_read}
 use Rattle.lmem_heap.proofs.space.Space.find_run.Goals as goal
 
-read : (c : After-word_in-p) → c.word_in-p.result ≡ entry c.args.self.now.region c.args.i
-read c = read_entry c.args.self.now c.args.i c.word_in-p.result c.word_in-p.ensures.value
-
-pub word_in-p-requires : goal.word_in-p-requires
-word_in-p-requires c = omega (arith, entry_ends c.requires.kept c.args.i c.requires.slot)
+pub entry-p-requires : goal.entry-p-requires
+entry-p-requires c = omega (arith, entry_ends c.requires.kept c.args.i c.requires.slot)
 
 pub word_in-requires : goal.word_in-requires
-word_in-requires c = let is = read (goal.at.word_in-requires c).After-word_in-p in head_ends c.requires.kept c.args.i c.word_in-p.result c.requires.slot (omega (arith, is, c.if-p-gt-EMPTY.true)) c.word_in-p.ensures.value
+word_in-requires c = let is = c.entry-p.ensures.value in head_ends c.requires.kept c.args.i c.entry-p.result c.requires.slot (omega (arith, is, c.if-p-gt-EMPTY.true)) c.entry-p.ensures.value
 
 pub returns-then-p-gt-EMPTY : goal.returns-then-p-gt-EMPTY
 returns-then-p-gt-EMPTY c =
-    let is = read (goal.at.returns-then-p-gt-EMPTY c).After-word_in-p in
-    let f = piece_read c.requires.kept c.args.i c.word_in-p.result c.word_in.result c.requires.slot (omega (arith, is, c.if-p-gt-EMPTY.true)) c.word_in-p.ensures.value c.word_in.ensures.value in
+    let is = c.entry-p.ensures.value in
+    let f = piece_read c.requires.kept c.args.i c.entry-p.result c.word_in.result c.requires.slot (omega (arith, is, c.if-p-gt-EMPTY.true)) c.entry-p.ensures.value c.word_in.ensures.value in
     record {
       ends = omega (arith, f.ends);
       none = λ dead. absurd (omega (arith, is, c.if-p-gt-EMPTY.true));
@@ -24,4 +19,4 @@ returns-then-p-gt-EMPTY c =
     }
 
 pub returns-else-p-gt-EMPTY : goal.returns-else-p-gt-EMPTY
-returns-else-p-gt-EMPTY c = let is = read (goal.at.returns-else-p-gt-EMPTY c).After-word_in-p in record { ends = omega arith; none = λ dead. refl; some = λ live. absurd (omega (arith, is, c.if-p-gt-EMPTY.false)) }
+returns-else-p-gt-EMPTY c = let is = c.entry-p.ensures.value in record { ends = omega arith; none = λ dead. refl; some = λ live. absurd (omega (arith, is, c.if-p-gt-EMPTY.false)) }

@@ -5,14 +5,14 @@ use Rattle.lmem_heap.proofs.Gapping.{gap_opened, gap_open_chunks, gap_entries}
 use Rattle.lmem_heap.proofs.space.Space.open_gap.Goals.{After-word_in-n}
 use Rattle.lmem_heap.proofs.space.Space.open_gap.Goals as goal
 
-piece : (c : After-word_in-n) → IsLivePiece c.args.self.now c.requires.kept c.args.i c.word_in-p.result c.word_in-n.result
-piece c = piece_read c.requires.kept c.args.i c.word_in-p.result c.word_in-n.result c.requires.slot c.requires.live c.word_in-p.ensures.value c.word_in-n.ensures.value
+piece : (c : After-word_in-n) → IsLivePiece c.args.self.now c.requires.kept c.args.i c.entry-p.result c.word_in-n.result
+piece c = piece_read c.requires.kept c.args.i c.entry-p.result c.word_in-n.result c.requires.slot c.requires.live c.entry-p.ensures.value c.word_in-n.ensures.value
 
-pub word_in-p-requires : goal.word_in-p-requires
-word_in-p-requires c = omega (arith, entry_ends c.requires.kept c.args.i c.requires.slot)
+pub entry-p-requires : goal.entry-p-requires
+entry-p-requires c = omega (arith, entry_ends c.requires.kept c.args.i c.requires.slot)
 
 pub word_in-n-requires : goal.word_in-n-requires
-word_in-n-requires c = head_ends c.requires.kept c.args.i c.word_in-p.result c.requires.slot c.requires.live c.word_in-p.ensures.value
+word_in-n-requires c = head_ends c.requires.kept c.args.i c.entry-p.result c.requires.slot c.requires.live c.entry-p.ensures.value
 
 pub overflow_sub-end : goal.overflow_sub-end
 overflow_sub-end c = let f = piece (goal.at.overflow_sub-end c).After-word_in-n in omega (arith, f.place)
@@ -54,8 +54,8 @@ lower_entries-requires-clause-some c = omega (arith, (piece (goal.at.lower_entri
 
 pub returns-clause-next : goal.returns-clause-next
 returns-clause-next c =
-    gap_opened c.args.self.now c.requires.kept c.slide.new.region c.set_word.new.region c.lower_entries.new.region c.args.i c.word_in-p.result c.word_in-n.result c.args.room c.requires.packed (piece (goal.at.returns-clause-next c).After-word_in-n) c.requires.slot c.requires.some c.requires.whole c.requires.fits (rw c.piece_space.ensures at c.slide.ensures) (rw c.piece_space.ensures at c.set_word.ensures) (rw c.piece_space.ensures at c.lower_entries.ensures)
+    gap_opened c.args.self.now c.requires.kept c.slide.new.region c.set_word.new.region c.lower_entries.new.region c.args.i c.entry-p.result c.word_in-n.result c.args.room c.requires.packed (piece (goal.at.returns-clause-next c).After-word_in-n) c.requires.slot c.requires.some c.requires.whole c.requires.fits (rw c.piece_space.ensures at c.slide.ensures) (rw c.piece_space.ensures at c.set_word.ensures) (rw c.piece_space.ensures at c.lower_entries.ensures)
 
 pub returns-clause-chunks : goal.returns-clause-chunks
 returns-clause-chunks c =
-    gap_open_chunks c.args.self.now c.requires.kept c.slide.new.region c.set_word.new.region c.lower_entries.new.region c.args.i c.word_in-p.result c.word_in-n.result c.args.room c.requires.packed (piece (goal.at.returns-clause-chunks c).After-word_in-n) c.requires.slot c.requires.some c.requires.whole c.requires.fits (rw c.piece_space.ensures at c.slide.ensures) (rw c.piece_space.ensures at c.set_word.ensures) (rw c.piece_space.ensures at c.lower_entries.ensures)
+    gap_open_chunks c.args.self.now c.requires.kept c.slide.new.region c.set_word.new.region c.lower_entries.new.region c.args.i c.entry-p.result c.word_in-n.result c.args.room c.requires.packed (piece (goal.at.returns-clause-chunks c).After-word_in-n) c.requires.slot c.requires.some c.requires.whole c.requires.fits (rw c.piece_space.ensures at c.slide.ensures) (rw c.piece_space.ensures at c.set_word.ensures) (rw c.piece_space.ensures at c.lower_entries.ensures)

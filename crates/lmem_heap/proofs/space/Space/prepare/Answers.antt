@@ -5,14 +5,14 @@ use Rattle.lmem_heap.proofs.Exchanging.{copied_loose, copied_still, ready_bytes}
 use Rattle.lmem_heap.proofs.space.Space.prepare.Goals.{After-word_in-size}
 use Rattle.lmem_heap.proofs.space.Space.prepare.Goals as goal
 
-piece : (c : After-word_in-size) → IsLivePiece c.args.self.now (loose_kept c.requires.loose) c.args.i c.word_in-p.result c.word_in-size.result
-piece c = piece_read (loose_kept c.requires.loose) c.args.i c.word_in-p.result c.word_in-size.result c.requires.slot c.requires.live c.word_in-p.ensures.value c.word_in-size.ensures.value
+piece : (c : After-word_in-size) → IsLivePiece c.args.self.now (loose_kept c.requires.loose) c.args.i c.entry-p.result c.word_in-size.result
+piece c = piece_read (loose_kept c.requires.loose) c.args.i c.entry-p.result c.word_in-size.result c.requires.slot c.requires.live c.entry-p.ensures.value c.word_in-size.ensures.value
 
-pub word_in-p-requires : goal.word_in-p-requires
-word_in-p-requires c = omega (arith, entry_ends (loose_kept c.requires.loose) c.args.i c.requires.slot)
+pub entry-p-requires : goal.entry-p-requires
+entry-p-requires c = omega (arith, entry_ends (loose_kept c.requires.loose) c.args.i c.requires.slot)
 
 pub word_in-size-requires : goal.word_in-size-requires
-word_in-size-requires c = head_ends (loose_kept c.requires.loose) c.args.i c.word_in-p.result c.requires.slot c.requires.live c.word_in-p.ensures.value
+word_in-size-requires c = head_ends (loose_kept c.requires.loose) c.args.i c.entry-p.result c.requires.slot c.requires.live c.entry-p.ensures.value
 
 pub copy_piece-requires-clause-source : goal.copy_piece-requires-clause-source
 copy_piece-requires-clause-source c = omega (arith, (piece (goal.at.copy_piece-requires-clause-source c).After-word_in-size).ends)
@@ -34,4 +34,4 @@ returns-clause-still c = copied_still c.args.self.now c.args.q c.args.n c.requir
 
 pub returns-clause-ready : goal.returns-clause-ready
 returns-clause-ready c =
-    ready_bytes c.args.self.now (loose_kept c.requires.loose) c.copy_piece.new.region c.args.i c.word_in-p.result c.args.q c.word_in-size.result c.args.n (piece (goal.at.returns-clause-ready c).After-word_in-size) c.requires.slot c.copy_piece.ensures (copied_still c.args.self.now c.args.q c.args.n c.requires.loose c.copy_piece.ensures).chunks
+    ready_bytes c.args.self.now (loose_kept c.requires.loose) c.copy_piece.new.region c.args.i c.entry-p.result c.args.q c.word_in-size.result c.args.n (piece (goal.at.returns-clause-ready c).After-word_in-size) c.requires.slot c.copy_piece.ensures (copied_still c.args.self.now c.args.q c.args.n c.requires.loose c.copy_piece.ensures).chunks

@@ -6,17 +6,17 @@ use Rattle.lmem_heap.proofs.Sizing.{refitted, refit_resized}
 use Rattle.lmem_heap.proofs.space.Space.refit.Goals.{After-word_in-size}
 use Rattle.lmem_heap.proofs.space.Space.refit.Goals as goal
 
-piece : (c : After-word_in-size) → IsLivePiece c.args.self.now c.requires.kept c.args.i c.word_in-p.result c.word_in-size.result
-piece c = piece_read c.requires.kept c.args.i c.word_in-p.result c.word_in-size.result c.requires.slot c.requires.live c.word_in-p.ensures.value c.word_in-size.ensures.value
+piece : (c : After-word_in-size) → IsLivePiece c.args.self.now c.requires.kept c.args.i c.entry-p.result c.word_in-size.result
+piece c = piece_read c.requires.kept c.args.i c.entry-p.result c.word_in-size.result c.requires.slot c.requires.live c.entry-p.ensures.value c.word_in-size.ensures.value
 
 same : (c : After-word_in-size) → piece_space c.args.n ≡ piece_space c.word_in-size.result
 same c = c.requires.same ∙ ap piece_space (sym (piece c).value)
 
-pub word_in-p-requires : goal.word_in-p-requires
-word_in-p-requires c = omega (arith, entry_ends c.requires.kept c.args.i c.requires.slot)
+pub entry-p-requires : goal.entry-p-requires
+entry-p-requires c = omega (arith, entry_ends c.requires.kept c.args.i c.requires.slot)
 
 pub word_in-size-requires : goal.word_in-size-requires
-word_in-size-requires c = head_ends c.requires.kept c.args.i c.word_in-p.result c.requires.slot c.requires.live c.word_in-p.ensures.value
+word_in-size-requires c = head_ends c.requires.kept c.args.i c.entry-p.result c.requires.slot c.requires.live c.entry-p.ensures.value
 
 pub set_size-requires-clause-within : goal.set_size-requires-clause-within
 set_size-requires-clause-within c = omega (arith, (piece (goal.at.set_size-requires-clause-within c).After-word_in-size).ends, same (goal.at.set_size-requires-clause-within c).After-word_in-size)
@@ -29,8 +29,8 @@ set_size-requires-clause-long c = c.requires.kept.held.tiled.long
 
 pub returns-clause-kept : goal.returns-clause-kept
 returns-clause-kept c =
-    refitted c.args.self.now c.requires.kept c.set_size.new.region c.args.i c.word_in-p.result c.word_in-size.result c.args.n (piece (goal.at.returns-clause-kept c).After-word_in-size) c.requires.slot c.requires.some (same (goal.at.returns-clause-kept c).After-word_in-size) c.set_size.ensures
+    refitted c.args.self.now c.requires.kept c.set_size.new.region c.args.i c.entry-p.result c.word_in-size.result c.args.n (piece (goal.at.returns-clause-kept c).After-word_in-size) c.requires.slot c.requires.some (same (goal.at.returns-clause-kept c).After-word_in-size) c.set_size.ensures
 
 pub returns-clause-resized : goal.returns-clause-resized
 returns-clause-resized c =
-    refit_resized c.args.self.now c.requires.kept c.set_size.new.region c.args.i c.word_in-p.result c.word_in-size.result c.args.n (piece (goal.at.returns-clause-resized c).After-word_in-size) c.requires.slot c.requires.some (same (goal.at.returns-clause-resized c).After-word_in-size) c.set_size.ensures
+    refit_resized c.args.self.now c.requires.kept c.set_size.new.region c.args.i c.entry-p.result c.word_in-size.result c.args.n (piece (goal.at.returns-clause-resized c).After-word_in-size) c.requires.slot c.requires.some (same (goal.at.returns-clause-resized c).After-word_in-size) c.set_size.ensures

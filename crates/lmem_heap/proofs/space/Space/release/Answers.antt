@@ -6,14 +6,14 @@ use Rattle.lmem_heap.proofs.Known.{entry_ends, head_ends, piece_read}
 use Rattle.lmem_heap.proofs.space.Space.release.Goals.{After-word_in-n}
 use Rattle.lmem_heap.proofs.space.Space.release.Goals as goal
 
-piece : (c : After-word_in-n) → IsLivePiece c.args.self.now c.requires.kept c.args.i c.word_in-p.result c.word_in-n.result
-piece c = piece_read c.requires.kept c.args.i c.word_in-p.result c.word_in-n.result c.requires.slot c.requires.live c.word_in-p.ensures.value c.word_in-n.ensures.value
+piece : (c : After-word_in-n) → IsLivePiece c.args.self.now c.requires.kept c.args.i c.entry-p.result c.word_in-n.result
+piece c = piece_read c.requires.kept c.args.i c.entry-p.result c.word_in-n.result c.requires.slot c.requires.live c.entry-p.ensures.value c.word_in-n.ensures.value
 
-pub word_in-p-requires : goal.word_in-p-requires
-word_in-p-requires c = omega (arith, entry_ends c.requires.kept c.args.i c.requires.slot)
+pub entry-p-requires : goal.entry-p-requires
+entry-p-requires c = omega (arith, entry_ends c.requires.kept c.args.i c.requires.slot)
 
 pub word_in-n-requires : goal.word_in-n-requires
-word_in-n-requires c = head_ends c.requires.kept c.args.i c.word_in-p.result c.requires.slot c.requires.live c.word_in-p.ensures.value
+word_in-n-requires c = head_ends c.requires.kept c.args.i c.entry-p.result c.requires.slot c.requires.live c.entry-p.ensures.value
 
 pub set_word-requires-clause-within : goal.set_word-requires-clause-within
 set_word-requires-clause-within c = omega (arith, (piece (goal.at.set_word-requires-clause-within c).After-word_in-n).ends)
@@ -24,25 +24,25 @@ set_word-requires-clause-small c = omega (arith, (piece (goal.at.set_word-requir
 pub set_word-requires-clause-long : goal.set_word-requires-clause-long
 set_word-requires-clause-long c = c.requires.kept.held.tiled.long
 
-pub set_word-requires-2-clause-within : goal.set_word-requires-2-clause-within
-set_word-requires-2-clause-within c = omega (arith, entry_ends c.requires.kept c.args.i c.requires.slot)
+pub set_entry-requires-clause-within : goal.set_entry-requires-clause-within
+set_entry-requires-clause-within c = omega (arith, entry_ends c.requires.kept c.args.i c.requires.slot)
 
-pub set_word-requires-2-clause-long : goal.set_word-requires-2-clause-long
-set_word-requires-2-clause-long c = let long = c.requires.kept.held.tiled.long in omega (arith, c.set_word.ensures.long)
+pub set_entry-requires-clause-long : goal.set_entry-requires-clause-long
+set_entry-requires-clause-long c = let long = c.requires.kept.held.tiled.long in omega (arith, c.set_word.ensures.long)
 
 pub overflow_sub-self : goal.overflow_sub-self
 overflow_sub-self c = rw c.piece_space-room.ensures (piece (goal.at.overflow_sub-self c).After-word_in-n).less
 
 pub returns-clause-loose : goal.returns-clause-loose
 returns-clause-loose c =
-    rw c.piece_space-room.ensures (piece_space c.word_in-n.result, released c.args.self.now c.requires.kept c.set_word.new.region c.set_word-2.new.region c.word_in-p.result c.args.i c.word_in-n.result c.args.e _ (piece (goal.at.returns-clause-loose c).After-word_in-n) c.requires.slot c.requires.dead (rw c.piece_space-room.ensures at c.set_word.ensures) c.set_word-2.ensures refl)
+    rw c.piece_space-room.ensures (piece_space c.word_in-n.result, released c.args.self.now c.requires.kept c.set_word.new.region c.set_entry.new.region c.entry-p.result c.args.i c.word_in-n.result c.args.e _ (piece (goal.at.returns-clause-loose c).After-word_in-n) c.requires.slot c.requires.dead (rw c.piece_space-room.ensures at c.set_word.ensures) c.set_entry.ensures refl)
 
 pub returns-clause-changed : goal.returns-clause-changed
 returns-clause-changed c =
-    rw c.piece_space-room.ensures (release_changed c.args.self.now c.requires.kept c.set_word.new.region c.set_word-2.new.region c.word_in-p.result c.args.i c.word_in-n.result c.args.e _ (piece (goal.at.returns-clause-changed c).After-word_in-n) c.requires.slot c.requires.dead (rw c.piece_space-room.ensures at c.set_word.ensures) c.set_word-2.ensures refl)
+    rw c.piece_space-room.ensures (release_changed c.args.self.now c.requires.kept c.set_word.new.region c.set_entry.new.region c.entry-p.result c.args.i c.word_in-n.result c.args.e _ (piece (goal.at.returns-clause-changed c).After-word_in-n) c.requires.slot c.requires.dead (rw c.piece_space-room.ensures at c.set_word.ensures) c.set_entry.ensures refl)
 
 pub returns-clause-total : goal.returns-clause-total
 returns-clause-total c = let f = piece (goal.at.returns-clause-total c).After-word_in-n in omega (arith, f.less, f.value)
 
 pub returns-clause-entry : goal.returns-clause-entry
-returns-clause-entry c = entry_set c.args.i c.set_word-2.ensures refl
+returns-clause-entry c = entry_set c.args.i c.set_entry.ensures refl

@@ -6,17 +6,17 @@ use Rattle.lmem_heap.proofs.Sizing.{shortened, short_resized}
 use Rattle.lmem_heap.proofs.space.Space.shorten.Goals.{After-word_in-size}
 use Rattle.lmem_heap.proofs.space.Space.shorten.Goals as goal
 
-piece : (c : After-word_in-size) → IsLivePiece c.args.self.now c.requires.kept c.args.i c.word_in-p.result c.word_in-size.result
-piece c = piece_read c.requires.kept c.args.i c.word_in-p.result c.word_in-size.result c.requires.slot c.requires.live c.word_in-p.ensures.value c.word_in-size.ensures.value
+piece : (c : After-word_in-size) → IsLivePiece c.args.self.now c.requires.kept c.args.i c.entry-p.result c.word_in-size.result
+piece c = piece_read c.requires.kept c.args.i c.entry-p.result c.word_in-size.result c.requires.slot c.requires.live c.entry-p.ensures.value c.word_in-size.ensures.value
 
 less : (c : After-word_in-size) → piece_space c.args.n < piece_space c.word_in-size.result
 less c = omega (arith, (piece c).value, c.requires.less)
 
-pub word_in-p-requires : goal.word_in-p-requires
-word_in-p-requires c = omega (arith, entry_ends c.requires.kept c.args.i c.requires.slot)
+pub entry-p-requires : goal.entry-p-requires
+entry-p-requires c = omega (arith, entry_ends c.requires.kept c.args.i c.requires.slot)
 
 pub word_in-size-requires : goal.word_in-size-requires
-word_in-size-requires c = head_ends c.requires.kept c.args.i c.word_in-p.result c.requires.slot c.requires.live c.word_in-p.ensures.value
+word_in-size-requires c = head_ends c.requires.kept c.args.i c.entry-p.result c.requires.slot c.requires.live c.entry-p.ensures.value
 
 pub piece_space-kept-requires : goal.piece_space-kept-requires
 piece_space-kept-requires c = omega (arith, (piece (goal.at.piece_space-kept-requires c).After-word_in-size).ends, less (goal.at.piece_space-kept-requires c).After-word_in-size)
@@ -53,8 +53,8 @@ overflow_add-result c = record { fits = omega (arith, (piece (goal.at.overflow_a
 
 pub returns-clause-loose : goal.returns-clause-loose
 returns-clause-loose c =
-    rw (c.piece_space-kept.ensures, c.piece_space.ensures) (shortened c.args.self.now c.requires.kept c.set_size.new.region c.set_word.new.region c.args.i c.word_in-p.result c.word_in-size.result c.args.n (piece (goal.at.returns-clause-loose c).After-word_in-size) c.requires.slot c.requires.some (less (goal.at.returns-clause-loose c).After-word_in-size) c.set_size.ensures (rw (c.piece_space-kept.ensures, c.piece_space.ensures) at c.set_word.ensures))
+    rw (c.piece_space-kept.ensures, c.piece_space.ensures) (shortened c.args.self.now c.requires.kept c.set_size.new.region c.set_word.new.region c.args.i c.entry-p.result c.word_in-size.result c.args.n (piece (goal.at.returns-clause-loose c).After-word_in-size) c.requires.slot c.requires.some (less (goal.at.returns-clause-loose c).After-word_in-size) c.set_size.ensures (rw (c.piece_space-kept.ensures, c.piece_space.ensures) at c.set_word.ensures))
 
 pub returns-clause-resized : goal.returns-clause-resized
 returns-clause-resized c =
-    rw (c.piece_space-kept.ensures, c.piece_space.ensures) (short_resized c.args.self.now c.requires.kept c.set_size.new.region c.set_word.new.region c.args.i c.word_in-p.result c.word_in-size.result c.args.n (piece (goal.at.returns-clause-resized c).After-word_in-size) c.requires.slot c.requires.some (less (goal.at.returns-clause-resized c).After-word_in-size) c.set_size.ensures (rw (c.piece_space-kept.ensures, c.piece_space.ensures) at c.set_word.ensures))
+    rw (c.piece_space-kept.ensures, c.piece_space.ensures) (short_resized c.args.self.now c.requires.kept c.set_size.new.region c.set_word.new.region c.args.i c.entry-p.result c.word_in-size.result c.args.n (piece (goal.at.returns-clause-resized c).After-word_in-size) c.requires.slot c.requires.some (less (goal.at.returns-clause-resized c).After-word_in-size) c.set_size.ensures (rw (c.piece_space-kept.ensures, c.piece_space.ensures) at c.set_word.ensures))

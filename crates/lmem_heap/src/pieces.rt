@@ -1,0 +1,159 @@
+//! The allocator of pieces: a free one is made below the others, or found in the list, taken out and cut, or put back.
+ghost use Rattle.std.specs.Prelude.{◌≡◌, ◌⊎◌, ◌+◌, ◌-◌, ◌*◌, ◌/◌, ◌≤◌, ◌<◌, ℕ, MatchOption};
+ghost use Rattle.lmem_heap.specs.Pieces.{word_in, entry};
+ghost use Rattle.lmem_heap.specs.Tiled.{chunks_in, table_end};
+ghost use Rattle.lmem_heap.specs.Kept.{IsKept, IsLoose, HasNone, HasFree, IsLinked, IsStill};
+
+use crate::sizes::table_end;
+use crate::space::Space;
+use crate::words::{set_word, word_in};
+
+impl Space {
+    /// A free piece of this room is made below the others.
+    pub(crate) fn extend(&mut self, room: usize) -> usize
+        requires kept { IsKept self.old }
+        requires some { 0 < room }
+        requires whole { room ≡ 4 * (room / 4) }
+        requires fits { table_end self.old.slots + room ≤ self.old.low }
+        ensures loose { IsLoose self.new result room }
+        ensures still { IsStill self.old self.new }
+        ensures low { self.new.low ≡ self.old.low - room }
+    {
+        self.low -= room;
+        set_word(&mut self.region, self.low, room + 1);
+        self.low
+    }
+
+    /// The first free piece of the list that has this room. None where none of the first `LOOKS` pieces has it.
+    fn find_fit(&self, room: usize) -> Option<Fit>
+        requires { IsKept self.now }
+        ensures { MatchOption result (HasNone self.now room) (λ fit. IsLinked self.now fit.prev fit.place × (room < word_in self.now.region fit.place)) }
+    {
+        let mut prev = 0;
+        let mut place = self.head;
+        for _seen in 0..LOOKS {
+            if place == 0 {
+                return None;
+            }
+            if word_in(&self.region, place) > room {
+                return Some(Fit { prev, place });
+            }
+            prev = place;
+            place = word_in(&self.region, place + 2);
+        }
+        None
+    }
+
+    /// Takes a free piece out of the list.
+    fn unlink(&mut self, prev: usize, place: usize)
+        requires { IsLinked self.old prev place }
+        ensures loose { IsLoose self.new place (word_in self.old.region place - 1) }
+        ensures still { IsStill self.old self.new }
+        ensures low { self.new.low ≡ self.old.low }
+    {
+        let next = word_in(&self.region, place + 2);
+        if prev == 0 {
+            self.head = next;
+        } else {
+            set_word(&mut self.region, prev + 2, next);
+        }
+    }
+
+    /// Cuts room off the end of a free piece.
+    fn cut(&mut self, place: usize, space: usize, room: usize) -> usize
+        requires free { HasFree self.old place space }
+        requires some { 0 < room }
+        requires less { room < space }
+        requires whole { room ≡ 4 * (room / 4) }
+        ensures loose { IsLoose self.new result room }
+        ensures still { IsStill self.old self.new }
+        ensures low { self.new.low ≡ self.old.low }
+    {
+        let rest = space - room;
+        set_word(&mut self.region, place, rest + 1);
+        set_word(&mut self.region, place + rest, room + 1);
+        place + rest
+    }
+
+    /// Takes free room out of the list: a piece of it, or the end of a larger one. None where none of the first `LOOKS`
+    /// pieces has the room.
+    pub(crate) fn take(&mut self, room: usize) -> Option<usize>
+        requires kept { IsKept self.old }
+        requires some { 0 < room }
+        requires whole { room ≡ 4 * (room / 4) }
+        ensures taken { MatchOption result ((self.new ≡ self.old) × HasNone self.old room) (λ p. IsLoose self.new p room × IsStill self.old self.new × (self.new.low ≡ self.old.low)) }
+    {
+        match self.find_fit(room) {
+            Some(Fit { prev, place }) => {
+                let space = word_in(&self.region, place) - 1;
+                if space == room {
+                    self.unlink(prev, place);
+                    Some(place)
+                } else {
+                    Some(self.cut(place, space, room))
+                }
+            }
+            None => None,
+        }
+    }
+
+    /// Puts a free piece at the head of the list.
+    pub(crate) fn push(&mut self, p: usize)
+        requires { (room : ℕ) × IsLoose self.old p room }
+        ensures kept { IsKept self.new }
+        ensures still { IsStill self.old self.new }
+        ensures low { self.new.low ≡ self.old.low }
+    {
+        set_word(&mut self.region, p + 2, self.head);
+        self.head = p;
+    }
+
+    /// A free piece of this room, in no list: one below the others while the table leaves the room there, which takes no
+    /// search, and then one of the list. None where neither is found.
+    pub(crate) fn find_room(&mut self, room: usize) -> Option<usize>
+        requires kept { IsKept self.old }
+        requires some { 0 < room }
+        requires whole { room ≡ 4 * (room / 4) }
+        ensures found { MatchOption result ((self.new ≡ self.old) × HasNone self.old room × (self.old.low < table_end self.old.slots + room)) (λ p. IsLoose self.new p room × IsStill self.old self.new) }
+    {
+        if self.low - table_end(self.slots) >= room {
+            Some(self.extend(room))
+        } else {
+            self.take(room)
+        }
+    }
+
+    /// A free piece of this room, in no list. Where none is found the chunks are packed first.
+    pub(crate) fn room_for(&mut self, room: usize) -> usize
+        requires kept { IsKept self.old }
+        requires some { 0 < room }
+        requires whole { room ≡ 4 * (room / 4) }
+        requires fits { table_end self.old.slots + self.old.total + room ≤ 65520 }
+        ensures loose { IsLoose self.new result room }
+        ensures spared { IsStill self.old self.new ⊎ (HasNone self.old room × (self.old.low < table_end self.old.slots + room)) }
+        ensures slots { self.new.slots ≡ self.old.slots }
+        ensures total { self.new.total ≡ self.old.total }
+        ensures chunks { chunks_in self.new.region self.new.slots ≡ chunks_in self.old.region self.old.slots }
+        ensures dead { (j : ℕ) → j < self.old.slots → entry self.old.region j ≤ 1 → entry self.new.region j ≡ entry self.old.region j }
+    {
+        match self.find_room(room) {
+            Some(p) => p,
+            None => {
+                self.compact();
+                self.extend(room)
+            }
+        }
+    }
+}
+
+/// How many pieces of the free list a search looks at. A list whose first so many pieces lack the room is walked in vain
+/// again and again. Packing ends it, and is paid for by the chunks that were freed, cut short or moved since the last
+/// time: each of these put one piece on the list.
+const LOOKS: usize = 128;
+
+/// A free piece of the list, and the one before it, or 0.
+#[derive(Clone, Copy)]
+struct Fit {
+    prev: usize,
+    place: usize,
+}
