@@ -113,12 +113,15 @@ fn bytes_after(
     new: Option<NewElement<'_>>,
     len: usize,
 ) -> Result<Vec<u8>, AllocError>
+    // Which elements go.
     requires order { from ≤ to }
     requires within { to ≤ length view.now.array.elements }
+    // What comes.
     requires extra { length first.now ≤ length view.now.array.extra }
     requires even { is_even (rewritten view.now.array (extra_after view.now.array first.now) from to new) ≡ true }
     requires len { len ≡ length (array_bytes (rewritten view.now.array (extra_after view.now.array first.now) from to new)) }
     requires fits { len ≤ longest_chunk }
+    // What the bytes become.
     ensures { IfOk result (λ out. out.items ≡ array_bytes (rewritten view.now.array (extra_after view.now.array first.now) from to new.entry)) }
 {
     let count = count_after(view, from, to, new);

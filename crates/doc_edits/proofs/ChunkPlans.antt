@@ -15,7 +15,7 @@ use Rattle.geos_model.specs.declared.handle.ChunkHandle.{ChunkHandle}
 use Rattle.geos_model.specs.declared.handle.VmHandle.{VmHandle}
 use Rattle.chunk_edits.specs.Splicing.{forwards}
 use Rattle.chunk_edits.specs.declared.splice.Splice.{Splice}
-use Rattle.lmem_heap.proofs.Heaps.{fits_new-some, fits_new-none}
+use Rattle.lmem_heap.proofs.PlacedLemmas.{fits_new-some, fits_new-none}
 use Rattle.vm_blocks.proofs.RoomLemmas.{fits_as, fits_few}
 use Rattle.vm_blocks.specs.Allowing.{AllowsNewChunk}
 use Rattle.vm_blocks.specs.Changes.{bytes_of}

@@ -35,7 +35,7 @@ pub record IsPacked (xs ys : List ℕ) (low delta : ℕ) (cs : List Piece) : Typ
   pub others : (j : ℕ) → IsFresh j (used cs) → 18 + 2 * j ≤ low → entry ys j ≡ entry xs j
 
 -- the pieces lie from `low` to the end with their slots' handles, and the table has the sizes: ready to be packed
-pub record IsSwapped (xs : List ℕ) (low delta : ℕ) (cs : List Piece) : Type 0 where
+pub record IsReadyToPack (xs : List ℕ) (low delta : ℕ) (cs : List Piece) : Type 0 where
   pub long : length xs ≡ 65520
   pub lies : Lies handle_head xs low cs 65520
   pub points : Points size_of xs low cs
@@ -44,7 +44,7 @@ pub record IsSwapped (xs : List ℕ) (low delta : ℕ) (cs : List Piece) : Type 
   pub room : low + spaces (used cs) + delta ≡ 65520
 
 -- the chunks that lie first, up to `end`, have their sizes back, and entries of a place `delta` further up; the pieces behind them wait
-pub record IsRun (xs ys : List ℕ) (start delta : ℕ) (cs : List Piece) (end : ℕ) : Type 0 where
+pub record IsRunPacked (xs ys : List ℕ) (start delta : ℕ) (cs : List Piece) (end : ℕ) : Type 0 where
   pub run : List Piece
   pub rest : List Piece
   pub whole : run ++ rest ≡ cs

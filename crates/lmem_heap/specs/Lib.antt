@@ -1,7 +1,7 @@
 pub mod Pieces
 pub mod Edits
 pub mod Tiled
-pub mod Kept
+pub mod Space
 pub mod Packed
 pub mod Slots
 pub mod HeapImage

@@ -4,7 +4,7 @@ use Rattle.std.specs.List.{range_with_len}
 use Rattle.geos_model.specs.Heap.{space_of}
 use Rattle.lmem_heap.specs.Pieces.{entry}
 use Rattle.lmem_heap.specs.Tiled.{chunks_in, offset_under}
-use Rattle.lmem_heap.specs.Kept.{IsKept}
+use Rattle.lmem_heap.specs.Space.{IsWellFormed}
 use Rattle.lmem_heap.specs.Slots.{space_in}
 use Rattle.lmem_heap.specs.declared.space.Space.{Space}
 
@@ -23,7 +23,7 @@ store_of xs t = record { chunks = chunks_in xs t; offsets = offsets_in xs t }
 
 -- what a table keeps: its space, with a count of what the chunks take
 pub record IsStored (s : Space) : Type 0 where
-  pub kept : IsKept s
+  pub well_formed : IsWellFormed s
   pub count : s.total ≡ space_in (chunks_in s.region s.slots)
 
 -- chunks that take so much lie at the end of the region: none begins before its last so many bytes

@@ -4,7 +4,7 @@ ghost use Rattle.lmem_heap.specs.Pieces.{word_in, entry, piece_space};
 ghost use Rattle.geos_model.specs.Heap.{space_of};
 ghost use Rattle.geos_model.proofs.Table.{slot_space};
 ghost use Rattle.lmem_heap.specs.Tiled.{chunk_under, chunks_in, table_end};
-ghost use Rattle.lmem_heap.specs.Kept.{IsKept, IsLoose, IsChanged};
+ghost use Rattle.lmem_heap.specs.Space.{IsWellFormed, IsDetached, IsChanged, HasSameChunks, room_of};
 
 use crate::sizes::{piece_space, table_end};
 use crate::space::Space;
@@ -13,15 +13,12 @@ use crate::words::{EMPTY, entry, entry_at, set_entry, set_word, word_in, zero};
 impl Space {
     /// Makes room for a table of `t` slots below the pieces, by packing the chunks where there is less.
     pub(crate) fn open_below(&mut self, t: usize)
-        requires kept { IsKept self.old }
+        requires well_formed { IsWellFormed self.old }
         requires fits { table_end t + self.old.total ≤ 65520 }
-        ensures kept { IsKept self.new }
+        ensures well_formed { IsWellFormed self.new }
         ensures room { table_end t ≤ self.new.low }
         ensures spared { (self.new ≡ self.old) ⊎ (self.old.low < table_end t) }
-        ensures slots { self.new.slots ≡ self.old.slots }
-        ensures total { self.new.total ≡ self.old.total }
-        ensures chunks { chunks_in self.new.region self.new.slots ≡ chunks_in self.old.region self.old.slots }
-        ensures dead { (j : ℕ) → j < self.old.slots → entry self.old.region j ≤ 1 → entry self.new.region j ≡ entry self.old.region j }
+        ensures same { HasSameChunks self.old self.new }
     {
         if table_end(t) > self.low {
             self.compact();
@@ -30,14 +27,18 @@ impl Space {
 
     /// Opens slots up to `t`, each with no chunk.
     pub(crate) fn lengthen(&mut self, t: usize)
-        requires kept { IsKept self.old }
+        // The longer table.
+        requires well_formed { IsWellFormed self.old }
         requires more { self.old.slots ≤ t }
         requires room { table_end t ≤ self.old.low }
-        ensures kept { IsKept self.new }
+        // The chunks are the same, and new slots have none.
+        ensures well_formed { IsWellFormed self.new }
         ensures slots { self.new.slots ≡ t }
-        ensures chunks { chunks_in self.new.region t ≡ chunks_in self.old.region self.old.slots ++ replicate (t - self.old.slots) None }
+        ensures chunks { chunks_in self.new.region t ≡
+            chunks_in self.old.region self.old.slots ++ replicate (t - self.old.slots) None }
         ensures entries { (j : ℕ) → j < self.old.slots → entry self.new.region j ≡ entry self.old.region j }
         ensures new { (j : ℕ) → self.old.slots ≤ j → j < t → entry self.new.region j ≡ 0 }
+        // No piece moves.
         ensures low { self.new.low ≡ self.old.low }
         ensures total { self.new.total ≡ self.old.total }
     {
@@ -48,13 +49,16 @@ impl Space {
 
     /// Leaves off the last slots with no chunk.
     pub(crate) fn trim(&mut self)
-        requires { IsKept self.old }
-        ensures kept { IsKept self.new }
+        requires { IsWellFormed self.old }
+        // Which slots are left off.
+        ensures well_formed { IsWellFormed self.new }
         ensures less { self.new.slots ≤ self.old.slots }
         ensures region { self.new.region ≡ self.old.region }
         ensures none { (j : ℕ) → self.new.slots ≤ j → j < self.old.slots → entry self.old.region j ≡ 0 }
         ensures last { 0 < self.new.slots → 0 < entry self.old.region (self.new.slots - 1) }
-        ensures chunks { chunks_in self.new.region self.new.slots ≡ take self.new.slots (chunks_in self.old.region self.old.slots) }
+        // What stays.
+        ensures chunks { chunks_in self.new.region self.new.slots ≡
+            take self.new.slots (chunks_in self.old.region self.old.slots) }
         ensures low { self.new.low ≡ self.old.low }
         ensures total { self.new.total ≡ self.old.total }
     {
@@ -70,13 +74,17 @@ impl Space {
 
     /// A chunk of `n` zeros for a slot with no bytes, in a free piece that the list lacks.
     fn fill(&mut self, p: usize, i: usize, n: usize)
-        requires loose { IsLoose self.old p (piece_space n) }
+        // The piece.
+        requires detached { IsDetached self.old p (piece_space n) }
+        // The slot, and the size.
         requires slot { i < self.old.slots }
         requires none { entry self.old.region i ≤ 1 }
         requires some { 0 < n }
-        ensures kept { IsKept self.new }
+        // The slot has the chunk.
+        ensures well_formed { IsWellFormed self.new }
         ensures changed { IsChanged self.old self.new i (Some (replicate n 0)) }
         ensures place { entry self.new.region i ≡ p }
+        // What the chunks take, from where on.
         ensures total { self.new.total ≡ self.old.total + piece_space n }
         ensures low { self.new.low ≡ self.old.low }
     {
@@ -88,14 +96,18 @@ impl Space {
 
     /// The piece of a slot's chunk becomes free, in no list; the entry becomes `e`, for no chunk or an empty one.
     fn release(&mut self, i: usize, e: usize) -> usize
-        requires kept { IsKept self.old }
+        // The slot, and its new entry.
+        requires well_formed { IsWellFormed self.old }
         requires slot { i < self.old.slots }
         requires live { 1 < entry self.old.region i }
         requires dead { e ≤ 1 }
-        ensures loose { (room : ℕ) × IsLoose self.new result room }
+        // The piece.
+        ensures detached { (room : ℕ) × IsDetached self.new result room }
+        // The slot has no bytes.
         ensures changed { IsChanged self.old self.new i (if e == 0 then None else Some []) }
         ensures entry { entry self.new.region i ≡ e }
-        ensures total { self.new.total + piece_space (word_in self.old.region (entry self.old.region i)) ≡ self.old.total }
+        // What the chunks take, from where on.
+        ensures total { self.new.total + room_of self.old i ≡ self.old.total }
         ensures low { self.new.low ≡ self.old.low }
     {
         let p = entry(&self.region, i);
@@ -109,13 +121,16 @@ impl Space {
 
     /// The entry of a slot with no bytes becomes `e`, for no chunk or an empty one.
     fn set_dead(&mut self, i: usize, e: usize)
-        requires kept { IsKept self.old }
+        // The slot, and its new entry.
+        requires well_formed { IsWellFormed self.old }
         requires slot { i < self.old.slots }
         requires none { entry self.old.region i ≤ 1 }
         requires dead { e ≤ 1 }
-        ensures kept { IsKept self.new }
+        // The slot has no bytes.
+        ensures well_formed { IsWellFormed self.new }
         ensures changed { IsChanged self.old self.new i (if e == 0 then None else Some []) }
         ensures entry { entry self.new.region i ≡ e }
+        // What the chunks take, from where on.
         ensures total { self.new.total ≡ self.old.total }
         ensures low { self.new.low ≡ self.old.low }
     {
@@ -124,14 +139,17 @@ impl Space {
 
     /// A chunk of `n` zeros for a slot with none or an empty one.
     pub(crate) fn place(&mut self, i: usize, n: usize)
-        requires kept { IsKept self.old }
+        // The slot, and the room.
+        requires well_formed { IsWellFormed self.old }
         requires slot { i < self.old.slots }
         requires none { entry self.old.region i ≤ 1 }
         requires fits { table_end self.old.slots + self.old.total + space_of n ≤ 65520 }
-        ensures kept { IsKept self.new }
+        // The slot has the chunk.
+        ensures well_formed { IsWellFormed self.new }
         ensures slots { self.new.slots ≡ self.old.slots }
         ensures total { self.new.total ≡ self.old.total + space_of n }
-        ensures chunks { chunks_in self.new.region self.new.slots ≡ set (chunks_in self.old.region self.old.slots) i (Some (replicate n 0)) }
+        ensures chunks { chunks_in self.new.region self.new.slots ≡
+            set (chunks_in self.old.region self.old.slots) i (Some (replicate n 0)) }
     {
         if n == 0 {
             self.set_dead(i, EMPTY);
@@ -143,13 +161,17 @@ impl Space {
 
     /// A slot's chunk is freed: the slot has none, or an empty one. Every other chunk stays where it lies.
     pub(crate) fn vacate(&mut self, i: usize, e: usize)
-        requires kept { IsKept self.old }
+        // The slot, and its new entry.
+        requires well_formed { IsWellFormed self.old }
         requires slot { i < self.old.slots }
         requires dead { e ≤ 1 }
-        ensures kept { IsKept self.new }
+        // The slot has no bytes.
+        ensures well_formed { IsWellFormed self.new }
         ensures changed { IsChanged self.old self.new i (if e == 0 then None else Some []) }
         ensures entry { entry self.new.region i ≡ e }
-        ensures total { self.new.total + slot_space (chunk_under self.old.region (entry self.old.region i)) ≡ self.old.total }
+        // What the chunks take, from where on.
+        ensures total { self.new.total + slot_space (chunk_under self.old.region (entry self.old.region i)) ≡
+            self.old.total }
         ensures low { self.new.low ≡ self.old.low }
     {
         if entry(&self.region, i) > EMPTY {

@@ -191,8 +191,10 @@ impl Heap {
     pub fn replace(&mut self, h: ChunkHandle, at: usize, k: usize, new: &[u8])
         requires live { IsTrue (contains_key self.old.chunks h.0) }
         requires range { at + k ≤ length (chunk_bytes self.old.chunks h.0) }
-        requires fits { IsTrue (fits_with self.old.chunks h.0 (splice (chunk_bytes self.old.chunks h.0) at (at + k) new.now)) }
-        ensures { self.new.chunks ≡ insert self.old.chunks h.0 (splice (chunk_bytes self.old.chunks h.0) at (at + k) new.now) }
+        requires fits { IsTrue
+            (fits_with self.old.chunks h.0 (splice (chunk_bytes self.old.chunks h.0) at (at + k) new.now)) }
+        ensures { self.new.chunks ≡
+            insert self.old.chunks h.0 (splice (chunk_bytes self.old.chunks h.0) at (at + k) new.now) }
     {
         self.table.replace(slot(h), at, k, new);
     }
@@ -241,7 +243,8 @@ impl Heap {
     pub fn write(&mut self, h: ChunkHandle, at: usize, bytes: &[u8])
         requires live { IsTrue (contains_key self.old.chunks h.0) }
         requires range { at + length bytes.now ≤ length (chunk_bytes self.old.chunks h.0) }
-        ensures chunks { self.new.chunks ≡ insert self.old.chunks h.0 (splice (chunk_bytes self.old.chunks h.0) at (at + length bytes.now) bytes.now) }
+        ensures chunks { self.new.chunks ≡
+            insert self.old.chunks h.0 (splice (chunk_bytes self.old.chunks h.0) at (at + length bytes.now) bytes.now) }
         ensures places { self.new.places ≡ self.old.places }
     {
         self.table.write(slot(h), at, bytes);
@@ -285,7 +288,8 @@ impl Heap {
     pub fn from_image(alloc: Global, bytes: &[u8]) -> Result<Heap, Fault>
         ensures ok { IfOk result (λ h. (image (bodies.Heap h.chunks) ≡ bytes.now) × (is_heap_map h.chunks ≡ true)) }
         ensures err { IfErr result (λ fault. (fault ≡ Fault.Memory)
-            ⊎ ((fault ≡ Fault.Damaged) × ((m : ChunkMap) → is_heap_map m ≡ true → image (bodies.Heap m) ≡ bytes.now → ⊥))) }
+            ⊎ ((fault ≡ Fault.Damaged) ×
+            ((m : ChunkMap) → is_heap_map m ≡ true → image (bodies.Heap m) ≡ bytes.now → ⊥))) }
     {
         let slots = match heap_slots(bytes) {
             Some(slots) => slots,
@@ -301,7 +305,8 @@ impl Heap {
     /// memory is taken.
     pub fn of_image(region: Region, bytes: &[u8]) -> Result<Heap, Region>
         ensures ok { IfOk result (λ h. (image (bodies.Heap h.chunks) ≡ bytes.now) × (is_heap_map h.chunks ≡ true)) }
-        ensures err { IfErr result (λ r. (r ≡ region) × ((m : ChunkMap) → is_heap_map m ≡ true → image (bodies.Heap m) ≡ bytes.now → ⊥)) }
+        ensures err { IfErr result (λ r. (r ≡ region) ×
+            ((m : ChunkMap) → is_heap_map m ≡ true → image (bodies.Heap m) ≡ bytes.now → ⊥)) }
     {
         match heap_slots(bytes) {
             Some(slots) => Ok(Heap::unpacked(region, bytes, slots)),

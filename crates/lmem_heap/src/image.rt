@@ -180,12 +180,15 @@ pub(crate) fn unpack(region: Region, rest: &[u8], slots: usize) -> Table
 
 /// The chunk of a slot, if it has one, whose bytes begin at `at`. Says where they end.
 fn unpack_slot(table: &mut Table, rest: &[u8], slots: usize, i: usize, at: usize) -> usize
+    // What is unpacked.
     requires table { IsTable slots rest.now }
     requires slot { i < slots }
     requires count { length table.old.chunks ≡ slots }
+    // Where it goes.
     requires none { get_or table.old.chunks i None ≡ None }
     requires begins { at ≡ 2 * slots + length (chunks (take i (slots_in slots rest.now))) }
     requires room { need_in (set table.old.chunks i (get_or (slots_in slots rest.now) i None)) ≤ 65520 }
+    // What is left to unpack.
     ensures filled { table.new.chunks ≡ set table.old.chunks i (get_or (slots_in slots rest.now) i None) }
     ensures ends { result ≡ 2 * slots + length (chunks (take (i + 1) (slots_in slots rest.now))) }
 {

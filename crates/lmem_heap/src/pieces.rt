@@ -2,7 +2,7 @@
 ghost use Rattle.std.specs.Prelude.{◌≡◌, ◌⊎◌, ◌+◌, ◌-◌, ◌*◌, ◌/◌, ◌≤◌, ◌<◌, ℕ, MatchOption};
 ghost use Rattle.lmem_heap.specs.Pieces.{word_in, entry};
 ghost use Rattle.lmem_heap.specs.Tiled.{chunks_in, table_end};
-ghost use Rattle.lmem_heap.specs.Kept.{IsKept, IsLoose, HasNone, HasFree, IsLinked, IsStill};
+ghost use Rattle.lmem_heap.specs.Space.{IsWellFormed, IsDetached, HasNone, HasFree, IsLinked, IsUnmoved, HasSameChunks};
 
 use crate::sizes::table_end;
 use crate::space::Space;
@@ -11,12 +11,14 @@ use crate::words::{set_word, word_in};
 impl Space {
     /// A free piece of this room is made below the others.
     pub(crate) fn extend(&mut self, room: usize) -> usize
-        requires kept { IsKept self.old }
+        // The room.
+        requires well_formed { IsWellFormed self.old }
         requires some { 0 < room }
         requires whole { room ≡ 4 * (room / 4) }
         requires fits { table_end self.old.slots + room ≤ self.old.low }
-        ensures loose { IsLoose self.new result room }
-        ensures still { IsStill self.old self.new }
+        // The piece.
+        ensures detached { IsDetached self.new result room }
+        ensures unmoved { IsUnmoved self.old self.new }
         ensures low { self.new.low ≡ self.old.low - room }
     {
         self.low -= room;
@@ -26,8 +28,10 @@ impl Space {
 
     /// The first free piece of the list that has this room. None where none of the first `LOOKS` pieces has it.
     fn find_fit(&self, room: usize) -> Option<Fit>
-        requires { IsKept self.now }
-        ensures { MatchOption result (HasNone self.now room) (λ fit. IsLinked self.now fit.prev fit.place × (room < word_in self.now.region fit.place)) }
+        requires { IsWellFormed self.now }
+        ensures { MatchOption result
+            (HasNone self.now room)
+            (λ fit. IsLinked self.now fit.prev fit.place × (room < word_in self.now.region fit.place)) }
     {
         let mut prev = 0;
         let mut place = self.head;
@@ -47,8 +51,8 @@ impl Space {
     /// Takes a free piece out of the list.
     fn unlink(&mut self, prev: usize, place: usize)
         requires { IsLinked self.old prev place }
-        ensures loose { IsLoose self.new place (word_in self.old.region place - 1) }
-        ensures still { IsStill self.old self.new }
+        ensures detached { IsDetached self.new place (word_in self.old.region place - 1) }
+        ensures unmoved { IsUnmoved self.old self.new }
         ensures low { self.new.low ≡ self.old.low }
     {
         let next = word_in(&self.region, place + 2);
@@ -61,12 +65,14 @@ impl Space {
 
     /// Cuts room off the end of a free piece.
     fn cut(&mut self, place: usize, space: usize, room: usize) -> usize
+        // The piece, and the room.
         requires free { HasFree self.old place space }
         requires some { 0 < room }
         requires less { room < space }
         requires whole { room ≡ 4 * (room / 4) }
-        ensures loose { IsLoose self.new result room }
-        ensures still { IsStill self.old self.new }
+        // What is cut off.
+        ensures detached { IsDetached self.new result room }
+        ensures unmoved { IsUnmoved self.old self.new }
         ensures low { self.new.low ≡ self.old.low }
     {
         let rest = space - room;
@@ -78,10 +84,12 @@ impl Space {
     /// Takes free room out of the list: a piece of it, or the end of a larger one. None where none of the first `LOOKS`
     /// pieces has the room.
     pub(crate) fn take(&mut self, room: usize) -> Option<usize>
-        requires kept { IsKept self.old }
+        requires well_formed { IsWellFormed self.old }
         requires some { 0 < room }
         requires whole { room ≡ 4 * (room / 4) }
-        ensures taken { MatchOption result ((self.new ≡ self.old) × HasNone self.old room) (λ p. IsLoose self.new p room × IsStill self.old self.new × (self.new.low ≡ self.old.low)) }
+        ensures taken { MatchOption result
+            ((self.new ≡ self.old) × HasNone self.old room)
+            (λ p. IsDetached self.new p room × IsUnmoved self.old self.new × (self.new.low ≡ self.old.low)) }
     {
         match self.find_fit(room) {
             Some(Fit { prev, place }) => {
@@ -99,9 +107,9 @@ impl Space {
 
     /// Puts a free piece at the head of the list.
     pub(crate) fn push(&mut self, p: usize)
-        requires { (room : ℕ) × IsLoose self.old p room }
-        ensures kept { IsKept self.new }
-        ensures still { IsStill self.old self.new }
+        requires { (room : ℕ) × IsDetached self.old p room }
+        ensures well_formed { IsWellFormed self.new }
+        ensures unmoved { IsUnmoved self.old self.new }
         ensures low { self.new.low ≡ self.old.low }
     {
         set_word(&mut self.region, p + 2, self.head);
@@ -111,10 +119,12 @@ impl Space {
     /// A free piece of this room, in no list: one below the others while the table leaves the room there, which takes no
     /// search, and then one of the list. None where neither is found.
     pub(crate) fn find_room(&mut self, room: usize) -> Option<usize>
-        requires kept { IsKept self.old }
+        requires well_formed { IsWellFormed self.old }
         requires some { 0 < room }
         requires whole { room ≡ 4 * (room / 4) }
-        ensures found { MatchOption result ((self.new ≡ self.old) × HasNone self.old room × (self.old.low < table_end self.old.slots + room)) (λ p. IsLoose self.new p room × IsStill self.old self.new) }
+        ensures found { MatchOption result
+            ((self.new ≡ self.old) × HasNone self.old room × (self.old.low < table_end self.old.slots + room))
+            (λ p. IsDetached self.new p room × IsUnmoved self.old self.new) }
     {
         if self.low - table_end(self.slots) >= room {
             Some(self.extend(room))
@@ -125,16 +135,17 @@ impl Space {
 
     /// A free piece of this room, in no list. Where none is found the chunks are packed first.
     pub(crate) fn room_for(&mut self, room: usize) -> usize
-        requires kept { IsKept self.old }
+        // The room.
+        requires well_formed { IsWellFormed self.old }
         requires some { 0 < room }
         requires whole { room ≡ 4 * (room / 4) }
         requires fits { table_end self.old.slots + self.old.total + room ≤ 65520 }
-        ensures loose { IsLoose self.new result room }
-        ensures spared { IsStill self.old self.new ⊎ (HasNone self.old room × (self.old.low < table_end self.old.slots + room)) }
-        ensures slots { self.new.slots ≡ self.old.slots }
-        ensures total { self.new.total ≡ self.old.total }
-        ensures chunks { chunks_in self.new.region self.new.slots ≡ chunks_in self.old.region self.old.slots }
-        ensures dead { (j : ℕ) → j < self.old.slots → entry self.old.region j ≤ 1 → entry self.new.region j ≡ entry self.old.region j }
+        // The piece.
+        ensures detached { IsDetached self.new result room }
+        // When chunks move.
+        ensures spared { IsUnmoved self.old self.new
+            ⊎ (HasNone self.old room × (self.old.low < table_end self.old.slots + room)) }
+        ensures same { HasSameChunks self.old self.new }
     {
         match self.find_room(room) {
             Some(p) => p,

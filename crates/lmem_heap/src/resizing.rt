@@ -2,7 +2,7 @@
 ghost use Rattle.std.specs.Prelude.{◌≡◌, ◌+◌, ◌-◌, ◌*◌, ◌/◌, ◌≤◌, ◌<◌, ℕ};
 ghost use Rattle.lmem_heap.specs.Pieces.{word_in, entry, piece_space};
 ghost use Rattle.lmem_heap.specs.Tiled.{chunks_in, table_end};
-ghost use Rattle.lmem_heap.specs.Kept.{IsKept, IsLoose, HasNext, IsStill, IsReady, IsResized};
+ghost use Rattle.lmem_heap.specs.Space.{IsWellFormed, IsDetached, HasNext, IsUnmoved, IsReady, IsResized, room_of};
 
 use crate::compaction::lower_entries;
 use crate::sizes::piece_space;
@@ -12,12 +12,15 @@ use crate::words::{NO_CHUNK, copy_piece, entry, set_entry, set_size, set_word, s
 impl Space {
     /// A slot's chunk gets `n` bytes where it lies, in a piece that is no larger and no smaller.
     pub(crate) fn refit(&mut self, i: usize, n: usize)
-        requires kept { IsKept self.old }
+        // A slot whose chunk has bytes.
+        requires well_formed { IsWellFormed self.old }
         requires slot { i < self.old.slots }
         requires live { 1 < entry self.old.region i }
+        // The new size.
         requires some { 0 < n }
-        requires same { piece_space n ≡ piece_space (word_in self.old.region (entry self.old.region i)) }
-        ensures kept { IsKept self.new }
+        requires same { piece_space n ≡ room_of self.old i }
+        // What it leaves.
+        ensures well_formed { IsWellFormed self.new }
         ensures resized { IsResized self.old self.new i n }
     {
         let p = entry(&self.region, i);
@@ -25,32 +28,36 @@ impl Space {
         set_size(&mut self.region, p, size, n);
     }
 
-    /// A slot's chunk gets `n` bytes where it lies, in a smaller piece. What is left of the old one becomes a free piece, in no list.
+    /// A slot's chunk gets `n` bytes where it lies, in a smaller piece. What is left of the old one becomes a free piece,
+    /// in no list.
     fn shorten(&mut self, i: usize, n: usize) -> usize
-        requires kept { IsKept self.old }
+        // A slot whose chunk has bytes.
+        requires well_formed { IsWellFormed self.old }
         requires slot { i < self.old.slots }
         requires live { 1 < entry self.old.region i }
+        // The new size.
         requires some { 0 < n }
-        requires less { piece_space n < piece_space (word_in self.old.region (entry self.old.region i)) }
-        ensures loose { IsLoose self.new result (piece_space (word_in self.old.region (entry self.old.region i)) - piece_space n) }
+        requires less { piece_space n < room_of self.old i }
+        // What it leaves.
+        ensures detached { IsDetached self.new result (room_of self.old i - piece_space n) }
         ensures resized { IsResized self.old self.new i n }
     {
         let p = entry(&self.region, i);
         let size = word_in(&self.region, p);
-        let kept = piece_space(n);
-        let rest = piece_space(size) - kept;
+        let room = piece_space(n);
+        let rest = piece_space(size) - room;
         set_size(&mut self.region, p, size, n);
-        set_word(&mut self.region, p + kept, rest + 1);
+        set_word(&mut self.region, p + room, rest + 1);
         self.total -= rest;
-        p + kept
+        p + room
     }
 
     /// A slot's chunk gets `n` bytes where it lies, with the free piece behind its own.
     fn absorb(&mut self, i: usize, n: usize)
         requires slot { i < self.old.slots }
-        requires more { piece_space (word_in self.old.region (entry self.old.region i)) < piece_space n }
-        requires next { HasNext self.old i (piece_space n - piece_space (word_in self.old.region (entry self.old.region i))) }
-        ensures kept { IsKept self.new }
+        requires more { room_of self.old i < piece_space n }
+        requires next { HasNext self.old i (piece_space n - room_of self.old i) }
+        ensures well_formed { IsWellFormed self.new }
         ensures resized { IsResized self.old self.new i n }
     {
         let p = entry(&self.region, i);
@@ -61,12 +68,15 @@ impl Space {
 
     /// The bytes of a slot's chunk are copied into a free piece that the list lacks, with zeros behind them up to `n`.
     fn prepare(&mut self, i: usize, q: usize, n: usize)
-        requires loose { IsLoose self.old q (piece_space n) }
+        // The free piece.
+        requires detached { IsDetached self.old q (piece_space n) }
+        // A slot whose chunk has bytes.
         requires slot { i < self.old.slots }
         requires live { 1 < entry self.old.region i }
         requires more { word_in self.old.region (entry self.old.region i) ≤ n }
-        ensures loose { IsLoose self.new q (piece_space n) }
-        ensures still { IsStill self.old self.new }
+        // What it leaves.
+        ensures detached { IsDetached self.new q (piece_space n) }
+        ensures unmoved { IsUnmoved self.old self.new }
         ensures ready { IsReady self.new i q n }
     {
         let p = entry(&self.region, i);
@@ -74,14 +84,19 @@ impl Space {
         copy_piece(&mut self.region, p, q, size, n);
     }
 
-    /// A free piece that the list lacks becomes that of a slot's chunk, with the `n` bytes that stand there. The one that it had becomes free, in no list.
+    /// A free piece that the list lacks becomes that of a slot's chunk, with the `n` bytes that stand there. The one that
+    /// it had becomes free, in no list.
     fn exchange(&mut self, i: usize, q: usize, n: usize) -> usize
-        requires loose { IsLoose self.old q (piece_space n) }
+        // The free piece.
+        requires detached { IsDetached self.old q (piece_space n) }
+        // A slot whose chunk has bytes.
         requires slot { i < self.old.slots }
         requires live { 1 < entry self.old.region i }
+        // The new size.
         requires some { 0 < n }
         requires ready { IsReady self.old i q n }
-        ensures loose { IsLoose self.new result (piece_space (word_in self.old.region (entry self.old.region i))) }
+        // What it leaves.
+        ensures detached { IsDetached self.new result (room_of self.old i) }
         ensures resized { IsResized self.old self.new i n }
     {
         let p = entry(&self.region, i);
@@ -97,12 +112,16 @@ impl Space {
 
     /// A slot's chunk gets `n` bytes, no fewer than it has, in a free piece that the list lacks.
     fn move_to(&mut self, i: usize, q: usize, n: usize)
-        requires loose { IsLoose self.old q (piece_space n) }
+        // The free piece.
+        requires detached { IsDetached self.old q (piece_space n) }
+        // A slot whose chunk has bytes.
         requires slot { i < self.old.slots }
         requires live { 1 < entry self.old.region i }
+        // The new size.
         requires some { 0 < n }
         requires more { word_in self.old.region (entry self.old.region i) ≤ n }
-        ensures kept { IsKept self.new }
+        // What it leaves.
+        ensures well_formed { IsWellFormed self.new }
         ensures resized { IsResized self.old self.new i n }
     {
         self.prepare(i, q, n);
@@ -110,14 +129,18 @@ impl Space {
         self.push(p);
     }
 
-    /// A slot's chunk gets `n` bytes, for which its piece is too small. It moves where such a piece is found, else the chunks are packed.
+    /// A slot's chunk gets `n` bytes, for which its piece is too small. It moves where such a piece is found, else the
+    /// chunks are packed.
     fn enlarge(&mut self, i: usize, n: usize)
-        requires kept { IsKept self.old }
+        // A slot whose chunk has bytes.
+        requires well_formed { IsWellFormed self.old }
         requires slot { i < self.old.slots }
         requires live { 1 < entry self.old.region i }
-        requires more { piece_space (word_in self.old.region (entry self.old.region i)) < piece_space n }
-        requires fits { table_end self.old.slots + self.old.total + piece_space n ≤ 65520 + piece_space (word_in self.old.region (entry self.old.region i)) }
-        ensures kept { IsKept self.new }
+        // The new size.
+        requires more { room_of self.old i < piece_space n }
+        requires fits { table_end self.old.slots + self.old.total + piece_space n ≤ 65520 + room_of self.old i }
+        // What it leaves.
+        ensures well_formed { IsWellFormed self.new }
         ensures resized { IsResized self.old self.new i n }
     {
         let room = piece_space(n);
@@ -129,13 +152,16 @@ impl Space {
 
     /// The same where it lies, when the chunks have been packed.
     fn enlarge_packed(&mut self, i: usize, n: usize, room: usize)
-        requires kept { IsKept self.old }
+        // A slot whose chunk has bytes.
+        requires well_formed { IsWellFormed self.old }
         requires slot { i < self.old.slots }
         requires live { 1 < entry self.old.region i }
-        requires more { piece_space (word_in self.old.region (entry self.old.region i)) < piece_space n }
-        requires fits { table_end self.old.slots + self.old.total + piece_space n ≤ 65520 + piece_space (word_in self.old.region (entry self.old.region i)) }
+        // The new size.
+        requires more { room_of self.old i < piece_space n }
+        requires fits { table_end self.old.slots + self.old.total + piece_space n ≤ 65520 + room_of self.old i }
         requires room { room ≡ piece_space n }
-        ensures kept { IsKept self.new }
+        // What it leaves.
+        ensures well_formed { IsWellFormed self.new }
         ensures resized { IsResized self.old self.new i n }
     {
         self.compact();
@@ -146,14 +172,18 @@ impl Space {
 
     /// The pieces up to a slot's go down, and a free piece of this room, in no list, opens behind it. No other is free.
     pub(crate) fn open_gap(&mut self, i: usize, room: usize)
-        requires kept { IsKept self.old }
+        // A slot whose chunk has bytes, where no piece is free.
+        requires well_formed { IsWellFormed self.old }
         requires packed { self.old.head ≡ 0 }
         requires slot { i < self.old.slots }
         requires live { 1 < entry self.old.region i }
+        // The room.
         requires some { 0 < room }
         requires whole { room ≡ 4 * (room / 4) }
         requires fits { table_end self.old.slots + room ≤ self.old.low }
+        // The gap.
         ensures next { HasNext self.new i room }
+        // The chunks are the same.
         ensures slots { self.new.slots ≡ self.old.slots }
         ensures total { self.new.total ≡ self.old.total }
         ensures chunks { chunks_in self.new.region self.new.slots ≡ chunks_in self.old.region self.old.slots }
@@ -171,12 +201,15 @@ impl Space {
 
     /// A slot's chunk with bytes is cut to `n` bytes, or gets zeros at its end.
     pub(crate) fn resize(&mut self, i: usize, n: usize)
-        requires kept { IsKept self.old }
+        // A slot whose chunk has bytes.
+        requires well_formed { IsWellFormed self.old }
         requires slot { i < self.old.slots }
         requires live { 1 < entry self.old.region i }
+        // The new size.
         requires some { 0 < n }
-        requires fits { table_end self.old.slots + self.old.total + piece_space n ≤ 65520 + piece_space (word_in self.old.region (entry self.old.region i)) }
-        ensures kept { IsKept self.new }
+        requires fits { table_end self.old.slots + self.old.total + piece_space n ≤ 65520 + room_of self.old i }
+        // What it leaves.
+        ensures well_formed { IsWellFormed self.new }
         ensures resized { IsResized self.old self.new i n }
     {
         let size = self.find_run(i).size;

@@ -3,7 +3,7 @@ ghost use Rattle.std.specs.Prelude.{◌≡◌, ◌+◌, ◌<◌, Some, None, IfS
 ghost use Rattle.lmem_heap.specs.Pieces.{word_in, entry};
 ghost use Rattle.std.specs.Option.{option_map, option_copied};
 ghost use Rattle.lmem_heap.specs.Tiled.{chunks_in, offset_under};
-ghost use Rattle.lmem_heap.specs.Kept.{IsRun, IsKept};
+ghost use Rattle.lmem_heap.specs.Space.{IsRunOf, IsWellFormed};
 
 use crate::words::{EMPTY, NO_CHUNK, entry, word_in};
 use raw_region::Region;
@@ -25,7 +25,7 @@ pub(crate) struct Space {
 impl Space {
     /// No slots and no pieces, in a region that may have any bytes: none is read before it is written.
     pub(crate) fn of_region(region: Region) -> Space
-        ensures kept { IsKept result }
+        ensures well_formed { IsWellFormed result }
         ensures slots { result.slots ≡ 0 }
         ensures total { result.total ≡ 0 }
     {
@@ -41,7 +41,7 @@ impl Space {
 
     /// Whether a slot has a chunk.
     pub(crate) fn has_chunk(&self, i: usize) -> bool
-        requires kept { IsKept self.now }
+        requires well_formed { IsWellFormed self.now }
         requires slot { i < self.now.slots }
         ensures { result ≡ is_some (get_or (chunks_in self.now.region self.now.slots) i None) }
     {
@@ -50,7 +50,7 @@ impl Space {
 
     /// The size of a slot's chunk.
     pub(crate) fn size(&self, i: usize) -> Option<usize>
-        requires kept { IsKept self.now }
+        requires well_formed { IsWellFormed self.now }
         requires slot { i < length (chunks_in self.now.region self.now.slots) }
         ensures { result ≡ option_map length (get_or (chunks_in self.now.region self.now.slots) i None) }
     {
@@ -66,10 +66,11 @@ impl Space {
 
     /// Where the bytes of a slot's chunk lie; None where it has none.
     pub(crate) fn offset(&self, i: usize) -> Option<usize>
-        requires kept { IsKept self.now }
+        requires well_formed { IsWellFormed self.now }
         requires slot { i < length (chunks_in self.now.region self.now.slots) }
         ensures place { result ≡ offset_under (entry self.now.region i) }
-        ensures stands { IfSome result (λ p. get_or (chunks_in self.now.region self.now.slots) i None ≡ Some (slice_range self.now.region p (p + word_in self.now.region (entry self.now.region i)))) }
+        ensures stands { IfSome result (λ p. get_or (chunks_in self.now.region self.now.slots) i None ≡
+            Some (slice_range self.now.region p (p + word_in self.now.region (entry self.now.region i)))) }
     {
         let p = entry(&self.region, i);
         if p > EMPTY { Some(p + 2) } else { None }
@@ -77,7 +78,7 @@ impl Space {
 
     /// The bytes of a slot's chunk.
     pub(crate) fn chunk(&self, i: usize) -> Option<&[u8]>
-        requires kept { IsKept self.now }
+        requires well_formed { IsWellFormed self.now }
         requires slot { i < length (chunks_in self.now.region self.now.slots) }
         ensures { option_copied result ≡ get_or (chunks_in self.now.region self.now.slots) i None }
     {
@@ -94,9 +95,9 @@ impl Space {
 
     /// Where the bytes of a slot's chunk lie, and how many there are; none where it has no piece.
     pub(crate) fn find_run(&self, i: usize) -> Run
-        requires kept { IsKept self.now }
+        requires well_formed { IsWellFormed self.now }
         requires slot { i < self.now.slots }
-        ensures { IsRun self.now.region i result.from result.size }
+        ensures { IsRunOf self.now.region i result.from result.size }
     {
         let p = entry(&self.region, i);
         if p > EMPTY {

@@ -169,7 +169,8 @@ impl Table {
         requires slot { i < length self.old.chunks }
         requires live { IsSome (get_or self.old.chunks i None) }
         requires range { at + length bytes.now ≤ length (unwrap_or (get_or self.old.chunks i None) []) }
-        ensures chunks { self.new.chunks ≡ set self.old.chunks i (Some (put (unwrap_or (get_or self.old.chunks i None) []) at bytes.now)) }
+        ensures chunks { self.new.chunks ≡
+            set self.old.chunks i (Some (put (unwrap_or (get_or self.old.chunks i None) []) at bytes.now)) }
         ensures offsets { self.new.offsets ≡ self.old.offsets }
     {
         let run = self.space.find_run(i);
@@ -189,7 +190,8 @@ impl Table {
     pub(crate) fn resize(&mut self, i: usize, n: usize)
         requires slot { i < length self.old.chunks }
         requires room { need_in (set self.old.chunks i (Some (resized (unwrap_or (get_or self.old.chunks i None) []) n))) ≤ 65520 }
-        ensures { self.new.chunks ≡ set self.old.chunks i (Some (resized (unwrap_or (get_or self.old.chunks i None) []) n)) }
+        ensures { self.new.chunks ≡
+            set self.old.chunks i (Some (resized (unwrap_or (get_or self.old.chunks i None) []) n)) }
     {
         let size = self.space.find_run(i).size;
         if n == 0 {
@@ -206,8 +208,10 @@ impl Table {
         requires slot { i < length self.old.chunks }
         requires live { IsSome (get_or self.old.chunks i None) }
         requires range { at + k ≤ length (unwrap_or (get_or self.old.chunks i None) []) }
-        requires room { need_in (set self.old.chunks i (Some (splice (unwrap_or (get_or self.old.chunks i None) []) at (at + k) new.now))) ≤ 65520 }
-        ensures { self.new.chunks ≡ set self.old.chunks i (Some (splice (unwrap_or (get_or self.old.chunks i None) []) at (at + k) new.now)) }
+        requires room { need_in (set self.old.chunks i
+            (Some (splice (unwrap_or (get_or self.old.chunks i None) []) at (at + k) new.now))) ≤ 65520 }
+        ensures { self.new.chunks ≡ set self.old.chunks i
+            (Some (splice (unwrap_or (get_or self.old.chunks i None) []) at (at + k) new.now)) }
     {
         let size = self.size_of(i);
         let end = size - k + new.len();
@@ -224,13 +228,18 @@ impl Table {
 
     /// Moves the bytes of a slot's chunk between two places behind what comes at `at`, and writes that.
     fn overlay(&mut self, i: usize, at: usize, from: usize, to: usize, new: &[u8])
+        // The chunk.
         requires slot { i < length self.old.chunks }
         requires live { IsSome (get_or self.old.chunks i None) }
+        // What moves, and where to.
         requires order { at ≤ from }
         requires forward { from ≤ to }
         requires within { to ≤ length (unwrap_or (get_or self.old.chunks i None) []) }
         requires room { at + length new.now + (to - from) ≤ length (unwrap_or (get_or self.old.chunks i None) []) }
-        ensures { let b = unwrap_or (get_or self.old.chunks i None) [] in self.new.chunks ≡ set self.old.chunks i (Some (put (put b (at + length new.now) (slice_range b from to)) at new.now)) }
+        // What the chunk becomes.
+        ensures { let b = unwrap_or (get_or self.old.chunks i None) [] in
+            self.new.chunks ≡
+            set self.old.chunks i (Some (put (put b (at + length new.now) (slice_range b from to)) at new.now)) }
     {
         // What is always so of the fields is known where one is named: a chunk is no longer than the region.
         let _ = &self.space;
@@ -244,7 +253,8 @@ impl Table {
         requires live { IsSome (get_or self.old.chunks i None) }
         requires source { from + n ≤ length (unwrap_or (get_or self.old.chunks i None) []) }
         requires target { to + n ≤ length (unwrap_or (get_or self.old.chunks i None) []) }
-        ensures chunks { let b = unwrap_or (get_or self.old.chunks i None) [] in self.new.chunks ≡ set self.old.chunks i (Some (put b to (slice_range b from (from + n)))) }
+        ensures chunks { let b = unwrap_or (get_or self.old.chunks i None) [] in
+            self.new.chunks ≡ set self.old.chunks i (Some (put b to (slice_range b from (from + n)))) }
         ensures offsets { self.new.offsets ≡ self.old.offsets }
     {
         let run = self.space.find_run(i);

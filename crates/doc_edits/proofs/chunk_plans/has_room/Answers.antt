@@ -2,7 +2,7 @@ use Rattle.std.proofs.Common.{◌≡◌, ◌+◌, ◌-◌, ℕ, List, [], Option
 use Rattle.geos_model.specs.Bytes.{resized}
 use Rattle.geos_model.specs.Heap.{chunk_bytes}
 use Rattle.chunk_edits.specs.Splicing.{forwards}
-use Rattle.lmem_heap.proofs.Heaps.{length-splice, length-resized}
+use Rattle.lmem_heap.proofs.PlacedLemmas.{length-splice, length-resized}
 use Rattle.vm_blocks.proofs.RoomLemmas.{fits_as}
 use Rattle.doc_edits.proofs.chunk_plans.has_room.Goals as goal
 

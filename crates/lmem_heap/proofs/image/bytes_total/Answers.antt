@@ -1,5 +1,5 @@
 use Rattle.std.proofs.Common.{arith, ◌∙◌}
-use Rattle.lmem_heap.proofs.PackedSlots.{counted, passed}
+use Rattle.lmem_heap.proofs.PackedLemmas.{counted, passed}
 use Rattle.lmem_heap.proofs.image.bytes_total.Goals as goal
 use Rattle.lmem_heap.proofs.image.bytes_total.Goals.{then-size, else-size}
 

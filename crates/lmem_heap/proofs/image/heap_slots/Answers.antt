@@ -3,8 +3,8 @@ use Rattle.std.proofs.lemmas.List.{length-drop}
 use Rattle.std.proofs.lemmas.Slice.{between_to_end}
 use Rattle.std.specs.List as list
 use Rattle.lmem_heap.specs.Packed.{slots_in}
-use Rattle.lmem_heap.proofs.PackedSlots.{length-slots_in}
-use Rattle.lmem_heap.proofs.Images.{no_image_begin, no_image_long, no_image_table, no_image_heap, heap_table, found_none, found_some}
+use Rattle.lmem_heap.proofs.PackedLemmas.{length-slots_in}
+use Rattle.lmem_heap.proofs.HeapImageLemmas.{no_image_begin, no_image_long, no_image_table, no_image_heap, heap_table, found_none, found_some}
 use Rattle.lmem_heap.proofs.image.heap_slots.Goals.{then-not-is_table-via-then-not-is_table, then-not-is_table-via-else-not-is_table+then-not-is_heap}
 use Rattle.lmem_heap.proofs.image.heap_slots.Goals as goal
 

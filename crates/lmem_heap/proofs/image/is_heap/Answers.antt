@@ -1,8 +1,8 @@
 use Rattle.std.proofs.Common.{◌≡◌, ◌-◌, ℕ, None, is_some, true, false, not, get_or, refl, sym, ap, ◌∙◌, arith}
 use Rattle.std.proofs.lemmas.Bool.{leb-true}
 use Rattle.lmem_heap.specs.Packed.{slots_in}
-use Rattle.lmem_heap.proofs.PackedSlots.{Opened, opened, length-slots_in}
-use Rattle.lmem_heap.proofs.Heaps.{some_by_size, none_by_size}
+use Rattle.lmem_heap.proofs.PackedLemmas.{Opened, opened, length-slots_in}
+use Rattle.lmem_heap.proofs.PlacedLemmas.{some_by_size, none_by_size}
 use Rattle.lmem_heap.proofs.image.is_heap.Goals.{else-slots-gt0-via-then-slots-gt0+else-is_none, else-slots-gt0-via-else-slots-gt0}
 use Rattle.lmem_heap.proofs.image.is_heap.Goals as goal
 

@@ -1,6 +1,6 @@
 use Rattle.std.proofs.Common.{◌-◌, ◌*◌, length, sym, ◌∙◌, arith}
 use Rattle.std.proofs.lemmas.Bool.{eqb-true, eq-eqb}
-use Rattle.lmem_heap.proofs.PackedSlots.{packed-total, unpacked}
+use Rattle.lmem_heap.proofs.PackedLemmas.{packed-total, unpacked}
 use Rattle.lmem_heap.proofs.image.is_table.Goals as goal
 
 pub returns-then-slots-rest-clause-no : goal.returns-then-slots-rest-clause-no

@@ -1,7 +1,7 @@
 use Rattle.std.proofs.Common.{◌*◌, ℕ, List, Option, None, get_or, arith, ap, refl, ◌∙◌}
 use Rattle.geos_model.specs.Words.{word_at}
 use Rattle.lmem_heap.specs.Packed.{slots_in}
-use Rattle.lmem_heap.proofs.PackedSlots.{opened, size_is, size_none, size_some, slot_length}
+use Rattle.lmem_heap.proofs.PackedLemmas.{opened, size_is, size_none, size_some, slot_length}
 use Rattle.lmem_heap.proofs.image.slot_size.Goals as goal
 
 pub size_word-size-requires : goal.size_word-size-requires

@@ -2,9 +2,9 @@ use Rattle.std.proofs.Common.{is_some, refl, ap, ◌∙◌, arith}
 use Rattle.std.proofs.lemmas.List.{take_all}
 use Rattle.lmem_heap.specs.Packed.{slots_in}
 use Rattle.lmem_heap.specs.Slots.{space_in}
-use Rattle.lmem_heap.proofs.PackedSlots.{Opened, opened, length-slots_in}
-use Rattle.lmem_heap.proofs.Heaps.{space_some, space_none, none_by_size, space_of_at_most}
-use Rattle.lmem_heap.proofs.Images.{size_le}
+use Rattle.lmem_heap.proofs.PackedLemmas.{Opened, opened, length-slots_in}
+use Rattle.lmem_heap.proofs.PlacedLemmas.{space_some, space_none, none_by_size, space_of_at_most}
+use Rattle.lmem_heap.proofs.HeapImageLemmas.{size_le}
 use Rattle.lmem_heap.proofs.image.space_total.Goals as goal
 use Rattle.lmem_heap.proofs.image.space_total.Goals.{in-Some, in_default}
 

@@ -1,4 +1,4 @@
-use Rattle.lmem_heap.proofs.Writes.{copied_is}
+use Rattle.lmem_heap.proofs.EditLemmas.{copied_is}
 use Rattle.lmem_heap.proofs.words.copy_piece.Goals as goal
 
 pub returns : goal.returns

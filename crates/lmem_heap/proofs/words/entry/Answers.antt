@@ -1,5 +1,5 @@
 use Rattle.std.proofs.Common.{◌∙◌}
-use Rattle.lmem_heap.proofs.Writes.{entry_word}
+use Rattle.lmem_heap.proofs.EditLemmas.{entry_word}
 use Rattle.lmem_heap.proofs.words.entry.Goals as goal
 
 pub returns-clause-value : goal.returns-clause-value

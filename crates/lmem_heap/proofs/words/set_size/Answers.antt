@@ -1,6 +1,6 @@
 use Rattle.std.proofs.Common.{◌+◌, ◌-◌, ℕ, List, sym, subst, arith}
 use Rattle.lmem_heap.specs.Edits.{IsZeroed}
-use Rattle.lmem_heap.proofs.Writes.{sized_is}
+use Rattle.lmem_heap.proofs.EditLemmas.{sized_is}
 use Rattle.lmem_heap.proofs.words.set_size.Goals.{then-n-size, else-n-size}
 use Rattle.lmem_heap.proofs.words.set_size.Goals as goal
 

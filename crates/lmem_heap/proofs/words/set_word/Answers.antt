@@ -1,5 +1,5 @@
 use Rattle.std.proofs.Common.{arith}
-use Rattle.lmem_heap.proofs.Writes.{set_is}
+use Rattle.lmem_heap.proofs.EditLemmas.{set_is}
 use Rattle.lmem_heap.proofs.words.set_word.Goals as goal
 
 pub returns : goal.returns

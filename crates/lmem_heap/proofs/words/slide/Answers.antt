@@ -1,5 +1,5 @@
 use Rattle.std.proofs.Common.{arith}
-use Rattle.lmem_heap.proofs.Writes.{slid_is}
+use Rattle.lmem_heap.proofs.EditLemmas.{slid_is}
 use Rattle.lmem_heap.proofs.words.slide.Goals as goal
 
 pub returns : goal.returns

@@ -1,5 +1,5 @@
 use Rattle.std.proofs.Common.{arith}
-use Rattle.lmem_heap.proofs.Writes.{zeroed_is}
+use Rattle.lmem_heap.proofs.EditLemmas.{zeroed_is}
 use Rattle.lmem_heap.proofs.words.zero.Goals as goal
 
 pub returns : goal.returns

@@ -1,4 +1,4 @@
-use Rattle.lmem_heap.proofs.Downward.{lowering_next}
+use Rattle.lmem_heap.proofs.EditLemmas.{lowering_next}
 use Rattle.lmem_heap.proofs.compaction.lowering.lower_entries.Goals as goal
 
 pub loop-i-preserved : goal.loop-i-preserved

@@ -1,4 +1,4 @@
-use Rattle.lmem_heap.proofs.Downward.{AreLowering}
+use Rattle.lmem_heap.proofs.EditLemmas.{AreLowering}
 use Rattle.lmem_heap.proofs.compaction.lowering.lower_entries.Given as goal
 
 abbrev pub invariant-loop-i : goal.invariant-loop-i

@@ -1,6 +1,6 @@
 use Rattle.std.proofs.Common.{◌<◌, refl, arith}
 use Rattle.lmem_heap.specs.Pieces.{entry}
-use Rattle.lmem_heap.proofs.Downward.{entry_lowered, entry_left}
+use Rattle.lmem_heap.proofs.EditLemmas.{entry_lowered, entry_left}
 use Rattle.lmem_heap.proofs.compaction.lowering.lower_entry.Goals as goal
 use Rattle.lmem_heap.proofs.compaction.lowering.lower_entry.Goals.{else-e-gt1-via-then-e-gt1+else-e-m, else-e-gt1-via-else-e-gt1}
 

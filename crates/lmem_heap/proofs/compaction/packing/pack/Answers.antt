@@ -1,5 +1,5 @@
 use Rattle.std.proofs.Common.{arith}
-use Rattle.lmem_heap.proofs.Walking.{walk_starts, walk_ends, free_step, turn_within, turn_up, turn_ready, turn_moving}
+use Rattle.lmem_heap.proofs.PackingLemmas.{walk_starts, walk_ends, free_step, turn_within, turn_up, turn_ready, turn_moving}
 use Rattle.lmem_heap.proofs.compaction.packing.pack.Goals as goal
 
 pub loop-p-init : goal.loop-p-init

@@ -1,5 +1,5 @@
 use Rattle.std.proofs.Common.{arith}
-use Rattle.lmem_heap.proofs.Joining.{run_starts, run_within, run_turn}
+use Rattle.lmem_heap.proofs.PackingLemmas.{run_starts, run_within, run_turn}
 use Rattle.lmem_heap.proofs.compaction.packing.thread_run.Goals as goal
 
 pub word_in-head-requires : goal.word_in-head-requires

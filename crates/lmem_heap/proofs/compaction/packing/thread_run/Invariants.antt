@@ -1,10 +1,10 @@
 use Rattle.std.proofs.Common.{◌-◌, List}
 use Rattle.lmem_heap.specs.Pieces.{Piece}
-use Rattle.lmem_heap.specs.Edits.{IsRun, IsSwapped}
+use Rattle.lmem_heap.specs.Edits.{IsRunPacked, IsReadyToPack}
 use Rattle.lmem_heap.proofs.compaction.packing.thread_run.Given as goal
 
 abbrev pub invariant-loop-p : goal.invariant-loop-p
-invariant-loop-p l = (cs : List Piece) → IsSwapped l.fn.region l.fn.start l.fn.delta cs → IsRun l.fn.region l.region l.fn.start l.fn.delta cs l.p
+invariant-loop-p l = (cs : List Piece) → IsReadyToPack l.fn.region l.fn.start l.fn.delta cs → IsRunPacked l.fn.region l.region l.fn.start l.fn.delta cs l.p
 
 abbrev pub decreases-loop-p : goal.decreases-loop-p
 decreases-loop-p l = 65520 - l.p

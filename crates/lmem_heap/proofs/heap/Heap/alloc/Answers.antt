@@ -2,7 +2,7 @@ use Rattle.std.proofs.Common.{true, refl, ap, ◌≡◌, ℕ, List, replicate, a
 use Rattle.geos_model.proofs.HeapTables.{next_chunk-free}
 use Rattle.geos_model.specs.Heap.{ChunkMap, fits_new}
 use Rattle.geos_model.proofs.Table.{first_gap, table_map}
-use Rattle.lmem_heap.proofs.Heaps.{gap_found, first_gap_le, shown_chunks, gap_below, next_at, fits_new-some}
+use Rattle.lmem_heap.proofs.PlacedLemmas.{gap_found, first_gap_le, shown_chunks, gap_below, next_at, fits_new-some}
 use Rattle.lmem_heap.proofs.heap.Heap.alloc.Goals.{After-gap_from-i}
 use Rattle.lmem_heap.proofs.heap.Heap.alloc.Goals as goal
 

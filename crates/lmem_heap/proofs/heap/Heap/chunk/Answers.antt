@@ -2,7 +2,7 @@ use Rattle.std.proofs.Common.{arith, ap, sym, ◌∙◌}
 use Rattle.std.specs.FinMap.{get}
 use Rattle.std.specs.Option.{option_copied}
 use Rattle.geos_model.specs.Heap.{ChunkMap}
-use Rattle.lmem_heap.proofs.Heaps.{shown_chunks, get_slot, get_other, valid_is}
+use Rattle.lmem_heap.proofs.PlacedLemmas.{shown_chunks, get_slot, get_other, valid_is}
 use Rattle.lmem_heap.proofs.heap.Heap.chunk.Goals as goal
 
 pub returns-in_err-i : goal.returns-in_err-i

@@ -5,7 +5,7 @@ use Rattle.raw_region.specs.Bytes.{put}
 use Rattle.raw_region.proofs.Puts.{length-put}
 use Rattle.lmem_heap.specs.LendsChunk.{with_chunk}
 use Rattle.lmem_heap.specs.Slots.{need_in}
-use Rattle.lmem_heap.proofs.Heaps.{shown_chunks, shown_places, live_is, live_slot, shows_put, need_changed, put_changed, counted_changed, same_placed}
+use Rattle.lmem_heap.proofs.PlacedLemmas.{shown_chunks, shown_places, live_is, live_slot, shows_put, need_changed, put_changed, counted_changed, same_placed}
 use Rattle.lmem_heap.proofs.heap.Heap.chunk_mut.Goals as goal
 
 pub slot-requires : goal.slot-requires

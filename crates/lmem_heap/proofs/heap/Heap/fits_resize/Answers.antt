@@ -4,7 +4,7 @@ use Rattle.geos_model.specs.Bytes.{resized}
 use Rattle.geos_model.proofs.Tables.{put_at}
 use Rattle.geos_model.proofs.HeapTables.{space_of_ge}
 use Rattle.lmem_heap.specs.Slots.{need_in}
-use Rattle.lmem_heap.proofs.Heaps.{shown_chunks, live_at, live_slot, need_changed, fits_put, length-resized}
+use Rattle.lmem_heap.proofs.PlacedLemmas.{shown_chunks, live_at, live_slot, need_changed, fits_put, length-resized}
 use Rattle.lmem_heap.proofs.heap.Heap.fits_resize.Goals as goal
 
 pub space_of-requires : goal.space_of-requires

@@ -1,6 +1,6 @@
 use Rattle.std.proofs.Common.{length, List, ℕ, arith}
 use Rattle.geos_model.specs.Heap.{chunk_bytes}
-use Rattle.lmem_heap.proofs.Heaps.{shown_chunks, shown_places, places_freed, live_is, live_slot, shows_freed, counted_freed}
+use Rattle.lmem_heap.proofs.PlacedLemmas.{shown_chunks, shown_places, places_freed, live_is, live_slot, shows_freed, counted_freed}
 use Rattle.lmem_heap.proofs.heap.Heap.free.Goals as goal
 
 pub slot-i-requires : goal.slot-i-requires

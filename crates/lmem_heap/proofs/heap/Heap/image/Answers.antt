@@ -1,5 +1,5 @@
 use Rattle.std.proofs.Common.{◌∙◌}
-use Rattle.lmem_heap.proofs.Heaps.{shown_chunks, valid_is, image_made}
+use Rattle.lmem_heap.proofs.PlacedLemmas.{shown_chunks, valid_is, image_made}
 use Rattle.lmem_heap.proofs.heap.Heap.image.Goals as goal
 
 pub returns-in_err-image-clause-valid : goal.returns-in_err-image-clause-valid

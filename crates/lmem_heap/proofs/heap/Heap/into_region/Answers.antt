@@ -1,4 +1,4 @@
-use Rattle.lmem_heap.proofs.Disjoint.{heap_holding}
+use Rattle.lmem_heap.proofs.StoredLemmas.{heap_holding}
 use Rattle.lmem_heap.proofs.heap.Heap.into_region.Goals as goal
 
 pub returns : goal.returns

@@ -1,7 +1,7 @@
 use Rattle.std.proofs.Common.{◌≡◌, ◌+◌, ◌*◌, ℕ, Some, arith, ap, sym, ◌∙◌}
 use Rattle.geos_model.proofs.Table.{first_gap}
 use Rattle.geos_model.specs.Heap.{next_chunk}
-use Rattle.lmem_heap.proofs.Heaps.{shown_chunks, next_some, next_none, gap_found, first_gap_le}
+use Rattle.lmem_heap.proofs.PlacedLemmas.{shown_chunks, next_some, next_none, gap_found, first_gap_le}
 use Rattle.lmem_heap.proofs.heap.Heap.next_handle.Goals.{After-gap_from-i}
 use Rattle.lmem_heap.proofs.heap.Heap.next_handle.Goals as goal
 

@@ -6,8 +6,8 @@ use Rattle.geos_model.specs.Heap.{ChunkMap, chunk_bytes}
 use Rattle.geos_model.proofs.Tables.{get-table_map_at, get-table_map_off}
 use Rattle.lmem_heap.specs.Stored.{Stored}
 use Rattle.lmem_heap.specs.Placed.{Placed, placed_in}
-use Rattle.lmem_heap.proofs.Heaps.{shown_chunks, shown_places, get_slot, get_other}
-use Rattle.lmem_heap.proofs.Disjoint.{heap_disjoint, heap_behind}
+use Rattle.lmem_heap.proofs.PlacedLemmas.{shown_chunks, shown_places, get_slot, get_other}
+use Rattle.lmem_heap.proofs.StoredLemmas.{heap_disjoint, heap_behind}
 use Rattle.lmem_heap.proofs.heap.Heap.offset.Goals as goal
 
 -- the chunk under the handle of a slot

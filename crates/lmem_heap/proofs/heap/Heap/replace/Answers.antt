@@ -1,7 +1,7 @@
 use Rattle.std.proofs.Common.{◌+◌, List, ℕ, [], Option, is_some, length, unwrap_or, ap, arith}
 use Rattle.std.specs.List as list
 use Rattle.geos_model.specs.Heap.{chunk_bytes}
-use Rattle.lmem_heap.proofs.Heaps.{shown_chunks, live_is, live_slot, shows_put, room_put, set_room, put_spliced, counted_changed}
+use Rattle.lmem_heap.proofs.PlacedLemmas.{shown_chunks, live_is, live_slot, shows_put, room_put, set_room, put_spliced, counted_changed}
 use Rattle.lmem_heap.proofs.heap.Heap.replace.Goals as goal
 
 pub slot-requires : goal.slot-requires

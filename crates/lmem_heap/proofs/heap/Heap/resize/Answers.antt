@@ -1,7 +1,7 @@
 use Rattle.std.proofs.Common.{List, ℕ, [], Option, unwrap_or, ap}
 use Rattle.geos_model.specs.Heap.{chunk_bytes}
 use Rattle.geos_model.specs.Bytes.{resized}
-use Rattle.lmem_heap.proofs.Heaps.{shown_chunks, live_is, live_slot, shows_put, room_put, set_room, put_resized, counted_changed}
+use Rattle.lmem_heap.proofs.PlacedLemmas.{shown_chunks, live_is, live_slot, shows_put, room_put, set_room, put_resized, counted_changed}
 use Rattle.lmem_heap.proofs.heap.Heap.resize.Goals as goal
 
 pub slot-requires : goal.slot-requires

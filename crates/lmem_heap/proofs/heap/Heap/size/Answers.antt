@@ -1,6 +1,6 @@
 use Rattle.std.proofs.Common.{◌≡◌, Some, is_some, length, ap, sym, ◌∙◌}
 use Rattle.geos_model.specs.Heap.{chunk_bytes}
-use Rattle.lmem_heap.proofs.Heaps.{shown_chunks, live_is, live_size, live_slot}
+use Rattle.lmem_heap.proofs.PlacedLemmas.{shown_chunks, live_is, live_size, live_slot}
 use Rattle.lmem_heap.proofs.heap.Heap.size.Goals as goal
 
 pub slot-requires : goal.slot-requires

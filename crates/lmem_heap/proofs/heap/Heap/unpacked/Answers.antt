@@ -3,7 +3,7 @@ use Rattle.std.proofs.lemmas.Slice.{between_to_end}
 use Rattle.std.specs.List as list
 use Rattle.geos_model.proofs.Table.{table_map}
 use Rattle.lmem_heap.specs.Packed.{slots_in}
-use Rattle.lmem_heap.proofs.Images.{image_again}
+use Rattle.lmem_heap.proofs.HeapImageLemmas.{image_again}
 use Rattle.lmem_heap.proofs.heap.Heap.unpacked.Goals as goal
 
 pub returns : goal.returns

@@ -1,6 +1,6 @@
 use Rattle.std.proofs.Common.{arith}
-use Rattle.lmem_heap.proofs.Known.{entry_ends, next_kept}
-use Rattle.lmem_heap.proofs.Sizing.{IsNextFor, next_for, next_head, absorbed, absorb_resized}
+use Rattle.lmem_heap.proofs.EntryLemmas.{entry_ends, next_well_formed}
+use Rattle.lmem_heap.proofs.ResizingLemmas.{IsNextFor, next_for, next_head, absorbed, absorb_resized}
 use Rattle.lmem_heap.proofs.space.Space.absorb.Goals.{After-word_in-size}
 use Rattle.lmem_heap.proofs.space.Space.absorb.Goals as goal
 
@@ -8,7 +8,7 @@ next : (c : After-word_in-size) → IsNextFor c.args.self.now c.args.i c.entry-p
 next c = let s = c.args.self.now in next_for s c.args.i c.entry-p.result c.word_in-size.result c.args.n c.requires.slot c.entry-p.ensures.value c.word_in-size.ensures.value c.requires.more c.requires.next
 
 pub entry-p-requires : goal.entry-p-requires
-entry-p-requires c = omega (arith, entry_ends (next_kept c.requires.next) c.args.i c.requires.slot)
+entry-p-requires c = omega (arith, entry_ends (next_well_formed c.requires.next) c.args.i c.requires.slot)
 
 pub word_in-size-requires : goal.word_in-size-requires
 word_in-size-requires c = let s = c.args.self.now in omega (arith, next_head s c.args.i c.entry-p.result c.requires.slot c.entry-p.ensures.value c.requires.next)
@@ -31,8 +31,8 @@ overflow_sub-self c = let f = next (goal.at.overflow_sub-self c).After-word_in-s
 pub overflow_add-self : goal.overflow_add-self
 overflow_add-self c = let f = next (goal.at.overflow_add-self c).After-word_in-size in record { fits = omega (arith, f.beside.small) }
 
-pub returns-clause-kept : goal.returns-clause-kept
-returns-clause-kept c = let f = next (goal.at.returns-clause-kept c).After-word_in-size in
+pub returns-clause-well_formed : goal.returns-clause-well_formed
+returns-clause-well_formed c = let f = next (goal.at.returns-clause-well_formed c).After-word_in-size in
     rw (c.piece_space.ensures, c.piece_space-2.ensures) (absorbed c.args.self.now c.set_size.new.region c.args.i c.entry-p.result c.word_in-size.result c.args.n f.next f.beside c.requires.slot f.more c.set_size.ensures)
 
 pub returns-clause-resized : goal.returns-clause-resized

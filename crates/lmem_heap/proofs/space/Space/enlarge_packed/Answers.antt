@@ -1,10 +1,9 @@
 use Rattle.std.proofs.Common.{◌≡◌, ◌-◌, ◌<◌, ◌∙◌, ℕ, ap, refl, subst, sym, arith}
 use Rattle.lmem_heap.specs.declared.space.Space.{Space}
 use Rattle.lmem_heap.specs.Pieces.{piece_space, word_in, entry}
-use Rattle.lmem_heap.specs.Kept.{HasNext}
-use Rattle.lmem_heap.proofs.Filling.{total_small}
-use Rattle.lmem_heap.proofs.Known.{next_kept}
-use Rattle.lmem_heap.proofs.Exchanging.{IsSameSize, same_size, resized_from}
+use Rattle.lmem_heap.specs.Space.{HasNext}
+use Rattle.lmem_heap.proofs.EntryLemmas.{total_small, next_well_formed}
+use Rattle.lmem_heap.proofs.MovingLemmas.{IsSameSize, same_size, resized_from}
 use Rattle.lmem_heap.proofs.space.Space.enlarge_packed.Goals.{After-find_run-size, After-open_gap}
 use Rattle.lmem_heap.proofs.space.Space.enlarge_packed.Goals as goal
 
@@ -16,14 +15,14 @@ record IsPacked (s u : Space) (i n room : ℕ) : Type 0 where
 
 packed : (c : After-find_run-size) → IsPacked c.args.self.now c.compact.new.self c.args.i c.find_run-size.result.size c.args.room
 packed c =
-    let e = c.compact.ensures in let same = same_size c.args.self.now c.compact.new.self c.args.i c.requires.kept e.kept e.slots e.chunks c.requires.slot c.requires.live in
+    let e = c.compact.ensures in let same = same_size c.args.self.now c.compact.new.self c.args.i c.requires.well_formed e.well_formed e.same.slots e.same.chunks c.requires.slot c.requires.live in
     let there = c.find_run-size.ensures.some same.live in
     record { live = same.live; size = there.1 ∙ same.size; less = omega (arith, there.1, same.size, c.requires.more, c.requires.room) }
 
 opened : (c : After-open_gap) → IsSameSize c.args.self.now c.open_gap.new.self c.args.i
 opened c =
     let e = c.compact.ensures in let g = c.open_gap.ensures in
-    same_size c.args.self.now c.open_gap.new.self c.args.i c.requires.kept (next_kept g.next) (g.slots ∙ e.slots) (g.chunks ∙ e.chunks) c.requires.slot c.requires.live
+    same_size c.args.self.now c.open_gap.new.self c.args.i c.requires.well_formed (next_well_formed g.next) (g.slots ∙ e.same.slots) (g.chunks ∙ e.same.chunks) c.requires.slot c.requires.live
 
 pub overflow_sub-room : goal.overflow_sub-room
 overflow_sub-room c = omega (arith, (packed (goal.at.overflow_sub-room c).After-find_run-size).less)
@@ -36,8 +35,8 @@ open_gap-requires-clause-some c = omega (arith, (packed (goal.at.open_gap-requir
 
 pub open_gap-requires-clause-fits : goal.open_gap-requires-clause-fits
 open_gap-requires-clause-fits c =
-    let p = packed (goal.at.open_gap-requires-clause-fits c).After-find_run-size in let e = c.compact.ensures in let k = c.requires.kept in
-    omega (arith, p.less, p.size, c.requires.room, c.requires.fits, e.low, e.slots, e.total, total_small c.args.self.now k.pieces k.free k.held)
+    let p = packed (goal.at.open_gap-requires-clause-fits c).After-find_run-size in let e = c.compact.ensures in let k = c.requires.well_formed in
+    omega (arith, p.less, p.size, c.requires.room, c.requires.fits, e.low, e.same.slots, e.same.total, total_small c.args.self.now k.pieces k.free k.held)
 
 pub absorb-requires-clause-more : goal.absorb-requires-clause-more
 absorb-requires-clause-more c = omega (arith, (opened (goal.at.absorb-requires-clause-more c).After-open_gap).size, c.requires.more)
@@ -52,4 +51,4 @@ absorb-requires-clause-next c =
 pub returns-clause-resized : goal.returns-clause-resized
 returns-clause-resized c =
     let e = c.compact.ensures in let g = c.open_gap.ensures in let u = c.absorb.new.self in
-    resized_from c.args.self.now c.open_gap.new.self u u c.args.i c.args.n (g.slots ∙ e.slots) (g.total ∙ e.total) (g.chunks ∙ e.chunks) (opened (goal.at.returns-clause-resized c).After-open_gap).size c.absorb.ensures.resized refl refl refl
+    resized_from c.args.self.now c.open_gap.new.self u u c.args.i c.args.n (g.slots ∙ e.same.slots) (g.total ∙ e.same.total) (g.chunks ∙ e.same.chunks) (opened (goal.at.returns-clause-resized c).After-open_gap).size c.absorb.ensures.resized refl refl refl

@@ -1,19 +1,18 @@
 use Rattle.std.proofs.Common.{◌∙◌, refl, arith}
 use Rattle.lmem_heap.specs.Pieces.{piece_space}
-use Rattle.lmem_heap.proofs.Filling.{IsLivePiece, total_small}
-use Rattle.lmem_heap.proofs.Known.{entry_ends, head_ends, piece_read, loose_room, loose_kept}
-use Rattle.lmem_heap.proofs.Exchanging.{exchanged, exchange_resized}
+use Rattle.lmem_heap.proofs.EntryLemmas.{IsLivePiece, total_small, entry_ends, head_ends, piece_read, detached_room, detached_well_formed}
+use Rattle.lmem_heap.proofs.MovingLemmas.{exchanged, exchange_resized}
 use Rattle.lmem_heap.proofs.space.Space.exchange.Goals.{After-word_in-size}
 use Rattle.lmem_heap.proofs.space.Space.exchange.Goals as goal
 
-piece : (c : After-word_in-size) → IsLivePiece c.args.self.now (loose_kept c.requires.loose) c.args.i c.entry-p.result c.word_in-size.result
-piece c = piece_read (loose_kept c.requires.loose) c.args.i c.entry-p.result c.word_in-size.result c.requires.slot c.requires.live c.entry-p.ensures.value c.word_in-size.ensures.value
+piece : (c : After-word_in-size) → IsLivePiece c.args.self.now (detached_well_formed c.requires.detached) c.args.i c.entry-p.result c.word_in-size.result
+piece c = piece_read (detached_well_formed c.requires.detached) c.args.i c.entry-p.result c.word_in-size.result c.requires.slot c.requires.live c.entry-p.ensures.value c.word_in-size.ensures.value
 
 pub entry-p-requires : goal.entry-p-requires
-entry-p-requires c = omega (arith, entry_ends (loose_kept c.requires.loose) c.args.i c.requires.slot)
+entry-p-requires c = omega (arith, entry_ends (detached_well_formed c.requires.detached) c.args.i c.requires.slot)
 
 pub word_in-size-requires : goal.word_in-size-requires
-word_in-size-requires c = head_ends (loose_kept c.requires.loose) c.args.i c.entry-p.result c.requires.slot c.requires.live c.entry-p.ensures.value
+word_in-size-requires c = head_ends (detached_well_formed c.requires.detached) c.args.i c.entry-p.result c.requires.slot c.requires.live c.entry-p.ensures.value
 
 pub set_word-requires-clause-within : goal.set_word-requires-clause-within
 set_word-requires-clause-within c = omega (arith, (piece (goal.at.set_word-requires-clause-within c).After-word_in-size).ends)
@@ -22,45 +21,45 @@ pub set_word-requires-clause-small : goal.set_word-requires-clause-small
 set_word-requires-clause-small c = omega (arith, (piece (goal.at.set_word-requires-clause-small c).After-word_in-size).ends)
 
 pub set_word-requires-clause-long : goal.set_word-requires-clause-long
-set_word-requires-clause-long c = c.requires.loose.held.tiled.long
+set_word-requires-clause-long c = c.requires.detached.held.tiled.long
 
 pub set_entry-requires-clause-within : goal.set_entry-requires-clause-within
-set_entry-requires-clause-within c = omega (arith, entry_ends (loose_kept c.requires.loose) c.args.i c.requires.slot)
+set_entry-requires-clause-within c = omega (arith, entry_ends (detached_well_formed c.requires.detached) c.args.i c.requires.slot)
 
 pub set_entry-requires-clause-long : goal.set_entry-requires-clause-long
-set_entry-requires-clause-long c = c.set_word.ensures.long ∙ c.requires.loose.held.tiled.long
+set_entry-requires-clause-long c = c.set_word.ensures.long ∙ c.requires.detached.held.tiled.long
 
 pub set_word-requires-2-clause-within : goal.set_word-requires-2-clause-within
-set_word-requires-2-clause-within c = let room = loose_room c.requires.loose in omega (arith)
+set_word-requires-2-clause-within c = let room = detached_room c.requires.detached in omega (arith)
 
 pub set_word-requires-2-clause-small : goal.set_word-requires-2-clause-small
-set_word-requires-2-clause-small c = let room = loose_room c.requires.loose in omega (arith)
+set_word-requires-2-clause-small c = let room = detached_room c.requires.detached in omega (arith)
 
 pub set_word-requires-2-clause-long : goal.set_word-requires-2-clause-long
-set_word-requires-2-clause-long c = c.set_entry.ensures.long ∙ (c.set_word.ensures.long ∙ c.requires.loose.held.tiled.long)
+set_word-requires-2-clause-long c = c.set_entry.ensures.long ∙ (c.set_word.ensures.long ∙ c.requires.detached.held.tiled.long)
 
 pub set_entry-requires-2-clause-within : goal.set_entry-requires-2-clause-within
-set_entry-requires-2-clause-within c = omega (arith, entry_ends (loose_kept c.requires.loose) c.args.i c.requires.slot)
+set_entry-requires-2-clause-within c = omega (arith, entry_ends (detached_well_formed c.requires.detached) c.args.i c.requires.slot)
 
 pub set_entry-requires-2-clause-small : goal.set_entry-requires-2-clause-small
-set_entry-requires-2-clause-small c = let room = loose_room c.requires.loose in omega (arith)
+set_entry-requires-2-clause-small c = let room = detached_room c.requires.detached in omega (arith)
 
 pub set_entry-requires-2-clause-long : goal.set_entry-requires-2-clause-long
-set_entry-requires-2-clause-long c = c.set_word-2.ensures.long ∙ (c.set_entry.ensures.long ∙ (c.set_word.ensures.long ∙ c.requires.loose.held.tiled.long))
+set_entry-requires-2-clause-long c = c.set_word-2.ensures.long ∙ (c.set_entry.ensures.long ∙ (c.set_word.ensures.long ∙ c.requires.detached.held.tiled.long))
 
 pub overflow_sub-self : goal.overflow_sub-self
 overflow_sub-self c = rw c.piece_space-room.ensures (piece (goal.at.overflow_sub-self c).After-word_in-size).less
 
 pub piece_space-requires : goal.piece_space-requires
-piece_space-requires c = let room = loose_room c.requires.loose in omega arith
+piece_space-requires c = let room = detached_room c.requires.detached in omega arith
 
 pub overflow_add-self : goal.overflow_add-self
-overflow_add-self c = let k = loose_kept c.requires.loose in let room = loose_room c.requires.loose in record { fits = omega (arith, c.piece_space.ensures, total_small c.args.self.now k.pieces k.free k.held) }
+overflow_add-self c = let k = detached_well_formed c.requires.detached in let room = detached_room c.requires.detached in record { fits = omega (arith, c.piece_space.ensures, total_small c.args.self.now k.pieces k.free k.held) }
 
-pub returns-clause-loose : goal.returns-clause-loose
-returns-clause-loose c =
-    rw (c.piece_space-room.ensures, c.piece_space.ensures) (exchanged c.args.self.now c.args.i c.entry-p.result c.args.q c.word_in-size.result c.args.n (piece_space c.args.n) _ c.requires.loose (piece (goal.at.returns-clause-loose c).After-word_in-size) c.requires.slot c.requires.some refl c.requires.ready c.set_word.new.region c.set_entry.new.region c.set_word-2.new.region c.set_entry-2.new.region (rw c.piece_space-room.ensures at c.set_word.ensures) c.set_entry.ensures c.set_word-2.ensures c.set_entry-2.ensures refl)
+pub returns-clause-detached : goal.returns-clause-detached
+returns-clause-detached c =
+    rw (c.piece_space-room.ensures, c.piece_space.ensures) (exchanged c.args.self.now c.args.i c.entry-p.result c.args.q c.word_in-size.result c.args.n (piece_space c.args.n) _ c.requires.detached (piece (goal.at.returns-clause-detached c).After-word_in-size) c.requires.slot c.requires.some refl c.requires.ready c.set_word.new.region c.set_entry.new.region c.set_word-2.new.region c.set_entry-2.new.region (rw c.piece_space-room.ensures at c.set_word.ensures) c.set_entry.ensures c.set_word-2.ensures c.set_entry-2.ensures refl)
 
 pub returns-clause-resized : goal.returns-clause-resized
 returns-clause-resized c =
-    rw (c.piece_space-room.ensures, c.piece_space.ensures) (exchange_resized c.args.self.now c.args.i c.entry-p.result c.args.q c.word_in-size.result c.args.n (piece_space c.args.n) _ c.requires.loose (piece (goal.at.returns-clause-resized c).After-word_in-size) c.requires.slot c.requires.some refl c.requires.ready c.set_word.new.region c.set_entry.new.region c.set_word-2.new.region c.set_entry-2.new.region (rw c.piece_space-room.ensures at c.set_word.ensures) c.set_entry.ensures c.set_word-2.ensures c.set_entry-2.ensures refl)
+    rw (c.piece_space-room.ensures, c.piece_space.ensures) (exchange_resized c.args.self.now c.args.i c.entry-p.result c.args.q c.word_in-size.result c.args.n (piece_space c.args.n) _ c.requires.detached (piece (goal.at.returns-clause-resized c).After-word_in-size) c.requires.slot c.requires.some refl c.requires.ready c.set_word.new.region c.set_entry.new.region c.set_word-2.new.region c.set_entry-2.new.region (rw c.piece_space-room.ensures at c.set_word.ensures) c.set_entry.ensures c.set_word-2.ensures c.set_entry-2.ensures refl)

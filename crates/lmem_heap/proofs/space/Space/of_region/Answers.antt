@@ -1,8 +1,8 @@
 use Rattle.std.proofs.Common.{[], refl, sym, ◌∙◌, arith}
 use Rattle.lmem_heap.proofs.space.Space.of_region.Goals as goal
 
-pub returns-clause-kept : goal.returns-clause-kept
-returns-clause-kept c = record {
+pub returns-clause-well_formed : goal.returns-clause-well_formed
+returns-clause-well_formed c = record {
   pieces = [];
   free = [];
   held = record {

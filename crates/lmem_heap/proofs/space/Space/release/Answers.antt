@@ -1,19 +1,18 @@
 use Rattle.std.proofs.Common.{refl, arith}
 use Rattle.lmem_heap.specs.Pieces.{piece_space}
-use Rattle.lmem_heap.proofs.Writes.{entry_set}
-use Rattle.lmem_heap.proofs.Filling.{IsLivePiece, released, release_changed}
-use Rattle.lmem_heap.proofs.Known.{entry_ends, head_ends, piece_read}
+use Rattle.lmem_heap.proofs.EditLemmas.{entry_set}
+use Rattle.lmem_heap.proofs.EntryLemmas.{IsLivePiece, released, release_changed, entry_ends, head_ends, piece_read}
 use Rattle.lmem_heap.proofs.space.Space.release.Goals.{After-word_in-n}
 use Rattle.lmem_heap.proofs.space.Space.release.Goals as goal
 
-piece : (c : After-word_in-n) → IsLivePiece c.args.self.now c.requires.kept c.args.i c.entry-p.result c.word_in-n.result
-piece c = piece_read c.requires.kept c.args.i c.entry-p.result c.word_in-n.result c.requires.slot c.requires.live c.entry-p.ensures.value c.word_in-n.ensures.value
+piece : (c : After-word_in-n) → IsLivePiece c.args.self.now c.requires.well_formed c.args.i c.entry-p.result c.word_in-n.result
+piece c = piece_read c.requires.well_formed c.args.i c.entry-p.result c.word_in-n.result c.requires.slot c.requires.live c.entry-p.ensures.value c.word_in-n.ensures.value
 
 pub entry-p-requires : goal.entry-p-requires
-entry-p-requires c = omega (arith, entry_ends c.requires.kept c.args.i c.requires.slot)
+entry-p-requires c = omega (arith, entry_ends c.requires.well_formed c.args.i c.requires.slot)
 
 pub word_in-n-requires : goal.word_in-n-requires
-word_in-n-requires c = head_ends c.requires.kept c.args.i c.entry-p.result c.requires.slot c.requires.live c.entry-p.ensures.value
+word_in-n-requires c = head_ends c.requires.well_formed c.args.i c.entry-p.result c.requires.slot c.requires.live c.entry-p.ensures.value
 
 pub set_word-requires-clause-within : goal.set_word-requires-clause-within
 set_word-requires-clause-within c = omega (arith, (piece (goal.at.set_word-requires-clause-within c).After-word_in-n).ends)
@@ -22,24 +21,24 @@ pub set_word-requires-clause-small : goal.set_word-requires-clause-small
 set_word-requires-clause-small c = omega (arith, (piece (goal.at.set_word-requires-clause-small c).After-word_in-n).ends)
 
 pub set_word-requires-clause-long : goal.set_word-requires-clause-long
-set_word-requires-clause-long c = c.requires.kept.held.tiled.long
+set_word-requires-clause-long c = c.requires.well_formed.held.tiled.long
 
 pub set_entry-requires-clause-within : goal.set_entry-requires-clause-within
-set_entry-requires-clause-within c = omega (arith, entry_ends c.requires.kept c.args.i c.requires.slot)
+set_entry-requires-clause-within c = omega (arith, entry_ends c.requires.well_formed c.args.i c.requires.slot)
 
 pub set_entry-requires-clause-long : goal.set_entry-requires-clause-long
-set_entry-requires-clause-long c = let long = c.requires.kept.held.tiled.long in omega (arith, c.set_word.ensures.long)
+set_entry-requires-clause-long c = let long = c.requires.well_formed.held.tiled.long in omega (arith, c.set_word.ensures.long)
 
 pub overflow_sub-self : goal.overflow_sub-self
 overflow_sub-self c = rw c.piece_space-room.ensures (piece (goal.at.overflow_sub-self c).After-word_in-n).less
 
-pub returns-clause-loose : goal.returns-clause-loose
-returns-clause-loose c =
-    rw c.piece_space-room.ensures (piece_space c.word_in-n.result, released c.args.self.now c.requires.kept c.set_word.new.region c.set_entry.new.region c.entry-p.result c.args.i c.word_in-n.result c.args.e _ (piece (goal.at.returns-clause-loose c).After-word_in-n) c.requires.slot c.requires.dead (rw c.piece_space-room.ensures at c.set_word.ensures) c.set_entry.ensures refl)
+pub returns-clause-detached : goal.returns-clause-detached
+returns-clause-detached c =
+    rw c.piece_space-room.ensures (piece_space c.word_in-n.result, released c.args.self.now c.requires.well_formed c.set_word.new.region c.set_entry.new.region c.entry-p.result c.args.i c.word_in-n.result c.args.e _ (piece (goal.at.returns-clause-detached c).After-word_in-n) c.requires.slot c.requires.dead (rw c.piece_space-room.ensures at c.set_word.ensures) c.set_entry.ensures refl)
 
 pub returns-clause-changed : goal.returns-clause-changed
 returns-clause-changed c =
-    rw c.piece_space-room.ensures (release_changed c.args.self.now c.requires.kept c.set_word.new.region c.set_entry.new.region c.entry-p.result c.args.i c.word_in-n.result c.args.e _ (piece (goal.at.returns-clause-changed c).After-word_in-n) c.requires.slot c.requires.dead (rw c.piece_space-room.ensures at c.set_word.ensures) c.set_entry.ensures refl)
+    rw c.piece_space-room.ensures (release_changed c.args.self.now c.requires.well_formed c.set_word.new.region c.set_entry.new.region c.entry-p.result c.args.i c.word_in-n.result c.args.e _ (piece (goal.at.returns-clause-changed c).After-word_in-n) c.requires.slot c.requires.dead (rw c.piece_space-room.ensures at c.set_word.ensures) c.set_entry.ensures refl)
 
 pub returns-clause-total : goal.returns-clause-total
 returns-clause-total c = let f = piece (goal.at.returns-clause-total c).After-word_in-n in omega (arith, f.less, f.value)

@@ -1,6 +1,6 @@
 use Rattle.std.proofs.Common.{◌∙◌, refl}
-use Rattle.lmem_heap.proofs.Shown.{in_table}
-use Rattle.lmem_heap.proofs.Lent.{run_bytes, lent_stored, lent_shows}
+use Rattle.lmem_heap.proofs.StoredLemmas.{in_table}
+use Rattle.lmem_heap.proofs.LendsChunkLemmas.{run_bytes, lent_stored, lent_shows}
 use Rattle.lmem_heap.proofs.table.Table.chunk_mut.Goals as goal
 
 pub find_run-run-requires-clause-slot : goal.find_run-run-requires-clause-slot

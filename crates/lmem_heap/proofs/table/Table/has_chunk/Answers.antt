@@ -1,4 +1,4 @@
-use Rattle.lmem_heap.proofs.Shown.{in_table}
+use Rattle.lmem_heap.proofs.StoredLemmas.{in_table}
 use Rattle.lmem_heap.proofs.table.Table.has_chunk.Goals as goal
 
 pub has_chunk-requires-clause-slot : goal.has_chunk-requires-clause-slot

@@ -1,4 +1,4 @@
-use Rattle.lmem_heap.proofs.Disjoint.{shown_holding}
+use Rattle.lmem_heap.proofs.StoredLemmas.{shown_holding}
 use Rattle.lmem_heap.proofs.table.Table.into_region.Goals as goal
 
 pub returns : goal.returns

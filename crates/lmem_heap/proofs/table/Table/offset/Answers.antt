@@ -1,4 +1,4 @@
-use Rattle.lmem_heap.proofs.Shown.{in_chunks, place_is, place_there, place_within}
+use Rattle.lmem_heap.proofs.StoredLemmas.{in_chunks, place_is, place_there, place_within}
 use Rattle.lmem_heap.proofs.table.Table.offset.Goals as goal
 
 pub offset-requires-clause-slot : goal.offset-requires-clause-slot

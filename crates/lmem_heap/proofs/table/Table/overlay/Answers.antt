@@ -1,8 +1,8 @@
 use Rattle.std.proofs.Common.{◌≡◌, ◌+◌, ◌-◌, ℕ, [], Some, None, length, get_or, set, unwrap_or, slice_range, ap, ◌∙◌, arith}
 use Rattle.raw_region.specs.Bytes.{put}
 use Rattle.raw_region.proofs.Puts.{length-put}
-use Rattle.lmem_heap.proofs.Shown.{chunk_small}
-use Rattle.lmem_heap.proofs.Splices.{set_twice, bytes_set}
+use Rattle.lmem_heap.proofs.StoredLemmas.{chunk_small}
+use Rattle.lmem_heap.proofs.ChunkBytesLemmas.{set_twice, bytes_set}
 use Rattle.lmem_heap.proofs.table.Table.overlay.Goals.{After-slide}
 use Rattle.lmem_heap.proofs.table.Table.overlay.Goals as goal
 

@@ -2,7 +2,7 @@ use Rattle.std.proofs.Common.{◌≡◌, ◌+◌, ◌++◌, ◌∙◌, ℕ, List
 use Rattle.std.proofs.lemmas.List.{length-replicate, drop_all, append-nil}
 use Rattle.raw_region.specs.Bytes.{put}
 use Rattle.raw_region.proofs.Puts.{put_is}
-use Rattle.lmem_heap.proofs.Splices.{set_twice}
+use Rattle.lmem_heap.proofs.ChunkBytesLemmas.{set_twice}
 use Rattle.lmem_heap.proofs.table.Table.put.Goals as goal
 
 -- bytes over as many bytes

@@ -1,7 +1,7 @@
 use Rattle.std.proofs.Common.{◌≡◌, ◌+◌, ℕ, List, [], Some, None, length, get_or, set, unwrap_or, slice_range, ◌-◌, refl, ap, ◌∙◌, arith}
 use Rattle.geos_model.specs.Bytes.{resized}
 use Rattle.raw_region.specs.Bytes.{put}
-use Rattle.lmem_heap.proofs.Splices.{set_twice, replaced_longer, replaced_shorter, replaced_same}
+use Rattle.lmem_heap.proofs.ChunkBytesLemmas.{set_twice, replaced_longer, replaced_shorter, replaced_same}
 use Rattle.lmem_heap.proofs.table.Table.replace.Goals as goal
 
 pub returns-then-end-size : goal.returns-then-end-size

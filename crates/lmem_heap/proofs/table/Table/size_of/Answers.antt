@@ -1,6 +1,6 @@
 use Rattle.std.proofs.Common.{sym, arith}
-use Rattle.lmem_heap.proofs.Shown.{in_table}
-use Rattle.lmem_heap.proofs.Lent.{run_size}
+use Rattle.lmem_heap.proofs.StoredLemmas.{in_table}
+use Rattle.lmem_heap.proofs.LendsChunkLemmas.{run_size}
 use Rattle.lmem_heap.proofs.table.Table.size_of.Goals as goal
 
 pub find_run-requires-clause-slot : goal.find_run-requires-clause-slot

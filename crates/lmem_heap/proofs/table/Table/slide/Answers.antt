@@ -1,8 +1,8 @@
 use Rattle.std.proofs.Common.{◌≡◌, ◌+◌, ◌∙◌, ℕ, List, [], Some, None, length, get_or, set, unwrap_or, slice_range, ap, arith}
 use Rattle.std.proofs.lemmas.List.Edits.{length-between}
 use Rattle.raw_region.specs.Bytes.{put}
-use Rattle.lmem_heap.proofs.Shown.{in_table}
-use Rattle.lmem_heap.proofs.Lent.{run_size, run_part, over_stored, over_chunks, over_offsets}
+use Rattle.lmem_heap.proofs.StoredLemmas.{in_table}
+use Rattle.lmem_heap.proofs.LendsChunkLemmas.{run_size, run_part, over_stored, over_chunks, over_offsets}
 use Rattle.lmem_heap.proofs.table.Table.slide.Goals as goal
 
 pub find_run-run-requires-clause-slot : goal.find_run-run-requires-clause-slot
@@ -36,7 +36,7 @@ pub invariant_of-self : goal.invariant_of-self
 invariant_of-self c =
     let s = c.self.inside.space in let m = c.args.self.now in let r = c.find_run-run in let i = c.args.i in
     let count = run_size s m i r.result.from r.result.size c.self.invariant c.self.view_is c.requires.slot r.ensures in let ends = r.ensures.ends in
-    let from = r.result.from + c.args.from in let moved = slice_range s.region from (from + c.args.n) in let long = c.self.invariant.kept.held.tiled.long in
+    let from = r.result.from + c.args.from in let moved = slice_range s.region from (from + c.args.n) in let long = c.self.invariant.well_formed.held.tiled.long in
     let size : length moved ≡ c.args.n = omega (arith, length-between s.region from (from + c.args.n) (omega (arith, c.requires.source))) in
     over_stored s m i r.result.from r.result.size c.self.invariant c.self.view_is c.requires.slot r.ensures c.requires.live c.slide.new.self c.args.to moved (omega (arith, c.requires.target)) c.slide.ensures
 
@@ -44,7 +44,7 @@ pub returns-clause-chunks : goal.returns-clause-chunks
 returns-clause-chunks c =
     let s = c.self.inside.space in let m = c.args.self.now in let r = c.find_run-run in let i = c.args.i in
     let count = run_size s m i r.result.from r.result.size c.self.invariant c.self.view_is c.requires.slot r.ensures in let ends = r.ensures.ends in
-    let from = r.result.from + c.args.from in let moved = slice_range s.region from (from + c.args.n) in let long = c.self.invariant.kept.held.tiled.long in
+    let from = r.result.from + c.args.from in let moved = slice_range s.region from (from + c.args.n) in let long = c.self.invariant.well_formed.held.tiled.long in
     let size : length moved ≡ c.args.n = omega (arith, length-between s.region from (from + c.args.n) (omega (arith, c.requires.source))) in
     over_chunks s m i r.result.from r.result.size c.self.invariant c.self.view_is c.requires.slot r.ensures c.requires.live c.slide.new.self c.args.to moved (omega (arith, c.requires.target)) c.slide.ensures
     ∙ ap (λ (x : List ℕ). set m.chunks i (Some (put (unwrap_or (get_or m.chunks i None) []) c.args.to x)))
@@ -54,6 +54,6 @@ pub returns-clause-offsets : goal.returns-clause-offsets
 returns-clause-offsets c =
     let s = c.self.inside.space in let m = c.args.self.now in let r = c.find_run-run in let i = c.args.i in
     let count = run_size s m i r.result.from r.result.size c.self.invariant c.self.view_is c.requires.slot r.ensures in let ends = r.ensures.ends in
-    let from = r.result.from + c.args.from in let moved = slice_range s.region from (from + c.args.n) in let long = c.self.invariant.kept.held.tiled.long in
+    let from = r.result.from + c.args.from in let moved = slice_range s.region from (from + c.args.n) in let long = c.self.invariant.well_formed.held.tiled.long in
     let size : length moved ≡ c.args.n = omega (arith, length-between s.region from (from + c.args.n) (omega (arith, c.requires.source))) in
     over_offsets s m i r.result.from r.result.size c.self.invariant c.self.view_is c.requires.slot r.ensures c.requires.live c.slide.new.self c.args.to moved (omega (arith, c.requires.target)) c.slide.ensures

@@ -1,13 +1,13 @@
 use Rattle.std.proofs.Common.{◌∙◌, sym, ap, List, Option, ℕ, None, get_or, refl, arith}
 use Rattle.lmem_heap.specs.Stored.{store_of}
-use Rattle.lmem_heap.proofs.Chunks.{length-chunks_in}
-use Rattle.lmem_heap.proofs.Shown.{shown, stored_cut, cut_gaps, cut_offsets, cut_trimmed}
+use Rattle.lmem_heap.proofs.TiledLemmas.{length-chunks_in}
+use Rattle.lmem_heap.proofs.StoredLemmas.{shown, stored_cut, cut_gaps, cut_offsets, cut_trimmed}
 use Rattle.lmem_heap.proofs.table.Table.trim.Goals as goal
 
 pub invariant_of-self : goal.invariant_of-self
 invariant_of-self c =
     let s = c.self.inside.space in let u = c.trim.new.self in let e = c.trim.ensures in
-    stored_cut s u e.region e.less e.none c.self.invariant e.kept e.total e.chunks
+    stored_cut s u e.region e.less e.none c.self.invariant e.well_formed e.total e.chunks
 
 pub returns-clause-gaps : goal.returns-clause-gaps
 returns-clause-gaps c = λ j above.
@@ -17,7 +17,7 @@ returns-clause-gaps c = λ j above.
 pub returns-clause-trimmed : goal.returns-clause-trimmed
 returns-clause-trimmed c =
     let s = c.self.inside.space in let u = c.trim.new.self in let e = c.trim.ensures in
-    cut_trimmed s u (store_of u.region u.slots) (shown u (store_of u.region u.slots) refl) c.self.invariant.kept e.less e.chunks e.last
+    cut_trimmed s u (store_of u.region u.slots) (shown u (store_of u.region u.slots) refl) c.self.invariant.well_formed e.less e.chunks e.last
 
 pub returns-clause-offsets : goal.returns-clause-offsets
 returns-clause-offsets c = λ j.

@@ -1,5 +1,5 @@
 use Rattle.std.proofs.Common.{◌∙◌, sym, ap, List, Option, ℕ, None, set, arith}
-use Rattle.lmem_heap.proofs.Shown.{shown, in_table, stored_vacated, offsets_vacated}
+use Rattle.lmem_heap.proofs.StoredLemmas.{shown, in_table, stored_vacated, offsets_vacated}
 use Rattle.lmem_heap.proofs.table.Table.vacate.Goals as goal
 
 pub vacate-requires-clause-slot : goal.vacate-requires-clause-slot
@@ -8,7 +8,7 @@ vacate-requires-clause-slot c = in_table c.self.inside.space c.args.self.now c.a
 pub invariant_of-self : goal.invariant_of-self
 invariant_of-self c =
     let s = c.self.inside.space in let l = in_table s c.args.self.now c.args.i c.self.invariant c.self.view_is c.requires.slot in let e = c.vacate.ensures in
-    stored_vacated s c.vacate.new.self c.args.i c.args.e c.self.invariant e.kept l e.changed.chunks e.total
+    stored_vacated s c.vacate.new.self c.args.i c.args.e c.self.invariant e.well_formed l e.changed.chunks e.total
 
 pub returns-clause-offsets : goal.returns-clause-offsets
 returns-clause-offsets c =

@@ -1,6 +1,6 @@
 use Rattle.std.proofs.Common.{arith}
-use Rattle.lmem_heap.proofs.Shown.{in_table}
-use Rattle.lmem_heap.proofs.Lent.{run_size, over_stored, over_chunks, over_offsets}
+use Rattle.lmem_heap.proofs.StoredLemmas.{in_table}
+use Rattle.lmem_heap.proofs.LendsChunkLemmas.{run_size, over_stored, over_chunks, over_offsets}
 use Rattle.lmem_heap.proofs.table.Table.write.Goals as goal
 
 pub find_run-run-requires-clause-slot : goal.find_run-run-requires-clause-slot

@@ -1,19 +1,22 @@
--- The bytes of a chunk are read, and written over where they lie.
-use Rattle.std.proofs.Common.{◌≡◌, ℕ, ◌+◌, ◌-◌, ◌*◌, ◌<◌, ◌≤◌, List, [], ◌∷◌, ◌++◌, length, get_or, set, slice_range, Option, Some, None, unwrap_or, ◌==◌, nat_lt, if◌then◌else◌, refl, sym, ap, subst, ◌∙◌, inl, inr, arith}
+-- The bytes of a chunk are read, written over where they lie, and put in the place of others.
+use Rattle.std.proofs.Common.{◌≡◌, ℕ, ◌+◌, ◌-◌, ◌*◌, ◌<◌, ◌≤◌, List, [], ◌∷◌, ◌++◌, length, get_or, set, slice_range, Option, Some, None, unwrap_or, ◌==◌, nat_lt, if◌then◌else◌, refl, sym, ap, subst, ◌∙◌, inl, inr, arith, take, replicate}
 use Rattle.std.proofs.lemmas.Bool.{cases_lt, cond-true, cond-false, lt-ltb, le-ltb}
 use Rattle.raw_region.specs.Bytes.{put}
-use Rattle.raw_region.proofs.Puts.{length-put}
-use Rattle.lmem_heap.proofs.Runs.{get_or-put, get_or-put_before, get_or-put_past}
+use Rattle.raw_region.proofs.Puts.{length-put, spliced, put_is}
+use Rattle.lmem_heap.proofs.EditLemmas.{get_or-put, get_or-put_before, get_or-put_past, word_kept, entry_kept}
 use Rattle.lmem_heap.specs.declared.space.Space.{Space}
 use Rattle.lmem_heap.specs.Pieces.{word_in, entry, Used, size_head, Lies, IsFresh}
 use Rattle.lmem_heap.specs.Tiled.{IsTiled, chunks_in, offset_under}
-use Rattle.lmem_heap.specs.Kept.{IsKept}
-use Rattle.lmem_heap.proofs.Writes.{word_kept, entry_kept}
-use Rattle.lmem_heap.proofs.Tiles.{lies_split, shaped_split}
-use Rattle.lmem_heap.proofs.Chunks.{piece_size, piece_bytes, piece_chunk, piece_others, under_dead, chunk_in, length-chunks_in}
-use Rattle.lmem_heap.proofs.Editing.{IsEdit, edited, edited_set, spares_edited, chain_edited, Each, each_all, IsLinkKept, count_edited, frees_edited}
-use Rattle.lmem_heap.proofs.Filling.{live_slot, IsLivePiece}
-use Rattle.lmem_heap.proofs.Known.{entry_ends}
+use Rattle.lmem_heap.specs.Space.{IsWellFormed}
+use Rattle.lmem_heap.proofs.PieceLemmas.{lies_split, shaped_split}
+use Rattle.lmem_heap.proofs.TiledLemmas.{piece_size, piece_bytes, piece_chunk, piece_others, under_dead, chunk_in, length-chunks_in, IsEdit, edited, edited_set, spares_edited, chain_edited, Each, each_all, IsLinkKept, count_edited, frees_edited}
+use Rattle.lmem_heap.proofs.EntryLemmas.{live_slot, IsLivePiece, entry_ends}
+use Rattle.std.proofs.lemmas.List.{get_or-set_same, set-set, take_all, append-nil, take_at, length-take}
+use Rattle.geos_model.specs.Bytes.{resized}
+use Rattle.lmem_heap.proofs.ResizingLemmas.{count_resized}
+use Rattle.std.specs.List as list
+
+-- ---- the bytes of a chunk are read, and written over where they lie
 
 -- ---- reading
 
@@ -35,7 +38,7 @@ chunk_empty xs t i p l is one =
     let e : entry xs i ≡ 1 = sym is ∙ one in
     sym (chunk_in xs t i l ∙ (under_dead xs (entry xs i) (omega arith) ∙ ap (λ (k : ℕ). if k == 0 then None else Some []) e))
 
-pub chunk_some : (s : Space) (k : IsKept s) (i p n : ℕ) → i < s.slots → p ≡ entry s.region i → 1 < p → n ≡ word_in s.region p → Some (slice_range s.region (p + 2) (p + 2 + n)) ≡ get_or (chunks_in s.region s.slots) i None
+pub chunk_some : (s : Space) (k : IsWellFormed s) (i p n : ℕ) → i < s.slots → p ≡ entry s.region i → 1 < p → n ≡ word_in s.region p → Some (slice_range s.region (p + 2) (p + 2 + n)) ≡ get_or (chunks_in s.region s.slots) i None
 chunk_some s k i p n l is live value =
     let h = live_slot s.region s.slots s.low k.pieces i k.held.tiled l (omega arith) in let a = h.before in let b = h.bytes in let d = h.after in
     let e = entry s.region i in
@@ -47,7 +50,7 @@ chunk_some s k i p n l is live value =
 
 -- ---- writing
 
-module _ (s : Space) (k : IsKept s) (ys : List ℕ) (p i n at : ℕ) (ws : List ℕ) (f : IsLivePiece s k i p n) (within : i < s.slots) (range : at + length ws ≤ n) (is : ys ≡ put s.region (p + 2 + at) ws) where
+module _ (s : Space) (k : IsWellFormed s) (ys : List ℕ) (p i n at : ℕ) (ws : List ℕ) (f : IsLivePiece s k i p n) (within : i < s.slots) (range : at + length ws ≤ n) (is : ys ≡ put s.region (p + 2 + at) ws) where
   fits : p + 2 + at + length ws ≤ length s.region
   fits = let long = f.held.tiled.long in let ends = f.ends in omega arith
 
@@ -114,8 +117,8 @@ module _ (s : Space) (k : IsKept s) (ys : List ℕ) (p i n at : ℕ) (ws : List 
   write_tiled : IsTiled ys s.slots s.low (f.before ++ (Used i (put f.bytes at ws) ∷ f.after))
   write_tiled = edited s.region ys s.slots i s.low p f.before (Used i f.bytes ∷ []) (Used i (put f.bytes at ws) ∷ []) f.after f.held.tiled f.place write_edit others.0 others.1
 
-  pub written_kept : IsKept (record { region = ys; slots = s.slots; low = s.low; head = s.head; total = s.total })
-  written_kept =
+  pub written_well_formed : IsWellFormed (record { region = ys; slots = s.slots; low = s.low; head = s.head; total = s.total })
+  written_well_formed =
       let old = Used i f.bytes ∷ [] in let new = Used i (put f.bytes at ws) ∷ [] in
       record {
         pieces = f.before ++ (Used i (put f.bytes at ws) ∷ f.after);
@@ -144,5 +147,59 @@ module _ (s : Space) (k : IsKept s) (ys : List ℕ) (p i n at : ℕ) (ws : List 
 pub slot_within : (s : Space) (i : ℕ) → i < length (chunks_in s.region s.slots) → i < s.slots
 slot_within s i l = omega (arith, length-chunks_in s.region s.slots)
 
-pub slot_low : (s : Space) (i : ℕ) → IsKept s → i < length (chunks_in s.region s.slots) → 18 + 2 * i ≤ 65520
+pub slot_low : (s : Space) (i : ℕ) → IsWellFormed s → i < length (chunks_in s.region s.slots) → 18 + 2 * i ≤ 65520
 slot_low s i k l = entry_ends k i (slot_within s i l)
+
+-- ---- bytes that are put in the place of others in a chunk
+
+-- a slot's chunk is changed twice
+pub set_twice : (cs ls ws : List (Option (List ℕ))) (i : ℕ) (b : List ℕ) (f : List ℕ → List ℕ) → i < length cs → ls ≡ set cs i (Some b) → ws ≡ set ls i (Some (f (unwrap_or (get_or ls i None) []))) → ws ≡ set cs i (Some (f b))
+set_twice cs ls ws i b f l first second =
+    let there : unwrap_or (get_or ls i None) [] ≡ b = ap (λ (c : List (Option (List ℕ))). unwrap_or (get_or c i None) []) first ∙ ap (λ (o : Option (List ℕ)). unwrap_or o []) (get_or-set_same cs i (Some b) None l) in
+    second ∙ (ap (λ (x : List ℕ). set ls i (Some (f x))) there ∙ (ap (λ (c : List (Option (List ℕ))). set c i (Some (f b))) first ∙ set-set cs i (Some b) (Some (f b))))
+
+pub bytes_set : (cs ls : List (Option (List ℕ))) (i : ℕ) (b : List ℕ) → i < length cs → ls ≡ set cs i (Some b) → unwrap_or (get_or ls i None) [] ≡ b
+bytes_set cs ls i b l is = ap (λ (c : List (Option (List ℕ))). unwrap_or (get_or c i None) []) is ∙ ap (λ (o : Option (List ℕ)). unwrap_or o []) (get_or-set_same cs i (Some b) None l)
+
+-- the bytes that stand behind slide, and the new ones are written
+overlaid : (xs b ws : List ℕ) (at k n : ℕ) → length b ≤ length xs → b ≡ take (length b) xs → at + k ≤ length b → length b + length ws ≤ length xs + k → n + k ≡ length b + length ws
+    → take n (put (put xs (at + length ws) (slice_range xs (at + k) (length b))) at ws) ≡ list.splice b at (at + k) ws
+overlaid xs b ws at k n short front range room count =
+    let moved = slice_range xs (at + k) (length b) in
+    spliced xs (put xs (at + length ws) moved) (put (put xs (at + length ws) moved) at ws) ws b (length b) at k n short front range room
+    (ap (λ (j : ℕ). put xs (at + length ws) (slice_range xs (at + k) j)) (omega arith)) refl (omega arith)
+
+-- the chunk was made longer first
+pub replaced_longer : (b ws : List ℕ) (at k size n : ℕ) → size ≡ length b → at + k ≤ length b → n ≡ size - k + length ws → size < n
+    → put (put (resized b n) (at + length ws) (slice_range (resized b n) (at + k) size)) at ws ≡ list.splice b at (at + k) ws
+replaced_longer b ws at k size n is range count longer =
+    let xs = resized b n in let long = count_resized b n in let z : List ℕ = replicate (n - length b) 0 in
+    let front : b ≡ take (length b) xs = sym (ap (λ (l : List ℕ). take (length b) (l ++ z)) (take_all n b (omega arith)) ∙ take_at b z (length b) refl) in
+    let ys = put xs (at + length ws) (slice_range xs (at + k) (length b)) in
+    ap (λ (j : ℕ). put (put xs (at + length ws) (slice_range xs (at + k) j)) at ws) is
+    ∙ (sym (take_all n (put ys at ws) (omega (arith, length-put ys ws at, length-put xs (slice_range xs (at + k) (length b)) (at + length ws)))) ∙ overlaid xs b ws at k n (omega arith) front range (omega arith) (omega arith))
+
+-- it is made shorter afterwards
+pub replaced_shorter : (b ws : List ℕ) (at k size n : ℕ) → size ≡ length b → at + k ≤ length b → n ≡ size - k + length ws → n ≤ size
+    → resized (put (put b (at + length ws) (slice_range b (at + k) size)) at ws) n ≡ list.splice b at (at + k) ws
+replaced_shorter b ws at k size n is range count shorter =
+    let ys = put b (at + length ws) (slice_range b (at + k) (length b)) in let zs = put ys at ws in
+    let long : length zs ≡ length b = length-put ys ws at ∙ length-put b (slice_range b (at + k) (length b)) (at + length ws) in
+    let none : n - length zs ≡ 0 = omega arith in
+    ap (λ (j : ℕ). resized (put (put b (at + length ws) (slice_range b (at + k) j)) at ws) n) is
+    ∙ (ap (λ (j : ℕ). take n zs ++ replicate j 0) none ∙ (append-nil (take n zs) ∙ overlaid b b ws at k n (omega arith) (sym (take_all (length b) b (omega arith))) range (omega arith) (omega arith)))
+
+-- it keeps its size
+pub replaced_same : (b ws : List ℕ) (at k : ℕ) → k ≡ length ws → at + length ws ≤ length b → put b at ws ≡ list.splice b at (at + k) ws
+replaced_same b ws at k same range = put_is b ws at range ∙ ap (λ (j : ℕ). list.splice b at (at + j) ws) (sym same)
+
+-- ---- another size
+
+pub resized_empty : (b : List ℕ) (n : ℕ) → length b ≡ 0 → resized b n ≡ replicate n 0
+resized_empty b n none =
+    let all : n - length b ≡ n = omega arith in
+    ap (λ (k : ℕ). take n b ++ replicate k 0) all ∙ ap (λ (l : List ℕ). l ++ replicate n 0) (no_bytes (take n b) (omega (arith, length-take n b)))
+  where
+    no_bytes : (l : List ℕ) → length l ≡ 0 → l ≡ []
+    no_bytes [] e = refl
+    no_bytes (x ∷ l) e = absurd (omega arith)

@@ -3,7 +3,6 @@ use Rattle.std.proofs.Common.{◌≡◌, ℕ, zero, suc, ◌+◌, ◌-◌, ◌*�
 use Rattle.std.proofs.lemmas.Bool.{cases_lt, cases_eq, cond-true, cond-false, lt-ltb, le-ltb, leb-true, ne_eqb}
 use Rattle.std.proofs.lemmas.List.{length-replicate, length-set, append-nil, take_more, take_all, length-take, length-take-le, length-drop}
 use Rattle.std.proofs.lemmas.List.Sums.{sum_by-set, sum_by_more}
-use Rattle.std.specs.List as list
 use Rattle.std.specs.Option.{option_map, option_map_or}
 use Rattle.std.specs.Ordering.{nat_cmp}
 use Rattle.std.specs.FinMap.{FinMap, get, insert, remove, keys, contains_key}
@@ -11,17 +10,17 @@ use Rattle.geos_model.proofs.Table.{slot_space, table_entries, table_map, first_
 use Rattle.geos_model.specs.Heap.{ChunkMap, need, next_chunk, fits, fits_with, fits_new, space_of, is_chunk_handle, is_heap_map, chunk_bytes}
 use Rattle.geos_model.specs.Bytes.{resized}
 use Rattle.geos_model.proofs.Tables.{slot_at_within, slots_to, length-slots_to, slot_at-slots_to, put_at, put_at-within, length-put_at, table_map-same, table_map-cut, table_map-put, table_map-clear, next_chunk-table, get-table_map_at, get-table_map_off, first_gap_none, first_gap-take, first_gap-clear, first_gap-put_other, first_gap-put_first, first_gap_below, keys-table_map}
-use Rattle.geos_model.proofs.HeapTables.{need-table, trimmed-put, is_heap_map-trimmed, live_handle, space-same, slot_space_le, is_chunk_handle-parts, space_of_ge}
+use Rattle.geos_model.proofs.HeapTables.{need-table, trimmed-put, is_heap_map-trimmed, live_handle, space-same, slot_space_le, is_chunk_handle-parts, space_of_ge, image-table, slot_size_word, slot_bytes}
 use Rattle.raw_region.specs.Bytes.{put}
 use Rattle.raw_region.proofs.Puts.{put_is}
 use Rattle.lmem_heap.specs.Stored.{Stored}
 use Rattle.lmem_heap.specs.Placed.{Placed, placed_in}
 use Rattle.geos_model.specs.Image.{image}
 use Rattle.geos_model.specs.Words.{word}
-use Rattle.geos_model.specs.declared.command.Body.TheVariants as bodies
-use Rattle.geos_model.proofs.HeapTables.{image-table, slot_size_word, slot_bytes}
 use Rattle.lmem_heap.specs.Packed.{Slots}
 use Rattle.lmem_heap.specs.Slots.{space_in, need_of, need_in, IsCounted}
+use Rattle.std.specs.List as list
+use Rattle.geos_model.specs.declared.command.Body.TheVariants as bodies
 
 -- the finite maps that a table shows
 pub shown_chunks : (m : Stored) (p : Placed) → placed_in m ≡ p → table_map 2 16 m.chunks ≡ p.chunks
@@ -240,14 +239,14 @@ module _ (t g : Slots) (i k : ℕ) (count : k ≡ max (length t) (i + 1)) (grown
   opened_is : g ≡ slots_to t i
   opened_is = let same : k - length t ≡ i + 1 - length t = omega arith in grown ∙ ap (λ (m : ℕ). t ++ replicate m None) same
 
-  none_still : get_or g i None ≡ None
-  none_still = ap (λ (x : Slots). get_or x i None) opened_is ∙ (slot_at-slots_to t i i ∙ none)
+  none_unmoved : get_or g i None ≡ None
+  none_unmoved = ap (λ (x : Slots). get_or x i None) opened_is ∙ (slot_at-slots_to t i i ∙ none)
 
   pub zeros_put : (size : ℕ) → set g i (Some (replicate size 0)) ≡ put_at t i (replicate size 0)
   zeros_put size = ap (λ (x : Slots). set x i (Some (replicate size 0))) opened_is
 
   pub none_bytes : length (unwrap_or (get_or g i None) []) ≡ 0
-  none_bytes = ap (λ (o : Option (List ℕ)). length (unwrap_or o [])) none_still
+  none_bytes = ap (λ (o : Option (List ℕ)). length (unwrap_or o [])) none_unmoved
 
   pub in_slots : i < length g
   in_slots = omega (arith, ap length opened_is, length-slots_to t i)

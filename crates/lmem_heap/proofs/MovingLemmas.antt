@@ -7,26 +7,24 @@ use Rattle.lmem_heap.specs.declared.space.Space.{Space}
 use Rattle.lmem_heap.specs.Pieces.{word_in, entry, piece_space, Piece, Used, Free, size_head, Lies, IsFresh, spaces}
 use Rattle.lmem_heap.specs.Edits.{Same, IsSet, IsCopied}
 use Rattle.lmem_heap.specs.Tiled.{IsTiled, chunk_under, chunks_in}
-use Rattle.lmem_heap.specs.Kept.{IsSpareAt, IsOther, IsHeld, IsSpaced, IsLoose, IsStill, IsReady, IsResized}
-use Rattle.lmem_heap.proofs.Writes.{word_kept, entry_kept, entry_set, entry_other, set_before, set_behind}
-use Rattle.lmem_heap.proofs.Tiles.{lies_split, shaped_split, fresh_append, fresh_split}
-use Rattle.lmem_heap.proofs.Chunks.{piece_chunk, piece_others, chunk_in}
-use Rattle.lmem_heap.proofs.Editing.{shaped_fresh, IsEdit, edited_set, edited_still, spare_bounds, spare_parts, spare_right, spare_edited, Each, each_all, each_other, IsLinkKept}
-use Rattle.lmem_heap.proofs.Rooms.{free_facts}
-use Rattle.lmem_heap.proofs.Links.{IsSpareSplit, spare_split}
-use Rattle.lmem_heap.proofs.Filling.{used_other, IsLivePiece, live_piece, free_edit}
-use Rattle.lmem_heap.proofs.Known.{loose_kept}
-use Rattle.lmem_heap.proofs.Shown.{live_of, size_is}
-use Rattle.lmem_heap.proofs.Sizing.{count_resized, resized_front, resized_zeros, held_edited}
+use Rattle.lmem_heap.specs.Space.{IsSpareAt, IsOther, HasPieces, IsWellFormedBut, IsDetached, IsUnmoved, IsReady, IsResized}
+use Rattle.lmem_heap.proofs.EditLemmas.{word_kept, entry_kept, entry_set, entry_other, set_before, set_behind}
+use Rattle.lmem_heap.proofs.PieceLemmas.{lies_split, shaped_split, fresh_append, fresh_split}
+use Rattle.lmem_heap.proofs.TiledLemmas.{piece_chunk, piece_others, chunk_in, shaped_fresh, IsEdit, edited_set, edited_unmoved, spare_bounds, spare_parts, spare_right, spare_edited, Each, each_all, each_other, IsLinkKept}
+use Rattle.lmem_heap.proofs.FreePieceLemmas.{free_facts}
+use Rattle.lmem_heap.proofs.FreeListLemmas.{IsSpareSplit, spare_split}
+use Rattle.lmem_heap.proofs.EntryLemmas.{used_other, IsLivePiece, live_piece, free_edit, detached_well_formed}
+use Rattle.lmem_heap.proofs.StoredLemmas.{live_of, size_is}
+use Rattle.lmem_heap.proofs.ResizingLemmas.{count_resized, resized_front, resized_zeros, held_edited}
 
 -- a free piece that the list lacks, by its place
-pub loose_at : (u : Space) (p room : ℕ) (cs : List Piece) (fs : List ℕ) → IsHeld u cs fs 1 → IsSpareAt u.low cs p → IsOther p fs → word_in u.region p ≡ room + 1 → IsLoose u p room
-loose_at u p room cs fs held spare other word =
+pub detached_at : (u : Space) (p room : ℕ) (cs : List Piece) (fs : List ℕ) → HasPieces u cs fs 1 → IsSpareAt u.low cs p → IsOther p fs → word_in u.region p ≡ room + 1 → IsDetached u p room
+detached_at u p room cs fs held spare other word =
     let r = spare_split u.low cs p spare in
-    let h : IsHeld u (r.before ++ (Free r.room ∷ r.after)) fs 1 = subst (λ (ds : List Piece). IsHeld u ds fs 1) (sym r.is) held in
+    let h : HasPieces u (r.before ++ (Free r.room ∷ r.after)) fs 1 = subst (λ (ds : List Piece). HasPieces u ds fs 1) (sym r.is) held in
     let F = free_facts u.region u.slots u.low p r.room r.before r.after h.tiled r.place in
     let same : r.room ≡ room = omega (arith, F.0) in
-    record { before = r.before; after = r.after; free = fs; held = subst (λ (n : ℕ). IsHeld u (r.before ++ (Free n ∷ r.after)) fs 1) same h; place = r.place; other = other }
+    record { before = r.before; after = r.after; free = fs; held = subst (λ (n : ℕ). HasPieces u (r.before ++ (Free n ∷ r.after)) fs 1) same h; place = r.place; other = other }
 
 -- a free piece ends where the pieces do, or before
 spare_ends : (xs : List ℕ) (p : ℕ) (cs : List Piece) (r f : ℕ) → Lies size_head xs p cs r → IsSpareAt p cs f → f + word_in xs f ≤ p + spaces cs + 1
@@ -37,7 +35,7 @@ spare_ends xs p (Free s ∷ cs) r f l (inr there) = omega (arith, spare_ends xs 
 
 -- ---- bytes are written into a free piece
 
-module _ (s : Space) (q room : ℕ) (f : IsLoose s q room) (ys : List ℕ) (long : length ys ≡ 65520) (before : Same s.region ys 0 (q + 2)) (behind : Same s.region ys (q + room) 65520) where
+module _ (s : Space) (q room : ℕ) (f : IsDetached s q room) (ys : List ℕ) (long : length ys ≡ 65520) (before : Same s.region ys 0 (q + 2)) (behind : Same s.region ys (q + room) 65520) where
   free_q : (word_in s.region q ≡ room + 1) × (q + room ≤ 65520) × (4 ≤ room) × (16 + 2 * s.slots ≤ q) × (room ≡ 4 * (room / 4))
   free_q = free_facts s.region s.slots s.low q room f.before f.after f.held.tiled f.place
 
@@ -67,8 +65,8 @@ module _ (s : Space) (q room : ℕ) (f : IsLoose s q room) (ys : List ℕ) (long
   over_links : Each (IsLinkKept s.region ys q (Free room ∷ []) (Free room ∷ [])) f.free
   over_links = each_other (IsLinkKept s.region ys q (Free room ∷ []) (Free room ∷ [])) q (λ g ne h. elim h [ inl here ↦ absurd (ne (sym here)) | inr none ↦ absurd none ]) f.free f.other
 
-  over_loose : IsLoose (record { region = ys; slots = s.slots; low = s.low; head = s.head; total = s.total }) q room
-  over_loose = record {
+  over_detached : IsDetached (record { region = ys; slots = s.slots; low = s.low; head = s.head; total = s.total }) q room
+  over_detached = record {
     before = f.before;
     after = f.after;
     free = f.free;
@@ -77,22 +75,22 @@ module _ (s : Space) (q room : ℕ) (f : IsLoose s q room) (ys : List ℕ) (long
     other = f.other;
   }
 
-  over_still : IsStill s (record { region = ys; slots = s.slots; low = s.low; head = s.head; total = s.total })
-  over_still = record {
+  over_unmoved : IsUnmoved s (record { region = ys; slots = s.slots; low = s.low; head = s.head; total = s.total })
+  over_unmoved = record {
     slots = refl;
     total = refl;
     entries = λ j l. over_edit.others j l (λ e. omega arith);
-    chunks = edited_still s.region ys s.slots s.slots s.low q f.before (Free room ∷ []) (Free room ∷ []) f.after f.held.tiled f.place over_edit front_fresh back_fresh (omega arith);
+    chunks = edited_unmoved s.region ys s.slots s.slots s.low q f.before (Free room ∷ []) (Free room ∷ []) f.after f.held.tiled f.place over_edit front_fresh back_fresh (omega arith);
   }
 
-pub copied_loose : {ys : List ℕ} {p size : ℕ} (s : Space) (q n : ℕ) → IsLoose s q (piece_space n) → IsCopied s.region ys p q size n → IsLoose (record { region = ys; slots = s.slots; low = s.low; head = s.head; total = s.total }) q (piece_space n)
-copied_loose {ys = ys} s q n f c = over_loose s q (piece_space n) f ys (c.long ∙ f.held.tiled.long) (record { at = λ j from to. c.before j to }) (record { at = λ j from to. c.behind j (omega arith) })
+pub copied_detached : {ys : List ℕ} {p size : ℕ} (s : Space) (q n : ℕ) → IsDetached s q (piece_space n) → IsCopied s.region ys p q size n → IsDetached (record { region = ys; slots = s.slots; low = s.low; head = s.head; total = s.total }) q (piece_space n)
+copied_detached {ys = ys} s q n f c = over_detached s q (piece_space n) f ys (c.long ∙ f.held.tiled.long) (record { at = λ j from to. c.before j to }) (record { at = λ j from to. c.behind j (omega arith) })
 
-pub copied_still : {ys : List ℕ} {p size : ℕ} (s : Space) (q n : ℕ) → IsLoose s q (piece_space n) → IsCopied s.region ys p q size n → IsStill s (record { region = ys; slots = s.slots; low = s.low; head = s.head; total = s.total })
-copied_still {ys = ys} s q n f c = over_still s q (piece_space n) f ys (c.long ∙ f.held.tiled.long) (record { at = λ j from to. c.before j to }) (record { at = λ j from to. c.behind j (omega arith) })
+pub copied_unmoved : {ys : List ℕ} {p size : ℕ} (s : Space) (q n : ℕ) → IsDetached s q (piece_space n) → IsCopied s.region ys p q size n → IsUnmoved s (record { region = ys; slots = s.slots; low = s.low; head = s.head; total = s.total })
+copied_unmoved {ys = ys} s q n f c = over_unmoved s q (piece_space n) f ys (c.long ∙ f.held.tiled.long) (record { at = λ j from to. c.before j to }) (record { at = λ j from to. c.behind j (omega arith) })
 
 -- the bytes of a chunk
-module _ {loose : ℕ} (s : Space) (k : IsSpaced s loose) (ys : List ℕ) (i p q size n : ℕ) (g : IsLivePiece s k i p size) (within : i < s.slots) (copied : IsCopied s.region ys p q size n) where
+module _ {detached : ℕ} (s : Space) (k : IsWellFormedBut s detached) (ys : List ℕ) (i p q size n : ℕ) (g : IsLivePiece s k i p size) (within : i < s.slots) (copied : IsCopied s.region ys p q size n) where
   bytes_at : (j : ℕ) → j < size → get_or s.region (p + 2 + j) 0 ≡ get_or g.bytes j 0
   bytes_at j l =
       let parts = (lies_split size_head s.region s.low g.before (Used i g.bytes ∷ g.after) 65520 g.held.tiled.lies).1 in
@@ -109,7 +107,7 @@ module _ {loose : ℕ} (s : Space) (k : IsSpaced s loose) (ys : List ℕ) (i p q
 
 -- ---- the pieces are exchanged
 
-module _ (s : Space) (i p q size n room h : ℕ) (f : IsLoose s q room) (g : IsLivePiece s (loose_kept f) i p size) (within : i < s.slots) (some : 0 < n) (takes : room ≡ piece_space n)
+module _ (s : Space) (i p q size n room h : ℕ) (f : IsDetached s q room) (g : IsLivePiece s (detached_well_formed f) i p size) (within : i < s.slots) (some : 0 < n) (takes : room ≡ piece_space n)
     (ready : IsReady s i q n) (v1 y1 v2 y2 : List ℕ) (head1 : IsSet s.region v1 p (piece_space size + 1)) (none : IsSet v1 y1 h 0) (head2 : IsSet y1 v2 q n) (own : IsSet v2 y2 h q) (here : h ≡ 16 + 2 * i) where
   abbrev s1 : Space
   s1 = record { region = y1; slots = s.slots; low = s.low; head = s.head; total = s.total - piece_space size }
@@ -143,12 +141,12 @@ module _ (s : Space) (i p q size n room h : ℕ) (f : IsLoose s q room) (g : IsL
 
   -- p becomes free
   edit1 : IsEdit s.region y1 s.slots i s.low p (Used i g.bytes ∷ []) (Free (piece_space size) ∷ [])
-  edit1 = free_edit s (loose_kept f) v1 y1 p i size 0 h g within (omega arith) head1 none here
+  edit1 = free_edit s (detached_well_formed f) v1 y1 p i size 0 h g within (omega arith) head1 none here
 
   links1 : Each (IsLinkKept s.region y1 p (Used i g.bytes ∷ []) (Free (piece_space size) ∷ [])) f.free
   links1 = each_all (IsLinkKept s.region y1 p (Used i g.bytes ∷ []) (Free (piece_space size) ∷ [])) (λ m l. absurd l) f.free
 
-  held1 : IsHeld s1 (g.before ++ (Free (piece_space size) ∷ g.after)) f.free 2
+  held1 : HasPieces s1 (g.before ++ (Free (piece_space size) ∷ g.after)) f.free 2
   held1 = held_edited s y1 i p g.before (Used i g.bytes ∷ []) (Free (piece_space size) ∷ []) g.after f.free g.held g.place edit1 others.0 others.1 links1 (s.total - piece_space size) (omega (arith, g.less, g.size)) 2 refl
 
   G : (word_in y1 p ≡ piece_space size + 1) × (p + piece_space size ≤ 65520) × (4 ≤ piece_space size) × (16 + 2 * s.slots ≤ p) × (piece_space size ≡ 4 * (piece_space size / 4))
@@ -176,8 +174,8 @@ module _ (s : Space) (i p q size n room h : ℕ) (f : IsLoose s q room) (g : IsL
   there : split1.before ++ (Free room ∷ split1.after) ≡ g.before ++ (Free (piece_space size) ∷ g.after)
   there = ap (λ (m : ℕ). split1.before ++ (Free m ∷ split1.after)) (sym room1) ∙ split1.is
 
-  held_q : IsHeld s1 (split1.before ++ (Free room ∷ split1.after)) f.free 2
-  held_q = subst (λ (cs : List Piece). IsHeld s1 cs f.free 2) (sym there) held1
+  held_q : HasPieces s1 (split1.before ++ (Free room ∷ split1.after)) f.free 2
+  held_q = subst (λ (cs : List Piece). HasPieces s1 cs f.free 2) (sym there) held1
 
   fresh_q : IsFresh i split1.before × IsFresh i split1.after
   fresh_q = fresh_split i split1.before (Free room ∷ split1.after) (subst (IsFresh i) (sym there) (fresh_append i g.before (Free (piece_space size) ∷ g.after) others.0 others.1))
@@ -215,7 +213,7 @@ module _ (s : Space) (i p q size n room h : ℕ) (f : IsLoose s q room) (g : IsL
   links2 : Each (IsLinkKept y1 y2 q (Free room ∷ []) (Used i (resized g.bytes n) ∷ [])) f.free
   links2 = each_other (IsLinkKept y1 y2 q (Free room ∷ []) (Used i (resized g.bytes n) ∷ [])) q (λ m ne l. elim l [ inl same ↦ absurd (ne (sym same)) | inr not ↦ absurd not ]) f.free f.other
 
-  held2 : IsHeld s2 (split1.before ++ (Used i (resized g.bytes n) ∷ split1.after)) f.free 1
+  held2 : HasPieces s2 (split1.before ++ (Used i (resized g.bytes n) ∷ split1.after)) f.free 1
   held2 = held_edited s1 y2 i q split1.before (Free room ∷ []) (Used i (resized g.bytes n) ∷ []) split1.after f.free held_q split1.place edit2 fresh_q.0 fresh_q.1 links2 (s.total - piece_space size + piece_space n) (omega (arith, ap piece_space count)) 1 refl
 
   -- p is still free
@@ -230,8 +228,8 @@ module _ (s : Space) (i p q size n room h : ℕ) (f : IsLoose s q room) (g : IsL
     | inr high ↦ word_kept y1 y2 p q p (record { at = λ k from to. kept2 k to (omega (arith, G.3)) }) (omega arith) (omega (arith, high, G.2)) ∙ G.0
   ]
 
-  pub exchanged : IsLoose (record { region = y2; slots = s.slots; low = s.low; head = s.head; total = s.total - piece_space size + piece_space n }) p (piece_space (word_in s.region (entry s.region i)))
-  exchanged = subst (λ (m : ℕ). IsLoose s2 p (piece_space m)) g.value (loose_at s2 p (piece_space size) (split1.before ++ (Used i (resized g.bytes n) ∷ split1.after)) f.free held2 spare_p
+  pub exchanged : IsDetached (record { region = y2; slots = s.slots; low = s.low; head = s.head; total = s.total - piece_space size + piece_space n }) p (piece_space (word_in s.region (entry s.region i)))
+  exchanged = subst (λ (m : ℕ). IsDetached s2 p (piece_space m)) g.value (detached_at s2 p (piece_space size) (split1.before ++ (Used i (resized g.bytes n) ∷ split1.after)) f.free held2 spare_p
       (used_other (16 + 2 * s.slots) s.low p i g.bytes g.before g.after g.held.tiled.shaped g.place f.free g.held.spare) word2)
 
   pub exchange_chunks : chunks_in y2 s.slots ≡ set (chunks_in s.region s.slots) i (Some (resized g.bytes n))
@@ -256,14 +254,14 @@ pub record IsSameSize (s u : Space) (i : ℕ) : Type 0 where
   pub live : 1 < entry u.region i
   pub size : word_in u.region (entry u.region i) ≡ word_in s.region (entry s.region i)
 
-pub same_size : {a b : ℕ} (s u : Space) (i : ℕ) → IsSpaced s a → IsSpaced u b → u.slots ≡ s.slots → chunks_in u.region u.slots ≡ chunks_in s.region s.slots → i < s.slots → 1 < entry s.region i → IsSameSize s u i
-same_size s u i kept_s kept_u slots chunks l live =
+pub same_size : {a b : ℕ} (s u : Space) (i : ℕ) → IsWellFormedBut s a → IsWellFormedBut u b → u.slots ≡ s.slots → chunks_in u.region u.slots ≡ chunks_in s.region s.slots → i < s.slots → 1 < entry s.region i → IsSameSize s u i
+same_size s u i well_formed_s well_formed_u slots chunks l live =
     let b = chunk_under s.region (entry s.region i) in
     let same : chunk_under u.region (entry u.region i) ≡ b = sym (chunk_in u.region u.slots i (omega arith)) ∙ (ap (λ (cs : List (Option (List ℕ))). get_or cs i None) chunks ∙ chunk_in s.region s.slots i l) in
-    let bytes = ap (λ (o : Option (List ℕ)). length (unwrap_or o [])) same in let size_s = size_is s i kept_s l live in
-    let n = word_in s.region (entry s.region i) in let f = live_piece s kept_s i (entry s.region i) n l live refl refl in
-    let live_u : 1 < entry u.region i = live_of u i kept_u (omega arith) (omega (arith, f.some)) in
-    record { live = live_u; size = sym (size_is u i kept_u (omega arith) live_u) ∙ (bytes ∙ size_s) }
+    let bytes = ap (λ (o : Option (List ℕ)). length (unwrap_or o [])) same in let size_s = size_is s i well_formed_s l live in
+    let n = word_in s.region (entry s.region i) in let f = live_piece s well_formed_s i (entry s.region i) n l live refl refl in
+    let live_u : 1 < entry u.region i = live_of u i well_formed_u (omega arith) (omega (arith, f.some)) in
+    record { live = live_u; size = sym (size_is u i well_formed_u (omega arith) live_u) ∙ (bytes ∙ size_s) }
 
 -- what comes before and after leaves the chunks as they are
 pub resized_from : (s u v w : Space) (i n : ℕ) → u.slots ≡ s.slots → u.total ≡ s.total → chunks_in u.region u.slots ≡ chunks_in s.region s.slots → word_in u.region (entry u.region i) ≡ word_in s.region (entry s.region i)

@@ -28,54 +28,65 @@ abbrev pub AreApart : List ℕ → Type 0
 AreApart [] = Unit {0}
 AreApart (f ∷ fs) = IsOther f fs × AreApart fs
 
+-- what the piece of slot i's chunk takes
+abbrev pub room_of : Space → ℕ → ℕ
+room_of s i = piece_space (word_in s.region (entry s.region i))
+
 -- the pieces of a space, and its free list, which has each free piece once but for so many
-pub record IsHeld (s : Space) (cs : List Piece) (fs : List ℕ) (loose : ℕ) : Type 0 where
+pub record HasPieces (s : Space) (cs : List Piece) (fs : List ℕ) (detached : ℕ) : Type 0 where
   pub tiled : IsTiled s.region s.slots s.low cs
   pub chain : IsChain s.region s.head fs
   pub spare : AreSpare s.low cs fs
   pub apart : AreApart fs
-  pub all : frees cs ≡ length fs + loose
+  pub all : frees cs ≡ length fs + detached
   pub count : s.total ≡ spaces (used cs)
 
 -- a space, with so many free pieces that the list lacks
-pub record IsSpaced (s : Space) (loose : ℕ) : Type 0 where
+pub record IsWellFormedBut (s : Space) (detached : ℕ) : Type 0 where
   pub pieces : List Piece
   pub free : List ℕ
-  pub held : IsHeld s pieces free loose
+  pub held : HasPieces s pieces free detached
 
 -- with none
-abbrev pub IsKept : Space → Type 0
-IsKept s = IsSpaced s 0
+abbrev pub IsWellFormed : Space → Type 0
+IsWellFormed s = IsWellFormedBut s 0
 
 -- a free piece of this room lies at p, and it alone is not in the list
-pub record IsLoose (s : Space) (p room : ℕ) : Type 0 where
+pub record IsDetached (s : Space) (p room : ℕ) : Type 0 where
   pub before : List Piece
   pub after : List Piece
   pub free : List ℕ
-  pub held : IsHeld s (before ++ (Free room ∷ after)) free 1
+  pub held : HasPieces s (before ++ (Free room ∷ after)) free 1
   pub place : p ≡ s.low + spaces before
   pub other : IsOther p free
 
 -- the table is the same, and so are the chunks, which lie where they lay
-pub record IsStill (s u : Space) : Type 0 where
+pub record IsUnmoved (s u : Space) : Type 0 where
   pub slots : u.slots ≡ s.slots
   pub total : u.total ≡ s.total
   pub entries : (j : ℕ) → j < s.slots → entry u.region j ≡ entry s.region j
   pub chunks : chunks_in u.region u.slots ≡ chunks_in s.region s.slots
+
+-- the chunks are the same, though they may lie elsewhere, and slots with no bytes keep their entries
+pub record HasSameChunks (s u : Space) : Type 0 where
+  pub slots : u.slots ≡ s.slots
+  pub total : u.total ≡ s.total
+  pub chunks : chunks_in u.region u.slots ≡ chunks_in s.region s.slots
+  pub dead : (j : ℕ) → j < s.slots → entry s.region j ≤ 1 → entry u.region j ≡ entry s.region j
 
 -- a free piece of this room lies at p
 pub record HasFree (s : Space) (p room : ℕ) : Type 0 where
   pub before : List Piece
   pub after : List Piece
   pub free : List ℕ
-  pub held : IsHeld s (before ++ (Free room ∷ after)) free 0
+  pub held : HasPieces s (before ++ (Free room ∷ after)) free 0
   pub place : p ≡ s.low + spaces before
 
 -- none of the first pieces of the free list has this room
 pub record HasNone (s : Space) (room : ℕ) : Type 0 where
   pub pieces : List Piece
   pub free : List ℕ
-  pub held : IsHeld s pieces free 0
+  pub held : HasPieces s pieces free 0
   pub none : (k : ℕ) → k < 128 → k < length free → word_in s.region (get_or free k 0) ≤ room
 
 -- `place` is the first piece of the list, or the next one behind `prev`
@@ -83,13 +94,13 @@ pub record IsFirst (s : Space) (prev place : ℕ) : Type 0 where
   pub pieces : List Piece
   pub back : List ℕ
   pub none : prev ≡ 0
-  pub held : IsHeld s pieces (place ∷ back) 0
+  pub held : HasPieces s pieces (place ∷ back) 0
 
 pub record IsNext (s : Space) (prev place : ℕ) : Type 0 where
   pub pieces : List Piece
   pub front : List ℕ
   pub back : List ℕ
-  pub held : IsHeld s pieces (front ++ (prev ∷ (place ∷ back))) 0
+  pub held : HasPieces s pieces (front ++ (prev ∷ (place ∷ back))) 0
 
 abbrev pub IsLinked : Space → ℕ → ℕ → Type 0
 IsLinked s prev place = IsFirst s prev place ⊎ IsNext s prev place
@@ -101,7 +112,7 @@ pub record IsChanged (s u : Space) (i : ℕ) (chunk : Option (List ℕ)) : Type 
   pub chunks : chunks_in u.region u.slots ≡ set (chunks_in s.region s.slots) i chunk
 
 -- where the bytes of slot i's chunk lie, and how many there are; none where it has no piece
-pub record IsRun (xs : List ℕ) (i from size : ℕ) : Type 0 where
+pub record IsRunOf (xs : List ℕ) (i from size : ℕ) : Type 0 where
   pub ends : from + size ≤ 65520
   pub none : entry xs i ≤ 1 → size ≡ 0
   pub some : 1 < entry xs i → (from ≡ entry xs i + 2) × (size ≡ word_in xs (entry xs i))
@@ -112,7 +123,7 @@ pub record HasNext (s : Space) (i room : ℕ) : Type 0 where
   pub bytes : List ℕ
   pub after : List Piece
   pub free : List ℕ
-  pub held : IsHeld s (before ++ (Used i bytes ∷ (Free room ∷ after))) free 1
+  pub held : HasPieces s (before ++ (Used i bytes ∷ (Free room ∷ after))) free 1
   pub other : IsOther (s.low + spaces before + piece_space (length bytes)) free
 
 -- the chunk of slot i, which has a piece, is cut, or has zeros behind it; every other slot has its own

@@ -10,13 +10,13 @@ use Rattle.raw_region.proofs.Puts.{put_is, length-put, put-cut}
 use Rattle.lmem_heap.specs.declared.space.Space.{Space}
 use Rattle.lmem_heap.specs.Pieces.{word_in, entry}
 use Rattle.lmem_heap.specs.Tiled.{chunk_under, chunks_in}
-use Rattle.lmem_heap.specs.Kept.{IsKept, IsRun}
+use Rattle.lmem_heap.specs.Space.{IsWellFormed, IsRunOf}
 use Rattle.lmem_heap.specs.Stored.{Stored, store_of, offsets_in, IsStored}
 use Rattle.lmem_heap.specs.LendsChunk.{with_chunk}
-use Rattle.lmem_heap.proofs.Chunks.{under_piece, under_dead}
-use Rattle.lmem_heap.proofs.Filling.{IsLivePiece, live_piece}
-use Rattle.lmem_heap.proofs.Writing.{written_kept, written_entries, written_chunks}
-use Rattle.lmem_heap.proofs.Shown.{IsShown, shown, in_table, chunk_shown, size_is, offsets_same, stored_written}
+use Rattle.lmem_heap.proofs.TiledLemmas.{under_piece, under_dead}
+use Rattle.lmem_heap.proofs.EntryLemmas.{IsLivePiece, live_piece}
+use Rattle.lmem_heap.proofs.ChunkBytesLemmas.{written_well_formed, written_entries, written_chunks}
+use Rattle.lmem_heap.proofs.StoredLemmas.{IsShown, shown, in_table, chunk_shown, size_is, offsets_same, stored_written}
 
 pub put-none : (xs : List ℕ) (at : ℕ) → at ≤ length xs → put xs at [] ≡ xs
 put-none xs at le = let end : at + 0 ≡ at = omega arith in put_is xs [] at (omega arith) ∙ (ap (λ (k : ℕ). take at xs ++ drop k xs) end ∙ take-append-drop at xs)
@@ -33,7 +33,7 @@ none_bytes : (b : Bool) → length {A = ℕ} (unwrap_or (if b then None else Som
 none_bytes true = refl
 none_bytes false = refl
 
-module _ (s : Space) (m : Stored) (i from size : ℕ) (stored : IsStored s) (is : store_of s.region s.slots ≡ m) (slot : i < length m.chunks) (run : IsRun s.region i from size) where
+module _ (s : Space) (m : Stored) (i from size : ℕ) (stored : IsStored s) (is : store_of s.region s.slots ≡ m) (slot : i < length m.chunks) (run : IsRunOf s.region i from size) where
   within : i < s.slots
   within = in_table s m i stored is slot
 
@@ -44,7 +44,7 @@ module _ (s : Space) (m : Stored) (i from size : ℕ) (stored : IsStored s) (is 
   pub run_size : length (unwrap_or (get_or m.chunks i None) []) ≡ size
   run_size =
       ap (λ (o : Option (List ℕ)). length (unwrap_or o [])) (chunk_shown s m i stored is slot) ∙ elim (cases_lt 1 (entry s.region i)) [
-        | inl live ↦ let at = run.some live in size_is s i stored.kept within live ∙ sym at.1
+        | inl live ↦ let at = run.some live in size_is s i stored.well_formed within live ∙ sym at.1
         | inr dead ↦ ap (λ (o : Option (List ℕ)). length (unwrap_or o [])) (under_dead s.region (entry s.region i) dead) ∙ (none_bytes (entry s.region i == 0) ∙ sym (run.none dead))
       ]
 
@@ -56,7 +56,7 @@ module _ (s : Space) (m : Stored) (i from size : ℕ) (stored : IsStored s) (is 
         ap (λ (o : Option (List ℕ)). unwrap_or o []) (under_piece s.region (entry s.region i) live)
         ∙ (ap (λ (k : ℕ). slice_range s.region (entry s.region i + 2) (entry s.region i + 2 + k)) (sym at.1) ∙ ap (λ (k : ℕ). slice_range s.region k (k + size)) (sym at.0))
     | inr dead ↦
-        let long = stored.kept.held.tiled.long in
+        let long = stored.well_formed.held.tiled.long in
         no_items (unwrap_or (chunk_under s.region (entry s.region i)) []) (ap (λ (o : Option (List ℕ)). length (unwrap_or o [])) (under_dead s.region (entry s.region i) dead) ∙ none_bytes (entry s.region i == 0))
         ∙ sym (no_items (slice_range s.region from (from + size)) (omega (arith, length-between s.region from (from + size) (omega (arith, run.ends)), run.none dead)))
   ])
@@ -68,7 +68,7 @@ module _ (s : Space) (m : Stored) (i from size : ℕ) (stored : IsStored s) (is 
       nothing = no_items ws (omega (arith, run.none dead))
 
       same : ys ≡ s.region
-      same = let long = stored.kept.held.tiled.long in over ∙ (ap (λ (w : List ℕ). put s.region (from + at) w) nothing ∙ put-none s.region (from + at) (omega (arith, run.ends, run.none dead)))
+      same = let long = stored.well_formed.held.tiled.long in over ∙ (ap (λ (w : List ℕ). put s.region (from + at) w) nothing ∙ put-none s.region (from + at) (omega (arith, run.ends, run.none dead)))
 
       dead_chunks : chunks_in ys s.slots ≡ set m.chunks i (Some (put (unwrap_or (get_or m.chunks i None) []) at ws))
       dead_chunks =
@@ -78,8 +78,8 @@ module _ (s : Space) (m : Stored) (i from size : ℕ) (stored : IsStored s) (is 
 
     -- one with bytes
     module _ (live : 1 < entry s.region i) where
-      piece : IsLivePiece s stored.kept i (entry s.region i) (word_in s.region (entry s.region i))
-      piece = live_piece s stored.kept i (entry s.region i) (word_in s.region (entry s.region i)) within live refl refl
+      piece : IsLivePiece s stored.well_formed i (entry s.region i) (word_in s.region (entry s.region i))
+      piece = live_piece s stored.well_formed i (entry s.region i) (word_in s.region (entry s.region i)) within live refl refl
 
       fits : at + length ws ≤ word_in s.region (entry s.region i)
       fits = let there = run.some live in omega (arith, there.1)
@@ -87,16 +87,16 @@ module _ (s : Space) (m : Stored) (i from size : ℕ) (stored : IsStored s) (is 
       put_there : ys ≡ put s.region (entry s.region i + 2 + at) ws
       put_there = let there = run.some live in over ∙ ap (λ (k : ℕ). put s.region (k + at) ws) there.0
 
-    pub over_kept : IsKept (record { region = ys; slots = s.slots; low = s.low; head = s.head; total = s.total })
-    over_kept = elim (cases_lt 1 (entry s.region i)) [
-      | inl live ↦ written_kept s stored.kept ys (entry s.region i) i (word_in s.region (entry s.region i)) at ws (piece live) within (fits live) (put_there live)
-      | inr dead ↦ subst (λ (y : List ℕ). IsKept (record { region = y; slots = s.slots; low = s.low; head = s.head; total = s.total })) (sym (same dead)) stored.kept
+    pub over_well_formed : IsWellFormed (record { region = ys; slots = s.slots; low = s.low; head = s.head; total = s.total })
+    over_well_formed = elim (cases_lt 1 (entry s.region i)) [
+      | inl live ↦ written_well_formed s stored.well_formed ys (entry s.region i) i (word_in s.region (entry s.region i)) at ws (piece live) within (fits live) (put_there live)
+      | inr dead ↦ subst (λ (y : List ℕ). IsWellFormed (record { region = y; slots = s.slots; low = s.low; head = s.head; total = s.total })) (sym (same dead)) stored.well_formed
     ]
 
     pub over_chunks : chunks_in ys s.slots ≡ set m.chunks i (Some (put (unwrap_or (get_or m.chunks i None) []) at ws))
     over_chunks = elim (cases_lt 1 (entry s.region i)) [
       | inl live ↦
-          written_chunks s stored.kept ys (entry s.region i) i (word_in s.region (entry s.region i)) at ws (piece live) within (fits live) (put_there live)
+          written_chunks s stored.well_formed ys (entry s.region i) i (word_in s.region (entry s.region i)) at ws (piece live) within (fits live) (put_there live)
           ∙ ap (λ (cs : List (Option (List ℕ))). set cs i (Some (put (unwrap_or (get_or cs i None) []) at ws))) v.chunks
       | inr dead ↦ dead_chunks dead
     ]
@@ -104,14 +104,14 @@ module _ (s : Space) (m : Stored) (i from size : ℕ) (stored : IsStored s) (is 
     pub over_offsets : offsets_in ys s.slots ≡ m.offsets
     over_offsets = elim (cases_lt 1 (entry s.region i)) [
       | inl live ↦
-          offsets_same s.region ys s.slots s.slots refl (written_entries s stored.kept ys (entry s.region i) i (word_in s.region (entry s.region i)) at ws (piece live) within (fits live) (put_there live)) ∙ v.offsets
+          offsets_same s.region ys s.slots s.slots refl (written_entries s stored.well_formed ys (entry s.region i) i (word_in s.region (entry s.region i)) at ws (piece live) within (fits live) (put_there live)) ∙ v.offsets
       | inr dead ↦ ap (λ (y : List ℕ). offsets_in y s.slots) (same dead) ∙ v.offsets
     ]
 
     pub over_stored : IsStored (record { region = ys; slots = s.slots; low = s.low; head = s.head; total = s.total })
     over_stored =
         let b = unwrap_or (get_or m.chunks i None) [] in let u : Space = record { region = ys; slots = s.slots; low = s.low; head = s.head; total = s.total } in
-        stored_written s u i (put b at ws) stored over_kept within refl (over_chunks ∙ ap (λ (x : List (Option (List ℕ))). set x i (Some (put b at ws))) (sym v.chunks))
+        stored_written s u i (put b at ws) stored over_well_formed within refl (over_chunks ∙ ap (λ (x : List (Option (List ℕ))). set x i (Some (put b at ws))) (sym v.chunks))
         (ap (λ (x : List (Option (List ℕ))). is_some (get_or x i None)) v.chunks ∙ some) (length-put b ws at ∙ ap (λ (x : List (Option (List ℕ))). length (unwrap_or (get_or x i None) [])) (sym v.chunks))
 
 slice-slice : (xs : List ℕ) (from size at n : ℕ) → from + size ≤ length xs → at + n ≤ size → slice_range xs (from + at) (from + at + n) ≡ slice_range (slice_range xs from (from + size)) at (at + n)
@@ -123,13 +123,13 @@ slice-slice xs from size at n le inside =
     ∙ (sym (get_or-between xs from (from + size) (at + k) 0 (omega arith)) ∙ sym (get_or-between b at (at + n) k 0 (omega arith)))))
 
 -- a part of a slot's chunk
-pub run_part : (s : Space) (m : Stored) (i from size at n : ℕ) → IsStored s → store_of s.region s.slots ≡ m → i < length m.chunks → IsRun s.region i from size → at + n ≤ size
+pub run_part : (s : Space) (m : Stored) (i from size at n : ℕ) → IsStored s → store_of s.region s.slots ≡ m → i < length m.chunks → IsRunOf s.region i from size → at + n ≤ size
     → slice_range s.region (from + at) (from + at + n) ≡ slice_range (unwrap_or (get_or m.chunks i None) []) at (at + n)
 run_part s m i from size at n stored is slot run inside =
-    slice-slice s.region from size at n (let long = stored.kept.held.tiled.long in omega (arith, run.ends)) inside ∙ ap (λ (b : List ℕ). slice_range b at (at + n)) (run_bytes s m i from size stored is slot run)
+    slice-slice s.region from size at n (let long = stored.well_formed.held.tiled.long in omega (arith, run.ends)) inside ∙ ap (λ (b : List ℕ). slice_range b at (at + n)) (run_bytes s m i from size stored is slot run)
 
 -- the chunk is lent, and comes back with the bytes w
-module _ (s : Space) (m : Stored) (i from size : ℕ) (stored : IsStored s) (is : store_of s.region s.slots ≡ m) (slot : i < length m.chunks) (run : IsRun s.region i from size) (some : is_some (get_or m.chunks i None) ≡ true) (w : List ℕ) where
+module _ (s : Space) (m : Stored) (i from size : ℕ) (stored : IsStored s) (is : store_of s.region s.slots ≡ m) (slot : i < length m.chunks) (run : IsRunOf s.region i from size) (some : is_some (get_or m.chunks i None) ≡ true) (w : List ℕ) where
   there : put s.region from (take size w) ≡ put s.region (from + 0) (take size w)
   there = let at : from ≡ from + 0 = omega arith in ap (λ (k : ℕ). put s.region k (take size w)) at
 

@@ -9,14 +9,14 @@ use Rattle.geos_model.proofs.Table.{slot_space, table_map, IsTrimmed}
 use Rattle.geos_model.specs.Heap.{ChunkMap, need, is_heap_map}
 use Rattle.geos_model.specs.Image.{image}
 use Rattle.geos_model.specs.Words.{word, word_at}
-use Rattle.geos_model.specs.declared.command.Body.TheVariants as bodies
 use Rattle.geos_model.proofs.HeapTables.{image-table, slot_size_word, slot_bytes, need_le, heap_map-table, space_of_ge}
 use Rattle.geos_model.proofs.Images.{word-reads_back}
 use Rattle.lmem_heap.specs.Packed.{Slots, IsTable, heads, chunks, packed, slots_in}
 use Rattle.lmem_heap.specs.Slots.{space_in, need_in}
 use Rattle.lmem_heap.specs.HeapImage.{IsHeapImage, HasHeapTable}
-use Rattle.lmem_heap.proofs.Heaps.{need_is, is_heap}
-use Rattle.lmem_heap.proofs.PackedSlots.{length-packed, length-slots_in, slots_in-packed, slot_some, slot_length, chunks-append, chunks-cons}
+use Rattle.lmem_heap.proofs.PlacedLemmas.{need_is, is_heap}
+use Rattle.lmem_heap.proofs.PackedLemmas.{length-packed, length-slots_in, slots_in-packed, slot_some, slot_length, chunks-append, chunks-cons}
+use Rattle.geos_model.specs.declared.command.Body.TheVariants as bodies
 
 -- a chunk takes no less than its bytes
 pub length-chunks_le : (t : Slots) → length (chunks t) ≤ space_in t

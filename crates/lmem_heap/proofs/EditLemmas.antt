@@ -1,14 +1,42 @@
 -- What the writes of words and the moves of bytes leave.
-use Rattle.std.proofs.Common.{◌≡◌, ◌≢◌, ℕ, ◌+◌, ◌-◌, ◌*◌, ◌<◌, ◌≤◌, List, length, get_or, slice_range, replicate, refl, sym, ap, subst, ◌∙◌, inl, inr, arith}
-use Rattle.std.proofs.lemmas.List.Edits.{length-between, get_or-between}
-use Rattle.std.proofs.lemmas.Bool.{cases_lt}
-use Rattle.std.proofs.lemmas.List.{length-replicate, get_or-replicate}
+use Rattle.std.proofs.Common.{◌≡◌, ℕ, ◌+◌, ◌/◌, ◌%◌, ◌<◌, ◌≤◌, List, ◌++◌, length, take, drop, get_or, sym, ap, ◌∙◌, arith, length-take, ◌≢◌, ◌-◌, ◌*◌, slice_range, replicate, refl, subst, inl, inr}
+use Rattle.std.proofs.lemmas.List.{get_or-take, get_or-drop, get_or_append_left, length-replicate, get_or-replicate}
 use Rattle.geos_model.specs.Words.{word}
 use Rattle.raw_region.specs.Bytes.{put}
-use Rattle.raw_region.proofs.Puts.{length-put}
-use Rattle.lmem_heap.proofs.Runs.{get_or-put, get_or-put_before, get_or-put_past, word-put_word}
+use Rattle.raw_region.proofs.Puts.{put_is, drop-put, drop-put_past, length-put}
 use Rattle.lmem_heap.specs.Pieces.{word_in, entry}
-use Rattle.lmem_heap.specs.Edits.{Same, IsSet, IsSlid, IsZeroed, IsSized, IsCopied}
+use Rattle.std.proofs.lemmas.List.Edits.{length-between, get_or-between}
+use Rattle.std.proofs.lemmas.Bool.{cases_lt, cases_eq}
+use Rattle.lmem_heap.specs.Edits.{Same, IsSet, IsSlid, IsZeroed, IsSized, IsCopied, IsLow, IsEntryLowered}
+
+-- ---- the bytes of a region one by one, after a run of them was written over
+
+module _ (xs ws : List ℕ) (at : ℕ) (le : at + length ws ≤ length xs) where
+  pub get_or-put_before : (k d : ℕ) → k < at → get_or (put xs at ws) k d ≡ get_or xs k d
+  get_or-put_before k d before =
+      ap (λ (l : List ℕ). get_or l k d) (put_is xs ws at le)
+      ∙ (get_or_append_left (take at xs) (ws ++ drop (at + length ws) xs) d k (omega (arith, length-take at xs)) ∙ get_or-take at xs k d before)
+
+  pub get_or-put : (k d : ℕ) → k < length ws → get_or (put xs at ws) (at + k) d ≡ get_or ws k d
+  get_or-put k d inside =
+      sym (get_or-drop at (put xs at ws) k d) ∙ (ap (λ (l : List ℕ). get_or l k d) (drop-put xs ws at le) ∙ get_or_append_left ws (drop (at + length ws) xs) d k inside)
+
+  pub get_or-put_past : (k d : ℕ) → at + length ws ≤ k → get_or (put xs at ws) k d ≡ get_or xs k d
+  get_or-put_past k d past =
+      let is : k + 0 ≡ k = omega arith in
+      ap (λ (j : ℕ). get_or (put xs at ws) j d) (sym is)
+      ∙ (sym (get_or-drop k (put xs at ws) 0 d) ∙ (ap (λ (l : List ℕ). get_or l 0 d) (drop-put_past xs ws at le k past) ∙ (get_or-drop k xs 0 d ∙ ap (λ (j : ℕ). get_or xs j d) is)))
+
+-- a word that was written
+pub word-put_word : (xs : List ℕ) (at v : ℕ) → at + 2 ≤ length xs → v < 65536 → word_in (put xs at (word v)) at ≡ v
+unfolding word_in
+word-put_word xs at v within small =
+    let P = put xs at (word v) in let is : at + 0 ≡ at = omega arith in
+    let low : get_or P at 0 ≡ v % 256 = ap (λ (j : ℕ). get_or P j 0) (sym is) ∙ get_or-put xs (word v) at within 0 0 (omega arith) in
+    let high : get_or P (at + 1) 0 ≡ v / 256 % 256 = get_or-put xs (word v) at within 1 0 (omega arith) in
+    omega (arith, low, high)
+
+-- ---- what the writes of words and the moves of bytes leave
 
 pub entry_word : (xs : List ℕ) (i p : ℕ) → p ≡ 16 + 2 * i → word_in xs p ≡ entry xs i
 unfolding word_in entry
@@ -110,4 +138,55 @@ copied_is xs us ys p q size n le slid z = record {
   zeros = λ k from to. let is : q + 2 + size + (k - size) ≡ q + 2 + k = omega arith in ap (λ (j : ℕ). get_or ys j 0) (sym is) ∙ z.zeros (k - size) (omega arith);
   before = λ k l. z.before k (omega arith) ∙ slid.before k l;
   behind = λ k past. z.behind k (omega arith) ∙ slid.behind k (omega arith);
+}
+
+-- ---- entries go down with the pieces that they point to
+
+pub entry_lowered : (xs ys : List ℕ) (i m by e h : ℕ) → e ≡ entry xs i → by ≤ e → 1 < e → e < m → IsSet xs ys h (e - by) → h ≡ 16 + 2 * i → IsEntryLowered xs ys i m by
+entry_lowered xs ys i m by e h is enough live below written here = record {
+  long = written.long;
+  own = record {
+    low = λ l b. omega (arith, entry_set i written here);
+    high = λ past. absurd (omega arith);
+    dead = λ d. absurd (omega arith);
+  };
+  others = λ j ne. entry_other i j written here ne;
+  beyond = λ k past. written.behind k (omega arith);
+}
+
+pub entry_left : (xs : List ℕ) (i m by e : ℕ) → e ≡ entry xs i → (1 < e → e < m → ⊥) → 1 < m → IsEntryLowered xs xs i m by
+entry_left xs i m by e is none some = record {
+  long = refl;
+  own = record { low = λ l b. absurd (none (omega arith) (omega arith)); high = λ past. refl; dead = λ d. refl };
+  others = λ j ne. refl;
+  beyond = λ k past. refl;
+}
+
+pub record AreLowering (old xs : List ℕ) (t m by i : ℕ) : Type 0 where
+  pub long : length xs ≡ length old
+  pub done : (j : ℕ) → j < i → IsLow old xs m by j
+  pub todo : (j : ℕ) → i ≤ j → entry xs j ≡ entry old j
+  pub beyond : (k : ℕ) → 16 + 2 * t ≤ k → get_or xs k 0 ≡ get_or old k 0
+
+low_kept : (old xs ys : List ℕ) (m by j k : ℕ) → k ≡ j → entry ys k ≡ entry xs k → IsLow old xs m by j → IsLow old ys m by j
+low_kept old xs ys m by j k here same l =
+    let e : entry ys j ≡ entry xs j = ap (λ (q : ℕ). entry ys q) (sym here) ∙ (same ∙ ap (λ (q : ℕ). entry xs q) here) in
+    record { low = λ a b. ap (λ (q : ℕ). q + by) e ∙ l.low a b; high = λ a. e ∙ l.high a; dead = λ a. e ∙ l.dead a }
+
+low_old : (old xs ys : List ℕ) (m by i : ℕ) → entry xs i ≡ entry old i → IsLow xs ys m by i → IsLow old ys m by i
+low_old old xs ys m by i same l = record {
+  low = λ a b. l.low (omega arith) (omega arith) ∙ same;
+  high = λ a. l.high (omega arith) ∙ same;
+  dead = λ a. l.dead (omega arith) ∙ same;
+}
+
+pub lowering_next : (old xs ys : List ℕ) (t m by i : ℕ) → i < t → AreLowering old xs t m by i → IsEntryLowered xs ys i m by → AreLowering old ys t m by (i + 1)
+lowering_next old xs ys t m by i within w h = record {
+  long = h.long ∙ w.long;
+  done = λ j l. elim (cases_eq j i) [
+    | inl here ↦ subst (λ (q : ℕ). IsLow old ys m by q) (sym here) (low_old old xs ys m by i (w.todo i (omega arith)) h.own)
+    | inr other ↦ low_kept old xs ys m by j j refl (h.others j other) (w.done j (omega arith))
+  ];
+  todo = λ j above. let ne : j ≢ i = omega arith in h.others j ne ∙ w.todo j (omega arith);
+  beyond = λ k past. h.beyond k (omega arith) ∙ w.beyond k past;
 }
