@@ -1,5 +1,3 @@
-pub mod Fitting
-pub mod Texts
-pub mod Counting
-pub mod Reaching
-pub mod Taking
+pub mod PlacingLemmas
+pub mod DirectoryLemmas
+pub mod SpaceLemmas

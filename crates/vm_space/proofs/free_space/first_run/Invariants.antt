@@ -1,5 +1,5 @@
 use Rattle.std.proofs.Common.{◌-◌, length}
-use Rattle.vm_space.proofs.Counting.{Searched}
+use Rattle.vm_space.proofs.SpaceLemmas.{Searched}
 use Rattle.vm_space.proofs.free_space.first_run.Given as goal
 
 abbrev pub invariant-loop-page : goal.invariant-loop-page

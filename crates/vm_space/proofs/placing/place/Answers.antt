@@ -1,5 +1,5 @@
 use Rattle.std.proofs.Common.{arith}
-use Rattle.vm_space.proofs.Fitting.{passed-fits}
+use Rattle.vm_space.proofs.PlacingLemmas.{passed-fits}
 use Rattle.vm_space.proofs.placing.place.Goals as goal
 
 pub returns-then-page-pages : goal.returns-then-page-pages

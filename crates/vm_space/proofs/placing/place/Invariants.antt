@@ -1,4 +1,4 @@
-use Rattle.vm_space.proofs.Fitting.{Passed}
+use Rattle.vm_space.proofs.PlacingLemmas.{Passed}
 use Rattle.vm_space.proofs.placing.place.Given as goal
 
 abbrev pub invariant-loop-extent : goal.invariant-loop-extent

@@ -1,6 +1,6 @@
 use Rattle.std.proofs.Common.{◌≡◌, ℕ, ◌+◌, ◌*◌, length, eqb-true, ap, sym, ◌∙◌}
 use Rattle.byteorder.specs.Endian.{little_number}
-use Rattle.vm_space.proofs.Texts.{has_header, header-read}
+use Rattle.vm_space.proofs.DirectoryLemmas.{has_header, header-read}
 use Rattle.vm_space.proofs.format.directory.has_header.Goals.{then-is_known, else-is_known}
 use Rattle.vm_space.proofs.format.directory.has_header.Goals as goal
 

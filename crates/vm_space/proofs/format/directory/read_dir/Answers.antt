@@ -4,7 +4,7 @@ use Rattle.geos_model.specs.Words.{word_at}
 use Rattle.geos_model.specs.File.{Directory, is_map_block}
 use Rattle.geos_model.specs.declared.file.Entry.{Entry}
 use Rattle.vm_space.specs.Listed.{version_read, HasHeader, entries_read}
-use Rattle.vm_space.proofs.Texts.{header-read, directory_in-no_header, directory_in-read}
+use Rattle.vm_space.proofs.DirectoryLemmas.{header-read, directory_in-no_header, directory_in-read}
 use Rattle.vm_space.proofs.format.directory.read_dir.Goals as goal
 
 pub returns-then-not-has_header-clause-damaged : goal.returns-then-not-has_header-clause-damaged

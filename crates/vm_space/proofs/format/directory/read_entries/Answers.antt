@@ -3,7 +3,7 @@ use Rattle.byteorder.specs.Endian.{little_number}
 use Rattle.geos_model.specs.Words.{word_at}
 use Rattle.geos_model.specs.declared.file.Entry.{Entry}
 use Rattle.vm_space.specs.Listed.{version_read, IsNext}
-use Rattle.vm_space.proofs.Texts.{AreRead, entry_at, text_at, between, entry_between, next_same, header-read, read-more, read-all, read-bad}
+use Rattle.vm_space.proofs.DirectoryLemmas.{AreRead, entry_at, text_at, between, entry_between, next_same, header-read, read-more, read-all, read-bad}
 use Rattle.vm_space.proofs.format.directory.read_entries.Goals as goal
 
 pub loop-i-preserved : goal.loop-i-preserved

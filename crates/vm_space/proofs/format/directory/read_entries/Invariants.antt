@@ -1,4 +1,4 @@
-use Rattle.vm_space.proofs.Texts.{AreRead}
+use Rattle.vm_space.proofs.DirectoryLemmas.{AreRead}
 use Rattle.vm_space.proofs.format.directory.read_entries.Given as goal
 
 abbrev pub invariant-loop-i : goal.invariant-loop-i

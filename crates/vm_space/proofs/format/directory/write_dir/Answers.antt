@@ -1,6 +1,6 @@
 use Rattle.std.proofs.Common.{◌++◌, List, ℕ, ap₂, ◌∙◌, length}
 use Rattle.geos_model.specs.File.{header_text}
-use Rattle.vm_space.proofs.Texts.{text-more}
+use Rattle.vm_space.proofs.DirectoryLemmas.{text-more}
 use Rattle.vm_space.proofs.format.directory.write_dir.Goals as goal
 
 pub loop-entry-preserved : goal.loop-entry-preserved

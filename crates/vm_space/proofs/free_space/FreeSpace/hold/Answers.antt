@@ -3,7 +3,7 @@ use Rattle.std.proofs.lemmas.List.{with_items_is}
 use Rattle.geos_model.specs.File.{end_page}
 use Rattle.geos_model.specs.declared.file.Extent.{Extent}
 use Rattle.vm_space.specs.Space.{Space, AreRaised, AreTaken, IsSound}
-use Rattle.vm_space.proofs.Taking.{raised_from, taken-more, sound-more}
+use Rattle.vm_space.proofs.SpaceLemmas.{raised_from, taken-more, sound-more}
 use Rattle.vm_space.proofs.free_space.FreeSpace.hold.Goals as goal
 
 pub invariant_of-self-2 : goal.invariant_of-self-2

@@ -1,6 +1,6 @@
 use Rattle.std.proofs.Common.{ℕ, List, [], sym, subst}
 use Rattle.vm_space.specs.Space.{IsSound}
-use Rattle.vm_space.proofs.Taking.{sound-none}
+use Rattle.vm_space.proofs.SpaceLemmas.{sound-none}
 use Rattle.vm_space.proofs.free_space.FreeSpace.new.Goals as goal
 
 pub invariant_of-result : goal.invariant_of-result

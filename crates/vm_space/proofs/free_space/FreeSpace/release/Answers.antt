@@ -3,7 +3,7 @@ use Rattle.std.proofs.lemmas.List.{with_items_is}
 use Rattle.geos_model.specs.File.{end_page}
 use Rattle.geos_model.specs.declared.file.Extent.{Extent}
 use Rattle.vm_space.specs.Space.{Space, AreRaised, AreTaken, IsSound}
-use Rattle.vm_space.proofs.Taking.{lowered_from, taken-less, sound-less, sound-fewer, taken_there}
+use Rattle.vm_space.proofs.SpaceLemmas.{lowered_from, taken-less, sound-less, sound-fewer, taken_there}
 use Rattle.vm_space.proofs.free_space.FreeSpace.release.Goals as goal
 
 pub count_down-requires-clause-some : goal.count_down-requires-clause-some

@@ -3,8 +3,8 @@ use Rattle.geos_model.specs.File.{pages_of, end_page}
 use Rattle.geos_model.specs.declared.file.Extent.{Extent}
 use Rattle.vm_space.specs.declared.placing.TheConstants.{MOST_EXTENTS}
 use Rattle.vm_space.specs.Space.{Space, AreRaised, AreTaken, IsSound}
-use Rattle.vm_space.proofs.Fitting.{pages_few}
-use Rattle.vm_space.proofs.Taking.{found_from, hint_for, run_near, run_fits, taken-raised, sound-hinted}
+use Rattle.vm_space.proofs.PlacingLemmas.{pages_few}
+use Rattle.vm_space.proofs.SpaceLemmas.{found_from, hint_for, run_near, run_fits, taken-raised, sound-hinted}
 use Rattle.vm_space.proofs.free_space.FreeSpace.take.Goals as goal
 
 pub overflow_cast-page : goal.overflow_cast-page
