@@ -9,9 +9,9 @@ use Rattle.vm_file.specs.Calls.{last_sequence}
 use Rattle.vm_file.specs.Documents.{Documents}
 use Rattle.vm_file.specs.Disk.{FileState, IsSettled, Drifts}
 use Rattle.vm_file.specs.Effects.{IsCommit}
-use Rattle.vm_file.proofs.Effects.{settled_after, committed}
-use Rattle.vm_file.proofs.Passing.{Passes-fails, Drifts-trans}
-use Rattle.vm_file.proofs.Results.{either_way, any_way}
+use Rattle.vm_file.proofs.EffectsLemmas.{settled_after, committed}
+use Rattle.vm_file.proofs.PassingLemmas.{Passes-fails, Drifts-trans}
+use Rattle.vm_file.proofs.ResultLemmas.{either_way, any_way}
 use Rattle.block_cache.specs.Frames.{overlay, covered, AreKept, Moves}
 use Rattle.block_cache.specs.declared.frame.Frame.{Frame}
 use Rattle.block_cache.proofs.Overlay.{kept_drifts, overlay_drifts}

@@ -4,7 +4,7 @@ use Rattle.std.specs.Prelude.{Option, None, Some, Result, Ok, Err, OnErr}
 use Rattle.vm_store.specs.Facts.{StoreFacts}
 use Rattle.geos_model.specs.Document.{Document}
 use Rattle.vm_file.specs.Disk.{FileState, Passes, Drifts, MarkDrifts}
-use Rattle.vm_file.proofs.Passing.{Drifts-trans}
+use Rattle.vm_file.proofs.PassingLemmas.{Drifts-trans}
 use Rattle.block_cache.specs.State.{Marks}
 use Rattle.block_cache.specs.Frames.{overlay, AreClean, Moves}
 use Rattle.block_cache.specs.declared.frame.Frame.{Frame}

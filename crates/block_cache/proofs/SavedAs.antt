@@ -9,8 +9,8 @@ use Rattle.vm_store.specs.Facts.{StoreFacts, Raised, IsTimely}
 use Rattle.vm_file.specs.Calls.{IsSupply, IsCommitRefusal, last_sequence}
 use Rattle.vm_file.specs.Disk.{FileState, IsSettled, Drifts, Passes, Commits}
 use Rattle.vm_file.specs.Effects.{Follows, IsNewFile, OnlyReads, IsCommit, Fails, NoFault, IsWorn}
-use Rattle.vm_file.proofs.Effects.{settled_after}
-use Rattle.vm_file.proofs.Passing.{Passes-refl, Passes-trans, Passes-fails, Passes-Commits, Commits-refused, Drifts-refl, Drifts-trans}
+use Rattle.vm_file.proofs.EffectsLemmas.{settled_after}
+use Rattle.vm_file.proofs.PassingLemmas.{Passes-refl, Passes-trans, Passes-fails, Passes-Commits, Commits-refused, Drifts-refl, Drifts-trans}
 use Rattle.block_cache.specs.SavingAs.{IsSavedAs, IsNotSavedAs}
 use Rattle.block_cache.specs.Frames.{overlay, covered, is_changed_in, AreKept, Moves}
 use Rattle.block_cache.specs.declared.frame.Frame.{Frame}

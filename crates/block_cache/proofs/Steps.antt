@@ -3,7 +3,7 @@ use Rattle.std.proofs.Common.{◌≡◌, ℕ, List, sym, subst, ◌∙◌}
 use Rattle.vm_store.specs.Facts.{StoreFacts}
 use Rattle.geos_model.specs.Document.{is_live}
 use Rattle.vm_file.specs.Disk.{FileState, Passes, Drifts}
-use Rattle.vm_file.proofs.Passing.{Passes-refl, Passes-trans, Drifts-refl, Drifts-trans}
+use Rattle.vm_file.proofs.PassingLemmas.{Passes-refl, Passes-trans, Drifts-refl, Drifts-trans}
 use Rattle.block_cache.specs.State.{CacheState, Stays}
 use Rattle.block_cache.specs.Frames.{seats, overlay, AreKept, Moves}
 use Rattle.block_cache.specs.declared.frame.Frame.{Frame}

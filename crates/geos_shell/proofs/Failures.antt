@@ -8,7 +8,7 @@ use Rattle.geos_model.specs.declared.command.Command.TheVariants as commands
 use Rattle.vm_store.specs.Facts.{StoreFacts, Raised, last_count, raised}
 use Rattle.vm_file.specs.Disk.{Disk, Passes}
 use Rattle.vm_file.specs.Documents.{Documents}
-use Rattle.vm_file.proofs.Passing.{Passes-refl}
+use Rattle.vm_file.proofs.PassingLemmas.{Passes-refl}
 use Rattle.undo_log.specs.Records.{has_failed}
 use Rattle.undo_log.proofs.Keeping.{failed_true}
 use Rattle.geos_shell.specs.Holdings.{AreExact, CommitsAsTold, CommitsNothing, Holding, LeavesFiles, SavesAs, Serves, Stays, TriesToCommit, failed_with, has_failed_in}

@@ -8,7 +8,7 @@ use Rattle.geos_model.specs.declared.command.Command.{Command}
 use Rattle.geos_model.specs.declared.command.Command.TheVariants as commands
 use Rattle.vm_store.specs.Facts.{StoreFacts}
 use Rattle.vm_file.specs.Disk.{Passes}
-use Rattle.vm_file.proofs.Passing.{Passes-refl}
+use Rattle.vm_file.proofs.PassingLemmas.{Passes-refl}
 use Rattle.undo_log.specs.Records.{SessionState, IsStep, has_failed, machine_of}
 use Rattle.geos_shell.specs.Holdings.{AreExact, CommitsNothing, Holding, IsTakenIfSure, LeavesFiles, Serves, Stays, held}
 use Rattle.geos_shell.specs.Runs.{AnswersOf}

@@ -15,7 +15,7 @@ use Rattle.geos_model.specs.declared.fault.Fault.TheVariants.{Memory, File, Grou
 use Rattle.vm_store.specs.Facts.{StoreFacts}
 use Rattle.vm_file.specs.Calls.{IsCommitRefusal, IsSupply, last_sequence}
 use Rattle.vm_file.specs.Disk.{Commits, Drifts, IsSettled}
-use Rattle.vm_file.proofs.Passing.{Commits-refused, Passes-refl}
+use Rattle.vm_file.proofs.PassingLemmas.{Commits-refused, Passes-refl}
 use Rattle.vm_file.specs.Effects.{IsCommit, Fails, IsWorn}
 use Rattle.vm_file.specs.Documents.{Documents}
 use Rattle.block_cache.specs.State.{CacheState, seen}

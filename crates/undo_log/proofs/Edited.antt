@@ -23,7 +23,7 @@ use Rattle.geos_model.specs.declared.fault.Fault.TheVariants.{CacheFull, Locked,
 use Rattle.geos_model.specs.declared.handle.VmHandle.{VmHandle}
 use Rattle.vm_store.specs.Facts.{StoreFacts}
 use Rattle.vm_file.specs.Disk.{Drifts}
-use Rattle.vm_file.proofs.Passing.{Passes-trans, Drifts-trans}
+use Rattle.vm_file.proofs.PassingLemmas.{Passes-trans, Drifts-trans}
 use Rattle.geos_model.proofs.InFront.{edit-judged, edit-locked, edit-passed}
 use Rattle.block_cache.specs.State.{CacheState, Seat, KeepsLocks, locks_of}
 use Rattle.vm_blocks.specs.Changes.{made, blocks_in}

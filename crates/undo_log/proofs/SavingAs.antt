@@ -14,7 +14,7 @@ use Rattle.geos_model.specs.declared.fault.Fault.TheVariants.{Memory, File, Dama
 use Rattle.vm_store.specs.Facts.{StoreFacts, Raised}
 use Rattle.vm_file.specs.Calls.{IsCommitRefusal, last_sequence}
 use Rattle.vm_file.specs.Disk.{Commits, IsSettled}
-use Rattle.vm_file.proofs.Passing.{Commits-refused, Passes-refl}
+use Rattle.vm_file.proofs.PassingLemmas.{Commits-refused, Passes-refl}
 use Rattle.vm_file.specs.Documents.{Documents}
 use Rattle.vm_blocks.specs.Committing.{IsSavedAs, IsNotSavedAs}
 use Rattle.block_cache.specs.State.{CacheState, seen}

@@ -8,7 +8,7 @@ use Rattle.geos_model.specs.declared.fault.Fault.{Fault}
 use Rattle.vm_file.specs.Disk.{Disk, Drifts, MarkDrifts, Passes, unmarked}
 use Rattle.vm_file.specs.Effects.{Fails, NoFault}
 use Rattle.vm_file.specs.Members.{saved_blocks}
-use Rattle.vm_file.proofs.Passing.{Passes-refl, Passes-trans, Drifts-refl, Drifts-trans}
+use Rattle.vm_file.proofs.PassingLemmas.{Passes-refl, Passes-trans, Drifts-refl, Drifts-trans}
 use Rattle.block_cache.specs.State.{CacheState, Seat, locks_of, locked_count, KeepsLocks, Marks}
 use Rattle.block_cache.proofs.Locks.{keeps_refl, none_locked}
 use Rattle.block_cache.proofs.Marking.{none_marked}

@@ -9,7 +9,7 @@ use Rattle.geos_model.specs.declared.fault.Fault.{Fault}
 use Rattle.geos_model.specs.declared.fault.Fault.TheVariants.{Damaged, File, Memory}
 use Rattle.vm_file.specs.Disk.{Passes, Drifts}
 use Rattle.vm_file.specs.Effects.{IsDamage}
-use Rattle.vm_file.proofs.Passing.{Passes-refl, Passes-trans, Drifts-refl, Drifts-trans}
+use Rattle.vm_file.proofs.PassingLemmas.{Passes-refl, Passes-trans, Drifts-refl, Drifts-trans}
 use Rattle.block_cache.specs.State.{CacheState, is_resident, locks_of, locked_count, all_locked, KeepsLocks, Stays}
 use Rattle.block_cache.proofs.Locks.{keeps_refl, each_locked}
 use Rattle.block_cache.proofs.Seats.{locked_there, some_free}

@@ -15,7 +15,7 @@ use Rattle.vm_file.specs.Disk.{Disk, Drifts, Passes}
 use Rattle.vm_file.specs.Effects.{Fails, IsDamage, KeepsFile, NoFault}
 use Rattle.vm_file.specs.Members.{saved_blocks}
 use Rattle.vm_file.specs.declared.member.Member.{Member}
-use Rattle.vm_file.proofs.Passing.{Passes-refl, Drifts-refl}
+use Rattle.vm_file.proofs.PassingLemmas.{Passes-refl, Drifts-refl}
 use Rattle.block_cache.specs.State.{CacheState, Seat, is_resident, seated, seen, KeepsLocks, Stays}
 use Rattle.block_cache.proofs.Locks.{keeps_refl}
 use Rattle.vm_blocks.proofs.ManyBlocks.{in_handles}

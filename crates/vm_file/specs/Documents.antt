@@ -13,10 +13,10 @@ use Rattle.geos_model.specs.declared.file.Entry.{Entry}
 use Rattle.geos_model.proofs.Table.{table_map}
 use Rattle.vm_file.specs.declared.table.Place.{Place}
 use Rattle.vm_file.specs.declared.table.Table.{Table}
-use Rattle.vm_file.specs.declared.slots.Stored.{Stored}
-use Rattle.vm_file.specs.declared.slots.Pair.{Pair}
-use Rattle.vm_file.specs.declared.slots.Other.{Other}
-use Rattle.vm_file.specs.declared.slots.Other.TheVariants.{Shut, Stale, Held}
+use Rattle.vm_file.specs.declared.table.DocumentRef.{DocumentRef}
+use Rattle.vm_file.specs.declared.table.Pair.{Pair}
+use Rattle.vm_file.specs.declared.slot.SpareSlot.{SpareSlot}
+use Rattle.vm_file.specs.declared.slot.SpareSlot.TheVariants.{Shut, Stale, Prepared}
 
 -- the updated and the saved document
 abbrev pub Documents : Type 0
@@ -44,10 +44,10 @@ abbrev pub documents_in : List ℕ → Pair → Documents
 documents_in file pair = (document_in file pair.updated.table, document_in file pair.saved.table)
 
 -- those of a commit that failed in its last step
-abbrev pub attempted_in : List ℕ → Other → List Documents
+abbrev pub attempted_in : List ℕ → SpareSlot → List Documents
 attempted_in file Shut = []
 attempted_in file Stale = []
-attempted_in file (Held pair) = documents_in file pair ∷ []
+attempted_in file (Prepared pair) = documents_in file pair ∷ []
 
 -- the entries of the blocks of a table; h is the first handle
 abbrev pub entries_of : ℕ → List (Option Place) → List Entry
@@ -69,7 +69,7 @@ abbrev pub AreImaged : List ℕ → List (Option Place) → Type 0
 AreImaged file places = All (λ place. IfSome place (IsImaged file)) places
 
 -- a document whose directory, of whichever version, and images lie in the file, which is of a version
-pub record IsStored (file_version : ℕ) (file : List ℕ) (s : Stored) : Type 0 where
+pub record IsStored (file_version : ℕ) (file : List ℕ) (s : DocumentRef) : Type 0 where
   pub version : ℕ
   pub directory : directory_of file_version file s.directory ≡ Some (directory_of_table version s.table)
   pub images : AreImaged file s.table.places.items
@@ -79,10 +79,10 @@ pub record AreStored (file_version : ℕ) (file : List ℕ) (pair : Pair) : Type
   pub saved : IsStored file_version file pair.saved
 
 -- every commit is of version 2
-abbrev pub IsHeldStored : List ℕ → Other → Type 0
-IsHeldStored file Shut = Unit {0}
-IsHeldStored file Stale = Unit {0}
-IsHeldStored file (Held pair) = AreStored 2 file pair
+abbrev pub IsPreparedStored : List ℕ → SpareSlot → Type 0
+IsPreparedStored file Shut = Unit {0}
+IsPreparedStored file Stale = Unit {0}
+IsPreparedStored file (Prepared pair) = AreStored 2 file pair
 
 abbrev pub sequence_of : Result Slot Fault → Option ℕ
 sequence_of (Ok s) = Some s.sequence

@@ -12,9 +12,9 @@ use Rattle.vm_file.specs.Sound.{IsTable}
 use Rattle.vm_file.specs.Opened.{IsImageOf}
 use Rattle.vm_file.specs.declared.table.Place.{Place}
 use Rattle.vm_file.specs.declared.table.Table.{Table}
-use Rattle.vm_file.specs.declared.slots.Stored.{Stored}
-use Rattle.vm_file.specs.declared.slots.Slots.{Slots}
-use Rattle.vm_file.specs.declared.slots.Other.TheVariants.{Shut}
+use Rattle.vm_file.specs.declared.table.DocumentRef.{DocumentRef}
+use Rattle.vm_file.specs.declared.slot.Slots.{Slots}
+use Rattle.vm_file.specs.declared.slot.SpareSlot.TheVariants.{Shut}
 
 -- what a first slot holds whose gate is shut
 abbrev pub first_slot : Extent → List ℕ
@@ -32,7 +32,7 @@ pub record IsLaid (gate : ℕ) (directory : Extent) (text old new : List ℕ) : 
   pub size : length new ≡ max (length old) (start_of directory + length text)
 
 -- the same document, with a directory
-pub record IsLiveStored (directory : Extent) (live : Table) (s : Stored) : Type 0 where
+pub record IsLiveStored (directory : Extent) (live : Table) (s : DocumentRef) : Type 0 where
   pub directory_is : s.directory ≡ directory
   pub map_block : s.table.map_block ≡ live.map_block
   pub places : s.table.places.items ≡ live.places.items
@@ -42,7 +42,7 @@ pub record IsFirst (directory : Extent) (live : Table) (slots : Slots) : Type 0 
   pub second : slots.second ≡ false
   pub version : slots.version ≡ 2
   pub sequence : slots.sequence ≡ 1
-  pub other : slots.other ≡ Shut
+  pub spare : slots.spare ≡ Shut
   pub updated : IsLiveStored directory live slots.committed.updated
   pub saved : IsLiveStored directory live slots.committed.saved
   pub unmarked : slots.marked ≡ None
@@ -51,7 +51,7 @@ pub record IsFirst (directory : Extent) (live : Table) (slots : Slots) : Type 0 
 pub record IsOne (file : List ℕ) (live : Table) (slots : Slots) : Type 0 where
   pub updated : document_in file slots.committed.updated.table ≡ document_in file live
   pub saved : document_in file slots.committed.saved.table ≡ document_in file live
-  pub attempted : attempted_in file slots.other ≡ []
+  pub attempted : attempted_in file slots.spare ≡ []
   pub unmarked : slots.marked ≡ None
   pub version : slots.version ≡ 2
   pub sequence : slots.sequence ≡ 1

@@ -1,7 +1,7 @@
 -- Blocks that come in or go, each under its handle.
 use Rattle.std.specs.Prelude.{ℕ, List, map}
 use Rattle.geos_model.specs.Document.{Block}
-use Rattle.vm_file.specs.declared.saved.SavedBlock.{SavedBlock}
+use Rattle.vm_file.specs.declared.member.SavedBlock.{SavedBlock}
 use Rattle.vm_file.specs.declared.member.Member.{Member}
 
 -- a saved block, as the document had it

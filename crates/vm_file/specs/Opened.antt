@@ -13,12 +13,12 @@ use Rattle.vm_file.specs.Slots.{stored_extents, pair_extents, IsBeside, Outcome}
 use Rattle.vm_file.specs.Documents.{AreStored, documents_in, sequence_in}
 use Rattle.vm_file.specs.Sound.{IsTable, AreTables}
 use Rattle.vm_file.specs.Calls.{IsSupply}
-use Rattle.vm_file.specs.declared.slots.Stored.{Stored}
-use Rattle.vm_file.specs.declared.slots.Pair.{Pair}
-use Rattle.vm_file.specs.declared.slots.Other.TheVariants.{Shut, Stale}
-use Rattle.vm_file.specs.declared.slots.Slots.{Slots}
-use Rattle.vm_file.specs.declared.reading.Face.{Face}
-use Rattle.vm_file.specs.declared.reading.Found.{Found}
+use Rattle.vm_file.specs.declared.table.DocumentRef.{DocumentRef}
+use Rattle.vm_file.specs.declared.table.Pair.{Pair}
+use Rattle.vm_file.specs.declared.slot.SpareSlot.TheVariants.{Shut, Stale}
+use Rattle.vm_file.specs.declared.slot.Slots.{Slots}
+use Rattle.vm_file.specs.declared.slot.RawSlot.{RawSlot}
+use Rattle.vm_file.specs.declared.slot.ActiveSlot.{ActiveSlot}
 
 -- calls that only read
 pub record Looks (old new : StoreFacts) : Type 0 where
@@ -42,7 +42,7 @@ pub record IsDirectoryPlace (version n : ℕ) (e : Extent) : Type 0 where
   pub short : e.length ≤ longest_directory
 
 -- a document that was read from a file of n bytes
-pub record IsRead (n : ℕ) (s : Stored) : Type 0 where
+pub record IsRead (n : ℕ) (s : DocumentRef) : Type 0 where
   pub table : IsTable s.table
   pub placed : All IsPlaced (stored_extents s)
   pub within : All (λ e. end_of e ≤ n) (stored_extents s)
@@ -52,19 +52,19 @@ pub record AreRead (n : ℕ) (pair : Pair) : Type 0 where
   pub saved : IsRead n pair.saved
 
 -- the slot at a page, with its gate
-pub record IsFace (file : List ℕ) (page : ℕ) (face : Face) : Type 0 where
+pub record IsRawSlot (file : List ℕ) (page : ℕ) (raw : RawSlot) : Type 0 where
   pub within : 512 * page + 32 ≤ length file
   pub bytes : (i : ℕ) → i < 32 → byte file (512 * page + i) < 256
-  pub gate : face.gate ≡ byte file (512 * page + 4)
-  pub slot : face.slot ≡ slot_of (take 32 (drop (512 * page) file))
+  pub gate : raw.gate ≡ byte file (512 * page + 4)
+  pub slot : raw.slot ≡ slot_of (take 32 (drop (512 * page) file))
 
 -- the slot that counts, and what is known of the other one
-pub record IsFound (file : List ℕ) (found : Found) : Type 0 where
+pub record IsActiveSlot (file : List ℕ) (active : ActiveSlot) : Type 0 where
   pub long : 1024 ≤ length file
-  pub bytes : (i : ℕ) → i < 32 → byte file (512 * (if found.second then 1 else 0) + i) < 256
-  pub counts : counting_slot (open_slot file 0) (open_slot file 1) ≡ Ok found.slot
-  pub opened : open_slot file (if found.second then 1 else 0) ≡ Some found.slot
-  pub beside : IsBeside found.other (if found.second then 0 else 1) found.slot.sequence file file
+  pub bytes : (i : ℕ) → i < 32 → byte file (512 * (if active.second then 1 else 0) + i) < 256
+  pub counts : counting_slot (open_slot file 0) (open_slot file 1) ≡ Ok active.slot
+  pub opened : open_slot file (if active.second then 1 else 0) ≡ Some active.slot
+  pub beside : IsBeside active.spare (if active.second then 0 else 1) active.slot.sequence file file
 
 -- the slot isn't open, or has a lower number
 abbrev pub Beaten : Option Slot → ℕ → Type 0
@@ -77,7 +77,7 @@ pub record IsReadSlots (slots : Slots) : Type 0 where
   pub version : (slots.version ≡ 1) ⊎ (slots.version ≡ 2)
   pub numbered : 1 ≤ slots.sequence
   pub in_range : slots.sequence < 2 ^ 64
-  pub other : (slots.other ≡ Shut) ⊎ (slots.other ≡ Stale)
+  pub spare : (slots.spare ≡ Shut) ⊎ (slots.spare ≡ Stale)
   pub unmarked : slots.marked ≡ None
 
 -- from an honest one

@@ -7,11 +7,11 @@ use Rattle.geos_model.specs.File.{slot_mark, extent_text}
 use Rattle.vm_file.specs.Ranges.{IsPlaced, KeepsAll, IsOut, IsClear}
 use Rattle.vm_file.specs.declared.table.Place.{Place}
 use Rattle.vm_file.specs.declared.table.Table.{Table}
-use Rattle.vm_file.specs.declared.slots.Stored.{Stored}
-use Rattle.vm_file.specs.declared.slots.Pair.{Pair}
-use Rattle.vm_file.specs.declared.slots.Other.{Other}
-use Rattle.vm_file.specs.declared.slots.Other.TheVariants.{Shut, Stale, Held}
-use Rattle.vm_file.specs.declared.slots.Slots.{Slots}
+use Rattle.vm_file.specs.declared.table.DocumentRef.{DocumentRef}
+use Rattle.vm_file.specs.declared.table.Pair.{Pair}
+use Rattle.vm_file.specs.declared.slot.SpareSlot.{SpareSlot}
+use Rattle.vm_file.specs.declared.slot.SpareSlot.TheVariants.{Shut, Stale, Prepared}
+use Rattle.vm_file.specs.declared.slot.Slots.{Slots}
 
 -- What documents lie on.
 
@@ -21,16 +21,16 @@ block_extents [] = []
 block_extents (None ∷ places) = block_extents places
 block_extents (Some place ∷ places) = place.extent ∷ block_extents places
 
-abbrev pub stored_extents : Stored → List Extent
+abbrev pub stored_extents : DocumentRef → List Extent
 stored_extents s = s.directory ∷ block_extents s.table.places.items
 
 abbrev pub pair_extents : Pair → List Extent
 pair_extents p = stored_extents p.updated ++ stored_extents p.saved
 
-abbrev pub held_extents : Other → List Extent
-held_extents Shut = []
-held_extents Stale = []
-held_extents (Held pair) = pair_extents pair
+abbrev pub prepared_extents : SpareSlot → List Extent
+prepared_extents Shut = []
+prepared_extents Stale = []
+prepared_extents (Prepared pair) = pair_extents pair
 
 abbrev pub marked_extents : Option Table → List Extent
 marked_extents None = []
@@ -38,7 +38,7 @@ marked_extents (Some table) = block_extents table.places.items
 
 -- all that the slots stand on, and the marked document
 abbrev pub kept_extents : Slots → List Extent
-kept_extents slots = pair_extents slots.committed ++ (held_extents slots.other ++ marked_extents slots.marked)
+kept_extents slots = pair_extents slots.committed ++ (prepared_extents slots.spare ++ marked_extents slots.marked)
 
 -- The slots.
 
@@ -47,20 +47,20 @@ abbrev pub counting_of : Slots → ℕ
 counting_of slots = if slots.second then 1 else 0
 
 -- the other one
-abbrev pub other_of : Slots → ℕ
-other_of slots = if slots.second then 0 else 1
+abbrev pub spare_of : Slots → ℕ
+spare_of slots = if slots.second then 0 else 1
 
 -- the slots when what the other one leads to counts: a commit is of version 2
 abbrev pub turned : Slots → Pair → Slots
-turned slots pair = record { second = not slots.second; version = 2; sequence = slots.sequence + 1; committed = pair; other = Stale; marked = slots.marked }
+turned slots pair = record { second = not slots.second; version = 2; sequence = slots.sequence + 1; committed = pair; spare = Stale; marked = slots.marked }
 
 -- what a commit that failed before its last step may leave of the slots
 abbrev pub FailedEarly : Slots → Slots → Type 0
-FailedEarly old new = (new ≡ old) ⊎ (new ≡ record old { other = Shut })
+FailedEarly old new = (new ≡ old) ⊎ (new ≡ record old { spare = Shut })
 
 -- and one that failed in any
 abbrev pub Failed : Slots → Pair → Slots → Type 0
-Failed old pair new = FailedEarly old new ⊎ (new ≡ record old { other = Held pair })
+Failed old pair new = FailedEarly old new ⊎ (new ≡ record old { spare = Prepared pair })
 
 -- what stands behind the gate of a slot: version, two zeros, sequence number, the directories of the updated and the saved document
 unfoldable pub gate_text : ℕ → ℕ → Extent → Extent → List ℕ
@@ -79,7 +79,7 @@ pub record Leads (slot version sequence : ℕ) (pair : Pair) (file c : List ℕ)
 pub record IsUnmarked (slot : ℕ) (c : List ℕ) : Type 0 where
   pub bytes : List ℕ
   pub size : length bytes ≡ 4
-  pub other : bytes ≢ slot_mark
+  pub differs : bytes ≢ slot_mark
   pub there : Holds c (512 * slot) bytes
 
 -- the slot has a lower number
@@ -89,16 +89,16 @@ pub record IsOlder (slot sequence : ℕ) (c : List ℕ) : Type 0 where
   pub there : Holds c (512 * slot + 8) (little_bytes 8 number)
 
 -- the slot that doesn't count, beside one of this number
-abbrev pub IsBeside : Other → ℕ → ℕ → List ℕ → List ℕ → Type 0
+abbrev pub IsBeside : SpareSlot → ℕ → ℕ → List ℕ → List ℕ → Type 0
 IsBeside Shut slot sequence file c = byte c (512 * slot + 4) ≢ 1
 IsBeside Stale slot sequence file c = IsUnmarked slot c ⊎ IsOlder slot sequence c
-IsBeside (Held pair) slot sequence file c = Leads slot 2 (sequence + 1) pair file c
+IsBeside (Prepared pair) slot sequence file c = Leads slot 2 (sequence + 1) pair file c
 
 -- What a crash left: the slot that counts is open and whole, and the other is as it is known to be.
 pub record Outcome (slots : Slots) (file c : List ℕ) : Type 0 where
   pub gate : byte c (512 * counting_of slots + 4) ≡ 1
   pub counts : Leads (counting_of slots) slots.version slots.sequence slots.committed file c
-  pub beside : IsBeside slots.other (other_of slots) slots.sequence file c
+  pub beside : IsBeside slots.spare (spare_of slots) slots.sequence file c
 
 -- a crash now leaves such a file
 abbrev pub Leaves : StoreFacts → Slots → List ℕ → Type 0
@@ -114,13 +114,13 @@ abbrev pub AreKept : Slots → Type 0
 AreKept slots = All IsPlaced (kept_extents slots)
 
 -- A write there changes nothing on which the other slot stands.
-abbrev pub IsBesideOut : Other → ℕ → ℕ → ℕ → Type 0
+abbrev pub IsBesideOut : SpareSlot → ℕ → ℕ → ℕ → Type 0
 IsBesideOut Shut slot at n = IsOut at n (512 * slot + 4) (512 * slot + 5)
 IsBesideOut Stale slot at n = IsOut at n (512 * slot) (512 * slot + 4) × IsOut at n (512 * slot + 8) (512 * slot + 16)
-IsBesideOut (Held pair) slot at n = IsOut at n (512 * slot) (512 * slot + 4) × IsOut at n (512 * slot + 5) (512 * slot + 32) × IsClear at n (pair_extents pair)
+IsBesideOut (Prepared pair) slot at n = IsOut at n (512 * slot) (512 * slot + 4) × IsOut at n (512 * slot + 5) (512 * slot + 32) × IsClear at n (pair_extents pair)
 
 -- a write there changes nothing on which the slots stand
 pub record Spares (at n : ℕ) (slots : Slots) : Type 0 where
   pub slot : IsOut at n (512 * counting_of slots) (512 * counting_of slots + 32)
   pub committed : IsClear at n (pair_extents slots.committed)
-  pub beside : IsBesideOut slots.other (other_of slots) at n
+  pub beside : IsBesideOut slots.spare (spare_of slots) at n

@@ -6,18 +6,18 @@ use Rattle.geos_model.specs.Document.{most_blocks, IsTyped}
 use Rattle.geos_model.specs.File.{longest_image}
 use Rattle.vm_file.specs.Ranges.{IsPlaced, end_of}
 use Rattle.vm_file.specs.Slots.{block_extents, kept_extents, marked_extents, AreKept, Leaves}
-use Rattle.vm_file.specs.Documents.{document_in, attempted_in, AreImaged, AreStored, IsHeldStored}
+use Rattle.vm_file.specs.Documents.{document_in, attempted_in, AreImaged, AreStored, IsPreparedStored}
 use Rattle.vm_file.specs.Disk.{Disk}
-use Rattle.vm_file.specs.Known.{IsKnown}
+use Rattle.vm_file.specs.FreeSpace.{IsKnown}
 use Rattle.vm_file.specs.Listing.{AreBounds}
 use Rattle.vm_space.specs.Space.{Space}
 use Rattle.vm_file.specs.declared.table.Place.{Place}
 use Rattle.vm_file.specs.declared.table.Table.{Table}
 use Rattle.vm_file.specs.declared.listing.Bounds.{Bounds}
-use Rattle.vm_file.specs.declared.slots.Pair.{Pair}
-use Rattle.vm_file.specs.declared.slots.Other.{Other}
-use Rattle.vm_file.specs.declared.slots.Other.TheVariants.{Shut, Stale, Held}
-use Rattle.vm_file.specs.declared.slots.Slots.{Slots}
+use Rattle.vm_file.specs.declared.table.Pair.{Pair}
+use Rattle.vm_file.specs.declared.slot.SpareSlot.{SpareSlot}
+use Rattle.vm_file.specs.declared.slot.SpareSlot.TheVariants.{Shut, Stale, Prepared}
+use Rattle.vm_file.specs.declared.slot.Slots.{Slots}
 
 -- A place that can be: of an image that isn't too long, and of attributes that its kind can have.
 pub record IsPlace (place : Place) : Type 0 where
@@ -39,17 +39,17 @@ pub record AreTables (pair : Pair) : Type 0 where
   pub saved : IsTable pair.saved.table
 
 -- and those of a commit that failed in its last step, whose number is the next
-abbrev pub IsHeldFormed : ℕ → Other → Type 0
-IsHeldFormed sequence Shut = Unit {0}
-IsHeldFormed sequence Stale = Unit {0}
-IsHeldFormed sequence (Held pair) = AreTables pair × (sequence + 1 < 2 ^ 64)
+abbrev pub IsPreparedFormed : ℕ → SpareSlot → Type 0
+IsPreparedFormed sequence Shut = Unit {0}
+IsPreparedFormed sequence Stale = Unit {0}
+IsPreparedFormed sequence (Prepared pair) = AreTables pair × (sequence + 1 < 2 ^ 64)
 
 -- over any store
 pub record IsFormed (live : Table) (slots : Slots) : Type 0 where
   pub table : IsTable live
   pub placed : All IsPlaced (block_extents live.places.items)
   pub committed : AreTables slots.committed
-  pub held : IsHeldFormed slots.sequence slots.other
+  pub prepared : IsPreparedFormed slots.sequence slots.spare
   pub marked : IfSome slots.marked IsTable
   pub kept : AreKept slots
   pub version : (slots.version ≡ 1) ⊎ (slots.version ≡ 2)
@@ -61,7 +61,7 @@ pub record IsWhole (store : StoreFacts) (live : Table) (slots : Slots) : Type 0 
   pub images : AreImaged store.content live.places.items
   pub within : All (λ e. end_of e ≤ length store.content) (block_extents live.places.items)
   pub committed : AreStored slots.version store.content slots.committed
-  pub held : IsHeldStored store.content slots.other
+  pub prepared : IsPreparedStored store.content slots.spare
   pub marked : IfSome slots.marked (λ table. AreImaged store.content table.places.items)
   pub marked_within : All (λ e. end_of e ≤ length store.content) (marked_extents slots.marked)
   pub leaves : Leaves store slots store.content
@@ -84,7 +84,7 @@ disk_of facts store slots =
       store = store;
       updated = document_in file slots.committed.updated.table;
       saved = document_in file slots.committed.saved.table;
-      attempted = attempted_in file slots.other;
+      attempted = attempted_in file slots.spare;
       sequence = slots.sequence;
       marked = option_map (document_in file) slots.marked;
     }

@@ -9,7 +9,7 @@ use Rattle.vm_file.specs.Slots.{Leaves, Outlives}
 use Rattle.geos_model.specs.declared.handle.VmHandle.{VmHandle}
 use Rattle.vm_file.specs.declared.member.Member.{Member}
 use Rattle.vm_file.specs.declared.table.Place.{Place}
-use Rattle.vm_file.specs.declared.slots.Slots.{Slots}
+use Rattle.vm_file.specs.declared.slot.Slots.{Slots}
 
 -- Extents for the first n images: each as long as its image, and apart from those that are taken and from each other.
 pub record AreFor (taken : List Extent) (puts : List Member) (n : ℕ) (extents : List Extent) : Type 0 where

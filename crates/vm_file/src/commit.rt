@@ -1,18 +1,22 @@
-// The steps of a commit.
-ghost use Rattle.std.specs.Prelude.{◌≡◌, ◌≢◌, ◌⊎◌, ◌++◌, ◌+◌, ◌*◌, ◌<◌, ◌≤◌, ◌↔◌, ℕ, List, [], ◌∷◌, All, IsTrue, OnOk, OnErr, MatchResult, length};
-ghost use Rattle.vm_store.specs.Facts.{raised, IsDurable, Torn, Holds, Counts};
-ghost use Rattle.vm_store.specs.Laws.{Tears};
+//! Commits: the steps through the slots, and what they make of the documents.
+ghost use Rattle.std.specs.Prelude.{◌≡◌, ◌⊎◌, ◌+◌, ◌*◌, ◌<◌, ℕ, List, All, IsTrue, OnOk, OnErr, MatchResult, length, IfErr, IsErrOf};
+ghost use Rattle.vm_store.specs.Facts.{raised, IsDurable, Torn, Holds, Counts, Raised};
 ghost use Rattle.geos_model.specs.File.{slot_mark};
-ghost use Rattle.vm_file.specs.Ranges.{start_of, IsPlaced, KeepsAll, IsClear};
-ghost use Rattle.vm_file.specs.Slots.{gate_text, behind_gate, pair_extents, kept_extents, other_of, turned, AreKept, Leaves, Outlives, FailedEarly, Failed};
+ghost use Rattle.vm_file.specs.Ranges.{IsPlaced, KeepsAll};
+ghost use Rattle.vm_file.specs.Sound.{AreTables, IsFormed, IsWhole, IsSound, disk_of};
+ghost use Rattle.vm_file.specs.Documents.{document_in, documents_in, AreStored};
+ghost use Rattle.vm_store.specs.Laws.{Tears};
+ghost use Rattle.vm_file.specs.Slots.{behind_gate, pair_extents, spare_of, turned, AreKept, Leaves, Outlives, FailedEarly, Failed};
+ghost use Rattle.vm_file.specs.Disk.{Commits};
+ghost use Rattle.vm_file.specs.PendingDirectories.{IsPendingDirectory};
+ghost use Rattle.vm_file.specs.Copies.{IsStoredCopy};
 
-use crate::slots::{Other, Pair, Slots};
-use geos_model::{Extent, Slot, VERSION};
-use vm_space::{SLOT_LENGTH, SLOT_MARK, write_slot};
+use crate::directory::{PendingDirectory, write_pending};
+use crate::slot::{Slots, SpareSlot, behind_gate_bytes, is_shut, spare_gate, spare_slot};
+use crate::table::{DocumentRef, Pair, Table};
+use geos_model::{Fault, VERSION};
+use vm_space::SLOT_MARK;
 use vm_store::{Store, StoreFault};
-
-/// How many bytes a page has.
-pub const PAGE: u64 = geos_model::PAGE as u64;
 
 /// Writes these bytes, and syncs.
 pub fn write_through<S: Store>(store: &mut S, at: u64, bytes: &[u8]) -> Result<(), StoreFault>
@@ -26,99 +30,30 @@ pub fn write_through<S: Store>(store: &mut S, at: u64, bytes: &[u8]) -> Result<(
     store.sync()
 }
 
-/// The bytes of a slot behind its gate: the version, its number, and the directories of the updated and the saved document.
-#[tactic(auto, unfolding(crate::specs::Slots::gate_text))]
-pub fn behind_gate_bytes(sequence: u64, working: Extent, saved: Extent) -> [u8; 27]
-    ensures { result ≡ gate_text 2 sequence working saved }
-{
-    let mut bytes = [0; 27];
-    bytes.copy_from_slice(&slot_bytes(sequence, working, saved)[5..]);
-    bytes
-}
-
-/// The bytes of a slot whose gate is shut.
-#[tactic(auto, unfolding(crate::specs::Slots::gate_text))]
-pub fn slot_bytes(sequence: u64, working: Extent, saved: Extent) -> [u8; SLOT_LENGTH]
-    ensures { result ≡ slot_mark ++ 0 ∷ gate_text 2 sequence working saved }
-{
-    write_slot(&Slot {
-        gate: 0,
-        version: VERSION,
-        reserved: 0,
-        sequence,
-        working,
-        saved,
-    })
-}
-
-/// Writes an image or a directory where nothing lies that the slots stand on. Doesn't sync: until something does, a crash may
-/// leave any bytes there.
-pub fn write_extent<S: Store>(
-    store: &mut S,
-    slots: &Slots,
-    extent: Extent,
-    bytes: &[u8],
-) -> Result<(), StoreFault>
-    requires size { length bytes.now ≡ extent.length }
-    requires some { 1 ≤ extent.length }
-    requires behind { 2 ≤ extent.page }
-    requires clear { IsClear (start_of extent) extent.length (kept_extents slots.now) }
-    requires kept { AreKept slots.now }
-    ensures honest { (S.facts store.new).honest ≡ (S.facts store.old).honest }
-    ensures failures { Counts result (S.facts store.old) (S.facts store.new) }
-    ensures elsewhere { IsTrue (S.facts store.old).honest → Torn (start_of extent) extent.length (S.facts store.old).content (S.facts store.new).content }
-    ensures crash { (file : List ℕ) → IsTrue (S.facts store.old).honest → Leaves (S.facts store.old) slots.now file
-        → Outlives (S.facts store.old) (S.facts store.new) file (λ s. s ≡ slots.now) }
-    ensures leaves { (file : List ℕ) → IsTrue (S.facts store.old).honest → Leaves (S.facts store.old) slots.now file → Leaves (S.facts store.new) slots.now file }
-    ensures written { OnOk result (IsTrue (S.facts store.old).honest → Holds (S.facts store.new).content (start_of extent) bytes.now) }
-{
-    store.write_at(PAGE * u64::from(extent.page), bytes)
-}
-
-// Where the other slot lies.
-fn other_slot(slots: &Slots) -> u64
-    ensures { result ≡ 512 * other_of slots.now }
-{
-    if slots.second { 0 } else { PAGE }
-}
-
-// Where its gate lies.
-fn other_gate(slots: &Slots) -> u64
-    ensures { result ≡ 512 * other_of slots.now + 4 }
-{
-    other_slot(slots) + 4
-}
-
-fn is_shut(other: &Other) -> bool
-    ensures { IsTrue result ↔ (other.now ≡ Other.Shut) }
-{
-    matches!(other, Other::Shut)
-}
-
 /// Shuts the gate of the other slot. Until that is on the disk, what is known of the slot stays. A gate that is shut isn't
 /// written, since it could be torn open.
 pub fn shut_gate<S: Store>(store: &mut S, slots: &mut Slots) -> Result<(), StoreFault>
     requires kept { AreKept slots.old }
     ensures honest { (S.facts store.new).honest ≡ (S.facts store.old).honest }
     ensures failures { MatchResult result (λ _. (S.facts store.new).failures ≡ (S.facts store.old).failures) (λ _. (S.facts store.new).failures ≡ raised (S.facts store.old).failures) }
-    ensures ok { OnOk result (slots.new ≡ record slots.old { other = Other.Shut }) }
+    ensures ok { OnOk result (slots.new ≡ record slots.old { spare = SpareSlot.Shut }) }
     ensures err { OnErr result (slots.new ≡ slots.old) }
     ensures elsewhere { IsTrue (S.facts store.old).honest → Torn 0 1024 (S.facts store.old).content (S.facts store.new).content }
     ensures crash { (file : List ℕ) → IsTrue (S.facts store.old).honest → Leaves (S.facts store.old) slots.old file
         → Outlives (S.facts store.old) (S.facts store.new) file (λ s. s ≡ slots.old) }
     ensures leaves { (file : List ℕ) → IsTrue (S.facts store.old).honest → Leaves (S.facts store.old) slots.old file → Leaves (S.facts store.new) slots.new file }
 {
-    if is_shut(&slots.other) {
+    if is_shut(&slots.spare) {
         return Ok(());
     }
-    write_through(store, other_gate(slots), &[0])?;
-    slots.other = Other::Shut;
+    write_through(store, spare_gate(slots), &[0])?;
+    slots.spare = SpareSlot::Shut;
     Ok(())
 }
 
 // Writes the other slot but for its gate, which is shut and stays so.
 fn fill_slot<S: Store>(store: &mut S, slots: &Slots, pair: &Pair) -> Result<(), StoreFault>
-    requires shut { slots.now.other ≡ Other.Shut }
+    requires shut { slots.now.spare ≡ SpareSlot.Shut }
     requires sequence { slots.now.sequence < 18446744073709551615 }
     requires kept { AreKept slots.now }
     ensures honest { (S.facts store.new).honest ≡ (S.facts store.old).honest }
@@ -127,8 +62,8 @@ fn fill_slot<S: Store>(store: &mut S, slots: &Slots, pair: &Pair) -> Result<(), 
     ensures crash { (file : List ℕ) → IsTrue (S.facts store.old).honest → Leaves (S.facts store.old) slots.now file
         → Outlives (S.facts store.old) (S.facts store.new) file (λ s. s ≡ slots.now) }
     ensures leaves { (file : List ℕ) → IsTrue (S.facts store.old).honest → Leaves (S.facts store.old) slots.now file → Leaves (S.facts store.new) slots.now file }
-    ensures marked { OnOk result (IsTrue (S.facts store.old).honest → Holds (S.facts store.new).content (512 * other_of slots.now) slot_mark) }
-    ensures rest { OnOk result (IsTrue (S.facts store.old).honest → Holds (S.facts store.new).content (512 * other_of slots.now + 5) (behind_gate 2 (slots.now.sequence + 1) pair.now)) }
+    ensures marked { OnOk result (IsTrue (S.facts store.old).honest → Holds (S.facts store.new).content (512 * spare_of slots.now) slot_mark) }
+    ensures rest { OnOk result (IsTrue (S.facts store.old).honest → Holds (S.facts store.new).content (512 * spare_of slots.now + 5) (behind_gate 2 (slots.now.sequence + 1) pair.now)) }
     ensures durable { OnOk result (IsTrue (S.facts store.old).honest → IsDurable (S.facts store.new)) }
 {
     let rest = behind_gate_bytes(
@@ -136,8 +71,8 @@ fn fill_slot<S: Store>(store: &mut S, slots: &Slots, pair: &Pair) -> Result<(), 
         pair.updated.directory,
         pair.saved.directory,
     );
-    store.write_at(other_slot(slots), &SLOT_MARK)?;
-    write_through(store, other_gate(slots) + 1, &rest)
+    store.write_at(spare_slot(slots), &SLOT_MARK)?;
+    write_through(store, spare_gate(slots) + 1, &rest)
 }
 
 // Opens the gate of the other slot, which is whole but for that. From here on what it leads to may be read.
@@ -148,24 +83,24 @@ fn open_gate<S: Store>(store: &mut S, slots: &mut Slots, pair: Pair) -> Result<(
     ensures honest { (S.facts store.new).honest ≡ (S.facts store.old).honest }
     ensures failures { Counts result (S.facts store.old) (S.facts store.new) }
     ensures ok { OnOk result (slots.new ≡ turned slots.old pair) }
-    ensures err { OnErr result (slots.new ≡ record slots.old { other = Other.Held pair }) }
+    ensures err { OnErr result (slots.new ≡ record slots.old { spare = SpareSlot.Prepared pair }) }
     ensures elsewhere { IsTrue (S.facts store.old).honest → Torn 0 1024 (S.facts store.old).content (S.facts store.new).content }
-    ensures crash { (file : List ℕ) → IsTrue (S.facts store.old).honest → Leaves (S.facts store.old) (record slots.old { other = Other.Held pair }) file
-        → Outlives (S.facts store.old) (S.facts store.new) file (λ s. s ≡ record slots.old { other = Other.Held pair }) }
-    ensures leaves { (file : List ℕ) → IsTrue (S.facts store.old).honest → Leaves (S.facts store.old) (record slots.old { other = Other.Held pair }) file
+    ensures crash { (file : List ℕ) → IsTrue (S.facts store.old).honest → Leaves (S.facts store.old) (record slots.old { spare = SpareSlot.Prepared pair }) file
+        → Outlives (S.facts store.old) (S.facts store.new) file (λ s. s ≡ record slots.old { spare = SpareSlot.Prepared pair }) }
+    ensures leaves { (file : List ℕ) → IsTrue (S.facts store.old).honest → Leaves (S.facts store.old) (record slots.old { spare = SpareSlot.Prepared pair }) file
         → Leaves (S.facts store.new) slots.new file }
 {
-    match write_through(store, other_gate(slots), &[1]) {
+    match write_through(store, spare_gate(slots), &[1]) {
         Ok(()) => {
             slots.second = !slots.second;
             slots.version = VERSION;
             slots.sequence += 1;
             slots.committed = pair;
-            slots.other = Other::Stale;
+            slots.spare = SpareSlot::Stale;
             Ok(())
         }
         Err(fault) => {
-            slots.other = Other::Held(pair);
+            slots.spare = SpareSlot::Prepared(pair);
             Err(fault)
         }
     }
@@ -183,7 +118,7 @@ pub fn commit<S: Store>(store: &mut S, slots: &mut Slots, pair: Pair) -> Result<
     ensures ok { OnOk result (slots.new ≡ turned slots.old pair) }
     ensures err { OnErr result (Failed slots.old pair slots.new) }
     // where `slots` doesn't hold the pair, a crash found nothing of it
-    ensures early { OnErr result ((slots.new ≡ record slots.old { other = Other.Held pair }) ⊎ ((file : List ℕ) → IsTrue (S.facts store.old).honest → Leaves (S.facts store.old) slots.old file
+    ensures early { OnErr result ((slots.new ≡ record slots.old { spare = SpareSlot.Prepared pair }) ⊎ ((file : List ℕ) → IsTrue (S.facts store.old).honest → Leaves (S.facts store.old) slots.old file
         → Outlives (S.facts store.old) (S.facts store.new) file (λ s. FailedEarly slots.old s))) }
     ensures elsewhere { IsTrue (S.facts store.old).honest → Torn 0 1024 (S.facts store.old).content (S.facts store.new).content }
     // `file` is a content that has the bytes of all extents: that at the call, or an earlier one
@@ -195,4 +130,59 @@ pub fn commit<S: Store>(store: &mut S, slots: &mut Slots, pair: Pair) -> Result<
     shut_gate(store, slots)?;
     fill_slot(store, slots, &pair)?;
     open_gate(store, slots, pair)
+}
+
+/// Commits a pair of documents that lie in the file. The live document stays. File.
+pub fn commit_pair<S: Store>(
+    store: &mut S,
+    slots: &mut Slots,
+    pair: Pair,
+    live: &Table,
+) -> Result<(), Fault>
+    requires formed { IsFormed live.now slots.old }
+    requires sequence { slots.old.sequence < 18446744073709551615 }
+    requires tables { AreTables pair }
+    requires placed { All IsPlaced (pair_extents pair) }
+    requires whole { IsTrue (S.facts store.old).honest → IsWhole (S.facts store.old) live.now slots.old }
+    requires stored { IsTrue (S.facts store.old).honest → AreStored 2 (S.facts store.old).content pair }
+    ensures commits { Commits S.facts (documents_in (S.facts store.old).content pair) (disk_of S.facts store.old slots.old) (disk_of S.facts store.new slots.new) result }
+    ensures sound { IsSound (S.facts store.new) live.now slots.new }
+    ensures live { IsTrue (S.facts store.old).honest → document_in (S.facts store.new).content live.now ≡ document_in (S.facts store.old).content live.now }
+    ensures committed { OnOk result (slots.new.committed ≡ pair) }
+    ensures turned { OnOk result ((slots.new.version ≡ 2) × (slots.new.spare ≡ SpareSlot.Stale)) }
+    ensures file { IsErrOf result Fault.File → Raised (S.facts store.old) (S.facts store.new) }
+    ensures refusals { IfErr result (λ fault. fault ≡ Fault.File) }
+{
+    let _ = live;
+    match commit(store, slots, pair) {
+        Ok(()) => Ok(()),
+        Err(StoreFault) => Err(Fault::File),
+    }
+}
+
+/// Writes the directory and commits its document as the updated one, with a saved one. The live document stays. File.
+pub fn commit_pending<S: Store>(
+    store: &mut S,
+    slots: &mut Slots,
+    live: &Table,
+    pending: PendingDirectory,
+    saved: DocumentRef,
+) -> Result<(), Fault>
+    requires sound { IsSound (S.facts store.old) live.now slots.old }
+    requires sequence { slots.old.sequence < 18446744073709551615 }
+    requires pending { IsPendingDirectory live.now slots.old pending }
+    requires saved { IsStoredCopy saved slots.old.committed.saved ⊎ IsStoredCopy saved pending.document }
+    ensures commits { Commits S.facts (document_in (S.facts store.old).content live.now, document_in (S.facts store.old).content saved.table) (disk_of S.facts store.old slots.old) (disk_of S.facts store.new slots.new) result }
+    ensures sound { IsSound (S.facts store.new) live.now slots.new }
+    ensures same { IsTrue (S.facts store.old).honest → document_in (S.facts store.new).content live.now ≡ document_in (S.facts store.old).content live.now }
+    ensures turned { OnOk result ((slots.new.version ≡ 2) × (slots.new.spare ≡ SpareSlot.Stale)) }
+    ensures file { IsErrOf result Fault.File → Raised (S.facts store.old) (S.facts store.new) }
+    ensures refusals { IfErr result (λ fault. fault ≡ Fault.File) }
+{
+    write_pending(store, slots, live, &pending)?;
+    let pair = Pair {
+        updated: pending.document,
+        saved,
+    };
+    commit_pair(store, slots, pair, live)
 }

@@ -1,4 +1,4 @@
-// The copying of a document into another store.
+//! The copying of a document into another store.
 ghost use Rattle.std.specs.Prelude.{◌≡◌, ◌⊎◌, ◌≤◌, ◌+◌, ◌*◌, [], All, IsTrue, OnOk, IfOk, IfErr, IfSome, IsErrOf, length};
 ghost use Rattle.vm_store.specs.Facts.{Holds, Raised};
 ghost use Rattle.geos_model.specs.Document.{most_blocks};
@@ -11,8 +11,9 @@ ghost use Rattle.vm_file.specs.Opened.{Looks, IsReadRefusal, IsImageOf};
 ghost use Rattle.vm_file.specs.Making.{moved_to, pages_taken, laid_out, page_behind, IsCopied, AreCopied, IsFirst, IsFounding, IsOne};
 
 use crate::directory::entries_of;
-use crate::making::{Made, empty, first_slots, found};
-use crate::reading::{image_kind, read_extent};
+use crate::extent::read_extent;
+use crate::kind::image_kind;
+use crate::making::{NewFile, empty, first_slots, initialize};
 use crate::table::{Place, Table};
 use geos_model::{Extent, Fault, PAGE, VmHandle};
 use std::alloc::{AllocError, Global};
@@ -50,14 +51,14 @@ fn page_count(place: Option<Place>) -> u32
 
 /// Places in a file that has no others.
 #[derive(Drop)]
-struct Placed {
+struct PackedPlaces {
     places: Vec<Option<Place>>,
     // The page behind them.
     end: u32,
 }
 
 /// Gives each image the first pages that are free, from the first handle on.
-fn place_anew(alloc: Global, places: &[Option<Place>]) -> Result<Placed, AllocError>
+fn place_anew(alloc: Global, places: &[Option<Place>]) -> Result<PackedPlaces, AllocError>
     requires few { length places.now ≤ most_blocks }
     requires placed { All IsPlaced (block_extents places.now) }
     ensures places { IfOk result (λ placed. placed.places.items ≡ laid_out 2 places.now) }
@@ -69,7 +70,7 @@ fn place_anew(alloc: Global, places: &[Option<Place>]) -> Result<Placed, AllocEr
         laid.push(moved(*place, page))?;
         page += page_count(*place);
     }
-    Ok(Placed {
+    Ok(PackedPlaces {
         places: laid,
         end: page,
     })
@@ -147,14 +148,14 @@ fn copy_images<S: Store>(
 
 /// What is written beside the images.
 #[derive(Drop)]
-struct Plan {
-    made: Made,
+struct CopyPlan {
+    made: NewFile,
     directory: Extent,
     text: Vec<u8>,
 }
 
 /// Places a document in a file of its own, its directory behind the images. It takes all the memory that the file needs.
-fn plan_copy(alloc: Global, live: &Table) -> Result<Plan, AllocError>
+fn plan_copy(alloc: Global, live: &Table) -> Result<CopyPlan, AllocError>
     requires table { IsTable live.now }
     requires placed { All IsPlaced (block_extents live.now.places.items) }
     ensures map_block { IfOk result (λ plan. plan.made.live.map_block ≡ live.now.map_block) }
@@ -174,7 +175,7 @@ fn plan_copy(alloc: Global, live: &Table) -> Result<Plan, AllocError>
         places: placed.places,
     };
     let made = first_slots(alloc, table, directory)?;
-    Ok(Plan {
+    Ok(CopyPlan {
         made,
         directory,
         text,
@@ -187,7 +188,7 @@ pub fn copy_document<S: Store>(
     source: &mut S,
     live: &Table,
     target: &mut S,
-) -> Result<Made, Fault>
+) -> Result<NewFile, Fault>
     requires table { IsTable live.now }
     requires placed { All IsPlaced (block_extents live.now.places.items) }
     ensures looks { Looks (S.facts source.old) (S.facts source.new) }
@@ -206,7 +207,7 @@ pub fn copy_document<S: Store>(
     let plan = plan_copy(alloc, live)?;
     empty(target)?;
     copy_images(alloc, source, &live.places, target)?;
-    match found(target, plan.directory, &plan.text) {
+    match initialize(target, plan.directory, &plan.text) {
         Ok(()) => Ok(plan.made),
         Err(_) => Err(Fault::File),
     }

@@ -1,33 +1,61 @@
-// Directories of the live table, written where nothing lies that stays.
-ghost use Rattle.std.specs.Prelude.{◌≡◌, ◌⊎◌, ◌<◌, ◌≤◌, ◌++◌, All, IsTrue, IfOk, IfErr, OnOk, IsErrOf, length};
+//! Directories: read, made of the live table, and written where nothing lies that stays.
+ghost use Rattle.std.specs.Prelude.{◌≡◌, ◌↔◌, ◌<◌, ◌≤◌, All, IsTrue, OnOk, IfOk, IfErr, IsErrOf, Some, None, Ok, Err, length, true, ◌++◌};
 ghost use Rattle.vm_store.specs.Facts.{Raised};
 ghost use Rattle.geos_model.specs.Document.{FitAttributes, most_blocks};
-ghost use Rattle.geos_model.specs.File.{directory_text, longest_directory};
+ghost use Rattle.geos_model.specs.File.{directory_of, is_directory, longest_directory};
+ghost use Rattle.vm_space.specs.Listed.{shown};
 ghost use Rattle.vm_file.specs.Ranges.{start_of, IsPlaced, IsClear};
+ghost use Rattle.vm_file.specs.Sound.{IsSound, IsFormed, disk_of};
+ghost use Rattle.vm_file.specs.Documents.{entries_of, IsStored, document_in};
+ghost use Rattle.vm_file.specs.Opened.{Looks, IsReadRefusal, IsDirectoryPlace};
 ghost use Rattle.vm_file.specs.Slots.{block_extents, kept_extents};
-ghost use Rattle.vm_file.specs.Documents.{entries_of, directory_of_table, document_in, IsStored};
-ghost use Rattle.vm_file.specs.Disk.{Passes, Commits};
-ghost use Rattle.vm_file.specs.Sound.{IsFormed, IsSound, disk_of};
-ghost use Rattle.vm_file.specs.Drafts.{IsDraft};
-ghost use Rattle.vm_file.specs.Known.{IsKnown};
-ghost use Rattle.vm_file.specs.Copies.{IsStoredCopy};
+ghost use Rattle.vm_file.specs.Disk.{Passes};
+ghost use Rattle.vm_file.specs.PendingDirectories.{IsPendingDirectory};
+ghost use Rattle.vm_file.specs.FreeSpace.{IsKnown};
 
-use crate::commit::write_extent;
-use crate::copies::copy_table;
+use crate::extent::{read_extent, write_extent};
 use crate::placing::known_space;
-use crate::settle::settle;
-use crate::slots::{Other, Pair, Slots, Stored};
-use crate::table::{Place, Table};
+use crate::slot::Slots;
+use crate::table::{DocumentRef, Place, Table, copy_table};
 use geos_model::{Attributes, Entry, Extent, Fault, VmHandle};
 use std::alloc::{AllocError, Global};
-use vm_space::{FreeSpace, write_dir};
+use vm_space::{Directory, FreeSpace, LONGEST_DIRECTORY, is_in_file, read_dir, write_dir};
 use vm_store::{Store, StoreFault};
 
-/// A directory that is to be written.
-#[derive(Drop)]
-pub struct Draft {
-    pub stored: Stored,
-    pub text: Vec<u8>,
+// The directory of no block.
+const SHORTEST_DIRECTORY: u32 = 16;
+
+/// Whether a directory can lie there, in a file of this version and of so many bytes.
+fn can_have_directory(extent: Extent, version: u8, file_length: u64) -> bool
+    ensures { IsTrue result ↔ IsDirectoryPlace version file_length extent }
+{
+    extent.length >= SHORTEST_DIRECTORY
+        && extent.length as usize <= LONGEST_DIRECTORY
+        && is_in_file(extent, file_length, version)
+}
+
+/// Reads a directory. Damaged, Memory, File.
+pub fn read_directory<S: Store>(
+    alloc: Global,
+    store: &mut S,
+    version: u8,
+    file_length: u64,
+    extent: Extent,
+) -> Result<Directory, Fault>
+    requires { IsTrue (S.facts store.old).honest → file_length ≡ length (S.facts store.old).content }
+    ensures looks { Looks (S.facts store.old) (S.facts store.new) }
+    ensures formed { IfOk result (λ d. is_directory version file_length (shown d) ≡ true) }
+    ensures place { IfOk result (λ d. IsDirectoryPlace version file_length extent) }
+    ensures read { IfOk result (λ d. IsTrue (S.facts store.old).honest → directory_of version (S.facts store.old).content extent ≡ Some (shown d)) }
+    ensures damaged { IsErrOf result Fault.Damaged → IsTrue (S.facts store.old).honest → directory_of version (S.facts store.old).content extent ≡ None }
+    ensures file { IsErrOf result Fault.File → Raised (S.facts store.old) (S.facts store.new) }
+    ensures refusals { IfErr result IsReadRefusal }
+{
+    if !can_have_directory(extent, version, file_length) {
+        return Err(Fault::Damaged);
+    }
+    let bytes = read_extent(alloc, store, extent)?;
+    read_dir(alloc, &bytes, file_length, version)
 }
 
 fn entry_of(handle: u16, attributes: Attributes, extent: Extent) -> Entry
@@ -56,6 +84,13 @@ pub fn entries_of(alloc: Global, places: &[Option<Place>]) -> Result<Vec<Entry>,
     Ok(entries)
 }
 
+/// A directory that is to be written.
+#[derive(Drop)]
+pub struct PendingDirectory {
+    pub document: DocumentRef,
+    pub text: Vec<u8>,
+}
+
 // A place for a directory of so many bytes. The free space isn't needed any more: the commit changes what is taken.
 fn place_directory(
     alloc: Global,
@@ -77,72 +112,45 @@ fn place_directory(
 }
 
 /// The directory of the live table. It takes all the memory that writing it needs.
-pub fn draft_of(
+pub fn pending_directory_of(
     alloc: Global,
     live: &Table,
     slots: &Slots,
     space: Option<FreeSpace>,
-) -> Result<Draft, AllocError>
+) -> Result<PendingDirectory, AllocError>
     requires formed { IsFormed live.now slots.now }
     requires known { IsKnown (block_extents live.now.places.items ++ kept_extents slots.now) space }
-    ensures { IfOk result (λ draft. IsDraft live.now slots.now draft) }
+    ensures { IfOk result (λ pending. IsPendingDirectory live.now slots.now pending) }
 {
     let entries = entries_of(alloc, &live.places)?;
     let text = write_dir(alloc, VmHandle(live.map_block), &entries)?;
     let directory = place_directory(alloc, live, slots, space, text.len() as u32)?;
     let table = copy_table(alloc, live)?;
-    Ok(Draft {
-        stored: Stored { directory, table },
+    Ok(PendingDirectory {
+        document: DocumentRef { directory, table },
         text,
     })
 }
 
 /// Writes the directory. Nothing else changes. File.
-pub fn write_draft<S: Store>(
+pub fn write_pending<S: Store>(
     store: &mut S,
     slots: &Slots,
     live: &Table,
-    draft: &Draft,
+    pending: &PendingDirectory,
 ) -> Result<(), Fault>
     requires sound { IsSound (S.facts store.old) live.now slots.now }
-    requires draft { IsDraft live.now slots.now draft.now }
+    requires pending { IsPendingDirectory live.now slots.now pending.now }
     ensures passes { Passes S.facts (disk_of S.facts store.old slots.now) (disk_of S.facts store.new slots.now) }
     ensures sound { IsSound (S.facts store.new) live.now slots.now }
     ensures same { IsTrue (S.facts store.old).honest → document_in (S.facts store.new).content live.now ≡ document_in (S.facts store.old).content live.now }
-    ensures written { OnOk result (IsTrue (S.facts store.old).honest → IsStored 2 (S.facts store.new).content draft.now.stored) }
+    ensures written { OnOk result (IsTrue (S.facts store.old).honest → IsStored 2 (S.facts store.new).content pending.now.document) }
     ensures file { IsErrOf result Fault.File → Raised (S.facts store.old) (S.facts store.new) }
     ensures refusals { IfErr result (λ fault. fault ≡ Fault.File) }
 {
     let _ = live;
-    match write_extent(store, slots, draft.stored.directory, &draft.text) {
+    match write_extent(store, slots, pending.document.directory, &pending.text) {
         Ok(()) => Ok(()),
         Err(StoreFault) => Err(Fault::File),
     }
-}
-
-/// Writes the directory and commits its document as the updated one, with a saved one. The live document stays. File.
-pub fn commit_draft<S: Store>(
-    store: &mut S,
-    slots: &mut Slots,
-    live: &Table,
-    draft: Draft,
-    saved: Stored,
-) -> Result<(), Fault>
-    requires sound { IsSound (S.facts store.old) live.now slots.old }
-    requires sequence { slots.old.sequence < 18446744073709551615 }
-    requires draft { IsDraft live.now slots.old draft }
-    requires saved { IsStoredCopy saved slots.old.committed.saved ⊎ IsStoredCopy saved draft.stored }
-    ensures commits { Commits S.facts (document_in (S.facts store.old).content live.now, document_in (S.facts store.old).content saved.table) (disk_of S.facts store.old slots.old) (disk_of S.facts store.new slots.new) result }
-    ensures sound { IsSound (S.facts store.new) live.now slots.new }
-    ensures same { IsTrue (S.facts store.old).honest → document_in (S.facts store.new).content live.now ≡ document_in (S.facts store.old).content live.now }
-    ensures turned { OnOk result ((slots.new.version ≡ 2) × (slots.new.other ≡ Other.Stale)) }
-    ensures file { IsErrOf result Fault.File → Raised (S.facts store.old) (S.facts store.new) }
-    ensures refusals { IfErr result (λ fault. fault ≡ Fault.File) }
-{
-    write_draft(store, slots, live, &draft)?;
-    let pair = Pair {
-        updated: draft.stored,
-        saved,
-    };
-    settle(store, slots, pair, live)
 }

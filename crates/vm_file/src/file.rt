@@ -1,3 +1,4 @@
+//! A document file: its calls.
 ghost use Rattle.std.specs.Prelude.{◌≡◌, ◌≢◌, ◌⊎◌, ◌↔◌, ◌≤◌, ◌<◌, ◌+◌, ℕ, List, [], ◌∷◌, All, IsTrue, IfOk, IfErr, IfSome, OnOk, OnErr, IsErrOf, IsOk, MatchResult, Ok, Err, None, Some, true, false, is_some, length, map};
 ghost use Rattle.std.specs.Option.{option_map};
 ghost use Rattle.std.specs.FinMap.{get, keys};
@@ -12,17 +13,19 @@ ghost use Rattle.vm_file.specs.Documents.{sequence_in, version_in};
 ghost use Rattle.vm_file.specs.Making.{first_directory, first_file, first_open, no_blocks};
 ghost use Rattle.vm_file.specs.Calls.{IsPut, put_all, remove_all, IsImageLength, IsSupply, IsOpenRefusal, last_sequence};
 
-use crate::copies::{copy_stored, copy_table, twice};
+use crate::commit::{commit_pair, commit_pending};
 use crate::copying::copy_document;
-use crate::directory::{commit_draft, draft_of};
+use crate::directory::pending_directory_of;
+use crate::extent::read_extent;
 use crate::listing::{Bounds, bounds_of, find_from, first_free, live_handles, tightened, widened};
 use crate::making::make_empty;
 use crate::member::Member;
-use crate::reading::{open_slots, read_extent};
-use crate::refused::Refused;
-use crate::settle::settle;
-use crate::slots::Slots;
-use crate::table::{Place, Table, make_room, place_of, put_places, remove_places, set_attributes};
+use crate::opening::open_slots;
+use crate::slot::Slots;
+use crate::table::{
+    Place, Table, both_of, copy_document_ref, copy_table, make_room, place_of, put_places,
+    remove_places, set_attributes,
+};
 use crate::writing::write_puts;
 use geos_model::{Attributes, Fault, VmHandle};
 use std::alloc::{AllocError, Global};
@@ -47,6 +50,13 @@ pub struct VmFile<S: Store> {
     space: Option<FreeSpace>,
     // Where the live table has blocks.
     bounds: Bounds,
+}
+
+/// Why a store wasn't taken, and the store.
+#[derive(Drop)]
+pub struct Refused<S> {
+    pub fault: Fault,
+    pub store: S,
 }
 
 impl<S: Store> Model for VmFile<S> {
@@ -329,9 +339,9 @@ impl<S: Store> VmFile<S> {
         if self.slots.sequence == u64::MAX {
             return Err(Fault::Worn);
         }
-        let draft = draft_of(self.alloc, &self.live, &self.slots, self.space.take())?;
-        let saved = copy_stored(self.alloc, &self.slots.committed.saved)?;
-        commit_draft(&mut self.store, &mut self.slots, &self.live, draft, saved)
+        let pending = pending_directory_of(self.alloc, &self.live, &self.slots, self.space.take())?;
+        let saved = copy_document_ref(self.alloc, &self.slots.committed.saved)?;
+        commit_pending(&mut self.store, &mut self.slots, &self.live, pending, saved)
     }
 
     /// Makes the document as it is now the updated and the saved one. Refused as an update is.
@@ -344,9 +354,9 @@ impl<S: Store> VmFile<S> {
         if self.slots.sequence == u64::MAX {
             return Err(Fault::Worn);
         }
-        let draft = draft_of(self.alloc, &self.live, &self.slots, self.space.take())?;
-        let saved = copy_stored(self.alloc, &draft.stored)?;
-        commit_draft(&mut self.store, &mut self.slots, &self.live, draft, saved)
+        let pending = pending_directory_of(self.alloc, &self.live, &self.slots, self.space.take())?;
+        let saved = copy_document_ref(self.alloc, &pending.document)?;
+        commit_pending(&mut self.store, &mut self.slots, &self.live, pending, saved)
     }
 
     /// Makes the saved document the updated one and the document as it is now. Refused as an update is.
@@ -361,9 +371,9 @@ impl<S: Store> VmFile<S> {
         }
         let saved = &self.slots.committed.saved;
         let live = copy_table(self.alloc, &saved.table)?;
-        let pair = twice(self.alloc, saved)?;
+        let pair = both_of(self.alloc, saved)?;
         self.space = None;
-        settle(&mut self.store, &mut self.slots, pair, &self.live)?;
+        commit_pair(&mut self.store, &mut self.slots, pair, &self.live)?;
         self.live = live;
         self.bounds = bounds_of(&self.live.places);
         Ok(())

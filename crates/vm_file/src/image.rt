@@ -1,4 +1,4 @@
-// The bytes of bodies, as a file keeps them.
+//! The bytes of bodies, as a file keeps them.
 ghost use Rattle.std.specs.Prelude.{◌≡◌, ◌≤◌, ◌+◌, true, None, Some, IfOk, MatchOption, length, replicate};
 ghost use Rattle.std.specs.FinMap.{empty};
 ghost use Rattle.geos_model.specs.Document.{is_heap_body, is_valid_body};
@@ -6,7 +6,7 @@ ghost use Rattle.geos_model.specs.Heap.{capacity};
 ghost use Rattle.geos_model.specs.Image.{image, body_of};
 ghost use Rattle.geos_model.specs.declared.command.Body.TheVariants as bodies;
 
-use crate::reading::image_kind;
+use crate::kind::image_kind;
 use geos_model::Bytes;
 use lmem_heap::Heap;
 use std::alloc::{AllocError, Global};

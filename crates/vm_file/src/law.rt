@@ -1,4 +1,4 @@
-// Laws of what callers see, for the layers above.
+//! Laws of what callers see, for the layers above.
 ghost use Rattle.std.specs.Prelude.{◌≡◌, [], IsTrue};
 ghost use Rattle.vm_file.specs.Crashes.{CrashLaw};
 ghost use Rattle.vm_file.specs.Disk.{Disk, IsSettled, ContentStands};

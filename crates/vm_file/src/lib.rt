@@ -2,28 +2,24 @@
 #![tactic(auto)]
 
 mod commit;
-mod copies;
 mod copying;
 mod directory;
+mod extent;
 mod file;
 mod image;
+mod kind;
 mod law;
 mod listing;
 mod making;
 mod member;
+mod opening;
 mod placing;
-mod reading;
-mod refused;
-mod saved;
-mod settle;
-mod slots;
+mod slot;
 mod table;
 mod writing;
 
-pub use file::VmFile;
+pub use file::{Refused, VmFile};
 pub use image::Image;
 pub use law::{content_law, crash_law, first_file_law, passing_law};
-pub use member::Member;
-pub use refused::Refused;
-pub use saved::SavedBlock;
+pub use member::{Member, SavedBlock};
 pub use table::Place;

@@ -1,4 +1,4 @@
-// Which handles are live, and where in a table to look for them.
+//! Which handles are live, and where in a table to look for them.
 ghost use Rattle.std.specs.Prelude.{◌≡◌, ◌≤◌, ◌-◌, ◌<◌, ℕ, [], All, IfOk, length, map, get_or, is_some, true, false, None};
 ghost use Rattle.std.specs.Option.{option_map};
 ghost use Rattle.geos_model.specs.Document.{most_blocks};

@@ -1,4 +1,4 @@
-// The making of a file.
+//! The making of a file.
 ghost use Rattle.std.specs.Prelude.{◌≡◌, ◌≢◌, ◌≤◌, ℕ, List, [], ◌∷◌, IsTrue, OnOk, IfOk, IfErr, IsErrOf, length};
 ghost use Rattle.geos_model.specs.File.{slot_mark};
 ghost use Rattle.vm_store.specs.Facts.{IsDurable, Puts, Counts, Raised};
@@ -6,18 +6,17 @@ ghost use Rattle.vm_file.specs.Calls.{IsSupply};
 ghost use Rattle.vm_file.specs.Making.{first_directory, first_slot, first_file, IsLaid, IsFirst};
 ghost use Rattle.vm_file.specs.Sound.{IsSound};
 
-use crate::commit::{PAGE, slot_bytes};
-use crate::copies::copy_table;
-use crate::slots::{Other, Pair, Slots, Stored};
-use crate::table::Table;
-use geos_model::{Extent, Fault, VERSION, VmHandle};
+use crate::extent::start_of;
+use crate::slot::{Slots, SpareSlot, slot_bytes};
+use crate::table::{DocumentRef, Pair, Table, copy_table};
+use geos_model::{Extent, Fault, PAGE, VERSION, VmHandle};
 use std::alloc::{AllocError, Global};
 use vm_space::{SLOT_MARK, write_dir};
 use vm_store::{Store, StoreFault};
 
 /// What is known in memory of a file that was made.
 #[derive(Drop)]
-pub struct Made {
+pub struct NewFile {
     pub live: Table,
     pub slots: Slots,
 }
@@ -34,18 +33,18 @@ fn empty_table(alloc: Global) -> Table
 }
 
 /// The slots of a file whose document is updated and saved, under the number 1.
-pub fn first_slots(alloc: Global, live: Table, directory: Extent) -> Result<Made, AllocError>
+pub fn first_slots(alloc: Global, live: Table, directory: Extent) -> Result<NewFile, AllocError>
     ensures live { IfOk result (λ made. made.live ≡ live) }
     ensures first { IfOk result (λ made. IsFirst directory live made.slots) }
 {
     let updated = copy_table(alloc, &live)?;
     let saved = copy_table(alloc, &live)?;
     let committed = Pair {
-        updated: Stored {
+        updated: DocumentRef {
             directory,
             table: updated,
         },
-        saved: Stored {
+        saved: DocumentRef {
             directory,
             table: saved,
         },
@@ -55,10 +54,10 @@ pub fn first_slots(alloc: Global, live: Table, directory: Extent) -> Result<Made
         version: VERSION,
         sequence: 1,
         committed,
-        other: Other::Shut,
+        spare: SpareSlot::Shut,
         marked: None,
     };
-    Ok(Made { live, slots })
+    Ok(NewFile { live, slots })
 }
 
 fn first_slot_bytes(directory: Extent) -> [u8; 32]
@@ -76,19 +75,23 @@ fn write_slots<S: Store>(store: &mut S, directory: Extent) -> Result<(), StoreFa
     ensures durable { OnOk result (IsTrue (S.facts store.old).honest → IsDurable (S.facts store.new)) }
 {
     store.write_at(0, &first_slot_bytes(directory))?;
-    store.write_at(PAGE, &SLOT_MARK)?;
+    store.write_at(u64::from(PAGE), &SLOT_MARK)?;
     store.sync()
 }
 
 // Writes all of a first file but its images and its gate, and syncs.
-fn lay_out<S: Store>(store: &mut S, directory: Extent, text: &[u8]) -> Result<(), StoreFault>
+fn write_with_gate_shut<S: Store>(
+    store: &mut S,
+    directory: Extent,
+    text: &[u8],
+) -> Result<(), StoreFault>
     requires behind { 2 ≤ directory.page }
     ensures honest { (S.facts store.new).honest ≡ (S.facts store.old).honest }
     ensures failures { Counts result (S.facts store.old) (S.facts store.new) }
     ensures laid { OnOk result (IsTrue (S.facts store.old).honest → IsLaid 0 directory text.now (S.facts store.old).content (S.facts store.new).content) }
     ensures durable { OnOk result (IsTrue (S.facts store.old).honest → IsDurable (S.facts store.new)) }
 {
-    store.write_at(PAGE * u64::from(directory.page), text)?;
+    store.write_at(start_of(directory), text)?;
     write_slots(store, directory)
 }
 
@@ -105,14 +108,14 @@ fn open_first<S: Store>(store: &mut S) -> Result<(), StoreFault>
 
 /// Writes the directory and the slots of a first file, whose images lie there: both gates are shut until all of it is on the
 /// disk, and then that of slot 0 is opened.
-pub fn found<S: Store>(store: &mut S, directory: Extent, text: &[u8]) -> Result<(), StoreFault>
+pub fn initialize<S: Store>(store: &mut S, directory: Extent, text: &[u8]) -> Result<(), StoreFault>
     requires behind { 2 ≤ directory.page }
     ensures honest { (S.facts store.new).honest ≡ (S.facts store.old).honest }
     ensures failures { Counts result (S.facts store.old) (S.facts store.new) }
     ensures laid { OnOk result (IsTrue (S.facts store.old).honest → IsLaid 1 directory text.now (S.facts store.old).content (S.facts store.new).content) }
     ensures durable { OnOk result (IsTrue (S.facts store.old).honest → IsDurable (S.facts store.new)) }
 {
-    lay_out(store, directory, text)?;
+    write_with_gate_shut(store, directory, text)?;
     open_first(store)
 }
 
@@ -131,7 +134,7 @@ pub fn empty<S: Store>(store: &mut S) -> Result<(), Fault>
 }
 
 /// Makes the store a file of no block, of 1,040 bytes. All memory is taken before the store is called.
-pub fn make_empty<S: Store>(alloc: Global, store: &mut S) -> Result<Made, Fault>
+pub fn make_empty<S: Store>(alloc: Global, store: &mut S) -> Result<NewFile, Fault>
     ensures honest { (S.facts store.new).honest ≡ (S.facts store.old).honest }
     ensures failures { (S.facts store.old).failures ≤ (S.facts store.new).failures }
     ensures sound { IfOk result (λ made. IsSound (S.facts store.new) made.live made.slots) }
@@ -152,7 +155,7 @@ pub fn make_empty<S: Store>(alloc: Global, store: &mut S) -> Result<Made, Fault>
     let made = first_slots(alloc, live, directory)?;
     let text = write_dir(alloc, VmHandle(0), &[])?;
     empty(store)?;
-    match found(store, directory, &text) {
+    match initialize(store, directory, &text) {
         Ok(()) => Ok(made),
         Err(_) => Err(Fault::File),
     }

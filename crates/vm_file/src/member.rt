@@ -1,5 +1,75 @@
-use crate::saved::SavedBlock;
-use geos_model::VmHandle;
+//! Blocks on their way into the file or out of it.
+ghost use Rattle.std.specs.Prelude.{◌≡◌, ◌≤◌, ◌<◌, ◌+◌, true, IfOk, length, replicate};
+ghost use Rattle.std.specs.FinMap.{empty};
+ghost use Rattle.geos_model.specs.Document.{FitAttributes, IsTyped, is_heap_body, is_valid_body};
+ghost use Rattle.geos_model.specs.Heap.{capacity};
+ghost use Rattle.geos_model.specs.Image.{image};
+ghost use Rattle.geos_model.specs.declared.command.Body.TheVariants as bodies;
+
+use crate::image::Image;
+use geos_model::{Attributes, VmHandle};
+use std::alloc::{AllocError, Global};
+
+/// A block as it was, one that a document can have, with its body as a file keeps it.
+#[derive(Drop)]
+pub struct SavedBlock {
+    pub attributes: Attributes,
+    pub image: Image,
+    // The law of changes has it from here, since there a number has no range.
+    ghost fit: { FitAttributes attributes },
+    ghost valid: { is_valid_body image ≡ true },
+    ghost typed: { IsTyped (is_heap_body image) attributes },
+}
+
+impl SavedBlock {
+    ghost use Rattle.vm_file.specs.Members.{saved_block};
+
+    /// A block with this body. Only a heap has a type.
+    pub fn new(attributes: Attributes, image: Image) -> SavedBlock
+        requires { IsTyped (is_heap_body image) attributes }
+        ensures { saved_block result ≡ record { attributes = attributes; body = image } }
+    {
+        image.validity();
+        SavedBlock { attributes, image }
+    }
+
+    /// A raw block of so many zeros. It has no type.
+    pub fn zeros(
+        alloc: Global,
+        attributes: Attributes,
+        size: usize,
+    ) -> Result<SavedBlock, AllocError>
+        requires size { size ≤ capacity }
+        requires typed { attributes.heap_type ≡ 0 }
+        ensures { IfOk result (λ saved. saved_block saved ≡ record { attributes = attributes; body = bodies.Raw (replicate size 0) }) }
+    {
+        Ok(SavedBlock::new(attributes, Image::zeros(alloc, size)?))
+    }
+
+    /// A raw block of these bytes. It has no type.
+    pub fn raw(attributes: Attributes, bytes: Vec<u8>) -> Result<SavedBlock, AllocError>
+        requires size { length bytes.items ≤ capacity }
+        requires typed { attributes.heap_type ≡ 0 }
+        ensures { IfOk result (λ saved. saved_block saved ≡ record { attributes = attributes; body = bodies.Raw bytes.items }) }
+    {
+        Ok(SavedBlock::new(attributes, Image::from_raw(bytes)?))
+    }
+
+    /// A block with an empty heap.
+    pub fn empty_heap(alloc: Global, attributes: Attributes) -> Result<SavedBlock, AllocError>
+        ensures { IfOk result (λ saved. saved_block saved ≡ record { attributes = attributes; body = bodies.Heap empty }) }
+    {
+        Ok(SavedBlock::new(attributes, Image::empty_heap(alloc)?))
+    }
+
+    /// How many bytes it holds: those of the image.
+    pub fn byte_count(&self) -> usize
+        ensures value { result ≡ length (image (saved_block self.now).body) }
+        ensures small { result ≤ capacity + 1 }
+    {
+        self.image.as_slice().len()
+    }
+}
 
 /// A block that comes into the file under a handle, or gets another body there; or one that goes from there.
 #[derive(Drop)]

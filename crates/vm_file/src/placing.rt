@@ -1,15 +1,15 @@
-// Where images and directories come to lie: apart from all that lies in the file and stays.
+//! Where images and directories come to lie: apart from all that lies in the file and stays.
 ghost use Rattle.std.specs.Prelude.{◌≡◌, ◌++◌, ◌+◌, ◌≤◌, List, All, IfOk, OnOk, length};
 ghost use Rattle.geos_model.specs.declared.file.Extent.{Extent};
 ghost use Rattle.vm_space.specs.Space.{AreTaken};
 ghost use Rattle.vm_file.specs.Ranges.{IsPlaced};
-ghost use Rattle.vm_file.specs.Slots.{block_extents, stored_extents, pair_extents, held_extents, marked_extents, kept_extents};
-ghost use Rattle.vm_file.specs.Known.{IsKnown, Takes};
+ghost use Rattle.vm_file.specs.Slots.{block_extents, stored_extents, pair_extents, prepared_extents, marked_extents, kept_extents};
+ghost use Rattle.vm_file.specs.FreeSpace.{IsKnown, Takes};
 ghost use Rattle.vm_file.specs.Writing.{AreFor};
 
 use crate::member::Member;
-use crate::slots::{Other, Pair, Slots, Stored};
-use crate::table::{Place, Table};
+use crate::slot::{Slots, SpareSlot};
+use crate::table::{DocumentRef, Pair, Place, Table};
 use geos_model::Extent;
 use std::alloc::{AllocError, Global};
 use vm_space::{FreeSpace, MOST_EXTENTS};
@@ -27,7 +27,7 @@ fn hold_blocks(space: &mut FreeSpace, places: &[Option<Place>]) -> Result<(), Al
     Ok(())
 }
 
-fn hold_stored(space: &mut FreeSpace, stored: &Stored) -> Result<(), AllocError>
+fn hold_document(space: &mut FreeSpace, stored: &DocumentRef) -> Result<(), AllocError>
     requires few { space.old.count + length (stored_extents stored.now) ≤ MOST_EXTENTS }
     requires placed { All IsPlaced (stored_extents stored.now) }
     ensures { OnOk result (Takes (stored_extents stored.now) space.old space.new) }
@@ -41,18 +41,18 @@ fn hold_pair(space: &mut FreeSpace, pair: &Pair) -> Result<(), AllocError>
     requires placed { All IsPlaced (pair_extents pair.now) }
     ensures { OnOk result (Takes (pair_extents pair.now) space.old space.new) }
 {
-    hold_stored(space, &pair.saved)?;
-    hold_stored(space, &pair.updated)
+    hold_document(space, &pair.saved)?;
+    hold_document(space, &pair.updated)
 }
 
-fn hold_other(space: &mut FreeSpace, other: &Other) -> Result<(), AllocError>
-    requires few { space.old.count + length (held_extents other.now) ≤ MOST_EXTENTS }
-    requires placed { All IsPlaced (held_extents other.now) }
-    ensures { OnOk result (Takes (held_extents other.now) space.old space.new) }
+fn hold_spare(space: &mut FreeSpace, spare: &SpareSlot) -> Result<(), AllocError>
+    requires few { space.old.count + length (prepared_extents spare.now) ≤ MOST_EXTENTS }
+    requires placed { All IsPlaced (prepared_extents spare.now) }
+    ensures { OnOk result (Takes (prepared_extents spare.now) space.old space.new) }
 {
-    match other {
-        Other::Held(pair) => hold_pair(space, pair),
-        Other::Shut | Other::Stale => Ok(()),
+    match spare {
+        SpareSlot::Prepared(pair) => hold_pair(space, pair),
+        SpareSlot::Shut | SpareSlot::Stale => Ok(()),
     }
 }
 
@@ -73,7 +73,7 @@ fn hold_kept(space: &mut FreeSpace, slots: &Slots) -> Result<(), AllocError>
     ensures { OnOk result (Takes (kept_extents slots.now) space.old space.new) }
 {
     hold_marked(space, &slots.marked)?;
-    hold_other(space, &slots.other)?;
+    hold_spare(space, &slots.spare)?;
     hold_pair(space, &slots.committed)
 }
 

@@ -1,17 +1,18 @@
-// The blocks of a document, and where their images lie in the file.
+//! The blocks of a document and where their images lie in the file; copies of that.
+ghost use Rattle.std.specs.Prelude.{◌≡◌, ◌≤◌, ◌-◌, ◌++◌, ◌∷◌, [], List, All, IfSome, IsOk, OnOk, OnErr, None, Some, get_or, length, max, slice_set, IfOk};
+ghost use Rattle.vm_file.specs.Calls.{IsPut};
+ghost use Rattle.vm_file.specs.Slots.{block_extents, kept_extents};
+ghost use Rattle.vm_file.specs.FreeSpace.{IsKnown};
+ghost use Rattle.vm_file.specs.Copies.{IsCopy, IsStoredCopy};
 ghost use Rattle.vm_file.specs.declared.table.Place.{Place};
-ghost use Rattle.std.specs.Prelude.{◌≡◌, ◌≤◌, ◌-◌, ◌++◌, ◌∷◌, [], List, All, IfSome, IsOk, OnOk, OnErr, None, Some, get_or, length, max, slice_set};
 ghost use Rattle.geos_model.specs.declared.file.Extent.{Extent};
 ghost use Rattle.vm_space.specs.Space.{AreTaken};
-ghost use Rattle.vm_file.specs.Known.{IsKnown};
-ghost use Rattle.vm_file.specs.Slots.{block_extents, kept_extents};
-ghost use Rattle.vm_file.specs.Calls.{IsPut};
 ghost use Rattle.vm_file.specs.Writing.{IsGrown, placed_at, with_places, without_place, without_places};
 
 use crate::member::Member;
-use crate::slots::Slots;
+use crate::slot::Slots;
 use geos_model::{Attributes, Extent, VmHandle};
-use std::alloc::AllocError;
+use std::alloc::{AllocError, Global};
 use vm_space::FreeSpace;
 
 /// A block in the file.
@@ -31,6 +32,50 @@ pub struct Table {
     /// The handle of the map block, 0 if there is none.
     pub map_block: u16,
     pub places: Vec<Option<Place>>,
+}
+
+/// A document whose directory and blocks lie in the file.
+#[derive(Drop)]
+pub struct DocumentRef {
+    pub directory: Extent,
+    pub table: Table,
+}
+
+/// What a slot leads to: the updated and the saved document.
+#[derive(Drop)]
+pub struct Pair {
+    pub updated: DocumentRef,
+    pub saved: DocumentRef,
+}
+
+pub fn copy_table(alloc: Global, table: &Table) -> Result<Table, AllocError>
+    ensures { IfOk result (λ copy. IsCopy copy table.now) }
+{
+    let places = table.places.to_vec(alloc)?;
+    Ok(Table {
+        map_block: table.map_block,
+        places,
+    })
+}
+
+pub fn copy_document_ref(alloc: Global, stored: &DocumentRef) -> Result<DocumentRef, AllocError>
+    ensures { IfOk result (λ copy. IsStoredCopy copy stored.now) }
+{
+    let table = copy_table(alloc, &stored.table)?;
+    Ok(DocumentRef {
+        directory: stored.directory,
+        table,
+    })
+}
+
+/// The pair of which both documents are this one.
+pub fn both_of(alloc: Global, stored: &DocumentRef) -> Result<Pair, AllocError>
+    ensures updated { IfOk result (λ pair. IsStoredCopy pair.updated stored.now) }
+    ensures saved { IfOk result (λ pair. IsStoredCopy pair.saved stored.now) }
+{
+    let updated = copy_document_ref(alloc, stored)?;
+    let saved = copy_document_ref(alloc, stored)?;
+    Ok(Pair { updated, saved })
 }
 
 /// The place of a handle, `None` where no block is live under it.

@@ -1,16 +1,16 @@
-// Images that come into the file.
+//! Images that come into the file.
 ghost use Rattle.std.specs.Prelude.{◌≡◌, ◌≢◌, ◌++◌, ◌+◌, ◌≤◌, [], All, IsTrue, IsOk, IfOk, IfErr, IsErrOf, OnOk, OnErr, length};
 ghost use Rattle.vm_store.specs.Facts.{Raised};
 ghost use Rattle.vm_file.specs.Ranges.{IsPlaced};
 ghost use Rattle.vm_file.specs.Slots.{block_extents, kept_extents, marked_extents, AreKept};
 ghost use Rattle.vm_file.specs.Calls.{IsSupply};
-ghost use Rattle.vm_file.specs.Known.{IsKnown};
+ghost use Rattle.vm_file.specs.FreeSpace.{IsKnown};
 ghost use Rattle.vm_file.specs.Writing.{AreFor, Fills, AreWritten, IsSpared};
 
-use crate::commit::write_extent;
+use crate::extent::write_extent;
 use crate::member::Member;
 use crate::placing::{known_space, place_images};
-use crate::slots::Slots;
+use crate::slot::Slots;
 use crate::table::Place;
 use geos_model::{Extent, Fault};
 use std::alloc::Global;

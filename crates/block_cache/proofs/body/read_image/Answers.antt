@@ -3,7 +3,7 @@ use Rattle.std.specs.Prelude.{Some}
 use Rattle.std.proofs.lemmas.Bool.{eqb-false}
 use Rattle.std.proofs.lemmas.List.{take_all}
 use Rattle.geos_model.specs.declared.command.Body.TheVariants.{Raw}
-use Rattle.vm_file.proofs.BodyImages.{empty_none, long_none, heap_none}
+use Rattle.vm_file.proofs.ImageLemmas.{empty_none, long_none, heap_none}
 use Rattle.block_cache.proofs.FileImages.{raw_read, heap_read, no_heap_image}
 use Rattle.block_cache.proofs.body.read_image.Goals as goal
 

@@ -2,7 +2,7 @@ use Rattle.std.proofs.Common.{ℕ, sym, ap, subst, ◌∙◌}
 use Rattle.std.specs.Prelude.{Ok, Err}
 use Rattle.std.proofs.lemmas.Result.{err_from_is_err_and}
 use Rattle.vm_file.specs.Effects.{IsCommit, IsWorn}
-use Rattle.vm_file.proofs.Effects.{Fails-as}
+use Rattle.vm_file.proofs.EffectsLemmas.{Fails-as}
 use Rattle.lru.specs.LruCache.{LruCache}
 use Rattle.block_cache.specs.Frames.{covered, AreKept}
 use Rattle.block_cache.specs.declared.frame.Frame.{Frame}

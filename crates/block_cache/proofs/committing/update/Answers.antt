@@ -4,8 +4,8 @@ use Rattle.std.proofs.lemmas.Result.{err_from_is_err_and}
 use Rattle.geos_model.specs.declared.fault.Fault.TheVariants.{Worn}
 use Rattle.vm_file.specs.Calls.{last_sequence}
 use Rattle.vm_file.specs.Effects.{IsCommit, NoFault, IsWorn}
-use Rattle.vm_file.proofs.Effects.{refused, unworn, Fails-after, Fails-as}
-use Rattle.vm_file.proofs.Results.{any_way}
+use Rattle.vm_file.proofs.EffectsLemmas.{refused, unworn, Fails-after, Fails-as}
+use Rattle.vm_file.proofs.ResultLemmas.{any_way}
 use Rattle.block_cache.specs.Frames.{overlay, covered}
 use Rattle.block_cache.proofs.Commits.{kept_after, not_committed, committed_under}
 use Rattle.block_cache.proofs.Overlay.{clean_overlay}

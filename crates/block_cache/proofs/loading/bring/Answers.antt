@@ -2,7 +2,7 @@ use Rattle.std.proofs.Common.{ap, subst, ◌∙◌}
 use Rattle.std.specs.Prelude.{Err}
 use Rattle.std.proofs.lemmas.Result.{err_from_is_err_and}
 use Rattle.vm_file.specs.Effects.{Fails, NoFault, IsDamage}
-use Rattle.vm_file.proofs.Effects.{Fails-after, Fails-as}
+use Rattle.vm_file.proofs.EffectsLemmas.{Fails-after, Fails-as}
 use Rattle.block_cache.proofs.Seats.{still_absent}
 use Rattle.block_cache.proofs.Steps.{moves_both, moves_live}
 use Rattle.block_cache.proofs.loading.bring.Goals as goal

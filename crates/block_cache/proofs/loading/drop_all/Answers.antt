@@ -3,7 +3,7 @@ use Rattle.std.specs.Prelude.{Err}
 use Rattle.std.proofs.lemmas.Result.{err_from_is_err_and}
 use Rattle.lru.specs.LruCache.{LruCache}
 use Rattle.vm_file.specs.Effects.{NoFault}
-use Rattle.vm_file.proofs.Effects.{Fails-as}
+use Rattle.vm_file.proofs.EffectsLemmas.{Fails-as}
 use Rattle.block_cache.specs.Frames.{Moves}
 use Rattle.block_cache.specs.declared.frame.Frame.{Frame}
 use Rattle.block_cache.proofs.Overlay.{bare_kept, bare}

@@ -1,9 +1,8 @@
 use Rattle.std.proofs.Common.{IsTrue, sym, subst, inr}
 use Rattle.vm_file.specs.Slots.{pair_extents, FailedEarly, Failed, AreKept}
-use Rattle.vm_file.proofs.KeptBytes.{slots_keep}
-use Rattle.vm_file.proofs.Outcomes.{shut_kept}
-use Rattle.vm_file.proofs.Results.{on_err}
-use Rattle.vm_file.proofs.Steps.{Outlives-trans, held_leaves, as_before, as_shut, as_early, as_held}
+use Rattle.vm_file.proofs.RangesLemmas.{slots_keep}
+use Rattle.vm_file.proofs.SlotsLemmas.{shut_kept, Outlives-trans, prepared_leaves, as_before, as_shut, as_early, as_held}
+use Rattle.vm_file.proofs.ResultLemmas.{on_err}
 use Rattle.vm_file.proofs.commit.commit.Goals as goal
 
 pub returns-in_err-shut_gate-clause-crash : goal.returns-in_err-shut_gate-clause-crash
@@ -59,11 +58,11 @@ returns-clause-crash g c file holds leaves keeps =
     let shut = c.shut_gate.ensures.leaves file holds leaves in
     let filled = c.fill_slot.ensures.leaves file still shut in
     let kept = slots_keep es file B.content C.content c.requires.placed (c.fill_slot.ensures.elsewhere still) (slots_keep es file _ B.content c.requires.placed (c.shut_gate.ensures.elsewhere holds) keeps) in
-    let held = held_leaves now pair file C (c.in_ok-fill_slot.ensures.durable still) (c.in_ok-fill_slot.ensures.marked still) (c.in_ok-fill_slot.ensures.rest still) kept filled in
+    let prepared = prepared_leaves now pair file C (c.in_ok-fill_slot.ensures.durable still) (c.in_ok-fill_slot.ensures.marked still) (c.in_ok-fill_slot.ensures.rest still) kept filled in
     Outlives-trans _ _ _ file (λ s. Failed slots pair s)
     (as_early slots now pair file _ _ (Outlives-trans _ _ _ file (λ s. FailedEarly slots s) (as_before slots slots pair file _ _ (c.shut_gate.ensures.crash file holds leaves))
     (as_shut slots now pair file _ _ c.in_ok-shut_gate.ensures.ok (c.fill_slot.ensures.crash file still shut))))
-    (as_held slots now pair file _ _ c.in_ok-shut_gate.ensures.ok (c.open_gate.ensures.crash file yet held))
+    (as_held slots now pair file _ _ c.in_ok-shut_gate.ensures.ok (c.open_gate.ensures.crash file yet prepared))
 
 pub returns-clause-leaves : goal.returns-clause-leaves
 returns-clause-leaves g c file holds leaves keeps =
@@ -76,5 +75,5 @@ returns-clause-leaves g c file holds leaves keeps =
     let es = pair_extents pair in
     let filled = c.fill_slot.ensures.leaves file still (c.shut_gate.ensures.leaves file holds leaves) in
     let kept = slots_keep es file B.content C.content c.requires.placed (c.fill_slot.ensures.elsewhere still) (slots_keep es file _ B.content c.requires.placed (c.shut_gate.ensures.elsewhere holds) keeps) in
-    let held = held_leaves now pair file C (c.in_ok-fill_slot.ensures.durable still) (c.in_ok-fill_slot.ensures.marked still) (c.in_ok-fill_slot.ensures.rest still) kept filled in
-    c.open_gate.ensures.leaves file yet held
+    let prepared = prepared_leaves now pair file C (c.in_ok-fill_slot.ensures.durable still) (c.in_ok-fill_slot.ensures.marked still) (c.in_ok-fill_slot.ensures.rest still) kept filled in
+    c.open_gate.ensures.leaves file yet prepared

@@ -1,22 +1,22 @@
 use Rattle.std.proofs.Common.{IsTrue, sym, ap, subst, ◌∙◌}
 use Rattle.vm_file.specs.Making.{laid_out, IsLaid}
 use Rattle.vm_file.specs.Documents.{blocks_in}
-use Rattle.vm_file.proofs.First.{AreLying, first_sound, keeps}
-use Rattle.vm_file.proofs.Tables.{blocks_same}
-use Rattle.vm_file.proofs.LaidOut.{copied_lying}
+use Rattle.vm_file.proofs.MakingLemmas.{AreLying, first_sound, keeps}
+use Rattle.vm_file.proofs.TableLemmas.{blocks_same}
+use Rattle.vm_file.proofs.LaidOutLemmas.{copied_lying}
 use Rattle.vm_file.proofs.copying.copy_document.Goals as goal
 
 pub returns-in-Ok-clause-sound : goal.returns-in-Ok-clause-sound
 returns-in-Ok-clause-sound g c =
     let plan = c.in_ok-plan.plan in
     let facts = g.S.Store.facts in
-    let store = facts c.found.new.store in
+    let store = facts c.initialize.new.store in
     let mid = facts c.copy_images.new.target in
     let start = facts c.empty.new.store in
     let source = facts c.args.source.now in
     first_sound plan.directory plan.text.items plan.made.live plan.made.slots c.in_ok-plan.ensures.first c.in_ok-plan.ensures.founding store mid.content
     (λ so.
-    let then = subst IsTrue c.found.ensures.honest so in
+    let then = subst IsTrue c.initialize.ensures.honest so in
     let before = subst IsTrue c.copy_images.ensures.honest then in
     let first = subst IsTrue c.empty.ensures.honest before in
     let copied = c.in_ok-copy_images.ensures.copied before in
@@ -27,7 +27,7 @@ pub returns-in-Ok-clause-blocks : goal.returns-in-Ok-clause-blocks
 returns-in-Ok-clause-blocks g c source_so target_so =
     let plan = c.in_ok-plan.plan in
     let facts = g.S.Store.facts in
-    let store = facts c.found.new.store in
+    let store = facts c.initialize.new.store in
     let mid = facts c.copy_images.new.target in
     let start = facts c.empty.new.store in
     let source = facts c.args.source.now in

@@ -1,7 +1,7 @@
 use Rattle.std.proofs.Common.{◌≡◌, ◌≤◌, take, IsTrue}
 use Rattle.vm_file.specs.Making.{AreCopied}
 use Rattle.vm_file.specs.Opened.{Looks}
-use Rattle.vm_file.proofs.LaidOut.{IsBehind}
+use Rattle.vm_file.proofs.LaidOutLemmas.{IsBehind}
 use Rattle.vm_file.proofs.copying.copy_images.Given as goal
 
 -- the images so far are copied

@@ -1,7 +1,7 @@
 use Rattle.std.proofs.Common.{◌∷◌, ◌++◌, [], None, get_or, take, length, ◌<◌, sym, ap, ◌∙◌, arith}
 use Rattle.std.proofs.lemmas.List.{take_more}
 use Rattle.vm_file.specs.Making.{laid_out, moved_to}
-use Rattle.vm_file.proofs.LaidOut.{behind_more, laid_out-more}
+use Rattle.vm_file.proofs.LaidOutLemmas.{behind_more, laid_out-more}
 use Rattle.vm_file.proofs.copying.place_anew.Goals as goal
 
 pub loop-place-preserved : goal.loop-place-preserved

@@ -1,6 +1,6 @@
 use Rattle.std.proofs.Common.{◌≡◌, take}
 use Rattle.vm_file.specs.Making.{laid_out}
-use Rattle.vm_file.proofs.LaidOut.{IsBehind}
+use Rattle.vm_file.proofs.LaidOutLemmas.{IsBehind}
 use Rattle.vm_file.proofs.copying.place_anew.Given as goal
 
 -- the places so far are laid out

@@ -4,8 +4,8 @@ use Rattle.geos_model.proofs.Files.{length-directory}
 use Rattle.geos_model.specs.Document.{FitAttributes}
 use Rattle.vm_file.specs.Making.{laid_out, page_behind}
 use Rattle.vm_file.specs.Documents.{entries_of}
-use Rattle.vm_file.proofs.Written.{entries_few}
-use Rattle.vm_file.proofs.LaidOut.{length-laid_out, plan_founding}
+use Rattle.vm_file.proofs.TableDirectoryLemmas.{entries_few}
+use Rattle.vm_file.proofs.LaidOutLemmas.{length-laid_out, plan_founding}
 use Rattle.vm_file.proofs.copying.plan_copy.Goals as goal
 
 pub entries_of-requires : goal.entries_of-requires

@@ -1,5 +1,5 @@
 use Rattle.std.proofs.Common.{All, sym, ap, subst, ◌∙◌}
-use Rattle.vm_file.proofs.Written.{entries_none, entries_some, attributes_more}
+use Rattle.vm_file.proofs.TableDirectoryLemmas.{entries_none, entries_some, attributes_more}
 use Rattle.vm_file.proofs.directory.entries_of.Goals as goal
 use Rattle.vm_file.proofs.directory.entries_of.Goals.{in-Some+in_ok-push, in_default}
 use Rattle.geos_model.specs.Document.{FitAttributes}

@@ -4,11 +4,11 @@ use Rattle.std.proofs.lemmas.Result.{IfOk-weaker}
 use Rattle.geos_model.specs.declared.file.Extent.{Extent}
 use Rattle.vm_space.specs.Placing.{IsFirstFit}
 use Rattle.vm_space.specs.Space.{AreTaken}
-use Rattle.vm_file.specs.Known.{IsKnown}
+use Rattle.vm_file.specs.FreeSpace.{IsKnown}
 use Rattle.vm_file.specs.Ranges.{start_of, IsPlaced, IsClear}
 use Rattle.vm_file.specs.Slots.{block_extents, kept_extents}
-use Rattle.vm_file.proofs.Drafted.{room_clear, room_placed}
-use Rattle.vm_file.proofs.Puts.{few_extents}
+use Rattle.vm_file.proofs.PendingDirectoryLemmas.{room_clear, room_placed}
+use Rattle.vm_file.proofs.PutBlocksLemmas.{few_extents}
 use Rattle.vm_file.proofs.directory.place_directory.Goals as goal
 
 pub known_space-requires-clause-few : goal.known_space-requires-clause-few

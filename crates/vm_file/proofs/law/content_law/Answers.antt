@@ -1,4 +1,4 @@
-use Rattle.vm_file.proofs.Content.{settled_content}
+use Rattle.vm_file.proofs.ContentLemmas.{settled_content}
 use Rattle.vm_file.proofs.law.content_law.Goals as goal
 
 pub returns : goal.returns

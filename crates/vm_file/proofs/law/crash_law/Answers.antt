@@ -1,4 +1,4 @@
-use Rattle.vm_file.proofs.Crashes as crashes
+use Rattle.vm_file.proofs.CrashesLemmas as crashes
 use Rattle.vm_file.proofs.law.crash_law.Goals as goal
 
 pub returns : goal.returns

@@ -1,4 +1,4 @@
-use Rattle.vm_file.proofs.FirstFile as first
+use Rattle.vm_file.proofs.FirstFileLemmas as first
 use Rattle.vm_file.proofs.law.first_file_law.Goals as goal
 
 pub returns : goal.returns

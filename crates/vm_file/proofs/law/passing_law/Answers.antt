@@ -1,4 +1,4 @@
-use Rattle.vm_file.proofs.Passing as passing
+use Rattle.vm_file.proofs.PassingLemmas as passing
 use Rattle.vm_file.proofs.law.passing_law.Goals as goal
 
 pub returns : goal.returns

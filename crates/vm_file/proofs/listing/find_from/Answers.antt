@@ -1,5 +1,5 @@
 use Rattle.std.proofs.Common.{◌≡◌, ◌+◌, ◌≤◌, ◌≢◌, ℕ, Some, drop, sym, ap, ◌∙◌, arith}
-use Rattle.vm_file.proofs.Handles.{found_from, found_front, found_at, found_next, found_end}
+use Rattle.vm_file.proofs.ListingLemmas.{found_from, found_front, found_at, found_next, found_end}
 use Rattle.vm_file.proofs.listing.find_from.Goals as goal
 use Rattle.vm_file.proofs.listing.find_from.Goals.{in-Some+else-place-user_id, in_default}
 

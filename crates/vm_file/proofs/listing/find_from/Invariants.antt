@@ -1,5 +1,5 @@
 use Rattle.std.proofs.Common.{◌≡◌, drop}
-use Rattle.vm_file.proofs.Handles.{found_from}
+use Rattle.vm_file.proofs.ListingLemmas.{found_from}
 use Rattle.vm_file.proofs.listing.find_from.Given as goal
 
 abbrev pub invariant-loop-i : goal.invariant-loop-i

@@ -1,5 +1,5 @@
 use Rattle.std.proofs.Common.{refl, sym}
-use Rattle.vm_file.proofs.Handles.{listed_full, listed_free}
+use Rattle.vm_file.proofs.ListingLemmas.{listed_full, listed_free}
 use Rattle.vm_file.proofs.listing.live_handles.Goals as goal
 use Rattle.vm_file.proofs.listing.live_handles.Goals.{then-is_some+in_ok-push, else-is_some}
 

@@ -1,5 +1,5 @@
 use Rattle.std.proofs.Common.{◌≡◌, map, take}
-use Rattle.vm_file.proofs.Handles.{handles_from}
+use Rattle.vm_file.proofs.ListingLemmas.{handles_from}
 use Rattle.vm_file.proofs.listing.live_handles.Given as goal
 
 abbrev pub invariant-loop-i : goal.invariant-loop-i

@@ -1,11 +1,11 @@
 use Rattle.std.proofs.Common.{◌+◌, take, subst, sym, arith}
 use Rattle.vm_space.specs.Space.{Space}
-use Rattle.vm_file.specs.Known.{Takes}
+use Rattle.vm_file.specs.FreeSpace.{Takes}
 use Rattle.vm_file.specs.Ranges.{IsPlaced}
 use Rattle.vm_file.specs.Slots.{block_extents}
-use Rattle.vm_file.proofs.Found.{blocks_fewer, takes_some, takes_no_more}
-use Rattle.vm_file.proofs.Spaces.{placed_length}
-use Rattle.vm_file.proofs.Tables.{each_at, places_of}
+use Rattle.vm_file.proofs.PlacingLemmas.{blocks_fewer, takes_some, takes_no_more}
+use Rattle.vm_file.proofs.FreeSpaceLemmas.{placed_length}
+use Rattle.vm_file.proofs.TableLemmas.{each_at, places_of}
 use Rattle.vm_file.proofs.placing.hold_blocks.Goals as goal
 use Rattle.vm_file.proofs.placing.hold_blocks.Goals.{in-Some+in_ok-hold, in_default}
 

@@ -1,5 +1,5 @@
 use Rattle.std.proofs.Common.{take}
-use Rattle.vm_file.specs.Known.{Takes}
+use Rattle.vm_file.specs.FreeSpace.{Takes}
 use Rattle.vm_file.specs.Slots.{block_extents}
 use Rattle.vm_file.proofs.placing.hold_blocks.Given as goal
 

@@ -3,8 +3,8 @@ use Rattle.std.proofs.lemmas.List.{get_or_default}
 use Rattle.geos_model.specs.declared.file.Extent.{Extent}
 use Rattle.vm_space.specs.Placing.{IsFirstFit}
 use Rattle.vm_file.specs.Writing.{AreFor}
-use Rattle.vm_file.proofs.Found.{IsPlacing, taken_with, placing_more, placing_none, placing_taken}
-use Rattle.vm_file.proofs.Imaged.{image_length}
+use Rattle.vm_file.proofs.PlacingLemmas.{IsPlacing, taken_with, placing_more, placing_none, placing_taken}
+use Rattle.vm_file.proofs.ImageLemmas.{image_length}
 use Rattle.vm_file.proofs.placing.place_images.Goals as goal
 
 pub loop-put-init : goal.loop-put-init

@@ -1,7 +1,7 @@
 use Rattle.std.proofs.Common.{◌≡◌, ◌+◌, List}
 use Rattle.geos_model.specs.declared.file.Extent.{Extent}
 use Rattle.vm_space.specs.Space.{AreTaken}
-use Rattle.vm_file.proofs.Found.{IsPlacing}
+use Rattle.vm_file.proofs.PlacingLemmas.{IsPlacing}
 use Rattle.vm_file.proofs.placing.place_images.Given as goal
 
 abbrev pub invariant-loop-put : goal.invariant-loop-put

@@ -3,13 +3,13 @@ use Rattle.std.proofs.lemmas.List.{drop_more}
 use Rattle.geos_model.specs.declared.file.Extent.{Extent}
 use Rattle.geos_model.specs.Document.{no_attributes}
 use Rattle.vm_file.specs.Calls.{IsPut}
-use Rattle.vm_file.specs.Known.{IsKnown}
+use Rattle.vm_file.specs.FreeSpace.{IsKnown}
 use Rattle.vm_file.specs.Slots.{block_extents, kept_extents}
 use Rattle.vm_file.specs.declared.table.Place.{Place}
 use Rattle.vm_file.specs.Writing.{with_places}
 use Rattle.vm_file.specs.declared.member.Member.{Member}
-use Rattle.vm_file.proofs.Tables.{handle_within}
-use Rattle.vm_file.proofs.Spaces.{known-put, known_rest}
+use Rattle.vm_file.proofs.TableLemmas.{handle_within}
+use Rattle.vm_file.proofs.FreeSpaceLemmas.{known-put, known_rest}
 use Rattle.vm_file.proofs.table.put_places.Goals as goal
 
 pub give_back-requires : goal.give_back-requires

@@ -1,5 +1,5 @@
 use Rattle.std.proofs.Common.{◌≡◌, ◌++◌, drop, length}
-use Rattle.vm_file.specs.Known.{IsKnown}
+use Rattle.vm_file.specs.FreeSpace.{IsKnown}
 use Rattle.vm_file.specs.Slots.{block_extents, kept_extents}
 use Rattle.vm_file.specs.Writing.{with_places}
 use Rattle.vm_file.proofs.table.put_places.Given as goal

@@ -1,7 +1,7 @@
 use Rattle.std.proofs.Common.{ℕ, ◌-◌, ◌<◌, ◌++◌, ◌∷◌, [], List, None, get_or, set, length, arith}
 use Rattle.geos_model.specs.declared.file.Extent.{Extent}
 use Rattle.vm_file.specs.Slots.{block_extents, kept_extents}
-use Rattle.vm_file.proofs.Spaces.{known-removed, known_rest}
+use Rattle.vm_file.proofs.FreeSpaceLemmas.{known-removed, known_rest}
 use Rattle.vm_file.proofs.table.remove_place.Goals as goal
 
 pub give_back-requires : goal.give_back-requires

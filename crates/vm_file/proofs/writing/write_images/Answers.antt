@@ -2,7 +2,7 @@ use Rattle.std.proofs.Common.{◌<◌, length, IsTrue, sym, ap, subst, ◌∙◌
 use Rattle.std.proofs.lemmas.List.{get_or_default}
 use Rattle.geos_model.specs.Image.{image}
 use Rattle.vm_file.specs.declared.member.Member.{Member}
-use Rattle.vm_file.proofs.Writes.{fills_more, written_more}
+use Rattle.vm_file.proofs.WritingLemmas.{fills_more, written_more}
 use Rattle.vm_file.proofs.writing.write_images.Goals as goal
 
 pub returns-in_err-write_extent-clause-fills : goal.returns-in_err-write_extent-clause-fills

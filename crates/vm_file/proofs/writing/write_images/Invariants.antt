@@ -1,4 +1,4 @@
-use Rattle.vm_file.proofs.Writes.{Writes}
+use Rattle.vm_file.proofs.WritingLemmas.{Writes}
 use Rattle.vm_file.proofs.writing.write_images.Given as goal
 
 abbrev pub invariant-loop-i : goal.invariant-loop-i

@@ -1,9 +1,9 @@
 use Rattle.std.proofs.Common.{◌++◌, length, sym, subst, arith}
 use Rattle.vm_file.specs.Slots.{block_extents, marked_extents, kept_extents}
 use Rattle.vm_file.specs.Writing.{AreFor, Fills}
-use Rattle.vm_file.proofs.KeptBytes.{all_right}
-use Rattle.vm_file.proofs.Marked.{live_and_marked}
-use Rattle.vm_file.proofs.Writes.{for_fewer, spared_by}
+use Rattle.vm_file.proofs.RangesLemmas.{all_right}
+use Rattle.vm_file.proofs.SoundLemmas.{live_and_marked}
+use Rattle.vm_file.proofs.WritingLemmas.{for_fewer, spared_by}
 use Rattle.vm_file.proofs.writing.write_puts.Goals as goal
 
 pub place_images-requires : goal.place_images-requires

@@ -2,7 +2,7 @@ use Rattle.std.proofs.Common.{◌≡◌, ℕ, ◌∷◌, true, false, cond, nat_
 use Rattle.std.specs.Prelude.{OnOk}
 use Rattle.vm_file.specs.Disk.{Drifts}
 use Rattle.vm_file.specs.Effects.{Fails, IsDamage}
-use Rattle.vm_file.proofs.Passing.{Drifts-refl}
+use Rattle.vm_file.proofs.PassingLemmas.{Drifts-refl}
 use Rattle.geos_model.specs.Document.{is_live}
 use Rattle.std.specs.List.{IsDistinct}
 use Rattle.std.specs.Map.{lookup, keys_of}

@@ -9,7 +9,7 @@ use Rattle.geos_model.specs.declared.command.Command.TheVariants as commands
 use Rattle.geos_model.specs.declared.command.Kind.TheVariants.{Made}
 use Rattle.geos_model.specs.declared.fault.Fault.TheVariants.{Locked, Memory}
 use Rattle.vm_file.specs.Disk.{Passes}
-use Rattle.vm_file.proofs.Passing.{Passes-refl}
+use Rattle.vm_file.proofs.PassingLemmas.{Passes-refl}
 use Rattle.vm_blocks.specs.Keeping.{Lacks}
 use Rattle.vm_blocks.specs.declared.change.Direction.TheVariants.{Backwards}
 use Rattle.vm_blocks.proofs.KeepingLaws.{keeps-refl, keeps-passes, lacks-memory}

@@ -11,13 +11,13 @@ use Rattle.vm_file.specs.Effects.{IsCommit}
 use Rattle.vm_file.specs.Ranges.{IsPlaced}
 use Rattle.vm_file.specs.Slots.{stored_extents}
 use Rattle.vm_file.specs.Sound.{disk_of}
-use Rattle.vm_file.specs.declared.slots.Pair.{Pair}
-use Rattle.vm_file.proofs.KeptBytes.{all_right}
-use Rattle.vm_file.proofs.KeptDocuments.{stored_newer}
-use Rattle.vm_file.proofs.Marked.{kept_pair}
-use Rattle.vm_file.proofs.Copied.{pair_documents, pair_placed, pair_stored, sound_saved, copy_document, copies_alike, copy_itself, copy_drifts}
-use Rattle.vm_file.proofs.Effects.{refused, refused_by, tried}
-use Rattle.vm_file.proofs.Stands.{sound_settled, turned_versioned}
+use Rattle.vm_file.specs.declared.table.Pair.{Pair}
+use Rattle.vm_file.proofs.RangesLemmas.{all_right}
+use Rattle.vm_file.proofs.DocumentsLemmas.{stored_newer}
+use Rattle.vm_file.proofs.SoundLemmas.{kept_pair}
+use Rattle.vm_file.proofs.CopiesLemmas.{pair_documents, pair_placed, pair_stored, sound_saved, copy_document, copies_alike, copy_itself, copy_drifts}
+use Rattle.vm_file.proofs.EffectsLemmas.{refused, refused_by, tried}
+use Rattle.vm_file.proofs.StandsLemmas.{sound_settled, turned_versioned}
 use Rattle.vm_file.proofs.file.VmFile.commit_revert.Goals as goal
 
 pub returns-then-self-clause-commit : goal.returns-then-self-clause-commit
@@ -38,42 +38,42 @@ returns-in_err-pair-clause-commit g c =
     refused_by g.S.Store.facts c.args.self.now _ _ c.from_residual-in_err-pair.result c.from_residual-in_err-pair.ensures.1 (subst (λ s. IsSettled g.S.Store.facts s.disk) c.self.view_is (sound_settled g.S.Store.facts i.store i.live i.slots c.self.invariant.sound))
     (subst (λ s. s.disk.sequence ≢ last_sequence) c.self.view_is c.if-self.false)
 
-pub settle-requires-clause-placed : goal.settle-requires-clause-placed
-settle-requires-clause-placed g c =
+pub commit_pair-requires-clause-placed : goal.commit_pair-requires-clause-placed
+commit_pair-requires-clause-placed g c =
     let slots = c.self.inside.slots in
     let saved = slots.committed.saved in
     let placed = all_right IsPlaced (stored_extents slots.committed.updated) (stored_extents saved) (kept_pair IsPlaced slots c.self.invariant.sound.formed.kept) in
     pair_placed [] c.in_ok-pair.pair saved saved c.in_ok-pair.ensures.updated c.in_ok-pair.ensures.saved placed placed
 
-pub settle-requires-clause-stored : goal.settle-requires-clause-stored
-settle-requires-clause-stored g c so =
+pub commit_pair-requires-clause-stored : goal.commit_pair-requires-clause-stored
+commit_pair-requires-clause-stored g c so =
     let saved = c.self.inside.slots.committed.saved in
     let content = (g.S.Store.facts c.self.inside.store).content in
     let stored = stored_newer c.self.inside.slots.version content saved (c.self.invariant.sound.whole so).committed.saved in
     pair_stored content c.in_ok-pair.pair saved saved c.in_ok-pair.ensures.updated c.in_ok-pair.ensures.saved 2 stored stored
 
-pub returns-in_err-settle-clause-commit : goal.returns-in_err-settle-clause-commit
-returns-in_err-settle-clause-commit g c =
+pub returns-in_err-commit_pair-clause-commit : goal.returns-in_err-commit_pair-clause-commit
+returns-in_err-commit_pair-clause-commit g c =
     let facts = g.S.Store.facts in let i = c.self.inside in
     let saved = i.slots.committed.saved in
-    let a = facts i.store in let b = facts c.settle.new.store in
-    let p = err_from_is_err_and c.from_residual-in_err-settle.result c.from_residual-in_err-settle.ensures.1 in
-    let fault = c.in_err-settle.field-0.0 in
+    let a = facts i.store in let b = facts c.commit_pair.new.store in
+    let p = err_from_is_err_and c.from_residual-in_err-commit_pair.result c.from_residual-in_err-commit_pair.ensures.1 in
+    let fault = c.in_err-commit_pair.field-0.0 in
     let documents = pair_documents a.content c.in_ok-pair.pair saved saved c.in_ok-pair.ensures.updated c.in_ok-pair.ensures.saved in
     let old : FileState g.row.S.Denot = record { disk = disk_of facts i.store i.slots; document = document_in a.content i.live } in
-    let new : FileState g.row.S.Denot = record { disk = disk_of facts c.settle.new.store c.settle.new.slots; document = document_in b.content i.live } in
-    subst (λ (f : FileState g.row.S.Denot). IsCommit facts (f.disk.saved, f.disk.saved) f.disk.saved f new c.from_residual-in_err-settle.result) c.self.view_is
+    let new : FileState g.row.S.Denot = record { disk = disk_of facts c.commit_pair.new.store c.commit_pair.new.slots; document = document_in b.content i.live } in
+    subst (λ (f : FileState g.row.S.Denot). IsCommit facts (f.disk.saved, f.disk.saved) f.disk.saved f new c.from_residual-in_err-commit_pair.result) c.self.view_is
     (subst (λ r. IsCommit facts (old.disk.saved, old.disk.saved) old.disk.saved old new r) (sym (p.1 ∙ ap Err p.2))
     (tried facts g.met.S.Store.timely old new _ _ (Err fault)
-    (subst (λ (d : Documents). Commits facts d old.disk new.disk (Err fault)) documents c.in_err-settle.ensures.commits)
-    (copy_drifts a.honest a.content b.content i.live i.live (copy_itself i.live) c.settle.ensures.live) c.in_err-settle.ensures.refusals c.if-self.false))
+    (subst (λ (d : Documents). Commits facts d old.disk new.disk (Err fault)) documents c.in_err-commit_pair.ensures.commits)
+    (copy_drifts a.honest a.content b.content i.live i.live (copy_itself i.live) c.commit_pair.ensures.live) c.in_err-commit_pair.ensures.refusals c.if-self.false))
 
 pub invariant_of-self-2 : goal.invariant_of-self-2
 invariant_of-self-2 g c =
     let saved = c.self.inside.slots.committed.saved in
-    let now = c.settle.new.slots in
+    let now = c.commit_pair.new.slots in
     let alike = copies_alike c.in_ok-live.live c.in_ok-pair.pair.saved.table saved.table c.in_ok-live.ensures c.in_ok-pair.ensures.saved.table in
-    record { sound = sound_saved (g.S.Store.facts c.settle.new.store) c.self.inside.live c.in_ok-live.live now (subst (λ (p : Pair). IsCopy c.in_ok-live.live p.saved.table) (sym c.in_ok-settle.ensures.committed) alike) c.settle.ensures.sound; bounded = subst (λ ps. AreBounds ps c.bounds_of-self-inside.result) c.deref.ensures.value c.bounds_of-self-inside.ensures; known = tt }
+    record { sound = sound_saved (g.S.Store.facts c.commit_pair.new.store) c.self.inside.live c.in_ok-live.live now (subst (λ (p : Pair). IsCopy c.in_ok-live.live p.saved.table) (sym c.in_ok-commit_pair.ensures.committed) alike) c.commit_pair.ensures.sound; bounded = subst (λ ps. AreBounds ps c.bounds_of-self-inside.result) c.deref.ensures.value c.bounds_of-self-inside.ensures; known = tt }
 
 pub returns-clause-commit : goal.returns-clause-commit
 returns-clause-commit g c =
@@ -81,20 +81,20 @@ returns-clause-commit g c =
     let saved = i.slots.committed.saved in
     let pair = c.in_ok-pair.pair in
     let copy = c.in_ok-live.live in
-    let a = facts i.store in let b = facts c.settle.new.store in
+    let a = facts i.store in let b = facts c.commit_pair.new.store in
     let documents = pair_documents a.content pair saved saved c.in_ok-pair.ensures.updated c.in_ok-pair.ensures.saved in
     let same : IsTrue a.honest → document_in b.content copy ≡ document_in a.content saved.table = λ so.
     copy_document b.content copy pair.saved.table (copies_alike copy pair.saved.table saved.table c.in_ok-live.ensures c.in_ok-pair.ensures.saved.table)
-    ∙ sym (ap (λ (p : Pair). document_in b.content p.saved.table) c.in_ok-settle.ensures.committed)
-    ∙ ap (λ (d : Documents). d.1) (c.in_ok-settle.ensures.commits.ok so).0
+    ∙ sym (ap (λ (p : Pair). document_in b.content p.saved.table) c.in_ok-commit_pair.ensures.committed)
+    ∙ ap (λ (d : Documents). d.1) (c.in_ok-commit_pair.ensures.commits.ok so).0
     ∙ copy_document a.content pair.saved.table saved.table c.in_ok-pair.ensures.saved.table in
     let old : FileState g.row.S.Denot = record { disk = disk_of facts i.store i.slots; document = document_in a.content i.live } in
-    let new : FileState g.row.S.Denot = record { disk = disk_of facts c.settle.new.store c.settle.new.slots; document = document_in b.content copy } in
+    let new : FileState g.row.S.Denot = record { disk = disk_of facts c.commit_pair.new.store c.commit_pair.new.slots; document = document_in b.content copy } in
     subst (λ (f : FileState g.row.S.Denot). IsCommit facts (f.disk.saved, f.disk.saved) f.disk.saved f new (Ok tt)) c.self.view_is
     (tried facts g.met.S.Store.timely old new _ _ (Ok tt)
-    (subst (λ (d : Documents). Commits facts d old.disk new.disk (Ok tt)) documents c.in_ok-settle.ensures.commits)
+    (subst (λ (d : Documents). Commits facts d old.disk new.disk (Ok tt)) documents c.in_ok-commit_pair.ensures.commits)
     (copy_drifts a.honest a.content b.content copy saved.table c.in_ok-live.ensures same) tt c.if-self.false)
 
 pub returns-clause-version : goal.returns-clause-version
 returns-clause-version g c =
-    turned_versioned g.S.Store.facts c.settle.new.store c.self.inside.live c.settle.new.slots (g.met.S.Store.timely c.settle.new.store) c.settle.ensures.sound c.in_ok-settle.ensures.turned
+    turned_versioned g.S.Store.facts c.commit_pair.new.store c.self.inside.live c.commit_pair.new.slots (g.met.S.Store.timely c.commit_pair.new.store) c.commit_pair.ensures.sound c.in_ok-commit_pair.ensures.turned

@@ -6,10 +6,10 @@ use Rattle.vm_file.specs.Documents.{document_in}
 use Rattle.vm_file.specs.Disk.{FileState, IsSettled, Commits}
 use Rattle.vm_file.specs.Effects.{IsCommit}
 use Rattle.vm_file.specs.Sound.{disk_of}
-use Rattle.vm_file.proofs.Copied.{copy_itself, copy_drifts, copy_document}
-use Rattle.vm_file.proofs.Effects.{refused, refused_by, tried}
-use Rattle.vm_file.proofs.Results.{either_way}
-use Rattle.vm_file.proofs.Stands.{sound_settled, turned_versioned}
+use Rattle.vm_file.proofs.CopiesLemmas.{copy_itself, copy_drifts, copy_document}
+use Rattle.vm_file.proofs.EffectsLemmas.{refused, refused_by, tried}
+use Rattle.vm_file.proofs.ResultLemmas.{either_way}
+use Rattle.vm_file.proofs.StandsLemmas.{sound_settled, turned_versioned}
 use Rattle.std.proofs.lemmas.Result.{on_ok_weaker}
 use Rattle.vm_file.proofs.file.VmFile.commit_update.Goals as goal
 
@@ -19,8 +19,8 @@ returns-then-self-clause-commit g c =
     refused g.S.Store.facts f _ _ Worn (subst (λ s. IsSettled g.S.Store.facts s.disk) c.self.view_is (sound_settled g.S.Store.facts i.store i.live i.slots c.self.invariant.sound))
     (λ _. subst (λ s. s.disk.sequence ≡ last_sequence) c.self.view_is c.if-self.true, λ _. refl)
 
-pub returns-in_err-draft-clause-commit : goal.returns-in_err-draft-clause-commit
-returns-in_err-draft-clause-commit g c =
+pub returns-in_err-pending-clause-commit : goal.returns-in_err-pending-clause-commit
+returns-in_err-pending-clause-commit g c =
     let i = c.self.inside in let f = c.args.self.now in
     subst (λ (s : FileState g.row.S.Denot). IsCommit g.S.Store.facts (f.document, f.disk.saved) f.document f s c.from_residual.result) (sym c.self.view_is)
     (refused_by g.S.Store.facts f (f.document, f.disk.saved) f.document c.from_residual.result c.from_residual.ensures.1 (subst (λ s. IsSettled g.S.Store.facts s.disk) c.self.view_is (sound_settled g.S.Store.facts i.store i.live i.slots c.self.invariant.sound))
@@ -36,17 +36,17 @@ returns-in_err-saved-clause-commit g c =
 pub returns-clause-commit : goal.returns-clause-commit
 returns-clause-commit g c =
     let facts = g.S.Store.facts in let i = c.self.inside in
-    let a = facts i.store in let b = facts c.commit_draft.new.store in
+    let a = facts i.store in let b = facts c.commit_pending.new.store in
     let saved = c.in_ok-saved.saved in
     let same = copy_document a.content saved.table i.slots.committed.saved.table c.in_ok-saved.ensures.table in
     let old : FileState g.row.S.Denot = record { disk = disk_of facts i.store i.slots; document = document_in a.content i.live } in
-    let new : FileState g.row.S.Denot = record { disk = disk_of facts c.commit_draft.new.store c.commit_draft.new.slots; document = document_in b.content i.live } in
-    subst (λ (f : FileState g.row.S.Denot). IsCommit facts (f.document, f.disk.saved) f.document f new c.commit_draft.result) c.self.view_is
-    (tried facts g.met.S.Store.timely old new _ _ c.commit_draft.result
-    (subst (λ (d : Document). Commits facts (old.document, d) old.disk new.disk c.commit_draft.result) same c.commit_draft.ensures.commits)
-    (either_way c.commit_draft.result _ (copy_drifts a.honest a.content b.content i.live i.live (copy_itself i.live) c.commit_draft.ensures.same)) c.commit_draft.ensures.refusals c.if-self.false)
+    let new : FileState g.row.S.Denot = record { disk = disk_of facts c.commit_pending.new.store c.commit_pending.new.slots; document = document_in b.content i.live } in
+    subst (λ (f : FileState g.row.S.Denot). IsCommit facts (f.document, f.disk.saved) f.document f new c.commit_pending.result) c.self.view_is
+    (tried facts g.met.S.Store.timely old new _ _ c.commit_pending.result
+    (subst (λ (d : Document). Commits facts (old.document, d) old.disk new.disk c.commit_pending.result) same c.commit_pending.ensures.commits)
+    (either_way c.commit_pending.result _ (copy_drifts a.honest a.content b.content i.live i.live (copy_itself i.live) c.commit_pending.ensures.same)) c.commit_pending.ensures.refusals c.if-self.false)
 
 pub returns-clause-version : goal.returns-clause-version
 returns-clause-version g c =
-    let store = c.commit_draft.new.store in
-    on_ok_weaker c.commit_draft.result (turned_versioned g.S.Store.facts store c.self.inside.live c.commit_draft.new.slots (g.met.S.Store.timely store) c.commit_draft.ensures.sound) c.commit_draft.ensures.turned
+    let store = c.commit_pending.new.store in
+    on_ok_weaker c.commit_pending.result (turned_versioned g.S.Store.facts store c.self.inside.live c.commit_pending.new.slots (g.met.S.Store.timely store) c.commit_pending.ensures.sound) c.commit_pending.ensures.turned

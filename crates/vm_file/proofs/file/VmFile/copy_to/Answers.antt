@@ -4,10 +4,10 @@ use Rattle.std.specs.Prelude.{IfOk}
 use Rattle.vm_file.specs.Disk.{Drifts}
 use Rattle.vm_file.specs.Effects.{IsNewFile, OnlyReads}
 use Rattle.vm_file.specs.Sound.{disk_of}
-use Rattle.vm_file.proofs.Effects.{rested, made_file}
-use Rattle.vm_file.proofs.LaidOut.{laid_drifts}
+use Rattle.vm_file.proofs.EffectsLemmas.{rested, made_file}
+use Rattle.vm_file.proofs.LaidOutLemmas.{laid_drifts}
 use Rattle.vm_file.proofs.file.VmFile.copy_to.Goals.{in-Ok, in-Err}
-use Rattle.vm_file.proofs.Stands.{sound_versioned}
+use Rattle.vm_file.proofs.StandsLemmas.{sound_versioned}
 use Rattle.vm_file.proofs.file.VmFile.copy_to.Goals as goal
 
 pub returns-clause-reads : goal.returns-clause-reads

@@ -3,10 +3,9 @@ use Rattle.geos_model.specs.File.{bytes_in}
 use Rattle.vm_file.specs.Effects.{IsNewFile}
 use Rattle.vm_file.specs.Making.{first_directory}
 use Rattle.vm_file.specs.Sound.{disk_of}
-use Rattle.vm_file.proofs.Effects.{made_file}
-use Rattle.vm_file.proofs.FirstFile.{first_text}
-use Rattle.vm_file.proofs.First.{IsEmpty, empty_shown, first_shown}
-use Rattle.vm_file.proofs.Made.{made_open, made_shut}
+use Rattle.vm_file.proofs.EffectsLemmas.{made_file}
+use Rattle.vm_file.proofs.FirstFileLemmas.{first_text}
+use Rattle.vm_file.proofs.MakingLemmas.{IsEmpty, empty_shown, first_shown, made_open, made_shut}
 use Rattle.vm_file.proofs.file.VmFile.create.Goals as goal
 
 pub returns-in-Ok-clause-made : goal.returns-in-Ok-clause-made

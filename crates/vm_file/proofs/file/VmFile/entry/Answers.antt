@@ -5,8 +5,8 @@ use Rattle.geos_model.specs.Image.{image}
 use Rattle.geos_model.specs.File.{bytes_in}
 use Rattle.geos_model.proofs.Tables.{slot_at}
 use Rattle.vm_file.specs.Calls.{IsImageLength}
-use Rattle.vm_file.proofs.Imaged.{entry_image, image_lengths}
-use Rattle.vm_file.proofs.Tables.{IsPlaceOf, entry_live, entry_attributes, entry_kind, entry_handle, entry_place}
+use Rattle.vm_file.proofs.PlaceImageLemmas.{entry_image, image_lengths}
+use Rattle.vm_file.proofs.TableLemmas.{IsPlaceOf, entry_live, entry_attributes, entry_kind, entry_handle, entry_place}
 use Rattle.vm_file.proofs.file.VmFile.entry.Goals as goal
 
 pub returns-clause-live : goal.returns-clause-live

@@ -3,7 +3,7 @@ use Rattle.std.specs.Option.{option_map}
 use Rattle.geos_model.specs.Reply.{found}
 use Rattle.vm_file.specs.Listing.{found_in}
 use Rattle.vm_file.specs.declared.table.Place.{Place}
-use Rattle.vm_file.proofs.Handles.{entries_past, found_shown}
+use Rattle.vm_file.proofs.ListingLemmas.{entries_past, found_shown}
 use Rattle.vm_file.proofs.file.VmFile.find.Goals as goal
 
 pub returns : goal.returns

@@ -2,7 +2,7 @@ use Rattle.std.proofs.Common.{◌≡◌, ℕ, map, take, ap, sym, ◌∙◌}
 use Rattle.std.specs.FinMap.{keys}
 use Rattle.std.proofs.lemmas.Result.{IfOk-weaker}
 use Rattle.vm_file.specs.declared.table.Place.{Place}
-use Rattle.vm_file.proofs.Handles.{handles_from, entries_past, keys_shown}
+use Rattle.vm_file.proofs.ListingLemmas.{handles_from, entries_past, keys_shown}
 use Rattle.vm_file.proofs.file.VmFile.list.Goals as goal
 
 pub returns : goal.returns

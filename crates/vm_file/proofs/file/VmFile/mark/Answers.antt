@@ -1,4 +1,4 @@
-use Rattle.vm_file.proofs.Copied.{sound_copied}
+use Rattle.vm_file.proofs.CopiesLemmas.{sound_copied}
 use Rattle.vm_file.proofs.file.VmFile.mark.Goals as goal
 
 pub invariant_of-self : goal.invariant_of-self

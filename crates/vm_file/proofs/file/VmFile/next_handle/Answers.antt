@@ -2,7 +2,7 @@ use Rattle.std.proofs.Common.{◌+◌, ap, sym, ◌∙◌}
 use Rattle.std.specs.FinMap.{get}
 use Rattle.geos_model.specs.Document.{next_handle}
 use Rattle.geos_model.proofs.Table.{first_gap}
-use Rattle.vm_file.proofs.Handles.{next_some, next_none, next_free}
+use Rattle.vm_file.proofs.ListingLemmas.{next_some, next_none, next_free}
 use Rattle.vm_file.proofs.file.VmFile.next_handle.Goals as goal
 
 pub returns-then-gap-lt-MOST_BLOCKS-clause-value : goal.returns-then-gap-lt-MOST_BLOCKS-clause-value

@@ -1,9 +1,9 @@
 use Rattle.std.proofs.Common.{◌≡◌, ◌⊎◌, ℕ, IsTrue, List, [], Ok, sym, ap, subst, inl, inr}
 use Rattle.geos_model.specs.File.{stands}
 use Rattle.vm_file.specs.Documents.{attempted_in, documents_in}
-use Rattle.vm_file.specs.declared.slots.Other.{Other}
-use Rattle.vm_file.specs.declared.slots.Other.TheVariants.{Shut, Stale}
-use Rattle.vm_file.proofs.Stands.{sound_settled, sound_numbered}
+use Rattle.vm_file.specs.declared.slot.SpareSlot.{SpareSlot}
+use Rattle.vm_file.specs.declared.slot.SpareSlot.TheVariants.{Shut, Stale}
+use Rattle.vm_file.proofs.StandsLemmas.{sound_settled, sound_numbered}
 use Rattle.vm_file.proofs.file.VmFile.open.Goals as goal
 
 pub returns-in-Ok-clause-stands : goal.returns-in-Ok-clause-stands
@@ -13,10 +13,10 @@ returns-in-Ok-clause-stands g c so =
 pub returns-in-Ok-clause-settled : goal.returns-in-Ok-clause-settled
 returns-in-Ok-clause-settled g c = sound_settled g.S.Store.facts c.open_slots.new.store c.in-Ok.live c.in-Ok.slots c.in-Ok.ensures.sound
 
-none_attempted : (file : List ℕ) (other : Other) → (other ≡ Shut) ⊎ (other ≡ Stale) → attempted_in file other ≡ []
-none_attempted file other alone = elim alone as (λ _. attempted_in file other ≡ []) [ inl shut ↦ ap (attempted_in file) shut | inr stale ↦ ap (attempted_in file) stale ]
+none_attempted : (file : List ℕ) (spare : SpareSlot) → (spare ≡ Shut) ⊎ (spare ≡ Stale) → attempted_in file spare ≡ []
+none_attempted file spare alone = elim alone as (λ _. attempted_in file spare ≡ []) [ inl shut ↦ ap (attempted_in file) shut | inr stale ↦ ap (attempted_in file) stale ]
 
 pub returns-in-Ok-clause-numbered_now : goal.returns-in-Ok-clause-numbered_now
 returns-in-Ok-clause-numbered_now g c so =
     let p = c.in-Ok.ensures in
-    sound_numbered g.S.Store.facts c.open_slots.new.store c.in-Ok.live c.in-Ok.slots p.sound (subst IsTrue (sym p.looks.honest) so) (none_attempted _ c.in-Ok.slots.other p.alone)
+    sound_numbered g.S.Store.facts c.open_slots.new.store c.in-Ok.live c.in-Ok.slots p.sound (subst IsTrue (sym p.looks.honest) so) (none_attempted _ c.in-Ok.slots.spare p.alone)

@@ -10,14 +10,13 @@ use Rattle.vm_file.specs.Slots.{block_extents, marked_extents, kept_extents}
 use Rattle.vm_file.specs.Sound.{disk_of}
 use Rattle.vm_file.specs.Writing.{IsSpared, with_places, without_places}
 use Rattle.vm_file.specs.declared.table.Table.{Table}
-use Rattle.vm_file.specs.Known.{IsKnown}
+use Rattle.vm_file.specs.FreeSpace.{IsKnown}
 use Rattle.vm_file.specs.Listing.{AreBounds}
-use Rattle.vm_file.proofs.Handles.{bounds_changed}
-use Rattle.vm_file.proofs.Filled.{shown_without_all, length-with_places, length-without_places}
-use Rattle.vm_file.proofs.Tables.{shown, items_kept}
-use Rattle.vm_file.proofs.Puts.{few_extents, kept_twice, changed_twice, spared_passes, spared_drifts, spared_sound, put_drifts, put_sound}
-use Rattle.vm_file.proofs.Grown.{grown_extents, grown_bounds, grown_sound, roomy_sound, grown_view}
-use Rattle.vm_file.proofs.Passing.{Drifts-refl, Passes-refl}
+use Rattle.vm_file.proofs.ListingLemmas.{bounds_changed}
+use Rattle.vm_file.proofs.TableChangeLemmas.{shown_without_all, length-with_places, length-without_places, grown_extents, grown_bounds, grown_sound, roomy_sound, grown_view}
+use Rattle.vm_file.proofs.TableLemmas.{shown, items_kept}
+use Rattle.vm_file.proofs.PutBlocksLemmas.{few_extents, kept_twice, changed_twice, spared_passes, spared_drifts, spared_sound, put_drifts, put_sound}
+use Rattle.vm_file.proofs.PassingLemmas.{Drifts-refl, Passes-refl}
 use Rattle.geos_model.specs.Document.{most_blocks}
 use Rattle.vm_file.specs.Ranges.{IsPlaced}
 use Rattle.vm_file.proofs.file.VmFile.put_blocks.Goals as goal

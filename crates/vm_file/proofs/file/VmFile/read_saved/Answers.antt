@@ -9,10 +9,11 @@ use Rattle.vm_file.specs.Documents.{blocks_in, document_in}
 use Rattle.vm_file.specs.Disk.{Drifts}
 use Rattle.vm_file.specs.Effects.{OnlyReads}
 use Rattle.vm_file.specs.Sound.{disk_of}
-use Rattle.vm_file.proofs.Effects.{rested}
-use Rattle.vm_file.proofs.Live.{sound_rested}
-use Rattle.vm_file.proofs.Imaged.{read_image, if_ok_both}
-use Rattle.vm_file.proofs.Tables.{IsPlaceOf, entry_live, entry_lies, places_drift}
+use Rattle.vm_file.proofs.EffectsLemmas.{rested}
+use Rattle.vm_file.proofs.SoundLemmas.{sound_rested}
+use Rattle.vm_file.proofs.PlaceImageLemmas.{read_image}
+use Rattle.vm_file.proofs.ResultLemmas.{if_ok_both}
+use Rattle.vm_file.proofs.TableLemmas.{IsPlaceOf, entry_live, entry_lies, places_drift}
 use Rattle.vm_file.proofs.file.VmFile.read_saved.Goals as goal
 
 pub unreachable-requires : goal.unreachable-requires

@@ -1,4 +1,4 @@
-use Rattle.vm_file.proofs.Live.{sound_unmarked}
+use Rattle.vm_file.proofs.SoundLemmas.{sound_unmarked}
 use Rattle.vm_file.proofs.file.VmFile.release.Goals as goal
 
 pub invariant_of-self : goal.invariant_of-self

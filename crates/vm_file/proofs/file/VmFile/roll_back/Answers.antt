@@ -2,7 +2,7 @@ use Rattle.std.proofs.Common.{Option, sym, subst, ◌∙◌}
 use Rattle.vm_file.specs.Listing.{AreBounds}
 use Rattle.vm_file.specs.Sound.{IsSound}
 use Rattle.vm_file.specs.declared.table.Table.{Table}
-use Rattle.vm_file.proofs.Live.{sound_back}
+use Rattle.vm_file.proofs.SoundLemmas.{sound_back}
 use Rattle.vm_file.proofs.file.VmFile.roll_back.Goals as goal
 
 pub invariant_of-self : goal.invariant_of-self

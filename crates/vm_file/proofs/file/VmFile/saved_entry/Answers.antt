@@ -2,7 +2,7 @@ use Rattle.std.proofs.Common.{◌≡◌, ◌-◌, ap, subst, ◌∙◌}
 use Rattle.std.specs.Prelude.{IfSome}
 use Rattle.geos_model.specs.Document.{is_live, attributes_of}
 use Rattle.geos_model.proofs.Tables.{slot_at}
-use Rattle.vm_file.proofs.Tables.{IsPlaceOf, entry_live, entry_attributes, entry_handle}
+use Rattle.vm_file.proofs.TableLemmas.{IsPlaceOf, entry_live, entry_attributes, entry_handle}
 use Rattle.vm_file.proofs.file.VmFile.saved_entry.Goals as goal
 
 pub returns-clause-live : goal.returns-clause-live

@@ -2,13 +2,13 @@ use Rattle.std.proofs.Common.{◌≡◌, ◌-◌, ◌++◌, List, true, Some, is
 use Rattle.geos_model.specs.Document.{is_live, is_heap, with_attributes, IsTyped}
 use Rattle.geos_model.proofs.Tables.{slot_at}
 use Rattle.geos_model.specs.declared.file.Extent.{Extent}
-use Rattle.vm_file.specs.Known.{IsKnown}
+use Rattle.vm_file.specs.FreeSpace.{IsKnown}
 use Rattle.vm_file.specs.Listing.{AreBounds}
 use Rattle.vm_file.specs.Slots.{block_extents, kept_extents}
-use Rattle.vm_file.proofs.Handles.{bounds_set}
-use Rattle.vm_file.proofs.Live.{sound_attributes}
-use Rattle.vm_file.proofs.Spaces.{same_extents}
-use Rattle.vm_file.proofs.Tables.{lies, shown, shown_attributes, heap_at, items_kept}
+use Rattle.vm_file.proofs.ListingLemmas.{bounds_set}
+use Rattle.vm_file.proofs.SoundLemmas.{sound_attributes}
+use Rattle.vm_file.proofs.FreeSpaceLemmas.{same_extents}
+use Rattle.vm_file.proofs.TableLemmas.{lies, shown, shown_attributes, heap_at, items_kept}
 use Rattle.vm_file.proofs.file.VmFile.set_attributes.Goals as goal
 
 pub invariant_of-self : goal.invariant_of-self

@@ -1,7 +1,7 @@
 use Rattle.std.proofs.Common.{◌≡◌, ◌⊎◌, true, refl, sym, subst, inl, inr}
 use Rattle.geos_model.specs.Document.{is_live}
-use Rattle.vm_file.proofs.Live.{sound_map}
-use Rattle.vm_file.proofs.Tables.{Lies, lies}
+use Rattle.vm_file.proofs.SoundLemmas.{sound_map}
+use Rattle.vm_file.proofs.TableLemmas.{Lies, lies}
 use Rattle.vm_file.proofs.file.VmFile.set_map.Goals as goal
 
 pub invariant_of-self : goal.invariant_of-self

@@ -1,6 +1,6 @@
 use Rattle.std.proofs.Common.{subst}
 use Rattle.vm_file.specs.Effects.{IsFile}
-use Rattle.vm_file.proofs.Effects.{sound_file}
+use Rattle.vm_file.proofs.EffectsLemmas.{sound_file}
 use Rattle.vm_file.proofs.file.VmFile.validity.Goals as goal
 
 pub returns : goal.returns

@@ -1,0 +1,90 @@
+-- What holds of a table holds of a copy.
+use Rattle.std.proofs.Common.{◌≡◌, ◌⊎◌, ℕ, suc, ◌-◌, ◌≤◌, Bool, true, false, IsTrue, List, ◌∷◌, length, get_or, Option, None, Some, is_some, All, refl, sym, ap, ap₂, subst, ◌∙◌, arith}
+use Rattle.std.proofs.lemmas.List.Elements.{All-append}
+use Rattle.vm_store.specs.Facts.{StoreFacts}
+use Rattle.geos_model.specs.File.{Directory, directory_of}
+use Rattle.vm_file.specs.Ranges.{IsPlaced}
+use Rattle.vm_file.specs.Slots.{block_extents, stored_extents, pair_extents}
+use Rattle.vm_file.specs.Documents.{blocks_in, document_in, documents_in, entries_of, AreImaged, IsStored, AreStored}
+use Rattle.vm_file.specs.Sound.{ArePlaces, IsTable, AreTables, IsSound}
+use Rattle.vm_file.specs.Disk.{Drifts}
+use Rattle.vm_file.specs.Copies.{IsCopy, IsStoredCopy}
+use Rattle.vm_file.specs.declared.table.Place.{Place}
+use Rattle.vm_file.specs.declared.table.Table.{Table}
+use Rattle.vm_file.specs.declared.table.DocumentRef.{DocumentRef}
+use Rattle.vm_file.specs.declared.table.Pair.{Pair}
+use Rattle.vm_file.specs.declared.slot.Slots.{Slots}
+use Rattle.vm_file.proofs.RangesLemmas.{all_right}
+use Rattle.vm_file.proofs.DocumentsLemmas.{stored_within}
+use Rattle.vm_file.proofs.SoundLemmas.{EndsIn, sound_live, sound_marked, kept_pair}
+use Rattle.vm_file.proofs.TableLemmas.{shown, places_drift}
+
+-- a property of the map block and the places
+copied : (P : ℕ → List (Option Place) → Type 0) (copy table : Table) → IsCopy copy table → P table.map_block table.places.items → P copy.map_block copy.places.items
+copied P copy table is p = subst (λ m. P m copy.places.items) (sym is.map_block) (subst (P table.map_block) (sym is.places) p)
+
+pub copy_document : (file : List ℕ) (copy table : Table) → IsCopy copy table → document_in file copy ≡ document_in file table
+copy_document file copy table is = ap₂ (shown file) is.places is.map_block
+
+pub copy_formed : (copy table : Table) → IsCopy copy table → IsTable table → IsTable copy
+copy_formed copy table is was = record {
+  size = (let long = ap length is.places in let few = was.size in omega (arith, long, few));
+  places = subst ArePlaces (sym is.places) was.places;
+  map_block = copied (λ m ps. (m ≡ 0) ⊎ ((1 ≤ m) × (is_some (get_or ps (m - 1) None) ≡ true))) copy table is was.map_block;
+}
+
+pub copy_extents : (copy stored : DocumentRef) → IsStoredCopy copy stored → stored_extents copy ≡ stored_extents stored
+copy_extents copy stored is = λ i. is.directory i ∷ block_extents (is.table.places i)
+
+abbrev listed : ℕ → ℕ → List (Option Place) → Option Directory
+listed version m ps = Some (record { version = version; map_block = m; entries = entries_of 1 ps })
+
+pub copy_document_ref : (version : ℕ) (file : List ℕ) (copy stored : DocumentRef) → IsStoredCopy copy stored → IsStored version file stored → IsStored version file copy
+copy_document_ref version file copy stored is was = record {
+  version = was.version;
+  directory = ap (directory_of version file) is.directory ∙ was.directory ∙ sym (ap₂ (λ (m : ℕ) (ps : List (Option Place)). listed was.version m ps) is.table.map_block is.table.places);
+  images = subst (AreImaged file) (sym is.table.places) was.images;
+}
+
+-- A pair of two copies.
+module _ (file : List ℕ) (pair : Pair) (updated saved : DocumentRef) (first : IsStoredCopy pair.updated updated) (second : IsStoredCopy pair.saved saved) where
+  pub pair_documents : documents_in file pair ≡ (document_in file updated.table, document_in file saved.table)
+  pair_documents = λ i. (copy_document file pair.updated.table updated.table first.table i, copy_document file pair.saved.table saved.table second.table i)
+
+  pub pair_tables : IsTable updated.table → IsTable saved.table → AreTables pair
+  pair_tables u s = record { updated = copy_formed pair.updated.table updated.table first.table u; saved = copy_formed pair.saved.table saved.table second.table s }
+
+  pub pair_placed : All IsPlaced (stored_extents updated) → All IsPlaced (stored_extents saved) → All IsPlaced (pair_extents pair)
+  pair_placed u s = All-append IsPlaced (stored_extents pair.updated) (stored_extents pair.saved) (subst (All IsPlaced) (sym (copy_extents pair.updated updated first)) u) (subst (All IsPlaced) (sym (copy_extents pair.saved saved second)) s)
+
+  pub pair_stored : (version : ℕ) → IsStored version file updated → IsStored version file saved → AreStored version file pair
+  pair_stored version u s = record { updated = copy_document_ref version file pair.updated updated first u; saved = copy_document_ref version file pair.saved saved second s }
+
+-- the saved document, as the live one
+pub sound_saved : (store : StoreFacts) (live copy : Table) (slots : Slots) → IsCopy copy slots.committed.saved.table → IsSound store live slots → IsSound store copy slots
+sound_saved store live copy slots is sound =
+    let saved = slots.committed.saved in
+    let placed = all_right IsPlaced (stored_extents slots.committed.updated) (stored_extents saved) (kept_pair IsPlaced slots sound.formed.kept) in
+    sound_live store live copy slots sound (copy_formed copy saved.table is sound.formed.committed.saved) (subst (λ ps. All IsPlaced (block_extents ps)) (sym is.places) (λ k d inside. placed (suc k) d (omega arith)))
+    (λ so. subst (AreImaged store.content) (sym is.places) (sound.whole so).committed.saved.images)
+    (λ so. subst (λ ps. All (EndsIn store.content) (block_extents ps)) (sym is.places) (stored_within slots.version store.content saved (sound.whole so).committed.saved).1)
+
+-- and the live one marked
+pub sound_copied : (store : StoreFacts) (live copy : Table) (slots : Slots) → IsCopy copy live → IsSound store live slots → IsSound store live (record slots { marked = Some copy })
+sound_copied store live copy slots is sound =
+    sound_marked store live slots (Some copy) sound (copy_formed copy live is sound.formed.table) (subst (λ ps. All IsPlaced (block_extents ps)) (sym is.places) sound.formed.placed)
+    (λ so. subst (AreImaged store.content) (sym is.places) (sound.whole so).images) (λ so. subst (λ ps. All (EndsIn store.content) (block_extents ps)) (sym is.places) (sound.whole so).within)
+
+-- a copy of what was copied
+pub copies_alike : (copy other table : Table) → IsCopy copy table → IsCopy other table → IsCopy copy other
+copies_alike copy other table is same = record { map_block = is.map_block ∙ sym same.map_block; places = is.places ∙ sym same.places }
+
+pub copy_itself : (table : Table) → IsCopy table table
+copy_itself table = record { map_block = refl; places = refl }
+
+-- the document of a table, or of its copy, in another file
+pub copy_drifts : (honest : Bool) (file c : List ℕ) (copy table : Table) → IsCopy copy table → (IsTrue honest → document_in c copy ≡ document_in file table) → Drifts honest (document_in file table) (document_in c copy)
+copy_drifts honest file c copy table is same =
+    let nothing : IsTrue false → blocks_in c table.places.items ≡ blocks_in file table.places.items = λ no. absurd (cc no) in
+    let drift = subst (λ d. Drifts false (document_in file table) d) (sym (copy_document c copy table is)) (places_drift false file c table.places.items table.map_block nothing) in
+    record { live = drift.live; attributes = drift.attributes; kinds = drift.kinds; map_block = drift.map_block; same = same }

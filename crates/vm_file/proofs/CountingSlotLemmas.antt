@@ -1,0 +1,230 @@
+-- Which slot of a file counts, and what the other one is.
+use Rattle.std.proofs.Common.{◌≡◌, ◌⊎◌, ℕ, ◌+◌, ◌-◌, ◌*◌, ◌^◌, ◌<◌, ◌≤◌, ◌==◌, Bool, true, false, List, [], ◌∷◌, ◌++◌, length, take, drop, slice_index, Option, None, Some, Ok, Err, All, refl, sym, ap, ap₂, subst, ◌∙◌, arith, inl, inr, length-take, length-drop, length-append, eqb-true, eq-eqb}
+use Rattle.std.specs.Prelude.{if◌then◌else◌}
+use Rattle.std.specs.Option.{option_and_then}
+use Rattle.std.proofs.lemmas.Bool.{cases_Bool, cases_lt, cond-true, cond-false, eqb-false, le-ltb}
+use Rattle.std.proofs.lemmas.Grind.{same_number_lists}
+use Rattle.std.proofs.lemmas.List.{get_or-drop, get_or-take, get_or_append_left, get_or-append_right, take-append-drop}
+use Rattle.byteorder.specs.Endian.{little_bytes, little_number}
+use Rattle.byteorder.specs.Numbers.{little_number-reads_back}
+use Rattle.vm_store.specs.Facts.{byte, Holds}
+use Rattle.geos_model.specs.Bytes.{same_bytes}
+use Rattle.geos_model.specs.Words.{word_at, quad_word_at}
+use Rattle.geos_model.specs.File.{extent_text, slot_of, slot_mark, slot_read, if_open, open_slot, counting_slot, pair_of_counting, stands}
+use Rattle.geos_model.specs.declared.fault.Fault.{Fault}
+use Rattle.geos_model.specs.declared.file.Slot.{Slot}
+use Rattle.geos_model.proofs.Arrays.{same_bytes-is}
+use Rattle.geos_model.proofs.Files.{some_if, get_or_same}
+use Rattle.geos_model.proofs.Numbers.{number_law}
+use Rattle.vm_file.specs.Ranges.{end_of}
+use Rattle.vm_file.specs.Slots.{gate_text, pair_extents, Leads, IsUnmarked, IsOlder, IsBeside}
+use Rattle.vm_file.specs.Opened.{IsRawSlot, IsActiveSlot, Beaten}
+use Rattle.vm_file.specs.declared.slot.RawSlot.{RawSlot}
+use Rattle.vm_file.specs.declared.table.Pair.{Pair}
+use Rattle.vm_file.specs.declared.slot.SpareSlot.{SpareSlot}
+use Rattle.vm_file.specs.declared.slot.SpareSlot.TheVariants.{Shut, Stale}
+
+-- the bytes of a slot that are read are those of the file
+pub raw_slot_read : (file bytes : List ℕ) (page at : ℕ) (raw : RawSlot) → at ≡ 512 * page → length bytes ≡ 32 → ((i : ℕ) → slice_index bytes i < 256) → Holds file at bytes → raw.gate ≡ slice_index bytes 4 → raw.slot ≡ slot_of bytes
+    → IsRawSlot file page raw
+raw_slot_read file bytes page at raw place size small held gate slot =
+    let n : ℕ = 512 * page in
+    let each : (i : ℕ) → i < 32 → byte file (n + i) ≡ byte bytes i = λ i low. ap (λ m. byte file (m + i)) (sym place) ∙ held.each i (omega (arith, low, size)) in
+    let within : n + 32 ≤ length file = omega (arith, held.within, size, place) in
+    let long : length (take 32 (drop n file)) ≡ 32 = omega (arith, length-take 32 (drop n file), length-drop n file, within) in
+    let is : take 32 (drop n file) ≡ bytes = same_number_lists (take 32 (drop n file)) bytes (long ∙ sym size) (λ k inside.
+    let low : k < 32 = omega (arith, inside, long) in
+    get_or-take 32 (drop n file) k 0 low ∙ get_or-drop n file k 0 ∙ each k low) in
+    record {
+      within = within;
+      bytes = λ i low. let one = small i in let same = each i low in omega (arith, one, same);
+      gate = gate ∙ sym (each 4 (omega arith));
+      slot = slot ∙ sym (ap slot_of is);
+    }
+
+-- The slot that counts.
+
+module _ (file : List ℕ) (page : ℕ) where
+  -- what is known of a slot that is open
+  pub record IsOpened (s : Slot) : Type 0 where
+    pub marked : take 4 (take 32 (drop (512 * page) file)) ≡ slot_mark
+    pub read : s ≡ slot_read (take 32 (drop (512 * page) file))
+    pub gate : slice_index (take 32 (drop (512 * page) file)) 4 ≡ 1
+
+pub is_opened : (file : List ℕ) (page : ℕ) (s : Slot) → open_slot file page ≡ Some s → IsOpened file page s
+is_opened file page s e =
+    let bytes = take 32 (drop (512 * page) file) in
+    elim (cases_Bool (same_bytes (take 4 bytes) slot_mark)) as (λ _. IsOpened file page s) [
+      | inl marked ↦
+          let here = some_if (slice_index bytes 4 == 1) (slot_read bytes) s (sym (ap (option_and_then if_open) (cond-true _ _ _ marked)) ∙ e) in
+          record { marked = same_bytes-is (take 4 bytes) slot_mark marked; read = sym here.1; gate = eqb-true (slice_index bytes 4) 1 here.0 }
+      | inr other ↦ (let none : None ≡ Some s = sym (ap (option_and_then if_open) (cond-false _ _ _ other)) ∙ e in absurd (cc none))
+    ]
+
+-- the k bytes of a number
+written : (k : ℕ) (xs : List ℕ) → k ≤ length xs → ((i : ℕ) → i < k → byte xs i < 256) → little_bytes k (little_number k xs) ≡ take k xs
+written k xs long small =
+    let part = take k xs in
+    let size : length part ≡ k = omega (arith, length-take k xs, long) in
+    let all : All (λ b. b < 256) part = λ i d inside.
+    let low : i < k = omega (arith, inside, size) in
+    let is = get_or_same part i d 0 inside ∙ get_or-take k xs i 0 low in
+    let one = small i low in
+    omega (arith, is, one) in
+    let m = little_number k part in
+    let back : little_bytes k m ≡ part = subst (λ n. little_bytes n (little_number n part) ≡ part) size (number_law.written_back part all) in
+    let range : m < 256 ^ k = subst (λ n. little_number n part < 256 ^ n) size (number_law.in_range part all) in
+    let number : little_number k xs ≡ m = ap (little_number k) (sym (take-append-drop k xs) ∙ ap (λ l. l ++ drop k xs) (sym back)) ∙ little_number-reads_back k m (drop k xs) range in
+    ap (little_bytes k) number ∙ back
+
+-- a number of a slot stands in the file
+field_held : (file : List ℕ) (n j k : ℕ) → n + 32 ≤ length file → j + k ≤ 32 → ((i : ℕ) → i < 32 → byte file (n + i) < 256) → Holds file (n + j) (little_bytes k (little_number k (drop j (take 32 (drop n file)))))
+field_held file n j k within low small =
+    let bytes = take 32 (drop n file) in
+    let size : length bytes ≡ 32 = omega (arith, length-take 32 (drop n file), length-drop n file, within) in
+    let same : (i : ℕ) → i < k → byte (drop j bytes) i ≡ byte file (n + (j + i)) = λ i less.
+    get_or-drop j bytes i 0 ∙ get_or-take 32 (drop n file) (j + i) 0 (omega arith) ∙ get_or-drop n file (j + i) 0 in
+    let is = written k (drop j bytes) (omega (arith, length-drop j bytes, size, low)) (λ i less.
+    let one = small (j + i) (omega arith) in
+    let at = same i less in
+    omega (arith, one, at)) in
+    let part = take k (drop j bytes) in
+    let long : length part ≡ k = omega (arith, length-take k (drop j bytes), length-drop j bytes, size, low) in
+    let held : Holds file (n + j) part = record {
+      within = omega (arith, long, low, within);
+      each = λ i inside.
+          let less : i < k = omega (arith, inside, long) in
+          let at : n + j + i ≡ n + (j + i) = omega arith in
+          ap (byte file) at ∙ sym (get_or-take k (drop j bytes) i 0 less ∙ same i less);
+    } in
+    subst (Holds file (n + j)) (sym is) held
+
+holds_append : (file : List ℕ) (at : ℕ) (xs ys : List ℕ) → Holds file at xs → Holds file (at + length xs) ys → Holds file at (xs ++ ys)
+holds_append file at xs ys first second = record {
+  within = omega (arith, second.within, length-append xs ys);
+  each = λ i inside. elim (cases_lt i (length xs)) as (λ _. byte file (at + i) ≡ byte (xs ++ ys) i) [
+    | inl low ↦ first.each i low ∙ sym (get_or_append_left xs ys 0 i low)
+    | inr high ↦
+        let is : at + i ≡ at + length xs + (i - length xs) = omega arith in
+        ap (byte file) is ∙ second.each (i - length xs) (omega (arith, length-append xs ys, inside)) ∙ sym (get_or-append_right xs ys (length xs) i 0 refl high)
+  ];
+}
+
+-- the same place
+held_at : (file : List ℕ) (at to : ℕ) (xs : List ℕ) → at ≡ to → Holds file at xs → Holds file to xs
+held_at file at to xs same held = subst (λ m. Holds file m xs) same held
+
+holds_byte : (file : List ℕ) (at x : ℕ) → at < length file → byte file at ≡ x → Holds file at (x ∷ [])
+holds_byte file at x within is = record {
+  within = omega (arith, within);
+  each = λ i inside.
+      let none : i ≡ 0 = omega (arith, inside) in
+      let here : at + i ≡ at = omega (arith, none) in
+      ap (byte file) here ∙ is ∙ sym (ap (byte (x ∷ [])) none);
+}
+
+-- what is known of the slot that counts
+pub record IsGood (s : Slot) (pair : Pair) : Type 0 where
+  pub reserved : s.reserved ≡ 0
+  pub updated : pair.updated.directory ≡ s.working
+  pub saved : pair.saved.directory ≡ s.saved
+
+pub slot_leads : (file : List ℕ) (page : ℕ) (s : Slot) (pair : Pair) → 512 * page + 32 ≤ length file → ((i : ℕ) → i < 32 → byte file (512 * page + i) < 256) → open_slot file page ≡ Some s → IsGood s pair
+    → All (λ e. end_of e ≤ length file) (pair_extents pair) → (byte file (512 * page + 4) ≡ 1) × Leads page s.version s.sequence pair file file
+unfolding gate_text
+slot_leads file page s pair within small was good inside =
+    let n : ℕ = 512 * page in
+    let bytes = take 32 (drop n file) in
+    let one = is_opened file page s was in
+    let at : (i : ℕ) → i < 32 → byte bytes i ≡ byte file (n + i) = λ i low. get_or-take 32 (drop n file) i 0 low ∙ get_or-drop n file i 0 in
+    let size : length bytes ≡ 32 = omega (arith, length-take 32 (drop n file), length-drop n file, within) in
+    let held : (j k : ℕ) → j + k ≤ 32 → Holds file (n + j) (little_bytes k (little_number k (drop j bytes))) = λ j k low. field_held file n j k within low small in
+    let version : byte file (n + 5) ≡ s.version = sym (at 5 (omega arith)) ∙ sym (ap (λ x. x.version) one.read) in
+    let number : word_at bytes 6 ≡ 0 = sym (ap (λ x. x.reserved) one.read) ∙ good.reserved in
+    let zeros : Holds file (n + 6) (0 ∷ 0 ∷ []) = subst (λ m. Holds file (n + 6) (little_bytes 2 m)) number (held 6 2 (omega arith)) in
+    let sequence : Holds file (n + 8) (little_bytes 8 s.sequence) = subst (λ x. Holds file (n + 8) (little_bytes 8 x.sequence)) (sym one.read) (held 8 8 (omega arith)) in
+    let working : Holds file (n + 16) (extent_text pair.updated.directory) =
+    subst (λ e. Holds file (n + 16) (extent_text e)) (sym (good.updated ∙ ap (λ x. x.working) one.read)) (holds_append file (n + 16) (little_bytes 4 (little_number 4 (drop 16 bytes))) (little_bytes 4 (little_number 4 (drop 20 bytes))) (held 16 4 (omega arith)) (held_at file (n + 20) (n + 16 + 4) _ (omega arith) (held 20 4 (omega arith)))) in
+    let saved : Holds file (n + 24) (extent_text pair.saved.directory) =
+    subst (λ e. Holds file (n + 24) (extent_text e)) (sym (good.saved ∙ ap (λ x. x.saved) one.read)) (holds_append file (n + 24) (little_bytes 4 (little_number 4 (drop 24 bytes))) (little_bytes 4 (little_number 4 (drop 28 bytes))) (held 24 4 (omega arith)) (held_at file (n + 28) (n + 24 + 4) _ (omega arith) (held 28 4 (omega arith)))) in
+    let both = holds_append file (n + 16) (extent_text pair.updated.directory) (extent_text pair.saved.directory) working (held_at file (n + 24) (n + 16 + 8) _ (omega arith) saved) in
+    let numbers = holds_append file (n + 8) (little_bytes 8 s.sequence) (extent_text pair.updated.directory ++ extent_text pair.saved.directory) sequence (held_at file (n + 16) (n + 8 + 8) _ (omega arith) both) in
+    let behind = holds_append file (n + 6) (0 ∷ 0 ∷ []) (little_bytes 8 s.sequence ++ extent_text pair.updated.directory ++ extent_text pair.saved.directory) zeros (held_at file (n + 8) (n + 6 + 2) _ (omega arith) numbers) in (
+      sym (at 4 (omega arith)) ∙ one.gate,
+      record {
+        marked = record {
+          within = omega (arith, within);
+          each = λ i low.
+              let less : i < 4 = omega (arith, low) in
+              sym (at i (omega arith)) ∙ sym (get_or-take 4 bytes i 0 less) ∙ ap (λ xs. byte xs i) one.marked;
+        };
+        rest = holds_append file (n + 5) (s.version ∷ []) (0 ∷ 0 ∷ little_bytes 8 s.sequence ++ extent_text pair.updated.directory ++ extent_text pair.saved.directory) (holds_byte file (n + 5) s.version (omega (arith, within)) version) (held_at file (n + 6) (n + 5 + 1) _ (omega arith) behind);
+        kept = λ k d low. record { within = inside k d low; bytes = λ i from to. refl };
+      },
+    )
+
+-- The other slot.
+
+lower_than : (o : Option Slot) (s : Slot) (n : ℕ) → o ≡ Some s → Beaten o n → s.sequence < n
+lower_than o s n is (inl none) = (let wrong : None ≡ Some s = sym none ∙ is in absurd (cc wrong))
+lower_than o s n is (inr older) =
+    let both : Some older.0 ≡ Some s = sym older.1 ∙ is in
+    let same : older.0 ≡ s = cc both in
+    subst (λ t. t.sequence < n) same older.2
+
+stale_beside : (file : List ℕ) (page n : ℕ) (raw : RawSlot) → IsRawSlot file page raw → Beaten (open_slot file page) n → raw.gate ≡ 1 → IsUnmarked page file ⊎ IsOlder page n file
+stale_beside file page n raw is beaten gate =
+    let at : ℕ = 512 * page in
+    let bytes = take 32 (drop at file) in
+    let size : length bytes ≡ 32 = omega (arith, length-take 32 (drop at file), length-drop at file, is.within) in
+    let same : (i : ℕ) → i < 32 → byte bytes i ≡ byte file (at + i) = λ i low. get_or-take 32 (drop at file) i 0 low ∙ get_or-drop at file i 0 in
+    let four : length (take 4 bytes) ≡ 4 = omega (arith, length-take 4 bytes, size) in
+    let opened : slice_index bytes 4 ≡ 1 = same 4 (omega arith) ∙ sym is.gate ∙ gate in
+    elim (cases_Bool (same_bytes (take 4 bytes) slot_mark)) as (λ _. IsUnmarked page file ⊎ IsOlder page n file) [
+      | inl marked ↦
+          let there : open_slot file page ≡ Some (slot_read bytes) = ap (option_and_then if_open) (cond-true _ _ _ marked) ∙ cond-true _ _ _ (eq-eqb (slice_index bytes 4) 1 opened) in
+          inr (record { number = quad_word_at bytes 8; lower = lower_than (open_slot file page) (slot_read bytes) n there beaten; there = field_held file at 8 8 is.within (omega arith) is.bytes })
+      | inr other ↦ inl (record {
+        bytes = take 4 bytes;
+        size = four;
+        differs = λ e. (let wrong : true ≡ false = sym (ap (λ xs. same_bytes xs slot_mark) e) ∙ other in absurd (cc wrong));
+        there = record {
+          within = omega (arith, is.within, four);
+          each = λ i low.
+              let less : i < 4 = omega (arith, low, four) in
+              sym (same i (omega arith)) ∙ sym (get_or-take 4 bytes i 0 less);
+        };
+      })
+    ]
+
+beside_one : (file : List ℕ) (page n : ℕ) (raw : RawSlot) → IsRawSlot file page raw → Beaten (open_slot file page) n → IsBeside (if raw.gate == 1 then Stale else Shut) page n file file
+beside_one file page n raw is beaten = elim (cases_Bool (raw.gate == 1)) as (λ _. IsBeside (if raw.gate == 1 then Stale else Shut) page n file file) [
+  | inl gate ↦ subst (λ o. IsBeside o page n file file) (sym (cond-true _ _ _ gate)) (stale_beside file page n raw is beaten (eqb-true raw.gate 1 gate))
+  | inr shut ↦ subst (λ o. IsBeside o page n file file) (sym (cond-false _ _ _ shut)) (λ e. absurd (eqb-false raw.gate 1 shut (is.gate ∙ e)))
+]
+
+-- What was found.
+
+pub no_slot : (file : List ℕ) (fault : Fault) → 1024 ≤ length file → counting_slot (open_slot file 0) (open_slot file 1) ≡ Err fault → stands file ≡ Err fault
+no_slot file fault long none = cond-false _ _ _ (le-ltb (length file) 1024 long) ∙ ap (pair_of_counting file) none
+
+pub raw_slot_opened : (file : List ℕ) (page : ℕ) (raw : RawSlot) (o : Option Slot) → IsRawSlot file page raw → o ≡ option_and_then if_open raw.slot → o ≡ open_slot file page
+raw_slot_opened file page raw o is e = e ∙ ap (option_and_then if_open) is.slot
+
+pub active_slot_is : (file : List ℕ) (first last : RawSlot) (second : Bool) (s : Slot) (a b : Option Slot) (spare : SpareSlot) → 1024 ≤ length file → IsRawSlot file 0 first → IsRawSlot file 1 last → a ≡ open_slot file 0 → b ≡ open_slot file 1
+    → counting_slot a b ≡ Ok s → (if second then b else a) ≡ Some s → Beaten (if second then a else b) s.sequence → spare ≡ (if (if second then first.gate else last.gate) == 1 then Stale else Shut)
+    → IsActiveSlot file (record { second = second; slot = s; spare = spare })
+active_slot_is file first last true s a b spare long zeroth one is_a is_b counts was beaten is = record {
+  long = long;
+  bytes = one.bytes;
+  counts = sym (ap₂ counting_slot is_a is_b) ∙ counts;
+  opened = sym is_b ∙ was;
+  beside = subst (λ o. IsBeside o 0 s.sequence file file) (sym is) (beside_one file 0 s.sequence first zeroth (subst (λ o. Beaten o s.sequence) is_a beaten));
+}
+active_slot_is file first last false s a b spare long zeroth one is_a is_b counts was beaten is = record {
+  long = long;
+  bytes = zeroth.bytes;
+  counts = sym (ap₂ counting_slot is_a is_b) ∙ counts;
+  opened = sym is_a ∙ was;
+  beside = subst (λ o. IsBeside o 1 s.sequence file file) (sym is) (beside_one file 1 s.sequence last one (subst (λ o. Beaten o s.sequence) is_b beaten));
+}

@@ -1,0 +1,38 @@
+use Rattle.std.proofs.Common.{◌≤◌, Some, All, refl, ap, sym, subst, ◌∙◌}
+use Rattle.geos_model.specs.Document.{most_blocks}
+use Rattle.geos_model.specs.File.{longest_image}
+use Rattle.geos_model.proofs.Files.{directory-low}
+use Rattle.vm_space.specs.Listed.{shown}
+use Rattle.vm_file.specs.Documents.{AreImaged}
+use Rattle.vm_file.proofs.LooksLemmas.{Looks-trans, held_before}
+use Rattle.vm_file.proofs.OpenedDirectoryLemmas.{images_short, read_formed, read_directory}
+use Rattle.vm_file.specs.declared.table.DocumentRef.{DocumentRef}
+use Rattle.vm_file.proofs.opening.read_document.Goals as goal
+
+pub returns-in_err-places-clause-looks : goal.returns-in_err-places-clause-looks
+returns-in_err-places-clause-looks g c = Looks-trans _ _ _ (λ so. g.met.S.Store.timely c.args.store.now so) c.read_directory.ensures.looks c.read_places.ensures.looks
+
+pub returns-clause-looks : goal.returns-clause-looks
+returns-clause-looks g c = Looks-trans _ _ _ (λ so. g.met.S.Store.timely c.args.store.now so) c.read_directory.ensures.looks c.read_places.ensures.looks
+
+pub returns-clause-formed : goal.returns-clause-formed
+returns-clause-formed g c =
+    read_formed c.args.version c.args.file_length (shown c.in_ok-directory.directory) _ c.in_ok-directory.ensures.formed c.in_ok-directory.ensures.place (c.in_ok-places.ensures.entries ∙ c.deref.ensures.value) c.in_ok-places.ensures.places c.in_ok-places.ensures.size refl
+
+pub read_places-requires-clause-handles : goal.read_places-requires-clause-handles
+read_places-requires-clause-handles g c =
+    subst (All (λ e. e.handle.0 ≤ most_blocks)) (sym c.deref.ensures.value) (directory-low c.args.version c.args.file_length (shown c.in_ok-directory.directory) c.in_ok-directory.ensures.formed)
+
+pub read_places-requires-clause-short : goal.read_places-requires-clause-short
+read_places-requires-clause-short g c =
+    subst (All (λ e. e.extent.length ≤ longest_image)) (sym c.deref.ensures.value) (images_short c.args.version c.args.file_length (shown c.in_ok-directory.directory) c.in_ok-directory.ensures.formed)
+
+pub returns-clause-stored : goal.returns-clause-stored
+returns-clause-stored g c so =
+    let d = shown c.in_ok-directory.directory in
+    let stored : DocumentRef = record { directory = c.args.extent; table = record { map_block = d.map_block; places = c.in_ok-places.places } } in
+    record {
+      version = d.version;
+      directory = c.in_ok-directory.ensures.read so ∙ ap Some (read_directory d stored (c.in_ok-places.ensures.entries ∙ c.deref.ensures.value) refl);
+      images = held_before (λ file. AreImaged file c.in_ok-places.places.items) _ _ c.read_directory.ensures.looks c.in_ok-places.ensures.imaged so;
+    }

@@ -1,0 +1,59 @@
+//! Of which kind an image is: found out from its bytes, or known already.
+ghost use Rattle.std.specs.Prelude.{◌≡◌, ◌<◌, ◌==◌, ℕ, List, IsTrue, IfOk, IfErr, IfSome, IsErrOf, MatchOption, Some, None};
+ghost use Rattle.vm_store.specs.Facts.{Raised};
+ghost use Rattle.geos_model.specs.Image.{body_of};
+ghost use Rattle.geos_model.specs.File.{bytes_in};
+ghost use Rattle.vm_file.specs.Documents.{AreImaged};
+ghost use Rattle.vm_file.specs.Opened.{Looks, IsReadRefusal, IsImageOf};
+
+use crate::extent::read_extent;
+use crate::table::Place;
+use geos_model::{Extent, Fault};
+use lmem_heap::Heap;
+use std::alloc::Global;
+use vm_space::LONGEST_IMAGE;
+use vm_store::Store;
+
+/// Whether bytes are the image of a heap, and not of a raw body. None where they are of neither.
+pub fn image_kind(bytes: &[u8]) -> Option<bool>
+    ensures { MatchOption result (body_of bytes.now ≡ None) (λ is_heap. IsImageOf is_heap bytes.now) }
+{
+    if bytes.is_empty() {
+        return None;
+    }
+    let is_heap = bytes[0] != 0;
+    let is_image = if is_heap {
+        Heap::is_image(bytes)
+    } else {
+        bytes.len() <= LONGEST_IMAGE
+    };
+    if is_image { Some(is_heap) } else { None }
+}
+
+/// Whether the image in an extent is that of a heap. Damaged, Memory, File.
+pub fn read_kind<S: Store>(alloc: Global, store: &mut S, extent: Extent) -> Result<bool, Fault>
+    ensures looks { Looks (S.facts store.old) (S.facts store.new) }
+    ensures imaged { IfOk result (λ is_heap. IsTrue (S.facts store.old).honest → IsImageOf is_heap (bytes_in (S.facts store.old).content extent)) }
+    ensures damaged { IsErrOf result Fault.Damaged → IsTrue (S.facts store.old).honest → body_of (bytes_in (S.facts store.old).content extent) ≡ None }
+    ensures file { IsErrOf result Fault.File → Raised (S.facts store.old) (S.facts store.new) }
+    ensures refusals { IfErr result IsReadRefusal }
+{
+    let bytes = read_extent(alloc, store, extent)?;
+    image_kind(&bytes).ok_or(Fault::Damaged)
+}
+
+/// The kind of the image of a place that is known, if it lies in this extent.
+pub fn known_kind(known: &[Option<Place>], index: usize, extent: Extent) -> Option<bool>
+    ensures { IfSome result (λ is_heap. (file : List ℕ) → AreImaged file known.now → IsImageOf is_heap (bytes_in file extent)) }
+{
+    match known.get(index) {
+        Some(Some(place)) => {
+            if place.extent == extent {
+                Some(place.is_heap)
+            } else {
+                None
+            }
+        }
+        _ => None,
+    }
+}

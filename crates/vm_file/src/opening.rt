@@ -1,0 +1,257 @@
+//! The opening of a file that a crash may have left. Nothing is written.
+ghost use Rattle.std.specs.Prelude.{◌≡◌, ◌⊎◌, ◌<◌, ◌≤◌, ◌==◌, ℕ, All, IsTrue, OnOk, IfOk, IfErr, IsErrOf, Some, None, Ok, Err, length, get_or, true};
+ghost use Rattle.vm_store.specs.Facts.{IsDurable, Raised};
+ghost use Rattle.geos_model.specs.Document.{IsTyped};
+ghost use Rattle.geos_model.specs.File.{is_rising, block_of, blocks_of, document_at, both, stands, longest_image};
+ghost use Rattle.vm_file.specs.Sound.{ArePlaces, IsSound};
+ghost use Rattle.vm_file.specs.Calls.{IsSupply, IsOpenRefusal};
+ghost use Rattle.vm_file.specs.Documents.{documents_in, sequence_in, entries_of, IsImaged, AreImaged, IsStored, AreStored};
+ghost use Rattle.vm_file.specs.Opened.{Looks, IsReadRefusal, IsRead, AreRead, IsReadSlots, IsReadWhole};
+
+use crate::directory::read_directory;
+use crate::kind::{known_kind, read_kind};
+use crate::slot::{Slots, SpareSlot, check_slot, find_slot};
+use crate::table::{DocumentRef, Pair, Place, Table, copy_table};
+use geos_model::{Entry, Extent, Fault, Slot};
+use std::alloc::{AllocError, Global};
+use vm_space::MOST_ENTRIES;
+use vm_store::Store;
+
+/// The place of an entry: only a heap has a type. An image that lies where a known one of the same handle does isn't read again.
+fn read_place<S: Store>(
+    alloc: Global,
+    store: &mut S,
+    entry: Entry,
+    known: &[Option<Place>],
+) -> Result<Place, Fault>
+    requires { IsTrue (S.facts store.old).honest → AreImaged (S.facts store.old).content known.now }
+    ensures looks { Looks (S.facts store.old) (S.facts store.new) }
+    ensures place { IfOk result (λ place. (place.attributes ≡ entry.attributes) × (place.extent ≡ entry.extent)) }
+    ensures typed { IfOk result (λ place. IsTyped place.is_heap place.attributes) }
+    ensures imaged { IfOk result (λ place. IsTrue (S.facts store.old).honest → IsImaged (S.facts store.old).content place) }
+    ensures damaged { IsErrOf result Fault.Damaged → IsTrue (S.facts store.old).honest → block_of (S.facts store.old).content entry ≡ None }
+    ensures file { IsErrOf result Fault.File → Raised (S.facts store.old) (S.facts store.new) }
+    ensures refusals { IfErr result IsReadRefusal }
+{
+    let index = usize::from(entry.handle.0).saturating_sub(1);
+    let is_heap = match known_kind(known, index, entry.extent) {
+        Some(is_heap) => is_heap,
+        None => read_kind(alloc, store, entry.extent)?,
+    };
+    if !is_heap && entry.attributes.heap_type != 0 {
+        return Err(Fault::Damaged);
+    }
+    Ok(Place {
+        attributes: entry.attributes,
+        is_heap,
+        extent: entry.extent,
+    })
+}
+
+/// A table in which no handle has a place.
+fn no_places(alloc: Global, count: usize) -> Result<Vec<Option<Place>>, AllocError>
+    ensures size { IfOk result (λ places. length places.items ≡ count) }
+    ensures none { IfOk result (λ places. (j : ℕ) → get_or places.items j None ≡ None) }
+{
+    vec![in alloc; None; count]
+}
+
+/// How many places a table of these entries needs: up to the last handle.
+fn places_needed(entries: &[Entry]) -> usize
+    requires rising { is_rising 0 entries.now ≡ true }
+    requires handles { All (λ e. e.handle.0 ≤ MOST_ENTRIES) entries.now }
+    ensures enough { All (λ e. e.handle.0 ≤ result) entries.now }
+    ensures few { result ≤ MOST_ENTRIES }
+{
+    match entries.last() {
+        Some(entry) => usize::from(entry.handle.0),
+        None => 0,
+    }
+}
+
+/// The places of entries, each under its handle. Damaged, Memory, File.
+fn read_places<S: Store>(
+    alloc: Global,
+    store: &mut S,
+    entries: &[Entry],
+    known: &[Option<Place>],
+) -> Result<Vec<Option<Place>>, Fault>
+    requires rising { is_rising 0 entries.now ≡ true }
+    requires handles { All (λ e. e.handle.0 ≤ MOST_ENTRIES) entries.now }
+    requires short { All (λ e. e.extent.length ≤ longest_image) entries.now }
+    requires known { IsTrue (S.facts store.old).honest → AreImaged (S.facts store.old).content known.now }
+    ensures looks { Looks (S.facts store.old) (S.facts store.new) }
+    ensures size { IfOk result (λ places. length places.items ≤ MOST_ENTRIES) }
+    ensures entries { IfOk result (λ places. entries_of 1 places.items ≡ entries.now) }
+    ensures places { IfOk result (λ places. ArePlaces places.items) }
+    ensures imaged { IfOk result (λ places. IsTrue (S.facts store.old).honest → AreImaged (S.facts store.old).content places.items) }
+    ensures damaged { IsErrOf result Fault.Damaged → IsTrue (S.facts store.old).honest → blocks_of (S.facts store.old).content entries.now ≡ None }
+    ensures file { IsErrOf result Fault.File → Raised (S.facts store.old) (S.facts store.new) }
+    ensures refusals { IfErr result IsReadRefusal }
+{
+    let mut places = no_places(alloc, places_needed(entries))?;
+    for entry in entries.iter() {
+        let place = read_place(alloc, store, *entry, known)?;
+        places[usize::from(entry.handle.0) - 1] = Some(place);
+    }
+    Ok(places)
+}
+
+/// Reads a document: its directory, and each image that isn't known. Damaged, Memory, File.
+fn read_document<S: Store>(
+    alloc: Global,
+    store: &mut S,
+    version: u8,
+    file_length: u64,
+    extent: Extent,
+    known: &[Option<Place>],
+) -> Result<DocumentRef, Fault>
+    requires length { IsTrue (S.facts store.old).honest → file_length ≡ length (S.facts store.old).content }
+    requires known { IsTrue (S.facts store.old).honest → AreImaged (S.facts store.old).content known.now }
+    ensures looks { Looks (S.facts store.old) (S.facts store.new) }
+    ensures directory { IfOk result (λ stored. stored.directory ≡ extent) }
+    ensures formed { IfOk result (λ stored. IsRead file_length stored) }
+    ensures stored { IfOk result (λ stored. IsTrue (S.facts store.old).honest → IsStored version (S.facts store.old).content stored) }
+    ensures damaged { IsErrOf result Fault.Damaged → IsTrue (S.facts store.old).honest → document_at version (S.facts store.old).content extent ≡ None }
+    ensures file { IsErrOf result Fault.File → Raised (S.facts store.old) (S.facts store.new) }
+    ensures refusals { IfErr result IsReadRefusal }
+{
+    let directory = read_directory(alloc, store, version, file_length, extent)?;
+    let places = read_places(alloc, store, &directory.entries, known)?;
+    Ok(DocumentRef {
+        directory: extent,
+        table: Table {
+            map_block: directory.map_block.0,
+            places,
+        },
+    })
+}
+
+/// Reads the saved document beside the updated one: what both have is read once.
+fn read_saved<S: Store>(
+    alloc: Global,
+    store: &mut S,
+    version: u8,
+    file_length: u64,
+    extent: Extent,
+    updated: &DocumentRef,
+) -> Result<DocumentRef, Fault>
+    requires length { IsTrue (S.facts store.old).honest → file_length ≡ length (S.facts store.old).content }
+    requires formed { IsRead file_length updated.now }
+    requires stored { IsTrue (S.facts store.old).honest → IsStored version (S.facts store.old).content updated.now }
+    ensures looks { Looks (S.facts store.old) (S.facts store.new) }
+    ensures directory { IfOk result (λ stored. stored.directory ≡ extent) }
+    ensures formed { IfOk result (λ stored. IsRead file_length stored) }
+    ensures stored { IfOk result (λ stored. IsTrue (S.facts store.old).honest → IsStored version (S.facts store.old).content stored) }
+    ensures damaged { IsErrOf result Fault.Damaged → IsTrue (S.facts store.old).honest → document_at version (S.facts store.old).content extent ≡ None }
+    ensures file { IsErrOf result Fault.File → Raised (S.facts store.old) (S.facts store.new) }
+    ensures refusals { IfErr result IsReadRefusal }
+{
+    if updated.directory == extent {
+        let table = copy_table(alloc, &updated.table)?;
+        return Ok(DocumentRef {
+            directory: extent,
+            table,
+        });
+    }
+    read_document(
+        alloc,
+        store,
+        version,
+        file_length,
+        extent,
+        &updated.table.places,
+    )
+}
+
+/// Reads the two documents of a slot. Damaged, Memory, File.
+fn read_pair<S: Store>(
+    alloc: Global,
+    store: &mut S,
+    file_length: u64,
+    slot: Slot,
+) -> Result<Pair, Fault>
+    requires { IsTrue (S.facts store.old).honest → file_length ≡ length (S.facts store.old).content }
+    ensures looks { Looks (S.facts store.old) (S.facts store.new) }
+    ensures directories { IfOk result (λ pair. (pair.updated.directory ≡ slot.working) × (pair.saved.directory ≡ slot.saved)) }
+    ensures formed { IfOk result (λ pair. AreRead file_length pair) }
+    ensures stored { IfOk result (λ pair. IsTrue (S.facts store.old).honest → AreStored slot.version (S.facts store.old).content pair) }
+    ensures damaged { IsErrOf result Fault.Damaged → IsTrue (S.facts store.old).honest
+        → both (document_at slot.version (S.facts store.old).content slot.working) (document_at slot.version (S.facts store.old).content slot.saved) ≡ Err Fault.Damaged }
+    ensures file { IsErrOf result Fault.File → Raised (S.facts store.old) (S.facts store.new) }
+    ensures refusals { IfErr result IsReadRefusal }
+{
+    let version = slot.version;
+    let updated = read_document(alloc, store, version, file_length, slot.working, &[])?;
+    let saved = read_saved(alloc, store, version, file_length, slot.saved, &updated)?;
+    Ok(Pair { updated, saved })
+}
+
+/// How many bytes there are. File.
+fn read_length<S: Store>(store: &mut S) -> Result<u64, Fault>
+    ensures looks { Looks (S.facts store.old) (S.facts store.new) }
+    ensures length { IfOk result (λ n. IsTrue (S.facts store.old).honest → n ≡ length (S.facts store.old).content) }
+    ensures file { IsErrOf result Fault.File → Raised (S.facts store.old) (S.facts store.new) }
+    ensures refusals { IfErr result (λ fault. fault ≡ Fault.File) }
+{
+    match store.len() {
+        Ok(n) => Ok(n),
+        Err(_) => Err(Fault::File),
+    }
+}
+
+/// Reads what the store has. NotDocument, Damaged, Memory, File.
+fn read_slots<S: Store>(alloc: Global, store: &mut S) -> Result<Slots, Fault>
+    ensures looks { Looks (S.facts store.old) (S.facts store.new) }
+    ensures formed { IfOk result (λ slots. IsReadSlots slots) }
+    ensures whole { IfOk result (λ slots. IsTrue (S.facts store.old).honest → IsReadWhole (S.facts store.old).content slots) }
+    ensures refused { IfErr result (λ fault. IsTrue (S.facts store.old).honest → IsSupply fault ⊎ (stands (S.facts store.old).content ≡ Err fault)) }
+    ensures file { IsErrOf result Fault.File → Raised (S.facts store.old) (S.facts store.new) }
+    ensures refusals { IfErr result IsOpenRefusal }
+{
+    let file_length = read_length(store)?;
+    let active = find_slot(store, file_length)?;
+    let slot = active.slot;
+    check_slot(slot.version, slot.reserved, slot.sequence)?;
+    let committed = read_pair(alloc, store, file_length, slot)?;
+    Ok(Slots {
+        second: active.second,
+        version: slot.version,
+        sequence: slot.sequence,
+        committed,
+        spare: active.spare,
+        marked: None,
+    })
+}
+
+/// Syncs the store. File.
+fn sync<S: Store>(store: &mut S) -> Result<(), Fault>
+    ensures looks { Looks (S.facts store.old) (S.facts store.new) }
+    ensures durable { OnOk result (IsTrue (S.facts store.new).honest → IsDurable (S.facts store.new)) }
+    ensures file { IsErrOf result Fault.File → Raised (S.facts store.old) (S.facts store.new) }
+    ensures refusals { IfErr result (λ fault. fault ≡ Fault.File) }
+{
+    match store.sync() {
+        Ok(()) => Ok(()),
+        Err(_) => Err(Fault::File),
+    }
+}
+
+/// Reads what the store has, and syncs it: what was read is on the disk from then on. NotDocument, Damaged, Memory, File.
+pub fn open_slots<S: Store>(alloc: Global, store: &mut S) -> Result<(Slots, Table), Fault>
+    ensures looks { Looks (S.facts store.old) (S.facts store.new) }
+    ensures sound { IfOk result (λ p. IsSound (S.facts store.new) p.1 p.0) }
+    ensures live { IfOk result (λ p. (p.1.map_block ≡ p.0.committed.updated.table.map_block) × (p.1.places.items ≡ p.0.committed.updated.table.places.items)) }
+    ensures alone { IfOk result (λ p. (p.0.spare ≡ SpareSlot.Shut) ⊎ (p.0.spare ≡ SpareSlot.Stale)) }
+    ensures unmarked { IfOk result (λ p. p.0.marked ≡ None) }
+    ensures stands { IfOk result (λ p. IsTrue (S.facts store.old).honest → stands (S.facts store.old).content ≡ Ok (documents_in (S.facts store.old).content p.0.committed)) }
+    ensures numbered { IfOk result (λ p. IsTrue (S.facts store.old).honest → sequence_in (S.facts store.old).content ≡ Some p.0.sequence) }
+    ensures refused { IfErr result (λ fault. IsTrue (S.facts store.old).honest → IsSupply fault ⊎ (stands (S.facts store.old).content ≡ Err fault)) }
+    ensures file { IsErrOf result Fault.File → Raised (S.facts store.old) (S.facts store.new) }
+    ensures refusals { IfErr result IsOpenRefusal }
+{
+    let slots = read_slots(alloc, store)?;
+    let live = copy_table(alloc, &slots.committed.updated.table)?;
+    sync(store)?;
+    Ok((slots, live))
+}
