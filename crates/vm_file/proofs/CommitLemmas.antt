@@ -207,13 +207,13 @@ module _ {S : Type 0} (facts : S → StoreFacts) (a b : S) (live : Table) (slots
   then_honest : IsTrue (facts b).honest → IsTrue (facts a).honest
   then_honest so = subst IsTrue call.honest so
 
-  pub settle_crash : IsTrue (facts a).honest → Crash (facts a) (facts b) (documents_in (facts a).content pair ∷ readable (disk_of facts a slots))
-  settle_crash so =
+  pub call_crash : IsTrue (facts a).honest → Crash (facts a) (facts b) (documents_in (facts a).content pair ∷ readable (disk_of facts a slots))
+  call_crash so =
       let was = call.whole so in
       commit_crash (facts a).content slots pair (sound_readable (facts a) live slots call.formed was) call.range call.tables call.placed (call.stored so) (facts a) (facts b) (call.crash so was.leaves (pair_there so))
 
-  settle_early : IsTrue (facts a).honest → Outlives (facts a) (facts b) (facts a).content (λ s. FailedEarly slots s) → Crash (facts a) (facts b) (readable (disk_of facts a slots))
-  settle_early so outlives =
+  commit_early : IsTrue (facts a).honest → Outlives (facts a) (facts b) (facts a).content (λ s. FailedEarly slots s) → Crash (facts a) (facts b) (readable (disk_of facts a slots))
+  commit_early so outlives =
       let was = call.whole so in
       early_crash (facts a).content slots pair (sound_readable (facts a) live slots call.formed was) call.range call.tables call.placed (call.stored so) (facts a) (facts b) outlives
 
@@ -222,26 +222,26 @@ module _ {S : Type 0} (facts : S → StoreFacts) (a b : S) (live : Table) (slots
     marked_kept : IsTrue (facts a).honest → KeepsAll (marked_extents now.marked) (facts a).content (facts b).content
     marked_kept so = still_kept (marked_extents now.marked) (kept_marked IsPlaced now now_formed.kept) so (has so).marked_within
 
-    pub settle_sound : IsSound (facts b) live now
-    settle_sound = record {
+    pub commit_sound : IsSound (facts b) live now
+    commit_sound = record {
       formed = now_formed;
       whole = λ so. let then = then_honest so in whole_again (facts a).content (facts b) live now (call.now_there so) (has then) (live_kept then) (marked_kept then) (left then);
     }
 
-    settle_committed : IsTrue (facts a).honest → documents_in (facts b).content now.committed ≡ documents_in (facts a).content now.committed
-    settle_committed so = (committed_now (facts a).content (facts b) live now (call.now_there (subst IsTrue (sym call.honest) so)) (has so) (live_kept so) (marked_kept so) (left so)).1
+    commit_committed : IsTrue (facts a).honest → documents_in (facts b).content now.committed ≡ documents_in (facts a).content now.committed
+    commit_committed so = (committed_now (facts a).content (facts b) live now (call.now_there (subst IsTrue (sym call.honest) so)) (has so) (live_kept so) (marked_kept so) (left so)).1
 
     commit_attempted : IsTrue (facts a).honest → attempted_in (facts b).content now.spare ≡ attempted_in (facts a).content now.spare
     commit_attempted so = (attempted_now (facts a).content (facts b) live now (call.now_there (subst IsTrue (sym call.honest) so)) (has so) (live_kept so) (marked_kept so) (left so)).1
 
-    settle_marked : now.marked ≡ slots.marked → MarkDrifts (facts a).honest (option_map (document_in (facts a).content) slots.marked) (option_map (document_in (facts b).content) now.marked)
-    settle_marked same =
+    commit_marked : now.marked ≡ slots.marked → MarkDrifts (facts a).honest (option_map (document_in (facts a).content) slots.marked) (option_map (document_in (facts b).content) now.marked)
+    commit_marked same =
         let honest = (facts a).honest in
         subst (λ m. MarkDrifts honest (option_map (document_in (facts a).content) m) (option_map (document_in (facts b).content) now.marked)) same
         (marked_drifts honest (facts a).content (facts b).content now.marked (λ so. (has so).marked_within) marked_kept)
 
-    pub settle_live : IsTrue (facts a).honest → document_in (facts b).content live ≡ document_in (facts a).content live
-    settle_live so = live_again (facts a).content (facts b) live now (call.now_there (subst IsTrue (sym call.honest) so)) (has so) (live_kept so) (marked_kept so) (left so)
+    pub commit_live : IsTrue (facts a).honest → document_in (facts b).content live ≡ document_in (facts a).content live
+    commit_live so = live_again (facts a).content (facts b) live now (call.now_there (subst IsTrue (sym call.honest) so)) (has so) (live_kept so) (marked_kept so) (left so)
 
   -- a commit that wasn't acknowledged
   module _ (failed : Failed slots pair now) where
@@ -253,11 +253,11 @@ module _ {S : Type 0} (facts : S → StoreFacts) (a b : S) (live : Table) (slots
 
     pub err_sound : IsSound (facts b) live now
     unfolding now_formed has_all
-    err_sound = settle_sound now_formed has_all
+    err_sound = commit_sound now_formed has_all
 
     pub err_live : IsTrue (facts a).honest → document_in (facts b).content live ≡ document_in (facts a).content live
     unfolding now_formed has_all
-    err_live = settle_live now_formed has_all
+    err_live = commit_live now_formed has_all
 
     -- what holds of the slots as they may be
     as_left : (P : Slots → Type 0) → P slots → P (record slots { spare = Shut }) → P (record slots { spare = Prepared pair }) → P now
@@ -298,7 +298,7 @@ module _ {S : Type 0} (facts : S → StoreFacts) (a b : S) (live : Table) (slots
           | inl before ↦ elim early as (λ _. IsTried facts (documents_in (facts a).content pair) (disk_of facts b now) ⊎ AddsNothing facts (disk_of facts a slots) (disk_of facts b now)) [
             | inl is_held ↦ inl (held_tried so is_held)
             | inr outlives ↦ inr (record {
-              crash = settle_early so (outlives (facts a).content so (call.whole so).leaves);
+              crash = commit_early so (outlives (facts a).content so (call.whole so).leaves);
               attempted = elim before as (λ _. (attempted_in (facts b).content now.spare ≡ attempted_in (facts a).content slots.spare) ⊎ (attempted_in (facts b).content now.spare ≡ [])) [
                 | inl still ↦ inl (same ∙ ap attempts still)
                 | inr shut ↦ inr (same ∙ ap attempts shut)
@@ -312,17 +312,17 @@ module _ {S : Type 0} (facts : S → StoreFacts) (a b : S) (live : Table) (slots
     err_commits early fault = record {
       honest = call.honest;
       failures = call.failures;
-      crash = settle_crash;
+      crash = call_crash;
       settled = sound_settled facts b live now err_sound;
       ok = tt;
       numbered = tt;
       still_numbered = λ so was none. sound_numbered facts b live now err_sound (subst IsTrue (sym call.honest) so) none;
       err = λ so.
-          let documents = settle_committed now_formed has_all so ∙ ap (documents_in (facts a).content) same_pair in
+          let documents = commit_committed now_formed has_all so ∙ ap (documents_in (facts a).content) same_pair in
           (ap (λ (d : Documents). d.0) documents, ap (λ (d : Documents). d.1) documents);
       adds = added early;
       sequence = same_number;
-      marked = settle_marked now_formed has_all same_mark;
+      marked = commit_marked now_formed has_all same_mark;
     }
 
   -- one that was
@@ -335,24 +335,24 @@ module _ {S : Type 0} (facts : S → StoreFacts) (a b : S) (live : Table) (slots
 
     pub ok_sound : IsSound (facts b) live now
     unfolding turned_is turned_has
-    ok_sound = settle_sound turned_is turned_has
+    ok_sound = commit_sound turned_is turned_has
 
     pub ok_live : IsTrue (facts a).honest → document_in (facts b).content live ≡ document_in (facts a).content live
     unfolding turned_is turned_has
-    ok_live = settle_live turned_is turned_has
+    ok_live = commit_live turned_is turned_has
 
     pub ok_commits : Commits facts (documents_in (facts a).content pair) (disk_of facts a slots) (disk_of facts b now) (Ok tt)
     unfolding turned_is turned_has
     ok_commits = record {
       honest = call.honest;
       failures = call.failures;
-      crash = settle_crash;
+      crash = call_crash;
       settled = sound_settled facts b live now ok_sound;
-      ok = λ so. (settle_committed turned_is turned_has so ∙ ap (λ (s : Slots). documents_in (facts a).content s.committed) is, commit_attempted turned_is turned_has so ∙ ap (λ (s : Slots). attempted_in (facts a).content s.spare) is);
+      ok = λ so. (commit_committed turned_is turned_has so ∙ ap (λ (s : Slots). documents_in (facts a).content s.committed) is, commit_attempted turned_is turned_has so ∙ ap (λ (s : Slots). attempted_in (facts a).content s.spare) is);
       numbered = λ so. sound_numbered facts b live now ok_sound (subst IsTrue (sym call.honest) so) (ap (λ (s : Slots). attempted_in (facts b).content s.spare) is);
       still_numbered = tt;
       err = tt;
       adds = tt;
       sequence = ap (λ (s : Slots). s.sequence) is;
-      marked = settle_marked turned_is turned_has (ap (λ (s : Slots). s.marked) is);
+      marked = commit_marked turned_is turned_has (ap (λ (s : Slots). s.marked) is);
     }

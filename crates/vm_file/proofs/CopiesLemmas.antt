@@ -1,5 +1,6 @@
 -- What holds of a table holds of a copy.
-use Rattle.std.proofs.Common.{◌≡◌, ◌⊎◌, ℕ, suc, ◌-◌, ◌≤◌, Bool, true, false, IsTrue, List, ◌∷◌, length, get_or, Option, None, Some, is_some, All, refl, sym, ap, ap₂, subst, ◌∙◌, arith}
+use Rattle.std.proofs.Common.{◌≡◌, ◌⊎◌, ℕ, suc, ◌-◌, ◌≤◌, Bool, true, false, IsTrue, List, ◌∷◌, length, get_or, Option, None, Some, is_some, All, refl, sym, ap, ap₂, subst, ◌∙◌, arith, inl, inr}
+use Rattle.std.specs.Prelude.{if◌then◌else◌}
 use Rattle.std.proofs.lemmas.List.Elements.{All-append}
 use Rattle.vm_store.specs.Facts.{StoreFacts}
 use Rattle.geos_model.specs.File.{Directory, directory_of}
@@ -88,3 +89,14 @@ copy_drifts honest file c copy table is same =
     let nothing : IsTrue false → blocks_in c table.places.items ≡ blocks_in file table.places.items = λ no. absurd (cc no) in
     let drift = subst (λ d. Drifts false (document_in file table) d) (sym (copy_document c copy table is)) (places_drift false file c table.places.items table.map_block nothing) in
     record { live = drift.live; attributes = drift.attributes; kinds = drift.kinds; map_block = drift.map_block; same = same }
+
+-- The saved document beside one that is to be committed: a copy of that one, or of the one that was saved.
+
+pub beside_alike : (saves : Bool) (copy pending committed : DocumentRef) → IsStoredCopy copy (if saves then pending else committed) → IsStoredCopy copy committed ⊎ IsStoredCopy copy pending
+beside_alike true copy pending committed is = inr is
+beside_alike false copy pending committed is = inl is
+
+pub beside_document : (file : List ℕ) (saves : Bool) (copy pending committed : DocumentRef) (live : Table) → IsStoredCopy copy (if saves then pending else committed) → IsCopy pending.table live
+    → document_in file copy.table ≡ (if saves then document_in file live else document_in file committed.table)
+beside_document file true copy pending committed live is table = copy_document file copy.table pending.table is.table ∙ copy_document file pending.table live table
+beside_document file false copy pending committed live is table = copy_document file copy.table committed.table is.table

@@ -30,6 +30,11 @@ use Rattle.vm_file.proofs.StandsLemmas.{stored_document, sound_settled, sound_nu
 use Rattle.vm_file.proofs.SlotsLemmas.{rests_leaves, rests_outlives}
 
 module _ {S : Type 0} (facts : S → StoreFacts) where
+  -- a file as its callers see it
+  pub view_settled : (store : S) (live : Table) (slots : Slots) (f : FileState S) → record { disk = disk_of facts store slots; document = document_in (facts store).content live } ≡ f
+      → IsSound (facts store) live slots → IsSettled facts f.disk
+  view_settled store live slots f is sound = subst (λ s. IsSettled facts s.disk) is (sound_settled facts store live slots sound)
+
   -- a commit that is refused before anything is done
   pub refused : (a : FileState S) (pair : Documents) (d : Document) (fault : Fault) → IsSettled facts a.disk → (fault ≡ Worn ↔ (a.disk.sequence ≡ last_sequence)) → IsCommit facts pair d a a (Err fault)
   refused a pair d fault settled worn = record {

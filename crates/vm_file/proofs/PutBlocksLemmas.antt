@@ -67,10 +67,6 @@ few_extents live slots formed =
     let all = length-append (block_extents live.places.items) (kept_extents slots) in
     omega (arith, mine, size, pair, prepared, marked, rest, kept, all)
 
--- a vector whose elements are changed twice
-pub kept_twice : {X : Type 0} (n : ℕ) (xs ws vs : List X) → n ≡ length xs → length ws ≡ length xs → length vs ≡ length ws → take n (vs ++ drop (length vs) (take n (ws ++ drop (length ws) xs))) ≡ vs
-kept_twice n xs ws vs size first second = ap (λ l. take n (vs ++ drop (length vs) l)) (items_kept n ws xs size first) ∙ items_kept n vs ws (omega (arith, size, first)) second
-
 -- the place of a block that is put can be
 written_place : (p : Member) (e : Extent) → e.length ≡ length (image p.block.image) → IsPlace (placed_at p e)
 written_place p e size = record { short = (let low = (image_length p.block.image p.block.valid).1 in omega (arith, size, low)); typed = p.block.typed }
@@ -174,9 +170,7 @@ module _ {S : Type 0} (facts : S → StoreFacts) (a b : S) (live : Table) (slots
           ))
 
 -- a table in which blocks were put, and from which others were taken
-pub changed_twice : (n : ℕ) (places filled left : List (Option Place)) (puts : List Member) (extents : List Extent) (removals : List VmHandle) → n ≡ length places → filled ≡ with_places puts extents places
-    → left ≡ without_places removals (take n (filled ++ drop (length filled) places)) → take n (left ++ drop (length left) (take n (filled ++ drop (length filled) places))) ≡ without_places removals (with_places puts extents places)
-changed_twice n places filled left puts extents removals size first second =
-    let long = ap length first ∙ length-with_places puts extents places in
-    let mid = ap (without_places removals) (items_kept n filled places size long) in
-    kept_twice n places filled left size long (ap length (second ∙ mid) ∙ length-without_places removals filled) ∙ second ∙ mid ∙ ap (without_places removals) first
+pub changed_places : (n : ℕ) (places now : List (Option Place)) (puts : List Member) (extents : List Extent) (removals : List VmHandle) → n ≡ length places
+    → now ≡ without_places removals (with_places puts extents places) → take n (now ++ drop (length now) places) ≡ without_places removals (with_places puts extents places)
+changed_places n places now puts extents removals size is =
+    items_kept n now places size (ap length is ∙ length-without_places removals (with_places puts extents places) ∙ length-with_places puts extents places) ∙ is

@@ -1,12 +1,12 @@
 -- Images that are written one by one.
-use Rattle.std.proofs.Common.{◌≡◌, ℕ, ◌+◌, ◌<◌, ◌≤◌, IsTrue, List, All, length, get_or, refl, sym, subst, ◌∙◌, arith, inl, inr, ◌⊎◌, ap}
+use Rattle.std.proofs.Common.{◌≡◌, ℕ, ◌+◌, ◌<◌, ◌≤◌, IsTrue, List, ◌++◌, All, length, get_or, refl, sym, subst, ◌∙◌, arith, inl, inr, ◌⊎◌, ap}
 use Rattle.std.proofs.lemmas.Bool.{cases_eq}
 use Rattle.std.proofs.lemmas.List.{get_or_default}
 use Rattle.vm_store.specs.Facts.{StoreFacts, Torn, Holds}
 use Rattle.geos_model.specs.Image.{image}
 use Rattle.geos_model.specs.declared.file.Extent.{Extent}
 use Rattle.vm_file.specs.Ranges.{start_of, end_of, IsOut, KeepsAll}
-use Rattle.vm_file.specs.Slots.{Leaves, Outlives, block_extents, pair_extents, prepared_extents, marked_extents, Outcome}
+use Rattle.vm_file.specs.Slots.{Leaves, Outlives, block_extents, pair_extents, prepared_extents, kept_extents, marked_extents, Outcome}
 use Rattle.vm_file.specs.Writing.{AreFor, Fills, AreWritten, IsSpared}
 use Rattle.vm_file.specs.declared.member.Member.{Member}
 use Rattle.vm_file.specs.declared.slot.Slots.{Slots}
@@ -18,7 +18,7 @@ use Rattle.vm_file.specs.Sound.{IsFormed, IsSound, disk_of}
 use Rattle.vm_file.specs.declared.table.Table.{Table}
 use Rattle.vm_file.proofs.DocumentsLemmas.{pair_again, prepared_again}
 use Rattle.vm_file.proofs.GateAwayLemmas.{attempted_away}
-use Rattle.vm_file.proofs.SoundLemmas.{EndsIn, marked_imaged, marked_drifts}
+use Rattle.vm_file.proofs.SoundLemmas.{EndsIn, marked_imaged, marked_drifts, live_and_marked}
 use Rattle.vm_file.proofs.StandsLemmas.{outcome_stands, sound_readable, outcome_numbered}
 
 -- the first n images are written
@@ -80,6 +80,13 @@ spared_by slots kept extents puts n old new are fills = record {
   leaves = fills.leaves;
   crash = fills.crash;
 }
+
+-- the live table's images and the marked ones, where what is written is apart from them and from all that the slots stand on
+pub spared_images : (slots : Slots) (live : List Extent) (puts : List Member) (images : List Extent) (a b : StoreFacts) → AreFor (live ++ kept_extents slots) puts (length puts) images
+    → Fills slots images a b → IsSpared (live ++ marked_extents slots.marked) slots a b
+spared_images slots live puts images a b found fills =
+    spared_by slots (live ++ marked_extents slots.marked) images puts (length puts) a b
+    (for_fewer (live ++ kept_extents slots) (live ++ marked_extents slots.marked) puts (length puts) images (λ P all. live_and_marked P slots live all) found) fills
 
 pub spared_same : (kept : List Extent) (slots : Slots) (a : StoreFacts) → IsSpared kept slots a a
 spared_same kept slots a = record { keeps = λ within. keeps_itself kept a.content within; leaves = λ file was. was; crash = λ file was. Outlives-refl a file (λ s. s ≡ slots) }

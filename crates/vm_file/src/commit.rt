@@ -1,5 +1,5 @@
 //! Commits: the steps through the slots, and what they make of the documents.
-ghost use Rattle.std.specs.Prelude.{◌≡◌, ◌⊎◌, ◌+◌, ◌*◌, ◌<◌, ℕ, List, All, IsTrue, OnOk, OnErr, MatchResult, length, IfErr, IsErrOf};
+ghost use Rattle.std.specs.Prelude.{if◌then◌else◌, IfOk, ◌≡◌, ◌⊎◌, ◌+◌, ◌*◌, ◌<◌, ℕ, List, All, IsTrue, OnOk, OnErr, MatchResult, length, IfErr, IsErrOf};
 ghost use Rattle.vm_store.specs.Facts.{raised, IsDurable, Torn, Holds, Counts, Raised};
 ghost use Rattle.geos_model.specs.File.{slot_mark};
 ghost use Rattle.vm_file.specs.Ranges.{IsPlaced, KeepsAll};
@@ -13,8 +13,9 @@ ghost use Rattle.vm_file.specs.Copies.{IsStoredCopy};
 
 use crate::directory::{PendingDirectory, write_pending};
 use crate::slot::{Slots, SpareSlot, behind_gate_bytes, is_shut, spare_gate, spare_slot};
-use crate::table::{DocumentRef, Pair, Table};
+use crate::table::{DocumentRef, Pair, Table, copy_document_ref};
 use geos_model::{Fault, VERSION};
+use std::alloc::{AllocError, Global};
 use vm_space::SLOT_MARK;
 use vm_store::{Store, StoreFault};
 
@@ -22,7 +23,8 @@ use vm_store::{Store, StoreFault};
 pub fn write_through<S: Store>(store: &mut S, at: u64, bytes: &[u8]) -> Result<(), StoreFault>
     ensures honest { (S.facts store.new).honest ≡ (S.facts store.old).honest }
     ensures failures { Counts result (S.facts store.old) (S.facts store.new) }
-    ensures tears { IsTrue (S.facts store.old).honest → Tears at (length bytes.now) (S.facts store.old) (S.facts store.new) }
+    ensures tears { IsTrue (S.facts store.old).honest
+        → Tears at (length bytes.now) (S.facts store.old) (S.facts store.new) }
     ensures written { OnOk result (IsTrue (S.facts store.old).honest → Holds (S.facts store.new).content at bytes.now) }
     ensures durable { OnOk result (IsTrue (S.facts store.old).honest → IsDurable (S.facts store.new)) }
 {
@@ -33,15 +35,22 @@ pub fn write_through<S: Store>(store: &mut S, at: u64, bytes: &[u8]) -> Result<(
 /// Shuts the gate of the other slot. Until that is on the disk, what is known of the slot stays. A gate that is shut isn't
 /// written, since it could be torn open.
 pub fn shut_gate<S: Store>(store: &mut S, slots: &mut Slots) -> Result<(), StoreFault>
+    // Asked of the caller.
     requires kept { AreKept slots.old }
+    // The store.
     ensures honest { (S.facts store.new).honest ≡ (S.facts store.old).honest }
-    ensures failures { MatchResult result (λ _. (S.facts store.new).failures ≡ (S.facts store.old).failures) (λ _. (S.facts store.new).failures ≡ raised (S.facts store.old).failures) }
+    ensures failures { MatchResult result (λ _. (S.facts store.new).failures ≡ (S.facts store.old).failures)
+        (λ _. (S.facts store.new).failures ≡ raised (S.facts store.old).failures) }
+    // What is known of the slots.
     ensures ok { OnOk result (slots.new ≡ record slots.old { spare = SpareSlot.Shut }) }
     ensures err { OnErr result (slots.new ≡ slots.old) }
-    ensures elsewhere { IsTrue (S.facts store.old).honest → Torn 0 1024 (S.facts store.old).content (S.facts store.new).content }
+    // Crashes.
+    ensures elsewhere { IsTrue (S.facts store.old).honest
+        → Torn 0 1024 (S.facts store.old).content (S.facts store.new).content }
     ensures crash { (file : List ℕ) → IsTrue (S.facts store.old).honest → Leaves (S.facts store.old) slots.old file
         → Outlives (S.facts store.old) (S.facts store.new) file (λ s. s ≡ slots.old) }
-    ensures leaves { (file : List ℕ) → IsTrue (S.facts store.old).honest → Leaves (S.facts store.old) slots.old file → Leaves (S.facts store.new) slots.new file }
+    ensures leaves { (file : List ℕ) → IsTrue (S.facts store.old).honest → Leaves (S.facts store.old) slots.old file
+        → Leaves (S.facts store.new) slots.new file }
 {
     if is_shut(&slots.spare) {
         return Ok(());
@@ -53,17 +62,25 @@ pub fn shut_gate<S: Store>(store: &mut S, slots: &mut Slots) -> Result<(), Store
 
 // Writes the other slot but for its gate, which is shut and stays so.
 fn fill_slot<S: Store>(store: &mut S, slots: &Slots, pair: &Pair) -> Result<(), StoreFault>
+    // Asked of the caller.
     requires shut { slots.now.spare ≡ SpareSlot.Shut }
     requires sequence { slots.now.sequence < 18446744073709551615 }
     requires kept { AreKept slots.now }
+    // The store.
     ensures honest { (S.facts store.new).honest ≡ (S.facts store.old).honest }
     ensures failures { Counts result (S.facts store.old) (S.facts store.new) }
-    ensures elsewhere { IsTrue (S.facts store.old).honest → Torn 0 1024 (S.facts store.old).content (S.facts store.new).content }
+    // Crashes.
+    ensures elsewhere { IsTrue (S.facts store.old).honest
+        → Torn 0 1024 (S.facts store.old).content (S.facts store.new).content }
     ensures crash { (file : List ℕ) → IsTrue (S.facts store.old).honest → Leaves (S.facts store.old) slots.now file
         → Outlives (S.facts store.old) (S.facts store.new) file (λ s. s ≡ slots.now) }
-    ensures leaves { (file : List ℕ) → IsTrue (S.facts store.old).honest → Leaves (S.facts store.old) slots.now file → Leaves (S.facts store.new) slots.now file }
-    ensures marked { OnOk result (IsTrue (S.facts store.old).honest → Holds (S.facts store.new).content (512 * spare_of slots.now) slot_mark) }
-    ensures rest { OnOk result (IsTrue (S.facts store.old).honest → Holds (S.facts store.new).content (512 * spare_of slots.now + 5) (behind_gate 2 (slots.now.sequence + 1) pair.now)) }
+    ensures leaves { (file : List ℕ) → IsTrue (S.facts store.old).honest → Leaves (S.facts store.old) slots.now file
+        → Leaves (S.facts store.new) slots.now file }
+    // What stands in the slot.
+    ensures marked { OnOk result (IsTrue (S.facts store.old).honest
+        → Holds (S.facts store.new).content (512 * spare_of slots.now) slot_mark) }
+    ensures rest { OnOk result (IsTrue (S.facts store.old).honest
+        → Holds (S.facts store.new).content (512 * spare_of slots.now + 5) (behind_gate 2 (slots.now.sequence + 1) pair.now)) }
     ensures durable { OnOk result (IsTrue (S.facts store.old).honest → IsDurable (S.facts store.new)) }
 {
     let rest = behind_gate_bytes(
@@ -77,17 +94,25 @@ fn fill_slot<S: Store>(store: &mut S, slots: &Slots, pair: &Pair) -> Result<(), 
 
 // Opens the gate of the other slot, which is whole but for that. From here on what it leads to may be read.
 fn open_gate<S: Store>(store: &mut S, slots: &mut Slots, pair: Pair) -> Result<(), StoreFault>
+    // Asked of the caller.
     requires sequence { slots.old.sequence < 18446744073709551615 }
     requires kept { AreKept slots.old }
     requires placed { All IsPlaced (pair_extents pair) }
+    // The store.
     ensures honest { (S.facts store.new).honest ≡ (S.facts store.old).honest }
     ensures failures { Counts result (S.facts store.old) (S.facts store.new) }
+    // What is known of the slots.
     ensures ok { OnOk result (slots.new ≡ turned slots.old pair) }
     ensures err { OnErr result (slots.new ≡ record slots.old { spare = SpareSlot.Prepared pair }) }
-    ensures elsewhere { IsTrue (S.facts store.old).honest → Torn 0 1024 (S.facts store.old).content (S.facts store.new).content }
-    ensures crash { (file : List ℕ) → IsTrue (S.facts store.old).honest → Leaves (S.facts store.old) (record slots.old { spare = SpareSlot.Prepared pair }) file
-        → Outlives (S.facts store.old) (S.facts store.new) file (λ s. s ≡ record slots.old { spare = SpareSlot.Prepared pair }) }
-    ensures leaves { (file : List ℕ) → IsTrue (S.facts store.old).honest → Leaves (S.facts store.old) (record slots.old { spare = SpareSlot.Prepared pair }) file
+    // Crashes.
+    ensures elsewhere { IsTrue (S.facts store.old).honest
+        → Torn 0 1024 (S.facts store.old).content (S.facts store.new).content }
+    ensures crash { (file : List ℕ) → IsTrue (S.facts store.old).honest
+        → Leaves (S.facts store.old) (record slots.old { spare = SpareSlot.Prepared pair }) file
+        → Outlives (S.facts store.old) (S.facts store.new) file
+        (λ s. s ≡ record slots.old { spare = SpareSlot.Prepared pair }) }
+    ensures leaves { (file : List ℕ) → IsTrue (S.facts store.old).honest
+        → Leaves (S.facts store.old) (record slots.old { spare = SpareSlot.Prepared pair }) file
         → Leaves (S.facts store.new) slots.new file }
 {
     match write_through(store, spare_gate(slots), &[1]) {
@@ -110,21 +135,29 @@ fn open_gate<S: Store>(store: &mut S, slots: &mut Slots, pair: Pair) -> Result<(
 /// filled, and opened, each with a sync. On an error the slot that counts is the same, and so is what it leads to. Where only
 /// the last step failed, the pair may be found after a crash, and `slots` holds it.
 pub fn commit<S: Store>(store: &mut S, slots: &mut Slots, pair: Pair) -> Result<(), StoreFault>
+    // Asked of the caller.
     requires sequence { slots.old.sequence < 18446744073709551615 }
     requires kept { AreKept slots.old }
     requires placed { All IsPlaced (pair_extents pair) }
+    // The store.
     ensures honest { (S.facts store.new).honest ≡ (S.facts store.old).honest }
     ensures failures { Counts result (S.facts store.old) (S.facts store.new) }
+    // What is known of the slots.
     ensures ok { OnOk result (slots.new ≡ turned slots.old pair) }
     ensures err { OnErr result (Failed slots.old pair slots.new) }
     // where `slots` doesn't hold the pair, a crash found nothing of it
-    ensures early { OnErr result ((slots.new ≡ record slots.old { spare = SpareSlot.Prepared pair }) ⊎ ((file : List ℕ) → IsTrue (S.facts store.old).honest → Leaves (S.facts store.old) slots.old file
+    ensures early { OnErr result ((slots.new ≡ record slots.old { spare = SpareSlot.Prepared pair })
+        ⊎ ((file : List ℕ) → IsTrue (S.facts store.old).honest → Leaves (S.facts store.old) slots.old file
         → Outlives (S.facts store.old) (S.facts store.new) file (λ s. FailedEarly slots.old s))) }
-    ensures elsewhere { IsTrue (S.facts store.old).honest → Torn 0 1024 (S.facts store.old).content (S.facts store.new).content }
+    // Crashes.
+    ensures elsewhere { IsTrue (S.facts store.old).honest
+        → Torn 0 1024 (S.facts store.old).content (S.facts store.new).content }
     // `file` is a content that has the bytes of all extents: that at the call, or an earlier one
-    ensures crash { (file : List ℕ) → IsTrue (S.facts store.old).honest → Leaves (S.facts store.old) slots.old file → KeepsAll (pair_extents pair) file (S.facts store.old).content
+    ensures crash { (file : List ℕ) → IsTrue (S.facts store.old).honest → Leaves (S.facts store.old) slots.old file
+        → KeepsAll (pair_extents pair) file (S.facts store.old).content
         → Outlives (S.facts store.old) (S.facts store.new) file (λ s. Failed slots.old pair s) }
-    ensures leaves { (file : List ℕ) → IsTrue (S.facts store.old).honest → Leaves (S.facts store.old) slots.old file → KeepsAll (pair_extents pair) file (S.facts store.old).content
+    ensures leaves { (file : List ℕ) → IsTrue (S.facts store.old).honest → Leaves (S.facts store.old) slots.old file
+        → KeepsAll (pair_extents pair) file (S.facts store.old).content
         → Leaves (S.facts store.new) slots.new file }
 {
     shut_gate(store, slots)?;
@@ -139,17 +172,23 @@ pub fn commit_pair<S: Store>(
     pair: Pair,
     live: &Table,
 ) -> Result<(), Fault>
+    // Asked of the caller.
     requires formed { IsFormed live.now slots.old }
     requires sequence { slots.old.sequence < 18446744073709551615 }
     requires tables { AreTables pair }
     requires placed { All IsPlaced (pair_extents pair) }
     requires whole { IsTrue (S.facts store.old).honest → IsWhole (S.facts store.old) live.now slots.old }
     requires stored { IsTrue (S.facts store.old).honest → AreStored 2 (S.facts store.old).content pair }
-    ensures commits { Commits S.facts (documents_in (S.facts store.old).content pair) (disk_of S.facts store.old slots.old) (disk_of S.facts store.new slots.new) result }
+    // The commit.
+    ensures commits { Commits S.facts (documents_in (S.facts store.old).content pair)
+        (disk_of S.facts store.old slots.old) (disk_of S.facts store.new slots.new) result }
     ensures sound { IsSound (S.facts store.new) live.now slots.new }
-    ensures live { IsTrue (S.facts store.old).honest → document_in (S.facts store.new).content live.now ≡ document_in (S.facts store.old).content live.now }
+    ensures live { IsTrue (S.facts store.old).honest
+        → document_in (S.facts store.new).content live.now ≡ document_in (S.facts store.old).content live.now }
+    // Where it is acknowledged.
     ensures committed { OnOk result (slots.new.committed ≡ pair) }
     ensures turned { OnOk result ((slots.new.version ≡ 2) × (slots.new.spare ≡ SpareSlot.Stale)) }
+    // Refusals.
     ensures file { IsErrOf result Fault.File → Raised (S.facts store.old) (S.facts store.new) }
     ensures refusals { IfErr result (λ fault. fault ≡ Fault.File) }
 {
@@ -157,6 +196,23 @@ pub fn commit_pair<S: Store>(
     match commit(store, slots, pair) {
         Ok(()) => Ok(()),
         Err(StoreFault) => Err(Fault::File),
+    }
+}
+
+/// The saved document beside a pending one: a copy of the pending one where the commit `saves`, else of the saved one.
+pub fn saved_beside(
+    alloc: Global,
+    pending: &PendingDirectory,
+    slots: &Slots,
+    saves: bool,
+) -> Result<DocumentRef, AllocError>
+    ensures { IfOk result
+        (λ saved. IsStoredCopy saved (if saves then pending.now.document else slots.now.committed.saved)) }
+{
+    if saves {
+        copy_document_ref(alloc, &pending.document)
+    } else {
+        copy_document_ref(alloc, &slots.committed.saved)
     }
 }
 
@@ -168,14 +224,21 @@ pub fn commit_pending<S: Store>(
     pending: PendingDirectory,
     saved: DocumentRef,
 ) -> Result<(), Fault>
+    // Asked of the caller.
     requires sound { IsSound (S.facts store.old) live.now slots.old }
     requires sequence { slots.old.sequence < 18446744073709551615 }
     requires pending { IsPendingDirectory live.now slots.old pending }
     requires saved { IsStoredCopy saved slots.old.committed.saved ⊎ IsStoredCopy saved pending.document }
-    ensures commits { Commits S.facts (document_in (S.facts store.old).content live.now, document_in (S.facts store.old).content saved.table) (disk_of S.facts store.old slots.old) (disk_of S.facts store.new slots.new) result }
+    // The commit.
+    ensures commits { Commits S.facts
+        (document_in (S.facts store.old).content live.now, document_in (S.facts store.old).content saved.table)
+        (disk_of S.facts store.old slots.old) (disk_of S.facts store.new slots.new) result }
     ensures sound { IsSound (S.facts store.new) live.now slots.new }
-    ensures same { IsTrue (S.facts store.old).honest → document_in (S.facts store.new).content live.now ≡ document_in (S.facts store.old).content live.now }
+    ensures same { IsTrue (S.facts store.old).honest
+        → document_in (S.facts store.new).content live.now ≡ document_in (S.facts store.old).content live.now }
+    // Where it is acknowledged.
     ensures turned { OnOk result ((slots.new.version ≡ 2) × (slots.new.spare ≡ SpareSlot.Stale)) }
+    // Refusals.
     ensures file { IsErrOf result Fault.File → Raised (S.facts store.old) (S.facts store.new) }
     ensures refusals { IfErr result (λ fault. fault ≡ Fault.File) }
 {

@@ -78,11 +78,16 @@ fn place_anew(alloc: Global, places: &[Option<Place>]) -> Result<PackedPlaces, A
 
 /// The image at a place, of the kind that the place has. Damaged where it is none; Memory, File.
 fn read_image<S: Store>(alloc: Global, store: &mut S, place: Place) -> Result<Vec<u8>, Fault>
+    // The store.
     ensures looks { Looks (S.facts store.old) (S.facts store.new) }
+    // The image.
     ensures size { IfOk result (λ image. length image.items ≡ place.extent.length) }
     ensures image { IfOk result (λ image. IsImageOf place.is_heap image.items) }
-    ensures bytes { IfOk result (λ image. IsTrue (S.facts store.old).honest → image.items ≡ bytes_in (S.facts store.old).content place.extent) }
-    ensures damaged { IsErrOf result Fault.Damaged → IsTrue (S.facts store.old).honest → IsImaged (S.facts store.old).content place → ⊥ }
+    ensures bytes { IfOk result (λ image. IsTrue (S.facts store.old).honest
+        → image.items ≡ bytes_in (S.facts store.old).content place.extent) }
+    // Refusals.
+    ensures damaged { IsErrOf result Fault.Damaged → IsTrue (S.facts store.old).honest
+        → IsImaged (S.facts store.old).content place → ⊥ }
     ensures file { IsErrOf result Fault.File → Raised (S.facts store.old) (S.facts store.new) }
     ensures refusals { IfErr result IsReadRefusal }
 {
@@ -101,13 +106,19 @@ fn copy_image<S: Store>(
     target: &mut S,
     page: u32,
 ) -> Result<(), Fault>
+    // The stores.
     ensures looks { Looks (S.facts source.old) (S.facts source.new) }
     ensures honest { (S.facts target.new).honest ≡ (S.facts target.old).honest }
     ensures failures { (S.facts target.old).failures ≤ (S.facts target.new).failures }
+    // The copy.
     ensures copied { OnOk result (IsTrue (S.facts target.old).honest
-        → IsCopied page place (IsTrue (S.facts source.old).honest) (S.facts source.old).content (S.facts target.old).content (S.facts target.new).content) }
-    ensures damaged { IsErrOf result Fault.Damaged → IsTrue (S.facts source.old).honest → IfSome place (IsImaged (S.facts source.old).content) → ⊥ }
-    ensures file { IsErrOf result Fault.File → Raised (S.facts source.old) (S.facts source.new) ⊎ Raised (S.facts target.old) (S.facts target.new) }
+        → IsCopied page place (IsTrue (S.facts source.old).honest) (S.facts source.old).content
+        (S.facts target.old).content (S.facts target.new).content) }
+    // Refusals.
+    ensures damaged { IsErrOf result Fault.Damaged → IsTrue (S.facts source.old).honest
+        → IfSome place (IsImaged (S.facts source.old).content) → ⊥ }
+    ensures file { IsErrOf result Fault.File → Raised (S.facts source.old) (S.facts source.new)
+        ⊎ Raised (S.facts target.old) (S.facts target.new) }
     ensures refusals { IfErr result IsReadRefusal }
 {
     let Some(place) = place else {
@@ -127,15 +138,22 @@ fn copy_images<S: Store>(
     places: &[Option<Place>],
     target: &mut S,
 ) -> Result<(), Fault>
+    // Asked of the caller.
     requires few { length places.now ≤ most_blocks }
     requires placed { All IsPlaced (block_extents places.now) }
+    // The stores.
     ensures looks { Looks (S.facts source.old) (S.facts source.new) }
     ensures honest { (S.facts target.new).honest ≡ (S.facts target.old).honest }
     ensures failures { (S.facts target.old).failures ≤ (S.facts target.new).failures }
+    // The copies.
     ensures copied { OnOk result (IsTrue (S.facts target.old).honest
-        → AreCopied (IsTrue (S.facts source.old).honest) (S.facts source.old).content places.now (S.facts target.old).content (S.facts target.new).content) }
-    ensures damaged { IsErrOf result Fault.Damaged → IsTrue (S.facts source.old).honest → AreImaged (S.facts source.old).content places.now → ⊥ }
-    ensures file { IsErrOf result Fault.File → Raised (S.facts source.old) (S.facts source.new) ⊎ Raised (S.facts target.old) (S.facts target.new) }
+        → AreCopied (IsTrue (S.facts source.old).honest) (S.facts source.old).content places.now
+        (S.facts target.old).content (S.facts target.new).content) }
+    // Refusals.
+    ensures damaged { IsErrOf result Fault.Damaged → IsTrue (S.facts source.old).honest
+        → AreImaged (S.facts source.old).content places.now → ⊥ }
+    ensures file { IsErrOf result Fault.File → Raised (S.facts source.old) (S.facts source.new)
+        ⊎ Raised (S.facts target.old) (S.facts target.new) }
     ensures refusals { IfErr result IsReadRefusal }
 {
     let mut page = FIRST_PAGE;
@@ -189,19 +207,26 @@ pub fn copy_document<S: Store>(
     live: &Table,
     target: &mut S,
 ) -> Result<NewFile, Fault>
+    // Asked of the caller.
     requires table { IsTable live.now }
     requires placed { All IsPlaced (block_extents live.now.places.items) }
+    // The stores.
     ensures looks { Looks (S.facts source.old) (S.facts source.new) }
     ensures honest { (S.facts target.new).honest ≡ (S.facts target.old).honest }
     ensures failures { (S.facts target.old).failures ≤ (S.facts target.new).failures }
+    // The new file.
     ensures sound { IfOk result (λ made. IsSound (S.facts target.new) made.live made.slots) }
     ensures one { IfOk result (λ made. IsOne (S.facts target.new).content made.live made.slots) }
     ensures map_block { IfOk result (λ made. made.live.map_block ≡ live.now.map_block) }
     ensures places { IfOk result (λ made. made.live.places.items ≡ laid_out 2 live.now.places.items) }
     ensures blocks { IfOk result (λ made. IsTrue (S.facts source.old).honest → IsTrue (S.facts target.old).honest
-        → blocks_in (S.facts target.new).content made.live.places.items ≡ blocks_in (S.facts source.old).content live.now.places.items) }
-    ensures damaged { IsErrOf result Fault.Damaged → IsTrue (S.facts source.old).honest → AreImaged (S.facts source.old).content live.now.places.items → ⊥ }
-    ensures file { IsErrOf result Fault.File → Raised (S.facts source.old) (S.facts source.new) ⊎ Raised (S.facts target.old) (S.facts target.new) }
+        → blocks_in (S.facts target.new).content made.live.places.items
+        ≡ blocks_in (S.facts source.old).content live.now.places.items) }
+    // Refusals.
+    ensures damaged { IsErrOf result Fault.Damaged → IsTrue (S.facts source.old).honest
+        → AreImaged (S.facts source.old).content live.now.places.items → ⊥ }
+    ensures file { IsErrOf result Fault.File → Raised (S.facts source.old) (S.facts source.new)
+        ⊎ Raised (S.facts target.old) (S.facts target.new) }
     ensures refusals { IfErr result IsReadRefusal }
 {
     let plan = plan_copy(alloc, live)?;

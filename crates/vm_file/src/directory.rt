@@ -42,12 +42,18 @@ pub fn read_directory<S: Store>(
     file_length: u64,
     extent: Extent,
 ) -> Result<Directory, Fault>
+    // Asked of the caller.
     requires { IsTrue (S.facts store.old).honest → file_length ≡ length (S.facts store.old).content }
+    // The store.
     ensures looks { Looks (S.facts store.old) (S.facts store.new) }
+    // The directory.
     ensures formed { IfOk result (λ d. is_directory version file_length (shown d) ≡ true) }
     ensures place { IfOk result (λ d. IsDirectoryPlace version file_length extent) }
-    ensures read { IfOk result (λ d. IsTrue (S.facts store.old).honest → directory_of version (S.facts store.old).content extent ≡ Some (shown d)) }
-    ensures damaged { IsErrOf result Fault.Damaged → IsTrue (S.facts store.old).honest → directory_of version (S.facts store.old).content extent ≡ None }
+    ensures read { IfOk result (λ d. IsTrue (S.facts store.old).honest
+        → directory_of version (S.facts store.old).content extent ≡ Some (shown d)) }
+    // Refusals.
+    ensures damaged { IsErrOf result Fault.Damaged → IsTrue (S.facts store.old).honest
+        → directory_of version (S.facts store.old).content extent ≡ None }
     ensures file { IsErrOf result Fault.File → Raised (S.facts store.old) (S.facts store.new) }
     ensures refusals { IfErr result IsReadRefusal }
 {
@@ -99,13 +105,16 @@ fn place_directory(
     space: Option<FreeSpace>,
     len: u32,
 ) -> Result<Extent, AllocError>
+    // Asked of the caller.
     requires formed { IsFormed live.now slots.now }
     requires some { 1 ≤ len }
     requires short { len ≤ longest_directory }
     requires known { IsKnown (block_extents live.now.places.items ++ kept_extents slots.now) space }
+    // The place.
     ensures size { IfOk result (λ extent. extent.length ≡ len) }
     ensures placed { IfOk result IsPlaced }
-    ensures clear { IfOk result (λ extent. IsClear (start_of extent) extent.length (block_extents live.now.places.items ++ kept_extents slots.now)) }
+    ensures clear { IfOk result
+        (λ extent. IsClear (start_of extent) extent.length (block_extents live.now.places.items ++ kept_extents slots.now)) }
 {
     let mut space = known_space(alloc, &live.places, slots, space)?;
     space.take(len)
@@ -139,12 +148,18 @@ pub fn write_pending<S: Store>(
     live: &Table,
     pending: &PendingDirectory,
 ) -> Result<(), Fault>
+    // Asked of the caller.
     requires sound { IsSound (S.facts store.old) live.now slots.now }
     requires pending { IsPendingDirectory live.now slots.now pending.now }
+    // The file.
     ensures passes { Passes S.facts (disk_of S.facts store.old slots.now) (disk_of S.facts store.new slots.now) }
     ensures sound { IsSound (S.facts store.new) live.now slots.now }
-    ensures same { IsTrue (S.facts store.old).honest → document_in (S.facts store.new).content live.now ≡ document_in (S.facts store.old).content live.now }
-    ensures written { OnOk result (IsTrue (S.facts store.old).honest → IsStored 2 (S.facts store.new).content pending.now.document) }
+    ensures same { IsTrue (S.facts store.old).honest
+        → document_in (S.facts store.new).content live.now ≡ document_in (S.facts store.old).content live.now }
+    // The directory.
+    ensures written { OnOk result (IsTrue (S.facts store.old).honest
+        → IsStored 2 (S.facts store.new).content pending.now.document) }
+    // Refusals.
     ensures file { IsErrOf result Fault.File → Raised (S.facts store.old) (S.facts store.new) }
     ensures refusals { IfErr result (λ fault. fault ≡ Fault.File) }
 {

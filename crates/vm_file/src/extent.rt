@@ -19,11 +19,15 @@ pub fn start_of(extent: Extent) -> u64
 
 /// The bytes of an extent. Memory, File.
 pub fn read_extent<S: Store>(alloc: Global, store: &mut S, extent: Extent) -> Result<Vec<u8>, Fault>
+    // The store.
     ensures honest { (S.facts store.new).honest ≡ (S.facts store.old).honest }
     ensures failures { (S.facts store.old).failures ≤ (S.facts store.new).failures }
     ensures rests { IsTrue (S.facts store.old).honest → Rests (S.facts store.old) (S.facts store.new) }
+    // The bytes.
     ensures size { IfOk result (λ bytes. length bytes.items ≡ extent.length) }
-    ensures bytes { IfOk result (λ bytes. IsTrue (S.facts store.old).honest → Holds (S.facts store.old).content (start_of extent) bytes.items) }
+    ensures bytes { IfOk result (λ bytes. IsTrue (S.facts store.old).honest
+        → Holds (S.facts store.old).content (start_of extent) bytes.items) }
+    // Refusals.
     ensures file { IsErrOf result Fault.File → Raised (S.facts store.old) (S.facts store.new) }
     ensures refusals { IfErr result IsSupply }
 {
@@ -42,18 +46,25 @@ pub fn write_extent<S: Store>(
     extent: Extent,
     bytes: &[u8],
 ) -> Result<(), StoreFault>
+    // Asked of the caller.
     requires size { length bytes.now ≡ extent.length }
     requires some { 1 ≤ extent.length }
     requires behind { 2 ≤ extent.page }
     requires clear { IsClear (start_of extent) extent.length (kept_extents slots.now) }
     requires kept { AreKept slots.now }
+    // The store.
     ensures honest { (S.facts store.new).honest ≡ (S.facts store.old).honest }
     ensures failures { Counts result (S.facts store.old) (S.facts store.new) }
-    ensures elsewhere { IsTrue (S.facts store.old).honest → Torn (start_of extent) extent.length (S.facts store.old).content (S.facts store.new).content }
+    // Crashes.
+    ensures elsewhere { IsTrue (S.facts store.old).honest
+        → Torn (start_of extent) extent.length (S.facts store.old).content (S.facts store.new).content }
     ensures crash { (file : List ℕ) → IsTrue (S.facts store.old).honest → Leaves (S.facts store.old) slots.now file
         → Outlives (S.facts store.old) (S.facts store.new) file (λ s. s ≡ slots.now) }
-    ensures leaves { (file : List ℕ) → IsTrue (S.facts store.old).honest → Leaves (S.facts store.old) slots.now file → Leaves (S.facts store.new) slots.now file }
-    ensures written { OnOk result (IsTrue (S.facts store.old).honest → Holds (S.facts store.new).content (start_of extent) bytes.now) }
+    ensures leaves { (file : List ℕ) → IsTrue (S.facts store.old).honest → Leaves (S.facts store.old) slots.now file
+        → Leaves (S.facts store.new) slots.now file }
+    // The bytes.
+    ensures written { OnOk result (IsTrue (S.facts store.old).honest
+        → Holds (S.facts store.new).content (start_of extent) bytes.now) }
 {
     store.write_at(start_of(extent), bytes)
 }

@@ -1,5 +1,5 @@
 //! A document file: its calls.
-ghost use Rattle.std.specs.Prelude.{◌≡◌, ◌≢◌, ◌⊎◌, ◌↔◌, ◌≤◌, ◌<◌, ◌+◌, ℕ, List, [], ◌∷◌, All, IsTrue, IfOk, IfErr, IfSome, OnOk, OnErr, IsErrOf, IsOk, MatchResult, Ok, Err, None, Some, true, false, is_some, length, map};
+ghost use Rattle.std.specs.Prelude.{if◌then◌else◌, ◌≡◌, ◌≢◌, ◌⊎◌, ◌↔◌, ◌≤◌, ◌<◌, ◌+◌, ℕ, List, [], ◌∷◌, All, IsTrue, IfOk, IfErr, IfSome, OnOk, OnErr, IsErrOf, IsOk, MatchResult, Ok, Err, None, Some, true, false, is_some, length, map};
 ghost use Rattle.std.specs.Option.{option_map};
 ghost use Rattle.std.specs.FinMap.{get, keys};
 ghost use Rattle.vm_store.specs.Facts.{Raised, Rests};
@@ -13,7 +13,7 @@ ghost use Rattle.vm_file.specs.Documents.{sequence_in, version_in};
 ghost use Rattle.vm_file.specs.Making.{first_directory, first_file, first_open, no_blocks};
 ghost use Rattle.vm_file.specs.Calls.{IsPut, put_all, remove_all, IsImageLength, IsSupply, IsOpenRefusal, last_sequence};
 
-use crate::commit::{commit_pair, commit_pending};
+use crate::commit::{commit_pair, commit_pending, saved_beside};
 use crate::copying::copy_document;
 use crate::directory::pending_directory_of;
 use crate::extent::read_extent;
@@ -23,8 +23,7 @@ use crate::member::Member;
 use crate::opening::open_slots;
 use crate::slot::Slots;
 use crate::table::{
-    Place, Table, both_of, copy_document_ref, copy_table, make_room, place_of, put_places,
-    remove_places, set_attributes,
+    Place, Table, both_of, change_places, copy_table, make_room, place_of, set_attributes,
 };
 use crate::writing::write_puts;
 use geos_model::{Attributes, Fault, VmHandle};
@@ -79,18 +78,28 @@ impl<S: Store> Model for VmFile<S> {
 impl<S: Store> VmFile<S> {
     /// Makes the store an empty document file, whatever was in it. Memory, before the store is called; File.
     pub fn create(alloc: Global, store: S) -> Result<VmFile<S>, Refused<S>>
+        // The store.
         ensures store { MatchResult result
             (λ file. Follows S.facts store file.disk.store)
             (λ refused. Follows S.facts store refused.store) }
-        ensures made { IfOk result (λ file. (file.document ≡ empty_document) × IsNewFile S.facts empty_document file.disk) }
+        // The file.
+        ensures made { IfOk result (λ file. (file.document ≡ empty_document)
+            × IsNewFile S.facts empty_document file.disk) }
         // The slots, of which the first one counts, and a directory of no block.
-        ensures bytes { IfOk result (λ file. IsTrue (S.facts store).honest → (S.facts file.disk.store).content ≡ first_file) }
-        ensures size { IfOk result (λ file. IsTrue (S.facts store).honest → length (S.facts file.disk.store).content ≡ 1040) }
-        ensures first { IfOk result (λ file. IsTrue (S.facts store).honest → open_slot (S.facts file.disk.store).content 0 ≡ Some first_open) }
-        ensures second { IfOk result (λ file. IsTrue (S.facts store).honest → open_slot (S.facts file.disk.store).content 1 ≡ None) }
-        ensures directory { IfOk result (λ file. IsTrue (S.facts store).honest → bytes_in (S.facts file.disk.store).content first_directory ≡ directory_text no_blocks) }
+        ensures bytes { IfOk result (λ file. IsTrue (S.facts store).honest
+            → (S.facts file.disk.store).content ≡ first_file) }
+        ensures size { IfOk result (λ file. IsTrue (S.facts store).honest
+            → length (S.facts file.disk.store).content ≡ 1040) }
+        ensures first { IfOk result (λ file. IsTrue (S.facts store).honest
+            → open_slot (S.facts file.disk.store).content 0 ≡ Some first_open) }
+        ensures second { IfOk result (λ file. IsTrue (S.facts store).honest
+            → open_slot (S.facts file.disk.store).content 1 ≡ None) }
+        ensures directory { IfOk result (λ file. IsTrue (S.facts store).honest
+            → bytes_in (S.facts file.disk.store).content first_directory ≡ directory_text no_blocks) }
+        // Refusals.
         ensures early { IfErr result (λ refused. refused.fault ≢ Fault.File → refused.store ≡ store) }
-        ensures file { IfErr result (λ refused. refused.fault ≡ Fault.File → Raised (S.facts store) (S.facts refused.store)) }
+        ensures file { IfErr result (λ refused. refused.fault ≡ Fault.File
+            → Raised (S.facts store) (S.facts refused.store)) }
         ensures refusals { IfErr result (λ refused. IsSupply refused.fault) }
     {
         let mut store = store;
@@ -110,6 +119,7 @@ impl<S: Store> VmFile<S> {
     /// Opens the file that a store has: NotDocument or Damaged where it is none, and the store comes back as it was.
     /// Where a crash left the store, what is read is on the disk from then on.
     pub fn open(alloc: Global, mut store: S) -> Result<VmFile<S>, Refused<S>>
+        // The store.
         ensures store { MatchResult result
             (λ file. Follows S.facts store file.disk.store)
             (λ refused. Follows S.facts store refused.store) }
@@ -117,14 +127,21 @@ impl<S: Store> VmFile<S> {
         ensures rests { IsTrue (S.facts store).honest → MatchResult result
             (λ file. Rests (S.facts store) (S.facts file.disk.store))
             (λ refused. Rests (S.facts store) (S.facts refused.store)) }
-        ensures stands { IfOk result (λ file. IsTrue (S.facts store).honest → stands (S.facts store).content ≡ Ok (file.disk.updated, file.disk.saved)) }
+        // The file.
+        ensures stands { IfOk result (λ file. IsTrue (S.facts store).honest
+            → stands (S.facts store).content ≡ Ok (file.disk.updated, file.disk.saved)) }
         ensures document { IfOk result (λ file. (file.document ≡ file.disk.updated) × (file.disk.attempted ≡ [])) }
-        ensures numbered { IfOk result (λ file. IsTrue (S.facts store).honest → sequence_in (S.facts store).content ≡ Some file.disk.sequence) }
-        ensures numbered_now { IfOk result (λ file. IsTrue (S.facts store).honest → Numbered (S.facts file.disk.store) file.disk.sequence) }
+        ensures numbered { IfOk result (λ file. IsTrue (S.facts store).honest
+            → sequence_in (S.facts store).content ≡ Some file.disk.sequence) }
+        ensures numbered_now { IfOk result (λ file. IsTrue (S.facts store).honest
+            → Numbered (S.facts file.disk.store) file.disk.sequence) }
         ensures settled { IfOk result (λ file. IsSettled S.facts file.disk) }
         ensures unmarked { IfOk result (λ file. file.disk.marked ≡ None) }
-        ensures refused { IfErr result (λ refused. IsTrue (S.facts store).honest → IsSupply refused.fault ⊎ (stands (S.facts store).content ≡ Err refused.fault)) }
-        ensures file { IfErr result (λ refused. refused.fault ≡ Fault.File → Raised (S.facts store) (S.facts refused.store)) }
+        // Refusals.
+        ensures refused { IfErr result (λ refused. IsTrue (S.facts store).honest
+            → IsSupply refused.fault ⊎ (stands (S.facts store).content ≡ Err refused.fault)) }
+        ensures file { IfErr result (λ refused. refused.fault ≡ Fault.File
+            → Raised (S.facts store) (S.facts refused.store)) }
         ensures refusals { IfErr result (λ refused. IsOpenRefusal refused.fault) }
     {
         match open_slots(alloc, &mut store) {
@@ -148,7 +165,8 @@ impl<S: Store> VmFile<S> {
         ensures handle { IfSome result (λ place. is_vm_handle block.0 ≡ true) }
         ensures length { IfSome result (λ place. IsImageLength place.extent.length) }
         ensures image { IfSome result (λ place. IsTrue (S.facts self.now.disk.store).honest
-            → bytes_in (S.facts self.now.disk.store).content place.extent ≡ image (block_at self.now.document block.0).body) }
+            → bytes_in (S.facts self.now.disk.store).content place.extent
+            ≡ image (block_at self.now.document block.0).body) }
     {
         place_of(&self.live.places, block)
     }
@@ -182,7 +200,8 @@ impl<S: Store> VmFile<S> {
         requires { is_live self.old.disk.saved block.0 ≡ true }
         ensures reads { OnlyReads S.facts self.old self.new }
         ensures saved { Drifts (S.facts self.old.disk.store).honest self.old.disk.saved self.new.disk.saved }
-        ensures image { IfOk result (λ bytes. IsTrue (S.facts self.old.disk.store).honest → bytes.items ≡ image (block_at self.old.disk.saved block.0).body) }
+        ensures image { IfOk result (λ bytes. IsTrue (S.facts self.old.disk.store).honest
+            → bytes.items ≡ image (block_at self.old.disk.saved block.0).body) }
         ensures fails { Fails S.facts NoFault self.old.disk.store self.new.disk.store result }
     {
         match place_of(&self.slots.committed.saved.table.places, block) {
@@ -230,7 +249,8 @@ impl<S: Store> VmFile<S> {
     pub fn read_block(&mut self, block: VmHandle) -> Result<Vec<u8>, Fault>
         requires { is_live self.old.document block.0 ≡ true }
         ensures reads { OnlyReads S.facts self.old self.new }
-        ensures image { IfOk result (λ bytes. IsTrue (S.facts self.old.disk.store).honest → bytes.items ≡ image (block_at self.old.document block.0).body) }
+        ensures image { IfOk result (λ bytes. IsTrue (S.facts self.old.disk.store).honest
+            → bytes.items ≡ image (block_at self.old.document block.0).body) }
         ensures size { IfOk result (λ bytes. IsImageLength (length bytes.items)) }
         ensures fails { Fails S.facts NoFault self.old.disk.store self.new.disk.store result }
     {
@@ -261,14 +281,18 @@ impl<S: Store> VmFile<S> {
     /// refused nothing of that is done. Memory, before anything is written; File. With nothing to write it takes no memory,
     /// calls no store and isn't refused.
     pub fn put_blocks(&mut self, puts: &[Member], removals: &[VmHandle]) -> Result<(), Fault>
+        // Asked of the caller.
         requires puts { All IsPut puts.now }
         requires few { length puts.now ≤ most_blocks }
         requires removals { All (λ h. h.0 ≢ self.old.document.map_block) removals.now }
+        // The document.
         ensures keeps { MatchResult result
             (λ _. KeepsFile S.facts (remove_all removals.now (put_all puts.now self.old.document)) self.old self.new)
             (λ _. KeepsFile S.facts self.old.document self.old self.new) }
+        // Refusals.
         ensures early { IfErr result (λ fault. fault ≢ Fault.File → self.new ≡ self.old) }
-        ensures removals_alone { puts.now ≡ [] → IsOk result × (self.new ≡ record self.old { document = remove_all removals.now self.old.document }) }
+        ensures removals_alone { puts.now ≡ []
+            → IsOk result × (self.new ≡ record self.old { document = remove_all removals.now self.old.document }) }
         ensures fails { Fails S.facts NoFault self.old.disk.store self.new.disk.store result }
     {
         let bounds = widened(self.bounds, puts, removals);
@@ -282,14 +306,14 @@ impl<S: Store> VmFile<S> {
             puts,
         )?;
         let mut space = written.space;
-        put_places(
+        change_places(
             &mut self.live.places,
             puts,
             &written.extents,
+            removals,
             &self.slots,
             &mut space,
         );
-        remove_places(&mut self.live.places, removals, &self.slots, &mut space);
         self.space = space;
         self.bounds = tightened(&self.live.places, bounds);
         Ok(())
@@ -298,7 +322,8 @@ impl<S: Store> VmFile<S> {
     /// Marks the document as it is now, in place of one that was marked, so that `roll_back` can bring it back: until then nothing is
     /// written over its images. Memory.
     pub fn mark(&mut self) -> Result<(), AllocError>
-        ensures ok { OnOk result (self.new ≡ record self.old { disk = record self.old.disk { marked = Some self.old.document } }) }
+        ensures ok { OnOk result
+            (self.new ≡ record self.old { disk = record self.old.disk { marked = Some self.old.document } }) }
         ensures err { OnErr result (self.new ≡ self.old) }
     {
         let marked = copy_table(self.alloc, &self.live)?;
@@ -332,22 +357,31 @@ impl<S: Store> VmFile<S> {
     /// done; Memory, before anything is written; File.
     pub fn commit_update(&mut self) -> Result<(), Fault>
         ensures commit { IsCommit S.facts (self.old.document, self.old.disk.saved) self.old.document self.old self.new result }
-        ensures version { OnOk result (IsTrue (S.facts self.new.disk.store).honest → version_in (S.facts self.new.disk.store).content ≡ Some 2) }
+        ensures version { OnOk result (IsTrue (S.facts self.new.disk.store).honest
+            → version_in (S.facts self.new.disk.store).content ≡ Some 2) }
         ensures early { IfErr result (λ fault. fault ≢ Fault.File → self.new ≡ self.old) }
         ensures fails { Fails S.facts IsWorn self.old.disk.store self.new.disk.store result }
     {
-        if self.slots.sequence == u64::MAX {
-            return Err(Fault::Worn);
-        }
-        let pending = pending_directory_of(self.alloc, &self.live, &self.slots, self.space.take())?;
-        let saved = copy_document_ref(self.alloc, &self.slots.committed.saved)?;
-        commit_pending(&mut self.store, &mut self.slots, &self.live, pending, saved)
+        self.commit_live(false)
     }
 
     /// Makes the document as it is now the updated and the saved one. Refused as an update is.
     pub fn commit_save(&mut self) -> Result<(), Fault>
         ensures commit { IsCommit S.facts (self.old.document, self.old.document) self.old.document self.old self.new result }
-        ensures version { OnOk result (IsTrue (S.facts self.new.disk.store).honest → version_in (S.facts self.new.disk.store).content ≡ Some 2) }
+        ensures version { OnOk result (IsTrue (S.facts self.new.disk.store).honest
+            → version_in (S.facts self.new.disk.store).content ≡ Some 2) }
+        ensures early { IfErr result (λ fault. fault ≢ Fault.File → self.new ≡ self.old) }
+        ensures fails { Fails S.facts IsWorn self.old.disk.store self.new.disk.store result }
+    {
+        self.commit_live(true)
+    }
+
+    // Makes the document as it is now the updated one, and the saved one too where it `saves`.
+    fn commit_live(&mut self, saves: bool) -> Result<(), Fault>
+        ensures commit { IsCommit S.facts (self.old.document, if saves then self.old.document else self.old.disk.saved)
+            self.old.document self.old self.new result }
+        ensures version { OnOk result (IsTrue (S.facts self.new.disk.store).honest
+            → version_in (S.facts self.new.disk.store).content ≡ Some 2) }
         ensures early { IfErr result (λ fault. fault ≢ Fault.File → self.new ≡ self.old) }
         ensures fails { Fails S.facts IsWorn self.old.disk.store self.new.disk.store result }
     {
@@ -355,14 +389,16 @@ impl<S: Store> VmFile<S> {
             return Err(Fault::Worn);
         }
         let pending = pending_directory_of(self.alloc, &self.live, &self.slots, self.space.take())?;
-        let saved = copy_document_ref(self.alloc, &pending.document)?;
+        let saved = saved_beside(self.alloc, &pending, &self.slots, saves)?;
         commit_pending(&mut self.store, &mut self.slots, &self.live, pending, saved)
     }
 
     /// Makes the saved document the updated one and the document as it is now. Refused as an update is.
     pub fn commit_revert(&mut self) -> Result<(), Fault>
-        ensures commit { IsCommit S.facts (self.old.disk.saved, self.old.disk.saved) self.old.disk.saved self.old self.new result }
-        ensures version { OnOk result (IsTrue (S.facts self.new.disk.store).honest → version_in (S.facts self.new.disk.store).content ≡ Some 2) }
+        ensures commit { IsCommit S.facts (self.old.disk.saved, self.old.disk.saved) self.old.disk.saved
+            self.old self.new result }
+        ensures version { OnOk result (IsTrue (S.facts self.new.disk.store).honest
+            → version_in (S.facts self.new.disk.store).content ≡ Some 2) }
         ensures early { IfErr result (λ fault. fault ≢ Fault.File → self.new ≡ self.old) }
         ensures fails { Fails S.facts IsWorn self.old.disk.store self.new.disk.store result }
     {
@@ -388,13 +424,19 @@ impl<S: Store> VmFile<S> {
         ensures target { MatchResult result
             (λ file. Follows S.facts target file.disk.store)
             (λ refused. Follows S.facts target refused.store) }
-        ensures copied { IfOk result (λ file. IsTrue (S.facts self.old.disk.store).honest → IsTrue (S.facts target).honest → file.document ≡ self.old.document) }
+        // The copy.
+        ensures copied { IfOk result (λ file. IsTrue (S.facts self.old.disk.store).honest
+            → IsTrue (S.facts target).honest → file.document ≡ self.old.document) }
         ensures handles { IfOk result (λ file. Drifts false self.old.document file.document) }
         ensures made { IfOk result (λ file. IsNewFile S.facts file.document file.disk) }
-        ensures version { IfOk result (λ file. IsTrue (S.facts file.disk.store).honest → version_in (S.facts file.disk.store).content ≡ Some 2) }
+        ensures version { IfOk result (λ file. IsTrue (S.facts file.disk.store).honest
+            → version_in (S.facts file.disk.store).content ≡ Some 2) }
+        // Refusals.
         ensures file { IfErr result (λ refused. refused.fault ≡ Fault.File
-            → Raised (S.facts self.old.disk.store) (S.facts self.new.disk.store) ⊎ Raised (S.facts target) (S.facts refused.store)) }
-        ensures damaged { IfErr result (λ refused. refused.fault ≡ Fault.Damaged → IsTrue (S.facts self.old.disk.store).honest → ⊥) }
+            → Raised (S.facts self.old.disk.store) (S.facts self.new.disk.store)
+            ⊎ Raised (S.facts target) (S.facts refused.store)) }
+        ensures damaged { IfErr result (λ refused. refused.fault ≡ Fault.Damaged
+            → IsTrue (S.facts self.old.disk.store).honest → ⊥) }
         ensures refusals { IfErr result (λ refused. IsSupply refused.fault ⊎ (refused.fault ≡ Fault.Damaged)) }
     {
         let mut target = target;

@@ -6,14 +6,11 @@ ghost use Rattle.geos_model.specs.Heap.{capacity};
 ghost use Rattle.geos_model.specs.Image.{image, body_of};
 ghost use Rattle.geos_model.specs.declared.command.Body.TheVariants as bodies;
 
-use crate::kind::image_kind;
+use crate::kind::{RAW, image_kind};
 use geos_model::Bytes;
 use lmem_heap::Heap;
 use std::alloc::{AllocError, Global};
 use std::marker::Model;
-
-// The first byte of an image of a raw body.
-const RAW: u8 = 0;
 
 #[tactic(auto, unfolding(geos_model::specs::Image::image))]
 fn raw_image(alloc: Global, bytes: &[u8]) -> Result<Vec<u8>, AllocError>

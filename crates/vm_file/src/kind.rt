@@ -14,6 +14,9 @@ use std::alloc::Global;
 use vm_space::LONGEST_IMAGE;
 use vm_store::Store;
 
+/// The first byte of an image of a raw body.
+pub const RAW: u8 = 0;
+
 /// Whether bytes are the image of a heap, and not of a raw body. None where they are of neither.
 pub fn image_kind(bytes: &[u8]) -> Option<bool>
     ensures { MatchOption result (body_of bytes.now ≡ None) (λ is_heap. IsImageOf is_heap bytes.now) }
@@ -21,7 +24,7 @@ pub fn image_kind(bytes: &[u8]) -> Option<bool>
     if bytes.is_empty() {
         return None;
     }
-    let is_heap = bytes[0] != 0;
+    let is_heap = bytes[0] != RAW;
     let is_image = if is_heap {
         Heap::is_image(bytes)
     } else {
@@ -33,8 +36,10 @@ pub fn image_kind(bytes: &[u8]) -> Option<bool>
 /// Whether the image in an extent is that of a heap. Damaged, Memory, File.
 pub fn read_kind<S: Store>(alloc: Global, store: &mut S, extent: Extent) -> Result<bool, Fault>
     ensures looks { Looks (S.facts store.old) (S.facts store.new) }
-    ensures imaged { IfOk result (λ is_heap. IsTrue (S.facts store.old).honest → IsImageOf is_heap (bytes_in (S.facts store.old).content extent)) }
-    ensures damaged { IsErrOf result Fault.Damaged → IsTrue (S.facts store.old).honest → body_of (bytes_in (S.facts store.old).content extent) ≡ None }
+    ensures imaged { IfOk result (λ is_heap. IsTrue (S.facts store.old).honest
+        → IsImageOf is_heap (bytes_in (S.facts store.old).content extent)) }
+    ensures damaged { IsErrOf result Fault.Damaged → IsTrue (S.facts store.old).honest
+        → body_of (bytes_in (S.facts store.old).content extent) ≡ None }
     ensures file { IsErrOf result Fault.File → Raised (S.facts store.old) (S.facts store.new) }
     ensures refusals { IfErr result IsReadRefusal }
 {
@@ -44,7 +49,8 @@ pub fn read_kind<S: Store>(alloc: Global, store: &mut S, extent: Extent) -> Resu
 
 /// The kind of the image of a place that is known, if it lies in this extent.
 pub fn known_kind(known: &[Option<Place>], index: usize, extent: Extent) -> Option<bool>
-    ensures { IfSome result (λ is_heap. (file : List ℕ) → AreImaged file known.now → IsImageOf is_heap (bytes_in file extent)) }
+    ensures { IfSome result (λ is_heap. (file : List ℕ) → AreImaged file known.now
+        → IsImageOf is_heap (bytes_in file extent)) }
 {
     match known.get(index) {
         Some(Some(place)) => {

@@ -22,7 +22,8 @@ pub fn passing_law<S: Store>()
 /// What an honest store has now stands for the updated and the saved document of the last acknowledged commit, where no pair of
 /// a commit that failed may be read.
 pub fn content_law<S: Store>()
-    ensures { (disk : Disk S) → IsSettled S.facts disk → (IsTrue (S.facts disk.store).honest → disk.attempted ≡ []) → ContentStands S.facts disk }
+    ensures { (disk : Disk S) → IsSettled S.facts disk → (IsTrue (S.facts disk.store).honest → disk.attempted ≡ [])
+        → ContentStands S.facts disk }
 {}
 
 /// The bytes of a file that was just created, one by one.

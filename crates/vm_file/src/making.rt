@@ -71,7 +71,8 @@ fn write_slots<S: Store>(store: &mut S, directory: Extent) -> Result<(), StoreFa
     ensures honest { (S.facts store.new).honest ≡ (S.facts store.old).honest }
     ensures failures { Counts result (S.facts store.old) (S.facts store.new) }
     ensures first { OnOk result (IsTrue (S.facts store.old).honest
-        → (c : List ℕ) × Puts 0 (first_slot directory) (S.facts store.old).content c × Puts 512 slot_mark c (S.facts store.new).content) }
+        → (c : List ℕ) × Puts 0 (first_slot directory) (S.facts store.old).content c
+        × Puts 512 slot_mark c (S.facts store.new).content) }
     ensures durable { OnOk result (IsTrue (S.facts store.old).honest → IsDurable (S.facts store.new)) }
 {
     store.write_at(0, &first_slot_bytes(directory))?;
@@ -88,7 +89,8 @@ fn write_with_gate_shut<S: Store>(
     requires behind { 2 ≤ directory.page }
     ensures honest { (S.facts store.new).honest ≡ (S.facts store.old).honest }
     ensures failures { Counts result (S.facts store.old) (S.facts store.new) }
-    ensures laid { OnOk result (IsTrue (S.facts store.old).honest → IsLaid 0 directory text.now (S.facts store.old).content (S.facts store.new).content) }
+    ensures laid { OnOk result (IsTrue (S.facts store.old).honest
+        → IsLaid 0 directory text.now (S.facts store.old).content (S.facts store.new).content) }
     ensures durable { OnOk result (IsTrue (S.facts store.old).honest → IsDurable (S.facts store.new)) }
 {
     store.write_at(start_of(directory), text)?;
@@ -99,7 +101,8 @@ fn write_with_gate_shut<S: Store>(
 fn open_first<S: Store>(store: &mut S) -> Result<(), StoreFault>
     ensures honest { (S.facts store.new).honest ≡ (S.facts store.old).honest }
     ensures failures { Counts result (S.facts store.old) (S.facts store.new) }
-    ensures opened { OnOk result (IsTrue (S.facts store.old).honest → Puts 4 (1 ∷ []) (S.facts store.old).content (S.facts store.new).content) }
+    ensures opened { OnOk result (IsTrue (S.facts store.old).honest
+        → Puts 4 (1 ∷ []) (S.facts store.old).content (S.facts store.new).content) }
     ensures durable { OnOk result (IsTrue (S.facts store.old).honest → IsDurable (S.facts store.new)) }
 {
     store.write_at(4, &[1])?;
@@ -112,7 +115,8 @@ pub fn initialize<S: Store>(store: &mut S, directory: Extent, text: &[u8]) -> Re
     requires behind { 2 ≤ directory.page }
     ensures honest { (S.facts store.new).honest ≡ (S.facts store.old).honest }
     ensures failures { Counts result (S.facts store.old) (S.facts store.new) }
-    ensures laid { OnOk result (IsTrue (S.facts store.old).honest → IsLaid 1 directory text.now (S.facts store.old).content (S.facts store.new).content) }
+    ensures laid { OnOk result (IsTrue (S.facts store.old).honest
+        → IsLaid 1 directory text.now (S.facts store.old).content (S.facts store.new).content) }
     ensures durable { OnOk result (IsTrue (S.facts store.old).honest → IsDurable (S.facts store.new)) }
 {
     write_with_gate_shut(store, directory, text)?;
@@ -135,14 +139,17 @@ pub fn empty<S: Store>(store: &mut S) -> Result<(), Fault>
 
 /// Makes the store a file of no block, of 1,040 bytes. All memory is taken before the store is called.
 pub fn make_empty<S: Store>(alloc: Global, store: &mut S) -> Result<NewFile, Fault>
+    // The store.
     ensures honest { (S.facts store.new).honest ≡ (S.facts store.old).honest }
     ensures failures { (S.facts store.old).failures ≤ (S.facts store.new).failures }
+    // The file.
     ensures sound { IfOk result (λ made. IsSound (S.facts store.new) made.live made.slots) }
     ensures map_block { IfOk result (λ made. made.live.map_block ≡ 0) }
     ensures places { IfOk result (λ made. made.live.places.items ≡ []) }
     ensures first { IfOk result (λ made. IsFirst first_directory made.live made.slots) }
     ensures bytes { IfOk result (λ made. IsTrue (S.facts store.old).honest → (S.facts store.new).content ≡ first_file) }
     ensures size { IfOk result (λ made. IsTrue (S.facts store.old).honest → length (S.facts store.new).content ≡ 1040) }
+    // Refusals.
     ensures early { IfErr result (λ fault. fault ≢ Fault.File → store.new ≡ store.old) }
     ensures file { IsErrOf result Fault.File → Raised (S.facts store.old) (S.facts store.new) }
     ensures refusals { IfErr result IsSupply }

@@ -41,7 +41,8 @@ impl SavedBlock {
     ) -> Result<SavedBlock, AllocError>
         requires size { size ≤ capacity }
         requires typed { attributes.heap_type ≡ 0 }
-        ensures { IfOk result (λ saved. saved_block saved ≡ record { attributes = attributes; body = bodies.Raw (replicate size 0) }) }
+        ensures { IfOk result
+            (λ saved. saved_block saved ≡ record { attributes = attributes; body = bodies.Raw (replicate size 0) }) }
     {
         Ok(SavedBlock::new(attributes, Image::zeros(alloc, size)?))
     }
@@ -50,14 +51,16 @@ impl SavedBlock {
     pub fn raw(attributes: Attributes, bytes: Vec<u8>) -> Result<SavedBlock, AllocError>
         requires size { length bytes.items ≤ capacity }
         requires typed { attributes.heap_type ≡ 0 }
-        ensures { IfOk result (λ saved. saved_block saved ≡ record { attributes = attributes; body = bodies.Raw bytes.items }) }
+        ensures { IfOk result
+            (λ saved. saved_block saved ≡ record { attributes = attributes; body = bodies.Raw bytes.items }) }
     {
         Ok(SavedBlock::new(attributes, Image::from_raw(bytes)?))
     }
 
     /// A block with an empty heap.
     pub fn empty_heap(alloc: Global, attributes: Attributes) -> Result<SavedBlock, AllocError>
-        ensures { IfOk result (λ saved. saved_block saved ≡ record { attributes = attributes; body = bodies.Heap empty }) }
+        ensures { IfOk result
+            (λ saved. saved_block saved ≡ record { attributes = attributes; body = bodies.Heap empty }) }
     {
         Ok(SavedBlock::new(attributes, Image::empty_heap(alloc)?))
     }

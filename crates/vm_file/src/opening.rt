@@ -24,12 +24,18 @@ fn read_place<S: Store>(
     entry: Entry,
     known: &[Option<Place>],
 ) -> Result<Place, Fault>
+    // Asked of the caller.
     requires { IsTrue (S.facts store.old).honest → AreImaged (S.facts store.old).content known.now }
+    // The store.
     ensures looks { Looks (S.facts store.old) (S.facts store.new) }
+    // The place.
     ensures place { IfOk result (λ place. (place.attributes ≡ entry.attributes) × (place.extent ≡ entry.extent)) }
     ensures typed { IfOk result (λ place. IsTyped place.is_heap place.attributes) }
-    ensures imaged { IfOk result (λ place. IsTrue (S.facts store.old).honest → IsImaged (S.facts store.old).content place) }
-    ensures damaged { IsErrOf result Fault.Damaged → IsTrue (S.facts store.old).honest → block_of (S.facts store.old).content entry ≡ None }
+    ensures imaged { IfOk result (λ place. IsTrue (S.facts store.old).honest
+        → IsImaged (S.facts store.old).content place) }
+    // Refusals.
+    ensures damaged { IsErrOf result Fault.Damaged → IsTrue (S.facts store.old).honest
+        → block_of (S.facts store.old).content entry ≡ None }
     ensures file { IsErrOf result Fault.File → Raised (S.facts store.old) (S.facts store.new) }
     ensures refusals { IfErr result IsReadRefusal }
 {
@@ -76,16 +82,22 @@ fn read_places<S: Store>(
     entries: &[Entry],
     known: &[Option<Place>],
 ) -> Result<Vec<Option<Place>>, Fault>
+    // Asked of the caller.
     requires rising { is_rising 0 entries.now ≡ true }
     requires handles { All (λ e. e.handle.0 ≤ MOST_ENTRIES) entries.now }
     requires short { All (λ e. e.extent.length ≤ longest_image) entries.now }
     requires known { IsTrue (S.facts store.old).honest → AreImaged (S.facts store.old).content known.now }
+    // The store.
     ensures looks { Looks (S.facts store.old) (S.facts store.new) }
+    // The places.
     ensures size { IfOk result (λ places. length places.items ≤ MOST_ENTRIES) }
     ensures entries { IfOk result (λ places. entries_of 1 places.items ≡ entries.now) }
     ensures places { IfOk result (λ places. ArePlaces places.items) }
-    ensures imaged { IfOk result (λ places. IsTrue (S.facts store.old).honest → AreImaged (S.facts store.old).content places.items) }
-    ensures damaged { IsErrOf result Fault.Damaged → IsTrue (S.facts store.old).honest → blocks_of (S.facts store.old).content entries.now ≡ None }
+    ensures imaged { IfOk result (λ places. IsTrue (S.facts store.old).honest
+        → AreImaged (S.facts store.old).content places.items) }
+    // Refusals.
+    ensures damaged { IsErrOf result Fault.Damaged → IsTrue (S.facts store.old).honest
+        → blocks_of (S.facts store.old).content entries.now ≡ None }
     ensures file { IsErrOf result Fault.File → Raised (S.facts store.old) (S.facts store.new) }
     ensures refusals { IfErr result IsReadRefusal }
 {
@@ -106,13 +118,19 @@ fn read_document<S: Store>(
     extent: Extent,
     known: &[Option<Place>],
 ) -> Result<DocumentRef, Fault>
+    // Asked of the caller.
     requires length { IsTrue (S.facts store.old).honest → file_length ≡ length (S.facts store.old).content }
     requires known { IsTrue (S.facts store.old).honest → AreImaged (S.facts store.old).content known.now }
+    // The store.
     ensures looks { Looks (S.facts store.old) (S.facts store.new) }
+    // The document.
     ensures directory { IfOk result (λ stored. stored.directory ≡ extent) }
     ensures formed { IfOk result (λ stored. IsRead file_length stored) }
-    ensures stored { IfOk result (λ stored. IsTrue (S.facts store.old).honest → IsStored version (S.facts store.old).content stored) }
-    ensures damaged { IsErrOf result Fault.Damaged → IsTrue (S.facts store.old).honest → document_at version (S.facts store.old).content extent ≡ None }
+    ensures stored { IfOk result (λ stored. IsTrue (S.facts store.old).honest
+        → IsStored version (S.facts store.old).content stored) }
+    // Refusals.
+    ensures damaged { IsErrOf result Fault.Damaged → IsTrue (S.facts store.old).honest
+        → document_at version (S.facts store.old).content extent ≡ None }
     ensures file { IsErrOf result Fault.File → Raised (S.facts store.old) (S.facts store.new) }
     ensures refusals { IfErr result IsReadRefusal }
 {
@@ -136,14 +154,20 @@ fn read_saved<S: Store>(
     extent: Extent,
     updated: &DocumentRef,
 ) -> Result<DocumentRef, Fault>
+    // Asked of the caller.
     requires length { IsTrue (S.facts store.old).honest → file_length ≡ length (S.facts store.old).content }
     requires formed { IsRead file_length updated.now }
     requires stored { IsTrue (S.facts store.old).honest → IsStored version (S.facts store.old).content updated.now }
+    // The store.
     ensures looks { Looks (S.facts store.old) (S.facts store.new) }
+    // The document.
     ensures directory { IfOk result (λ stored. stored.directory ≡ extent) }
     ensures formed { IfOk result (λ stored. IsRead file_length stored) }
-    ensures stored { IfOk result (λ stored. IsTrue (S.facts store.old).honest → IsStored version (S.facts store.old).content stored) }
-    ensures damaged { IsErrOf result Fault.Damaged → IsTrue (S.facts store.old).honest → document_at version (S.facts store.old).content extent ≡ None }
+    ensures stored { IfOk result (λ stored. IsTrue (S.facts store.old).honest
+        → IsStored version (S.facts store.old).content stored) }
+    // Refusals.
+    ensures damaged { IsErrOf result Fault.Damaged → IsTrue (S.facts store.old).honest
+        → document_at version (S.facts store.old).content extent ≡ None }
     ensures file { IsErrOf result Fault.File → Raised (S.facts store.old) (S.facts store.new) }
     ensures refusals { IfErr result IsReadRefusal }
 {
@@ -171,13 +195,21 @@ fn read_pair<S: Store>(
     file_length: u64,
     slot: Slot,
 ) -> Result<Pair, Fault>
+    // Asked of the caller.
     requires { IsTrue (S.facts store.old).honest → file_length ≡ length (S.facts store.old).content }
+    // The store.
     ensures looks { Looks (S.facts store.old) (S.facts store.new) }
-    ensures directories { IfOk result (λ pair. (pair.updated.directory ≡ slot.working) × (pair.saved.directory ≡ slot.saved)) }
+    // The documents.
+    ensures directories { IfOk result (λ pair. (pair.updated.directory ≡ slot.working)
+        × (pair.saved.directory ≡ slot.saved)) }
     ensures formed { IfOk result (λ pair. AreRead file_length pair) }
-    ensures stored { IfOk result (λ pair. IsTrue (S.facts store.old).honest → AreStored slot.version (S.facts store.old).content pair) }
+    ensures stored { IfOk result (λ pair. IsTrue (S.facts store.old).honest
+        → AreStored slot.version (S.facts store.old).content pair) }
+    // Refusals.
     ensures damaged { IsErrOf result Fault.Damaged → IsTrue (S.facts store.old).honest
-        → both (document_at slot.version (S.facts store.old).content slot.working) (document_at slot.version (S.facts store.old).content slot.saved) ≡ Err Fault.Damaged }
+        → both (document_at slot.version (S.facts store.old).content slot.working)
+        (document_at slot.version (S.facts store.old).content slot.saved)
+        ≡ Err Fault.Damaged }
     ensures file { IsErrOf result Fault.File → Raised (S.facts store.old) (S.facts store.new) }
     ensures refusals { IfErr result IsReadRefusal }
 {
@@ -204,8 +236,10 @@ fn read_length<S: Store>(store: &mut S) -> Result<u64, Fault>
 fn read_slots<S: Store>(alloc: Global, store: &mut S) -> Result<Slots, Fault>
     ensures looks { Looks (S.facts store.old) (S.facts store.new) }
     ensures formed { IfOk result (λ slots. IsReadSlots slots) }
-    ensures whole { IfOk result (λ slots. IsTrue (S.facts store.old).honest → IsReadWhole (S.facts store.old).content slots) }
-    ensures refused { IfErr result (λ fault. IsTrue (S.facts store.old).honest → IsSupply fault ⊎ (stands (S.facts store.old).content ≡ Err fault)) }
+    ensures whole { IfOk result (λ slots. IsTrue (S.facts store.old).honest
+        → IsReadWhole (S.facts store.old).content slots) }
+    ensures refused { IfErr result (λ fault. IsTrue (S.facts store.old).honest
+        → IsSupply fault ⊎ (stands (S.facts store.old).content ≡ Err fault)) }
     ensures file { IsErrOf result Fault.File → Raised (S.facts store.old) (S.facts store.new) }
     ensures refusals { IfErr result IsOpenRefusal }
 {
@@ -239,14 +273,21 @@ fn sync<S: Store>(store: &mut S) -> Result<(), Fault>
 
 /// Reads what the store has, and syncs it: what was read is on the disk from then on. NotDocument, Damaged, Memory, File.
 pub fn open_slots<S: Store>(alloc: Global, store: &mut S) -> Result<(Slots, Table), Fault>
+    // The store.
     ensures looks { Looks (S.facts store.old) (S.facts store.new) }
+    // What is read.
     ensures sound { IfOk result (λ p. IsSound (S.facts store.new) p.1 p.0) }
-    ensures live { IfOk result (λ p. (p.1.map_block ≡ p.0.committed.updated.table.map_block) × (p.1.places.items ≡ p.0.committed.updated.table.places.items)) }
+    ensures live { IfOk result (λ p. (p.1.map_block ≡ p.0.committed.updated.table.map_block)
+        × (p.1.places.items ≡ p.0.committed.updated.table.places.items)) }
     ensures alone { IfOk result (λ p. (p.0.spare ≡ SpareSlot.Shut) ⊎ (p.0.spare ≡ SpareSlot.Stale)) }
     ensures unmarked { IfOk result (λ p. p.0.marked ≡ None) }
-    ensures stands { IfOk result (λ p. IsTrue (S.facts store.old).honest → stands (S.facts store.old).content ≡ Ok (documents_in (S.facts store.old).content p.0.committed)) }
-    ensures numbered { IfOk result (λ p. IsTrue (S.facts store.old).honest → sequence_in (S.facts store.old).content ≡ Some p.0.sequence) }
-    ensures refused { IfErr result (λ fault. IsTrue (S.facts store.old).honest → IsSupply fault ⊎ (stands (S.facts store.old).content ≡ Err fault)) }
+    ensures stands { IfOk result (λ p. IsTrue (S.facts store.old).honest
+        → stands (S.facts store.old).content ≡ Ok (documents_in (S.facts store.old).content p.0.committed)) }
+    ensures numbered { IfOk result (λ p. IsTrue (S.facts store.old).honest
+        → sequence_in (S.facts store.old).content ≡ Some p.0.sequence) }
+    // Refusals.
+    ensures refused { IfErr result (λ fault. IsTrue (S.facts store.old).honest
+        → IsSupply fault ⊎ (stands (S.facts store.old).content ≡ Err fault)) }
     ensures file { IsErrOf result Fault.File → Raised (S.facts store.old) (S.facts store.new) }
     ensures refusals { IfErr result IsOpenRefusal }
 {

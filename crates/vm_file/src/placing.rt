@@ -120,8 +120,10 @@ pub fn place_images(
     puts: &[Member],
 ) -> Result<Vec<Extent>, AllocError>
     requires few { space.old.count + length puts.now ≤ MOST_EXTENTS }
-    ensures found { IfOk result (λ extents. (taken : List Extent) → AreTaken taken space.old → AreFor taken puts.now (length puts.now) extents.items) }
-    ensures taken { IfOk result (λ extents. (taken : List Extent) → AreTaken taken space.old → AreTaken (extents.items ++ taken) space.new) }
+    ensures found { IfOk result (λ extents. (taken : List Extent) → AreTaken taken space.old
+        → AreFor taken puts.now (length puts.now) extents.items) }
+    ensures taken { IfOk result (λ extents. (taken : List Extent) → AreTaken taken space.old
+        → AreTaken (extents.items ++ taken) space.new) }
 {
     let mut extents = Vec::with_capacity(alloc, puts.len())?;
     for put in puts {

@@ -101,7 +101,8 @@ fn are_bytes(bytes: &[u8])
 fn read_raw_slot<S: Store>(store: &mut S, page: u64) -> Result<RawSlot, Fault>
     requires { page ≤ 1 }
     ensures looks { Looks (S.facts store.old) (S.facts store.new) }
-    ensures raw { IfOk result (λ raw. IsTrue (S.facts store.old).honest → IsRawSlot (S.facts store.old).content page raw) }
+    ensures raw { IfOk result (λ raw. IsTrue (S.facts store.old).honest
+        → IsRawSlot (S.facts store.old).content page raw) }
     ensures file { IsErrOf result Fault.File → Raised (S.facts store.old) (S.facts store.new) }
     ensures refusals { IfErr result (λ fault. fault ≡ Fault.File) }
 {
@@ -136,7 +137,8 @@ pub struct ChosenSlot {
 
 /// Which of two slots counts; each is None where it isn't open.
 fn choose(first: Option<Slot>, second: Option<Slot>) -> Result<ChosenSlot, Fault>
-    ensures chosen { MatchResult result (λ choice. counting_slot first second ≡ Ok choice.slot) (λ fault. counting_slot first second ≡ Err fault) }
+    ensures chosen { MatchResult result (λ choice. counting_slot first second ≡ Ok choice.slot)
+        (λ fault. counting_slot first second ≡ Err fault) }
     ensures which { IfOk result (λ choice. (if choice.second then second else first) ≡ Some choice.slot) }
     ensures beaten { IfOk result (λ choice. Beaten (if choice.second then first else second) choice.slot.sequence) }
     ensures refusals { IfErr result IsOpenRefusal }
@@ -188,11 +190,17 @@ pub struct ActiveSlot {
 
 /// Finds the slot that counts in a file of so many bytes. NotDocument, Damaged, File.
 pub fn find_slot<S: Store>(store: &mut S, file_length: u64) -> Result<ActiveSlot, Fault>
+    // Asked of the caller.
     requires { IsTrue (S.facts store.old).honest → file_length ≡ length (S.facts store.old).content }
+    // The store.
     ensures looks { Looks (S.facts store.old) (S.facts store.new) }
-    ensures active { IfOk result (λ active. IsTrue (S.facts store.old).honest → IsActiveSlot (S.facts store.old).content active) }
+    // The slot.
+    ensures active { IfOk result (λ active. IsTrue (S.facts store.old).honest
+        → IsActiveSlot (S.facts store.old).content active) }
     ensures alone { IfOk result (λ active. (active.spare ≡ SpareSlot.Shut) ⊎ (active.spare ≡ SpareSlot.Stale)) }
-    ensures refused { IfErr result (λ fault. IsTrue (S.facts store.old).honest → IsSupply fault ⊎ (stands (S.facts store.old).content ≡ Err fault)) }
+    // Refusals.
+    ensures refused { IfErr result (λ fault. IsTrue (S.facts store.old).honest
+        → IsSupply fault ⊎ (stands (S.facts store.old).content ≡ Err fault)) }
     ensures file { IsErrOf result Fault.File → Raised (S.facts store.old) (S.facts store.new) }
     ensures refusals { IfErr result IsOpenRefusal }
 {
@@ -212,7 +220,8 @@ pub fn find_slot<S: Store>(store: &mut S, file_length: u64) -> Result<ActiveSlot
 /// Whether the fields of the slot that counts are those of a document. NotDocument, Damaged.
 pub fn check_slot(version: u8, reserved: u16, sequence: u64) -> Result<(), Fault>
     ensures ok { OnOk result (((version ≡ 1) ⊎ (version ≡ 2)) × (reserved ≡ 0) × (1 ≤ sequence) × (sequence < 2 ^ 64)) }
-    ensures refused { IfErr result (λ fault. (file : List ℕ) (s : model.Slot) → s.version ≡ version → s.reserved ≡ reserved → s.sequence ≡ sequence → pair_of file s ≡ Err fault) }
+    ensures refused { IfErr result (λ fault. (file : List ℕ) (s : model.Slot) → s.version ≡ version
+        → s.reserved ≡ reserved → s.sequence ≡ sequence → pair_of file s ≡ Err fault) }
     ensures refusals { IfErr result IsOpenRefusal }
     ensures file { IsErrOf result Fault.File → ⊥ }
 {

@@ -143,7 +143,7 @@ fn give_back(space: &mut Option<FreeSpace>, place: Option<Place>)
 
 /// Puts blocks into a table, each in its extent. Of the free space their extents are taken before; where a block is that gets
 /// another place, it is free afterwards.
-pub fn put_places(
+fn put_places(
     places: &mut [Option<Place>],
     puts: &[Member],
     extents: &[Extent],
@@ -186,7 +186,7 @@ fn remove_place(
 }
 
 /// Takes blocks out of a table: where they lay is free. Handles that aren't live change nothing.
-pub fn remove_places(
+fn remove_places(
     places: &mut [Option<Place>],
     removals: &[VmHandle],
     slots: &Slots,
@@ -199,4 +199,24 @@ pub fn remove_places(
     for block in removals {
         remove_place(places, *block, slots, space);
     }
+}
+
+/// Puts blocks into a table and then takes others out, as far as the free space goes too.
+pub fn change_places(
+    places: &mut [Option<Place>],
+    puts: &[Member],
+    extents: &[Extent],
+    removals: &[VmHandle],
+    slots: &Slots,
+    space: &mut Option<FreeSpace>,
+)
+    requires puts { All IsPut puts.now }
+    requires room { All (λ p. p.handle.0 ≤ length places.old) puts.now }
+    requires extents { length extents.now ≡ length puts.now }
+    requires known { IsKnown (extents.now ++ (block_extents places.old ++ kept_extents slots.now)) space.old }
+    ensures places { places.new ≡ without_places removals.now (with_places puts.now extents.now places.old) }
+    ensures known { IsKnown (block_extents places.new ++ kept_extents slots.now) space.new }
+{
+    put_places(places, puts, extents, slots, space);
+    remove_places(places, removals, slots, space);
 }

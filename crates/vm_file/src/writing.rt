@@ -24,12 +24,18 @@ pub fn write_images<S: Store>(
     extents: &[Extent],
     puts: &[Member],
 ) -> Result<(), StoreFault>
+    // Asked of the caller.
     requires kept { AreKept slots.now }
     requires extents { AreFor (kept_extents slots.now) puts.now (length puts.now) extents.now }
+    // The store.
     ensures honest { (S.facts store.new).honest ≡ (S.facts store.old).honest }
     ensures failures { (S.facts store.old).failures ≤ (S.facts store.new).failures }
-    ensures fills { IsTrue (S.facts store.old).honest → Fills slots.now extents.now (S.facts store.old) (S.facts store.new) }
-    ensures written { OnOk result (IsTrue (S.facts store.old).honest → AreWritten (length puts.now) puts.now extents.now (S.facts store.new).content) }
+    ensures fills { IsTrue (S.facts store.old).honest
+        → Fills slots.now extents.now (S.facts store.old) (S.facts store.new) }
+    // The images.
+    ensures written { OnOk result (IsTrue (S.facts store.old).honest
+        → AreWritten (length puts.now) puts.now extents.now (S.facts store.new).content) }
+    // Refusals.
     ensures file { OnErr result (Raised (S.facts store.old) (S.facts store.new)) }
 {
     for (i, put) in puts.iter().enumerate() {
@@ -56,16 +62,25 @@ pub fn write_puts<S: Store>(
     space: Option<FreeSpace>,
     puts: &[Member],
 ) -> Result<Written, Fault>
+    // Asked of the caller.
     requires live { All IsPlaced (block_extents live.now) }
     requires kept { AreKept slots.now }
     requires few { length (block_extents live.now ++ kept_extents slots.now) + length puts.now ≤ MOST_EXTENTS }
     requires known { IsKnown (block_extents live.now ++ kept_extents slots.now) space }
+    // The store.
     ensures honest { (S.facts store.new).honest ≡ (S.facts store.old).honest }
     ensures failures { (S.facts store.old).failures ≤ (S.facts store.new).failures }
-    ensures spared { IsTrue (S.facts store.old).honest → IsSpared (block_extents live.now ++ marked_extents slots.now.marked) slots.now (S.facts store.old) (S.facts store.new) }
-    ensures found { IfOk result (λ written. AreFor (block_extents live.now ++ kept_extents slots.now) puts.now (length puts.now) written.extents.items) }
-    ensures written { IfOk result (λ written. IsTrue (S.facts store.old).honest → AreWritten (length puts.now) puts.now written.extents.items (S.facts store.new).content) }
-    ensures known { IfOk result (λ written. IsKnown (written.extents.items ++ (block_extents live.now ++ kept_extents slots.now)) written.space) }
+    ensures spared { IsTrue (S.facts store.old).honest
+        → IsSpared (block_extents live.now ++ marked_extents slots.now.marked) slots.now (S.facts store.old)
+        (S.facts store.new) }
+    // The images.
+    ensures found { IfOk result
+        (λ written. AreFor (block_extents live.now ++ kept_extents slots.now) puts.now (length puts.now) written.extents.items) }
+    ensures written { IfOk result (λ written. IsTrue (S.facts store.old).honest
+        → AreWritten (length puts.now) puts.now written.extents.items (S.facts store.new).content) }
+    ensures known { IfOk result
+        (λ written. IsKnown (written.extents.items ++ (block_extents live.now ++ kept_extents slots.now)) written.space) }
+    // Refusals.
     ensures early { IfErr result (λ fault. fault ≢ Fault.File → store.new ≡ store.old) }
     ensures nothing { puts.now ≡ [] → IsOk result × (store.new ≡ store.old) }
     ensures file { IsErrOf result Fault.File → Raised (S.facts store.old) (S.facts store.new) }

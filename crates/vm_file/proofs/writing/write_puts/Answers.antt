@@ -1,9 +1,8 @@
 use Rattle.std.proofs.Common.{◌++◌, length, sym, subst, arith}
-use Rattle.vm_file.specs.Slots.{block_extents, marked_extents, kept_extents}
+use Rattle.vm_file.specs.Slots.{block_extents, kept_extents}
 use Rattle.vm_file.specs.Writing.{AreFor, Fills}
 use Rattle.vm_file.proofs.RangesLemmas.{all_right}
-use Rattle.vm_file.proofs.SoundLemmas.{live_and_marked}
-use Rattle.vm_file.proofs.WritingLemmas.{for_fewer, spared_by}
+use Rattle.vm_file.proofs.WritingLemmas.{for_fewer, spared_images}
 use Rattle.vm_file.proofs.writing.write_puts.Goals as goal
 
 pub place_images-requires : goal.place_images-requires
@@ -19,13 +18,7 @@ write_images-requires-clause-extents g c =
 
 pub returns-in-Ok-clause-spared : goal.returns-in-Ok-clause-spared
 returns-in-Ok-clause-spared g c = λ so.
-    let live = block_extents c.args.live.now in
-    let kept = kept_extents c.args.slots.now in
-    let puts = c.args.puts.now in
-    let slots = c.args.slots.now in
-    let images = c.in_ok-extents.extents.items in
-    let apart = for_fewer (live ++ kept) (live ++ marked_extents slots.marked) puts (length puts) images (λ P all. live_and_marked P slots live all) (c.in_ok-extents.ensures.found (live ++ kept) c.in_ok-space.ensures) in
-    spared_by slots (live ++ marked_extents slots.marked) images puts (length puts) (g.S.Store.facts c.args.store.now) (g.S.Store.facts c.write_images.new.store) apart
+    spared_images c.args.slots.now (block_extents c.args.live.now) c.args.puts.now c.in_ok-extents.extents.items _ _ (c.in_ok-extents.ensures.found (block_extents c.args.live.now ++ kept_extents c.args.slots.now) c.in_ok-space.ensures)
     (subst (λ es. Fills c.args.slots.now es (g.S.Store.facts c.args.store.now) (g.S.Store.facts c.write_images.new.store)) c.deref.ensures.value (c.write_images.ensures.fills so))
 
 pub returns-in-Ok-clause-found : goal.returns-in-Ok-clause-found
@@ -36,11 +29,5 @@ returns-in-Ok-clause-known g c = c.in_ok-extents.ensures.taken (block_extents c.
 
 pub returns-in-Err-clause-spared : goal.returns-in-Err-clause-spared
 returns-in-Err-clause-spared g c = λ so.
-    let live = block_extents c.args.live.now in
-    let kept = kept_extents c.args.slots.now in
-    let puts = c.args.puts.now in
-    let slots = c.args.slots.now in
-    let images = c.in_ok-extents.extents.items in
-    let apart = for_fewer (live ++ kept) (live ++ marked_extents slots.marked) puts (length puts) images (λ P all. live_and_marked P slots live all) (c.in_ok-extents.ensures.found (live ++ kept) c.in_ok-space.ensures) in
-    spared_by slots (live ++ marked_extents slots.marked) images puts (length puts) (g.S.Store.facts c.args.store.now) (g.S.Store.facts c.write_images.new.store) apart
+    spared_images c.args.slots.now (block_extents c.args.live.now) c.args.puts.now c.in_ok-extents.extents.items _ _ (c.in_ok-extents.ensures.found (block_extents c.args.live.now ++ kept_extents c.args.slots.now) c.in_ok-space.ensures)
     (subst (λ es. Fills c.args.slots.now es (g.S.Store.facts c.args.store.now) (g.S.Store.facts c.write_images.new.store)) c.deref.ensures.value (c.write_images.ensures.fills so))

@@ -4,7 +4,7 @@ use Rattle.std.proofs.lemmas.Result.{err_from_is_err_and}
 use Rattle.geos_model.specs.declared.fault.Fault.TheVariants.{Worn}
 use Rattle.vm_file.specs.Calls.{last_sequence}
 use Rattle.vm_file.specs.Copies.{IsCopy}
-use Rattle.vm_file.specs.Disk.{FileState, IsSettled, Commits}
+use Rattle.vm_file.specs.Disk.{FileState, Commits}
 use Rattle.vm_file.specs.Documents.{Documents, document_in}
 use Rattle.vm_file.specs.Listing.{AreBounds}
 use Rattle.vm_file.specs.Effects.{IsCommit}
@@ -16,26 +16,26 @@ use Rattle.vm_file.proofs.RangesLemmas.{all_right}
 use Rattle.vm_file.proofs.DocumentsLemmas.{stored_newer}
 use Rattle.vm_file.proofs.SoundLemmas.{kept_pair}
 use Rattle.vm_file.proofs.CopiesLemmas.{pair_documents, pair_placed, pair_stored, sound_saved, copy_document, copies_alike, copy_itself, copy_drifts}
-use Rattle.vm_file.proofs.EffectsLemmas.{refused, refused_by, tried}
-use Rattle.vm_file.proofs.StandsLemmas.{sound_settled, turned_versioned}
+use Rattle.vm_file.proofs.EffectsLemmas.{refused, refused_by, tried, view_settled}
+use Rattle.vm_file.proofs.StandsLemmas.{turned_versioned}
 use Rattle.vm_file.proofs.file.VmFile.commit_revert.Goals as goal
 
 pub returns-then-self-clause-commit : goal.returns-then-self-clause-commit
 returns-then-self-clause-commit g c =
     let i = c.self.inside in let f = c.args.self.now in
-    refused g.S.Store.facts f _ _ Worn (subst (λ s. IsSettled g.S.Store.facts s.disk) c.self.view_is (sound_settled g.S.Store.facts i.store i.live i.slots c.self.invariant.sound))
+    refused g.S.Store.facts f _ _ Worn (view_settled g.S.Store.facts i.store i.live i.slots c.args.self.now c.self.view_is c.self.invariant.sound)
     (λ _. subst (λ s. s.disk.sequence ≡ last_sequence) c.self.view_is c.if-self.true, λ _. refl)
 
 pub returns-in_err-live-clause-commit : goal.returns-in_err-live-clause-commit
 returns-in_err-live-clause-commit g c =
     let i = c.self.inside in
-    refused_by g.S.Store.facts c.args.self.now _ _ c.from_residual.result c.from_residual.ensures.1 (subst (λ s. IsSettled g.S.Store.facts s.disk) c.self.view_is (sound_settled g.S.Store.facts i.store i.live i.slots c.self.invariant.sound))
+    refused_by g.S.Store.facts c.args.self.now _ _ c.from_residual.result c.from_residual.ensures.1 (view_settled g.S.Store.facts i.store i.live i.slots c.args.self.now c.self.view_is c.self.invariant.sound)
     (subst (λ s. s.disk.sequence ≢ last_sequence) c.self.view_is c.if-self.false)
 
 pub returns-in_err-pair-clause-commit : goal.returns-in_err-pair-clause-commit
 returns-in_err-pair-clause-commit g c =
     let i = c.self.inside in
-    refused_by g.S.Store.facts c.args.self.now _ _ c.from_residual-in_err-pair.result c.from_residual-in_err-pair.ensures.1 (subst (λ s. IsSettled g.S.Store.facts s.disk) c.self.view_is (sound_settled g.S.Store.facts i.store i.live i.slots c.self.invariant.sound))
+    refused_by g.S.Store.facts c.args.self.now _ _ c.from_residual-in_err-pair.result c.from_residual-in_err-pair.ensures.1 (view_settled g.S.Store.facts i.store i.live i.slots c.args.self.now c.self.view_is c.self.invariant.sound)
     (subst (λ s. s.disk.sequence ≢ last_sequence) c.self.view_is c.if-self.false)
 
 pub commit_pair-requires-clause-placed : goal.commit_pair-requires-clause-placed

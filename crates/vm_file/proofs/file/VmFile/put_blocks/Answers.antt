@@ -13,9 +13,9 @@ use Rattle.vm_file.specs.declared.table.Table.{Table}
 use Rattle.vm_file.specs.FreeSpace.{IsKnown}
 use Rattle.vm_file.specs.Listing.{AreBounds}
 use Rattle.vm_file.proofs.ListingLemmas.{bounds_changed}
-use Rattle.vm_file.proofs.TableChangeLemmas.{shown_without_all, length-with_places, length-without_places, grown_extents, grown_bounds, grown_sound, roomy_sound, grown_view}
-use Rattle.vm_file.proofs.TableLemmas.{shown, items_kept}
-use Rattle.vm_file.proofs.PutBlocksLemmas.{few_extents, kept_twice, changed_twice, spared_passes, spared_drifts, spared_sound, put_drifts, put_sound}
+use Rattle.vm_file.proofs.TableChangeLemmas.{shown_without_all, grown_extents, grown_bounds, grown_sound, roomy_sound, grown_view}
+use Rattle.vm_file.proofs.TableLemmas.{shown}
+use Rattle.vm_file.proofs.PutBlocksLemmas.{few_extents, changed_places, spared_passes, spared_drifts, spared_sound, put_drifts, put_sound}
 use Rattle.vm_file.proofs.PassingLemmas.{Drifts-refl, Passes-refl}
 use Rattle.geos_model.specs.Document.{most_blocks}
 use Rattle.vm_file.specs.Ranges.{IsPlaced}
@@ -43,30 +43,20 @@ write_puts-requires-clause-known g c =
     subst (λ ps. IsKnown (block_extents ps ++ kept_extents i.slots) c.take.result) (sym c.deref.ensures.value)
     (subst (λ es. IsKnown (es ++ kept_extents i.slots) c.take.result) (sym extents) (subst (λ space. IsKnown (block_extents i.live.places.items ++ kept_extents i.slots) space) (sym c.take.ensures.value) c.self.invariant.known))
 
-pub put_places-requires-clause-room : goal.put_places-requires-clause-room
-put_places-requires-clause-room g c = λ k p inside.
+pub change_places-requires-clause-room : goal.change_places-requires-clause-room
+change_places-requires-clause-room g c = λ k p inside.
     let reached = c.widened-bounds.ensures.reached k p inside in
     let long = c.in_ok-make_room.ensures.size in
     let same = ap length c.deref_mut.ensures.value in
     omega (arith, reached, long, same)
 
-pub put_places-requires-clause-known : goal.put_places-requires-clause-known
-put_places-requires-clause-known g c =
+pub change_places-requires-clause-known : goal.change_places-requires-clause-known
+change_places-requires-clause-known g c =
     let kept = kept_extents c.self.inside.slots in
     let es = c.in_ok-written.written.extents.items in
     let space = c.in_ok-written.written.space in
     subst (λ xs. IsKnown (xs ++ (block_extents c.deref_mut.result.now ++ kept)) space) (sym c.deref-2.ensures.value)
     (subst (λ ps. IsKnown (es ++ (block_extents ps ++ kept)) space) (c.deref.ensures.value ∙ sym c.deref_mut.ensures.value) c.in_ok-written.ensures.known)
-
-pub remove_places-requires : goal.remove_places-requires
-remove_places-requires g c =
-    let i = c.self.inside in
-    let live : Table = record { map_block = i.live.map_block; places = c.make_room.new.places } in
-    let es = c.in_ok-written.written.extents.items in
-    let filled = c.put_places.ensures.places ∙ ap₂ (λ xs ps. with_places c.args.puts.now xs ps) c.deref-2.ensures.value c.deref_mut.ensures.value in
-    let long = ap length filled ∙ length-with_places c.args.puts.now es live.places.items in
-    let mid = items_kept live.places.len c.put_places.new.places live.places.items live.places.ok.0 long in
-    subst (λ ps. IsKnown (block_extents ps ++ kept_extents i.slots) c.put_places.new.space) (sym (c.deref_mut-2.ensures.value ∙ mid)) c.put_places.ensures.known
 
 pub invariant_of-self : goal.invariant_of-self
 invariant_of-self g c =
@@ -146,21 +136,17 @@ invariant_of-self-2 g c =
     let room : All (λ p. p.handle.0 ≤ length live.places.items) c.args.puts.now = λ k p inside. (let reached = c.widened-bounds.ensures.reached k p inside in let size = c.in_ok-make_room.ensures.size in omega (arith, reached, size)) in
     let b = c.write_puts.new.store in
     let es = c.in_ok-written.written.extents.items in
-    let filled = c.put_places.ensures.places ∙ ap₂ (λ xs ps. with_places c.args.puts.now xs ps) c.deref-2.ensures.value c.deref_mut.ensures.value in
-    let left = c.remove_places.ensures.places ∙ ap (without_places c.args.removals.now) c.deref_mut-2.ensures.value in
-    let new : Table = record { map_block = live.map_block; places = with_items (with_items live.places c.put_places.new.places) c.remove_places.new.places } in
+    let is = c.change_places.ensures.places ∙ ap₂ (λ xs ps. without_places c.args.removals.now (with_places c.args.puts.now xs ps)) c.deref-2.ensures.value c.deref_mut.ensures.value in
+    let new : Table = record { map_block = live.map_block; places = with_items live.places c.change_places.new.places } in
     let changed : new.places.items ≡ without_places c.args.removals.now (with_places c.args.puts.now es live.places.items) =
-    changed_twice live.places.len live.places.items c.put_places.new.places c.remove_places.new.places c.args.puts.now es c.args.removals.now live.places.ok.0 filled left in
-    let long = ap length filled ∙ length-with_places c.args.puts.now es live.places.items in
-    let mid = items_kept live.places.len c.put_places.new.places live.places.items live.places.ok.0 long in
-    let kept = kept_twice live.places.len live.places.items c.put_places.new.places c.remove_places.new.places live.places.ok.0 long (ap length (left ∙ ap (without_places c.args.removals.now) mid) ∙ length-without_places c.args.removals.now c.put_places.new.places) in
+    changed_places live.places.len live.places.items c.change_places.new.places c.args.puts.now es c.args.removals.now live.places.ok.0 is in
     record {
       sound = put_sound g.S.Store.facts i.store b live i.slots sound c.write_puts.ensures.honest (λ so. (g.met.S.Store.timely b so).now)
           (λ so. subst (λ ps. IsSpared (block_extents ps ++ marked_extents i.slots.marked) i.slots (g.S.Store.facts i.store) (g.S.Store.facts b)) c.deref.ensures.value (c.write_puts.ensures.spared so))
           c.args.puts.now es c.args.removals.now new c.requires.puts _ c.in_ok-written.ensures.found c.in_ok-written.ensures.written refl room changed
           (subst (λ s. All (λ h. h.0 ≢ s.document.map_block) c.args.removals.now) (sym view) c.requires.removals);
       bounded = subst (λ ps. AreBounds ps c.tightened-self-inside.result) c.deref-3.ensures.value c.tightened-self-inside.ensures;
-      known = subst (λ ps. IsKnown (block_extents ps ++ kept_extents i.slots) c.remove_places.new.space) (sym kept) c.remove_places.ensures.known;
+      known = subst (λ ps. IsKnown (block_extents ps ++ kept_extents i.slots) c.change_places.new.space) (is ∙ sym changed) c.change_places.ensures.known;
     }
 
 pub returns-clause-keeps : goal.returns-clause-keeps
@@ -173,11 +159,10 @@ returns-clause-keeps g c =
     let room : All (λ p. p.handle.0 ≤ length live.places.items) c.args.puts.now = λ k p inside. (let reached = c.widened-bounds.ensures.reached k p inside in let size = c.in_ok-make_room.ensures.size in omega (arith, reached, size)) in
     let b = c.write_puts.new.store in
     let es = c.in_ok-written.written.extents.items in
-    let filled = c.put_places.ensures.places ∙ ap₂ (λ xs ps. with_places c.args.puts.now xs ps) c.deref-2.ensures.value c.deref_mut.ensures.value in
-    let left = c.remove_places.ensures.places ∙ ap (without_places c.args.removals.now) c.deref_mut-2.ensures.value in
-    let new : Table = record { map_block = live.map_block; places = with_items (with_items live.places c.put_places.new.places) c.remove_places.new.places } in
+    let is = c.change_places.ensures.places ∙ ap₂ (λ xs ps. without_places c.args.removals.now (with_places c.args.puts.now xs ps)) c.deref-2.ensures.value c.deref_mut.ensures.value in
+    let new : Table = record { map_block = live.map_block; places = with_items live.places c.change_places.new.places } in
     let changed : new.places.items ≡ without_places c.args.removals.now (with_places c.args.puts.now es live.places.items) =
-    changed_twice live.places.len live.places.items c.put_places.new.places c.remove_places.new.places c.args.puts.now es c.args.removals.now live.places.ok.0 filled left in
+    changed_places live.places.len live.places.items c.change_places.new.places c.args.puts.now es c.args.removals.now live.places.ok.0 is in
     let timely : IsTrue (facts b).honest → (facts b).may_leave (facts b).content = λ so. (g.met.S.Store.timely b so).now in
     let spared : IsTrue (facts i.store).honest → IsSpared (block_extents live.places.items ++ marked_extents i.slots.marked) i.slots (facts i.store) (facts b) = λ so. subst (λ ps. IsSpared (block_extents ps ++ marked_extents i.slots.marked) i.slots (facts i.store) (facts b)) c.deref.ensures.value (c.write_puts.ensures.spared so) in
     subst (λ (s : FileState g.row.S.Denot). KeepsFile facts (remove_all c.args.removals.now (put_all c.args.puts.now s.document)) s (record { disk = disk_of facts b i.slots; document = document_in (facts b).content new })) view (record {
@@ -194,11 +179,10 @@ returns-clause-removals_alone g c none =
     let view = grown_view g.S.Store.facts i.store i.live live i.slots c.args.self.now grown refl c.self.view_is in
     let b = c.write_puts.new.store in
     let es = c.in_ok-written.written.extents.items in
-    let filled = c.put_places.ensures.places ∙ ap₂ (λ xs ps. with_places c.args.puts.now xs ps) c.deref-2.ensures.value c.deref_mut.ensures.value in
-    let left = c.remove_places.ensures.places ∙ ap (without_places c.args.removals.now) c.deref_mut-2.ensures.value in
-    let new : Table = record { map_block = live.map_block; places = with_items (with_items live.places c.put_places.new.places) c.remove_places.new.places } in
+    let is = c.change_places.ensures.places ∙ ap₂ (λ xs ps. without_places c.args.removals.now (with_places c.args.puts.now xs ps)) c.deref-2.ensures.value c.deref_mut.ensures.value in
+    let new : Table = record { map_block = live.map_block; places = with_items live.places c.change_places.new.places } in
     let changed : new.places.items ≡ without_places c.args.removals.now (with_places c.args.puts.now es live.places.items) =
-    changed_twice live.places.len live.places.items c.put_places.new.places c.remove_places.new.places c.args.puts.now es c.args.removals.now live.places.ok.0 filled left in
+    changed_places live.places.len live.places.items c.change_places.new.places c.args.puts.now es c.args.removals.now live.places.ok.0 is in
     let facts = g.S.Store.facts in
     let m = live.map_block in
     let same = (c.write_puts.ensures.nothing none).1 in
@@ -217,8 +201,7 @@ tightened-self-inside-requires g c =
     let puts = c.args.puts.now in
     let removals = c.args.removals.now in
     let es = c.in_ok-written.written.extents.items in
-    let filled = c.put_places.ensures.places ∙ ap₂ (λ xs ps. with_places puts xs ps) c.deref-2.ensures.value c.deref_mut.ensures.value in
-    let left = c.remove_places.ensures.places ∙ ap (without_places removals) c.deref_mut-2.ensures.value in
-    let changed = changed_twice live.places.len live.places.items c.put_places.new.places c.remove_places.new.places puts es removals live.places.ok.0 filled left in
+    let is = c.change_places.ensures.places ∙ ap₂ (λ xs ps. without_places removals (with_places puts xs ps)) c.deref-2.ensures.value c.deref_mut.ensures.value in
+    let changed = changed_places live.places.len live.places.items c.change_places.new.places puts es removals live.places.ok.0 is in
     subst (λ ps. AreBounds ps c.widened-bounds.result) (sym (c.deref-3.ensures.value ∙ changed))
     (bounds_changed puts es removals live.places.items i.bounds c.widened-bounds.result (let size = c.in_ok-make_room.ensures.size in omega (arith, size)) c.requires.puts (grown_bounds i.live.places.items live.places.items grown i.bounds c.self.invariant.bounded) c.widened-bounds.ensures)
