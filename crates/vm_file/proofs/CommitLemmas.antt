@@ -104,9 +104,9 @@ module _ (file : List ℕ) (slots : Slots) (pair : Pair) (was_readable : AreRead
       let Q : Slots → Type 0 = λ x. StandsForOne (documents_in file x.committed ∷ attempted_in file x.spare) c in
       elim failed as (λ _. StandsForOne (documents_in file pair ∷ before) c) [
         | inl early ↦ inr (early_stands s c early was)
-        | inr is_held ↦
-            let readable_now : AreReadable s file = subst P (sym is_held) (readable_with (Prepared pair) (with_pair_kept slots pair was_readable.placed placed) (stored, (tables, range))) in
-            elim (subst Q is_held (outcome_stands s file c readable_now was)) as (λ _. StandsForOne (documents_in file pair ∷ before) c) [
+        | inr is_prepared ↦
+            let readable_now : AreReadable s file = subst P (sym is_prepared) (readable_with (Prepared pair) (with_pair_kept slots pair was_readable.placed placed) (stored, (tables, range))) in
+            elim (subst Q is_prepared (outcome_stands s file c readable_now was)) as (λ _. StandsForOne (documents_in file pair ∷ before) c) [
               | inl here ↦ inr (inl here)
               | inr (inl other) ↦ inl other
               | inr (inr none) ↦ absurd none
@@ -135,7 +135,7 @@ failed_has file live slots now pair failed has stored =
     elim failed as (λ _. P now) [
       | inl (inl same) ↦ subst P (sym same) has
       | inl (inr shut) ↦ subst P (sym shut) (record { images = has.images; within = has.within; committed = has.committed; prepared = tt; marked = has.marked; marked_within = has.marked_within })
-      | inr is_held ↦ subst P (sym is_held) (record { images = has.images; within = has.within; committed = has.committed; prepared = stored; marked = has.marked; marked_within = has.marked_within })
+      | inr is_prepared ↦ subst P (sym is_prepared) (record { images = has.images; within = has.within; committed = has.committed; prepared = stored; marked = has.marked; marked_within = has.marked_within })
     ]
 
 failed_formed : (live : Table) (slots now : Slots) (pair : Pair) → Failed slots pair now → IsFormed live slots → AreTables pair → All IsPlaced (pair_extents pair) → slots.sequence + 1 < 2 ^ 64 → IsFormed live now
@@ -145,7 +145,7 @@ failed_formed live slots now pair failed formed tables placed range =
     elim failed as (λ _. P now) [
       | inl (inl same) ↦ subst P (sym same) formed
       | inl (inr shut) ↦ subst P (sym shut) (record { table = formed.table; placed = formed.placed; committed = formed.committed; prepared = tt; marked = formed.marked; kept = subst AreKept shut kept; version = formed.version; numbered = formed.numbered; in_range = formed.in_range })
-      | inr is_held ↦ subst P (sym is_held) (record { table = formed.table; placed = formed.placed; committed = formed.committed; prepared = (tables, range); marked = formed.marked; kept = subst AreKept is_held kept; version = formed.version; numbered = formed.numbered; in_range = formed.in_range })
+      | inr is_prepared ↦ subst P (sym is_prepared) (record { table = formed.table; placed = formed.placed; committed = formed.committed; prepared = (tables, range); marked = formed.marked; kept = subst AreKept is_prepared kept; version = formed.version; numbered = formed.numbered; in_range = formed.in_range })
     ]
 
 turned_formed : (live : Table) (slots : Slots) (pair : Pair) → IsFormed live slots → AreTables pair → All IsPlaced (pair_extents pair) → slots.sequence + 1 < 2 ^ 64 → IsFormed live (turned slots pair)
@@ -176,7 +176,7 @@ pub record IsCommit {S : Type 0} (facts : S → StoreFacts) (a b : S) (live : Ta
   pub crash : IsTrue (facts a).honest → Leaves (facts a) slots (facts a).content → KeepsAll (pair_extents pair) (facts a).content (facts a).content → Outlives (facts a) (facts b) (facts a).content (λ s. Failed slots pair s)
   pub leaves : IsTrue (facts a).honest → Leaves (facts a) slots (facts a).content → KeepsAll (pair_extents pair) (facts a).content (facts a).content → Leaves (facts b) now (facts a).content
 
--- The pair is held, or a crash left nothing of it.
+-- The pair is prepared, or a crash left nothing of it.
 abbrev pub FailsEarly : Slots → Pair → Slots → StoreFacts → StoreFacts → Type 0
 FailsEarly old pair new a b =
     (new ≡ record old { spare = Prepared pair }) ⊎ ((file : List ℕ) → IsTrue a.honest → Leaves a old file → Outlives a b file (λ s. FailedEarly old s))
@@ -261,7 +261,7 @@ module _ {S : Type 0} (facts : S → StoreFacts) (a b : S) (live : Table) (slots
 
     -- what holds of the slots as they may be
     as_left : (P : Slots → Type 0) → P slots → P (record slots { spare = Shut }) → P (record slots { spare = Prepared pair }) → P now
-    as_left P as_before as_shut as_held = elim failed as (λ _. P now) [ inl (inl same) ↦ subst P (sym same) as_before | inl (inr shut) ↦ subst P (sym shut) as_shut | inr is_held ↦ subst P (sym is_held) as_held ]
+    as_left P as_before as_shut as_prepared = elim failed as (λ _. P now) [ inl (inl same) ↦ subst P (sym same) as_before | inl (inr shut) ↦ subst P (sym shut) as_shut | inr is_prepared ↦ subst P (sym is_prepared) as_prepared ]
 
     same_pair : now.committed ≡ slots.committed
     same_pair = as_left (λ s. s.committed ≡ slots.committed) refl refl refl
@@ -277,26 +277,26 @@ module _ {S : Type 0} (facts : S → StoreFacts) (a b : S) (live : Table) (slots
         let has = has_all so in
         record { versioned = now_formed.version; some = now_formed.numbered; in_range = now_formed.in_range; placed = now_formed.kept; tables = now_formed.committed; committed = has.committed; prepared = prepared_readable (facts a).content now.sequence now.spare now_formed.prepared has.prepared }
 
-    -- the pair is held, and one gate away
-    held_tried : IsTrue (facts a).honest → now ≡ record slots { spare = Prepared pair } → IsTried facts (documents_in (facts a).content pair) (disk_of facts b now)
+    -- the pair is prepared, and one gate away
+    prepared_tried : IsTrue (facts a).honest → now ≡ record slots { spare = Prepared pair } → IsTried facts (documents_in (facts a).content pair) (disk_of facts b now)
     unfolding now_formed has_all
-    held_tried so is_held =
+    prepared_tried so is_prepared =
         let attempts : Slots → List Documents = λ s. attempted_in (facts a).content s.spare in
         record {
-          attempted = commit_attempted now_formed has_all so ∙ ap attempts is_held;
-          gate = attempted_away (facts b) now (facts a).content (documents_in (facts a).content pair) (ap attempts is_held) (readable_now so) (left so);
+          attempted = commit_attempted now_formed has_all so ∙ ap attempts is_prepared;
+          gate = attempted_away (facts b) now (facts a).content (documents_in (facts a).content pair) (ap attempts is_prepared) (readable_now so) (left so);
         }
 
-    -- the pair is held, or nothing of it can be read
+    -- the pair is prepared, or nothing of it can be read
     added : FailsEarly slots pair now (facts a) (facts b) → IsTrue (facts a).honest → IsTried facts (documents_in (facts a).content pair) (disk_of facts b now) ⊎ AddsNothing facts (disk_of facts a slots) (disk_of facts b now)
     unfolding now_formed has_all
     added early so =
         let attempts : Slots → List Documents = λ s. attempted_in (facts a).content s.spare in
         let same = commit_attempted now_formed has_all so in
         elim failed as (λ _. IsTried facts (documents_in (facts a).content pair) (disk_of facts b now) ⊎ AddsNothing facts (disk_of facts a slots) (disk_of facts b now)) [
-          | inr is_held ↦ inl (held_tried so is_held)
+          | inr is_prepared ↦ inl (prepared_tried so is_prepared)
           | inl before ↦ elim early as (λ _. IsTried facts (documents_in (facts a).content pair) (disk_of facts b now) ⊎ AddsNothing facts (disk_of facts a slots) (disk_of facts b now)) [
-            | inl is_held ↦ inl (held_tried so is_held)
+            | inl is_prepared ↦ inl (prepared_tried so is_prepared)
             | inr outlives ↦ inr (record {
               crash = commit_early so (outlives (facts a).content so (call.whole so).leaves);
               attempted = elim before as (λ _. (attempted_in (facts b).content now.spare ≡ attempted_in (facts a).content slots.spare) ⊎ (attempted_in (facts b).content now.spare ≡ [])) [

@@ -14,6 +14,7 @@ use Rattle.vm_file.specs.Documents.{Documents, blocks_in, document_in, IsStored}
 use Rattle.vm_file.specs.Disk.{Disk, FileState, IsSettled, Numbered, Drifts, Passes, Commits}
 use Rattle.vm_file.specs.Effects.{IsFile, IsNewFile, OnlyReads, IsCommit, Fails, NoFault, IsDamage}
 use Rattle.vm_file.specs.Making.{IsOne}
+use Rattle.vm_file.specs.Opened.{Looks}
 use Rattle.vm_file.specs.Ranges.{KeepsAll}
 use Rattle.vm_file.specs.Slots.{marked_extents}
 use Rattle.vm_file.specs.Sound.{IsTable, IsSound, disk_of}
@@ -95,7 +96,7 @@ module _ {S : Type 0} (facts : S → StoreFacts) where
 
 -- A call that only reads.
 module _ {S : Type 0} (facts : S → StoreFacts) (a b : S) (live : Table) (slots : Slots) (sound : IsSound (facts a) live slots) (now : IsTrue (facts b).honest → (facts b).may_leave (facts b).content) where
-  pub rested : (facts b).honest ≡ (facts a).honest → (facts a).failures ≤ (facts b).failures → (IsTrue (facts a).honest → Rests (facts a) (facts b))
+  rested : (facts b).honest ≡ (facts a).honest → (facts a).failures ≤ (facts b).failures → (IsTrue (facts a).honest → Rests (facts a) (facts b))
       → OnlyReads facts (record { disk = disk_of facts a slots; document = document_in (facts a).content live }) (record { disk = disk_of facts b slots; document = document_in (facts b).content live })
   rested honest failures rests = record {
     passes = call_passes facts a b live slots sound honest now
@@ -105,6 +106,10 @@ module _ {S : Type 0} (facts : S → StoreFacts) (a b : S) (live : Table) (slots
     rests = rests;
     document = places_drift (facts a).honest (facts a).content (facts b).content live.places.items live.map_block (λ so. ap (λ f. blocks_in f live.places.items) (rests so).content);
   }
+
+  pub view_reads : (f : FileState S) → record { disk = disk_of facts a slots; document = document_in (facts a).content live } ≡ f → Looks (facts a) (facts b)
+      → OnlyReads facts f (record { disk = disk_of facts b slots; document = document_in (facts b).content live })
+  view_reads f is looks = subst (λ s. OnlyReads facts s (record { disk = disk_of facts b slots; document = document_in (facts b).content live })) is (rested looks.honest looks.failures looks.rests)
 
 -- The floor above shows a document of its own in place of the file's.
 module _ {S : Type 0} (facts : S → StoreFacts) (timely : (store : S) → IsTrue (facts store).honest → IsTimely (facts store)) where

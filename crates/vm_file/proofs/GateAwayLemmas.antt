@@ -10,9 +10,9 @@ use Rattle.vm_file.specs.declared.table.Pair.{Pair}
 use Rattle.vm_file.specs.declared.slot.SpareSlot.{SpareSlot}
 use Rattle.vm_file.specs.declared.slot.SpareSlot.TheVariants.{Shut, Stale, Prepared}
 use Rattle.vm_file.specs.declared.slot.Slots.{Slots}
-use Rattle.vm_file.proofs.SoundLemmas.{kept_pair, kept_held}
+use Rattle.vm_file.proofs.SoundLemmas.{kept_pair, kept_prepared}
 use Rattle.vm_file.proofs.SlotsLemmas.{one_each, spares_gate, outcome_torn}
-use Rattle.vm_file.proofs.StandsLemmas.{AreReadable, IsPreparedReadable, FitsPair, fits_pair, held_beats, held_numbered}
+use Rattle.vm_file.proofs.StandsLemmas.{AreReadable, IsPreparedReadable, FitsPair, fits_pair, prepared_beats, prepared_numbered}
 
 module _ (slots : Slots) (pair : Pair) (file : List ℕ) (is : slots.spare ≡ Prepared pair) (are : AreReadable slots file) where
   slot : ℕ
@@ -27,9 +27,9 @@ module _ (slots : Slots) (pair : Pair) (file : List ℕ) (is : slots.spare ≡ P
   held : IsPreparedReadable file slots.sequence (Prepared pair)
   held = subst (IsPreparedReadable file slots.sequence) is are.prepared
 
-  fits_held : FitsPair 2 (slots.sequence + 1) pair
+  fits_prepared : FitsPair 2 (slots.sequence + 1) pair
   unfolding held
-  fits_held = fits_pair 2 (slots.sequence + 1) pair (inr refl) (omega arith) held.1.1 held.1.0 (subst (λ o. All IsPlaced (prepared_extents o)) is (kept_held IsPlaced slots are.placed))
+  fits_prepared = fits_pair 2 (slots.sequence + 1) pair (inr refl) (omega arith) held.1.1 held.1.0 (subst (λ o. All IsPlaced (prepared_extents o)) is (kept_prepared IsPlaced slots are.placed))
 
   module _ (c : List ℕ) (was : Outcome slots file c) where
     opened : List ℕ
@@ -51,18 +51,18 @@ module _ (slots : Slots) (pair : Pair) (file : List ℕ) (is : slots.spare ≡ P
 
   -- one gate away
   pub held_away : (store : StoreFacts) → Leaves store slots file → IsOneGateAway store (slots.sequence + 1) (documents_in file pair)
-  unfolding opened outcome gate leads fits held fits_held
+  unfolding opened outcome gate leads fits held fits_prepared
   held_away store leaves = record {
     slot = spare_of slots;
     is_slot = (let each = one_each slots in omega arith);
     stands_for = λ c left.
         let was = leaves c left in
         let now = outcome c was in
-        held_beats slots.second slots.version slots.sequence slots.committed pair file (opened c was) fits fits_held held.0 now.gate now.counts (gate c was) (leads c was);
+        prepared_beats slots.second slots.version slots.sequence slots.committed pair file (opened c was) fits fits_prepared held.0 now.gate now.counts (gate c was) (leads c was);
     numbered = λ c left.
         let was = leaves c left in
         let now = outcome c was in
-        held_numbered slots.second slots.version slots.sequence slots.committed pair file (opened c was) fits fits_held now.gate now.counts (gate c was) (leads c was);
+        prepared_numbered slots.second slots.version slots.sequence slots.committed pair file (opened c was) fits fits_prepared now.gate now.counts (gate c was) (leads c was);
   }
 
 away_of : (spare : SpareSlot) (store : StoreFacts) (slots : Slots) (file : List ℕ) (d : Documents) → slots.spare ≡ spare → attempted_in file spare ≡ d ∷ [] → AreReadable slots file → Leaves store slots file → IsOneGateAway store (slots.sequence + 1) d

@@ -1,5 +1,5 @@
 -- The images of blocks at their places.
-use Rattle.std.proofs.Common.{◌≡◌, ℕ, ◌-◌, ◌≤◌, ◌==◌, Bool, true, false, not, List, length, get_or, slice_index, Option, None, Some, is_some, refl, sym, ap, ◌∙◌, arith, inl, inr}
+use Rattle.std.proofs.Common.{◌≡◌, ℕ, ◌-◌, ◌≤◌, List, length, get_or, Option, None, Some, sym, ap, ◌∙◌}
 use Rattle.std.specs.Prelude.{IfSome, All}
 use Rattle.geos_model.specs.Image.{image, body_read}
 use Rattle.geos_model.proofs.Tables.{slot_at}
@@ -14,7 +14,8 @@ use Rattle.vm_file.specs.Documents.{IsImaged, AreImaged}
 use Rattle.vm_file.specs.declared.table.Place.{Place}
 use Rattle.vm_file.proofs.RangesLemmas.{bytes_held}
 use Rattle.vm_file.proofs.ImageLemmas.{of_kind-same, some_image}
-use Rattle.vm_file.proofs.TableLemmas.{EachPlace, shown, each_at, places_of, block_at_is, IsPlaceOf, entry_lies}
+use Rattle.vm_file.specs.Listing.{IsPlaceOf}
+use Rattle.vm_file.proofs.TableLemmas.{EachPlace, shown, each_at, places_of, block_at_is, entry_lies}
 
 -- The bytes of an extent.
 

@@ -14,7 +14,7 @@ use Rattle.vm_file.specs.declared.slot.SpareSlot.TheVariants.{Shut, Stale, Prepa
 use Rattle.vm_file.specs.declared.slot.Slots.{Slots}
 use Rattle.geos_model.specs.declared.file.Extent.{Extent}
 use Rattle.vm_file.proofs.RangesLemmas.{torn_byte, torn_holds, torn_keeps, clear_of_slots, holds_part, keeps_of_both}
-use Rattle.vm_file.proofs.SoundLemmas.{kept_pair, kept_held, kept_marked, kept_all}
+use Rattle.vm_file.proofs.SoundLemmas.{kept_pair, kept_prepared, kept_marked, kept_all}
 use Rattle.vm_store.specs.Laws.{Tears}
 
 pub one_each : (slots : Slots) → counting_of slots + spare_of slots ≡ 1
@@ -103,7 +103,7 @@ spares_clear at n slots high clear =
     record {
       slot = inl (omega arith);
       committed = kept_pair P slots clear;
-      beside = clear_beside slots.spare (spare_of slots) at n (omega arith) high (kept_held P slots clear);
+      beside = clear_beside slots.spare (spare_of slots) at n (omega arith) high (kept_prepared P slots clear);
     }
 
 -- within the other slot, which spares the one that counts
@@ -128,7 +128,7 @@ gate_beside (Prepared pair) slot low isnt placed = (inl (omega arith), inr (omeg
 pub spares_gate : (slots : Slots) → AreKept slots → slots.spare ≢ Shut → Spares (512 * spare_of slots + 4) 1 slots
 spares_gate slots kept isnt =
     let each = one_each slots in
-    spares_in_other slots 4 1 (omega arith) kept (gate_beside slots.spare (spare_of slots) (omega arith) isnt (kept_held IsPlaced slots kept))
+    spares_in_other slots 4 1 (omega arith) kept (gate_beside slots.spare (spare_of slots) (omega arith) isnt (kept_prepared IsPlaced slots kept))
 
 -- its mark and what is behind its gate, where it is
 pub spares_mark : (slots : Slots) → AreKept slots → slots.spare ≡ Shut → Spares (512 * spare_of slots + 0) 4 slots
@@ -325,5 +325,5 @@ module _ (slots now : Slots) (pair : Pair) (file : List ℕ) (a b : StoreFacts) 
   pub as_early : Outlives a b file (λ s. FailedEarly slots s) → Outlives a b file (λ s. Failed slots pair s)
   as_early p = Outlives-more a b file (λ s. FailedEarly slots s) (λ s. Failed slots pair s) (λ s is. inl is) p
 
-  pub as_held : now ≡ record slots { spare = Shut } → Outlives a b file (λ s. s ≡ record now { spare = Prepared pair }) → Outlives a b file (λ s. Failed slots pair s)
-  as_held shut p = Outlives-more a b file (λ s. s ≡ record now { spare = Prepared pair }) (λ s. Failed slots pair s) (λ s is. inr (is ∙ ap (λ (o : Slots). record o { spare = Prepared pair }) shut)) p
+  pub as_prepared : now ≡ record slots { spare = Shut } → Outlives a b file (λ s. s ≡ record now { spare = Prepared pair }) → Outlives a b file (λ s. Failed slots pair s)
+  as_prepared shut p = Outlives-more a b file (λ s. s ≡ record now { spare = Prepared pair }) (λ s. Failed slots pair s) (λ s is. inr (is ∙ ap (λ (o : Slots). record o { spare = Prepared pair }) shut)) p

@@ -16,7 +16,10 @@ use Rattle.vm_store.specs.Facts.{StoreFacts, Rests}
 use Rattle.geos_model.specs.Document.{IsTyped}
 use Rattle.geos_model.proofs.Tables.{slot_at}
 use Rattle.geos_model.specs.declared.block.Attributes.{Attributes}
-use Rattle.vm_file.specs.Sound.{IsPlace, ArePlaces, IsTable, IsSound}
+use Rattle.vm_file.specs.Sound.{IsPlace, ArePlaces, IsTable, IsSound, IsSoundFile}
+use Rattle.vm_file.specs.Opened.{Looks}
+use Rattle.vm_file.specs.declared.listing.Bounds.{Bounds}
+use Rattle.vm_space.specs.Space.{Space}
 use Rattle.vm_file.specs.declared.table.Place.{Place}
 
 -- The parts of it.
@@ -27,8 +30,8 @@ module _ (P : Extent → Type 0) (slots : Slots) where
   kept_rest : All P (kept_extents slots) → All P (prepared_extents slots.spare ++ marked_extents slots.marked)
   kept_rest all = all_right P (pair_extents slots.committed) (prepared_extents slots.spare ++ marked_extents slots.marked) all
 
-  pub kept_held : All P (kept_extents slots) → All P (prepared_extents slots.spare)
-  kept_held all = all_left P (prepared_extents slots.spare) (marked_extents slots.marked) (kept_rest all)
+  pub kept_prepared : All P (kept_extents slots) → All P (prepared_extents slots.spare)
+  kept_prepared all = all_left P (prepared_extents slots.spare) (marked_extents slots.marked) (kept_rest all)
 
   pub kept_marked : All P (kept_extents slots) → All P (marked_extents slots.marked)
   kept_marked all = all_right P (prepared_extents slots.spare) (marked_extents slots.marked) (kept_rest all)
@@ -85,6 +88,9 @@ sound_rested a b live slots sound honest rests = record {
       };
 }
 
+pub file_rested : (a b : StoreFacts) (live : Table) (slots : Slots) (space : Option Space) (bounds : Bounds) → IsSoundFile a live slots space bounds → Looks a b → IsSoundFile b live slots space bounds
+file_rested a b live slots space bounds was looks = record { sound = sound_rested a b live slots was.sound looks.honest looks.rests; bounded = was.bounded; known = was.known }
+
 -- another live table
 pub sound_live : (store : StoreFacts) (live new : Table) (slots : Slots) → IsSound store live slots → IsTable new → All IsPlaced (block_extents new.places.items) → (IsTrue store.honest → AreImaged store.content new.places.items)
     → (IsTrue store.honest → All (EndsIn store.content) (block_extents new.places.items)) → IsSound store new slots
@@ -105,7 +111,7 @@ sound_marked store live slots marked sound tables placed images within =
         committed = formed.committed;
         prepared = formed.prepared;
         marked = tables;
-        kept = kept_all IsPlaced (record slots { marked = marked }) (kept_pair IsPlaced slots formed.kept) (kept_held IsPlaced slots formed.kept) placed;
+        kept = kept_all IsPlaced (record slots { marked = marked }) (kept_pair IsPlaced slots formed.kept) (kept_prepared IsPlaced slots formed.kept) placed;
         version = formed.version;
         numbered = formed.numbered;
         in_range = formed.in_range;

@@ -36,7 +36,7 @@ use Rattle.vm_file.specs.declared.slot.SpareSlot.{SpareSlot}
 use Rattle.vm_file.specs.declared.slot.SpareSlot.TheVariants.{Shut, Stale, Prepared}
 use Rattle.vm_file.specs.declared.slot.Slots.{Slots}
 use Rattle.vm_file.proofs.RangesLemmas.{all_left, all_right}
-use Rattle.vm_file.proofs.SoundLemmas.{kept_pair, kept_held}
+use Rattle.vm_file.proofs.SoundLemmas.{kept_pair, kept_prepared}
 use Rattle.geos_model.specs.FileLaws as laws
 
 -- The document of a directory.
@@ -247,20 +247,20 @@ stale_beaten : (second : Bool) (sequence : ℕ) (c : List ℕ) → sequence < 2 
 stale_beaten second sequence c range long (inl unmarked) = inl (unmarked_shut (if second then 0 else 1) c (both_within c second long) unmarked)
 stale_beaten second sequence c range long (inr older) = older_beaten (if second then 0 else 1) sequence c range (both_within c second long) older
 
-pub held_beats : (second : Bool) (version sequence : ℕ) (committed held : Pair) (file c : List ℕ) → FitsPair version sequence committed → FitsPair 2 (sequence + 1) held → AreStored 2 file held → byte c (512 * (if second then 1 else 0) + 4) ≡ 1
+pub prepared_beats : (second : Bool) (version sequence : ℕ) (committed held : Pair) (file c : List ℕ) → FitsPair version sequence committed → FitsPair 2 (sequence + 1) held → AreStored 2 file held → byte c (512 * (if second then 1 else 0) + 4) ≡ 1
     → Leads (if second then 1 else 0) version sequence committed file c → byte c (512 * (if second then 0 else 1) + 4) ≡ 1 → Leads (if second then 0 else 1) 2 (sequence + 1) held file c → stands c ≡ Ok (documents_in file held)
-held_beats true version sequence committed held file c fits fits_held stored gate leads held_gate held_leads =
-    lead_stands 2 (sequence + 1) held file c false fits_held stored held_gate held_leads (inr (slot_value version sequence committed, lead_open 1 version sequence committed file c fits gate leads, omega arith))
-held_beats false version sequence committed held file c fits fits_held stored gate leads held_gate held_leads =
-    lead_stands 2 (sequence + 1) held file c true fits_held stored held_gate held_leads (inr (slot_value version sequence committed, lead_open 0 version sequence committed file c fits gate leads, omega arith))
+prepared_beats true version sequence committed held file c fits fits_prepared stored gate leads prepared_gate prepared_leads =
+    lead_stands 2 (sequence + 1) held file c false fits_prepared stored prepared_gate prepared_leads (inr (slot_value version sequence committed, lead_open 1 version sequence committed file c fits gate leads, omega arith))
+prepared_beats false version sequence committed held file c fits fits_prepared stored gate leads prepared_gate prepared_leads =
+    lead_stands 2 (sequence + 1) held file c true fits_prepared stored prepared_gate prepared_leads (inr (slot_value version sequence committed, lead_open 0 version sequence committed file c fits gate leads, omega arith))
 
 -- so that its number counts
-pub held_numbered : (second : Bool) (version sequence : ℕ) (committed held : Pair) (file c : List ℕ) → FitsPair version sequence committed → FitsPair 2 (sequence + 1) held → byte c (512 * (if second then 1 else 0) + 4) ≡ 1
+pub prepared_numbered : (second : Bool) (version sequence : ℕ) (committed held : Pair) (file c : List ℕ) → FitsPair version sequence committed → FitsPair 2 (sequence + 1) held → byte c (512 * (if second then 1 else 0) + 4) ≡ 1
     → Leads (if second then 1 else 0) version sequence committed file c → byte c (512 * (if second then 0 else 1) + 4) ≡ 1 → Leads (if second then 0 else 1) 2 (sequence + 1) held file c → sequence_in c ≡ Some (sequence + 1)
-held_numbered true version sequence committed held file c fits fits_held gate leads held_gate held_leads =
-    ap sequence_of (counts c false (slot_value 2 (sequence + 1) held) (lead_open 0 2 (sequence + 1) held file c fits_held held_gate held_leads) (inr (slot_value version sequence committed, lead_open 1 version sequence committed file c fits gate leads, omega arith)))
-held_numbered false version sequence committed held file c fits fits_held gate leads held_gate held_leads =
-    ap sequence_of (counts c true (slot_value 2 (sequence + 1) held) (lead_open 1 2 (sequence + 1) held file c fits_held held_gate held_leads) (inr (slot_value version sequence committed, lead_open 0 version sequence committed file c fits gate leads, omega arith)))
+prepared_numbered true version sequence committed held file c fits fits_prepared gate leads prepared_gate prepared_leads =
+    ap sequence_of (counts c false (slot_value 2 (sequence + 1) held) (lead_open 0 2 (sequence + 1) held file c fits_prepared prepared_gate prepared_leads) (inr (slot_value version sequence committed, lead_open 1 version sequence committed file c fits gate leads, omega arith)))
+prepared_numbered false version sequence committed held file c fits fits_prepared gate leads prepared_gate prepared_leads =
+    ap sequence_of (counts c true (slot_value 2 (sequence + 1) held) (lead_open 1 2 (sequence + 1) held file c fits_prepared prepared_gate prepared_leads) (inr (slot_value version sequence committed, lead_open 0 version sequence committed file c fits gate leads, omega arith)))
 
 one_stands : (spare : SpareSlot) (second : Bool) (version sequence : ℕ) (committed : Pair) (file c : List ℕ) → FitsPair version sequence committed → AreStored version file committed → All IsPlaced (prepared_extents spare) → IsPreparedReadable file sequence spare
     → byte c (512 * (if second then 1 else 0) + 4) ≡ 1 → Leads (if second then 1 else 0) version sequence committed file c → IsBeside spare (if second then 0 else 1) sequence file c → StandsForOne (documents_in file committed ∷ attempted_in file spare) c
@@ -271,15 +271,15 @@ one_stands Stale second version sequence committed file c fits stored placed hel
 one_stands (Prepared pair) second version sequence committed file c fits stored placed held gate leads beside =
     let o : ℕ = if second then 0 else 1 in
     elim (cases_Bool (byte c (512 * o + 4) == 1)) as (λ _. StandsForOne (documents_in file committed ∷ documents_in file pair ∷ []) c) [
-      | inl opened ↦ inr (inl (held_beats second version sequence committed pair file c fits (fits_pair 2 (sequence + 1) pair (inr refl) (omega arith) held.1.1 held.1.0 placed) held.0 gate leads (eqb-true (byte c (512 * o + 4)) 1 opened) beside))
+      | inl opened ↦ inr (inl (prepared_beats second version sequence committed pair file c fits (fits_pair 2 (sequence + 1) pair (inr refl) (omega arith) held.1.1 held.1.0 placed) held.0 gate leads (eqb-true (byte c (512 * o + 4)) 1 opened) beside))
       | inr shut ↦ inl (lead_stands version sequence committed file c second fits stored gate leads (inl (open_slot-shut c o (eqb-false (byte c (512 * o + 4)) 1 shut))))
     ]
 
--- A file that a crash left stands for the pair that is committed, or for the one that is held.
+-- A file that a crash left stands for the pair that is committed, or for the one that is prepared.
 pub outcome_stands : (slots : Slots) (file c : List ℕ) → AreReadable slots file → Outcome slots file c → StandsForOne (documents_in file slots.committed ∷ attempted_in file slots.spare) c
 outcome_stands slots file c are was =
     one_stands slots.spare slots.second slots.version slots.sequence slots.committed file c (fits_pair slots.version slots.sequence slots.committed are.versioned are.some are.in_range are.tables (kept_pair IsPlaced slots are.placed))
-    are.committed (kept_held IsPlaced slots are.placed) are.prepared was.gate was.counts was.beside
+    are.committed (kept_prepared IsPlaced slots are.placed) are.prepared was.gate was.counts was.beside
 
 pub prepared_readable : (file : List ℕ) (sequence : ℕ) (spare : SpareSlot) → IsPreparedFormed sequence spare → IsPreparedStored file spare → IsPreparedReadable file sequence spare
 prepared_readable file sequence Shut formed stored = tt

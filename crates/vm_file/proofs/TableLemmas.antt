@@ -18,6 +18,7 @@ use Rattle.vm_file.specs.Ranges.{end_of, KeepsAll}
 use Rattle.vm_file.specs.Slots.{block_extents}
 use Rattle.vm_file.specs.Documents.{block_in, blocks_in, of_kind, IsImaged, AreImaged, document_in}
 use Rattle.vm_file.proofs.ImageLemmas.{of_kind-kind, of_kind-same}
+use Rattle.vm_file.specs.Listing.{IsPlaceOf}
 use Rattle.vm_file.specs.Disk.{Drifts, IsListed}
 use Rattle.vm_file.specs.declared.table.Place.{Place}
 use Rattle.geos_model.proofs.Files.{body_of-some}
@@ -202,9 +203,6 @@ length-block_extents (None ∷ places) = omega (arith, length-block_extents plac
 length-block_extents (Some place ∷ places) = omega (arith, length-block_extents places)
 
 -- The place that a look-up gave.
-pub record IsPlaceOf (places : List (Option Place)) (h : ℕ) (result : Option Place) : Type 0 where
-  pub nothing : h ≡ 0 → result ≡ None
-  pub place : 1 ≤ h → result ≡ slot_at places (h - 1)
 
 pub entry_live : (file : List ℕ) (places : List (Option Place)) (map_block h : ℕ) (result : Option Place) → IsPlaceOf places h result → is_some result ≡ is_live (shown file places map_block) h
 entry_live file places map_block zero result is = ap is_some (is.nothing refl) ∙ sym (not_live file places map_block)

@@ -16,14 +16,14 @@ ghost use Rattle.vm_file.specs.Calls.{IsPut, put_all, remove_all, IsImageLength,
 use crate::commit::{commit_pair, commit_pending, saved_beside};
 use crate::copying::copy_document;
 use crate::directory::pending_directory_of;
-use crate::extent::read_extent;
 use crate::listing::{Bounds, bounds_of, find_from, first_free, live_handles, tightened, widened};
 use crate::making::make_empty;
 use crate::member::Member;
 use crate::opening::open_slots;
 use crate::slot::Slots;
 use crate::table::{
-    Place, Table, both_of, change_places, copy_table, make_room, place_of, set_attributes,
+    Place, Table, both_of, change_places, copy_table, make_room, place_in, read_block,
+    set_attributes,
 };
 use crate::writing::write_puts;
 use geos_model::{Attributes, Fault, VmHandle};
@@ -168,7 +168,7 @@ impl<S: Store> VmFile<S> {
             → bytes_in (S.facts self.now.disk.store).content place.extent
             ≡ image (block_at self.now.document block.0).body) }
     {
-        place_of(&self.live.places, block)
+        place_in(&self.live, block)
     }
 
     /// It does nothing: its caller learns what always holds of a file.
@@ -185,7 +185,7 @@ impl<S: Store> VmFile<S> {
         ensures attributes { IfSome result (λ place. place.attributes ≡ attributes_of self.now.disk.saved block.0) }
         ensures handle { IfSome result (λ place. is_vm_handle block.0 ≡ true) }
     {
-        place_of(&self.slots.committed.saved.table.places, block)
+        place_in(&self.slots.committed.saved.table, block)
     }
 
     /// The map block of the saved document, 0 if there is none.
@@ -204,10 +204,8 @@ impl<S: Store> VmFile<S> {
             → bytes.items ≡ image (block_at self.old.disk.saved block.0).body) }
         ensures fails { Fails S.facts NoFault self.old.disk.store self.new.disk.store result }
     {
-        match place_of(&self.slots.committed.saved.table.places, block) {
-            Some(place) => read_extent(self.alloc, &mut self.store, place.extent),
-            None => unreachable!(),
-        }
+        let saved = &self.slots.committed.saved.table;
+        read_block(self.alloc, &mut self.store, saved, block)
     }
 
     /// The map block, 0 if there is none.
@@ -254,10 +252,7 @@ impl<S: Store> VmFile<S> {
         ensures size { IfOk result (λ bytes. IsImageLength (length bytes.items)) }
         ensures fails { Fails S.facts NoFault self.old.disk.store self.new.disk.store result }
     {
-        match place_of(&self.live.places, block) {
-            Some(place) => read_extent(self.alloc, &mut self.store, place.extent),
-            None => unreachable!(),
-        }
+        read_block(self.alloc, &mut self.store, &self.live, block)
     }
 
     /// Sets the attributes of a block. Only a heap has a type.

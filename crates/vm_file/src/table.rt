@@ -1,6 +1,14 @@
 //! The blocks of a document and where their images lie in the file; copies of that.
-ghost use Rattle.std.specs.Prelude.{◌≡◌, ◌≤◌, ◌-◌, ◌++◌, ◌∷◌, [], List, All, IfSome, IsOk, OnOk, OnErr, None, Some, get_or, length, max, slice_set, IfOk};
-ghost use Rattle.vm_file.specs.Calls.{IsPut};
+ghost use Rattle.std.specs.Prelude.{IsTrue, IfErr, IsErrOf, true, ◌≡◌, ◌≤◌, ◌-◌, ◌++◌, ◌∷◌, [], List, All, IfSome, IsOk, OnOk, OnErr, None, Some, get_or, length, max, slice_set, IfOk};
+ghost use Rattle.vm_store.specs.Facts.{Raised};
+ghost use Rattle.geos_model.specs.Document.{is_live, block_at};
+ghost use Rattle.geos_model.specs.Image.{image};
+ghost use Rattle.vm_file.specs.Ranges.{IsPlaced};
+ghost use Rattle.vm_file.specs.Documents.{document_in, AreImaged};
+ghost use Rattle.vm_file.specs.Sound.{ArePlaces};
+ghost use Rattle.vm_file.specs.Opened.{Looks};
+ghost use Rattle.vm_file.specs.Listing.{IsPlaceOf};
+ghost use Rattle.vm_file.specs.Calls.{IsPut, IsImageLength, IsSupply};
 ghost use Rattle.vm_file.specs.Slots.{block_extents, kept_extents};
 ghost use Rattle.vm_file.specs.FreeSpace.{IsKnown};
 ghost use Rattle.vm_file.specs.Copies.{IsCopy, IsStoredCopy};
@@ -9,11 +17,13 @@ ghost use Rattle.geos_model.specs.declared.file.Extent.{Extent};
 ghost use Rattle.vm_space.specs.Space.{AreTaken};
 ghost use Rattle.vm_file.specs.Writing.{IsGrown, placed_at, with_places, without_place, without_places};
 
+use crate::extent::read_extent;
 use crate::member::Member;
 use crate::slot::Slots;
-use geos_model::{Attributes, Extent, VmHandle};
+use geos_model::{Attributes, Extent, Fault, VmHandle};
 use std::alloc::{AllocError, Global};
 use vm_space::FreeSpace;
+use vm_store::Store;
 
 /// A block in the file.
 #[derive(Clone, Copy, Debug, PartialEq, Eq)]
@@ -79,7 +89,7 @@ pub fn both_of(alloc: Global, stored: &DocumentRef) -> Result<Pair, AllocError>
 }
 
 /// The place of a handle, `None` where no block is live under it.
-pub fn place_of(places: &[Option<Place>], block: VmHandle) -> Option<Place>
+fn place_of(places: &[Option<Place>], block: VmHandle) -> Option<Place>
     ensures zero { block.0 ≡ 0 → result ≡ None }
     ensures place { 1 ≤ block.0 → result ≡ get_or places.now (block.0 - 1) None }
 {
@@ -89,6 +99,36 @@ pub fn place_of(places: &[Option<Place>], block: VmHandle) -> Option<Place>
     match places.get(usize::from(block.0) - 1) {
         Some(place) => *place,
         None => None,
+    }
+}
+
+/// The place of a handle in a table, `None` where no block is live under it.
+pub fn place_in(table: &Table, block: VmHandle) -> Option<Place>
+    ensures { IsPlaceOf table.now.places.items block.0 result }
+{
+    place_of(&table.places, block)
+}
+
+/// The image of a block that a table has. Memory, File.
+pub fn read_block<S: Store>(
+    alloc: Global,
+    store: &mut S,
+    table: &Table,
+    block: VmHandle,
+) -> Result<Vec<u8>, Fault>
+    requires live { is_live (document_in (S.facts store.old).content table.now) block.0 ≡ true }
+    requires images { IsTrue (S.facts store.old).honest → AreImaged (S.facts store.old).content table.now.places.items }
+    ensures looks { Looks (S.facts store.old) (S.facts store.new) }
+    ensures image { IfOk result (λ bytes. IsTrue (S.facts store.old).honest
+        → bytes.items ≡ image (block_at (document_in (S.facts store.old).content table.now) block.0).body) }
+    ensures size { IfOk result (λ bytes. All IsPlaced (block_extents table.now.places.items)
+        → ArePlaces table.now.places.items → IsImageLength (length bytes.items)) }
+    ensures file { IsErrOf result Fault.File → Raised (S.facts store.old) (S.facts store.new) }
+    ensures refusals { IfErr result IsSupply }
+{
+    match place_in(table, block) {
+        Some(place) => read_extent(alloc, store, place.extent),
+        None => unreachable!(),
     }
 }
 

@@ -1,7 +1,7 @@
 use Rattle.std.proofs.Common.{IsTrue, sym, subst, inr}
 use Rattle.vm_file.specs.Slots.{pair_extents, FailedEarly, Failed, AreKept}
 use Rattle.vm_file.proofs.RangesLemmas.{slots_keep}
-use Rattle.vm_file.proofs.SlotsLemmas.{shut_kept, Outlives-trans, prepared_leaves, as_before, as_shut, as_early, as_held}
+use Rattle.vm_file.proofs.SlotsLemmas.{shut_kept, Outlives-trans, prepared_leaves, as_before, as_shut, as_early, as_prepared}
 use Rattle.vm_file.proofs.ResultLemmas.{on_err}
 use Rattle.vm_file.proofs.commit.commit.Goals as goal
 
@@ -62,7 +62,7 @@ returns-clause-crash g c file holds leaves keeps =
     Outlives-trans _ _ _ file (λ s. Failed slots pair s)
     (as_early slots now pair file _ _ (Outlives-trans _ _ _ file (λ s. FailedEarly slots s) (as_before slots slots pair file _ _ (c.shut_gate.ensures.crash file holds leaves))
     (as_shut slots now pair file _ _ c.in_ok-shut_gate.ensures.ok (c.fill_slot.ensures.crash file still shut))))
-    (as_held slots now pair file _ _ c.in_ok-shut_gate.ensures.ok (c.open_gate.ensures.crash file yet prepared))
+    (as_prepared slots now pair file _ _ c.in_ok-shut_gate.ensures.ok (c.open_gate.ensures.crash file yet prepared))
 
 pub returns-clause-leaves : goal.returns-clause-leaves
 returns-clause-leaves g c file holds leaves keeps =

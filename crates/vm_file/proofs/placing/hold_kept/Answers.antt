@@ -2,7 +2,7 @@ use Rattle.std.proofs.Common.{◌++◌, length-append, arith}
 use Rattle.std.proofs.lemmas.Result.{on_ok_weaker}
 use Rattle.vm_file.specs.Ranges.{IsPlaced}
 use Rattle.vm_file.specs.Slots.{pair_extents, prepared_extents, marked_extents}
-use Rattle.vm_file.proofs.SoundLemmas.{kept_pair, kept_held, kept_marked}
+use Rattle.vm_file.proofs.SoundLemmas.{kept_pair, kept_prepared, kept_marked}
 use Rattle.vm_file.proofs.FreeSpaceLemmas.{takes-both}
 use Rattle.vm_file.proofs.placing.hold_kept.Goals as goal
 
@@ -27,7 +27,7 @@ hold_spare-requires-clause-few c =
     omega (arith, all, rest, count, few)
 
 pub hold_spare-requires-clause-placed : goal.hold_spare-requires-clause-placed
-hold_spare-requires-clause-placed c = kept_held IsPlaced c.args.slots.now c.requires.placed
+hold_spare-requires-clause-placed c = kept_prepared IsPlaced c.args.slots.now c.requires.placed
 
 pub hold_pair-requires-clause-few : goal.hold_pair-requires-clause-few
 hold_pair-requires-clause-few c =

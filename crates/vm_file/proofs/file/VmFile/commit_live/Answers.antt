@@ -1,4 +1,4 @@
-use Rattle.std.proofs.Common.{◌≡◌, ◌≢◌, Bool, true, false, refl, sym, subst}
+use Rattle.std.proofs.Common.{◌≡◌, ◌≢◌, Bool, refl, sym, subst}
 use Rattle.std.specs.Prelude.{if◌then◌else◌}
 use Rattle.geos_model.specs.Document.{Document}
 use Rattle.geos_model.specs.declared.fault.Fault.TheVariants.{Worn}

@@ -2,9 +2,8 @@ use Rattle.std.proofs.Common.{false, IsTrue, Some, ◌≡◌, refl, sym, subst}
 use Rattle.vm_file.specs.Documents.{document_in, version_in}
 use Rattle.std.specs.Prelude.{IfOk}
 use Rattle.vm_file.specs.Disk.{Drifts}
-use Rattle.vm_file.specs.Effects.{IsNewFile, OnlyReads}
-use Rattle.vm_file.specs.Sound.{disk_of}
-use Rattle.vm_file.proofs.EffectsLemmas.{rested, made_file}
+use Rattle.vm_file.specs.Effects.{IsNewFile}
+use Rattle.vm_file.proofs.EffectsLemmas.{view_reads, made_file}
 use Rattle.vm_file.proofs.LaidOutLemmas.{laid_drifts}
 use Rattle.vm_file.proofs.file.VmFile.copy_to.Goals.{in-Ok, in-Err}
 use Rattle.vm_file.proofs.StandsLemmas.{sound_versioned}
@@ -12,10 +11,8 @@ use Rattle.vm_file.proofs.file.VmFile.copy_to.Goals as goal
 
 pub returns-clause-reads : goal.returns-clause-reads
 returns-clause-reads g c =
-    let facts = g.S.Store.facts in let i = c.self.inside in
-    let looks = c.copy_document.ensures.looks in
-    subst (λ s. OnlyReads facts s (record { disk = disk_of facts c.copy_document.new.source i.slots; document = document_in (facts c.copy_document.new.source).content i.live })) c.self.view_is
-    (rested facts i.store c.copy_document.new.source i.live i.slots c.self.invariant.sound (λ so. (g.met.S.Store.timely c.copy_document.new.source so).now) looks.honest looks.failures looks.rests)
+    let i = c.self.inside in let source = c.copy_document.new.source in
+    view_reads g.S.Store.facts i.store source i.live i.slots c.self.invariant.sound (λ so. (g.met.S.Store.timely source so).now) c.args.self.now c.self.view_is c.copy_document.ensures.looks
 
 pub returns-clause-handles : goal.returns-clause-handles
 returns-clause-handles g c =

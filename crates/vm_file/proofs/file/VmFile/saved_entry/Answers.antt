@@ -1,28 +1,24 @@
-use Rattle.std.proofs.Common.{◌≡◌, ◌-◌, ap, subst, ◌∙◌}
+use Rattle.std.proofs.Common.{◌≡◌, ap, subst, ◌∙◌}
 use Rattle.std.specs.Prelude.{IfSome}
 use Rattle.geos_model.specs.Document.{is_live, attributes_of}
-use Rattle.geos_model.proofs.Tables.{slot_at}
-use Rattle.vm_file.proofs.TableLemmas.{IsPlaceOf, entry_live, entry_attributes, entry_handle}
+use Rattle.vm_file.proofs.TableLemmas.{entry_live, entry_attributes, entry_handle}
 use Rattle.vm_file.proofs.file.VmFile.saved_entry.Goals as goal
 
 pub returns-clause-live : goal.returns-clause-live
 returns-clause-live g c =
     let saved = c.self.inside.slots.committed.saved.table in
     let h = c.args.block.0 in
-    let is : IsPlaceOf saved.places.items h c.place_of.result = record { nothing = c.place_of.ensures.zero; place = λ low. c.place_of.ensures.place low ∙ ap (λ ps. slot_at ps (h - 1)) c.deref.ensures.value } in
-    entry_live (g.S.Store.facts c.self.inside.store).content saved.places.items saved.map_block h c.place_of.result is ∙ ap (λ s. is_live s.disk.saved h) c.self.view_is
+    entry_live (g.S.Store.facts c.self.inside.store).content saved.places.items saved.map_block h c.place_in.result c.place_in.ensures ∙ ap (λ s. is_live s.disk.saved h) c.self.view_is
 
 pub returns-clause-attributes : goal.returns-clause-attributes
 returns-clause-attributes g c =
     let saved = c.self.inside.slots.committed.saved.table in
     let h = c.args.block.0 in
-    let is : IsPlaceOf saved.places.items h c.place_of.result = record { nothing = c.place_of.ensures.zero; place = λ low. c.place_of.ensures.place low ∙ ap (λ ps. slot_at ps (h - 1)) c.deref.ensures.value } in
-    subst (λ s. IfSome c.place_of.result (λ place. place.attributes ≡ attributes_of s.disk.saved h)) c.self.view_is
-    (entry_attributes (g.S.Store.facts c.self.inside.store).content saved.places.items saved.map_block h c.place_of.result is)
+    subst (λ s. IfSome c.place_in.result (λ place. place.attributes ≡ attributes_of s.disk.saved h)) c.self.view_is
+    (entry_attributes (g.S.Store.facts c.self.inside.store).content saved.places.items saved.map_block h c.place_in.result c.place_in.ensures)
 
 pub returns-clause-handle : goal.returns-clause-handle
 returns-clause-handle g c =
     let saved = c.self.inside.slots.committed.saved.table in
     let h = c.args.block.0 in
-    let is : IsPlaceOf saved.places.items h c.place_of.result = record { nothing = c.place_of.ensures.zero; place = λ low. c.place_of.ensures.place low ∙ ap (λ ps. slot_at ps (h - 1)) c.deref.ensures.value } in
-    entry_handle saved.places.items h c.place_of.result c.self.invariant.sound.formed.committed.saved.size is
+    entry_handle saved.places.items h c.place_in.result c.self.invariant.sound.formed.committed.saved.size c.place_in.ensures
