@@ -16,6 +16,7 @@ pub mod File
 pub mod FileLaws
 pub mod Cost
 pub mod Reply
+pub mod Scope
 pub mod Machine
 pub mod Laws
 pub mod EditLaws

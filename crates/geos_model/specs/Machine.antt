@@ -7,6 +7,7 @@ use Rattle.geos_model.specs.Refusal.{Conditions, first_refusal}
 use Rattle.geos_model.specs.Document.{Document, empty_document, IsValid, is_live, is_raw, chunks_of, raw_bytes_of}
 use Rattle.geos_model.specs.Meaning.{conditions, effect, on_block}
 use Rattle.geos_model.specs.Cost.{cost}
+use Rattle.geos_model.specs.Scope.{scope_of}
 use Rattle.geos_model.specs.Reply.{Reply, Accepted, Refused, NumberIs, reply_of_done, look_up_conditions, look_up}
 use Rattle.geos_model.specs.declared.fault.Fault.{Fault}
 use Rattle.geos_model.specs.declared.fault.Fault.TheVariants.{Memory, File, BadCommand, Locked, NotLocked, LockLimit, CacheFull, NothingToUndo, NothingToRedo, NoTarget, Worn, GroupOpen, NoGroup}
@@ -16,6 +17,8 @@ use Rattle.geos_model.specs.declared.command.Edit.{Edit}
 use Rattle.geos_model.specs.declared.command.Edit.TheVariants as edits
 use Rattle.geos_model.specs.declared.command.Command.{Command}
 use Rattle.geos_model.specs.declared.command.Command.TheVariants as commands
+use Rattle.geos_model.specs.declared.scope.Scope.{Scope}
+use Rattle.geos_model.specs.declared.scope.Scope.TheVariants as scopes
 
 -- a document that undo or redo gives back, with what kind of step lies between, and what that is charged
 pub record UndoStep : Type 0 where
@@ -93,41 +96,21 @@ pub record IsValidMachine (m : Machine) : Type 0 where
 abbrev pub Request : Type 0
 Request = Option Command
 
--- what kind of step an edit makes
+-- what kind of step an edit makes, by its part of the document: a copy makes blocks
+abbrev pub kind_of_scope : Scope → Kind
+kind_of_scope scopes.Plain = Plain
+kind_of_scope scopes.New = Made
+kind_of_scope (scopes.Block b) = Made
+kind_of_scope (scopes.Raw b) = In b
+kind_of_scope (scopes.Heap b) = In b
+kind_of_scope (scopes.Chunk b c) = In b
+kind_of_scope (scopes.Chain b) = Made
+
+-- but for those that free blocks
 abbrev pub kind_of : Edit → Kind
-kind_of (edits.NewRaw uid size) = Made
-kind_of (edits.NewHeap uid) = Made
 kind_of (edits.FreeBlock b) = Freed
-kind_of (edits.CopyBlock b) = Made
-kind_of (edits.WriteRaw b at bytes) = In b
-kind_of (edits.Attach b bytes) = In b
-kind_of (edits.SetUserId b uid) = Plain
-kind_of (edits.SetType b heap_type) = Plain
-kind_of (edits.SetMap b) = Plain
-kind_of (edits.Alloc b n) = In b
-kind_of (edits.Free b c) = In b
-kind_of (edits.Resize b c n) = In b
-kind_of (edits.Insert b c at n) = In b
-kind_of (edits.Delete b c at n) = In b
-kind_of (edits.Write b c at bytes) = In b
-kind_of (edits.CreateArray b size extra) = In b
-kind_of (edits.InsertElement b c i element) = In b
-kind_of (edits.SetElement b c i element) = In b
-kind_of (edits.ResizeElement b c i n) = In b
-kind_of (edits.DeleteElements b c i k) = In b
-kind_of (edits.ZeroArray b c) = In b
-kind_of (edits.CreateElementArray b size) = In b
-kind_of (edits.AddElement b c element) = In b
-kind_of (edits.AddReference b c t) = In b
-kind_of (edits.RemoveReference b c t) = In b
-kind_of (edits.DeleteElement b c t) = In b
-kind_of (edits.ChangeElement b c t element) = In b
-kind_of (edits.CreateNameArray b part) = In b
-kind_of (edits.AddName b c text part replace) = In b
-kind_of (edits.ChangeName b c t text) = In b
-kind_of (edits.RemoveName b c t) = In b
-kind_of (edits.CopyChain b) = Made
 kind_of (edits.FreeChain b) = Freed
+kind_of e = kind_of_scope (scope_of e)
 
 -- Which bodies a command looks into, so that their blocks have to be in memory: none, that of one block, or those of a chain.
 pub data Needs : Type 0 where
@@ -135,18 +118,18 @@ pub data Needs : Type 0 where
   OneBody : (block : ℕ) → Needs
   ManyBodies : Needs
 
--- of the kind of an edit: one of a body looks into that, and any other into none
-abbrev pub needs_of_kind : Kind → Needs
-needs_of_kind (In b) = OneBody b.0
-needs_of_kind kind = NoBody
+-- that of an edit, by its part of the document: a user ID, a type and the map block are set without a body
+abbrev pub needs_of_scope : Scope → Needs
+needs_of_scope scopes.Plain = NoBody
+needs_of_scope scopes.New = NoBody
+needs_of_scope (scopes.Block b) = OneBody b.0
+needs_of_scope (scopes.Raw b) = OneBody b.0
+needs_of_scope (scopes.Heap b) = OneBody b.0
+needs_of_scope (scopes.Chunk b c) = OneBody b.0
+needs_of_scope (scopes.Chain b) = ManyBodies
 
--- but those that free or copy blocks which are there; a user ID, a type and the map block are set without a body
 abbrev pub edit_needs : Edit → Needs
-edit_needs (edits.FreeBlock b) = OneBody b.0
-edit_needs (edits.CopyBlock b) = OneBody b.0
-edit_needs (edits.CopyChain b) = ManyBodies
-edit_needs (edits.FreeChain b) = ManyBodies
-edit_needs e = needs_of_kind (kind_of e)
+edit_needs e = needs_of_scope (scope_of e)
 
 -- so of a look-up
 abbrev pub look_up_needs : Command → Needs

@@ -10,6 +10,7 @@ mod file;
 mod handle;
 mod law;
 mod limit;
+mod scope;
 
 pub use block::Attributes;
 pub use bytes::{Bytes, Chunks};
@@ -26,3 +27,4 @@ pub use limit::{
     CAPACITY, LAST_PAGE, LAST_PAGE_OF_VERSION_1, LONGEST_CHUNK, MOST_BLOCKS,
     MOST_BLOCKS_OF_VERSION_1,
 };
+pub use scope::Scope;

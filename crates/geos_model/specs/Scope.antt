@@ -1,0 +1,40 @@
+-- Which part of a document an edit is of: the block and the chunk that it names, or that it makes one.
+use Rattle.geos_model.specs.declared.command.Edit.{Edit}
+use Rattle.geos_model.specs.declared.command.Edit.TheVariants as edits
+use Rattle.geos_model.specs.declared.scope.Scope.{Scope}
+use Rattle.geos_model.specs.declared.scope.Scope.TheVariants.{Plain, New, Block, Raw, Heap, Chunk, Chain}
+
+abbrev pub scope_of : Edit → Scope
+scope_of (edits.SetUserId b uid) = Plain
+scope_of (edits.SetType b heap_type) = Plain
+scope_of (edits.SetMap b) = Plain
+scope_of (edits.NewRaw uid size) = New
+scope_of (edits.NewHeap uid) = New
+scope_of (edits.FreeBlock b) = Block b
+scope_of (edits.CopyBlock b) = Block b
+scope_of (edits.WriteRaw b at bytes) = Raw b
+scope_of (edits.Attach b bytes) = Raw b
+scope_of (edits.Alloc b n) = Heap b
+scope_of (edits.CreateArray b size extra) = Heap b
+scope_of (edits.CreateElementArray b size) = Heap b
+scope_of (edits.CreateNameArray b part) = Heap b
+scope_of (edits.Free b c) = Chunk b c
+scope_of (edits.Resize b c n) = Chunk b c
+scope_of (edits.Insert b c at n) = Chunk b c
+scope_of (edits.Delete b c at n) = Chunk b c
+scope_of (edits.Write b c at bytes) = Chunk b c
+scope_of (edits.InsertElement b c i element) = Chunk b c
+scope_of (edits.SetElement b c i element) = Chunk b c
+scope_of (edits.ResizeElement b c i n) = Chunk b c
+scope_of (edits.DeleteElements b c i k) = Chunk b c
+scope_of (edits.ZeroArray b c) = Chunk b c
+scope_of (edits.AddElement b c element) = Chunk b c
+scope_of (edits.AddReference b c t) = Chunk b c
+scope_of (edits.RemoveReference b c t) = Chunk b c
+scope_of (edits.DeleteElement b c t) = Chunk b c
+scope_of (edits.ChangeElement b c t element) = Chunk b c
+scope_of (edits.AddName b c name part replace) = Chunk b c
+scope_of (edits.ChangeName b c t name) = Chunk b c
+scope_of (edits.RemoveName b c t) = Chunk b c
+scope_of (edits.CopyChain b) = Chain b
+scope_of (edits.FreeChain b) = Chain b
