@@ -10,9 +10,12 @@ use Rattle.std.specs.FinMap.{get}
 use Rattle.geos_model.specs.Document.{Document, is_heap, is_heap_body, is_live, attributes_of, with_body}
 use Rattle.geos_model.proofs.HeapEdits.{get-put_same, get-put_other}
 use Rattle.block_cache.specs.Bodies.{body_of}
-use Rattle.block_cache.specs.Frames.{held, overlay, IsKept, AreKept}
+use Rattle.vm_file.specs.Disk.{Disk}
+use Rattle.block_cache.specs.Frames.{held, overlay, seats, IsKept, AreKept}
 use Rattle.block_cache.specs.declared.frame.Frame.{Frame}
+use Rattle.block_cache.specs.State.{CacheState}
 use Rattle.block_cache.proofs.Overlay.{cover, get-overlay, overlay_map, overlay_attributes, same_document}
+use Rattle.block_cache.proofs.Seats.{seats_kept}
 
 pub is_lent : (o : Option (MutBor Frame)) → is_some (option_copied_mut o) ≡ true → IsSome o
 is_lent None is = absurd (cc is)
@@ -58,3 +61,12 @@ module _ (es : List (ℕ × Frame)) (h : ℕ) (f : Frame) (here : held es h ≡ 
         | inr other ↦ kept.each q k (sym (now_other q other) ∙ is)
       ];
     }
+
+    -- what callers see of the cache then: the block has another body
+    pub state_lent : {S : Type 0} (disk : Disk S) (cap : ℕ) (s : CacheState S) → g.locks ≡ f.locks → record { disk = disk; document = overlay es d; resident = seats es; frames = cap } ≡ s
+        → record { disk = disk; document = overlay lent d; resident = seats lent; frames = cap } ≡ record s { document = with_body s.document h (body_of g.body) }
+    state_lent {S} disk cap s locks view =
+        let document = overlay_lent in
+        let resident = seats_kept h es f g here locks in
+        (λ i. record { disk = disk; document = document i; resident = resident i; frames = cap })
+        ∙ ap (λ (x : CacheState S). record x { document = with_body x.document h (body_of g.body) }) view

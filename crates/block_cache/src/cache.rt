@@ -5,6 +5,7 @@ ghost use Rattle.std.specs.FinMap.{get, keys};
 ghost use Rattle.std.specs.Map.{set_value};
 ghost use Rattle.std.specs.Option.{option_map};
 ghost use Rattle.std.specs.Result.{IsErrAnd};
+ghost use Rattle.lru.specs.LruCache.{lru_cache};
 ghost use Rattle.geos_model.specs.Document.{IsValid, is_heap, is_vm_handle, is_live, next_handle, most_blocks, attributes_of, with_attributes, IsTyped};
 ghost use Rattle.geos_model.specs.declared.command.Body.TheVariants as bodies;
 ghost use Rattle.geos_model.specs.ElementArray.{all_distinct};
@@ -69,21 +70,18 @@ impl<S: Store> Cache<S> {
             (λ refused. IsNotMade S.facts store refused.store refused.fault) }
         ensures empty { IfOk result (λ cache. (cache.resident ≡ []) × (cache.frames ≡ frames)) }
     {
-        let cap = NonZeroUsize::new(frames).unwrap();
-        let Ok(frames) = LruCache::new(alloc, cap) else {
+        let Ok(frames) = new_frames(alloc, frames) else {
             return Err(Refused {
                 fault: Fault::Memory,
                 store,
             });
         };
-        match VmFile::create(alloc, store) {
-            Ok(file) => Ok(Cache {
-                alloc,
-                file,
-                frames,
-            }),
-            Err(refused) => Err(refused),
-        }
+        let file = VmFile::create(alloc, store)?;
+        Ok(Cache {
+            alloc,
+            file,
+            frames,
+        })
     }
 
     /// Opens the file that a store has, with so many frames, and its updated document as it is now. Where it is refused the store
@@ -96,21 +94,18 @@ impl<S: Store> Cache<S> {
             (λ refused. IsNotOpened S.facts store refused.store refused.fault) }
         ensures empty { IfOk result (λ cache. (cache.resident ≡ []) × (cache.frames ≡ frames)) }
     {
-        let cap = NonZeroUsize::new(frames).unwrap();
-        let Ok(frames) = LruCache::new(alloc, cap) else {
+        let Ok(frames) = new_frames(alloc, frames) else {
             return Err(Refused {
                 fault: Fault::Memory,
                 store,
             });
         };
-        match VmFile::open(alloc, store) {
-            Ok(file) => Ok(Cache {
-                alloc,
-                file,
-                frames,
-            }),
-            Err(refused) => Err(refused),
-        }
+        let file = VmFile::open(alloc, store)?;
+        Ok(Cache {
+            alloc,
+            file,
+            frames,
+        })
     }
 
     /// How many blocks may be in memory.
@@ -475,4 +470,13 @@ impl<S: Store> Cache<S> {
     {
         self.file.close()
     }
+}
+
+// So many frames, none of them taken.
+fn new_frames(alloc: Global, frames: usize) -> Result<LruCache<u16, Frame>, AllocError>
+    requires { 1 ≤ frames }
+    ensures { IfOk result (λ empty. empty ≡ lru_cache [] frames) }
+{
+    let cap = NonZeroUsize::new(frames).unwrap();
+    LruCache::new(alloc, cap)
 }

@@ -1,7 +1,10 @@
 //! What the commits of a cache do to its file.
-ghost use Rattle.std.specs.Prelude.{◌≡◌, OnOk, OnErr, []};
+ghost use Rattle.std.specs.Prelude.{◌≡◌, ◌≢◌, OnOk, OnErr, []};
+ghost use Rattle.geos_model.specs.Document.{Document};
+ghost use Rattle.vm_file.specs.Calls.{last_sequence};
+ghost use Rattle.vm_file.specs.Documents.{Documents};
 ghost use Rattle.vm_file.specs.Effects.{IsCommit, Fails, IsWorn};
-ghost use Rattle.block_cache.specs.Frames.{seats, overlay, covered, AreKept};
+ghost use Rattle.block_cache.specs.Frames.{seats, overlay, covered, AreClean, AreKept, Moves};
 
 use crate::frame::Frame;
 use crate::loading::flush;
@@ -10,6 +13,29 @@ use lru::LruCache;
 use std::alloc::Global;
 use vm_file::VmFile;
 use vm_store::Store;
+
+// Puts what is changed in memory into the file, which a commit follows. Refused as any commit is, whatever it was to commit.
+fn begin<S: Store>(
+    alloc: Global,
+    file: &mut VmFile<S>,
+    frames: &mut LruCache<u16, Frame>,
+) -> Result<(), Fault>
+    requires kept { AreKept (S.facts file.old.disk.store).honest file.old.document frames.old.entries }
+    ensures moves { Moves S.facts file.old frames.old.entries file.new frames.new.entries }
+    ensures ok { OnOk result ((file.old.disk.sequence ≢ last_sequence) × AreClean frames.new.entries) }
+    ensures err { OnErr result ((pair : Documents) (behind : Document) → IsCommit S.facts pair behind
+        (covered file.old frames.old.entries) (covered file.new frames.new.entries) result) }
+    ensures seats { seats frames.new.entries ≡ seats frames.old.entries }
+    ensures cap { frames.new.cap ≡ frames.old.cap }
+    ensures fails { Fails S.facts IsWorn file.old.disk.store file.new.disk.store result }
+{
+    file.validity();
+    if file.is_worn() {
+        return Err(Fault::Worn);
+    }
+    flush(alloc, file, frames)?;
+    Ok(())
+}
 
 /// Makes the document under the frames the updated one. Worn, before anything is written; Memory, where nothing is committed;
 /// File.
@@ -27,11 +53,7 @@ pub fn update<S: Store>(
     ensures cap { frames.new.cap ≡ frames.old.cap }
     ensures fails { Fails S.facts IsWorn file.old.disk.store file.new.disk.store result }
 {
-    file.validity();
-    if file.is_worn() {
-        return Err(Fault::Worn);
-    }
-    flush(alloc, file, frames)?;
+    begin(alloc, file, frames)?;
     file.commit_update()
 }
 
@@ -51,11 +73,7 @@ pub fn save<S: Store>(
     ensures cap { frames.new.cap ≡ frames.old.cap }
     ensures fails { Fails S.facts IsWorn file.old.disk.store file.new.disk.store result }
 {
-    file.validity();
-    if file.is_worn() {
-        return Err(Fault::Worn);
-    }
-    flush(alloc, file, frames)?;
+    begin(alloc, file, frames)?;
     file.commit_save()
 }
 

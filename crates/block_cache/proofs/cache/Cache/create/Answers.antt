@@ -5,8 +5,8 @@ use Rattle.block_cache.specs.Opening.{IsMadeIn}
 use Rattle.block_cache.specs.declared.frame.Frame.{Frame}
 use Rattle.block_cache.proofs.cache.Cache.create.Goals as goal
 
-pub returns-in-Ok-create-clause-made : goal.returns-in-Ok-create-clause-made
-returns-in-Ok-create-clause-made g c =
-    let made = c.in-Ok-create.ensures in
-    subst (λ (x : LruCache ℕ Frame). IsMadeIn g.S.Store.facts c.args.store (covered c.in-Ok-create.file x.entries)) (sym c.in-Ok.ensures)
+pub returns-clause-made : goal.returns-clause-made
+returns-clause-made g c =
+    let made = c.in_ok-file.ensures in
+    subst (λ (x : LruCache ℕ Frame). IsMadeIn g.S.Store.facts c.args.store (covered c.in_ok-file.file x.entries)) (sym c.in-Ok.ensures)
     (record { follows = made.store; document = made.made.0; new_file = made.made.1; bytes = made.bytes; size = made.size })

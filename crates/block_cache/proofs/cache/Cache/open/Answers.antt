@@ -5,10 +5,10 @@ use Rattle.block_cache.specs.Opening.{IsOpenedFrom}
 use Rattle.block_cache.specs.declared.frame.Frame.{Frame}
 use Rattle.block_cache.proofs.cache.Cache.open.Goals as goal
 
-pub returns-in-Ok-open-clause-opened : goal.returns-in-Ok-open-clause-opened
-returns-in-Ok-open-clause-opened g c =
-    let found = c.in-Ok-open.ensures in
-    subst (λ (x : LruCache ℕ Frame). IsOpenedFrom g.S.Store.facts c.args.store (covered c.in-Ok-open.file x.entries)) (sym c.in-Ok.ensures) (record {
+pub returns-clause-opened : goal.returns-clause-opened
+returns-clause-opened g c =
+    let found = c.in_ok-file.ensures in
+    subst (λ (x : LruCache ℕ Frame). IsOpenedFrom g.S.Store.facts c.args.store (covered c.in_ok-file.file x.entries)) (sym c.in-Ok.ensures) (record {
       follows = found.store;
       rests = found.rests;
       documents = found.stands;

@@ -1,17 +1,16 @@
 use Rattle.std.proofs.Common.{◌≡◌, Some, is_some, refl, sym, ap, ◌∙◌}
 use Rattle.std.specs.Option.{option_copied_mut, option_map}
 use Rattle.std.specs.FinMap.{get}
-use Rattle.geos_model.specs.Document.{Block, is_heap, is_heap_body, with_body}
-use Rattle.geos_model.specs.declared.command.Body.TheVariants as bodies
+use Rattle.geos_model.specs.Document.{Block, is_heap, is_heap_body}
 use Rattle.block_cache.specs.Bodies.{body_of}
 use Rattle.block_cache.specs.Frames.{held}
 use Rattle.block_cache.specs.LendsFrame.{with_changed}
 use Rattle.block_cache.specs.State.{CacheState, is_resident}
 use Rattle.block_cache.specs.declared.body.BlockBody.TheVariants.{Raw}
 use Rattle.block_cache.specs.declared.frame.Frame.{Frame}
-use Rattle.block_cache.proofs.Lent.{is_lent, overlay_lent, kept_lent}
+use Rattle.block_cache.proofs.Lent.{is_lent, state_lent, kept_lent}
 use Rattle.block_cache.proofs.Overlay.{overlay_kind}
-use Rattle.block_cache.proofs.Seats.{resident_is, seats_kept}
+use Rattle.block_cache.proofs.Seats.{resident_is}
 use Rattle.block_cache.proofs.Tables.{body_under}
 use Rattle.block_cache.proofs.cache.Cache.raw_mut.Goals as goal
 
@@ -48,11 +47,7 @@ returns g c =
     let content = body_under es file.document h (Raw c.raw_mut.result.now) (ap (option_map (λ (x : Frame). x.body)) here ∙ ap (λ b. Some b) c.raw_mut.ensures.value) in (
       (
         refl,
-        λ w.
-            let document = overlay_lent es h f here file.document (with_changed f (Raw w)) in
-            let resident = seats_kept h es f (with_changed f (Raw w)) here refl in
-            (λ i. record { disk = file.disk; document = document i; resident = resident i; frames = cap })
-            ∙ ap (λ (s : CacheState g.row.S.Denot). record s { document = with_body s.document h (bodies.Raw w) }) c.self.view_is,
+        λ w. state_lent es h f here file.document (with_changed f (Raw w)) file.disk cap _ refl c.self.view_is,
       ),
       record { writes_back = tt; value = ap (λ (s : CacheState g.row.S.Denot). option_map (λ (b : Block). b.body) (get s.document.blocks h)) (sym c.self.view_is) ∙ content },
     )
