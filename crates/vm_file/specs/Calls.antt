@@ -1,6 +1,7 @@
 -- What the calls of a document file are given, and what they answer.
 use Rattle.std.specs.Prelude.{◌≡◌, ◌⊎◌, ◌≤◌, ℕ, true, List, [], ◌∷◌}
 use Rattle.geos_model.specs.Document.{Document, is_vm_handle, with_blocks, without_block}
+pub use Rattle.geos_model.specs.Machine.{last_sequence}
 use Rattle.geos_model.specs.declared.fault.Fault.{Fault}
 use Rattle.geos_model.specs.declared.fault.Fault.TheVariants.{Memory, File, Damaged, NotDocument, Worn}
 use Rattle.geos_model.specs.declared.handle.VmHandle.{VmHandle}
@@ -35,7 +36,3 @@ IsCommitRefusal fault = IsSupply fault ⊎ (fault ≡ Worn)
 
 abbrev pub IsOpenRefusal : Fault → Type 0
 IsOpenRefusal fault = IsSupply fault ⊎ ((fault ≡ Damaged) ⊎ (fault ≡ NotDocument))
-
--- the last sequence number
-abbrev pub last_sequence : ℕ
-last_sequence = 18446744073709551615
