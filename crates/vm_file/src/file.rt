@@ -29,11 +29,8 @@ use crate::writing::write_puts;
 use geos_model::{Attributes, Fault, VmHandle};
 use std::alloc::{AllocError, Global};
 use std::marker::Model;
-use vm_space::FreeSpace;
+use vm_space::{FreeSpace, MOST_ENTRIES};
 use vm_store::Store;
-
-// How many handles there are.
-const MOST_BLOCKS: usize = geos_model::MOST_BLOCKS as usize;
 
 /// A document file over a store. What was committed stays where it lies until another commit is acknowledged, so that a
 /// crash at any moment leaves the updated and the saved document of the last acknowledged commit, or those of a commit
@@ -236,7 +233,7 @@ impl<S: Store> VmFile<S> {
         ensures free { IfSome result (λ h. get self.now.document.blocks h.0 ≡ None) }
     {
         let gap = first_free(&self.live.places, self.bounds.gap);
-        if gap < MOST_BLOCKS {
+        if gap < MOST_ENTRIES {
             Some(VmHandle(gap as u16 + 1))
         } else {
             None
