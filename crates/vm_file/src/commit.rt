@@ -3,6 +3,7 @@ ghost use Rattle.std.specs.Prelude.{if◌then◌else◌, IfOk, ◌≡◌, ◌⊎
 ghost use Rattle.vm_store.specs.Facts.{raised, IsDurable, Torn, Holds, Counts, Raised};
 ghost use Rattle.geos_model.specs.File.{slot_mark};
 ghost use Rattle.vm_file.specs.Ranges.{IsPlaced, KeepsAll};
+ghost use Rattle.vm_file.specs.Calls.{last_sequence};
 ghost use Rattle.vm_file.specs.Sound.{AreTables, IsFormed, IsWhole, IsSound, disk_of};
 ghost use Rattle.vm_file.specs.Documents.{document_in, documents_in, AreStored};
 ghost use Rattle.vm_store.specs.Laws.{Tears};
@@ -19,8 +20,8 @@ use std::alloc::{AllocError, Global};
 use vm_space::SLOT_MARK;
 use vm_store::{Store, StoreFault};
 
-/// Writes these bytes, and syncs.
-pub fn write_through<S: Store>(store: &mut S, at: u64, bytes: &[u8]) -> Result<(), StoreFault>
+// Writes these bytes, and syncs.
+fn write_through<S: Store>(store: &mut S, at: u64, bytes: &[u8]) -> Result<(), StoreFault>
     ensures honest { (S.facts store.new).honest ≡ (S.facts store.old).honest }
     ensures failures { Counts result (S.facts store.old) (S.facts store.new) }
     ensures tears { IsTrue (S.facts store.old).honest
@@ -32,9 +33,9 @@ pub fn write_through<S: Store>(store: &mut S, at: u64, bytes: &[u8]) -> Result<(
     store.sync()
 }
 
-/// Shuts the gate of the other slot. Until that is on the disk, what is known of the slot stays. A gate that is shut isn't
-/// written, since it could be torn open.
-pub fn shut_gate<S: Store>(store: &mut S, slots: &mut Slots) -> Result<(), StoreFault>
+// Shuts the gate of the other slot. Until that is on the disk, what is known of the slot stays. A gate that is shut isn't
+// written, since it could be torn open.
+fn shut_gate<S: Store>(store: &mut S, slots: &mut Slots) -> Result<(), StoreFault>
     // Asked of the caller.
     requires kept { AreKept slots.old }
     // The store.
@@ -64,7 +65,7 @@ pub fn shut_gate<S: Store>(store: &mut S, slots: &mut Slots) -> Result<(), Store
 fn fill_slot<S: Store>(store: &mut S, slots: &Slots, pair: &Pair) -> Result<(), StoreFault>
     // Asked of the caller.
     requires shut { slots.now.spare ≡ SpareSlot.Shut }
-    requires sequence { slots.now.sequence < 18446744073709551615 }
+    requires sequence { slots.now.sequence < last_sequence }
     requires kept { AreKept slots.now }
     // The store.
     ensures honest { (S.facts store.new).honest ≡ (S.facts store.old).honest }
@@ -80,7 +81,8 @@ fn fill_slot<S: Store>(store: &mut S, slots: &Slots, pair: &Pair) -> Result<(), 
     ensures marked { OnOk result (IsTrue (S.facts store.old).honest
         → Holds (S.facts store.new).content (512 * spare_of slots.now) slot_mark) }
     ensures rest { OnOk result (IsTrue (S.facts store.old).honest
-        → Holds (S.facts store.new).content (512 * spare_of slots.now + 5) (behind_gate 2 (slots.now.sequence + 1) pair.now)) }
+        → Holds (S.facts store.new).content (512 * spare_of slots.now + 5)
+        (behind_gate 2 (slots.now.sequence + 1) pair.now)) }
     ensures durable { OnOk result (IsTrue (S.facts store.old).honest → IsDurable (S.facts store.new)) }
 {
     let rest = behind_gate_bytes(
@@ -95,7 +97,7 @@ fn fill_slot<S: Store>(store: &mut S, slots: &Slots, pair: &Pair) -> Result<(), 
 // Opens the gate of the other slot, which is whole but for that. From here on what it leads to may be read.
 fn open_gate<S: Store>(store: &mut S, slots: &mut Slots, pair: Pair) -> Result<(), StoreFault>
     // Asked of the caller.
-    requires sequence { slots.old.sequence < 18446744073709551615 }
+    requires sequence { slots.old.sequence < last_sequence }
     requires kept { AreKept slots.old }
     requires placed { All IsPlaced (pair_extents pair) }
     // The store.
@@ -131,12 +133,12 @@ fn open_gate<S: Store>(store: &mut S, slots: &mut Slots, pair: Pair) -> Result<(
     }
 }
 
-/// Makes the slots lead to a pair whose directories and images lie in the file: the other slot is shut where it may be open,
-/// filled, and opened, each with a sync. On an error the slot that counts is the same, and so is what it leads to. Where only
-/// the last step failed, the pair may be found after a crash, and `slots` holds it.
-pub fn commit<S: Store>(store: &mut S, slots: &mut Slots, pair: Pair) -> Result<(), StoreFault>
+// Makes the slots lead to a pair whose directories and images lie in the file: the other slot is shut where it may be open,
+// filled, and opened, each with a sync. On an error the slot that counts is the same, and so is what it leads to. Where only
+// the last step failed, the pair may be found after a crash, and `slots` holds it.
+fn commit_slots<S: Store>(store: &mut S, slots: &mut Slots, pair: Pair) -> Result<(), StoreFault>
     // Asked of the caller.
-    requires sequence { slots.old.sequence < 18446744073709551615 }
+    requires sequence { slots.old.sequence < last_sequence }
     requires kept { AreKept slots.old }
     requires placed { All IsPlaced (pair_extents pair) }
     // The store.
@@ -174,7 +176,7 @@ pub fn commit_pair<S: Store>(
 ) -> Result<(), Fault>
     // Asked of the caller.
     requires formed { IsFormed live.now slots.old }
-    requires sequence { slots.old.sequence < 18446744073709551615 }
+    requires sequence { slots.old.sequence < last_sequence }
     requires tables { AreTables pair }
     requires placed { All IsPlaced (pair_extents pair) }
     requires whole { IsTrue (S.facts store.old).honest → IsWhole (S.facts store.old) live.now slots.old }
@@ -193,7 +195,7 @@ pub fn commit_pair<S: Store>(
     ensures refusals { IfErr result (λ fault. fault ≡ Fault.File) }
 {
     let _ = live;
-    match commit(store, slots, pair) {
+    match commit_slots(store, slots, pair) {
         Ok(()) => Ok(()),
         Err(StoreFault) => Err(Fault::File),
     }
@@ -226,7 +228,7 @@ pub fn commit_pending<S: Store>(
 ) -> Result<(), Fault>
     // Asked of the caller.
     requires sound { IsSound (S.facts store.old) live.now slots.old }
-    requires sequence { slots.old.sequence < 18446744073709551615 }
+    requires sequence { slots.old.sequence < last_sequence }
     requires pending { IsPendingDirectory live.now slots.old pending }
     requires saved { IsStoredCopy saved slots.old.committed.saved ⊎ IsStoredCopy saved pending.document }
     // The commit.

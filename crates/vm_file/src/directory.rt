@@ -114,7 +114,8 @@ fn place_directory(
     ensures size { IfOk result (λ extent. extent.length ≡ len) }
     ensures placed { IfOk result IsPlaced }
     ensures clear { IfOk result
-        (λ extent. IsClear (start_of extent) extent.length (block_extents live.now.places.items ++ kept_extents slots.now)) }
+        (λ extent. IsClear (start_of extent) extent.length
+        (block_extents live.now.places.items ++ kept_extents slots.now)) }
 {
     let mut space = known_space(alloc, &live.places, slots, space)?;
     space.take(len)

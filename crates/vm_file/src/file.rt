@@ -348,7 +348,8 @@ impl<S: Store> VmFile<S> {
     /// Makes the document as it is now the updated one. Worn where the sequence number can't rise, before anything else is
     /// done; Memory, before anything is written; File.
     pub fn commit_update(&mut self) -> Result<(), Fault>
-        ensures commit { IsCommit S.facts (self.old.document, self.old.disk.saved) self.old.document self.old self.new result }
+        ensures commit { IsCommit S.facts (self.old.document, self.old.disk.saved) self.old.document
+            self.old self.new result }
         ensures version { OnOk result (IsTrue (S.facts self.new.disk.store).honest
             → version_in (S.facts self.new.disk.store).content ≡ Some 2) }
         ensures early { IfErr result (λ fault. fault ≢ Fault.File → self.new ≡ self.old) }
@@ -359,7 +360,8 @@ impl<S: Store> VmFile<S> {
 
     /// Makes the document as it is now the updated and the saved one. Refused as an update is.
     pub fn commit_save(&mut self) -> Result<(), Fault>
-        ensures commit { IsCommit S.facts (self.old.document, self.old.document) self.old.document self.old self.new result }
+        ensures commit { IsCommit S.facts (self.old.document, self.old.document) self.old.document
+            self.old self.new result }
         ensures version { OnOk result (IsTrue (S.facts self.new.disk.store).honest
             → version_in (S.facts self.new.disk.store).content ≡ Some 2) }
         ensures early { IfErr result (λ fault. fault ≢ Fault.File → self.new ≡ self.old) }

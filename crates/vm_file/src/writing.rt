@@ -75,11 +75,13 @@ pub fn write_puts<S: Store>(
         (S.facts store.new) }
     // The images.
     ensures found { IfOk result
-        (λ written. AreFor (block_extents live.now ++ kept_extents slots.now) puts.now (length puts.now) written.extents.items) }
+        (λ written. AreFor (block_extents live.now ++ kept_extents slots.now) puts.now (length puts.now)
+        written.extents.items) }
     ensures written { IfOk result (λ written. IsTrue (S.facts store.old).honest
         → AreWritten (length puts.now) puts.now written.extents.items (S.facts store.new).content) }
     ensures known { IfOk result
-        (λ written. IsKnown (written.extents.items ++ (block_extents live.now ++ kept_extents slots.now)) written.space) }
+        (λ written. IsKnown (written.extents.items ++ (block_extents live.now ++ kept_extents slots.now))
+        written.space) }
     // Refusals.
     ensures early { IfErr result (λ fault. fault ≢ Fault.File → store.new ≡ store.old) }
     ensures nothing { puts.now ≡ [] → IsOk result × (store.new ≡ store.old) }

@@ -2,10 +2,10 @@ use Rattle.std.proofs.Common.{arith}
 use Rattle.vm_file.proofs.CommitLemmas.{IsCommit, counts_rise, ok_commits, ok_sound, ok_live, err_commits, err_sound, err_live}
 use Rattle.geos_model.specs.declared.fault.Fault.TheVariants.{File}
 use Rattle.vm_file.proofs.commit.commit_pair.Given.{Over}
-use Rattle.vm_file.proofs.commit.commit_pair.Goals.{After-commit}
+use Rattle.vm_file.proofs.commit.commit_pair.Goals.{After-commit_slots}
 use Rattle.vm_file.proofs.commit.commit_pair.Goals as goal
 
-called : (g : Over) (c : After-commit g) → IsCommit g.S.Store.facts c.args.store.now c.commit.new.store c.args.live.now c.args.slots.now c.commit.new.slots c.args.pair
+called : (g : Over) (c : After-commit_slots g) → IsCommit g.S.Store.facts c.args.store.now c.commit_slots.new.store c.args.live.now c.args.slots.now c.commit_slots.new.slots c.args.pair
 called g c = record {
   formed = c.requires.formed;
   range = (let below = c.requires.sequence in omega (arith, below));
@@ -13,28 +13,28 @@ called g c = record {
   placed = c.requires.placed;
   whole = c.requires.whole;
   stored = c.requires.stored;
-  honest = c.commit.ensures.honest;
-  failures = counts_rise c.commit.result (g.S.Store.facts c.args.store.now) (g.S.Store.facts c.commit.new.store) c.commit.ensures.failures;
-  now_there = λ so. (g.met.S.Store.timely c.commit.new.store so).now;
-  elsewhere = c.commit.ensures.elsewhere;
-  crash = λ so was there. c.commit.ensures.crash (g.S.Store.facts c.args.store.now).content so was there;
-  leaves = λ so was there. c.commit.ensures.leaves (g.S.Store.facts c.args.store.now).content so was there;
+  honest = c.commit_slots.ensures.honest;
+  failures = counts_rise c.commit_slots.result (g.S.Store.facts c.args.store.now) (g.S.Store.facts c.commit_slots.new.store) c.commit_slots.ensures.failures;
+  now_there = λ so. (g.met.S.Store.timely c.commit_slots.new.store so).now;
+  elsewhere = c.commit_slots.ensures.elsewhere;
+  crash = λ so was there. c.commit_slots.ensures.crash (g.S.Store.facts c.args.store.now).content so was there;
+  leaves = λ so was there. c.commit_slots.ensures.leaves (g.S.Store.facts c.args.store.now).content so was there;
 }
 
 pub returns-in-Ok-clause-commits : goal.returns-in-Ok-clause-commits
-returns-in-Ok-clause-commits g c = ok_commits g.S.Store.facts _ _ c.args.live.now c.args.slots.now c.commit.new.slots c.args.pair (called g c.before) c.in-Ok.ensures.ok
+returns-in-Ok-clause-commits g c = ok_commits g.S.Store.facts _ _ c.args.live.now c.args.slots.now c.commit_slots.new.slots c.args.pair (called g c.before) c.in-Ok.ensures.ok
 
 pub returns-in-Ok-clause-sound : goal.returns-in-Ok-clause-sound
-returns-in-Ok-clause-sound g c = ok_sound g.S.Store.facts _ _ c.args.live.now c.args.slots.now c.commit.new.slots c.args.pair (called g c.before) c.in-Ok.ensures.ok
+returns-in-Ok-clause-sound g c = ok_sound g.S.Store.facts _ _ c.args.live.now c.args.slots.now c.commit_slots.new.slots c.args.pair (called g c.before) c.in-Ok.ensures.ok
 
 pub returns-in-Ok-clause-live : goal.returns-in-Ok-clause-live
-returns-in-Ok-clause-live g c = ok_live g.S.Store.facts _ _ c.args.live.now c.args.slots.now c.commit.new.slots c.args.pair (called g c.before) c.in-Ok.ensures.ok
+returns-in-Ok-clause-live g c = ok_live g.S.Store.facts _ _ c.args.live.now c.args.slots.now c.commit_slots.new.slots c.args.pair (called g c.before) c.in-Ok.ensures.ok
 
 pub returns-in-Err-clause-commits : goal.returns-in-Err-clause-commits
-returns-in-Err-clause-commits g c = err_commits g.S.Store.facts _ _ c.args.live.now c.args.slots.now c.commit.new.slots c.args.pair (called g c.before) c.in-Err.ensures.err c.in-Err.ensures.early File
+returns-in-Err-clause-commits g c = err_commits g.S.Store.facts _ _ c.args.live.now c.args.slots.now c.commit_slots.new.slots c.args.pair (called g c.before) c.in-Err.ensures.err c.in-Err.ensures.early File
 
 pub returns-in-Err-clause-sound : goal.returns-in-Err-clause-sound
-returns-in-Err-clause-sound g c = err_sound g.S.Store.facts _ _ c.args.live.now c.args.slots.now c.commit.new.slots c.args.pair (called g c.before) c.in-Err.ensures.err
+returns-in-Err-clause-sound g c = err_sound g.S.Store.facts _ _ c.args.live.now c.args.slots.now c.commit_slots.new.slots c.args.pair (called g c.before) c.in-Err.ensures.err
 
 pub returns-in-Err-clause-live : goal.returns-in-Err-clause-live
-returns-in-Err-clause-live g c = err_live g.S.Store.facts _ _ c.args.live.now c.args.slots.now c.commit.new.slots c.args.pair (called g c.before) c.in-Err.ensures.err
+returns-in-Err-clause-live g c = err_live g.S.Store.facts _ _ c.args.live.now c.args.slots.now c.commit_slots.new.slots c.args.pair (called g c.before) c.in-Err.ensures.err

@@ -3,7 +3,7 @@ use Rattle.vm_file.specs.Slots.{pair_extents, FailedEarly, Failed, AreKept}
 use Rattle.vm_file.proofs.RangesLemmas.{slots_keep}
 use Rattle.vm_file.proofs.SlotsLemmas.{shut_kept, Outlives-trans, prepared_leaves, as_before, as_shut, as_early, as_prepared}
 use Rattle.vm_file.proofs.ResultLemmas.{on_err}
-use Rattle.vm_file.proofs.commit.commit.Goals as goal
+use Rattle.vm_file.proofs.commit.commit_slots.Goals as goal
 
 pub returns-in_err-shut_gate-clause-crash : goal.returns-in_err-shut_gate-clause-crash
 returns-in_err-shut_gate-clause-crash g c file holds leaves keeps =
