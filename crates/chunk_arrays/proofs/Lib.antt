@@ -1,5 +1,5 @@
-pub mod Rewritten
-pub mod Refused
-pub mod Cutting
-pub mod Views
-pub mod Places
+pub mod RewritingLemmas
+pub mod ReplacingLemmas
+pub mod CutLemmas
+pub mod PartsLemmas
+pub mod PlaceLemmas

@@ -13,7 +13,7 @@ use Rattle.geos_model.specs.Array.{places_from, array_start, array_bytes, is_eve
 use Rattle.geos_model.proofs.Images.{word-reads_back}
 use Rattle.geos_model.proofs.Arrays.{joined, same_bytes-is, same_bytes-refl, length-joined, length-places, head_of, table_of, places_of, spelled, array_bytes-spelled, start-read, behind_extra, table-any, table-even, length_table-any, all_even, length-array_bytes}
 use Rattle.chunk_arrays.specs.Parts.{AreBytes, place_at, IsTable, HasElements, HasParts}
-use Rattle.chunk_arrays.proofs.Cutting.{word_at-lt, rejoin, word_rejoin, words_rejoin, word_in_words, length-cut_at, length-cut_evenly, even-cut_evenly, joined-cut_evenly, cut_from, places-cut, joined-cut, length-cut_at_le, place-next, place-le}
+use Rattle.chunk_arrays.proofs.CutLemmas.{word_at-lt, rejoin, word_rejoin, words_rejoin, word_in_words, length-cut_at, length-cut_evenly, even-cut_evenly, joined-cut_evenly, cut_from, places-cut, joined-cut, length-cut_at_le, place-next, place-le}
 
 module _ (bytes : List ℕ) where
   -- the numbers of the header

@@ -11,8 +11,8 @@ use Rattle.geos_model.specs.Array.{Array, array_start, array_bytes, array_read}
 use Rattle.geos_model.proofs.Arrays.{joined, head_of, table_of, array_bytes-spelled, table-even, length_table-any}
 use Rattle.chunk_arrays.specs.Parts.{place_at, HasParts}
 use Rattle.chunk_arrays.specs.Reading.{elements_start, place_of}
-use Rattle.chunk_arrays.proofs.Cutting.{place-is}
-use Rattle.chunk_arrays.proofs.Views.{length-elements_read, start_is, places_are, all-even, bytes-read}
+use Rattle.chunk_arrays.proofs.CutLemmas.{place-is}
+use Rattle.chunk_arrays.proofs.PartsLemmas.{length-elements_read, start_is, places_are, all-even, bytes-read}
 
 -- elements in two parts
 joined_parts : (xs : List (List ℕ)) (k : ℕ) → joined (take k xs) ++ joined (drop k xs) ≡ joined xs

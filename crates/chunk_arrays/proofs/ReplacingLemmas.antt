@@ -10,6 +10,7 @@ use Rattle.geos_model.specs.declared.fault.Fault.{Fault}
 use Rattle.geos_model.specs.declared.fault.Fault.TheVariants.{Full, NotArray, NoElement, Range}
 use Rattle.chunk_edits.specs.Splicing.{Leads, Builds, RefusesToBuild}
 use Rattle.chunk_edits.specs.declared.splice.Splice.{Splice}
+use Rattle.geos_model.proofs.Arrays.{array_bytes-of}
 
 pub refused-long : (bytes : List ℕ) → 65498 < length bytes → first_refusal (too_long bytes) ≡ Some Full
 refused-long bytes long = let so : nat_lt 65498 (length bytes) ≡ true = lt-ltb 65498 (length bytes) long in rw so refl
@@ -92,10 +93,24 @@ handed_on (Err fault) conditions from from′ to to′ decides from_is to_is ref
 ]
 
 -- the bytes that a rewriting makes are those that an edit means
-pub made : (bytes : List ℕ) (a : Array) (from to : ℕ) (xs ys : List (List ℕ)) → array_of bytes ≡ Some a → xs ≡ ys
+made : (bytes : List ℕ) (a : Array) (from to : ℕ) (xs ys : List (List ℕ)) → array_of bytes ≡ Some a → xs ≡ ys
     → array_bytes (with_elements a from to xs) ≡ array_bytes (with_elements (array_in bytes) from to ys)
 made bytes a from to xs ys is xs_is =
     ap₂ (λ (b : Array) (l : List (List ℕ)). array_bytes (with_elements b from to l)) (sym (array_in-is bytes a is)) xs_is
+
+-- an edit that puts elements in the place of others is answered by the rewritten array, where only its length decides
+module _ (bytes : List ℕ) (a : Array) (from to : ℕ) (xs ys : List (List ℕ)) (own : Conditions) (is : array_of bytes ≡ Some a) (xs_is : xs ≡ ys) where
+  abbrev meant : List ℕ
+  meant = array_bytes (with_elements (array_in bytes) from to ys)
+
+  abbrev rewritten : List ℕ
+  rewritten = array_bytes (with_elements a from to xs)
+
+  pub elements_handed_on : (r : Result Splice Fault) → first_refusal (own ++ too_long meant) ≡ first_refusal (too_long meant)
+      → MatchResult r (λ s. Builds (too_long rewritten) s (array_bytes a) rewritten (length (array_bytes a) + length rewritten)) (RefusesToBuild (too_long rewritten))
+      → MatchResult r (λ s. Builds (own ++ too_long meant) s bytes meant (length bytes + length meant)) (RefusesToBuild (own ++ too_long meant))
+  elements_handed_on r decides =
+      handed_on r (own ++ too_long meant) bytes (array_bytes a) meant rewritten decides (array_bytes-of bytes a is).1 (made bytes a from to xs ys is xs_is)
 
 pub made-zeroed : (bytes : List ℕ) (a : Array) (count : ℕ) → array_of bytes ≡ Some a → count ≡ length a.elements
     → array_bytes (with_elements a 0 count []) ≡ array_zeroed bytes

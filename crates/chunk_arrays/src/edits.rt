@@ -1,3 +1,4 @@
+//! Edits of an array, each as a splice of all bytes of a chunk.
 ghost use Rattle.std.specs.Prelude.{◌≡◌, ◌+◌, ◌++◌, None, MatchResult, length};
 ghost use Rattle.geos_model.specs.Refusal.{first_refusal};
 ghost use Rattle.geos_model.specs.Array.{array_bytes};
@@ -23,7 +24,8 @@ const GREATEST_EXTRA: u32 = 1024;
 /// bytes. Range past 4,096 or past 1,024.
 pub fn create_bytes(alloc: Global, size: u32, extra: u32) -> Result<Vec<u8>, Fault>
     ensures { MatchResult result
-        (λ bytes. (first_refusal (create_conditions size extra) ≡ None) × (bytes.items ≡ array_bytes (new_array size extra)))
+        (λ bytes. (first_refusal (create_conditions size extra) ≡ None) ×
+        (bytes.items ≡ array_bytes (new_array size extra)))
         (RefusesToBuild (create_conditions size extra)) }
 {
     if size > GREATEST_SIZE || extra > GREATEST_EXTRA {

@@ -1,3 +1,4 @@
+//! The splice that leaves an array with other extra bytes, and with an element or none in the place of some.
 ghost use Rattle.std.specs.Prelude.{◌≡◌, ◌≤◌, ◌<◌, ◌+◌, ◌-◌, ◌*◌, ◌^◌, ◌++◌, [], true, MatchResult, IfOk, length, take, drop, min, ◌==◌, if◌then◌else◌};
 ghost use Rattle.std.specs.List.{splice, flat_map};
 ghost use Rattle.geos_model.specs.Words.{word};
@@ -35,8 +36,10 @@ pub fn rewrite(
     requires extra { length first.now ≤ length view.now.array.extra }
     requires even { is_even (rewritten view.now.array (extra_after view.now.array first.now) from to new) ≡ true }
     ensures { MatchResult result
-        (Replaces [] (array_bytes view.now.array) (array_bytes (rewritten view.now.array (extra_after view.now.array first.now) from to new.entry)))
-        (RefusesToReplace [] (array_bytes (rewritten view.now.array (extra_after view.now.array first.now) from to new.entry))) }
+        (Replaces [] (array_bytes view.now.array)
+        (array_bytes (rewritten view.now.array (extra_after view.now.array first.now) from to new.entry)))
+        (RefusesToReplace []
+        (array_bytes (rewritten view.now.array (extra_after view.now.array first.now) from to new.entry))) }
 {
     let len = length_after(view, from, to, new);
     if len > LONGEST_CHUNK {
@@ -54,7 +57,8 @@ pub fn rewrite(
 fn length_after(view: &View<'_>, from: usize, to: usize, new: Option<NewElement<'_>>) -> usize
     requires order { from ≤ to }
     requires within { to ≤ length view.now.array.elements }
-    ensures { result ≡ min (length (array_bytes (rewritten view.now.array view.now.array.extra from to new.entry))) (2 ^ 64 - 1) }
+    ensures { result ≡
+        min (length (array_bytes (rewritten view.now.array view.now.array.extra from to new.entry))) (2 ^ 64 - 1) }
 {
     let start = view.extra().len().saturating_add(8);
     let table = table_len(view, count_after(view, from, to, new));
@@ -119,10 +123,13 @@ fn bytes_after(
     // What comes.
     requires extra { length first.now ≤ length view.now.array.extra }
     requires even { is_even (rewritten view.now.array (extra_after view.now.array first.now) from to new) ≡ true }
-    requires len { len ≡ length (array_bytes (rewritten view.now.array (extra_after view.now.array first.now) from to new)) }
+    requires len { len ≡
+        length (array_bytes (rewritten view.now.array (extra_after view.now.array first.now) from to new)) }
     requires fits { len ≤ longest_chunk }
     // What the bytes become.
-    ensures { IfOk result (λ out. out.items ≡ array_bytes (rewritten view.now.array (extra_after view.now.array first.now) from to new.entry)) }
+    ensures { IfOk result
+        (λ out. out.items ≡
+        array_bytes (rewritten view.now.array (extra_after view.now.array first.now) from to new.entry)) }
 {
     let count = count_after(view, from, to, new);
     let start = 8 + view.extra().len();
@@ -174,8 +181,12 @@ fn push_table(
 ) -> Result<(), AllocError>
     requires order { from ≤ to }
     requires within { to ≤ length view.now.array.elements }
-    requires fits { start + length (place_table start (rewritten view.now.array view.now.array.extra from to new)) + length (flat_map (λ x. x) (splice view.now.array.elements from to (elements_of new))) < 2 ^ 16 }
-    ensures { IfOk result (λ _. out.new.items ≡ out.old.items ++ place_table start (rewritten view.now.array view.now.array.extra from to new.entry)) }
+    requires fits { start + length
+        (place_table start (rewritten view.now.array view.now.array.extra from to new)) + length
+        (flat_map (λ x. x) (splice view.now.array.elements from to (elements_of new))) < 2 ^ 16 }
+    ensures { IfOk result
+        (λ _. out.new.items ≡
+        out.old.items ++ place_table start (rewritten view.now.array view.now.array.extra from to new.entry)) }
 {
     if view.element_size() != 0 {
         return Ok(());
@@ -199,7 +210,8 @@ fn push_places(
     requires within { to ≤ length view.now.array.elements }
     requires fits { place + length (flat_map (λ x. x) (take (to - from) (drop from view.now.array.elements))) < 2 ^ 16 }
     ensures { IfOk result (λ next.
-        (out.new.items ≡ out.old.items ++ flat_map word (places_from place (take (to - from) (drop from view.now.array.elements))))
+        (out.new.items ≡
+        out.old.items ++ flat_map word (places_from place (take (to - from) (drop from view.now.array.elements))))
         × (next ≡ place + length (flat_map (λ x. x) (take (to - from) (drop from view.now.array.elements))))) }
 {
     let mut next = place;

@@ -1,3 +1,4 @@
+//! An array that is read where it lies.
 ghost use Rattle.std.specs.Prelude.{◌≡◌, ◌^◌, ◌<◌, ◌≤◌, ◌+◌, ◌-◌, ◌↔◌, Some, None, [], true, IsTrue, MatchResult, length, take, drop, get_or};
 ghost use Rattle.std.specs.List.{flat_map};
 ghost use Rattle.geos_model.specs.Words.{word_at};
@@ -40,7 +41,8 @@ impl<'a> Model for View<'a> {
 /// The array that these bytes are: a header of four words, extra bytes, and elements without gaps. NotArray where they are
 /// none. It takes time in proportion to the number of elements, and no memory.
 pub fn check(bytes: &[u8]) -> Result<View<'_>, Fault>
-    ensures { MatchResult result (λ view. array_of bytes.now ≡ Some view.array) (λ fault. (fault ≡ Fault.NotArray) × (array_of bytes.now ≡ None)) }
+    ensures { MatchResult result (λ view. array_of bytes.now ≡ Some view.array)
+        (λ fault. (fault ≡ Fault.NotArray) × (array_of bytes.now ≡ None)) }
 {
     if bytes.len() < 8 {
         return Err(Fault::NotArray);

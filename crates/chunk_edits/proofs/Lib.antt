@@ -1,1 +1,1 @@
-pub mod Splices
+pub mod SplicingLemmas

@@ -1,3 +1,4 @@
+//! Edits of a heap's chunk: the splice that each makes, and how a splice is applied and taken back.
 ghost use Rattle.std.specs.Prelude.{◌≡◌, ◌≤◌, ◌<◌, ◌+◌, ◌*◌, ◌++◌, ℕ, List, true, IsTrue, IfOk, MatchResult, length, take, drop};
 ghost use Rattle.std.specs.List.{splice};
 ghost use Rattle.std.specs.FinMap.{insert, contains_key};
@@ -38,8 +39,10 @@ pub fn apply_back(heap: &mut Heap, h: ChunkHandle, splice: &Splice)
 fn put(heap: &mut Heap, h: ChunkHandle, at: usize, k: usize, bytes: &[u8])
     requires live { IsTrue (contains_key heap.old.chunks h.0) }
     requires within { at + k ≤ length (chunk_bytes heap.old.chunks h.0) }
-    requires fits { IsTrue (fits_with heap.old.chunks h.0 (splice (chunk_bytes heap.old.chunks h.0) at (at + k) bytes.now)) }
-    ensures { heap.new.chunks ≡ insert heap.old.chunks h.0 (splice (chunk_bytes heap.old.chunks h.0) at (at + k) bytes.now) }
+    requires fits { IsTrue
+        (fits_with heap.old.chunks h.0 (splice (chunk_bytes heap.old.chunks h.0) at (at + k) bytes.now)) }
+    ensures { heap.new.chunks ≡
+        insert heap.old.chunks h.0 (splice (chunk_bytes heap.old.chunks h.0) at (at + k) bytes.now) }
 {
     if bytes.len() == k {
         heap.write(h, at, bytes);
@@ -58,9 +61,12 @@ pub fn write(
 ) -> Result<Splice, Fault>
     requires { IsTrue (contains_key heap.now.chunks h.0) }
     ensures built { MatchResult result
-        (λ s. Builds (past_end (chunk_bytes heap.now.chunks h.0) (at + length bytes.now)) s (chunk_bytes heap.now.chunks h.0) (written (chunk_bytes heap.now.chunks h.0) at bytes.now) (2 * length bytes.now))
+        (λ s. Builds (past_end (chunk_bytes heap.now.chunks h.0) (at + length bytes.now)) s
+        (chunk_bytes heap.now.chunks h.0) (written (chunk_bytes heap.now.chunks h.0) at bytes.now)
+        (2 * length bytes.now))
         (RefusesToBuild (past_end (chunk_bytes heap.now.chunks h.0) (at + length bytes.now))) }
-    ensures fits { IfOk result (λ s. IsTrue (fits_with heap.now.chunks h.0 (written (chunk_bytes heap.now.chunks h.0) at bytes.now))) }
+    ensures fits { IfOk result
+        (λ s. IsTrue (fits_with heap.now.chunks h.0 (written (chunk_bytes heap.now.chunks h.0) at bytes.now))) }
 {
     let old = part(heap, h, at as usize, bytes.len())?;
     Ok(Splice {
@@ -75,9 +81,15 @@ pub fn write(
 pub fn insert(alloc: Global, heap: &Heap, h: ChunkHandle, at: u32, n: u32) -> Result<Splice, Fault>
     requires { IsTrue (contains_key heap.now.chunks h.0) }
     ensures built { MatchResult result
-        (λ s. Builds (past_end (chunk_bytes heap.now.chunks h.0) at ++ no_room heap.now.chunks h.0 (inserted (chunk_bytes heap.now.chunks h.0) at n)) s (chunk_bytes heap.now.chunks h.0) (inserted (chunk_bytes heap.now.chunks h.0) at n) n)
-        (RefusesToBuild (past_end (chunk_bytes heap.now.chunks h.0) at ++ no_room heap.now.chunks h.0 (inserted (chunk_bytes heap.now.chunks h.0) at n))) }
-    ensures fits { IfOk result (λ s. IsTrue (fits_with heap.now.chunks h.0 (inserted (chunk_bytes heap.now.chunks h.0) at n))) }
+        (λ s. Builds
+        (past_end (chunk_bytes heap.now.chunks h.0) at ++ no_room heap.now.chunks h.0
+        (inserted (chunk_bytes heap.now.chunks h.0) at n)) s
+        (chunk_bytes heap.now.chunks h.0) (inserted (chunk_bytes heap.now.chunks h.0) at n) n)
+        (RefusesToBuild
+        (past_end (chunk_bytes heap.now.chunks h.0) at ++ no_room heap.now.chunks h.0
+        (inserted (chunk_bytes heap.now.chunks h.0) at n))) }
+    ensures fits { IfOk result
+        (λ s. IsTrue (fits_with heap.now.chunks h.0 (inserted (chunk_bytes heap.now.chunks h.0) at n))) }
 {
     if at as usize > chunk_of(heap, h).len() {
         return Err(Fault::Range);
@@ -96,9 +108,11 @@ pub fn insert(alloc: Global, heap: &Heap, h: ChunkHandle, at: u32, n: u32) -> Re
 pub fn delete(alloc: Global, heap: &Heap, h: ChunkHandle, at: u32, n: u32) -> Result<Splice, Fault>
     requires { IsTrue (contains_key heap.now.chunks h.0) }
     ensures built { MatchResult result
-        (λ s. Builds (past_end (chunk_bytes heap.now.chunks h.0) (at + n)) s (chunk_bytes heap.now.chunks h.0) (deleted (chunk_bytes heap.now.chunks h.0) at n) n)
+        (λ s. Builds (past_end (chunk_bytes heap.now.chunks h.0) (at + n)) s (chunk_bytes heap.now.chunks h.0)
+        (deleted (chunk_bytes heap.now.chunks h.0) at n) n)
         (RefusesToBuild (past_end (chunk_bytes heap.now.chunks h.0) (at + n))) }
-    ensures fits { IfOk result (λ s. IsTrue (fits_with heap.now.chunks h.0 (deleted (chunk_bytes heap.now.chunks h.0) at n))) }
+    ensures fits { IfOk result
+        (λ s. IsTrue (fits_with heap.now.chunks h.0 (deleted (chunk_bytes heap.now.chunks h.0) at n))) }
 {
     let old = part(heap, h, at as usize, n as usize)?;
     Ok(Splice {
@@ -113,9 +127,12 @@ pub fn delete(alloc: Global, heap: &Heap, h: ChunkHandle, at: u32, n: u32) -> Re
 pub fn resize(alloc: Global, heap: &Heap, h: ChunkHandle, n: u32) -> Result<Splice, Fault>
     requires { IsTrue (contains_key heap.now.chunks h.0) }
     ensures built { MatchResult result
-        (λ s. Builds (no_room heap.now.chunks h.0 (resized (chunk_bytes heap.now.chunks h.0) n)) s (chunk_bytes heap.now.chunks h.0) (resized (chunk_bytes heap.now.chunks h.0) n) (difference n (length (chunk_bytes heap.now.chunks h.0))))
+        (λ s. Builds (no_room heap.now.chunks h.0 (resized (chunk_bytes heap.now.chunks h.0) n)) s
+        (chunk_bytes heap.now.chunks h.0) (resized (chunk_bytes heap.now.chunks h.0) n)
+        (difference n (length (chunk_bytes heap.now.chunks h.0))))
         (RefusesToBuild (no_room heap.now.chunks h.0 (resized (chunk_bytes heap.now.chunks h.0) n))) }
-    ensures fits { IfOk result (λ s. IsTrue (fits_with heap.now.chunks h.0 (resized (chunk_bytes heap.now.chunks h.0) n))) }
+    ensures fits { IfOk result
+        (λ s. IsTrue (fits_with heap.now.chunks h.0 (resized (chunk_bytes heap.now.chunks h.0) n))) }
 {
     if !heap.fits_resize(h, n) {
         return Err(Fault::Full);
@@ -144,7 +161,8 @@ fn chunk_of(heap: &Heap, h: ChunkHandle) -> &[u8]
 /// Whether the heap has room for a live chunk with `n` more bytes.
 fn fits_longer(heap: &Heap, h: ChunkHandle, n: u32) -> bool
     requires { IsTrue (contains_key heap.now.chunks h.0) }
-    ensures { (bytes : List ℕ) → length bytes ≡ length (chunk_bytes heap.now.chunks h.0) + n → result ≡ fits_with heap.now.chunks h.0 bytes }
+    ensures { (bytes : List ℕ) → length bytes ≡ length (chunk_bytes heap.now.chunks h.0) + n →
+        result ≡ fits_with heap.now.chunks h.0 bytes }
 {
     let size = chunk_of(heap, h).len();
     // No heap has room for as many bytes as the greatest `u32`, at which the sum is cut.
@@ -155,7 +173,8 @@ fn fits_longer(heap: &Heap, h: ChunkHandle, n: u32) -> bool
 fn part(heap: &Heap, h: ChunkHandle, at: usize, n: usize) -> Result<&[u8], Fault>
     requires { IsTrue (contains_key heap.now.chunks h.0) }
     ensures value { MatchResult result
-        (λ bytes. (at + n ≤ length (chunk_bytes heap.now.chunks h.0)) × (bytes.now ≡ take n (drop at (chunk_bytes heap.now.chunks h.0))))
+        (λ bytes. (at + n ≤ length (chunk_bytes heap.now.chunks h.0)) ×
+        (bytes.now ≡ take n (drop at (chunk_bytes heap.now.chunks h.0))))
         (λ fault. (length (chunk_bytes heap.now.chunks h.0) < at + n) × (fault ≡ Fault.Range)) }
     ensures valid { is_heap_map heap.now.chunks ≡ true }
 {

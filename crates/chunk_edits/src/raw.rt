@@ -1,3 +1,4 @@
+//! Edits of a raw body: the splice that each makes, and how a splice is applied and taken back.
 ghost use Rattle.std.specs.Prelude.{◌≡◌, ◌≤◌, ◌+◌, ◌*◌, IfOk, MatchResult, length};
 ghost use Rattle.std.specs.List.{splice};
 ghost use Rattle.geos_model.specs.Bytes.{written};
@@ -46,7 +47,8 @@ fn put(body: &mut RawBody, at: usize, k: usize, bytes: &[u8])
 /// The splice that writes over the bytes of a raw body from `at` on. Range where that reaches past its end.
 pub fn raw_write(alloc: Global, body: &RawBody, at: u32, bytes: &[u8]) -> Result<Splice, Fault>
     ensures built { MatchResult result
-        (λ s. Builds (past_end body.now (at + length bytes.now)) s body.now (written body.now at bytes.now) (2 * length bytes.now))
+        (λ s. Builds (past_end body.now (at + length bytes.now)) s body.now (written body.now at bytes.now)
+        (2 * length bytes.now))
         (RefusesToBuild (past_end body.now (at + length bytes.now))) }
     ensures room { IfOk result (λ s. length (written body.now at bytes.now) ≤ capacity) }
 {

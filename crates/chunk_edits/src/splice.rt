@@ -1,3 +1,4 @@
+//! A splice: a part of some bytes, and what comes in its place.
 ghost use Rattle.std.specs.Prelude.{◌≡◌, ◌+◌, IfOk, length, replicate};
 
 use geos_model::Bytes;

@@ -1,7 +1,3 @@
-pub mod Slotting
-pub mod SlotEdits
-pub mod Replacing
-pub mod UsedElements
-pub mod Found
-pub mod Adding
-pub mod Tokens
+pub mod TestedLemmas
+pub mod SlottedLemmas
+pub mod UsedLemmas

@@ -1,3 +1,4 @@
+//! Edits of an element array, each as a splice of all bytes of a chunk.
 ghost use Rattle.std.specs.Prelude.{◌≡◌, None, true, MatchResult};
 ghost use Rattle.geos_model.specs.Refusal.{first_refusal};
 ghost use Rattle.geos_model.specs.ElementArray.{element_bytes, element_array_of, is_sound};
@@ -23,7 +24,8 @@ const NO_TOKEN: [u8; 2] = [0xFF, 0xFF];
 /// The bytes of an element array without elements: how many bytes each will have, 0 where sizes vary. Range past 4,096.
 pub fn create_bytes(alloc: Global, size: u32) -> Result<Vec<u8>, Fault>
     ensures { MatchResult result
-        (λ bytes. (first_refusal (create_elements_conditions size) ≡ None) × (bytes.items ≡ element_bytes (no_slots size)))
+        (λ bytes. (first_refusal (create_elements_conditions size) ≡ None) ×
+        (bytes.items ≡ element_bytes (no_slots size)))
         (RefusesToBuild (create_elements_conditions size)) }
 {
     if size > GREATEST_SIZE {
@@ -39,7 +41,9 @@ pub fn create_bytes(alloc: Global, size: u32) -> Result<Vec<u8>, Fault>
 /// size; Full where the array would be longer than any chunk.
 pub fn add(alloc: Global, bytes: &[u8], element: &[u8]) -> Result<(Splice, Token), Fault>
     ensures { MatchResult result
-        (λ made. Replaces (add_conditions bytes.now element.now) bytes.now (element_added bytes.now element.now) made.0 × (made.1.0 ≡ token_added bytes.now element.now))
+        (λ made. Replaces (add_conditions bytes.now element.now) bytes.now
+        (element_added bytes.now element.now) made.0 ×
+        (made.1.0 ≡ token_added bytes.now element.now))
         (RefusesToReplace (add_conditions bytes.now element.now) (element_added bytes.now element.now)) }
 {
     let slots = read(bytes)?;
@@ -100,8 +104,10 @@ pub fn delete(alloc: Global, bytes: &[u8], token: Token) -> Result<Splice, Fault
 /// NoElement; Range where the array has elements of another size; Full where the array would be longer than any chunk.
 pub fn change(alloc: Global, bytes: &[u8], token: Token, element: &[u8]) -> Result<Splice, Fault>
     ensures { MatchResult result
-        (Replaces (change_conditions bytes.now token.0 element.now) bytes.now (element_changed bytes.now token.0 element.now))
-        (RefusesToReplace (change_conditions bytes.now token.0 element.now) (element_changed bytes.now token.0 element.now)) }
+        (Replaces (change_conditions bytes.now token.0 element.now) bytes.now
+        (element_changed bytes.now token.0 element.now))
+        (RefusesToReplace (change_conditions bytes.now token.0 element.now)
+        (element_changed bytes.now token.0 element.now)) }
 {
     let slots = read(bytes)?;
     let used = used_at(&slots, token)?;
@@ -115,8 +121,10 @@ pub fn change(alloc: Global, bytes: &[u8], token: Token, element: &[u8]) -> Resu
 /// the array is longer than any chunk.
 fn with_reference(alloc: Global, slots: &SlotView<'_>, token: Token) -> Result<Splice, Fault>
     ensures { MatchResult result
-        (Replaces (element_reference_conditions slots.now.slots token.0) (slotted_bytes slots.now.more slots.now.slots) (slotted_bytes slots.now.more (element_with_reference slots.now.slots token.0)))
-        (RefusesToReplace (element_reference_conditions slots.now.slots token.0) (slotted_bytes slots.now.more (element_with_reference slots.now.slots token.0))) }
+        (Replaces (element_reference_conditions slots.now.slots token.0) (slotted_bytes slots.now.more slots.now.slots)
+        (slotted_bytes slots.now.more (element_with_reference slots.now.slots token.0)))
+        (RefusesToReplace (element_reference_conditions slots.now.slots token.0)
+        (slotted_bytes slots.now.more (element_with_reference slots.now.slots token.0))) }
 {
     let used = used_at(slots, token)?;
     if used.count == GREATEST_COUNT {

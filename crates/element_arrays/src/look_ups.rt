@@ -1,3 +1,4 @@
+//! Look-ups in an element array.
 ghost use Rattle.std.specs.Prelude.{◌≡◌, ◌≤◌, None, Some, is_some, MatchResult, count_by, length, take, get_or};
 ghost use Rattle.geos_model.specs.ElementEdits.{elements_in, count_at, bytes_at, used_in, used_from, used_below, on_elements, on_token, on_used};
 ghost use Rattle.geos_model.specs.ElementArray.{element_at};
@@ -29,7 +30,8 @@ pub fn data_of(bytes: &[u8], token: Token) -> Result<&[u8], Fault>
 /// The element of a token. NotArray, NoElement.
 fn element_of(bytes: &[u8], token: Token) -> Result<Used<'_>, Fault>
     ensures { MatchResult result
-        (λ used. IsAnswered (on_token bytes.now token.0) (element_at (elements_in bytes.now) token.0) (Some (used_element used)))
+        (λ used. IsAnswered (on_token bytes.now token.0) (element_at (elements_in bytes.now) token.0)
+        (Some (used_element used)))
         (IsRefused (on_token bytes.now token.0)) }
 {
     let slots = read(bytes)?;

@@ -1,3 +1,4 @@
+//! The slots that are read of a chunk's bytes, and the element of a token there.
 ghost use Rattle.std.specs.Prelude.{◌≡◌, None, Some, [], MatchResult};
 ghost use Rattle.geos_model.specs.ElementArray.{element_array_of, element_at};
 ghost use Rattle.element_arrays.specs.Slotted.{slotted_bytes};

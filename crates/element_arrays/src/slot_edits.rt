@@ -1,3 +1,4 @@
+//! Edits of slots, of an element array or a name array, each as a splice of all bytes of a chunk.
 ghost use Rattle.std.specs.Prelude.{◌≡◌, ◌≤◌, ◌++◌, ◌∷◌, [], true, false, is_some, length, take, drop, IfOk, MatchOption, MatchResult};
 ghost use Rattle.geos_model.specs.ArrayEdits.{is_missized};
 ghost use Rattle.geos_model.specs.ElementArray.{element_at, greatest_count};
@@ -71,7 +72,8 @@ impl<'a> SlotView<'a> {
     ) -> Result<(Splice, Token), Fault>
         requires { is_missized self.now.slots.size (head.now ++ tail.now) ≡ false }
         ensures { MatchResult result
-            (λ made. GivesSlots self.now (with_new self.now.slots (head.now ++ tail.now)).0 made.0 × (made.1.0 ≡ (with_new self.now.slots (head.now ++ tail.now)).1))
+            (λ made. GivesSlots self.now (with_new self.now.slots (head.now ++ tail.now)).0 made.0 ×
+            (made.1.0 ≡ (with_new self.now.slots (head.now ++ tail.now)).1))
             (RefusesSlots self.now (with_new self.now.slots (head.now ++ tail.now)).0) }
     {
         let array = self.array();
@@ -99,7 +101,8 @@ impl<'a> SlotView<'a> {
 
     /// The newest free token, if any is free.
     fn newest_free(&self) -> Option<Token>
-        ensures { MatchOption result (self.now.slots.free ≡ []) (λ t. self.now.slots.free ≡ t.0 ∷ drop 1 self.now.slots.free) }
+        ensures { MatchOption result (self.now.slots.free ≡ [])
+            (λ t. self.now.slots.free ≡ t.0 ∷ drop 1 self.now.slots.free) }
     {
         let first = LittleEndian::read_u16(self.array().extra());
         if first < self.len() {

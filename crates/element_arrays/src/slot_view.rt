@@ -1,3 +1,4 @@
+//! The slots of an element array or a name array, read where they lie.
 ghost use Rattle.std.specs.Prelude.{◌≡◌, ◌==◌, ◌≤◌, ◌+◌, None, Some, [], true, false, is_some, MatchOption, MatchResult, count_by, length, drop, get_or};
 ghost use Rattle.std.specs.List.{list_all};
 ghost use Rattle.std.specs.Option.{option_map};
@@ -52,7 +53,8 @@ impl<'a> Model for SlotView<'a> {
 pub fn slots_in<'a>(view: View<'a>, extra: usize) -> Result<SlotView<'a>, Fault>
     requires { 2 ≤ extra }
     ensures { MatchResult result
-        (λ s. (slots_of extra view.entry.array ≡ Some s.slots) × (slotted_array s ≡ view.entry.array) × (length s.more + 2 ≡ extra))
+        (λ s. (slots_of extra view.entry.array ≡ Some s.slots) × (slotted_array s ≡ view.entry.array) ×
+        (length s.more + 2 ≡ extra))
         (λ fault. (fault ≡ Fault.NotArray) × (slots_of extra view.entry.array ≡ None)) }
 {
     if are_slots(&view, extra) {
@@ -87,7 +89,8 @@ fn are_slots(view: &View<'_>, extra: usize) -> bool
 fn count_free(view: &View<'_>, size: usize) -> Option<usize>
     ensures { MatchOption result
         (list_all (is_slot size) view.now.array.elements ≡ false)
-        (λ free. (list_all (is_slot size) view.now.array.elements ≡ true) × (free ≡ count_by is_freed view.now.array.elements)) }
+        (λ free. (list_all (is_slot size) view.now.array.elements ≡ true) ×
+        (free ≡ count_by is_freed view.now.array.elements)) }
 {
     let mut free = 0;
     for i in 0..view.count() {
@@ -142,7 +145,8 @@ fn is_walk(view: &View<'_>, first: u16, steps: usize) -> bool
 fn link_of(view: &View<'_>, token: u16) -> Option<u16>
     ensures { MatchOption result
         (is_freed_at view.now.array.elements token ≡ false)
-        (λ next. (is_freed_at view.now.array.elements token ≡ true) × (next ≡ word_at (get_or view.now.array.elements token []) 0)) }
+        (λ next. (is_freed_at view.now.array.elements token ≡ true) ×
+        (next ≡ word_at (get_or view.now.array.elements token []) 0)) }
 {
     let i = usize::from(token);
     if view.count() <= i {
@@ -211,7 +215,8 @@ impl<'a> SlotView<'a> {
 
     /// The lowest token whose element has these bytes behind its first `skip` ones.
     pub fn find(&self, skip: usize, bytes: &[u8]) -> Option<Token>
-        ensures { option_map (λ t. t.0) result ≡ token_of (λ e. same_bytes (drop skip e.bytes) bytes.now) self.now.slots }
+        ensures { option_map (λ t. t.0) result ≡
+            token_of (λ e. same_bytes (drop skip e.bytes) bytes.now) self.now.slots }
     {
         for t in 0..self.len() {
             if let Some(used) = self.element(Token(t))

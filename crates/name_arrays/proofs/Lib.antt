@@ -1,3 +1,2 @@
-pub mod Readings
-pub mod Found
-pub mod Editing
+pub mod ReadingLemmas
+pub mod NamingLemmas

@@ -61,8 +61,8 @@ module _ (a : NameArray) (sound : is_sound_names a ≡ true) where
     }
 
   -- a name that is found is used, and is a name
-  pub found : (t : ℕ) (text : List ℕ) → token_of_text a text ≡ Some t → (is_some (element_at a.names t) ≡ true) × (is_name text ≡ true)
-  found t text is = by_slot (element_at a.names t) refl (position-Some (λ slot. option_map_or (λ e. same_bytes (text_of a e) text) slot false) a.names.slots t None is).1
+  pub found_name : (t : ℕ) (text : List ℕ) → token_of_text a text ≡ Some t → (is_some (element_at a.names t) ≡ true) × (is_name text ≡ true)
+  found_name t text is = by_slot (element_at a.names t) refl (position-Some (λ slot. option_map_or (λ e. same_bytes (text_of a e) text) slot false) a.names.slots t None is).1
     where
       by_slot : (slot : Option Element) → element_at a.names t ≡ slot → option_map_or (λ e. same_bytes (text_of a e) text) slot false ≡ true → (is_some (element_at a.names t) ≡ true) × (is_name text ≡ true)
       by_slot None at same = absurd (cc same)

@@ -1,16 +1,31 @@
--- A chunk's bytes are the name array that is read of them, or none where a test fails.
-use Rattle.std.proofs.Common.{◌≡◌, ℕ, ◌+◌, ◌≤◌, Bool, true, false, ◌&&◌, ◌==◌, nat_le, if◌then◌else◌, List, length, Option, Some, None, option_and_then, refl, sym, ap, ◌∙◌, arith, leb-true}
+-- A chunk's bytes are the name array that is read of them, or none, and what refusals and new bytes come to there.
+use Rattle.std.proofs.Common.{◌≡◌, ℕ, ◌+◌, ◌≤◌, Bool, true, false, ◌&&◌, ◌==◌, nat_le, if◌then◌else◌, List, length, Option, Some, None, option_and_then, refl, sym, ap, ◌∙◌, arith, leb-true, ◌-◌, ◌∷◌, ◌++◌, not, ◌||◌, is_some, is_none, unwrap_or, ap₂, Result, MatchResult, []}
 use Rattle.std.proofs.lemmas.Bool.{and_parts, cond-true, cond-false}
 use Rattle.std.specs.List.{list_all}
 use Rattle.byteorder.specs.Endian.{little_number}
 use Rattle.geos_model.specs.Words.{word, word_at}
 use Rattle.geos_model.specs.Array.{Array, array_bytes, array_of}
-use Rattle.geos_model.specs.ElementArray.{Slots, slots_array, slots_of}
-use Rattle.geos_model.specs.NameArray.{NameArray, is_named, is_sound_names, names_read, names_of, name_array_of}
+use Rattle.geos_model.specs.ElementArray.{Slots, slots_array, slots_of, element_at}
+use Rattle.geos_model.specs.NameArray.{NameArray, is_named, is_sound_names, names_read, names_of, name_array_of, name_bytes, is_name}
 use Rattle.geos_model.proofs.Arrays.{array_bytes-of}
 use Rattle.geos_model.proofs.NameArrays.{word-small}
-use Rattle.element_arrays.specs.Slotted.{Slotted, slotted_array, slotted_bytes}
+use Rattle.element_arrays.specs.Slotted.{Slotted, slotted_array, slotted_bytes, GivesSlots, RefusesSlots}
 use Rattle.name_arrays.specs.Reading.{named_array, IsRead}
+use Rattle.std.specs.Option.{option_map_or}
+use Rattle.geos_model.specs.Refusal.{Conditions, first_refusal}
+use Rattle.geos_model.specs.ElementEdits.{count_at, bytes_at, with_element, without_element, with_new, unreferenced, is_count_full}
+use Rattle.geos_model.specs.NameEdits.{no_names, names_in, token_of_text, part_at, name_with_reference, added_name, name_added, name_token_added, name_changed, name_reference_removed, on_name_token, is_name_in_use, add_name_conditions, change_name_conditions}
+use Rattle.geos_model.specs.declared.fault.Fault.TheVariants.{NotArray, NoElement, NameInUse, CountFull, Range}
+use Rattle.name_arrays.specs.Referencing.{name_bytes_with_reference, name_reference_conditions}
+use Rattle.name_arrays.proofs.NamingLemmas.{new_bytes, bytes_with, found_name}
+use Rattle.geos_model.specs.ArrayEdits.{too_long}
+use Rattle.geos_model.specs.declared.fault.Fault.{Fault}
+use Rattle.geos_model.specs.declared.handle.Token.{Token}
+use Rattle.chunk_edits.specs.declared.splice.Splice.{Splice}
+use Rattle.chunk_arrays.specs.Replacing.{Replaces, RefusesToReplace}
+use Rattle.element_arrays.proofs.SlottedLemmas.{refuses_for, replaces_for, slots_handed_on, token_handed_on}
+
+-- ---- a chunk's bytes are the name array that is read of them, or none where a test fails
 
 -- what is tested of slots that are read
 abbrev pub are_names : Slots → ℕ → Bool
@@ -48,8 +63,8 @@ module _ (bytes : List ℕ) (a : Array) (s : Slotted) (part : ℕ) (is : array_o
   unfolding name_array_of
   comes_to = ap (option_and_then names_of) is ∙ ap (option_and_then (accepted a)) slots
 
-  pub no_names : are_names s.slots part ≡ false → name_array_of bytes ≡ None
-  no_names other = comes_to ∙ cond-false _ _ _ (test_is ∙ other)
+  pub not_named : are_names s.slots part ≡ false → name_array_of bytes ≡ None
+  not_named other = comes_to ∙ cond-false _ _ _ (test_is ∙ other)
 
   module _ (tested : are_names s.slots part ≡ true) where
     pub is_sound_read : is_sound_names (named_array s part) ≡ true
@@ -68,3 +83,115 @@ module _ (bytes : List ℕ) (a : Array) (s : Slotted) (part : ℕ) (is : array_o
       is = comes_to ∙ cond-true _ _ _ (test_is ∙ tested) ∙ ap Some names_is;
       same = ap array_bytes array ∙ (array_bytes-of bytes a is).1;
     }
+
+-- ---- what refusals and new bytes come to where a chunk's bytes are read as a name array
+
+used_not_none : {T : Type 0} (o : Option T) → is_some o ≡ true → is_none o ≡ false
+used_not_none None used = absurd (cc used)
+used_not_none (Some x) used = refl
+
+module _ (bytes : List ℕ) (s : Slotted) (size : ℕ) (read : IsRead bytes s size) where
+  abbrev a : NameArray
+  a = named_array s size
+
+  names_are : names_in bytes ≡ a
+  names_are = ap (λ o. unwrap_or o (no_names 0)) read.is
+
+  -- which refusals decide
+  pub past_token : (t : ℕ) → is_some (element_at a.names t) ≡ true → (rest : Conditions) → first_refusal (on_name_token bytes t ++ rest) ≡ first_refusal rest
+  past_token t used rest =
+      ap₂ (λ o (b : NameArray). first_refusal ((NotArray, is_none o) ∷ (NoElement, is_none (element_at b.names t)) ∷ rest)) read.is names_are
+      ∙ ap (λ (x : Bool). first_refusal ((NotArray, false) ∷ (NoElement, x) ∷ rest)) (used_not_none (element_at a.names t) used)
+
+  pub change_refusals : (t : ℕ) (text : List ℕ) (in_use bad : Bool) → is_some (element_at a.names t) ≡ true → is_name_in_use a t text ≡ in_use → not (is_name text) ≡ bad
+      → (rest : Conditions) → first_refusal (change_name_conditions bytes t text ++ rest) ≡ first_refusal ((NameInUse, in_use) ∷ (Range, bad) ∷ rest)
+  change_refusals t text in_use bad used in_use_is bad_is rest =
+      past_token t used ((NameInUse, is_name_in_use (names_in bytes) t text) ∷ (Range, not (is_name text)) ∷ rest)
+      ∙ ap (λ (b : NameArray). first_refusal ((NameInUse, is_name_in_use b t text) ∷ (Range, not (is_name text)) ∷ rest)) names_are
+      ∙ ap₂ (λ (x y : Bool). first_refusal ((NameInUse, x) ∷ (Range, y) ∷ rest)) in_use_is bad_is
+
+  pub add_refusals : (text part : List ℕ) (full bad : Bool) → is_count_full a.names (token_of_text a text) ≡ full → (not (is_name text) || not (length part == size)) ≡ bad
+      → (rest : Conditions) → first_refusal (add_name_conditions bytes text part ++ rest) ≡ first_refusal ((CountFull, full) ∷ (Range, bad) ∷ rest)
+  add_refusals text part full bad full_is bad_is rest =
+      ap₂ (λ o (b : NameArray). first_refusal ((NotArray, is_none o) ∷ (CountFull, is_count_full b.names (token_of_text b text)) ∷ (Range, not (is_name text) || not (length part == b.part)) ∷ rest)) read.is names_are
+      ∙ ap₂ (λ (x y : Bool). first_refusal ((NotArray, false) ∷ (CountFull, x) ∷ (Range, y) ∷ rest)) full_is bad_is
+
+  -- a name that is there
+  module _ (text part : List ℕ) (replace : Bool) (t : ℕ) (found : token_of_text a text ≡ Some t) where
+    added_found : name_bytes_with_reference a part replace t ≡ name_added bytes text part replace
+    added_found = rw (names_are, found) refl
+
+    pub token_found : t ≡ name_token_added bytes text part replace
+    token_found =
+        sym (ap (λ (b : NameArray). (added_name b text part replace).1) names_are
+        ∙ ap (λ o. (option_map_or (λ x. (name_with_reference a part replace x, x)) o (with_new a.names (part ++ text))).1) found)
+
+    full_found : is_count_full a.names (token_of_text a text) ≡ is_count_full a.names (Some t)
+    full_found = ap (is_count_full a.names) found
+
+    module _ (sound : is_sound_names a ≡ true) where
+      -- the part's length alone decides
+      decides : first_refusal (add_name_conditions bytes text part ++ too_long (name_added bytes text part replace)) ≡ first_refusal (name_reference_conditions a part t ++ too_long (name_added bytes text part replace))
+      decides =
+          let good : is_name text ≡ true = (found_name a sound t text found).1 in
+          add_refusals text part (is_count_full a.names (Some t)) (not (length part == size)) full_found (ap (λ (x : Bool). not x || not (length part == size)) good) (too_long (name_added bytes text part replace))
+
+      pub found_refused : (fault : Fault) → RefusesToReplace (name_reference_conditions a part t) (name_bytes_with_reference a part replace t) fault → RefusesToReplace (add_name_conditions bytes text part) (name_added bytes text part replace) fault
+      found_refused =
+          refuses_for (add_name_conditions bytes text part) (name_reference_conditions a part t) bytes (name_added bytes text part replace) (slotted_bytes s.more s.slots) (name_bytes_with_reference a part replace t)
+          decides added_found
+
+      pub found_replaced : (splice : Splice) → Replaces (name_reference_conditions a part t) (slotted_bytes s.more s.slots) (name_bytes_with_reference a part replace t) splice → Replaces (add_name_conditions bytes text part) bytes (name_added bytes text part replace) splice
+      found_replaced =
+          replaces_for (add_name_conditions bytes text part) (name_reference_conditions a part t) bytes (name_added bytes text part replace) (slotted_bytes s.more s.slots) (name_bytes_with_reference a part replace t)
+          decides added_found read.same
+
+  module _ (more : s.more ≡ word size) where
+    -- a new one
+    module _ (text part : List ℕ) (replace : Bool) (none : token_of_text a text ≡ None) where
+      added_new : slotted_bytes s.more (with_new s.slots (part ++ text)).0 ≡ name_added bytes text part replace
+      added_new = new_bytes s size more (with_new s.slots (part ++ text)).0 ∙ rw (names_are, none) refl
+
+      token_new : (with_new s.slots (part ++ text)).1 ≡ name_token_added bytes text part replace
+      token_new =
+          sym (ap (λ (b : NameArray). (added_name b text part replace).1) names_are
+          ∙ ap (λ o. (option_map_or (λ x. (name_with_reference a part replace x, x)) o (with_new a.names (part ++ text))).1) none)
+
+      full_new : is_count_full a.names (token_of_text a text) ≡ false
+      full_new = ap (is_count_full a.names) none
+
+      -- its text and part decide
+      pub new_refusals : (bad : Bool) → (not (is_name text) || not (length part == size)) ≡ bad → (rest : Conditions) → first_refusal (add_name_conditions bytes text part ++ rest) ≡ first_refusal ((CountFull, false) ∷ (Range, bad) ∷ rest)
+      new_refusals bad bad_is = add_refusals text part false bad full_new bad_is
+
+      pub new_handed_on : (not (is_name text) || not (length part == size)) ≡ false → (r : Result (Splice × Token) Fault)
+          → MatchResult r (λ made. GivesSlots s (with_new s.slots (part ++ text)).0 made.0 × (made.1.0 ≡ (with_new s.slots (part ++ text)).1)) (RefusesSlots s (with_new s.slots (part ++ text)).0)
+          → MatchResult r (λ made. Replaces (add_name_conditions bytes text part) bytes (name_added bytes text part replace) made.0 × (made.1.0 ≡ name_token_added bytes text part replace)) (RefusesToReplace (add_name_conditions bytes text part) (name_added bytes text part replace))
+      new_handed_on good r =
+          token_handed_on (add_name_conditions bytes text part) s (with_new s.slots (part ++ text)).0 bytes (name_added bytes text part replace) (new_refusals false good []) read.same added_new
+          r (name_token_added bytes text part replace) (with_new s.slots (part ++ text)).1 token_new
+
+    -- a name under a token
+    module _ (t count : ℕ) (count_is : count_at a.names t ≡ count) where
+      pub changed : (text part : List ℕ) → part_at a t ≡ part → slotted_bytes s.more (with_element s.slots t count (part ++ text)) ≡ name_changed bytes t text
+      changed text part part_is =
+          bytes_with s size more t _ _ _ _ (sym count_is) (ap (λ (p : List ℕ). p ++ text) (sym part_is))
+          ∙ ap (λ (b : NameArray). name_bytes (record b { names = with_element b.names t (count_at b.names t) (part_at b t ++ text) })) (sym names_are)
+
+      removed : (slots : Slots) → slots ≡ unreferenced s.slots t → slotted_bytes s.more slots ≡ name_reference_removed bytes t
+      removed slots is =
+          new_bytes s size more slots
+          ∙ ap (λ (x : Slots). name_bytes (record a { names = x })) is
+          ∙ ap (λ (b : NameArray). name_bytes (record b { names = unreferenced b.names t })) (sym names_are)
+
+      module _ (used : is_some (element_at a.names t) ≡ true) (slots : Slots) (is : slots ≡ unreferenced s.slots t) where
+        pub removed_handed_on : (r : Result Splice Fault) → MatchResult r (GivesSlots s slots) (RefusesSlots s slots) → MatchResult r (Replaces (on_name_token bytes t) bytes (name_reference_removed bytes t)) (RefusesToReplace (on_name_token bytes t) (name_reference_removed bytes t))
+        removed_handed_on = slots_handed_on (on_name_token bytes t) s slots bytes (name_reference_removed bytes t) (past_token t used []) read.same (removed slots is)
+
+      pub last_reference : count ≡ 1 → without_element s.slots t ≡ unreferenced s.slots t
+      last_reference last = sym (cond-true _ _ _ (ap (λ (n : ℕ). nat_le n 1) (count_is ∙ last)))
+
+      pub other_reference : (text : List ℕ) → nat_le count 1 ≡ false → bytes_at a.names t ≡ text → with_element s.slots t (count - 1) text ≡ unreferenced s.slots t
+      other_reference text other bytes_is =
+          (ap₂ (λ (n : ℕ) (l : List ℕ). with_element s.slots t (n - 1) l) (sym count_is) (sym bytes_is)
+          ∙ sym (cond-false _ _ _ (ap (λ (n : ℕ). nat_le n 1) count_is ∙ other)))

@@ -1,3 +1,4 @@
+//! Edits of a name array, each as a splice of all bytes of a chunk.
 ghost use Rattle.std.specs.Prelude.{◌≡◌, None, true, is_some, MatchResult};
 ghost use Rattle.geos_model.specs.ElementArray.{element_at};
 ghost use Rattle.element_arrays.specs.Slotted.{slotted_bytes};
@@ -42,8 +43,11 @@ pub fn add(
     replace: bool,
 ) -> Result<(Splice, Token), Fault>
     ensures { MatchResult result
-        (λ made. Replaces (add_name_conditions bytes.now name.now part.now) bytes.now (name_added bytes.now name.now part.now replace) made.0 × (made.1.0 ≡ name_token_added bytes.now name.now part.now replace))
-        (RefusesToReplace (add_name_conditions bytes.now name.now part.now) (name_added bytes.now name.now part.now replace)) }
+        (λ made. Replaces (add_name_conditions bytes.now name.now part.now) bytes.now
+        (name_added bytes.now name.now part.now replace) made.0 ×
+        (made.1.0 ≡ name_token_added bytes.now name.now part.now replace))
+        (RefusesToReplace (add_name_conditions bytes.now name.now part.now)
+        (name_added bytes.now name.now part.now replace)) }
 {
     let names = read(bytes)?;
     match names.find(name) {
@@ -65,8 +69,10 @@ pub fn add(
 /// longer than any chunk.
 pub fn change_name(alloc: Global, bytes: &[u8], token: Token, name: &[u8]) -> Result<Splice, Fault>
     ensures { MatchResult result
-        (Replaces (change_name_conditions bytes.now token.0 name.now) bytes.now (name_changed bytes.now token.0 name.now))
-        (RefusesToReplace (change_name_conditions bytes.now token.0 name.now) (name_changed bytes.now token.0 name.now)) }
+        (Replaces (change_name_conditions bytes.now token.0 name.now) bytes.now
+        (name_changed bytes.now token.0 name.now))
+        (RefusesToReplace (change_name_conditions bytes.now token.0 name.now)
+        (name_changed bytes.now token.0 name.now)) }
 {
     let names = read(bytes)?;
     let old = names.name(token)?;
@@ -111,8 +117,11 @@ fn with_reference(
 ) -> Result<Splice, Fault>
     requires { is_some (element_at names.now.slots.slots token.0) ≡ true }
     ensures { MatchResult result
-        (Replaces (name_reference_conditions (named_array names.now.slots names.now.part) part.now token.0) (slotted_bytes names.now.slots.more names.now.slots.slots) (name_bytes_with_reference (named_array names.now.slots names.now.part) part.now replace token.0))
-        (RefusesToReplace (name_reference_conditions (named_array names.now.slots names.now.part) part.now token.0) (name_bytes_with_reference (named_array names.now.slots names.now.part) part.now replace token.0)) }
+        (Replaces (name_reference_conditions (named_array names.now.slots names.now.part) part.now token.0)
+        (slotted_bytes names.now.slots.more names.now.slots.slots)
+        (name_bytes_with_reference (named_array names.now.slots names.now.part) part.now replace token.0))
+        (RefusesToReplace (name_reference_conditions (named_array names.now.slots names.now.part) part.now token.0)
+        (name_bytes_with_reference (named_array names.now.slots names.now.part) part.now replace token.0)) }
 {
     let old = names.name(token)?;
     if old.count == GREATEST_COUNT {

@@ -1,3 +1,4 @@
+//! Look-ups in a name array.
 ghost use Rattle.std.specs.Prelude.{◌≡◌, MatchResult, unwrap_or};
 ghost use Rattle.geos_model.specs.ElementEdits.{count_at};
 ghost use Rattle.geos_model.specs.NameEdits.{names_in, token_of_text, text_at, part_at, on_name_token, find_conditions};
@@ -9,7 +10,8 @@ use geos_model::{Fault, Token};
 /// The token of a name, the lowest that has it. NotArray, NoName.
 pub fn find(bytes: &[u8], name: &[u8]) -> Result<Token, Fault>
     ensures { MatchResult result
-        (λ token. IsAnswered (find_conditions bytes.now name.now) (unwrap_or (token_of_text (names_in bytes.now) name.now) 0) token.0)
+        (λ token. IsAnswered (find_conditions bytes.now name.now)
+        (unwrap_or (token_of_text (names_in bytes.now) name.now) 0) token.0)
         (IsRefused (find_conditions bytes.now name.now)) }
 {
     let names = read(bytes)?;

@@ -18,7 +18,7 @@ use Rattle.geos_model.proofs.Validity.{with_block-valid}
 use Rattle.geos_model.specs.declared.block.Attributes.{Attributes}
 use Rattle.chunk_edits.specs.Splicing.{Stands, forwards, backwards}
 use Rattle.chunk_edits.specs.declared.splice.Splice.{Splice}
-use Rattle.chunk_edits.proofs.Splices.{leads_back}
+use Rattle.chunk_edits.proofs.SplicingLemmas.{leads_back}
 use Rattle.vm_file.specs.Members.{saved_block, saved_blocks}
 use Rattle.vm_file.specs.declared.member.Member.{Member}
 use Rattle.vm_blocks.specs.declared.change.Change.{Change}

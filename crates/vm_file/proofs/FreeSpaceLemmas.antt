@@ -7,7 +7,7 @@ use Rattle.std.proofs.lemmas.List.Sorted.{IsPermutation-sym, IsPermutation-trans
 use Rattle.geos_model.specs.declared.file.Extent.{Extent}
 use Rattle.vm_space.specs.Placing.{IsLength}
 use Rattle.vm_space.specs.Space.{Space, AreTaken}
-use Rattle.vm_space.proofs.Taking.{taken-permuted}
+use Rattle.vm_space.proofs.SpaceLemmas.{taken-permuted}
 use Rattle.vm_file.specs.FreeSpace.{IsKnown, Takes}
 use Rattle.vm_file.specs.Ranges.{IsPlaced}
 use Rattle.vm_file.specs.Slots.{block_extents}

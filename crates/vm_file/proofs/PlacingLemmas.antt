@@ -11,7 +11,7 @@ use Rattle.vm_space.specs.Placing.{IsApart, IsFirstFit}
 use Rattle.std.specs.List.Sorted.{IsPermutation}
 use Rattle.std.proofs.lemmas.List.Sorted.{IsPermutation-refl, IsPermutation-trans, IsPermutation-middle}
 use Rattle.vm_space.specs.Space.{Space, AreTaken}
-use Rattle.vm_space.proofs.Taking.{taken-permuted}
+use Rattle.vm_space.proofs.SpaceLemmas.{taken-permuted}
 use Rattle.vm_file.specs.Ranges.{start_of, end_of, IsPlaced, IsOut, IsClear}
 use Rattle.vm_file.specs.Slots.{block_extents}
 use Rattle.vm_file.specs.FreeSpace.{Takes}

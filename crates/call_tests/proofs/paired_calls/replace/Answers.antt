@@ -5,7 +5,7 @@ use Rattle.std.specs.List.{splice}
 use Rattle.geos_model.specs.Heap.{chunk_bytes}
 use Rattle.geos_model.specs.Bytes.{resized}
 use Rattle.geos_model.proofs.HeapTables.{fits_with-same}
-use Rattle.chunk_edits.proofs.Splices.{length-splice}
+use Rattle.chunk_edits.proofs.SplicingLemmas.{length-splice}
 use Rattle.call_tests.proofs.paired_calls.replace.Goals as goal
 
 length-resized : (bytes : List ℕ) (n : ℕ) → length (resized bytes n) ≡ n

@@ -1,5 +1,5 @@
 use Rattle.std.proofs.Common.{◌≡◌, ◌+◌, ◌-◌, ◌++◌, ℕ, List, false, length, take, replicate, vec_len, refl, ap, ◌∙◌, arith, nat_lt, le-ltb}
-use Rattle.chunk_arrays.proofs.Rewritten.{bytes_created}
+use Rattle.chunk_arrays.proofs.RewritingLemmas.{bytes_created}
 use Rattle.chunk_arrays.proofs.edits.create_bytes.Goals as goal
 
 pub returns : goal.returns

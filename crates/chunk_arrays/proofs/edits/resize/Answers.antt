@@ -1,9 +1,8 @@
-use Rattle.std.proofs.Common.{◌≡◌, ◌+◌, ◌++◌, [], ◌∷◌, List, ℕ, get_or, ap, sym, ◌∙◌, arith}
-use Rattle.geos_model.specs.Array.{Array, array_bytes}
-use Rattle.geos_model.specs.ArrayEdits.{array_in, element_resized, resize_conditions, too_long}
+use Rattle.std.proofs.Common.{◌≡◌, ◌+◌, [], ◌∷◌, List, ℕ, get_or, ap, sym, ◌∙◌, arith}
+use Rattle.geos_model.specs.Array.{Array}
+use Rattle.geos_model.specs.ArrayEdits.{array_in, element_resized, resize_conditions}
 use Rattle.geos_model.specs.Bytes.{resized}
-use Rattle.geos_model.proofs.Arrays.{array_bytes-of}
-use Rattle.chunk_arrays.proofs.Refused.{array_in-is, resize_decides, handed_on, made}
+use Rattle.chunk_arrays.proofs.ReplacingLemmas.{array_in-is, resize_decides, elements_handed_on}
 use Rattle.chunk_arrays.proofs.edits.resize.Goals as goal
 
 pub returns : goal.returns
@@ -11,12 +10,8 @@ returns c =
     let a : Array = c.in_ok-view.view.array in
     let bytes : List ℕ = c.args.bytes.now in
     let i : ℕ = c.args.i in
-    let to : List ℕ = element_resized bytes i c.args.n in
     let element : List ℕ = resized (get_or (array_in bytes).elements i []) c.args.n in
     let element_is : _ ≡ element =
     c.resized_to-new.ensures ∙ ap (λ (old : List ℕ). resized old c.args.n) (c.element.ensures ∙ ap (λ (b : Array). get_or b.elements i []) (sym (array_in-is bytes a c.in_ok-view.ensures))) in
-    handed_on c.rewrite.result (resize_conditions bytes i ++ too_long to) bytes (array_bytes a) to _
-    (resize_decides bytes a i to c.in_ok-view.ensures (omega arith) (sym c.element_size.ensures ∙ c.if-element_size-ne0.false))
-    (array_bytes-of bytes a c.in_ok-view.ensures).1
-    (made bytes a i (i + 1) _ (element ∷ []) c.in_ok-view.ensures (ap (λ (x : List ℕ). x ∷ []) element_is))
-    c.rewrite.ensures
+    elements_handed_on bytes a i (i + 1) _ (element ∷ []) (resize_conditions bytes i) c.in_ok-view.ensures (ap (λ (x : List ℕ). x ∷ []) element_is)
+    c.rewrite.result (resize_decides bytes a i (element_resized bytes i c.args.n) c.in_ok-view.ensures (omega arith) (sym c.element_size.ensures ∙ c.if-element_size-ne0.false)) c.rewrite.ensures

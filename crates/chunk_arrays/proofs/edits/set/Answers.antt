@@ -1,9 +1,9 @@
-use Rattle.std.proofs.Common.{◌≡◌, ◌+◌, ◌++◌, [], ◌∷◌, List, ℕ, false, ap, sym, ◌∙◌, arith}
-use Rattle.geos_model.specs.Array.{Array, array_bytes}
-use Rattle.geos_model.specs.ArrayEdits.{element_set, set_conditions, is_missized, too_long}
+use Rattle.std.proofs.Common.{◌≡◌, ◌+◌, [], ◌∷◌, List, ℕ, false, ap, sym, ◌∙◌, arith}
+use Rattle.geos_model.specs.Array.{Array}
+use Rattle.geos_model.specs.ArrayEdits.{element_set, set_conditions, is_missized}
 use Rattle.geos_model.proofs.Arrays.{array_bytes-of}
 use Rattle.geos_model.proofs.ArrayEdits.{even_with_one}
-use Rattle.chunk_arrays.proofs.Refused.{set_decides, handed_on, made}
+use Rattle.chunk_arrays.proofs.ReplacingLemmas.{set_decides, elements_handed_on}
 use Rattle.chunk_arrays.proofs.edits.set.Goals as goal
 
 pub rewrite-requires-clause-even : goal.rewrite-requires-clause-even
@@ -18,9 +18,5 @@ returns c =
     let i : ℕ = c.args.i in
     let element : List ℕ = c.args.element.now in
     let sized : is_missized a.size element ≡ false = ap (λ (n : ℕ). is_missized n c.args.element.now) (sym c.element_size.ensures) ∙ sym c.if-is_missized.ensures in
-    let to : List ℕ = element_set bytes i element in
-    handed_on c.rewrite.result (set_conditions bytes i element ++ too_long to) bytes (array_bytes a) to _
-    (set_decides bytes a i element to c.in_ok-view.ensures (omega arith) sized)
-    (array_bytes-of bytes a c.in_ok-view.ensures).1
-    (made bytes a i (i + 1) _ (element ∷ []) c.in_ok-view.ensures (ap (λ (x : List ℕ). x ∷ []) c.whole.ensures))
-    c.rewrite.ensures
+    elements_handed_on bytes a i (i + 1) _ (element ∷ []) (set_conditions bytes i element) c.in_ok-view.ensures (ap (λ (x : List ℕ). x ∷ []) c.whole.ensures)
+    c.rewrite.result (set_decides bytes a i element (element_set bytes i element) c.in_ok-view.ensures (omega arith) sized) c.rewrite.ensures

@@ -3,7 +3,7 @@ use Rattle.geos_model.specs.Array.{Array, array_bytes}
 use Rattle.geos_model.specs.ArrayEdits.{array_zeroed, on_array, too_long}
 use Rattle.geos_model.proofs.Arrays.{array_bytes-of}
 use Rattle.geos_model.proofs.ArrayEdits.{even_with_none}
-use Rattle.chunk_arrays.proofs.Refused.{zero_decides, handed_on, made-zeroed}
+use Rattle.chunk_arrays.proofs.ReplacingLemmas.{zero_decides, handed_on, made-zeroed}
 use Rattle.chunk_arrays.proofs.edits.zero.Goals as goal
 
 pub rewrite-requires-clause-even : goal.rewrite-requires-clause-even

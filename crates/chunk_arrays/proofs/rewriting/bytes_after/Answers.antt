@@ -2,7 +2,7 @@ use Rattle.std.proofs.Common.{◌≡◌, ◌≤◌, ◌+◌, ◌++◌, ℕ, List
 use Rattle.geos_model.specs.Array.{Array, place_table}
 use Rattle.geos_model.specs.Words.{word}
 use Rattle.chunk_arrays.specs.Rewriting.{elements_of, extra_after, rewritten}
-use Rattle.chunk_arrays.proofs.Rewritten.{head_room, joined-front, length-extra_after, length_pushed, bytes_pushed, length_joined-splice}
+use Rattle.chunk_arrays.proofs.RewritingLemmas.{head_room, joined-front, length-extra_after, length_pushed, bytes_pushed, length_joined-splice}
 use Rattle.chunk_arrays.proofs.rewriting.bytes_after.Goals as goal
 
 -- where the extra bytes end

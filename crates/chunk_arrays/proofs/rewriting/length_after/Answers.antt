@@ -3,7 +3,7 @@ use Rattle.std.specs.List.{splice}
 use Rattle.geos_model.specs.Array.{Array, array_bytes}
 use Rattle.geos_model.proofs.Arrays.{joined}
 use Rattle.chunk_arrays.specs.Rewriting.{elements_of, rewritten}
-use Rattle.chunk_arrays.proofs.Rewritten.{cut, cut_sum, cut_table, length-array, length_joined-splice, joined-front, run_back}
+use Rattle.chunk_arrays.proofs.RewritingLemmas.{cut, cut_sum, cut_table, length-array, length_joined-splice, joined-front, run_back}
 use Rattle.chunk_arrays.proofs.rewriting.length_after.Goals as goal
 
 pub returns : goal.returns

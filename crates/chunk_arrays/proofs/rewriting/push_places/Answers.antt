@@ -1,6 +1,6 @@
 use Rattle.std.proofs.Common.{◌-◌, ◌≤◌, ◌<◌, ◌++◌, ℕ, List, length, ap, ◌∙◌, sym, arith, append_assoc, take, drop}
 use Rattle.geos_model.specs.Words.{word}
-use Rattle.chunk_arrays.proofs.Rewritten.{run_words, run_length, run_fits, words_from}
+use Rattle.chunk_arrays.proofs.RewritingLemmas.{run_words, run_length, run_fits, words_from}
 use Rattle.chunk_arrays.proofs.rewriting.push_places.Goals as goal
 
 pub push_word-requires : goal.push_word-requires

@@ -1,6 +1,6 @@
 use Rattle.std.proofs.Common.{◌≡◌, ◌==◌, ◌+◌, ◌*◌, refl, ◌-◌, ◌++◌, ◌∙◌, List, ℕ, true, length, take, arith, ap}
 use Rattle.chunk_arrays.specs.Rewriting.{elements_of}
-use Rattle.chunk_arrays.proofs.Rewritten.{is_any, joined-front, run_back, table_room, table_pushed, words_from}
+use Rattle.chunk_arrays.proofs.RewritingLemmas.{is_any, joined-front, run_back, table_room, table_pushed, words_from}
 use Rattle.geos_model.proofs.Arrays.{joined}
 use Rattle.chunk_arrays.proofs.rewriting.push_table.Goals as goal
 

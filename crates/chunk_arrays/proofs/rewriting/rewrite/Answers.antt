@@ -2,8 +2,8 @@ use Rattle.std.proofs.Common.{◌≡◌, ◌≤◌, ℕ, List, Option, length, i
 use Rattle.geos_model.specs.Array.{Array, array_bytes}
 use Rattle.chunk_arrays.specs.Rewriting.{extra_after, rewritten}
 use Rattle.chunk_arrays.specs.declared.rewriting.NewElement.{NewElement}
-use Rattle.chunk_arrays.proofs.Rewritten.{length-extra_after, length-other_extra}
-use Rattle.chunk_arrays.proofs.Refused.{refused-long, accepted-short, leads-whole}
+use Rattle.chunk_arrays.proofs.RewritingLemmas.{length-extra_after, length-other_extra}
+use Rattle.chunk_arrays.proofs.ReplacingLemmas.{refused-long, accepted-short, leads-whole}
 use Rattle.chunk_arrays.proofs.rewriting.rewrite.Goals as goal
 
 -- The new bytes are as many as with the old extra bytes.

@@ -1,6 +1,6 @@
 use Rattle.std.proofs.Common.{◌∙◌, sym, refl, arith, ℕ, List}
 use Rattle.chunk_arrays.specs.Parts.{HasParts}
-use Rattle.chunk_arrays.proofs.Views.{not_array, no_elements, parts_found, array_of-parts, even-read, few-read, are_bytes-read}
+use Rattle.chunk_arrays.proofs.PartsLemmas.{not_array, no_elements, parts_found, array_of-parts, even-read, few-read, are_bytes-read}
 use Rattle.chunk_arrays.proofs.view.check.Goals as goal
 use Rattle.chunk_arrays.proofs.view.check.Goals.{then-third-ne0-via-then-third-ne0, then-third-ne0-via-else-third-ne0+then-start-lt8, then-third-ne0-via-else-third-ne0+else-start-lt8+then-bytes-start}
 

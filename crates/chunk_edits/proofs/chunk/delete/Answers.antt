@@ -2,7 +2,7 @@ use Rattle.std.proofs.Common.{◌+◌, [], arith}
 use Rattle.geos_model.specs.Heap.{chunk_bytes}
 use Rattle.geos_model.specs.Bytes.{deleted}
 use Rattle.geos_model.proofs.HeapTables.{fits_with-fewer}
-use Rattle.chunk_edits.proofs.Splices.{length-splice}
+use Rattle.chunk_edits.proofs.SplicingLemmas.{length-splice}
 use Rattle.chunk_edits.proofs.chunk.delete.Goals as goal
 
 pub returns-clause-fits : goal.returns-clause-fits

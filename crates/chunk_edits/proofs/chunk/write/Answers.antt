@@ -2,7 +2,7 @@ use Rattle.std.proofs.Common.{◌+◌, length, arith}
 use Rattle.geos_model.specs.Heap.{chunk_bytes}
 use Rattle.geos_model.specs.Bytes.{written}
 use Rattle.geos_model.proofs.HeapTables.{fits_with-fewer}
-use Rattle.chunk_edits.proofs.Splices.{length-splice}
+use Rattle.chunk_edits.proofs.SplicingLemmas.{length-splice}
 use Rattle.chunk_edits.proofs.chunk.write.Goals as goal
 
 pub returns-clause-fits : goal.returns-clause-fits

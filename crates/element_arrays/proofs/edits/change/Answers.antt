@@ -1,27 +1,21 @@
-use Rattle.std.proofs.Common.{◌≡◌, ℕ, List, [], ◌++◌, refl, sym, ap, ◌∙◌, append-nil}
+use Rattle.std.proofs.Common.{ℕ, List, refl, sym, ap, ◌∙◌, append-nil}
 use Rattle.geos_model.specs.ArrayEdits.{is_missized}
-use Rattle.geos_model.specs.ElementArray.{Slots, element_bytes}
-use Rattle.geos_model.specs.ElementEdits.{element_changed, with_element, count_at, change_conditions}
+use Rattle.geos_model.specs.ElementArray.{Slots}
+use Rattle.geos_model.specs.ElementEdits.{with_element, count_at, change_conditions}
 use Rattle.geos_model.specs.declared.fault.Fault.TheVariants.{NotArray, NoElement, Range}
-use Rattle.element_arrays.specs.Slotted.{slotted_bytes}
 use Rattle.element_arrays.specs.Used.{used_element}
-use Rattle.element_arrays.proofs.Found.{elements_are, new_bytes}
+use Rattle.element_arrays.proofs.UsedLemmas.{whole_element, edit_handed_on}
 use Rattle.geos_model.proofs.UsedElements.{counted, bounded, count_at-is}
-use Rattle.element_arrays.proofs.UsedElements.{whole_element}
-use Rattle.element_arrays.proofs.Replacing.{carried, refuses_own, slots_handed_on}
+use Rattle.element_arrays.proofs.SlottedLemmas.{refuses_own, carried_own}
 use Rattle.element_arrays.proofs.edits.change.Goals as goal
 
 pub returns-in_err-slots : goal.returns-in_err-slots
 returns-in_err-slots c =
-    let fault = c.in_err-slots.field-0.0 in
-    carried c.from_residual.result _ _ fault c.from_residual.ensures.1
-    (refuses_own (change_conditions c.args.bytes.now c.args.token.0 c.args.element.now) _ NotArray fault c.in_err-slots.ensures.0 refl (rw c.in_err-slots.ensures.1 refl))
+    carried_own c.from_residual.result _ (change_conditions c.args.bytes.now c.args.token.0 c.args.element.now) _ NotArray c.in_err-slots.field-0.0 c.from_residual.ensures.1 c.in_err-slots.ensures.0 refl (rw c.in_err-slots.ensures.1 refl)
 
 pub returns-in_err-used : goal.returns-in_err-used
 returns-in_err-used c =
-    let fault = c.in_err-used.field-0.0 in
-    carried c.from_residual-in_err-used.result _ _ fault c.from_residual-in_err-used.ensures.1
-    (refuses_own (change_conditions c.args.bytes.now c.args.token.0 c.args.element.now) _ NoElement fault c.in_err-used.ensures.0 refl (rw (c.in_ok-slots.ensures.0, c.in_err-used.ensures.1) refl))
+    carried_own c.from_residual-in_err-used.result _ (change_conditions c.args.bytes.now c.args.token.0 c.args.element.now) _ NoElement c.in_err-used.field-0.0 c.from_residual-in_err-used.ensures.1 c.in_err-used.ensures.0 refl (rw (c.in_ok-slots.ensures.0, c.in_err-used.ensures.1) refl)
 
 pub returns-then-is_missized : goal.returns-then-is_missized
 returns-then-is_missized c =
@@ -42,7 +36,6 @@ with_element-requires-clause-sized c =
 
 pub returns : goal.returns
 returns c =
-    let bytes : List ℕ = c.args.bytes.now in
     let element : List ℕ = c.args.element.now in
     let t : ℕ = c.args.token.0 in
     let s = c.in_ok-slots.slots in
@@ -50,9 +43,5 @@ returns c =
     let e = used_element c.in_ok-used.used in
     let at = c.in_ok-used.ensures in
     let fits = ap (λ (n : ℕ). is_missized n c.args.element.now) (sym c.element_size.ensures) ∙ sym c.is_missized.ensures ∙ c.if-is_missized.false in
-    let new : Slots = with_element s.slots t e.count (element ++ []) in
-    let same : new ≡ with_element s.slots t (count_at s.slots t) element = whole_element s.slots t e.count _ element element (sym (count_at-is s.slots t e at)) refl in
-    let to_is : slotted_bytes s.more new ≡ element_changed bytes t element =
-    new_bytes bytes s read new ∙ ap element_bytes same ∙ ap (λ (x : Slots). element_bytes (with_element x t (count_at x t) element)) (sym (elements_are bytes s read)) in
-    slots_handed_on (change_conditions bytes t element) s new bytes (element_changed bytes t element)
-    (rw (read.0, at, fits) refl) read.1 to_is c.with_element.result c.with_element.ensures
+    edit_handed_on c.args.bytes.now s read (λ (x : Slots). with_element x t (count_at x t) element) _ (whole_element s.slots t e.count _ element element (sym (count_at-is s.slots t e at)) refl) (change_conditions c.args.bytes.now t element)
+    (rw (read.0, at, fits) refl) c.with_element.result c.with_element.ensures

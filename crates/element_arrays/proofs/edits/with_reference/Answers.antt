@@ -8,16 +8,13 @@ use Rattle.element_arrays.specs.Slotted.{slotted_bytes}
 use Rattle.element_arrays.specs.Used.{used_element}
 use Rattle.element_arrays.specs.Referencing.{element_with_reference, element_reference_conditions}
 use Rattle.geos_model.proofs.UsedElements.{bounded, own_size, count_at-is, bytes_at-is}
-use Rattle.element_arrays.proofs.UsedElements.{whole_element}
-use Rattle.element_arrays.proofs.Replacing.{carried, refuses_own, slots_handed_on}
+use Rattle.element_arrays.proofs.UsedLemmas.{whole_element}
+use Rattle.element_arrays.proofs.SlottedLemmas.{slots_handed_on, carried_own}
 use Rattle.element_arrays.proofs.edits.with_reference.Goals as goal
 
 pub returns-in_err-used : goal.returns-in_err-used
 returns-in_err-used c =
-    let s = c.args.slots.now.slots in
-    let fault = c.in_err-used.field-0.0 in
-    carried c.from_residual.result _ _ fault c.from_residual.ensures.1
-    (refuses_own (element_reference_conditions s c.args.token.0) _ NoElement fault c.in_err-used.ensures.0 refl (rw c.in_err-used.ensures.1 refl))
+    carried_own c.from_residual.result _ (element_reference_conditions c.args.slots.now.slots c.args.token.0) _ NoElement c.in_err-used.field-0.0 c.from_residual.ensures.1 c.in_err-used.ensures.0 refl (rw c.in_err-used.ensures.1 refl)
 
 pub overflow_add-used : goal.overflow_add-used
 overflow_add-used c =

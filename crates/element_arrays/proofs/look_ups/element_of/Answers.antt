@@ -1,6 +1,6 @@
 use Rattle.std.proofs.Common.{Some, sym, ap}
-use Rattle.element_arrays.proofs.Found.{answers_element}
-use Rattle.element_arrays.proofs.Replacing.{carried}
+use Rattle.element_arrays.proofs.UsedLemmas.{answers_element}
+use Rattle.element_arrays.proofs.SlottedLemmas.{carried}
 use Rattle.element_arrays.proofs.look_ups.element_of.Goals as goal
 
 pub returns-in_err-slots : goal.returns-in_err-slots

@@ -2,8 +2,7 @@ use Rattle.std.proofs.Common.{◌≡◌, ℕ, ◌+◌, ◌<◌, ◌≤◌, true,
 use Rattle.std.proofs.lemmas.Bool.{lt-leb}
 use Rattle.geos_model.specs.ElementArray.{Slots}
 use Rattle.geos_model.specs.ElementEdits.{used_from}
-use Rattle.element_arrays.proofs.Found.{elements_are}
-use Rattle.element_arrays.proofs.Tokens.{is_used_slot, from-free, count-free, from-used, count-used, get_or-behind}
+use Rattle.element_arrays.proofs.UsedLemmas.{elements_are, is_used_slot, from-free, count-free, from-used, count-used, get_or-behind}
 use Rattle.element_arrays.proofs.look_ups.token_of_used.Goals.{then-is_some+else-left-eq0, else-is_some}
 use Rattle.element_arrays.proofs.look_ups.token_of_used.Goals as goal
 

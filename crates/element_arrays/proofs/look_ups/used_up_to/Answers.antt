@@ -1,6 +1,6 @@
 use Rattle.std.proofs.Common.{◌+◌, ◌<◌, None, is_some, length, get_or, sym, ap, ◌∙◌, arith}
 use Rattle.std.proofs.lemmas.List.Sums.{count_by_more_yes, count_by_more_no}
-use Rattle.element_arrays.proofs.Tokens.{is_used_slot}
+use Rattle.element_arrays.proofs.UsedLemmas.{is_used_slot}
 use Rattle.element_arrays.proofs.look_ups.used_up_to.Goals.{then-is_some, else-is_some}
 use Rattle.element_arrays.proofs.look_ups.used_up_to.Goals as goal
 

@@ -5,7 +5,7 @@ use Rattle.geos_model.specs.declared.fault.Fault.{Fault}
 use Rattle.geos_model.specs.declared.fault.Fault.TheVariants.{NotArray}
 use Rattle.geos_model.proofs.Arrays.{array_bytes-of}
 use Rattle.element_arrays.specs.Slotted.{Slotted, slotted_array, slotted_bytes}
-use Rattle.element_arrays.proofs.Replacing.{carried}
+use Rattle.element_arrays.proofs.SlottedLemmas.{carried}
 use Rattle.element_arrays.proofs.reading.read.Goals as goal
 
 not_array : (bytes : List ℕ) → array_of bytes ≡ None → element_array_of bytes ≡ None

@@ -5,7 +5,7 @@ use Rattle.std.specs.List.{list_all}
 use Rattle.geos_model.specs.Array.{Array}
 use Rattle.geos_model.specs.Words.{word_at}
 use Rattle.element_arrays.specs.Tested.{is_freed, is_slot, is_walk}
-use Rattle.element_arrays.proofs.Slotting.{slots_passed, slots_refused}
+use Rattle.element_arrays.proofs.TestedLemmas.{slots_passed, slots_refused}
 use Rattle.element_arrays.proofs.slot_view.are_slots.Goals as goal
 use Rattle.element_arrays.proofs.slot_view.are_slots.Goals.{else-size-gt0-via-then-size-gt0+else-size-lt4, else-size-gt0-via-else-size-gt0}
 

@@ -3,7 +3,7 @@ use Rattle.std.proofs.Common.{◌≡◌, ◌+◌, Some, length, drop, refl, sym,
 use Rattle.geos_model.specs.Array.{Array}
 use Rattle.geos_model.specs.ElementArray.{slots_of, slots_read}
 use Rattle.geos_model.proofs.ElementArrays.{slots_of-is}
-use Rattle.element_arrays.proofs.Slotting.{slots_read-is, slots_none}
+use Rattle.element_arrays.proofs.TestedLemmas.{slots_read-is, slots_none}
 use Rattle.element_arrays.proofs.slot_view.slots_in.Goals as goal
 
 pub invariant_of-result : goal.invariant_of-result

@@ -7,10 +7,10 @@ use Rattle.geos_model.specs.NameArray.{NameArray}
 use Rattle.geos_model.specs.NameEdits.{part_at}
 use Rattle.geos_model.specs.declared.fault.Fault.TheVariants.{CountFull, Range}
 use Rattle.element_arrays.specs.Slotted.{Slotted, slotted_bytes}
-use Rattle.element_arrays.proofs.Replacing.{slots_handed_on}
+use Rattle.element_arrays.proofs.SlottedLemmas.{slots_handed_on}
 use Rattle.name_arrays.specs.Reading.{named_array}
 use Rattle.name_arrays.specs.Referencing.{name_bytes_with_reference, name_reference_conditions}
-use Rattle.name_arrays.proofs.Found.{any_size, bytes_with}
+use Rattle.name_arrays.proofs.NamingLemmas.{any_size, bytes_with}
 use Rattle.name_arrays.proofs.edits.with_reference.Goals as goal
 use Rattle.name_arrays.proofs.edits.with_reference.Goals.{then-replace, else-replace}
 

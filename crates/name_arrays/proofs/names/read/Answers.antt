@@ -1,6 +1,6 @@
 use Rattle.std.proofs.Common.{refl, sym}
-use Rattle.element_arrays.proofs.Replacing.{carried}
-use Rattle.name_arrays.proofs.Readings.{no_array, no_slots, no_names, is_sound_read, more_is, is_read}
+use Rattle.element_arrays.proofs.SlottedLemmas.{carried}
+use Rattle.name_arrays.proofs.ReadingLemmas.{no_array, no_slots, not_named, is_sound_read, more_is, is_read}
 use Rattle.name_arrays.proofs.names.read.Goals as goal
 
 pub returns-in_err-view : goal.returns-in_err-view
@@ -15,7 +15,7 @@ returns-in_err-slots c =
 pub returns-then-not-are_names : goal.returns-then-not-are_names
 returns-then-not-are_names c = (
   refl,
-  no_names c.args.bytes.now c.in_ok-view.view.array c.in_ok-slots.slots c.part_size-part.result c.in_ok-view.ensures c.in_ok-slots.ensures.0 c.in_ok-slots.ensures.1 c.part_size-part.ensures (sym c.if-not-are_names.ensures),
+  not_named c.args.bytes.now c.in_ok-view.view.array c.in_ok-slots.slots c.part_size-part.result c.in_ok-view.ensures c.in_ok-slots.ensures.0 c.in_ok-slots.ensures.1 c.part_size-part.ensures (sym c.if-not-are_names.ensures),
 )
 
 pub invariant_of-result : goal.invariant_of-result

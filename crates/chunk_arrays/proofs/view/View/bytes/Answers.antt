@@ -1,7 +1,7 @@
 use Rattle.std.proofs.Common.{◌∙◌, sym, ap}
 use Rattle.geos_model.specs.Array.{array_bytes}
 use Rattle.chunk_arrays.specs.Viewed.{Viewed}
-use Rattle.chunk_arrays.proofs.Views.{bytes-read}
+use Rattle.chunk_arrays.proofs.PartsLemmas.{bytes-read}
 use Rattle.chunk_arrays.proofs.view.View.bytes.Goals as goal
 
 pub returns : goal.returns

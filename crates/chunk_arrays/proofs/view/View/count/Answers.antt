@@ -1,6 +1,6 @@
 use Rattle.std.proofs.Common.{◌∙◌, sym, ap, length}
 use Rattle.chunk_arrays.specs.Viewed.{Viewed}
-use Rattle.chunk_arrays.proofs.Views.{length-elements_read}
+use Rattle.chunk_arrays.proofs.PartsLemmas.{length-elements_read}
 use Rattle.chunk_arrays.proofs.view.View.count.Goals as goal
 
 pub returns : goal.returns

@@ -1,5 +1,5 @@
 use Rattle.std.proofs.Common.{◌∙◌, arith}
-use Rattle.chunk_arrays.proofs.Places.{one-is}
+use Rattle.chunk_arrays.proofs.PlaceLemmas.{one-is}
 use Rattle.chunk_arrays.proofs.view.View.element.Goals as goal
 
 pub overflow_add-i : goal.overflow_add-i

@@ -1,5 +1,5 @@
 use Rattle.std.proofs.Common.{◌-◌, ◌∙◌, ap, ℕ, take, drop}
-use Rattle.chunk_arrays.proofs.Views.{extra-is}
+use Rattle.chunk_arrays.proofs.PartsLemmas.{extra-is}
 use Rattle.chunk_arrays.specs.Viewed.{Viewed}
 use Rattle.chunk_arrays.proofs.view.View.extra.Goals as goal
 

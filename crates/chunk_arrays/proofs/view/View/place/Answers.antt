@@ -2,9 +2,9 @@ use Rattle.std.proofs.Common.{◌≡◌, ◌≢◌, ◌≤◌, ◌<◌, ◌+◌,
 use Rattle.std.proofs.Math.Nat.{mul-le-mul_right}
 use Rattle.geos_model.specs.Words.{word_at}
 use Rattle.chunk_arrays.specs.Reading.{place_of}
-use Rattle.chunk_arrays.proofs.Cutting.{word_at-lt}
-use Rattle.chunk_arrays.proofs.Views.{length-elements_read}
-use Rattle.chunk_arrays.proofs.Places.{place-last, place-any, place-even}
+use Rattle.chunk_arrays.proofs.CutLemmas.{word_at-lt}
+use Rattle.chunk_arrays.proofs.PartsLemmas.{length-elements_read}
+use Rattle.chunk_arrays.proofs.PlaceLemmas.{place-last, place-any, place-even}
 use Rattle.chunk_arrays.specs.Viewed.{Viewed}
 use Rattle.chunk_arrays.proofs.view.View.place.Goals as goal
 

@@ -1,8 +1,8 @@
 use Rattle.std.proofs.Common.{◌≡◌, ◌-◌, ◌∙◌, sym, ap, arith, ℕ, List, length, take, drop}
 use Rattle.geos_model.specs.Array.{Array, array_bytes}
 use Rattle.chunk_arrays.specs.Reading.{place_of}
-use Rattle.chunk_arrays.proofs.Places.{place-order, place-within, run-is}
-use Rattle.chunk_arrays.proofs.Views.{bytes-read}
+use Rattle.chunk_arrays.proofs.PlaceLemmas.{place-order, place-within, run-is}
+use Rattle.chunk_arrays.proofs.PartsLemmas.{bytes-read}
 use Rattle.chunk_arrays.specs.Viewed.{Viewed}
 use Rattle.chunk_arrays.proofs.view.View.run.Goals as goal
 

@@ -1,7 +1,7 @@
 -- Each element has its count's bytes.
 use Rattle.std.proofs.Common.{◌≤◌, [], length, get_or, ap, arith}
 use Rattle.geos_model.specs.Array.{Array}
-use Rattle.element_arrays.proofs.Slotting.{long_elements, slot_long}
+use Rattle.element_arrays.proofs.TestedLemmas.{long_elements, slot_long}
 use Rattle.element_arrays.proofs.slot_view.SlotView.element.Goals as goal
 
 pub bounds-bytes-2 : goal.bounds-bytes-2

@@ -4,7 +4,7 @@ use Rattle.std.specs.Option.{option_map, option_map_or}
 use Rattle.geos_model.specs.Bytes.{same_bytes}
 use Rattle.geos_model.specs.ElementArray.{Element}
 use Rattle.element_arrays.specs.Used.{used_element}
-use Rattle.element_arrays.proofs.Slotting.{position_at, position_none}
+use Rattle.element_arrays.proofs.TestedLemmas.{position_at, position_none}
 use Rattle.element_arrays.proofs.slot_view.SlotView.find.Goals as goal
 
 pub returns-in-loop-t : goal.returns-in-loop-t

@@ -2,7 +2,7 @@
 use Rattle.std.proofs.Common.{◌≤◌, length, drop, ap, arith}
 use Rattle.geos_model.specs.Array.{Array}
 use Rattle.geos_model.specs.ElementArray.{slots_read}
-use Rattle.element_arrays.proofs.Slotting.{extra_long}
+use Rattle.element_arrays.proofs.TestedLemmas.{extra_long}
 use Rattle.element_arrays.proofs.slot_view.SlotView.more.Goals as goal
 
 pub slice_bounds-result-count : goal.slice_bounds-result-count

@@ -1,7 +1,7 @@
 use Rattle.std.proofs.Common.{◌<◌, length, arith, ◌∙◌}
 use Rattle.geos_model.specs.ElementArray.{first_token}
 use Rattle.element_arrays.specs.Slotted.{Slotted}
-use Rattle.element_arrays.proofs.SlotEdits.{extra-slots, length_extra, first_token-read, some_free, none_free}
+use Rattle.element_arrays.proofs.SlottedLemmas.{extra-slots, length_extra, first_token-read, some_free, none_free}
 use Rattle.element_arrays.proofs.slot_view.SlotView.newest_free.Goals as goal
 
 pub read_u16-first-requires : goal.read_u16-first-requires

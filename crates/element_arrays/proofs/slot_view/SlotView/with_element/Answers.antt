@@ -3,7 +3,7 @@ use Rattle.byteorder.specs.Endian.{little_bytes}
 use Rattle.geos_model.specs.ElementEdits.{with_element}
 use Rattle.geos_model.proofs.ElementEdits.{used_lt}
 use Rattle.element_arrays.specs.Slotted.{Slotted}
-use Rattle.element_arrays.proofs.SlotEdits.{is_even-slots, length-slots, extra-slots, spelled-parts, length-parts, put-at, put, answers}
+use Rattle.element_arrays.proofs.SlottedLemmas.{is_even-slots, length-slots, extra-slots, spelled-parts, length-parts, put-at, put, answers}
 use Rattle.element_arrays.proofs.slot_view.SlotView.with_element.Goals as goal
 
 -- the bytes that come in are those of the count and the element's

@@ -6,8 +6,8 @@ use Rattle.geos_model.specs.ElementArray.{first_token, is_sound, slots_array}
 use Rattle.geos_model.specs.ElementEdits.{with_new}
 use Rattle.chunk_arrays.specs.Rewriting.{extra_after}
 use Rattle.element_arrays.specs.Slotted.{Slotted, slotted_array}
-use Rattle.element_arrays.proofs.SlotEdits.{is_even-slots, length-slots, extra-slots, extra_put, extra_room, spelled-parts, length-parts, newest_lt, newest_link, token-none, put-none, token-some, put-some, put, gives, refuses}
-use Rattle.element_arrays.proofs.Replacing.{carried}
+use Rattle.element_arrays.proofs.SlottedLemmas.{is_even-slots, length-slots, extra-slots, extra_put, extra_room, spelled-parts, length-parts, newest_lt, newest_link, token-none, put-none, token-some, put-some, put, gives, refuses, carried}
+use Rattle.element_arrays.proofs.slot_view.SlotView.with_new.Goals.{After-from-at, After-element, After-first_word-next}
 use Rattle.element_arrays.proofs.slot_view.SlotView.with_new.Goals as goal
 
 -- the bytes that come in
@@ -43,9 +43,11 @@ link_at s v t at element is sound free place e =
     let same : element ≡ get_or v.elements t [] = e ∙ ap (λ (n : ℕ). get_or v.elements n []) place in
     subst (λ x. (2 ≤ length x) × (take 2 x ≡ word (first_token (drop 1 s.slots.free)))) (sym same) (newest_link s.more s.slots v t is sound free)
 
+link : (c : After-element) → (2 ≤ length c.element.result.now) × (take 2 c.element.result.now ≡ word (first_token (drop 1 c.args.self.now.slots.free)))
+link c = link_at c.args.self.now c.array-array.result.now.array c.in-Some.token.0 c.from-at-in-Some.result c.element.result.now c.array-array.ensures c.args.self.now.sound c.in-Some.ensures c.from-at-in-Some.ensures c.element.ensures
+
 pub first_word-next-requires : goal.first_word-next-requires
-first_word-next-requires c =
-    (link_at c.args.self.now c.array-array.result.now.array c.in-Some.token.0 c.from-at-in-Some.result c.element.result.now c.array-array.ensures c.args.self.now.sound c.in-Some.ensures c.from-at-in-Some.ensures c.element.ensures).0
+first_word-next-requires c = (link (goal.at.first_word-next-requires c).After-element).0
 
 pub rewrite-requires-in-Some-clause-within : goal.rewrite-requires-in-Some-clause-within
 rewrite-requires-in-Some-clause-within c =
@@ -57,10 +59,7 @@ rewrite-requires-in-Some-clause-within c =
 pub rewrite-requires-in-Some-clause-extra : goal.rewrite-requires-in-Some-clause-extra
 rewrite-requires-in-Some-clause-extra c =
     let s : Slotted = c.args.self.now in
-    let v = c.array-array.result.now.array in
-    let is = c.array-array.ensures in
-    let link = link_at s v c.in-Some.token.0 c.from-at-in-Some.result c.element.result.now is c.args.self.now.sound c.in-Some.ensures c.from-at-in-Some.ensures c.element.ensures in
-    extra_room s.more s.slots v (first_token (drop 1 s.slots.free)) c.first_word-next.result.now is (c.first_word-next.ensures ∙ link.1)
+    extra_room s.more s.slots c.array-array.result.now.array (first_token (drop 1 s.slots.free)) c.first_word-next.result.now c.array-array.ensures (c.first_word-next.ensures ∙ (link (goal.at.rewrite-requires-in-Some-clause-extra c).After-element).1)
 
 pub rewrite-requires-in-Some-clause-even : goal.rewrite-requires-in-Some-clause-even
 rewrite-requires-in-Some-clause-even c =
@@ -70,69 +69,56 @@ rewrite-requires-in-Some-clause-even c =
     (length-parts s.slots.size 1 (coming head tail) (head ++ tail) (coming_is head tail) c.requires)
 
 -- what comes out where no token is free
-next_is : (s : Slotted) (v : Array) (n : ℕ) (extra head tail : List ℕ) → v ≡ slotted_array s → s.slots.free ≡ [] → n ≡ length s.slots.slots → extra ≡ v.extra → put v extra n n (coming head tail) ≡ slots_array s.more (with_new s.slots (head ++ tail)).0
-next_is s v n extra head tail is free all same =
-    put-none s.more s.slots v n extra (coming head tail) (head ++ tail) is free all (same ∙ extra-slots s.more s.slots v is) (coming_is head tail)
+appended : (c : After-from-at) → c.args.self.now.slots.free ≡ [] → put c.array-array.result.now.array c.array-array.result.now.array.extra c.from-at.result c.from-at.result (coming c.args.head.now c.args.tail.now) ≡ slots_array c.args.self.now.more (with_new c.args.self.now.slots (c.args.head.now ++ c.args.tail.now)).0
+appended c free =
+    let s : Slotted = c.args.self.now in
+    let v = c.array-array.result.now.array in
+    let head = c.args.head.now in let tail = c.args.tail.now in
+    put-none s.more s.slots v c.from-at.result v.extra (coming head tail) (head ++ tail) c.array-array.ensures free (c.from-at.ensures ∙ c.len.ensures) (extra-slots s.more s.slots v c.array-array.ensures) (coming_is head tail)
 
 pub returns-in_err-splice-in-None : goal.returns-in_err-splice-in-None
 returns-in_err-splice-in-None c =
     let s : Slotted = c.args.self.now in
-    let v = c.array-array.result.now.array in
-    let head = c.args.head.now in let tail = c.args.tail.now in
-    let n = c.from-at.result in
-    let extra = c.array-array.result.now.array.extra in
-    carried c.from_residual.result _ _ c.in_err-splice-in-None.field-0.0 c.from_residual.ensures.1
-    (refuses s (with_new s.slots (head ++ tail)).0 (put v extra n n (coming head tail)) c.in_err-splice-in-None.field-0.0
-    (next_is s v n extra head tail c.array-array.ensures c.in-None.ensures (c.from-at.ensures ∙ c.len.ensures) refl)
-    c.in_err-splice-in-None.ensures)
+    let fault = c.in_err-splice-in-None.field-0.0 in
+    carried c.from_residual.result _ _ fault c.from_residual.ensures.1
+    (refuses s (with_new s.slots (c.args.head.now ++ c.args.tail.now)).0 _ fault (appended (goal.at.returns-in_err-splice-in-None c).After-from-at c.in-None.ensures) c.in_err-splice-in-None.ensures)
 
 pub returns-in_ok-splice-in-None : goal.returns-in_ok-splice-in-None
 returns-in_ok-splice-in-None c =
     let s : Slotted = c.args.self.now in
-    let v = c.array-array.result.now.array in
-    let head = c.args.head.now in let tail = c.args.tail.now in
-    let n = c.from-at.result in
-    let extra = c.array-array.result.now.array.extra in (
-      gives s (with_new s.slots (head ++ tail)).0 v (put v extra n n (coming head tail)) c.in_ok-splice-in-None.splice c.array-array.ensures
-          (next_is s v n extra head tail c.array-array.ensures c.in-None.ensures (c.from-at.ensures ∙ c.len.ensures) refl)
+    let bytes = c.args.head.now ++ c.args.tail.now in (
+      gives s (with_new s.slots bytes).0 c.array-array.result.now.array _ c.in_ok-splice-in-None.splice c.array-array.ensures
+          (appended (goal.at.returns-in_ok-splice-in-None c).After-from-at c.in-None.ensures)
           c.in_ok-splice-in-None.ensures,
-      token-none s.slots (head ++ tail) c.len.result c.in-None.ensures c.len.ensures,
+      token-none s.slots bytes c.len.result c.in-None.ensures c.len.ensures,
     )
 
 -- what comes out where one is
-reused_is : (s : Slotted) (v : Array) (t at : ℕ) (extra head tail : List ℕ) → v ≡ slotted_array s → is_sound s.slots ≡ true → s.slots.free ≡ t ∷ drop 1 s.slots.free → at ≡ t → extra ≡ word (first_token (drop 1 s.slots.free)) ++ s.more → put v extra at (at + 1) (coming head tail) ≡ slots_array s.more (with_new s.slots (head ++ tail)).0
-reused_is s v t at extra head tail is sound free place first =
-    put-some s.more s.slots v t at extra (coming head tail) (head ++ tail) is sound free place first (coming_is head tail)
+reused : (c : After-first_word-next) → put c.array-array.result.now.array (extra_after c.array-array.result.now.array c.first_word-next.result.now) c.from-at-in-Some.result (c.from-at-in-Some.result + 1) (coming c.args.head.now c.args.tail.now) ≡ slots_array c.args.self.now.more (with_new c.args.self.now.slots (c.args.head.now ++ c.args.tail.now)).0
+reused c =
+    let s : Slotted = c.args.self.now in
+    let v = c.array-array.result.now.array in
+    let is = c.array-array.ensures in
+    let t : ℕ = c.in-Some.token.0 in
+    let at = c.from-at-in-Some.result in
+    let head = c.args.head.now in let tail = c.args.tail.now in
+    let next = link_at s v t at c.element.result.now is s.sound c.in-Some.ensures c.from-at-in-Some.ensures c.element.ensures in
+    let first = extra_put s.more s.slots v (first_token (drop 1 s.slots.free)) c.first_word-next.result.now is (c.first_word-next.ensures ∙ next.1) in
+    put-some s.more s.slots v t at (extra_after v c.first_word-next.result.now) (coming head tail) (head ++ tail) is s.sound c.in-Some.ensures c.from-at-in-Some.ensures first (coming_is head tail)
 
 pub returns-in_err-splice-in-Some : goal.returns-in_err-splice-in-Some
 returns-in_err-splice-in-Some c =
     let s : Slotted = c.args.self.now in
-    let v = c.array-array.result.now.array in
-    let is = c.array-array.ensures in
-    let t : ℕ = c.in-Some.token.0 in
-    let at = c.from-at-in-Some.result in
-    let head = c.args.head.now in let tail = c.args.tail.now in
-    let extra = (extra_after c.array-array.result.now.array c.first_word-next.result.now) in
-    let link = link_at s v t at c.element.result.now is c.args.self.now.sound c.in-Some.ensures c.from-at-in-Some.ensures c.element.ensures in
-    let first = extra_put s.more s.slots v (first_token (drop 1 s.slots.free)) c.first_word-next.result.now is (c.first_word-next.ensures ∙ link.1) in
-    carried c.from_residual-in_err-splice-in-Some.result _ _ c.in_err-splice-in-Some.field-0.0 c.from_residual-in_err-splice-in-Some.ensures.1
-    (refuses s (with_new s.slots (head ++ tail)).0 (put v extra at (at + 1) (coming head tail)) c.in_err-splice-in-Some.field-0.0
-    (reused_is s v t at extra head tail is c.args.self.now.sound c.in-Some.ensures c.from-at-in-Some.ensures first)
-    c.in_err-splice-in-Some.ensures)
+    let fault = c.in_err-splice-in-Some.field-0.0 in
+    carried c.from_residual-in_err-splice-in-Some.result _ _ fault c.from_residual-in_err-splice-in-Some.ensures.1
+    (refuses s (with_new s.slots (c.args.head.now ++ c.args.tail.now)).0 _ fault (reused (goal.at.returns-in_err-splice-in-Some c).After-first_word-next) c.in_err-splice-in-Some.ensures)
 
 pub returns-in_ok-splice-in-Some : goal.returns-in_ok-splice-in-Some
 returns-in_ok-splice-in-Some c =
     let s : Slotted = c.args.self.now in
-    let v = c.array-array.result.now.array in
-    let is = c.array-array.ensures in
-    let t : ℕ = c.in-Some.token.0 in
-    let at = c.from-at-in-Some.result in
-    let head = c.args.head.now in let tail = c.args.tail.now in
-    let extra = (extra_after c.array-array.result.now.array c.first_word-next.result.now) in
-    let link = link_at s v t at c.element.result.now is c.args.self.now.sound c.in-Some.ensures c.from-at-in-Some.ensures c.element.ensures in
-    let first = extra_put s.more s.slots v (first_token (drop 1 s.slots.free)) c.first_word-next.result.now is (c.first_word-next.ensures ∙ link.1) in (
-      gives s (with_new s.slots (head ++ tail)).0 v (put v extra at (at + 1) (coming head tail)) c.in_ok-splice-in-Some.splice is
-          (reused_is s v t at extra head tail is c.args.self.now.sound c.in-Some.ensures c.from-at-in-Some.ensures first)
+    let bytes = c.args.head.now ++ c.args.tail.now in (
+      gives s (with_new s.slots bytes).0 c.array-array.result.now.array _ c.in_ok-splice-in-Some.splice c.array-array.ensures
+          (reused (goal.at.returns-in_ok-splice-in-Some c).After-first_word-next)
           c.in_ok-splice-in-Some.ensures,
-      token-some s.slots (head ++ tail) t c.in-Some.ensures,
+      token-some s.slots bytes c.in-Some.token.0 c.in-Some.ensures,
     )

@@ -4,7 +4,7 @@ use Rattle.geos_model.specs.ElementEdits.{without_element}
 use Rattle.chunk_arrays.specs.Rewriting.{extra_after}
 use Rattle.geos_model.proofs.ElementEdits.{used_lt}
 use Rattle.element_arrays.specs.Slotted.{Slotted}
-use Rattle.element_arrays.proofs.SlotEdits.{is_even-slots, length-slots, extra-slots, length_extra, extra_put, extra_room, freed-parts, length-freed, token_after-other, put-at, put, answers}
+use Rattle.element_arrays.proofs.SlottedLemmas.{is_even-slots, length-slots, extra-slots, length_extra, extra_put, extra_room, freed-parts, length-freed, token_after-other, put-at, put, answers}
 use Rattle.element_arrays.proofs.slot_view.SlotView.without_element.Goals as goal
 
 pub first_word-requires : goal.first_word-requires

@@ -3,7 +3,7 @@ use Rattle.std.specs.Option.{option_map}
 use Rattle.geos_model.specs.ElementArray.{element_at}
 use Rattle.element_arrays.specs.Used.{used_element}
 use Rattle.name_arrays.specs.Reading.{named_array}
-use Rattle.name_arrays.proofs.Found.{has_part, name_at}
+use Rattle.name_arrays.proofs.NamingLemmas.{has_part, name_at}
 use Rattle.name_arrays.proofs.names.Names.name.Goals as goal
 
 pub split_at-requires : goal.split_at-requires
