@@ -7,8 +7,8 @@ ghost use Rattle.lmem_heap.specs.Tiled.{chunk_under, chunks_in, table_end};
 ghost use Rattle.lmem_heap.specs.Space.{IsWellFormed, IsDetached, IsChanged, HasSameChunks, room_of};
 
 use crate::sizes::{piece_space, table_end};
-use crate::space::Space;
-use crate::words::{EMPTY, entry, entry_at, set_entry, set_word, word_in, zero};
+use crate::space::{LivePiece, Space};
+use crate::words::{EMPTY, entry, entry_at, set_entry, set_word, zero};
 
 impl Space {
     /// Makes room for a table of `t` slots below the pieces, by packing the chunks where there is less.
@@ -110,8 +110,7 @@ impl Space {
         ensures total { self.new.total + room_of self.old i ≡ self.old.total }
         ensures low { self.new.low ≡ self.old.low }
     {
-        let p = entry(&self.region, i);
-        let n = word_in(&self.region, p);
+        let LivePiece { place: p, size: n } = self.live_piece(i);
         let room = piece_space(n);
         set_word(&mut self.region, p, room + 1);
         set_entry(&mut self.region, i, e);

@@ -6,7 +6,7 @@ ghost use Rattle.lmem_heap.specs.Space.{IsWellFormed, IsDetached, HasNext, IsUnm
 
 use crate::compaction::lower_entries;
 use crate::sizes::piece_space;
-use crate::space::Space;
+use crate::space::{LivePiece, Space};
 use crate::words::{NO_CHUNK, copy_piece, entry, set_entry, set_size, set_word, slide, word_in};
 
 impl Space {
@@ -23,8 +23,7 @@ impl Space {
         ensures well_formed { IsWellFormed self.new }
         ensures resized { IsResized self.old self.new i n }
     {
-        let p = entry(&self.region, i);
-        let size = word_in(&self.region, p);
+        let LivePiece { place: p, size } = self.live_piece(i);
         set_size(&mut self.region, p, size, n);
     }
 
@@ -42,8 +41,7 @@ impl Space {
         ensures detached { IsDetached self.new result (room_of self.old i - piece_space n) }
         ensures resized { IsResized self.old self.new i n }
     {
-        let p = entry(&self.region, i);
-        let size = word_in(&self.region, p);
+        let LivePiece { place: p, size } = self.live_piece(i);
         let room = piece_space(n);
         let rest = piece_space(size) - room;
         set_size(&mut self.region, p, size, n);
@@ -79,8 +77,7 @@ impl Space {
         ensures unmoved { IsUnmoved self.old self.new }
         ensures ready { IsReady self.new i q n }
     {
-        let p = entry(&self.region, i);
-        let size = word_in(&self.region, p);
+        let LivePiece { place: p, size } = self.live_piece(i);
         copy_piece(&mut self.region, p, q, size, n);
     }
 
@@ -99,8 +96,7 @@ impl Space {
         ensures detached { IsDetached self.new result (room_of self.old i) }
         ensures resized { IsResized self.old self.new i n }
     {
-        let p = entry(&self.region, i);
-        let size = word_in(&self.region, p);
+        let LivePiece { place: p, size } = self.live_piece(i);
         let room = piece_space(size);
         set_word(&mut self.region, p, room + 1);
         set_entry(&mut self.region, i, NO_CHUNK);
@@ -189,8 +185,7 @@ impl Space {
         ensures chunks { chunks_in self.new.region self.new.slots ≡ chunks_in self.old.region self.old.slots }
         ensures low { self.new.low ≡ self.old.low - room }
     {
-        let p = entry(&self.region, i);
-        let n = word_in(&self.region, p);
+        let LivePiece { place: p, size: n } = self.live_piece(i);
         let end = p + piece_space(n);
         let low = self.low - room;
         slide(&mut self.region, self.low, low, end - self.low);

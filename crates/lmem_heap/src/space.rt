@@ -1,9 +1,9 @@
 //! A region with its table, its pieces and the list of the free ones, and what is read there of a slot's chunk.
-ghost use Rattle.std.specs.Prelude.{◌≡◌, ◌+◌, ◌<◌, Some, None, IfSome, is_some, slice_range, length, get_or};
-ghost use Rattle.lmem_heap.specs.Pieces.{word_in, entry};
+ghost use Rattle.std.specs.Prelude.{◌≡◌, ◌+◌, ◌≤◌, ◌<◌, ℕ, Some, None, IfSome, is_some, slice_range, length, get_or};
+ghost use Rattle.lmem_heap.specs.Pieces.{word_in, entry, piece_space};
 ghost use Rattle.std.specs.Option.{option_map, option_copied};
 ghost use Rattle.lmem_heap.specs.Tiled.{chunks_in, offset_under};
-ghost use Rattle.lmem_heap.specs.Space.{IsRunOf, IsWellFormed};
+ghost use Rattle.lmem_heap.specs.Space.{IsRunOf, IsWellFormed, IsWellFormedBut};
 
 use crate::words::{EMPTY, NO_CHUNK, entry, word_in};
 use raw_region::Region;
@@ -93,6 +93,23 @@ impl Space {
         }
     }
 
+    /// The piece of a slot whose chunk has bytes: where it lies, and how many bytes it holds.
+    pub(crate) fn live_piece(&self, i: usize) -> LivePiece
+        requires held { (detached : ℕ) × IsWellFormedBut self.now detached }
+        requires slot { i < self.now.slots }
+        requires live { 1 < entry self.now.region i }
+        ensures place { result.place ≡ entry self.now.region i }
+        ensures size { result.size ≡ word_in self.now.region result.place }
+        ensures ends { result.place + piece_space result.size ≤ 65520 }
+        ensures some { 1 < result.place }
+    {
+        let place = entry(&self.region, i);
+        LivePiece {
+            place,
+            size: word_in(&self.region, place),
+        }
+    }
+
     /// Where the bytes of a slot's chunk lie, and how many there are; none where it has no piece.
     pub(crate) fn find_run(&self, i: usize) -> Run
         requires well_formed { IsWellFormed self.now }
@@ -109,6 +126,14 @@ impl Space {
             Run { from: 0, size: 0 }
         }
     }
+}
+
+/// The piece of a chunk that has bytes.
+#[derive(Clone, Copy)]
+pub(crate) struct LivePiece {
+    pub(crate) place: usize,
+    /// How many bytes the chunk has.
+    pub(crate) size: usize,
 }
 
 /// A run of bytes in a region.

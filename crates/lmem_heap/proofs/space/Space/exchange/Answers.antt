@@ -2,23 +2,17 @@ use Rattle.std.proofs.Common.{◌∙◌, refl, arith}
 use Rattle.lmem_heap.specs.Pieces.{piece_space}
 use Rattle.lmem_heap.proofs.EntryLemmas.{IsLivePiece, total_small, entry_ends, head_ends, piece_read, detached_room, detached_well_formed}
 use Rattle.lmem_heap.proofs.MovingLemmas.{exchanged, exchange_resized}
-use Rattle.lmem_heap.proofs.space.Space.exchange.Goals.{After-word_in-size}
+use Rattle.lmem_heap.proofs.space.Space.exchange.Goals.{After-live_piece-p}
 use Rattle.lmem_heap.proofs.space.Space.exchange.Goals as goal
 
-piece : (c : After-word_in-size) → IsLivePiece c.args.self.now (detached_well_formed c.requires.detached) c.args.i c.entry-p.result c.word_in-size.result
-piece c = piece_read (detached_well_formed c.requires.detached) c.args.i c.entry-p.result c.word_in-size.result c.requires.slot c.requires.live c.entry-p.ensures.value c.word_in-size.ensures.value
-
-pub entry-p-requires : goal.entry-p-requires
-entry-p-requires c = omega (arith, entry_ends (detached_well_formed c.requires.detached) c.args.i c.requires.slot)
-
-pub word_in-size-requires : goal.word_in-size-requires
-word_in-size-requires c = head_ends (detached_well_formed c.requires.detached) c.args.i c.entry-p.result c.requires.slot c.requires.live c.entry-p.ensures.value
+piece : (c : After-live_piece-p) → IsLivePiece c.args.self.now (detached_well_formed c.requires.detached) c.args.i c.live_piece-p.result.place c.live_piece-p.result.size
+piece c = piece_read (detached_well_formed c.requires.detached) c.args.i c.live_piece-p.result.place c.live_piece-p.result.size c.requires.slot c.requires.live c.live_piece-p.ensures.place c.live_piece-p.ensures.size
 
 pub set_word-requires-clause-within : goal.set_word-requires-clause-within
-set_word-requires-clause-within c = omega (arith, (piece (goal.at.set_word-requires-clause-within c).After-word_in-size).ends)
+set_word-requires-clause-within c = omega (arith, (piece (goal.at.set_word-requires-clause-within c).After-live_piece-p).ends)
 
 pub set_word-requires-clause-small : goal.set_word-requires-clause-small
-set_word-requires-clause-small c = omega (arith, (piece (goal.at.set_word-requires-clause-small c).After-word_in-size).ends)
+set_word-requires-clause-small c = omega (arith, (piece (goal.at.set_word-requires-clause-small c).After-live_piece-p).ends)
 
 pub set_word-requires-clause-long : goal.set_word-requires-clause-long
 set_word-requires-clause-long c = c.requires.detached.held.tiled.long
@@ -48,7 +42,7 @@ pub set_entry-requires-2-clause-long : goal.set_entry-requires-2-clause-long
 set_entry-requires-2-clause-long c = c.set_word-2.ensures.long ∙ (c.set_entry.ensures.long ∙ (c.set_word.ensures.long ∙ c.requires.detached.held.tiled.long))
 
 pub overflow_sub-self : goal.overflow_sub-self
-overflow_sub-self c = rw c.piece_space-room.ensures (piece (goal.at.overflow_sub-self c).After-word_in-size).less
+overflow_sub-self c = rw c.piece_space-room.ensures (piece (goal.at.overflow_sub-self c).After-live_piece-p).less
 
 pub piece_space-requires : goal.piece_space-requires
 piece_space-requires c = let room = detached_room c.requires.detached in omega arith
@@ -58,8 +52,8 @@ overflow_add-self c = let k = detached_well_formed c.requires.detached in let ro
 
 pub returns-clause-detached : goal.returns-clause-detached
 returns-clause-detached c =
-    rw (c.piece_space-room.ensures, c.piece_space.ensures) (exchanged c.args.self.now c.args.i c.entry-p.result c.args.q c.word_in-size.result c.args.n (piece_space c.args.n) _ c.requires.detached (piece (goal.at.returns-clause-detached c).After-word_in-size) c.requires.slot c.requires.some refl c.requires.ready c.set_word.new.region c.set_entry.new.region c.set_word-2.new.region c.set_entry-2.new.region (rw c.piece_space-room.ensures at c.set_word.ensures) c.set_entry.ensures c.set_word-2.ensures c.set_entry-2.ensures refl)
+    rw (c.piece_space-room.ensures, c.piece_space.ensures) (exchanged c.args.self.now c.args.i c.live_piece-p.result.place c.args.q c.live_piece-p.result.size c.args.n (piece_space c.args.n) _ c.requires.detached (piece (goal.at.returns-clause-detached c).After-live_piece-p) c.requires.slot c.requires.some refl c.requires.ready c.set_word.new.region c.set_entry.new.region c.set_word-2.new.region c.set_entry-2.new.region (rw c.piece_space-room.ensures at c.set_word.ensures) c.set_entry.ensures c.set_word-2.ensures c.set_entry-2.ensures refl)
 
 pub returns-clause-resized : goal.returns-clause-resized
 returns-clause-resized c =
-    rw (c.piece_space-room.ensures, c.piece_space.ensures) (exchange_resized c.args.self.now c.args.i c.entry-p.result c.args.q c.word_in-size.result c.args.n (piece_space c.args.n) _ c.requires.detached (piece (goal.at.returns-clause-resized c).After-word_in-size) c.requires.slot c.requires.some refl c.requires.ready c.set_word.new.region c.set_entry.new.region c.set_word-2.new.region c.set_entry-2.new.region (rw c.piece_space-room.ensures at c.set_word.ensures) c.set_entry.ensures c.set_word-2.ensures c.set_entry-2.ensures refl)
+    rw (c.piece_space-room.ensures, c.piece_space.ensures) (exchange_resized c.args.self.now c.args.i c.live_piece-p.result.place c.args.q c.live_piece-p.result.size c.args.n (piece_space c.args.n) _ c.requires.detached (piece (goal.at.returns-clause-resized c).After-live_piece-p) c.requires.slot c.requires.some refl c.requires.ready c.set_word.new.region c.set_entry.new.region c.set_word-2.new.region c.set_entry-2.new.region (rw c.piece_space-room.ensures at c.set_word.ensures) c.set_entry.ensures c.set_word-2.ensures c.set_entry-2.ensures refl)
