@@ -247,19 +247,19 @@ impl<S: Store> Cache<S> {
     /// into memory. Where it is refused none is put. Memory, before anything is written; File. With nothing
     /// to put it takes no memory, calls no store and isn't refused.
     pub fn put_blocks(&mut self, puts: &[Member]) -> Result<(), Fault>
-        // What must hold before
+        // Asked of the caller.
         requires puts { All IsPut puts.now }
         requires few { length puts.now ≤ most_blocks }
         requires away { All (λ p. is_resident self.old.resident p.handle.0 ≡ false) puts.now }
-        // What is done
+        // What is done.
         ensures keeps { MatchResult result
             (λ _. KeepsFile S.facts (put_all puts.now self.old.document) (seen self.old) (seen self.new))
             (λ _. KeepsFile S.facts self.old.document (seen self.old) (seen self.new)) }
-        // What stays
+        // What stays.
         ensures early { IfErr result (λ fault. fault ≢ Fault.File → self.new ≡ self.old) }
         ensures none { puts.now ≡ [] → IsOk result × (self.new ≡ self.old) }
         ensures resident { (self.new.resident ≡ self.old.resident) × (self.new.frames ≡ self.old.frames) }
-        // When it is refused
+        // Refusals.
         ensures fails { Fails S.facts NoFault self.old.disk.store self.new.disk.store result }
     {
         self.file.put_blocks(puts, &[])
@@ -283,20 +283,20 @@ impl<S: Store> Cache<S> {
     /// that isn't locked goes; if it is changed, it is first written to the file. Memory, File; Damaged where what is read is no
     /// image, which an honest store never gives. For a block that is in memory it takes no memory, calls no store and isn't refused.
     pub fn load(&mut self, block: VmHandle) -> Result<(), Fault>
-        // What must hold before
+        // Asked of the caller.
         requires live { is_live self.old.document block.0 ≡ true }
         requires room { (is_resident self.old.resident block.0 ≡ true)
             ⊎ (all_locked self.old.frames self.old.resident ≡ false) }
-        // What is done
+        // What is done.
         ensures stays { Stays S.facts self.old self.new }
         ensures ok { OnOk result (self.new.resident ≡ seated self.old.frames block.0 self.old.resident) }
         ensures err { OnErr result
             ((self.new.resident ≡ self.old.resident) ⊎ (self.new.resident ≡ evicted self.old.resident)) }
         ensures locks { KeepsLocks self.old.resident self.new.resident }
-        // When the answer is known beforehand
+        // When the answer is known beforehand.
         ensures already { is_resident self.old.resident block.0 ≡ true
             → (result ≡ Ok tt) × (self.new.disk ≡ self.old.disk) × (self.new.document ≡ self.old.document) }
-        // When it is refused
+        // Refusals.
         ensures fails { Fails S.facts
             (IsDamage (S.facts self.old.disk.store).honest) self.old.disk.store self.new.disk.store result }
     {
@@ -446,7 +446,7 @@ impl<S: Store> Cache<S> {
     /// It does nothing: its caller learns what always holds. Of an honest store the updated and the saved document are valid; the
     /// document as it is now has what was done to it.
     pub fn validity(&self)
-        // Of the documents and their file
+        // Of the documents and their file.
         ensures settled { IsSettled S.facts self.now.disk }
         ensures valid { IsTrue (S.facts self.now.disk.store).honest
             → IsValid self.now.disk.updated × IsValid self.now.disk.saved }
@@ -454,7 +454,7 @@ impl<S: Store> Cache<S> {
         ensures numbered { IsTrue (S.facts self.now.disk.store).honest → self.now.disk.attempted ≡ []
             → Numbered (S.facts self.now.disk.store) self.now.disk.sequence }
         ensures sequence { (1 ≤ self.now.disk.sequence) × (self.now.disk.sequence ≤ last_sequence) }
-        // Of the blocks in memory
+        // Of the blocks in memory.
         ensures resident { (h : ℕ) → is_resident self.now.resident h ≡ true → is_live self.now.document h ≡ true }
         ensures room { length self.now.resident ≤ self.now.frames }
         ensures distinct { all_distinct (map (λ s. s.0) self.now.resident) ≡ true }

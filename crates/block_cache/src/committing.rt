@@ -83,17 +83,17 @@ pub fn revert<S: Store>(
     file: &mut VmFile<S>,
     frames: &mut LruCache<u16, Frame>,
 ) -> Result<(), Fault>
-    // What must hold before
+    // Asked of the caller.
     requires kept { AreKept (S.facts file.old.disk.store).honest file.old.document frames.old.entries }
-    // What is done
+    // What is done.
     ensures commit { IsCommit S.facts (file.old.disk.saved, file.old.disk.saved) file.old.disk.saved
         (covered file.old frames.old.entries) (covered file.new frames.new.entries) result }
     ensures kept { AreKept (S.facts file.new.disk.store).honest file.new.document frames.new.entries }
     ensures ok { OnOk result (frames.new.entries ≡ []) }
-    // What stays
+    // What stays.
     ensures err { OnErr result (frames.new.entries ≡ frames.old.entries) }
     ensures cap { frames.new.cap ≡ frames.old.cap }
-    // When it is refused
+    // Refusals.
     ensures fails { Fails S.facts IsWorn file.old.disk.store file.new.disk.store result }
 {
     file.commit_revert()?;

@@ -62,17 +62,17 @@ pub fn write_back<S: Store>(
     frames: &mut LruCache<u16, Frame>,
     block: VmHandle,
 ) -> Result<(), Fault>
-    // What must hold before
+    // Asked of the caller.
     requires kept { AreKept (S.facts file.old.disk.store).honest file.old.document frames.old.entries }
-    // What stays
+    // What stays.
     ensures moves { Moves S.facts file.old frames.old.entries file.new frames.new.entries }
     ensures seats { seats frames.new.entries ≡ seats frames.old.entries }
     ensures cap { frames.new.cap ≡ frames.old.cap }
-    // What is done
+    // What is done.
     ensures clean { OnOk result (is_changed_in frames.new.entries block.0 ≡ false) }
     ensures fewer { OnOk result (is_changed_in frames.old.entries block.0 ≡ true
         → some_changed frames.new.entries < some_changed frames.old.entries) }
-    // When it is refused
+    // Refusals.
     ensures fails { Fails S.facts NoFault file.old.disk.store file.new.disk.store result }
 {
     match changed_body(frames, block.0) {
@@ -92,17 +92,17 @@ fn evict<S: Store>(
     file: &mut VmFile<S>,
     frames: &mut LruCache<u16, Frame>,
 ) -> Result<Region, Fault>
-    // What must hold before
+    // Asked of the caller.
     requires kept { AreKept (S.facts file.old.disk.store).honest file.old.document frames.old.entries }
     requires some { IsTrue (is_some (victim (seats frames.old.entries))) }
-    // What is done
+    // What is done.
     ensures moves { Moves S.facts file.old frames.old.entries file.new frames.new.entries }
     ensures ok { OnOk result (seats frames.new.entries ≡ evicted (seats frames.old.entries)) }
     ensures fewer { OnOk result (length frames.new.entries < length frames.old.entries) }
-    // What stays
+    // What stays.
     ensures err { OnErr result (seats frames.new.entries ≡ seats frames.old.entries) }
     ensures cap { frames.new.cap ≡ frames.old.cap }
-    // When it is refused
+    // Refusals.
     ensures fails { Fails S.facts NoFault file.old.disk.store file.new.disk.store result }
 {
     let block = victim(frames).unwrap();
@@ -119,19 +119,19 @@ pub fn make_room<S: Store>(
     file: &mut VmFile<S>,
     frames: &mut LruCache<u16, Frame>,
 ) -> Result<Region, Fault>
-    // What must hold before
+    // Asked of the caller.
     requires kept { AreKept (S.facts file.old.disk.store).honest file.old.document frames.old.entries }
     requires room { all_locked frames.old.cap (seats frames.old.entries) ≡ false }
-    // What is done
+    // What is done.
     ensures moves { Moves S.facts file.old frames.old.entries file.new frames.new.entries }
     ensures ok { OnOk result
         (seats frames.new.entries ≡ cond (nat_lt (length (seats frames.old.entries)) frames.old.cap)
         (seats frames.old.entries) (evicted (seats frames.old.entries))) }
     ensures room { OnOk result (length frames.new.entries < frames.new.cap) }
-    // What stays
+    // What stays.
     ensures err { OnErr result (seats frames.new.entries ≡ seats frames.old.entries) }
     ensures cap { frames.new.cap ≡ frames.old.cap }
-    // When it is refused
+    // Refusals.
     ensures fails { Fails S.facts NoFault file.old.disk.store file.new.disk.store result }
 {
     if frames.len() < frames.cap().get() {
@@ -177,18 +177,18 @@ pub fn fetch<S: Store>(
     block: VmHandle,
     region: Region,
 ) -> Result<(), Fault>
-    // What must hold before
+    // Asked of the caller.
     requires kept { AreKept (S.facts file.old.disk.store).honest file.old.document frames.old.entries }
     requires live { is_live file.old.document block.0 ≡ true }
     requires absent { held frames.old.entries block.0 ≡ None }
     requires room { length frames.old.entries < frames.old.cap }
-    // What is done
+    // What is done.
     ensures moves { Moves S.facts file.old frames.old.entries file.new frames.new.entries }
     ensures ok { OnOk result (seats frames.new.entries ≡ (block.0, 0) ∷ seats frames.old.entries) }
-    // What stays
+    // What stays.
     ensures err { OnErr result (seats frames.new.entries ≡ seats frames.old.entries) }
     ensures cap { frames.new.cap ≡ frames.old.cap }
-    // When it is refused
+    // Refusals.
     ensures fails { Fails S.facts
         (IsDamage (S.facts file.old.disk.store).honest) file.old.disk.store file.new.disk.store result }
 {
@@ -211,21 +211,21 @@ pub fn bring<S: Store>(
     frames: &mut LruCache<u16, Frame>,
     block: VmHandle,
 ) -> Result<(), Fault>
-    // What must hold before
+    // Asked of the caller.
     requires kept { AreKept (S.facts file.old.disk.store).honest file.old.document frames.old.entries }
     requires live { is_live file.old.document block.0 ≡ true }
     requires absent { held frames.old.entries block.0 ≡ None }
     requires room { all_locked frames.old.cap (seats frames.old.entries) ≡ false }
-    // What is done
+    // What is done.
     ensures moves { Moves S.facts file.old frames.old.entries file.new frames.new.entries }
     ensures ok { OnOk result
         (seats frames.new.entries ≡ (block.0, 0) ∷ cond (nat_lt (length (seats frames.old.entries)) frames.old.cap)
         (seats frames.old.entries) (evicted (seats frames.old.entries))) }
     ensures err { OnErr result ((seats frames.new.entries ≡ seats frames.old.entries)
         ⊎ (seats frames.new.entries ≡ evicted (seats frames.old.entries))) }
-    // What stays
+    // What stays.
     ensures cap { frames.new.cap ≡ frames.old.cap }
-    // When it is refused
+    // Refusals.
     ensures fails { Fails S.facts
         (IsDamage (S.facts file.old.disk.store).honest) file.old.disk.store file.new.disk.store result }
 {

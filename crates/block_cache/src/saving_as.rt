@@ -54,9 +54,9 @@ pub fn save_as<S: Store>(
     frames: &mut LruCache<u16, Frame>,
     target: S,
 ) -> Result<S, Refused<S>>
-    // What must hold before
+    // Asked of the caller.
     requires kept { AreKept (S.facts file.old.disk.store).honest file.old.document frames.old.entries }
-    // What is done
+    // What is done.
     ensures saved_as { MatchResult result
         (λ store. IsSavedAs S.facts target store (covered file.old frames.old.entries)
         (covered file.new frames.new.entries))
@@ -64,9 +64,9 @@ pub fn save_as<S: Store>(
         (covered file.old frames.old.entries) (covered file.new frames.new.entries) refused.fault) }
     ensures valid { IfOk result
         (λ _. IsTrue (S.facts file.new.disk.store).honest → IsValid (overlay frames.new.entries file.new.document)) }
-    // When it is refused
+    // Refusals.
     ensures worn { IsErrAnd result (λ refused. refused.fault ≡ Fault.Worn) ↔ file.old.disk.sequence ≡ last_sequence }
-    // What stays
+    // What stays.
     ensures kept { AreKept (S.facts file.new.disk.store).honest file.new.document frames.new.entries }
     ensures seats { seats frames.new.entries ≡ seats frames.old.entries }
     ensures cap { frames.new.cap ≡ frames.old.cap }

@@ -35,12 +35,12 @@ pub fn make<S: Store>(
     blocks: &mut FileBlocks<S>,
     edit: &Edit,
 ) -> Result<(Change, Done), Fault>
-    // What must hold before
+    // Asked of the caller.
     requires unlocked { bars blocks.old.resident edit.now ≡ false }
-    // What is done
+    // What is done.
     ensures ok { IfOk result (λ p. IsMade S.facts edit.now blocks.old blocks.new p.0 p.1) }
     ensures err { OnErr result (Keeps S.facts blocks.old blocks.new) }
-    // When it is refused
+    // Refusals.
     ensures refusals { IfErr result (λ fault. Refuses (Lacks S.facts blocks.old.disk.store blocks.new.disk.store)
         (has_no_room blocks.old (edit_needs edit.now)) edit.now blocks.new.document fault
         ⊎ IsChainEditFault edit.now blocks.old.document fault) }
@@ -49,7 +49,7 @@ pub fn make<S: Store>(
         (has_no_room blocks.old (edit_needs edit.now)) edit.now blocks.new.document) }
     ensures plain { kind_of edit.now ≡ Plain
         → (blocks.new.disk ≡ blocks.old.disk) × IfErr result (RefusesAtHand edit.now blocks.new.document) }
-    // When the answer is known beforehand
+    // When the answer is known beforehand.
     ensures shut { has_no_room blocks.old (edit_needs edit.now) ≡ true → (blocks.new ≡ blocks.old)
         × IsErrAnd result
         (λ fault. first_refusal ((CacheFull, true) ∷ conditions edit.now blocks.old.document) ≡ Some fault) }

@@ -209,7 +209,7 @@ impl<S: Store> Session<S> {
     /// is open, and then Locked where any block is, before all else, and Worn where the sequence number of the file so far can't rise,
     /// before anything is written; over a store that isn't honest what is read may be no image, which is Damaged; Memory, File.
     pub fn save_as(&mut self, target: S) -> Result<S, Refused<S>>
-        // What is done: a step of the machine, where it is accepted into an honest target
+        // What is done: a step of the machine, where it is accepted into an honest target.
         ensures ok { IfOk result (λ _. IsExact S.facts self.old → IsTrue (S.facts target).honest
             → IsExact S.facts self.new
             × Step false (machine_of true self.old) (Some commands.SaveAs) Accepted (machine_of false self.new)) }
@@ -221,16 +221,16 @@ impl<S: Store> Session<S> {
         ensures saved_as { MatchResult result
             (λ store. IsSavedAs S.facts target store (file_of self.old) (file_of self.new))
             (λ refused. IsNotMoved S.facts target refused.store self.old self.new refused.fault) }
-        // When it is refused
+        // Refusals.
         ensures held { (fault : Fault) → rest_fault self.old ≡ Some fault
             → IsErrAnd result (λ refused. (refused.fault ≡ fault) × (refused.store ≡ target)) × (self.new ≡ self.old) }
-        // Of the store that comes back
+        // Of the store that comes back.
         ensures reverted { IfOk result (λ store. IsTrue (S.facts self.old.disk.store).honest
             → stands (S.facts store).content ≡ Ok (self.old.disk.saved, self.old.disk.saved)) }
-        // What stays
+        // What stays.
         ensures lists { (self.new.log ≡ self.old.log) × (self.new.frames ≡ self.old.frames) }
         ensures resident { self.new.resident ≡ self.old.resident }
-        // When it is refused as Worn
+        // Refusals: Worn.
         ensures worn { IsErrAnd result (λ refused. refused.fault ≡ Fault.Worn)
             ↔ (rest_fault self.old ≡ None) × (self.old.disk.sequence ≡ last_sequence) }
     {
@@ -249,11 +249,11 @@ impl<S: Store> Session<S> {
     /// CacheFull where each frame has a locked block, and it looks into the body of another one. For an edit of a user ID, of the map block
     /// or of the body of a block in memory, and for one that frees such a block, no store is called.
     pub fn edit(&mut self, edit: &Edit) -> Result<Done, Fault>
-        // What is done
+        // What is done.
         ensures step { IsStep S.facts self.old self.new (commands.Edit edit.now) (reply_by reply_of_done result) }
         ensures ok { IfOk result (λ done. Records S.facts edit.now done self.old self.new) }
         ensures err { OnErr result (KeepsSession S.facts self.old self.new) }
-        // When it is refused
+        // Refusals.
         ensures refusals { IfErr result (λ fault. IsBarred edit.now self.old fault
             ⊎ (Refuses (Lacks S.facts self.old.disk.store self.new.disk.store)
             (has_no_room (blocks_of self.old) (edit_needs edit.now)) edit.now self.new.document fault
@@ -263,12 +263,12 @@ impl<S: Store> Session<S> {
         ensures shut { has_no_room (blocks_of self.old) (edit_needs edit.now) ≡ true → (self.new ≡ self.old)
             × IsErrAnd result (λ fault. IsBarred edit.now self.old fault
             ⊎ Refuses (λ f. f ≡ Fault.Memory) true edit.now self.old.document fault) }
-        // What is in memory afterwards
+        // What is in memory afterwards.
         ensures at_hand { OnOk result ((b : VmHandle) → kind_of edit.now ≡ In b
             → is_loaded (blocks_of self.new) b.0 ≡ true) }
-        // What stays
+        // What stays.
         ensures passes { Passes S.facts self.old.disk self.new.disk }
-        // When the answer is known beforehand: no store is called where no block comes in and no body has to be read
+        // When the answer is known beforehand: no store is called where no block comes in and no body has to be read.
         ensures already { kind_of edit.now ≢ Made
             → ReadsNothing (blocks_of self.old) (edit_needs edit.now) (conditions edit.now self.old.document)
             → EditsAtHand edit.now self.old self.new result }
@@ -288,20 +288,20 @@ impl<S: Store> Session<S> {
     /// comes in, and of a group always; Damaged only over a store that isn't honest, or after a save-as from one. Where a group is refused
     /// so no block may be in memory afterwards.
     pub fn undo(&mut self) -> Result<(), Fault>
-        // What is done
+        // What is done.
         ensures step { IsStep S.facts self.old self.new commands.Undo (reply_by (λ _. Accepted) result) }
         ensures ok { OnOk result (Moves S.facts Backwards (blocks_of self.old)
             (blocks_of self.new) self.old.log.undo self.old.log.redo self.new.log.undo self.new.log.redo) }
         ensures err { OnErr result (KeepsSession S.facts self.old self.new) }
-        // When it is refused
+        // Refusals.
         ensures refusals { IfErr result
             (IsRefusedTurn S.facts Fault.NothingToUndo self.old.log.undo self.old self.new) }
         ensures held { (fault : Fault) → rest_fault self.old ≡ Some fault
             → (result ≡ Err fault) × (self.new ≡ self.old) }
-        // What stays
+        // What stays.
         ensures group { self.new.log.group ≡ self.old.log.group }
         ensures passes { Passes S.facts self.old.disk self.new.disk }
-        // When the answer is known beforehand
+        // When the answer is known beforehand.
         ensures sure { rest_fault self.old ≡ None → IsSure S.facts self.old Backwards self.old.log.undo
             → IsOk result × (self.new.disk ≡ self.old.disk)
             × (self.new.document ≡ newest_made Backwards self.old.log.undo self.old.document) }
@@ -323,20 +323,20 @@ impl<S: Store> Session<S> {
 
     /// Makes the step again that the newest undo took back. Refused as an undo is; NothingToRedo.
     pub fn redo(&mut self) -> Result<(), Fault>
-        // What is done
+        // What is done.
         ensures step { IsStep S.facts self.old self.new commands.Redo (reply_by (λ _. Accepted) result) }
         ensures ok { OnOk result (Moves S.facts Forwards (blocks_of self.old)
             (blocks_of self.new) self.old.log.redo self.old.log.undo self.new.log.redo self.new.log.undo) }
         ensures err { OnErr result (KeepsSession S.facts self.old self.new) }
-        // When it is refused
+        // Refusals.
         ensures refusals { IfErr result
             (IsRefusedTurn S.facts Fault.NothingToRedo self.old.log.redo self.old self.new) }
         ensures held { (fault : Fault) → rest_fault self.old ≡ Some fault
             → (result ≡ Err fault) × (self.new ≡ self.old) }
-        // What stays
+        // What stays.
         ensures group { self.new.log.group ≡ self.old.log.group }
         ensures passes { Passes S.facts self.old.disk self.new.disk }
-        // When the answer is known beforehand
+        // When the answer is known beforehand.
         ensures sure { rest_fault self.old ≡ None → IsSure S.facts self.old Forwards self.old.log.redo
             → IsOk result × (self.new.disk ≡ self.old.disk)
             × (self.new.document ≡ newest_made Forwards self.old.log.redo self.old.document) }
@@ -394,17 +394,17 @@ impl<S: Store> Session<S> {
     /// no edit. NoGroup where none is open, and then Locked where any block is, before all else; Memory, File or Damaged as an undo of a
     /// group is, and then the group is open still. A group without an edit takes no memory and calls no store.
     pub fn abandon(&mut self) -> Result<(), Fault>
-        // What is done
+        // What is done.
         ensures step { IsStep S.facts self.old self.new commands.Abandon (reply_by (λ _. Accepted) result) }
         ensures ok { OnOk result (Abandons S.facts self.old self.new) }
         ensures err { OnErr result (KeepsSession S.facts self.old self.new) }
-        // When it is refused
+        // Refusals.
         ensures refusals { IfErr result (IsNotAbandoned S.facts self.old self.new) }
         ensures held { (fault : Fault) → abandon_fault self.old ≡ Some fault
             → (result ≡ Err fault) × (self.new ≡ self.old) }
-        // What stays
+        // What stays.
         ensures passes { Passes S.facts self.old.disk self.new.disk }
-        // When the answer is known beforehand
+        // When the answer is known beforehand.
         ensures empty { abandon_fault self.old ≡ None → self.old.log.group ≡ Some []
             → IsOk result × (self.new ≡ record self.old { log = record self.old.log { group = None } }) }
     {
@@ -498,18 +498,18 @@ impl<S: Store> Session<S> {
     /// is locked 255 times; CacheFull where each frame has a locked block, and it isn't one of them: then nothing changes. Otherwise
     /// refused as a look-up into it is.
     pub fn lock(&mut self, block: VmHandle) -> Result<(), Fault>
-        // What is done
+        // What is done.
         ensures step { IsStep S.facts self.old self.new (commands.Lock block) (reply_by (λ _. Accepted) result) }
         ensures ok { OnOk result (GainsLock S.facts block.0 (blocks_of self.old) (blocks_of self.new)) }
         ensures err { OnErr result (KeepsSession S.facts self.old self.new) }
-        // When it is refused
+        // Refusals.
         ensures refusals { IfErr result (λ fault. Lacks S.facts self.old.disk.store self.new.disk.store fault
             ⊎ CantLock (blocks_of self.old) block.0 fault) }
         ensures early { (fault : Fault) → CantLock (blocks_of self.old) block.0 fault
             → (result ≡ Err fault) × (self.new ≡ self.old) }
-        // What stays
+        // What stays.
         ensures log { self.new.log ≡ self.old.log }
-        // When the answer is known beforehand
+        // When the answer is known beforehand.
         ensures already { is_loaded (blocks_of self.old) block.0 ≡ true → locks_of self.old.resident block.0 < 255
             → IsOk result × (self.new.disk ≡ self.old.disk) × (self.new.document ≡ self.old.document) }
     {

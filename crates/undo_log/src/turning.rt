@@ -19,16 +19,16 @@ pub fn make_entry<S: Store>(
     entry: &LogEntry,
     direction: Direction,
 ) -> Result<(), Fault>
-    // What must hold before
+    // Asked of the caller.
     requires unmarked { blocks.old.disk.marked ≡ None }
     requires unlocked { nat_lt 0 (locked_count blocks.old.resident) ≡ false }
     requires listed { AllListed (map (turned direction) (changes_in entry.now)) blocks.old.document }
-    // What is done
+    // What is done.
     ensures ok { OnOk result (MakesEntry S.facts direction entry.now blocks.old blocks.new) }
     ensures err { OnErr result (Keeps S.facts blocks.old blocks.new) }
-    // When it is refused
+    // Refusals.
     ensures refusals { IfErr result (CantMakeEntry S.facts direction entry.now blocks.old blocks.new) }
-    // When the answer is known beforehand
+    // When the answer is known beforehand.
     ensures sure { CanMakeEntry direction entry.now blocks.old
         → IsOk result × (blocks.new.disk ≡ blocks.old.disk)
         × (blocks.new.document ≡ after_entry direction entry.now blocks.old.document) }
@@ -42,17 +42,17 @@ pub fn make_entry<S: Store>(
 
 /// Takes changes back, the last one first, all or none. No block is locked. Where there are none it does nothing.
 pub fn take_back<S: Store>(blocks: &mut FileBlocks<S>, changes: &[Change]) -> Result<(), Fault>
-    // What must hold before
+    // Asked of the caller.
     requires unmarked { blocks.old.disk.marked ≡ None }
     requires unlocked { nat_lt 0 (locked_count blocks.old.resident) ≡ false }
     requires listed { AllListed (map (turned Backwards) (reverse changes.now)) blocks.old.document }
-    // What is done
+    // What is done.
     ensures ok { OnOk result (MakesAll S.facts (map (turned Backwards) (reverse changes.now)) blocks.old blocks.new) }
     ensures err { OnErr result (Keeps S.facts blocks.old blocks.new) }
-    // When it is refused
+    // Refusals.
     ensures refusals { IfErr result
         (AreUnready S.facts (map (turned Backwards) (reverse changes.now)) blocks.old blocks.new) }
-    // When the answer is known beforehand
+    // When the answer is known beforehand.
     ensures none { changes.now ≡ [] → IsOk result × (blocks.new ≡ blocks.old) }
 {
     if changes.is_empty() {

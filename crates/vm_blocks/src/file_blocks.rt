@@ -100,13 +100,13 @@ impl<S: Store> FileBlocks<S> {
     /// It does nothing: its caller learns what always holds. What a store that isn't honest has of bodies, and of the updated and
     /// the saved document, isn't known.
     pub fn validity(&self)
-        // Of the documents and their file
+        // Of the documents and their file.
         ensures document { IsTrue (S.facts self.now.disk.store).honest → IsValid self.now.document }
         ensures listed { IsListed (S.facts self.now.disk.store).honest self.now.document }
         ensures settled { IsSettled S.facts self.now.disk }
         ensures valid { IsTrue (S.facts self.now.disk.store).honest
             → IsValid self.now.disk.updated × IsValid self.now.disk.saved }
-        // Of the blocks in memory
+        // Of the blocks in memory.
         ensures few { length self.now.resident ≤ self.now.frames }
         ensures some { 1 ≤ self.now.frames }
         ensures resident { (h : ℕ) → is_resident self.now.resident h ≡ true → is_live self.now.document h ≡ true }
@@ -444,15 +444,15 @@ impl<S: Store> FileBlocks<S> {
     /// written to the file, all or none; those that go aren't locked. Otherwise refused as `load` is. Where no block comes in, and the
     /// one that changes is in memory, it takes no memory, calls no store and isn't refused for want of either.
     pub fn change(&mut self, change: &Change, direction: Direction) -> Result<(), Fault>
-        // What must hold before
+        // Asked of the caller.
         requires listed { Listed (turned direction change.now) self.old.document }
         requires unlocked { AreUnlocked (turned direction change.now) self.old.resident }
-        // What is done
+        // What is done.
         ensures ok { OnOk result (Makes S.facts (turned direction change.now) self.old self.new) }
         ensures err { OnErr result (Keeps S.facts self.old self.new) }
-        // When it is refused
+        // Refusals.
         ensures refusals { IfErr result (IsUnready S.facts (turned direction change.now) self.old self.new) }
-        // When the answer is known beforehand
+        // When the answer is known beforehand.
         ensures sure { blocks_in (turned direction change.now) ≡ [] → IsAtHand (turned direction change.now) self.old
             → BodyTakes (turned direction change.now) self.old.document
             → IsOk result × (self.new.disk ≡ self.old.disk)
@@ -489,16 +489,16 @@ impl<S: Store> FileBlocks<S> {
 
     // Carries changes out in a direction one after another, the last one first, until one is refused.
     fn turn_all(&mut self, changes: &[Change], direction: Direction) -> Result<(), Fault>
-        // What must hold before
+        // Asked of the caller.
         requires listed { AllListed (turned_all direction changes.now) self.old.document }
         requires unlocked { locked_count self.old.resident ≡ 0 }
-        // What is done
+        // What is done.
         ensures ok { OnOk result (MakesAll S.facts (turned_all direction changes.now) self.old self.new) }
         ensures passes { Passes S.facts self.old.disk self.new.disk }
-        // What stays
+        // What stays.
         ensures frames { self.new.frames ≡ self.old.frames }
         ensures locks { KeepsLocks self.old.resident self.new.resident }
-        // When it is refused
+        // Refusals.
         ensures refusals { IfErr result (AreUnready S.facts (turned_all direction changes.now) self.old self.new) }
     {
         self.validity();
@@ -604,18 +604,18 @@ impl<S: Store> FileBlocks<S> {
         part: &PartChange,
         direction: Direction,
     ) -> Result<(), Fault>
-        // What must hold before
+        // Asked of the caller.
         requires { is_live self.old.document handle.0 ≡ true }
-        // What stays
+        // What stays.
         ensures keeps { Keeps S.facts self.old self.new }
-        // What is done
+        // What is done.
         ensures loaded { OnOk result (is_loaded self.new handle.0 ≡ true) }
         ensures takes { OnOk result
             (Takes (turned_part direction part.now) (block_at self.new.document handle.0).body) }
-        // When it is refused
+        // Refusals.
         ensures err { IfErr result
             (IsUnready S.facts (Change.Part handle (turned_part direction part.now)) self.old self.new) }
-        // When the answer is known beforehand
+        // When the answer is known beforehand.
         ensures sure { is_loaded self.old handle.0 ≡ true
             → Takes (turned_part direction part.now) (block_at self.old.document handle.0).body
             → IsOk result × (self.new.disk ≡ self.old.disk) × (self.new.document ≡ self.old.document) }

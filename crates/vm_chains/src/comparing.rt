@@ -67,18 +67,18 @@ fn same_shape<S: Store>(
     first: &[VmHandle],
     second: &[VmHandle],
 ) -> Result<bool, Fault>
-    // What must hold before
+    // Asked of the caller.
     requires room { is_full blocks.old ≡ false }
     requires first { AreBlocks blocks.old.document first.now }
     requires second { AreBlocks blocks.old.document second.now }
     requires members { IsSteady S.facts blocks.old.disk.store
         → AreMembers blocks.old.document first.now × AreMembers blocks.old.document second.now }
-    // What stays
+    // What stays.
     ensures keeps { Keeps S.facts blocks.old blocks.new }
-    // What is answered
+    // What is answered.
     ensures value { IsSteady S.facts blocks.old.disk.store
         → IfOk result (λ same. same ≡ same_shape blocks.new.document (numbers first.now) (numbers second.now)) }
-    // When it is refused
+    // Refusals.
     ensures refusals { IfErr result (Lacks S.facts blocks.old.disk.store blocks.new.disk.store) }
 {
     if first.len() != second.len() {

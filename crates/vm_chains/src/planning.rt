@@ -134,18 +134,18 @@ fn copies<S: Store>(
     handles: &[VmHandle],
     new: &[VmHandle],
 ) -> Result<Members, Fault>
-    // What must hold before
+    // Asked of the caller.
     requires room { is_full blocks.old ≡ false }
     requires live { AreBlocks blocks.old.document handles.now }
     requires members { IsSteady S.facts blocks.old.disk.store → AreMembers blocks.old.document handles.now }
     requires new { length handles.now ≡ length new.now }
-    // What stays
+    // What stays.
     ensures keeps { Keeps S.facts blocks.old blocks.new }
-    // What is answered
+    // What is answered.
     ensures value { IsSteady S.facts blocks.old.disk.store → IfOk result (λ plan. saved_blocks plan.list.items
         ≡ renamed_blocks blocks.new.document (numbers handles.now) (numbers new.now)) }
     ensures handles { IfOk result (λ plan. handles_of (saved_blocks plan.list.items) ≡ numbers new.now) }
-    // When it is refused
+    // Refusals.
     ensures refusals { IfErr result (Lacks S.facts blocks.old.disk.store blocks.new.disk.store) }
 {
     let names = Names::new(alloc, handles, new)?;

@@ -42,13 +42,13 @@ pub(crate) fn relinked_at<S: Store>(
     handle: VmHandle,
     names: &Names,
 ) -> Result<Vec<u8>, Fault>
-    // What must hold before
+    // Asked of the caller.
     requires room { is_full blocks.old ≡ false }
     requires live { is_live blocks.old.document handle.0 ≡ true }
     requires member { IsSteady S.facts blocks.old.disk.store → is_member blocks.old.document handle.0 ≡ true }
-    // What stays
+    // What stays.
     ensures keeps { Keeps S.facts blocks.old blocks.new }
-    // What is answered
+    // What is answered.
     ensures value { MatchResult result
         (λ bytes. bytes.items ≡ relinked (name_in names.now) (raw_bytes_of blocks.new.document handle.0))
         (Lacks S.facts blocks.old.disk.store blocks.new.disk.store) }

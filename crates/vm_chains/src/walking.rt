@@ -23,11 +23,11 @@ pub fn walk<S: Store>(
     blocks: &mut FileBlocks<S>,
     root: VmHandle,
 ) -> Result<Vec<VmHandle>, Fault>
-    // What must hold before
+    // Asked of the caller.
     requires room { is_full blocks.old ≡ false }
-    // What stays
+    // What stays.
     ensures keeps { Keeps S.facts blocks.old blocks.new }
-    // What is answered
+    // What is answered.
     ensures value { IsSteady S.facts blocks.old.disk.store
         → Answers (Lacks S.facts blocks.old.disk.store blocks.new.disk.store) (on_chain blocks.new.document root.0)
         (λ handles. chain blocks.new.document root.0 ≡ Some (numbers handles.items)) result }
@@ -35,7 +35,7 @@ pub fn walk<S: Store>(
     ensures live { IfOk result (λ handles. AreBlocks blocks.new.document handles.items) }
     ensures members { IsSteady S.facts blocks.old.disk.store
         → IfOk result (λ handles. AreMembers blocks.new.document handles.items) }
-    // When it is refused
+    // Refusals.
     ensures refusals { IfErr result (IsWalkRefusal (Lacks S.facts blocks.old.disk.store blocks.new.disk.store)
         (IsOfOther is_raw blocks.old.document root.0)) }
 {
@@ -64,11 +64,11 @@ pub(crate) fn walk_from<S: Store>(
     blocks: &mut FileBlocks<S>,
     root: VmHandle,
 ) -> Result<Vec<VmHandle>, Fault>
-    // What must hold before
+    // Asked of the caller.
     requires room { is_full blocks.old ≡ false }
-    // What stays
+    // What stays.
     ensures keeps { Keeps S.facts blocks.old blocks.new }
-    // What is answered
+    // What is answered.
     ensures value { IsSteady S.facts blocks.old.disk.store → MatchResult result
         (λ handles. chain blocks.new.document root.0 ≡ Some (numbers handles.items))
         (Stops (Lacks S.facts blocks.old.disk.store blocks.new.disk.store) (chain blocks.new.document root.0 ≡ None)) }
@@ -76,7 +76,7 @@ pub(crate) fn walk_from<S: Store>(
     ensures live { IfOk result (λ handles. AreBlocks blocks.new.document handles.items) }
     ensures members { IsSteady S.facts blocks.old.disk.store
         → IfOk result (λ handles. AreMembers blocks.new.document handles.items) }
-    // When it is refused
+    // Refusals.
     ensures refusals { IfErr result
         (λ fault. Lacks S.facts blocks.old.disk.store blocks.new.disk.store fault ⊎ (fault ≡ BadChain)) }
 {

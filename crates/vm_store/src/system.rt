@@ -53,18 +53,18 @@ pub trait SystemFile: Drop {
     /// Cuts the bytes or adds zeros, so that there are `n`. After a crash anything may be left where it cuts bytes; where it adds
     /// zeros, what a write of no bytes at `n` would leave.
     fn set_len(&mut self, n: u64) -> Result<(), SystemFault>
-        // As of each call
+        // As of each call.
         ensures honest { (facts self.new).store.honest ≡ (facts self.old).store.honest }
         ensures told { IsTrue (facts self.old).store.honest → Tells result (facts self.old) (facts self.new) }
         ensures syncs { IsTrue (facts self.old).store.honest
             → (facts self.new).has_failed_sync ≡ (facts self.old).has_failed_sync }
         ensures time { IsTrue (facts self.old).store.honest → Elapses (facts self.old).store (facts self.new).store }
-        // What is done
+        // What is done.
         ensures sized { OnOk result (IsTrue (facts self.old).store.honest
             → Sizes n (facts self.old).store.content (facts self.new).store.content) }
         ensures grows { IsTrue (facts self.old).store.honest → length (facts self.old).store.content ≤ n
             → Writes n 0 (facts self.old).store (facts self.new).store }
-        // When it is refused
+        // Refusals.
         ensures interrupted { IsInterrupted result → IsTrue (facts self.old).store.honest
             → Rests (facts self.old).store (facts self.new).store };
 
