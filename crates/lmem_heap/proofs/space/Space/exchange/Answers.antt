@@ -1,6 +1,6 @@
-use Rattle.std.proofs.Common.{◌∙◌, refl, arith}
+use Rattle.std.proofs.Common.{refl, arith}
 use Rattle.lmem_heap.specs.Pieces.{piece_space}
-use Rattle.lmem_heap.proofs.EntryLemmas.{IsLivePiece, total_small, entry_ends, head_ends, piece_read, detached_room, detached_well_formed}
+use Rattle.lmem_heap.proofs.EntryLemmas.{IsLivePiece, total_small, entry_ends, piece_read, detached_room, detached_well_formed}
 use Rattle.lmem_heap.proofs.MovingLemmas.{exchanged, exchange_resized}
 use Rattle.lmem_heap.proofs.space.Space.exchange.Goals.{After-live_piece-p}
 use Rattle.lmem_heap.proofs.space.Space.exchange.Goals as goal
@@ -8,20 +8,8 @@ use Rattle.lmem_heap.proofs.space.Space.exchange.Goals as goal
 piece : (c : After-live_piece-p) → IsLivePiece c.args.self.now (detached_well_formed c.requires.detached) c.args.i c.live_piece-p.result.place c.live_piece-p.result.size
 piece c = piece_read (detached_well_formed c.requires.detached) c.args.i c.live_piece-p.result.place c.live_piece-p.result.size c.requires.slot c.requires.live c.live_piece-p.ensures.place c.live_piece-p.ensures.size
 
-pub set_word-requires-clause-within : goal.set_word-requires-clause-within
-set_word-requires-clause-within c = omega (arith, (piece (goal.at.set_word-requires-clause-within c).After-live_piece-p).ends)
-
-pub set_word-requires-clause-small : goal.set_word-requires-clause-small
-set_word-requires-clause-small c = omega (arith, (piece (goal.at.set_word-requires-clause-small c).After-live_piece-p).ends)
-
-pub set_word-requires-clause-long : goal.set_word-requires-clause-long
-set_word-requires-clause-long c = c.requires.detached.held.tiled.long
-
 pub set_entry-requires-clause-within : goal.set_entry-requires-clause-within
 set_entry-requires-clause-within c = omega (arith, entry_ends (detached_well_formed c.requires.detached) c.args.i c.requires.slot)
-
-pub set_entry-requires-clause-long : goal.set_entry-requires-clause-long
-set_entry-requires-clause-long c = c.set_word.ensures.long ∙ c.requires.detached.held.tiled.long
 
 pub set_word-requires-2-clause-within : goal.set_word-requires-2-clause-within
 set_word-requires-2-clause-within c = let room = detached_room c.requires.detached in omega (arith)
@@ -29,17 +17,11 @@ set_word-requires-2-clause-within c = let room = detached_room c.requires.detach
 pub set_word-requires-2-clause-small : goal.set_word-requires-2-clause-small
 set_word-requires-2-clause-small c = let room = detached_room c.requires.detached in omega (arith)
 
-pub set_word-requires-2-clause-long : goal.set_word-requires-2-clause-long
-set_word-requires-2-clause-long c = c.set_entry.ensures.long ∙ (c.set_word.ensures.long ∙ c.requires.detached.held.tiled.long)
-
 pub set_entry-requires-2-clause-within : goal.set_entry-requires-2-clause-within
 set_entry-requires-2-clause-within c = omega (arith, entry_ends (detached_well_formed c.requires.detached) c.args.i c.requires.slot)
 
 pub set_entry-requires-2-clause-small : goal.set_entry-requires-2-clause-small
 set_entry-requires-2-clause-small c = let room = detached_room c.requires.detached in omega (arith)
-
-pub set_entry-requires-2-clause-long : goal.set_entry-requires-2-clause-long
-set_entry-requires-2-clause-long c = c.set_word-2.ensures.long ∙ (c.set_entry.ensures.long ∙ (c.set_word.ensures.long ∙ c.requires.detached.held.tiled.long))
 
 pub overflow_sub-self : goal.overflow_sub-self
 overflow_sub-self c = rw c.piece_space-room.ensures (piece (goal.at.overflow_sub-self c).After-live_piece-p).less

@@ -1,5 +1,5 @@
 use Rattle.std.proofs.Common.{arith}
-use Rattle.lmem_heap.proofs.EntryLemmas.{IsLivePiece, low_ends, entry_ends, head_ends, piece_read}
+use Rattle.lmem_heap.proofs.EntryLemmas.{IsLivePiece, low_ends, piece_read}
 use Rattle.lmem_heap.proofs.ResizingLemmas.{gap_opened, gap_open_chunks, gap_entries}
 use Rattle.lmem_heap.proofs.space.Space.open_gap.Goals.{After-live_piece-p}
 use Rattle.lmem_heap.proofs.space.Space.open_gap.Goals as goal
@@ -16,20 +16,11 @@ slide-requires-clause-source c = let f = piece (goal.at.slide-requires-clause-so
 pub slide-requires-clause-target : goal.slide-requires-clause-target
 slide-requires-clause-target c = let f = piece (goal.at.slide-requires-clause-target c).After-live_piece-p in omega (arith, f.place, f.ends)
 
-pub slide-requires-clause-long : goal.slide-requires-clause-long
-slide-requires-clause-long c = c.requires.well_formed.held.tiled.long
-
 pub overflow_sub-end-2 : goal.overflow_sub-end-2
 overflow_sub-end-2 c = let f = piece (goal.at.overflow_sub-end-2 c).After-live_piece-p in omega (arith, f.place, c.requires.fits)
 
-pub set_word-requires-clause-within : goal.set_word-requires-clause-within
-set_word-requires-clause-within c = let f = piece (goal.at.set_word-requires-clause-within c).After-live_piece-p in omega (arith, f.place, f.ends, c.requires.some, c.requires.whole, c.requires.fits)
-
 pub set_word-requires-clause-small : goal.set_word-requires-clause-small
 set_word-requires-clause-small c = omega (arith, c.requires.fits, low_ends c.requires.well_formed)
-
-pub set_word-requires-clause-long : goal.set_word-requires-clause-long
-set_word-requires-clause-long c = let long = c.requires.well_formed.held.tiled.long in omega (arith, c.slide.ensures.long)
 
 pub lower_entries-requires-clause-within : goal.lower_entries-requires-clause-within
 lower_entries-requires-clause-within c = omega (arith, c.requires.fits, low_ends c.requires.well_formed)

@@ -1,5 +1,5 @@
 use Rattle.std.proofs.Common.{arith}
-use Rattle.lmem_heap.proofs.EntryLemmas.{IsLivePiece, entry_ends, head_ends, piece_read, detached_room, detached_well_formed}
+use Rattle.lmem_heap.proofs.EntryLemmas.{IsLivePiece, piece_read, detached_room, detached_well_formed}
 use Rattle.lmem_heap.proofs.MovingLemmas.{copied_detached, copied_unmoved, ready_bytes}
 use Rattle.lmem_heap.proofs.space.Space.prepare.Goals.{After-live_piece-p}
 use Rattle.lmem_heap.proofs.space.Space.prepare.Goals as goal
@@ -7,17 +7,8 @@ use Rattle.lmem_heap.proofs.space.Space.prepare.Goals as goal
 piece : (c : After-live_piece-p) → IsLivePiece c.args.self.now (detached_well_formed c.requires.detached) c.args.i c.live_piece-p.result.place c.live_piece-p.result.size
 piece c = piece_read (detached_well_formed c.requires.detached) c.args.i c.live_piece-p.result.place c.live_piece-p.result.size c.requires.slot c.requires.live c.live_piece-p.ensures.place c.live_piece-p.ensures.size
 
-pub copy_piece-requires-clause-source : goal.copy_piece-requires-clause-source
-copy_piece-requires-clause-source c = omega (arith, (piece (goal.at.copy_piece-requires-clause-source c).After-live_piece-p).ends)
-
 pub copy_piece-requires-clause-target : goal.copy_piece-requires-clause-target
 copy_piece-requires-clause-target c = let room = detached_room c.requires.detached in omega (arith)
-
-pub copy_piece-requires-clause-more : goal.copy_piece-requires-clause-more
-copy_piece-requires-clause-more c = omega (arith, (piece (goal.at.copy_piece-requires-clause-more c).After-live_piece-p).value, c.requires.more)
-
-pub copy_piece-requires-clause-long : goal.copy_piece-requires-clause-long
-copy_piece-requires-clause-long c = c.requires.detached.held.tiled.long
 
 pub returns-clause-detached : goal.returns-clause-detached
 returns-clause-detached c = copied_detached c.args.self.now c.args.q c.args.n c.requires.detached c.copy_piece.ensures

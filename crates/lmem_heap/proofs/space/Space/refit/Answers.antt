@@ -1,6 +1,6 @@
-use Rattle.std.proofs.Common.{◌≡◌, ◌∙◌, ap, sym, arith}
+use Rattle.std.proofs.Common.{◌≡◌, ◌∙◌, ap, sym}
 use Rattle.lmem_heap.specs.Pieces.{piece_space}
-use Rattle.lmem_heap.proofs.EntryLemmas.{IsLivePiece, entry_ends, head_ends, piece_read}
+use Rattle.lmem_heap.proofs.EntryLemmas.{IsLivePiece, piece_read}
 use Rattle.lmem_heap.proofs.ResizingLemmas.{refitted, refit_resized}
 use Rattle.lmem_heap.proofs.space.Space.refit.Goals.{After-live_piece-p}
 use Rattle.lmem_heap.proofs.space.Space.refit.Goals as goal
@@ -10,15 +10,6 @@ piece c = piece_read c.requires.well_formed c.args.i c.live_piece-p.result.place
 
 same : (c : After-live_piece-p) → piece_space c.args.n ≡ piece_space c.live_piece-p.result.size
 same c = c.requires.same ∙ ap piece_space (sym (piece c).value)
-
-pub set_size-requires-clause-within : goal.set_size-requires-clause-within
-set_size-requires-clause-within c = omega (arith, (piece (goal.at.set_size-requires-clause-within c).After-live_piece-p).ends, same (goal.at.set_size-requires-clause-within c).After-live_piece-p)
-
-pub set_size-requires-clause-held : goal.set_size-requires-clause-held
-set_size-requires-clause-held c = omega (arith, (piece (goal.at.set_size-requires-clause-held c).After-live_piece-p).ends)
-
-pub set_size-requires-clause-long : goal.set_size-requires-clause-long
-set_size-requires-clause-long c = c.requires.well_formed.held.tiled.long
 
 pub returns-clause-well_formed : goal.returns-clause-well_formed
 returns-clause-well_formed c =

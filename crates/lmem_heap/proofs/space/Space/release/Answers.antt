@@ -1,27 +1,15 @@
 use Rattle.std.proofs.Common.{refl, arith}
 use Rattle.lmem_heap.specs.Pieces.{piece_space}
 use Rattle.lmem_heap.proofs.EditLemmas.{entry_set}
-use Rattle.lmem_heap.proofs.EntryLemmas.{IsLivePiece, released, release_changed, entry_ends, head_ends, piece_read}
+use Rattle.lmem_heap.proofs.EntryLemmas.{IsLivePiece, released, release_changed, entry_ends, piece_read}
 use Rattle.lmem_heap.proofs.space.Space.release.Goals.{After-live_piece-p}
 use Rattle.lmem_heap.proofs.space.Space.release.Goals as goal
 
 piece : (c : After-live_piece-p) → IsLivePiece c.args.self.now c.requires.well_formed c.args.i c.live_piece-p.result.place c.live_piece-p.result.size
 piece c = piece_read c.requires.well_formed c.args.i c.live_piece-p.result.place c.live_piece-p.result.size c.requires.slot c.requires.live c.live_piece-p.ensures.place c.live_piece-p.ensures.size
 
-pub set_word-requires-clause-within : goal.set_word-requires-clause-within
-set_word-requires-clause-within c = omega (arith, (piece (goal.at.set_word-requires-clause-within c).After-live_piece-p).ends)
-
-pub set_word-requires-clause-small : goal.set_word-requires-clause-small
-set_word-requires-clause-small c = omega (arith, (piece (goal.at.set_word-requires-clause-small c).After-live_piece-p).ends)
-
-pub set_word-requires-clause-long : goal.set_word-requires-clause-long
-set_word-requires-clause-long c = c.requires.well_formed.held.tiled.long
-
 pub set_entry-requires-clause-within : goal.set_entry-requires-clause-within
 set_entry-requires-clause-within c = omega (arith, entry_ends c.requires.well_formed c.args.i c.requires.slot)
-
-pub set_entry-requires-clause-long : goal.set_entry-requires-clause-long
-set_entry-requires-clause-long c = let long = c.requires.well_formed.held.tiled.long in omega (arith, c.set_word.ensures.long)
 
 pub overflow_sub-self : goal.overflow_sub-self
 overflow_sub-self c = rw c.piece_space-room.ensures (piece (goal.at.overflow_sub-self c).After-live_piece-p).less

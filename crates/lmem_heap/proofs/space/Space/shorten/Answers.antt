@@ -1,6 +1,6 @@
-use Rattle.std.proofs.Common.{◌<◌, ◌∙◌, arith}
+use Rattle.std.proofs.Common.{◌<◌, arith}
 use Rattle.lmem_heap.specs.Pieces.{piece_space}
-use Rattle.lmem_heap.proofs.EntryLemmas.{IsLivePiece, entry_ends, head_ends, piece_read}
+use Rattle.lmem_heap.proofs.EntryLemmas.{IsLivePiece, piece_read}
 use Rattle.lmem_heap.proofs.ResizingLemmas.{shortened, short_resized}
 use Rattle.lmem_heap.proofs.space.Space.shorten.Goals.{After-live_piece-p}
 use Rattle.lmem_heap.proofs.space.Space.shorten.Goals as goal
@@ -11,38 +11,8 @@ piece c = piece_read c.requires.well_formed c.args.i c.live_piece-p.result.place
 less : (c : After-live_piece-p) → piece_space c.args.n < piece_space c.live_piece-p.result.size
 less c = omega (arith, (piece c).value, c.requires.less)
 
-pub piece_space-room-requires : goal.piece_space-room-requires
-piece_space-room-requires c = omega (arith, (piece (goal.at.piece_space-room-requires c).After-live_piece-p).ends, less (goal.at.piece_space-room-requires c).After-live_piece-p)
-
-pub overflow_sub-rest : goal.overflow_sub-rest
-overflow_sub-rest c = omega (arith, less (goal.at.overflow_sub-rest c).After-live_piece-p)
-
-pub set_size-requires-clause-within : goal.set_size-requires-clause-within
-set_size-requires-clause-within c = omega (arith, (piece (goal.at.set_size-requires-clause-within c).After-live_piece-p).ends, less (goal.at.set_size-requires-clause-within c).After-live_piece-p)
-
-pub set_size-requires-clause-held : goal.set_size-requires-clause-held
-set_size-requires-clause-held c = omega (arith, (piece (goal.at.set_size-requires-clause-held c).After-live_piece-p).ends)
-
-pub set_size-requires-clause-long : goal.set_size-requires-clause-long
-set_size-requires-clause-long c = c.requires.well_formed.held.tiled.long
-
-pub overflow_add-p : goal.overflow_add-p
-overflow_add-p c = record { fits = omega (arith, (piece (goal.at.overflow_add-p c).After-live_piece-p).ends, less (goal.at.overflow_add-p c).After-live_piece-p) }
-
-pub set_word-requires-clause-within : goal.set_word-requires-clause-within
-set_word-requires-clause-within c = omega (arith, (piece (goal.at.set_word-requires-clause-within c).After-live_piece-p).ends, less (goal.at.set_word-requires-clause-within c).After-live_piece-p)
-
-pub set_word-requires-clause-small : goal.set_word-requires-clause-small
-set_word-requires-clause-small c = omega (arith, (piece (goal.at.set_word-requires-clause-small c).After-live_piece-p).ends, less (goal.at.set_word-requires-clause-small c).After-live_piece-p)
-
-pub set_word-requires-clause-long : goal.set_word-requires-clause-long
-set_word-requires-clause-long c = c.set_size.ensures.long ∙ c.requires.well_formed.held.tiled.long
-
 pub overflow_sub-self : goal.overflow_sub-self
 overflow_sub-self c = omega (arith, (piece (goal.at.overflow_sub-self c).After-live_piece-p).less)
-
-pub overflow_add-result : goal.overflow_add-result
-overflow_add-result c = record { fits = omega (arith, (piece (goal.at.overflow_add-result c).After-live_piece-p).ends, less (goal.at.overflow_add-result c).After-live_piece-p) }
 
 pub returns-clause-detached : goal.returns-clause-detached
 returns-clause-detached c =
