@@ -17,6 +17,8 @@ use Rattle.geos_model.specs.declared.command.Done.{Done}
 use Rattle.geos_model.specs.declared.command.Done.TheVariants as done
 use Rattle.geos_model.specs.declared.command.Info.{Info}
 use Rattle.geos_model.specs.declared.command.Info.TheVariants as infos
+use Rattle.geos_model.specs.declared.reply.Reply.{Reply as GivenReply}
+use Rattle.geos_model.specs.declared.reply.Reply.TheVariants as replies
 use Rattle.geos_model.specs.declared.handle.VmHandle.{VmHandle}
 use Rattle.geos_model.specs.declared.handle.ChunkHandle.{ChunkHandle}
 use Rattle.geos_model.specs.declared.command.Command.{Command}
@@ -149,3 +151,16 @@ blocks_are handles = BlocksAre (map (λ h. h.0) handles)
 
 abbrev pub chunks_are : List ChunkHandle → Reply
 chunks_are handles = ChunksAre (map (λ h. h.0) handles)
+
+-- what the code's reply to an accepted command tells
+abbrev pub reply_of : GivenReply → Reply
+reply_of replies.Accepted = Accepted
+reply_of (replies.Block b) = BlockIs b.0
+reply_of (replies.Chunk c) = ChunkIs c.0
+reply_of (replies.Token t) = TokenIs t.0
+reply_of (replies.Number n) = NumberIs n
+reply_of (replies.Bytes bytes) = BytesAre bytes.now
+reply_of (replies.Blocks handles) = blocks_are handles.items
+reply_of (replies.Chunks handles) = chunks_are handles.items
+reply_of (replies.Info info) = info_is info
+reply_of (replies.Equal equal) = AreEqual equal

@@ -10,6 +10,7 @@ mod file;
 mod handle;
 mod law;
 mod limit;
+mod reply;
 mod scope;
 
 pub use block::Attributes;
@@ -27,4 +28,5 @@ pub use limit::{
     CAPACITY, LAST_PAGE, LAST_PAGE_OF_VERSION_1, LONGEST_CHUNK, MOST_BLOCKS,
     MOST_BLOCKS_OF_VERSION_1,
 };
+pub use reply::Reply;
 pub use scope::Scope;
