@@ -20,7 +20,7 @@ use Rattle.vm_file.specs.Effects.{IsCommit, Fails, IsWorn}
 use Rattle.vm_file.specs.Documents.{Documents}
 use Rattle.block_cache.specs.State.{CacheState, seen}
 use Rattle.vm_blocks.specs.declared.change.Direction.TheVariants.{Backwards}
-use Rattle.undo_log.specs.Locking.{IsHeld, TriesCommit}
+use Rattle.undo_log.specs.Committing.{IsHeld, TriesCommit}
 use Rattle.undo_log.specs.Logging.{Log, empty_log, group_of, to_redo, to_undo}
 use Rattle.undo_log.specs.Records.{SessionState, file_of, has_locks, locks_in, machine_of, has_failed, AreSteps, IsStep}
 use Rattle.undo_log.specs.Turning.{rest_fault}

@@ -18,7 +18,7 @@ use Rattle.vm_file.proofs.PassingLemmas.{Commits-refused, Passes-refl}
 use Rattle.vm_file.specs.Documents.{Documents}
 use Rattle.vm_blocks.specs.Committing.{IsSavedAs, IsNotSavedAs}
 use Rattle.block_cache.specs.State.{CacheState, seen}
-use Rattle.undo_log.specs.Locking.{IsHeld, IsNotMoved}
+use Rattle.undo_log.specs.Committing.{IsHeld, IsNotMoved}
 use Rattle.undo_log.specs.Logging.{Log, group_of}
 use Rattle.undo_log.specs.Records.{SessionState, file_of, has_locks, locks_in, machine_of, has_failed, IsExact}
 use Rattle.undo_log.specs.Turning.{rest_fault}

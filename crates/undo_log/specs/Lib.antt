@@ -4,5 +4,6 @@ pub mod Records
 pub mod Making
 pub mod Turning
 pub mod Locking
+pub mod Committing
 pub mod Codes
 pub mod Editing

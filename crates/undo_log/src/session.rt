@@ -28,7 +28,8 @@ ghost use Rattle.doc_edits.specs.LookUps.{Leaves, LooksUp, answer_of};
 ghost use Rattle.doc_edits.specs.Planning.{IsChainEditFault, Refuses};
 ghost use Rattle.doc_edits.specs.Room.{has_no_room, IsChainRefusal, ReadsNothing};
 ghost use Rattle.undo_log.specs.Editing.{EditsAtHand};
-ghost use Rattle.undo_log.specs.Locking.{IsBarred, IsHeld, IsNotMoved, TriesCommit};
+ghost use Rattle.undo_log.specs.Locking.{IsBarred};
+ghost use Rattle.undo_log.specs.Committing.{IsHeld, IsNotMoved, TriesCommit};
 ghost use Rattle.undo_log.specs.Logging.{AreExclusive, empty_log, open_changes, to_redo, to_undo, total_weight, with_group_closed};
 ghost use Rattle.undo_log.specs.Records.{blocks_of, file_of, has_locks, machine_of, has_failed, total_cost, IsExact, IsStep, KeepsSession, Looks, Records};
 ghost use Rattle.undo_log.specs.Turning.{Abandons, IsNotAbandoned, IsRefusedTurn, IsSure, Moves, abandon_fault, newest_made, rest_fault};
@@ -479,6 +480,7 @@ impl<S: Store> Session<S> {
         ensures listed { IsListed (S.facts self.now.disk.store).honest self.now.document }
         ensures settled { IsSettled S.facts self.now.disk }
         ensures group { AreExclusive (open_changes self.now.log.group) self.now.log.redo }
+        ensures few { length self.now.resident ≤ self.now.frames }
     {
         self.blocks.validity();
         self.log.validity();

@@ -2,7 +2,7 @@ use Rattle.std.proofs.Common.{IsTrue, Err, Ok, refl, sym, ap, subst, ◌∙◌}
 use Rattle.std.proofs.lemmas.Result.{err_from_is_err_and}
 use Rattle.geos_model.specs.Reply.{Accepted, reply_by}
 use Rattle.geos_model.specs.declared.command.Command.TheVariants as commands
-use Rattle.undo_log.specs.Locking.{TriesCommit}
+use Rattle.undo_log.specs.Committing.{TriesCommit}
 use Rattle.undo_log.specs.Logging.{Log, to_redo, to_undo}
 use Rattle.vm_blocks.specs.declared.change.Direction.TheVariants.{Backwards}
 use Rattle.undo_log.specs.Records.{SessionState, AreListed, IsExact, IsStep}

@@ -9,7 +9,7 @@ use Rattle.geos_model.specs.declared.fault.Fault.TheVariants.{Worn}
 use Rattle.vm_file.specs.Calls.{last_sequence}
 use Rattle.block_cache.specs.State.{seen}
 use Rattle.vm_blocks.specs.Committing.{IsSavedAs}
-use Rattle.undo_log.specs.Locking.{IsNotMoved}
+use Rattle.undo_log.specs.Committing.{IsNotMoved}
 use Rattle.undo_log.specs.Records.{SessionState, file_of, machine_of, has_failed, IsExact}
 use Rattle.undo_log.specs.Turning.{rest_fault}
 use Rattle.undo_log.proofs.Beginnings.{comes_back}

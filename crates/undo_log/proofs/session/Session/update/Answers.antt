@@ -1,7 +1,7 @@
 use Rattle.std.proofs.Common.{Err, refl, ap, sym, subst, ◌∙◌}
 use Rattle.geos_model.specs.Reply.{Accepted, reply_by}
 use Rattle.geos_model.specs.declared.command.Command.TheVariants as commands
-use Rattle.undo_log.specs.Locking.{TriesCommit}
+use Rattle.undo_log.specs.Committing.{TriesCommit}
 use Rattle.undo_log.specs.Records.{SessionState, IsStep}
 use Rattle.undo_log.specs.Turning.{rest_fault}
 use Rattle.undo_log.proofs.CommitSteps.{commit_held, committed_invariant, update_held, update_is}

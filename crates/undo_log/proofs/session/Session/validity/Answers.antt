@@ -1,4 +1,4 @@
-use Rattle.std.proofs.Common.{Bool, subst}
+use Rattle.std.proofs.Common.{◌≤◌, Bool, length, subst}
 use Rattle.geos_model.specs.Machine.{AreValidLocks, IsValidMachine}
 use Rattle.vm_file.specs.Disk.{IsListed, IsSettled}
 use Rattle.undo_log.specs.Logging.{AreExclusive, open_changes}
@@ -35,3 +35,6 @@ returns-clause-locks g c =
 
 pub returns-clause-group : goal.returns-clause-group
 returns-clause-group g c = subst (λ (s : SessionState g.row.S.Denot). AreExclusive (open_changes s.log.group) s.log.redo) c.self.view_is c.validity-2.ensures
+
+pub returns-clause-few : goal.returns-clause-few
+returns-clause-few g c = subst (λ (s : SessionState g.row.S.Denot). length s.resident ≤ s.frames) c.self.view_is c.validity.ensures.few
