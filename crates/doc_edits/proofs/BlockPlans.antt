@@ -17,9 +17,9 @@ use Rattle.geos_model.specs.declared.command.Edit.{Edit}
 use Rattle.geos_model.specs.declared.command.Edit.TheVariants as edits
 use Rattle.geos_model.specs.declared.fault.Fault.TheVariants.{IsMap, NoHandles}
 use Rattle.geos_model.specs.declared.handle.VmHandle.{VmHandle}
-use Rattle.geos_model.specs.declared.command.Kind.TheVariants.{Made, Freed}
+use Rattle.geos_model.specs.declared.command.Kind.TheVariants.{Plain, Made, Freed}
 use Rattle.geos_model.specs.declared.block.Attributes.{Attributes}
-use Rattle.vm_blocks.specs.Changes.{fitted, HasAttributes, IsFree, AreFree, CanGo, CanAllGo}
+use Rattle.vm_blocks.specs.Changes.{HasAttributes, IsFree, AreFree, CanGo, CanAllGo}
 use Rattle.vm_file.specs.Members.{saved_blocks}
 use Rattle.vm_blocks.specs.declared.change.Change.TheVariants as changes
 use Rattle.vm_blocks.specs.declared.change.Change.TheVariants.{BlocksIn, BlocksOut}
@@ -84,35 +84,25 @@ module _ (d : Document) (handle : VmHandle) (attributes : Attributes) (body : Bo
         block_made (edits.CopyBlock handle) d ms new.0 block (done.Block new) one (rw (there, next) refl) free
         (λ i. with_block d (first i) (at i)) (ap (λ (n : ℕ). done.Block (record { 0 = n })) first) refl how_long
 
--- Edits of attributes.
+-- An edit of attributes gives a block these, which it can have.
+attributes_planned : (edit : Edit) (d : Document) (h : VmHandle) (old new : Attributes) → first_refusal (conditions edit d) ≡ None → HasAttributes d h.0 old new → with_attributes d h.0 new ≡ (effect edit d).0
+    → done.Nothing ≡ (effect edit d).1 → Plain ≡ kind_of edit → 0 ≡ cost edit d (effect edit d).0 → Plans edit d (changes.Attributes h old new) done.Nothing
+attributes_planned edit d h old new accepted has document answer kind charged = record {
+  accepted = accepted;
+  applies = has;
+  document = ap (with_attributes d h.0) (fitted-same (is_heap d h.0) new has.typed) ∙ document;
+  answer = answer;
+  kind = kind;
+  cost = charged;
+}
 
--- the block gets these, which it can have
-attributes_given : (d : Document) (h : ℕ) (old new : Attributes) → old ≡ attributes_of d h → FitAttributes new → is_live d h ≡ true → IsTyped (is_heap d h) new
-    → HasAttributes d h old new × (with_attributes d h (fitted (is_heap d h) new) ≡ with_attributes d h new)
-attributes_given d h old new same fit live typed = (record { live = live; stands = sym same; fit = fit; typed = typed }, ap (with_attributes d h) (fitted-same (is_heap d h) new typed))
+module _ (d : Document) (h : VmHandle) (old : Attributes) (live : is_live d h.0 ≡ true) (same : old ≡ attributes_of d h.0) where
+  pub user_id_planned : (user_id : ℕ) → IsTyped (is_heap d h.0) old → FitAttributes (record old { user_id = user_id }) → Plans (edits.SetUserId h user_id) d (changes.Attributes h old (record old { user_id = user_id })) done.Nothing
+  user_id_planned user_id typed fit =
+      attributes_planned (edits.SetUserId h user_id) d h old (record old { user_id = user_id }) (rw live refl) (record { live = live; stands = sym same; fit = fit; typed = typed })
+      (ap (λ (a : Attributes). with_attributes d h.0 (record a { user_id = user_id })) same) refl refl refl
 
-pub user_id_planned : (d : Document) (h : VmHandle) (user_id : ℕ) (old : Attributes) → is_live d h.0 ≡ true → old ≡ attributes_of d h.0 → IsTyped (is_heap d h.0) old → FitAttributes (record old { user_id = user_id })
-    → Plans (edits.SetUserId h user_id) d (changes.Attributes h old (record old { user_id = user_id })) done.Nothing
-user_id_planned d h user_id old live same typed fit =
-    let given = attributes_given d h.0 old (record old { user_id = user_id }) same fit live typed in
-    record {
-      accepted = rw live refl;
-      applies = given.0;
-      document = given.1 ∙ ap (λ (a : Attributes). with_attributes d h.0 (record a { user_id = user_id })) same;
-      answer = refl;
-      kind = refl;
-      cost = refl;
-    }
-
-pub type_planned : (d : Document) (h : VmHandle) (heap_type : ℕ) (old : Attributes) → is_live d h.0 ≡ true → is_heap d h.0 ≡ true → old ≡ attributes_of d h.0 → FitAttributes (record old { heap_type = heap_type })
-    → Plans (edits.SetType h heap_type) d (changes.Attributes h old (record old { heap_type = heap_type })) done.Nothing
-type_planned d h heap_type old live heap same fit =
-    let given = attributes_given d h.0 old (record old { heap_type = heap_type }) same fit live (λ raw. absurd (true≢false (sym heap ∙ raw))) in
-    record {
-      accepted = rw (live, heap) refl;
-      applies = given.0;
-      document = given.1 ∙ ap (λ (a : Attributes). with_attributes d h.0 (record a { heap_type = heap_type })) same;
-      answer = refl;
-      kind = refl;
-      cost = refl;
-    }
+  pub type_planned : (heap_type : ℕ) → is_heap d h.0 ≡ true → FitAttributes (record old { heap_type = heap_type }) → Plans (edits.SetType h heap_type) d (changes.Attributes h old (record old { heap_type = heap_type })) done.Nothing
+  type_planned heap_type heap fit =
+      attributes_planned (edits.SetType h heap_type) d h old (record old { heap_type = heap_type }) (rw (live, heap) refl) (record { live = live; stands = sym same; fit = fit; typed = λ raw. absurd (true≢false (sym heap ∙ raw)) })
+      (ap (λ (a : Attributes). with_attributes d h.0 (record a { heap_type = heap_type })) same) refl refl refl

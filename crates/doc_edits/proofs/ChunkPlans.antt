@@ -3,16 +3,20 @@ use Rattle.std.proofs.Common.{◌≡◌, ◌≤◌, ℕ, List, [], ◌∷◌, �
 use Rattle.std.proofs.lemmas.Bool.{cases_Bool}
 use Rattle.std.proofs.lemmas.List.{length-replicate}
 use Rattle.geos_model.specs.Document.{Document, chunks_of}
-use Rattle.geos_model.specs.Heap.{ChunkMap, chunk_bytes, fits_with, fits_new, is_heap_map, next_chunk}
-use Rattle.geos_model.specs.Meaning.{conditions, with_chunk, new_chunk, no_place, on_chunk}
+use Rattle.geos_model.specs.Heap.{ChunkMap, fits_with, fits_new, next_chunk}
+use Rattle.geos_model.specs.Meaning.{chunk_at, conditions, with_chunk, new_chunk, no_place, on_chunk}
 use Rattle.geos_model.specs.Refusal.{Conditions, first_refusal}
+use Rattle.geos_model.specs.Scope.{scope_of}
 use Rattle.geos_model.specs.declared.command.Done.{Done}
 use Rattle.geos_model.specs.declared.command.Done.TheVariants.{Chunk}
 use Rattle.geos_model.specs.declared.command.Edit.{Edit}
+use Rattle.geos_model.specs.declared.command.Edit.TheVariants as edits
 use Rattle.geos_model.specs.declared.fault.Fault.{Fault}
 use Rattle.geos_model.specs.declared.fault.Fault.TheVariants.{Full}
 use Rattle.geos_model.specs.declared.handle.ChunkHandle.{ChunkHandle}
 use Rattle.geos_model.specs.declared.handle.VmHandle.{VmHandle}
+use Rattle.geos_model.specs.declared.scope.Scope.{Scope}
+use Rattle.geos_model.specs.declared.scope.Scope.TheVariants as scopes
 use Rattle.chunk_edits.specs.Splicing.{forwards}
 use Rattle.chunk_edits.specs.declared.splice.Splice.{Splice}
 use Rattle.lmem_heap.proofs.PlacedLemmas.{fits_new-some, fits_new-none}
@@ -23,49 +27,59 @@ use Rattle.vm_blocks.specs.declared.change.Change.TheVariants as changes
 use Rattle.vm_blocks.specs.declared.change.Content.{Content}
 use Rattle.vm_blocks.specs.declared.change.PartChange.TheVariants as parts
 use Rattle.doc_edits.specs.Found.{IsHeapAt, IsChunkAt, AreLate}
-use Rattle.doc_edits.specs.Building.{place_of, new_in, IsAt, IsIn, IsHeapFor, SplicesAt, CreatesAt, Splices, Creates, IsBuilt}
+use Rattle.doc_edits.specs.Building.{chunk_in, place_of, new_in, IsAt, IsHeapFor, SplicesAt, CreatesAt, Splices, Creates, IsBuilt}
 use Rattle.doc_edits.specs.Planning.{Plans}
 use Rattle.doc_edits.proofs.Documents.{chunks_are, heap_there, heap_here}
-use Rattle.doc_edits.proofs.First.{chunk_first}
+use Rattle.doc_edits.proofs.First.{FirstOfScope, scope_first}
+
+-- the edit is of the chunk that it names
+
+chunk_scope : (scope : Scope) (b : VmHandle) (c : ChunkHandle) → chunk_in scope ≡ Some (b, c) → scope ≡ scopes.Chunk b c
+chunk_scope (scopes.Chunk x y) b c is = let pair : (x, y) ≡ (b, c) = cc is in ap (λ (p : VmHandle × ChunkHandle). scopes.Chunk p.0 p.1) pair
+chunk_scope _ b c is = absurd (cc is)
+
+place_scope : (edit : Edit) (b : VmHandle) (c : ChunkHandle) → place_of edit ≡ Some (b, c) → scope_of edit ≡ scopes.Chunk b c
+place_scope (edits.Free x y) b c is = absurd (cc is)
+place_scope edit b c is = chunk_scope (scope_of edit) b c is
 
 -- An edit of a chunk's bytes.
 module _ (edit : Edit) (d : Document) (b : VmHandle) (c : ChunkHandle) (is : place_of edit ≡ Some (b, c)) where
   pub chunk_refused : (fault : Fault) → ((rest : Conditions) → AreLate rest → first_refusal (on_chunk d b.0 c.0 ++ rest) ≡ Some fault) → first_refusal (conditions edit d) ≡ Some fault
   chunk_refused fault refused =
-      let first = chunk_first edit d (b, c) is in
+      let first = subst (FirstOfScope edit) (place_scope edit b c is) (scope_first edit) d in
       ap first_refusal first.2 ∙ refused first.0 first.1
 
   module _ (m : ChunkMap) (live : IsHeapAt d b.0 m) (bytes : List ℕ) (there : IsChunkAt d b.0 c.0 bytes) where
     same : chunks_of d b.0 ≡ m
     same = chunks_are d b.0 m live
 
-    pub is_in : IsIn edit d m c.0
-    is_in = subst (λ (o : Option (VmHandle × ChunkHandle)). MatchOption o ⊥ (λ p. IsHeapAt d p.0.0 m × (c.0 ≡ p.1.0) × (is_heap_map m ≡ true))) (sym is) (live, refl, subst (λ (x : ChunkMap). is_heap_map x ≡ true) same there.valid)
-
-    pub is_at : IsAt edit d bytes
-    is_at = subst (λ (o : Option (VmHandle × ChunkHandle)). MatchOption o ⊥ (λ p. IsChunkAt d p.0.0 p.1.0 bytes)) (sym is) there
+    pub is_at : IsAt edit d m c.0 bytes
+    is_at = subst (λ (o : Option (VmHandle × ChunkHandle)). MatchOption o ⊥ (λ p. IsHeapAt d p.0.0 m × (c.0 ≡ p.1.0) × IsChunkAt d p.0.0 p.1.0 bytes)) (sym is) (live, refl, there)
 
     module _ (s : Splice) (done : Done) (built : SplicesAt edit d done s) where
       splices : Splices edit d b c s done
       splices = subst (λ (o : Option (VmHandle × ChunkHandle)). MatchOption o ⊥ (λ p. Splices edit d p.0 p.1 s done)) is built
 
-      pub is_built : IsBuilt s (chunk_bytes m c.0)
-      is_built = subst (λ (x : ChunkMap). IsBuilt s (chunk_bytes x c.0)) same (record { within = splices.stands.within; short = splices.short })
+      pub is_built : IsBuilt s bytes
+      is_built = subst (IsBuilt s) (sym there.value) (record { within = splices.stands.within; short = splices.short })
 
-      by_room : (fit : Bool) → fit ≡ fits_with m c.0 (forwards s (chunk_bytes m c.0)) → first_refusal (conditions edit d) ≡ cond fit None (Some Full)
-      by_room fit e = splices.refusal ∙ ap (λ (x : ChunkMap). cond (fits_with x c.0 (forwards s (chunk_bytes x c.0))) None (Some Full)) same ∙ ap (λ (t : Bool). cond t None (Some Full)) (sym e)
+      fits_same : fits_with (chunks_of d b.0) c.0 (forwards s (chunk_at d b.0 c.0)) ≡ fits_with m c.0 (forwards s bytes)
+      fits_same = ap (λ (x : ChunkMap). fits_with x c.0 (forwards s (chunk_at d b.0 c.0))) same ∙ ap (λ (x : List ℕ). fits_with m c.0 (forwards s x)) (sym there.value)
 
-      pub full : false ≡ fits_with m c.0 (forwards s (chunk_bytes m c.0)) → first_refusal (conditions edit d) ≡ Some Full
+      by_room : (fit : Bool) → fit ≡ fits_with m c.0 (forwards s bytes) → first_refusal (conditions edit d) ≡ cond fit None (Some Full)
+      by_room fit e = splices.refusal ∙ ap (λ (t : Bool). cond t None (Some Full)) (fits_same ∙ sym e)
+
+      pub full : false ≡ fits_with m c.0 (forwards s bytes) → first_refusal (conditions edit d) ≡ Some Full
       full e = by_room false e
 
-      pub planned : true ≡ fits_with m c.0 (forwards s (chunk_bytes m c.0)) → Plans edit d (changes.Part b (parts.Chunk c s)) done
+      pub planned : true ≡ fits_with m c.0 (forwards s bytes) → Plans edit d (changes.Part b (parts.Chunk c s)) done
       planned e = record {
         accepted = by_room true e;
         applies = record {
           heap = heap_there d b.0 m live;
           live = there.live;
           stands = splices.stands;
-          fits = ap (λ (x : ChunkMap). fits_with x c.0 (forwards s (chunk_bytes x c.0))) same ∙ sym e;
+          fits = fits_same ∙ sym e;
         };
         document = splices.document;
         answer = splices.answer;

@@ -1,5 +1,5 @@
 -- Which refusal is the first.
-use Rattle.std.proofs.Common.{◌≡◌, ℕ, Bool, Result, Ok, Err, IfErr, MatchResult, subst, ◌++◌, true, false, Some, refl, sym, ◌∙◌, inl, inr}
+use Rattle.std.proofs.Common.{◌≡◌, ℕ, Bool, Result, Ok, Err, IfOk, IfErr, MatchResult, subst, ◌++◌, true, false, Some, refl, sym, ◌∙◌, inl, inr}
 use Rattle.std.proofs.lemmas.Bool.{true≢false}
 use Rattle.std.specs.Result.{IsErrAnd}
 use Rattle.std.specs.FinMap.{contains_key}
@@ -51,6 +51,11 @@ carried (Err e) P Q fault is q = subst Q (sym is) q
 pub carried_so : {T : Type 0} (r : Result T Fault) (Q : Fault → Type 0) (fault : Fault) → IsErrAnd r (λ e. e ≡ fault) → Q fault → IfErr r Q
 carried_so (Ok x) Q fault is q = absurd is
 carried_so (Err e) Q fault is q = subst Q (sym is) q
+
+-- what holds whatever is answered
+pub accepted_so : {T : Type 0} (r : Result T Fault) (P : Type 0) → P → IfOk r (λ _. P)
+accepted_so (Ok x) P holds = holds
+accepted_so (Err e) P holds = tt
 
 pub refused_then : {T : Type 0} (r : Result T Fault) (P : T → Type 0) (Q R : Fault → Type 0) → MatchResult r P Q → ((fault : Fault) → Q fault → R fault) → IfErr r R
 refused_then (Ok x) P Q R is turn = tt

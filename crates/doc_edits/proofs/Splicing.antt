@@ -1,5 +1,5 @@
 -- Edits of a chunk's bytes by a splice, and of a heap by a chunk of given bytes.
-use Rattle.std.proofs.Common.{◌≡◌, ◌≤◌, ◌+◌, ◌-◌, ◌*◌, ◌/◌, ℕ, List, ◌++◌, Bool, true, false, not, cond, Option, Some, None, Result, Ok, Err, MatchResult, length, nat_lt, refl, sym, ap, subst, ◌∙◌, inl, inr, arith}
+use Rattle.std.proofs.Common.{◌≡◌, ◌≤◌, ◌+◌, ◌-◌, ◌*◌, ◌/◌, ℕ, List, ◌++◌, Bool, true, false, not, cond, Option, Some, None, MatchOption, Result, Ok, Err, MatchResult, length, nat_lt, refl, sym, ap, subst, ◌∙◌, inl, inr, arith}
 use Rattle.std.proofs.lemmas.Bool.{leb-true, le-ltb, lt-ltb, cases_lt, cases_Bool}
 use Rattle.std.specs.Result.{IfOk}
 use Rattle.std.specs.FinMap.{empty, insert, contains_key}
@@ -28,7 +28,7 @@ use Rattle.chunk_edits.specs.Splicing.{Builds, RefusesToBuild, forwards}
 use Rattle.chunk_edits.specs.declared.splice.Splice.{Splice}
 use Rattle.vm_blocks.proofs.RoomLemmas.{bytes-put}
 use Rattle.doc_edits.specs.Found.{AreOwn, IsHeapAt, IsChunkAt}
-use Rattle.doc_edits.specs.Building.{IsAt, IsIn, SplicesAt, Splices}
+use Rattle.doc_edits.specs.Building.{place_of, IsAt, SplicesAt, Splices}
 use Rattle.doc_edits.specs.Planning.{RefusesAtHand}
 use Rattle.doc_edits.proofs.Order.{more_refused, more_accepted, has_room}
 use Rattle.doc_edits.proofs.Refusals.{past_chunk}
@@ -161,14 +161,25 @@ module _ (edit : Edit) (d : Document) (b : VmHandle) (c : ChunkHandle) (rest : C
 
 -- What a builder answers, of the place that an edit names.
 
-abbrev pub BuildsOf : List ℕ → Done → Result Splice Fault → Edit → Type 0
-BuildsOf bytes done r edit = (d : Document) → IsAt edit d bytes → MatchResult r (SplicesAt edit d done) (RefusesAtHand edit d)
+abbrev pub BuildsOf : ChunkMap → ℕ → List ℕ → Done → Result Splice Fault → Edit → Type 0
+BuildsOf m k bytes done r edit = (d : Document) → IsAt edit d m k bytes → MatchResult r (SplicesAt edit d done) (RefusesAtHand edit d)
 
-abbrev pub BuildsPlain : ChunkMap → ℕ → Result Splice Fault → Edit → Type 0
-BuildsPlain m h r edit = (d : Document) → IsIn edit d m h → MatchResult r (SplicesAt edit d done.Nothing) (RefusesAtHand edit d)
+abbrev pub SplicesOf : ChunkMap → ℕ → List ℕ → Done → Splice → Edit → Type 0
+SplicesOf m k bytes done s edit = (d : Document) → IsAt edit d m k bytes → SplicesAt edit d done s
 
-abbrev pub SplicesOf : List ℕ → Done → Splice → Edit → Type 0
-SplicesOf bytes done s edit = (d : Document) → IsAt edit d bytes → SplicesAt edit d done s
+abbrev pub RefusesOf : ChunkMap → ℕ → List ℕ → Fault → Edit → Type 0
+RefusesOf m k bytes fault edit = (d : Document) → IsAt edit d m k bytes → RefusesAtHand edit d fault
 
-abbrev pub RefusesOf : List ℕ → Fault → Edit → Type 0
-RefusesOf bytes fault edit = (d : Document) → IsAt edit d bytes → RefusesAtHand edit d fault
+-- An edit of an array, built so at the place that it names.
+module _ (now edit : Edit) (b : VmHandle) (c : ChunkHandle) (is : now ≡ edit) (named : place_of edit ≡ Some (b, c)) (m : ChunkMap) (k : ℕ) (bytes : List ℕ) where
+  place_is : place_of now ≡ Some (b, c)
+  place_is = ap place_of is ∙ named
+
+  at_place : (d : Document) → IsAt now d m k bytes → IsChunkAt d b.0 c.0 bytes
+  at_place d at = (subst (λ (o : Option (VmHandle × ChunkHandle)). MatchOption o ⊥ (λ p. IsHeapAt d p.0.0 m × (k ≡ p.1.0) × IsChunkAt d p.0.0 p.1.0 bytes)) place_is at).2
+
+  pub array_built : (own : List ℕ → Conditions) (to : List ℕ → List ℕ) (done : Done) → ((d : Document) → EditsChunk edit d b c own to done) → (r : Result Splice Fault)
+      → MatchResult r (λ s. BuildsFor s bytes own to) (RefusesToBuild (own bytes ++ too_long (to bytes))) → BuildsOf m k bytes done r now
+  array_built own to done means r builds = λ d at.
+      subst (λ (o : Option (VmHandle × ChunkHandle)). MatchResult r (λ s. MatchOption o ⊥ (λ p. Splices now d p.0 p.1 s done)) (RefusesAtHand now d)) (sym place_is)
+      (built now d b c own to done (subst (λ (e : Edit). EditsChunk e d b c own to done) (sym is) (means d)) bytes (at_place d at) r builds)

@@ -3,7 +3,7 @@ ghost use Rattle.std.specs.FinMap.{contains_key};
 ghost use Rattle.geos_model.specs.Document.{Document};
 ghost use Rattle.geos_model.specs.declared.command.Done.TheVariants as done;
 ghost use Rattle.vm_blocks.specs.Changes.{bytes_of};
-ghost use Rattle.doc_edits.specs.Building.{place_of, is_plain, answers_token, new_in, creates_array, IsAt, IsIn, SplicesAt, IsHeapFor, CreatesAt};
+ghost use Rattle.doc_edits.specs.Building.{place_of, answers_token, new_in, creates_array, IsAt, SplicesAt, IsHeapFor, CreatesAt};
 ghost use Rattle.doc_edits.specs.Planning.{RefusesAtHand};
 
 use chunk_edits::Splice;
@@ -23,42 +23,7 @@ pub fn build(
 ) -> Result<(Splice, Done), Fault>
     requires live { IsTrue (contains_key heap.now.chunks chunk.0) }
     requires place { IsSome (place_of edit.now) }
-    ensures { (d : Document) → IsIn edit.now d heap.now.chunks chunk.0 → IsAt edit.now d bytes.now → MatchResult result (λ built. SplicesAt edit.now d built.1 built.0) (RefusesAtHand edit.now d) }
-{
-    match edit {
-        Edit::Resize(_, _, _)
-        | Edit::Insert(_, _, _, _)
-        | Edit::Delete(_, _, _, _)
-        | Edit::Write(_, _, _, _) => {
-            let splice = build_plain(alloc, heap, chunk, edit)?;
-            Ok((splice, Done::Nothing))
-        }
-        _ => build_in_array(alloc, bytes, edit),
-    }
-}
-
-/// Of an edit that doesn't look at the chunk as an array.
-fn build_plain(alloc: Global, heap: &Heap, chunk: ChunkHandle, edit: &Edit) -> Result<Splice, Fault>
-    requires live { IsTrue (contains_key heap.now.chunks chunk.0) }
-    requires plain { is_plain edit.now ≡ true }
-    ensures { (d : Document) → IsIn edit.now d heap.now.chunks chunk.0 → MatchResult result (SplicesAt edit.now d done.Nothing) (RefusesAtHand edit.now d) }
-{
-    match edit {
-        Edit::Resize(_, _, n) => chunk_edits::resize(alloc, heap, chunk, *n),
-        Edit::Insert(_, _, at, n) => chunk_edits::insert(alloc, heap, chunk, *at, *n),
-        Edit::Delete(_, _, at, n) => chunk_edits::delete(alloc, heap, chunk, *at, *n),
-        Edit::Write(_, _, at, bytes) => {
-            chunk_edits::write(alloc, heap, chunk, *at, bytes.as_slice())
-        }
-        _ => unreachable!(),
-    }
-}
-
-/// Of an edit of an array.
-fn build_in_array(alloc: Global, bytes: &[u8], edit: &Edit) -> Result<(Splice, Done), Fault>
-    requires place { IsSome (place_of edit.now) }
-    requires array { is_plain edit.now ≡ false }
-    ensures { (d : Document) → IsAt edit.now d bytes.now → MatchResult result (λ built. SplicesAt edit.now d built.1 built.0) (RefusesAtHand edit.now d) }
+    ensures { (d : Document) → IsAt edit.now d heap.now.chunks chunk.0 bytes.now → MatchResult result (λ built. SplicesAt edit.now d built.1 built.0) (RefusesAtHand edit.now d) }
 {
     match edit {
         Edit::AddElement(_, _, element) => {
@@ -76,20 +41,30 @@ fn build_in_array(alloc: Global, bytes: &[u8], edit: &Edit) -> Result<(Splice, D
             Ok((splice, Done::Token(token)))
         }
         _ => {
-            let splice = build_silent(alloc, bytes, edit)?;
+            let splice = build_silent(alloc, heap, chunk, bytes, edit)?;
             Ok((splice, Done::Nothing))
         }
     }
 }
 
 /// Of an edit that answers nothing.
-fn build_silent(alloc: Global, bytes: &[u8], edit: &Edit) -> Result<Splice, Fault>
+fn build_silent(
+    alloc: Global,
+    heap: &Heap,
+    chunk: ChunkHandle,
+    bytes: &[u8],
+    edit: &Edit,
+) -> Result<Splice, Fault>
+    requires live { IsTrue (contains_key heap.now.chunks chunk.0) }
     requires place { IsSome (place_of edit.now) }
-    requires array { is_plain edit.now ≡ false }
     requires silent { answers_token edit.now ≡ false }
-    ensures { (d : Document) → IsAt edit.now d bytes.now → MatchResult result (SplicesAt edit.now d done.Nothing) (RefusesAtHand edit.now d) }
+    ensures { (d : Document) → IsAt edit.now d heap.now.chunks chunk.0 bytes.now → MatchResult result (SplicesAt edit.now d done.Nothing) (RefusesAtHand edit.now d) }
 {
     match edit {
+        Edit::Resize(_, _, n) => chunk_edits::resize(alloc, heap, chunk, *n),
+        Edit::Insert(_, _, at, n) => chunk_edits::insert(alloc, heap, chunk, *at, *n),
+        Edit::Delete(_, _, at, n) => chunk_edits::delete(alloc, heap, chunk, *at, *n),
+        Edit::Write(_, _, at, new) => chunk_edits::write(alloc, heap, chunk, *at, new.as_slice()),
         Edit::InsertElement(_, _, i, new) => chunk_arrays::insert(alloc, bytes, *i, new.as_slice()),
         Edit::SetElement(_, _, i, new) => chunk_arrays::set(alloc, bytes, *i, new.as_slice()),
         Edit::ResizeElement(_, _, i, n) => chunk_arrays::resize(alloc, bytes, *i, *n),

@@ -1,7 +1,7 @@
 ghost use Rattle.std.specs.Prelude.{◌≡◌, ◌<◌, ◌≤◌, true, false, IsTrue, MatchOption, MatchResult, None, Some, length};
 ghost use Rattle.std.specs.FinMap.{contains_key, get};
 ghost use Rattle.geos_model.specs.Document.{is_heap};
-ghost use Rattle.geos_model.specs.Heap.{chunk_bytes, fits_with, fits_new, is_chunk_handle, next_chunk};
+ghost use Rattle.geos_model.specs.Heap.{fits_with, fits_new, is_chunk_handle, next_chunk};
 ghost use Rattle.geos_model.specs.declared.command.Edit.TheVariants as edits;
 ghost use Rattle.chunk_edits.specs.Splicing.{forwards};
 ghost use Rattle.vm_blocks.specs.Keeping.{is_loaded};
@@ -35,23 +35,19 @@ pub fn plan_in_chunk<S: Store>(
     let heap = heap_at(blocks, handle);
     let bytes = bytes_in(heap, chunk)?;
     let (splice, done) = build(alloc, heap, chunk, bytes, edit)?;
-    if !has_room(heap, chunk, &splice) {
+    if !has_room(heap, chunk, bytes, &splice) {
         return Err(Fault::Full);
     }
     Ok((Change::Part(handle, PartChange::Chunk(chunk, splice)), done))
 }
 
 /// Whether the heap has room for what a splice makes of the bytes of a chunk.
-fn has_room(heap: &Heap, chunk: ChunkHandle, splice: &Splice) -> bool
+fn has_room(heap: &Heap, chunk: ChunkHandle, bytes: &[u8], splice: &Splice) -> bool
     requires live { IsTrue (contains_key heap.now.chunks chunk.0) }
-    requires built { IsBuilt splice.now (chunk_bytes heap.now.chunks chunk.0) }
-    ensures { result ≡ fits_with heap.now.chunks chunk.0 (forwards splice.now (chunk_bytes heap.now.chunks chunk.0)) }
+    requires built { IsBuilt splice.now bytes.now }
+    ensures { result ≡ fits_with heap.now.chunks chunk.0 (forwards splice.now bytes.now) }
 {
-    let size = match heap.chunk(chunk) {
-        Some(bytes) => bytes.len(),
-        None => unreachable!(),
-    };
-    let kept = size - splice.old.as_slice().len();
+    let kept = bytes.len() - splice.old.as_slice().len();
     heap.fits_resize(chunk, (kept + splice.new.as_slice().len()) as u32)
 }
 

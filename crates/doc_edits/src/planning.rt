@@ -2,12 +2,14 @@ ghost use Rattle.std.specs.Prelude.{◌≡◌, ◌⊎◌, [], ◌∷◌, true, f
 ghost use Rattle.geos_model.specs.Machine.{edit_needs, kind_of};
 ghost use Rattle.geos_model.specs.Meaning.{conditions};
 ghost use Rattle.geos_model.specs.Refusal.{first_refusal};
+ghost use Rattle.geos_model.specs.Scope.{scope_of};
 ghost use Rattle.geos_model.specs.declared.command.Edit.TheVariants as edits;
 ghost use Rattle.geos_model.specs.declared.command.Kind.TheVariants.{Plain};
 ghost use Rattle.geos_model.specs.declared.fault.Fault.TheVariants.{CacheFull};
 ghost use Rattle.vm_blocks.specs.Keeping.{Keeps, IsSteady, Lacks};
 ghost use Rattle.vm_blocks.specs.Preparing.{IsReady};
-ghost use Rattle.doc_edits.specs.Building.{IsThere, is_of_chain, wanted};
+ghost use Rattle.doc_edits.specs.Building.{is_of_chain};
+ghost use Rattle.doc_edits.specs.Loading.{IsBrought, IsThere};
 ghost use Rattle.doc_edits.specs.Planning.{freed_by, kind_of_change, IsChainEditFault, Plans, Refuses, RefusesAtHand};
 ghost use Rattle.doc_edits.specs.Room.{has_no_room, ReadsNothing};
 
@@ -18,7 +20,7 @@ use crate::block_plans::{
 use crate::chain_plans::{plan_copy_chain, plan_free_chain};
 use crate::chunk_plans::{plan_free_chunk, plan_in_chunk, plan_new_chunk};
 use crate::raw_plans::{plan_attach, plan_write_raw};
-use geos_model::{Done, Edit, Fault, VmHandle};
+use geos_model::{Done, Edit, Fault, Scope, VmHandle};
 use std::alloc::Global;
 use vm_blocks::{Change, FileBlocks};
 use vm_store::Store;
@@ -75,77 +77,24 @@ fn plan_of_block<S: Store>(
     ensures already { ReadsNothing blocks.old (edit_needs edit.now) (conditions edit.now blocks.old.document)
         → (blocks.new.disk ≡ blocks.old.disk) × (blocks.new.document ≡ blocks.old.document) × IfErr result (RefusesAtHand edit.now blocks.old.document) }
 {
-    load_wanted(blocks, edit)?;
+    load_scope(blocks, edit)?;
     plan_loaded(alloc, blocks, edit)
-}
-
-/// The block into whose body an edit looks, if it is one, and of which kind it has to be.
-#[derive(Clone, Copy)]
-pub enum Wanted {
-    Nothing,
-    Any(VmHandle),
-    Raw(VmHandle),
-    Heap(VmHandle),
 }
 
 /// Brings the block into memory into whose body the edit looks, if there is one. NoBlock where it isn't live, WrongKind where it is
 /// of another kind.
-fn load_wanted<S: Store>(blocks: &mut FileBlocks<S>, edit: &Edit) -> Result<(), Fault>
+fn load_scope<S: Store>(blocks: &mut FileBlocks<S>, edit: &Edit) -> Result<(), Fault>
     requires { is_of_chain edit.now ≡ false }
     ensures keeps { Keeps S.facts blocks.old blocks.new }
-    ensures ok { IfOk result (λ _. IsThere blocks.new (wanted edit.now)) }
-    ensures room { IfOk result (λ _. has_no_room blocks.old (edit_needs edit.now) ≡ false) }
-    ensures shut { has_no_room blocks.old (edit_needs edit.now) ≡ true → (blocks.new ≡ blocks.old)
-        × IfErr result (λ fault. first_refusal ((CacheFull, true) ∷ conditions edit.now blocks.old.document) ≡ Some fault) }
-    ensures err { IfErr result (Refuses (Lacks S.facts blocks.old.disk.store blocks.new.disk.store) (has_no_room blocks.old (edit_needs edit.now)) edit.now blocks.new.document) }
+    ensures ok { IfOk result (λ _. IsThere blocks.new (scope_of edit.now)) }
+    ensures brought { IsBrought (Lacks S.facts blocks.old.disk.store blocks.new.disk.store) edit.now blocks.old blocks.new result }
     ensures plain { kind_of edit.now ≡ Plain → IsOk result × (blocks.new ≡ blocks.old) }
-    ensures already { ReadsNothing blocks.old (edit_needs edit.now) (conditions edit.now blocks.old.document)
-        → (blocks.new.disk ≡ blocks.old.disk) × (blocks.new.document ≡ blocks.old.document) × IfErr result (λ fault. first_refusal (conditions edit.now blocks.old.document) ≡ Some fault) }
 {
-    match block_wanted(edit) {
-        Wanted::Nothing => Ok(()),
-        Wanted::Any(handle) => blocks.load(handle),
-        Wanted::Raw(handle) => blocks.load_raw(handle),
-        Wanted::Heap(handle) => blocks.load_heap(handle),
-    }
-}
-
-/// What an edit looks into; nothing of an edit of a chain, which looks into many blocks.
-fn block_wanted(edit: &Edit) -> Wanted
-    ensures { result ≡ wanted edit.now }
-{
-    match edit {
-        Edit::NewRaw(_, _)
-        | Edit::NewHeap(_)
-        | Edit::SetUserId(_, _)
-        | Edit::SetType(_, _)
-        | Edit::SetMap(_)
-        | Edit::CopyChain(_)
-        | Edit::FreeChain(_) => Wanted::Nothing,
-        Edit::FreeBlock(handle) | Edit::CopyBlock(handle) => Wanted::Any(*handle),
-        Edit::WriteRaw(handle, _, _) | Edit::Attach(handle, _) => Wanted::Raw(*handle),
-        Edit::Alloc(handle, _)
-        | Edit::Free(handle, _)
-        | Edit::Resize(handle, _, _)
-        | Edit::Insert(handle, _, _, _)
-        | Edit::Delete(handle, _, _, _)
-        | Edit::Write(handle, _, _, _)
-        | Edit::CreateArray(handle, _, _)
-        | Edit::InsertElement(handle, _, _, _)
-        | Edit::SetElement(handle, _, _, _)
-        | Edit::ResizeElement(handle, _, _, _)
-        | Edit::DeleteElements(handle, _, _, _)
-        | Edit::ZeroArray(handle, _)
-        | Edit::CreateElementArray(handle, _)
-        | Edit::AddElement(handle, _, _)
-        | Edit::AddReference(handle, _, _)
-        | Edit::RemoveReference(handle, _, _)
-        | Edit::DeleteElement(handle, _, _)
-        | Edit::ChangeElement(handle, _, _, _)
-        | Edit::CreateNameArray(handle, _)
-        | Edit::AddName(handle, _, _, _, _)
-        | Edit::ChangeName(handle, _, _, _)
-        | Edit::RemoveName(handle, _, _) => Wanted::Heap(*handle),
+    match edit.scope() {
+        Scope::Plain | Scope::New | Scope::Chain(_) => Ok(()),
+        Scope::Block(handle) => blocks.load(handle),
+        Scope::Raw(handle) => blocks.load_raw(handle),
+        Scope::Heap(handle) | Scope::Chunk(handle, _) => blocks.load_heap(handle),
     }
 }
 
@@ -156,7 +105,7 @@ fn plan_loaded<S: Store>(
     edit: &Edit,
 ) -> Result<(Change, Done), Fault>
     requires of_block { is_of_chain edit.now ≡ false }
-    requires there { IsThere blocks.now (wanted edit.now) }
+    requires there { IsThere blocks.now (scope_of edit.now) }
     ensures planned { MatchResult result (λ p. Plans edit.now blocks.now.document p.0 p.1) (RefusesAtHand edit.now blocks.now.document) }
     ensures alone { (b : VmHandle) → edit.now ≡ edits.FreeBlock b → IfOk result (λ p. freed_by p.0 ≡ b.0 ∷ []) }
 {
@@ -171,29 +120,10 @@ fn plan_loaded<S: Store>(
         Edit::SetType(handle, heap_type) => plan_set_type(blocks, *handle, *heap_type),
         Edit::SetMap(handle) => plan_set_map(blocks, *handle),
         Edit::Free(handle, chunk) => plan_free_chunk(alloc, blocks, *handle, *chunk),
-        Edit::Alloc(handle, _)
-        | Edit::CreateArray(handle, _, _)
-        | Edit::CreateElementArray(handle, _)
-        | Edit::CreateNameArray(handle, _) => { plan_new_chunk(alloc, blocks, *handle, edit) }
-        Edit::Resize(handle, chunk, _)
-        | Edit::Insert(handle, chunk, _, _)
-        | Edit::Delete(handle, chunk, _, _)
-        | Edit::Write(handle, chunk, _, _)
-        | Edit::InsertElement(handle, chunk, _, _)
-        | Edit::SetElement(handle, chunk, _, _)
-        | Edit::ResizeElement(handle, chunk, _, _)
-        | Edit::DeleteElements(handle, chunk, _, _)
-        | Edit::ZeroArray(handle, chunk)
-        | Edit::AddElement(handle, chunk, _)
-        | Edit::AddReference(handle, chunk, _)
-        | Edit::RemoveReference(handle, chunk, _)
-        | Edit::DeleteElement(handle, chunk, _)
-        | Edit::ChangeElement(handle, chunk, _, _)
-        | Edit::AddName(handle, chunk, _, _, _)
-        | Edit::ChangeName(handle, chunk, _, _)
-        | Edit::RemoveName(handle, chunk, _) => {
-            plan_in_chunk(alloc, blocks, *handle, *chunk, edit)
-        }
-        Edit::CopyChain(_) | Edit::FreeChain(_) => unreachable!(),
+        other => match other.scope() {
+            Scope::Heap(handle) => plan_new_chunk(alloc, blocks, handle, other),
+            Scope::Chunk(handle, chunk) => plan_in_chunk(alloc, blocks, handle, chunk, other),
+            _ => unreachable!(),
+        },
     }
 }

@@ -8,7 +8,7 @@ use Rattle.std.proofs.lemmas.Bool.{true≢false}
 use Rattle.std.proofs.lemmas.List.Elements.{All-cons, All-nil, All-same}
 use Rattle.geos_model.specs.ElementArray.{all_distinct}
 use Rattle.geos_model.specs.Machine as machine
-use Rattle.geos_model.specs.Machine.{Machine, Step, Answers, Needs, NoBody, edit_needs, is_barred, is_of_no_body, kind_of, needs_of_kind}
+use Rattle.geos_model.specs.Machine.{Machine, Step, Answers, Needs, NoBody, edit_needs, is_barred, is_of_no_body, kind_of}
 use Rattle.geos_model.specs.Meaning.{conditions, effect}
 use Rattle.geos_model.specs.Refusal.{Conditions, first_refusal}
 use Rattle.geos_model.specs.Reply.{Refused, reply_of_done}

@@ -1,5 +1,5 @@
 use Rattle.std.proofs.Common.{inr}
-use Rattle.doc_edits.proofs.ChunkPlans.{chunk_refused, is_in, is_at, is_built, full, planned}
+use Rattle.doc_edits.proofs.ChunkPlans.{chunk_refused, is_at, is_built, full, planned}
 use Rattle.doc_edits.proofs.Refusals.{carried}
 use Rattle.doc_edits.proofs.chunk_plans.plan_in_chunk.Goals as goal
 
@@ -13,25 +13,25 @@ returns-in_err-splice g c =
     let edit = c.args.edit.now in let d = c.args.blocks.now.document in let b = c.args.handle in let k = c.args.chunk in let m = c.heap_at-heap.result.now.chunks in let live = c.heap_at-heap.ensures in
     let bytes = c.in_ok-bytes.bytes.now in let there = c.in_ok-bytes.ensures d b.0 live in
     carried c.from_residual-in_err-splice.result _ _ c.in_err-splice.field-0.0 c.from_residual-in_err-splice.ensures.1
-    (c.in_err-splice.ensures d (is_in edit d b k c.requires.place m live bytes there) (is_at edit d b k c.requires.place m live bytes there))
+    (c.in_err-splice.ensures d (is_at edit d b k c.requires.place m live bytes there))
 
 pub has_room-requires-clause-built : goal.has_room-requires-clause-built
 has_room-requires-clause-built g c =
     let edit = c.args.edit.now in let d = c.args.blocks.now.document in let b = c.args.handle in let k = c.args.chunk in let m = c.heap_at-heap.result.now.chunks in let live = c.heap_at-heap.ensures in
     let bytes = c.in_ok-bytes.bytes.now in let there = c.in_ok-bytes.ensures d b.0 live in
-    let built = c.in_ok-splice.ensures d (is_in edit d b k c.requires.place m live bytes there) (is_at edit d b k c.requires.place m live bytes there) in
+    let built = c.in_ok-splice.ensures d (is_at edit d b k c.requires.place m live bytes there) in
     is_built edit d b k c.requires.place m live bytes there c.in_ok-splice.splice c.in_ok-splice.done built
 
 pub returns-then-not-has_room : goal.returns-then-not-has_room
 returns-then-not-has_room g c =
     let edit = c.args.edit.now in let d = c.args.blocks.now.document in let b = c.args.handle in let k = c.args.chunk in let m = c.heap_at-heap.result.now.chunks in let live = c.heap_at-heap.ensures in
     let bytes = c.in_ok-bytes.bytes.now in let there = c.in_ok-bytes.ensures d b.0 live in
-    let built = c.in_ok-splice.ensures d (is_in edit d b k c.requires.place m live bytes there) (is_at edit d b k c.requires.place m live bytes there) in
+    let built = c.in_ok-splice.ensures d (is_at edit d b k c.requires.place m live bytes there) in
     inr (full edit d b k c.requires.place m live bytes there c.in_ok-splice.splice c.in_ok-splice.done built c.if-not-has_room.ensures)
 
 pub returns : goal.returns
 returns g c =
     let edit = c.args.edit.now in let d = c.args.blocks.now.document in let b = c.args.handle in let k = c.args.chunk in let m = c.heap_at-heap.result.now.chunks in let live = c.heap_at-heap.ensures in
     let bytes = c.in_ok-bytes.bytes.now in let there = c.in_ok-bytes.ensures d b.0 live in
-    let built = c.in_ok-splice.ensures d (is_in edit d b k c.requires.place m live bytes there) (is_at edit d b k c.requires.place m live bytes there) in
+    let built = c.in_ok-splice.ensures d (is_at edit d b k c.requires.place m live bytes there) in
     planned edit d b k c.requires.place m live bytes there c.in_ok-splice.splice c.in_ok-splice.done built c.if-not-has_room.ensures
