@@ -1,9 +1,9 @@
+pub mod AddingNames
 pub mod Begun
 pub mod Calls
 pub mod Composed
 pub mod Counted
 pub mod Extending
-pub mod Failing
 pub mod Failures
 pub mod Lasting
 pub mod Lines
@@ -13,10 +13,10 @@ pub mod Names
 pub mod NewFlag
 pub mod Parses
 pub mod Replying
+pub mod Rows
 pub mod Runs
 pub mod Serving
 pub mod Spelling
 pub mod Steps
-pub mod Taken
 pub mod Telling
 pub mod Words

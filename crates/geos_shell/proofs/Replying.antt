@@ -1,7 +1,10 @@
 -- A reply's line is what is written for its request.
 use Rattle.std.proofs.Common.{◌≡◌, List, ℕ, [], ◌∷◌, ◌++◌, Bool, true, false, length, refl, ◌∙◌, sym, ap, subst, append-nil, Option, Result, Ok, OnOk, Err, Some, inr}
+use Rattle.std.specs.Prelude.{IsOkAnd, MatchResult}
 use Rattle.std.proofs.lemmas.List.{take_at}
-use Rattle.geos_model.specs.Reply.{Reply}
+use Rattle.geos_model.specs.Reply.{Reply, reply_by, reply_of}
+use Rattle.geos_model.specs.declared.fault.Fault.{Fault}
+use Rattle.geos_model.specs.declared.reply.Reply.{Reply as GivenReply}
 use Rattle.geos_model.specs.Machine.{Request, Step}
 use Rattle.geos_model.specs.Script.{reply_line, reply_text}
 use Rattle.geos_model.specs.declared.command.Command.{Command}
@@ -87,3 +90,28 @@ pub extends_told : {S T E : Type 0} (put : Result T E) (facts : S → StoreFacts
     → Told put facts old c new before after → OnOk put (Extends before after)
 extends_told (Ok x) facts old new c before after t = extends_by before (reply_text t.reply) after t.text
 extends_told (Err e) facts old new c before after t = tt
+
+-- what a call of a session answers, made a reply
+pub mapped : {T : Type 0} (f : T → Reply) (made : T → GivenReply → Type 0) (r : Result T Fault) (m : Result GivenReply Fault)
+    → MatchResult r (λ x. IsOkAnd m (made x)) (λ e. m ≡ Err e) → ((x : T) (y : GivenReply) → made x y → reply_of y ≡ f x) → reply_by reply_of m ≡ reply_by f r
+mapped f made (Ok x) (Ok y) so same = same x y so
+mapped f made (Ok x) (Err e) so same = absurd so
+mapped f made (Err e) m so same = rw so refl
+
+module _ {S T E A : Type 0} (facts : S → StoreFacts) (put : Result T E) (c : Command) (f : A → Reply) (made : A → GivenReply → Type 0) (r : Result A Fault) (m : Result GivenReply Fault)
+    (before after : List ℕ) (is : MatchResult r (λ x. IsOkAnd m (made x)) (λ e. m ≡ Err e)) (same : (x : A) (y : GivenReply) → made x y → reply_of y ≡ f x)
+    (said : OnOk put (after ≡ before ++ reply_text (reply_by reply_of m))) where
+  put_so : OnOk put (after ≡ before ++ reply_text (reply_by f r))
+  put_so = subst (λ (x : Reply). OnOk put (after ≡ before ++ reply_text x)) (mapped f made r m is same) said
+
+  -- a look-up whose answer is made a reply, and that put
+  pub told_mapped : (old new : SessionState S) → IsStep facts old new c (reply_by f r) → Passes facts old.disk new.disk → Told put facts old c new before after
+  told_mapped old new step passes = told facts put c (reply_by f r) before after old new step passes put_so
+
+  -- and one that calls no store
+  pub told_mapped_at_rest : (s : SessionState S) → ((target : Bool) → Step false (machine_of target s) (Some c) (reply_by f r) (machine_of target s)) → Told put facts s c s before after
+  told_mapped_at_rest s step = told_at_rest facts put c (reply_by f r) before after s step put_so
+
+  -- what is served, whose answer is made a reply, and that put
+  pub replied_mapped : (old new : Holding S) → Serves facts old (Some c) (reply_by f r) new → Replied put facts old c new before after
+  replied_mapped old new serves = replied facts put old new c (reply_by f r) before after serves put_so

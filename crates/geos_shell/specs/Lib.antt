@@ -1,6 +1,7 @@
 pub mod Files
 pub mod Given
 pub mod Holdings
+pub mod Making
 pub mod Options
 pub mod Outcome
 pub mod Program
@@ -8,4 +9,3 @@ pub mod Progress
 pub mod Reading
 pub mod Replies
 pub mod Runs
-pub mod Verbs

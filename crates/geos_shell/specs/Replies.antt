@@ -14,35 +14,21 @@ use Rattle.geos_shell.specs.Holdings.{Holding, MayServe, Serves}
 abbrev pub Extends : List ℕ → List ℕ → Type 0
 Extends old new = take (length old) new ≡ old
 
--- a command that asks of a name array
-abbrev pub asks_names : Command → Bool
-asks_names (commands.NameFind b c name) = true
-asks_names (commands.NameReferences b c t) = true
-asks_names (commands.NameText b c t) = true
-asks_names (commands.NamePart b c t) = true
-asks_names _ = false
-
--- a command that asks of an element array or a name array
-abbrev pub asks_slots : Command → Bool
-asks_slots (commands.ElementReferences b c t) = true
-asks_slots (commands.ElementBytes b c t) = true
-asks_slots (commands.ElementsUsed b c) = true
-asks_slots (commands.TokenOfUsed b c k) = true
-asks_slots (commands.UsedOfToken b c t) = true
-asks_slots command = asks_names command
-
--- a command that asks of an array of any kind
-abbrev pub asks_array : Command → Bool
-asks_array (commands.ArrayCount b c) = true
-asks_array (commands.ArrayElement b c i) = true
-asks_array command = asks_slots command
-
--- a command that asks of a chain
-abbrev pub asks_chain : Command → Bool
-asks_chain (commands.Walk b) = true
-asks_chain (commands.ChainSize b) = true
-asks_chain (commands.ChainEqual b other) = true
-asks_chain command = asks_array command
+-- a command that asks of a chunk
+abbrev pub asks_chunk : Command → Bool
+asks_chunk (commands.Read b c) = true
+asks_chunk (commands.ArrayCount b c) = true
+asks_chunk (commands.ArrayElement b c i) = true
+asks_chunk (commands.ElementReferences b c t) = true
+asks_chunk (commands.ElementBytes b c t) = true
+asks_chunk (commands.ElementsUsed b c) = true
+asks_chunk (commands.TokenOfUsed b c k) = true
+asks_chunk (commands.UsedOfToken b c t) = true
+asks_chunk (commands.NameFind b c t) = true
+asks_chunk (commands.NameReferences b c t) = true
+asks_chunk (commands.NameText b c t) = true
+asks_chunk (commands.NamePart b c t) = true
+asks_chunk _ = false
 
 -- a command that only asks
 abbrev pub is_look_up : Command → Bool
@@ -53,11 +39,13 @@ is_look_up (commands.Find uid start) = true
 is_look_up commands.MapBlock = true
 is_look_up (commands.ReadRaw b) = true
 is_look_up (commands.Chunks b) = true
-is_look_up (commands.Read b c) = true
 is_look_up (commands.Locks b) = true
+is_look_up (commands.Walk b) = true
+is_look_up (commands.ChainSize b) = true
+is_look_up (commands.ChainEqual b other) = true
 is_look_up commands.Undos = true
 is_look_up commands.Redos = true
-is_look_up command = asks_chain command
+is_look_up command = asks_chunk command
 
 -- a command that asks of no block's body
 abbrev pub asks_no_body : Command → Bool

@@ -3,7 +3,7 @@ ghost use Rattle.geos_model.specs.Script.{command};
 ghost use Rattle.geos_model.specs.Script as script;
 ghost use Rattle.geos_shell.specs.Reading.{Reads, command_has_bytes};
 
-use crate::verbs::{Verb, command_of};
+use crate::verbs::command_of;
 use arrayvec::ArrayVec;
 use bstr::ByteSlice;
 use geos_model::{Command, Fault};
@@ -43,10 +43,7 @@ fn command_of_words(alloc: Global, first: &[&[u8]]) -> Result<Command, Fault>
     if name.starts_with(b"#") {
         return Ok(Command::Blank);
     }
-    match Verb::named(name) {
-        Some(verb) => command_of(alloc, verb, operands),
-        None => Err(Fault::BadCommand),
-    }
+    command_of(alloc, name, operands)
 }
 
 /// The first of the longest runs of bytes that aren't blanks, at most so many.

@@ -1,116 +1,100 @@
-ghost use Rattle.std.specs.Prelude.{◌≡◌, ◌≢◌, true, OnOk, OnErr, Some, IsTrue};
+ghost use Rattle.std.specs.Prelude.{◌≡◌, ◌≢◌, ◌++◌, true, OnOk, OnErr, Some, IsTrue};
 ghost use Rattle.geos_model.specs.Reply.{Accepted, reply_by};
-ghost use Rattle.geos_model.specs.Script.{command};
+ghost use Rattle.geos_model.specs.Script.{command, reply_text};
 ghost use Rattle.geos_model.specs.declared.command.Command.TheVariants as commands;
 ghost use Rattle.geos_shell.specs.Holdings.{AreExact, MayServe, Serves, held};
-ghost use Rattle.geos_shell.specs.Replies.{Extends, Replied, Responds, Told, asks_array, asks_chain, asks_names, asks_no_body, asks_slots, is_look_up};
+ghost use Rattle.geos_shell.specs.Replies.{Extends, Replied, Responds, Told, asks_chunk, asks_no_body, is_look_up};
 
 use crate::parser::parse;
-use crate::text;
-use geos_model::{Command, Fault};
+use crate::text::push_reply;
+use geos_model::{Command, Fault, Reply, VmHandle};
 use std::alloc::{AllocError, Global};
 use undo_log::Session;
 use vm_store::Store;
 
-// Puts the reply to a look-up of a name array behind `out`, without its line feed.
-fn push_name_look_up<S: Store>(
+// Puts the reply to a look-up into a chunk behind `out`, without its line feed.
+fn push_chunk_look_up<S: Store>(
     alloc: Global,
     session: &mut Session<S>,
     look_up: &Command,
     out: &mut Vec<u8>,
 ) -> Result<(), AllocError>
-    requires { IsTrue (asks_names look_up.now) }
+    requires { IsTrue (asks_chunk look_up.now) }
     ensures told { Told result S.facts session.old look_up.now session.new out.old.items out.new.items }
     ensures err { OnErr result (Extends out.old.items out.new.items) }
 {
     match look_up {
-        Command::NameFind(block, chunk, name) => {
-            text::push_token(alloc, out, session.name_find(*block, *chunk, name))
+        Command::Read(block, chunk) => {
+            let reply = session.read_chunk(*block, *chunk).map(Reply::Bytes);
+            push_reply(alloc, out, reply)
         }
-        Command::NameReferences(block, chunk, token) => {
-            text::push_u32(alloc, out, session.name_refs(*block, *chunk, *token))
-        }
-        Command::NameText(block, chunk, token) => {
-            text::push_bytes(alloc, out, session.name_text(*block, *chunk, *token))
-        }
-        Command::NamePart(block, chunk, token) => {
-            text::push_bytes(alloc, out, session.name_part(*block, *chunk, *token))
-        }
-        _ => unreachable!(),
-    }
-}
-
-// Puts the reply to a look-up of an element array or a name array behind `out`, without its line feed.
-fn push_slot_look_up<S: Store>(
-    alloc: Global,
-    session: &mut Session<S>,
-    look_up: &Command,
-    out: &mut Vec<u8>,
-) -> Result<(), AllocError>
-    requires { IsTrue (asks_slots look_up.now) }
-    ensures told { Told result S.facts session.old look_up.now session.new out.old.items out.new.items }
-    ensures err { OnErr result (Extends out.old.items out.new.items) }
-{
-    match look_up {
-        Command::ElementReferences(block, chunk, token) => {
-            text::push_u32(alloc, out, session.element_refs(*block, *chunk, *token))
-        }
-        Command::ElementBytes(block, chunk, token) => {
-            text::push_bytes(alloc, out, session.element_bytes(*block, *chunk, *token))
-        }
-        Command::ElementsUsed(block, chunk) => {
-            text::push_array_count(alloc, out, session.elements_used(*block, *chunk))
-        }
-        Command::TokenOfUsed(block, chunk, k) => {
-            text::push_token(alloc, out, session.token_of_used(*block, *chunk, *k))
-        }
-        Command::UsedOfToken(block, chunk, token) => {
-            text::push_array_count(alloc, out, session.used_of_token(*block, *chunk, *token))
-        }
-        name_look_up => push_name_look_up(alloc, session, name_look_up, out),
-    }
-}
-
-// Puts the reply to a look-up of an array of any kind behind `out`, without its line feed.
-fn push_array_look_up<S: Store>(
-    alloc: Global,
-    session: &mut Session<S>,
-    look_up: &Command,
-    out: &mut Vec<u8>,
-) -> Result<(), AllocError>
-    requires { IsTrue (asks_array look_up.now) }
-    ensures told { Told result S.facts session.old look_up.now session.new out.old.items out.new.items }
-    ensures err { OnErr result (Extends out.old.items out.new.items) }
-{
-    match look_up {
         Command::ArrayCount(block, chunk) => {
-            text::push_array_count(alloc, out, session.array_count(*block, *chunk))
+            push_reply(
+                alloc,
+                out,
+                session
+                    .array_count(*block, *chunk)
+                    .map(|n| Reply::Number(n as u64)),
+            )
         }
         Command::ArrayElement(block, chunk, i) => {
-            text::push_bytes(alloc, out, session.array_element(*block, *chunk, *i))
+            let reply = session.array_element(*block, *chunk, *i).map(Reply::Bytes);
+            push_reply(alloc, out, reply)
         }
-        slot_look_up => push_slot_look_up(alloc, session, slot_look_up, out),
-    }
-}
-
-// Puts the reply to a look-up of a chain or of an array of any kind behind `out`, without its line feed.
-fn push_chain_look_up<S: Store>(
-    alloc: Global,
-    session: &mut Session<S>,
-    look_up: &Command,
-    out: &mut Vec<u8>,
-) -> Result<(), AllocError>
-    requires { IsTrue (asks_chain look_up.now) }
-    ensures told { Told result S.facts session.old look_up.now session.new out.old.items out.new.items }
-    ensures err { OnErr result (Extends out.old.items out.new.items) }
-{
-    match look_up {
-        Command::Walk(root) => text::push_blocks(alloc, out, session.walk(*root)),
-        Command::ChainSize(root) => { text::push_u32(alloc, out, session.chain_size(*root)) }
-        Command::ChainEqual(first, second) => {
-            text::push_equal(alloc, out, session.chain_equal(*first, *second))
+        Command::ElementReferences(block, chunk, token) => {
+            let reply = session
+                .element_refs(*block, *chunk, *token)
+                .map(|n| Reply::Number(u64::from(n)));
+            push_reply(alloc, out, reply)
         }
-        array_look_up => push_array_look_up(alloc, session, array_look_up, out),
+        Command::ElementBytes(block, chunk, token) => {
+            let reply = session
+                .element_bytes(*block, *chunk, *token)
+                .map(Reply::Bytes);
+            push_reply(alloc, out, reply)
+        }
+        Command::ElementsUsed(block, chunk) => {
+            push_reply(
+                alloc,
+                out,
+                session
+                    .elements_used(*block, *chunk)
+                    .map(|n| Reply::Number(n as u64)),
+            )
+        }
+        Command::TokenOfUsed(block, chunk, k) => {
+            let reply = session
+                .token_of_used(*block, *chunk, *k)
+                .map(|token| Reply::Token(token));
+            push_reply(alloc, out, reply)
+        }
+        Command::UsedOfToken(block, chunk, token) => {
+            let reply = session
+                .used_of_token(*block, *chunk, *token)
+                .map(|n| Reply::Number(n as u64));
+            push_reply(alloc, out, reply)
+        }
+        Command::NameFind(block, chunk, name) => {
+            let reply = session
+                .name_find(*block, *chunk, name)
+                .map(|token| Reply::Token(token));
+            push_reply(alloc, out, reply)
+        }
+        Command::NameReferences(block, chunk, token) => {
+            let reply = session
+                .name_refs(*block, *chunk, *token)
+                .map(|n| Reply::Number(u64::from(n)));
+            push_reply(alloc, out, reply)
+        }
+        Command::NameText(block, chunk, token) => {
+            let reply = session.name_text(*block, *chunk, *token).map(Reply::Bytes);
+            push_reply(alloc, out, reply)
+        }
+        Command::NamePart(block, chunk, token) => {
+            let reply = session.name_part(*block, *chunk, *token).map(Reply::Bytes);
+            push_reply(alloc, out, reply)
+        }
+        _ => unreachable!(),
     }
 }
 
@@ -127,20 +111,60 @@ fn push_look_up<S: Store>(
     ensures err { OnErr result (Extends out.old.items out.new.items) }
 {
     match look_up {
-        Command::Info(block) => text::push_info(alloc, out, session.info(*block)),
-        Command::HeapType(block) => text::push_heap_type(alloc, out, session.heap_type(*block)),
-        Command::List => text::push_blocks(alloc, out, session.list()),
-        Command::Find(user_id, start) => text::push_found(out, session.find(*user_id, *start)),
-        Command::MapBlock => text::push_block(out, session.map_block()),
-        Command::ReadRaw(block) => text::push_bytes(alloc, out, session.read_raw(*block)),
-        Command::Chunks(block) => text::push_chunks(alloc, out, session.chunks(*block)),
-        Command::Read(block, chunk) => {
-            text::push_bytes(alloc, out, session.read_chunk(*block, *chunk))
+        Command::Info(block) => push_reply(
+            alloc,
+            out,
+            session.info(*block).map(|info| Reply::Info(info)),
+        ),
+        Command::HeapType(block) => {
+            let reply = session
+                .heap_type(*block)
+                .map(|n| Reply::Number(u64::from(n)));
+            push_reply(alloc, out, reply)
         }
-        Command::Locks(block) => text::push_lock_count(alloc, out, session.locks(*block)),
-        Command::Undos => text::push_count(alloc, out, session.undo_count()),
-        Command::Redos => text::push_count(alloc, out, session.redo_count()),
-        chain_look_up => push_chain_look_up(alloc, session, chain_look_up, out),
+        Command::List => push_reply(
+            alloc,
+            out,
+            session.list().map(|blocks| Reply::Blocks(blocks)),
+        ),
+        Command::Find(user_id, start) => {
+            let found = session.find(*user_id, *start).unwrap_or(VmHandle(0));
+            push_reply(alloc, out, Ok(Reply::Block(found)))
+        }
+        Command::MapBlock => push_reply(alloc, out, Ok(Reply::Block(session.map_block()))),
+        Command::ReadRaw(block) => {
+            push_reply(alloc, out, session.read_raw(*block).map(Reply::Bytes))
+        }
+        Command::Chunks(block) => push_reply(
+            alloc,
+            out,
+            session.chunks(*block).map(|chunks| Reply::Chunks(chunks)),
+        ),
+        Command::Locks(block) => {
+            let reply = session.locks(*block).map(|n| Reply::Number(u64::from(n)));
+            push_reply(alloc, out, reply)
+        }
+        Command::Walk(root) => push_reply(
+            alloc,
+            out,
+            session.walk(*root).map(|blocks| Reply::Blocks(blocks)),
+        ),
+        Command::ChainSize(root) => push_reply(
+            alloc,
+            out,
+            session
+                .chain_size(*root)
+                .map(|n| Reply::Number(u64::from(n))),
+        ),
+        Command::ChainEqual(first, second) => {
+            let reply = session
+                .chain_equal(*first, *second)
+                .map(|equal| Reply::Equal(equal));
+            push_reply(alloc, out, reply)
+        }
+        Command::Undos => push_reply(alloc, out, Ok(Reply::Number(session.undo_count() as u64))),
+        Command::Redos => push_reply(alloc, out, Ok(Reply::Number(session.redo_count() as u64))),
+        chunk_look_up => push_chunk_look_up(alloc, session, chunk_look_up, out),
     }
 }
 
@@ -176,9 +200,20 @@ fn save_as<S: Store>(
     }
 }
 
+fn push_accepted(
+    alloc: Global,
+    out: &mut Vec<u8>,
+    done: Result<(), Fault>,
+) -> Result<(), AllocError>
+    ensures ok { OnOk result (out.new.items ≡ out.old.items ++ reply_text (reply_by (λ _. Accepted) done)) }
+    ensures err { OnErr result (Extends out.old.items out.new.items) }
+{
+    push_reply(alloc, out, done.map(|()| Reply::Accepted))
+}
+
 // Carries out a command that gets a reply, and puts the reply's text behind `out`. Where memory is wanting, a part of it may stand
 // there.
-fn push_reply<S: Store>(
+fn push_response<S: Store>(
     alloc: Global,
     session: &mut Session<S>,
     target: &mut Option<S>,
@@ -193,19 +228,23 @@ fn push_reply<S: Store>(
     ensures err { OnErr result (Extends out.old.items out.new.items) }
 {
     match command {
-        Command::Edit(edit) => text::push_done(alloc, out, session.edit(edit)),
-        Command::Undo => text::push_accepted(alloc, out, session.undo()),
-        Command::Redo => text::push_accepted(alloc, out, session.redo()),
-        Command::Begin => text::push_accepted(alloc, out, session.begin()),
-        Command::End => text::push_accepted(alloc, out, session.end()),
-        Command::Abandon => text::push_accepted(alloc, out, session.abandon()),
-        Command::Update => text::push_accepted(alloc, out, session.update()),
-        Command::Save => text::push_accepted(alloc, out, session.save()),
-        Command::Revert => text::push_accepted(alloc, out, session.revert()),
-        Command::SaveAs => text::push_accepted(alloc, out, save_as(session, target, former)),
-        Command::Lock(block) => text::push_accepted(alloc, out, session.lock(*block)),
-        Command::Unlock(block) => text::push_accepted(alloc, out, session.unlock(*block)),
-        Command::Dirty(block) => text::push_accepted(alloc, out, session.dirty(*block)),
+        Command::Edit(edit) => push_reply(
+            alloc,
+            out,
+            session.edit(edit).map(|done| Reply::from(done)),
+        ),
+        Command::Undo => push_accepted(alloc, out, session.undo()),
+        Command::Redo => push_accepted(alloc, out, session.redo()),
+        Command::Begin => push_accepted(alloc, out, session.begin()),
+        Command::End => push_accepted(alloc, out, session.end()),
+        Command::Abandon => push_accepted(alloc, out, session.abandon()),
+        Command::Update => push_accepted(alloc, out, session.update()),
+        Command::Save => push_accepted(alloc, out, session.save()),
+        Command::Revert => push_accepted(alloc, out, session.revert()),
+        Command::SaveAs => push_accepted(alloc, out, save_as(session, target, former)),
+        Command::Lock(block) => push_accepted(alloc, out, session.lock(*block)),
+        Command::Unlock(block) => push_accepted(alloc, out, session.unlock(*block)),
+        Command::Dirty(block) => push_accepted(alloc, out, session.dirty(*block)),
         look_up => push_look_up(alloc, session, look_up, out),
     }
 }
@@ -228,7 +267,7 @@ fn respond<S: Store>(
     match command {
         Command::Blank => Ok(()),
         replied => {
-            push_reply(alloc, session, target, former, replied, out)?;
+            push_response(alloc, session, target, former, replied, out)?;
             Ok(out.push(b'\n')?)
         }
     }
@@ -252,7 +291,7 @@ fn push_answer<S: Store>(
     match parse(alloc, line) {
         Ok(command) => respond(alloc, session, target, former, &command, out),
         Err(Fault::BadCommand) => {
-            text::push_refusal(alloc, out, Fault::BadCommand)?;
+            push_reply(alloc, out, Err(Fault::BadCommand))?;
             Ok(out.push(b'\n')?)
         }
         // The line found no memory.

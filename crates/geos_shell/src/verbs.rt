@@ -1,158 +1,192 @@
-ghost use Rattle.std.specs.Prelude.{◌≡◌, None, MatchOption, List, ℕ, map};
+//! The commands by their names, with what their operands make.
+ghost use Rattle.std.specs.Prelude.{◌≡◌, map};
+ghost use Rattle.geos_model.specs.Script.{block, bytes as spelled_bytes, chunk, is_set, same_bytes, with_5};
+ghost use Rattle.geos_model.specs.declared.command.Command.TheVariants as commands;
+ghost use Rattle.geos_model.specs.declared.command.Edit.TheVariants as edits;
+ghost use Rattle.geos_shell.specs.Making.{MakesCommand, ReadsRows, named_from};
 ghost use Rattle.geos_shell.specs.Reading.{Reads, command_has_bytes};
-ghost use Rattle.geos_shell.specs.Verbs.{command_named, rows, takes};
-ghost use Rattle.geos_model.specs.Script.{by_name};
 
-use crate::shapes::{
-    self, Alone, Change, Make, OnBlock, OnChunk, OnToken, Pair, Plain, Put, SetWord, Single,
-    WithBytes,
-};
-use geos_model::{Command, Fault};
+use crate::operands::{Operand, bytes, spells_bytes};
+use crate::shapes::{four, none, one, one_and_bytes, three, three_and_bytes, two, two_and_bytes};
+use geos_model::{ChunkHandle, Command, Edit, Fault, VmHandle};
 use std::alloc::Global;
 
-/// What the first word of a line asks for. Verbs that take operands of the same kinds stand together.
-#[derive(Clone, Copy)]
-pub(crate) enum Verb {
-    NewRaw,
-    NewHeap,
-    WriteRaw,
-    Attach,
-    CreateArray,
-    Find,
-    ChainEqual,
-    Alone(Alone),
-    Block(OnBlock),
-    SetWord(SetWord),
-    Make(Make),
-    Chunk(OnChunk),
-}
-
-/// Each verb by its name.
-const VERBS: [(&[u8], Verb); 70] = [
-    (b"newraw", Verb::NewRaw),
-    (b"newheap", Verb::NewHeap),
-    (b"vfree", Verb::Block(OnBlock::Free)),
-    (b"vcopy", Verb::Block(OnBlock::Copy)),
-    (b"vwrite", Verb::WriteRaw),
-    (b"attach", Verb::Attach),
-    (b"uid", Verb::SetWord(SetWord::UserId)),
-    (b"settype", Verb::SetWord(SetWord::HeapType)),
-    (b"map", Verb::Block(OnBlock::SetMap)),
-    (b"alloc", Verb::Make(Make::Chunk)),
-    (b"free", Verb::Chunk(OnChunk::Plain(Plain::Free))),
-    (b"resize", Verb::Chunk(OnChunk::Single(Single::Resize))),
-    (b"insert", Verb::Chunk(OnChunk::Pair(Pair::Insert))),
-    (b"delete", Verb::Chunk(OnChunk::Pair(Pair::Delete))),
-    (b"write", Verb::Chunk(OnChunk::Put(Put::Write))),
-    (b"acreate", Verb::CreateArray),
-    (b"ainsert", Verb::Chunk(OnChunk::Put(Put::InsertElement))),
-    (b"aset", Verb::Chunk(OnChunk::Put(Put::SetElement))),
-    (b"aresize", Verb::Chunk(OnChunk::Pair(Pair::ResizeElement))),
-    (b"adelete", Verb::Chunk(OnChunk::Pair(Pair::DeleteElements))),
-    (b"azero", Verb::Chunk(OnChunk::Plain(Plain::ZeroArray))),
-    (b"ecreate", Verb::Make(Make::ElementArray)),
-    (b"eadd", Verb::Chunk(OnChunk::Bytes(WithBytes::AddElement))),
-    (b"eref", Verb::Chunk(OnChunk::Token(OnToken::AddReference))),
-    (
-        b"eunref",
-        Verb::Chunk(OnChunk::Token(OnToken::RemoveReference)),
-    ),
-    (
-        b"edelete",
-        Verb::Chunk(OnChunk::Token(OnToken::DeleteElement)),
-    ),
-    (b"echange", Verb::Chunk(OnChunk::Change(Change::Element))),
-    (b"ncreate", Verb::Make(Make::NameArray)),
-    (b"nadd", Verb::Chunk(OnChunk::AddName)),
-    (b"nname", Verb::Chunk(OnChunk::Change(Change::Name))),
-    (b"nunref", Verb::Chunk(OnChunk::Token(OnToken::RemoveName))),
-    (b"chcopy", Verb::Block(OnBlock::CopyChain)),
-    (b"chfree", Verb::Block(OnBlock::FreeChain)),
-    (b"undo", Verb::Alone(Alone::Undo)),
-    (b"redo", Verb::Alone(Alone::Redo)),
-    (b"begin", Verb::Alone(Alone::Begin)),
-    (b"end", Verb::Alone(Alone::End)),
-    (b"abandon", Verb::Alone(Alone::Abandon)),
-    (b"update", Verb::Alone(Alone::Update)),
-    (b"save", Verb::Alone(Alone::Save)),
-    (b"revert", Verb::Alone(Alone::Revert)),
-    (b"saveas", Verb::Alone(Alone::SaveAs)),
-    (b"info", Verb::Block(OnBlock::Info)),
-    (b"gettype", Verb::Block(OnBlock::HeapType)),
-    (b"list", Verb::Alone(Alone::List)),
-    (b"find", Verb::Find),
-    (b"mapblock", Verb::Alone(Alone::MapBlock)),
-    (b"vread", Verb::Block(OnBlock::Read)),
-    (b"chunks", Verb::Block(OnBlock::Chunks)),
-    (b"read", Verb::Chunk(OnChunk::Plain(Plain::Read))),
-    (b"acount", Verb::Chunk(OnChunk::Plain(Plain::ArrayCount))),
-    (b"aget", Verb::Chunk(OnChunk::Single(Single::ArrayElement))),
-    (
-        b"ecount",
-        Verb::Chunk(OnChunk::Token(OnToken::ElementReferences)),
-    ),
-    (b"edata", Verb::Chunk(OnChunk::Token(OnToken::ElementBytes))),
-    (b"eused", Verb::Chunk(OnChunk::Plain(Plain::ElementsUsed))),
-    (b"etoken", Verb::Chunk(OnChunk::Single(Single::TokenOfUsed))),
-    (b"eindex", Verb::Chunk(OnChunk::Token(OnToken::UsedOfToken))),
-    (b"nfind", Verb::Chunk(OnChunk::Bytes(WithBytes::NameFind))),
-    (
-        b"ncount",
-        Verb::Chunk(OnChunk::Token(OnToken::NameReferences)),
-    ),
-    (b"ntext", Verb::Chunk(OnChunk::Token(OnToken::NameText))),
-    (b"ndata", Verb::Chunk(OnChunk::Token(OnToken::NamePart))),
-    (b"walk", Verb::Block(OnBlock::Walk)),
-    (b"chsize", Verb::Block(OnBlock::ChainSize)),
-    (b"chequal", Verb::ChainEqual),
-    (b"lock", Verb::Block(OnBlock::Lock)),
-    (b"unlock", Verb::Block(OnBlock::Unlock)),
-    (b"dirty", Verb::Block(OnBlock::Dirty)),
-    (b"locks", Verb::Block(OnBlock::Locks)),
-    (b"undos", Verb::Alone(Alone::Undos)),
-    (b"redos", Verb::Alone(Alone::Redos)),
-];
-
-impl Verb {
-    /// The verb of a name, if it is one's.
-    pub(crate) fn named(name: &[u8]) -> Option<Self>
-        ensures { (operands : List (List ℕ)) → MatchOption result
-            (command_named name.now operands ≡ None)
-            (λ verb. command_named name.now operands ≡ takes verb operands) }
-    {
-        look_up(&VERBS, name)
-    }
-}
-
-fn look_up(table: &[(&[u8], Verb)], name: &[u8]) -> Option<Verb>
-    ensures { (operands : List (List ℕ)) → MatchOption result
-        (by_name name.now operands (rows table.now) ≡ None)
-        (λ verb. by_name name.now operands (rows table.now) ≡ takes verb operands) }
+/// The command that a name and its operands are.
+pub(crate) fn command_of(alloc: Global, name: &[u8], words: &[&[u8]]) -> Result<Command, Fault>
+    ensures { Reads command_has_bytes (named_from 0 name.now (map (λ w. w.now) words.now)) result }
 {
-    for (known, verb) in table {
-        if name == *known {
-            return Some(*verb);
-        }
+    if let Some(edit) = block_edit(alloc, name, words) {
+        return edit.map(Command::Edit);
     }
-    None
+    if let Some(edit) = chunk_edit(alloc, name, words) {
+        return edit.map(Command::Edit);
+    }
+    if let Some(edit) = slot_edit(alloc, name, words) {
+        return edit.map(Command::Edit);
+    }
+    if let Some(command) = session_command(name, words) {
+        return command;
+    }
+    if let Some(command) = look_up(alloc, name, words) {
+        return command;
+    }
+    chain_or_lock(name, words).unwrap_or(Err(Fault::BadCommand))
 }
 
-/// The command that a verb and its operands are.
-pub(crate) fn command_of(alloc: Global, verb: Verb, operands: &[&[u8]]) -> Result<Command, Fault>
-    ensures { Reads command_has_bytes (takes verb (map (λ w. w.now) operands.now)) result }
+/// What the row with the name makes, if there is one.
+macro_rules! row_of {
+    ($name:expr; $($text:literal => $made:expr,)*) => {
+        $(if is($name, $text) {
+            return Some($made);
+        })*
+        None
+    };
+}
+
+fn is(name: &[u8], text: &[u8]) -> bool
+    ensures { result ≡ same_bytes name.now text.now }
 {
-    match verb {
-        Verb::NewRaw => shapes::new_raw(operands),
-        Verb::NewHeap => shapes::new_heap(operands),
-        Verb::WriteRaw => shapes::write_raw(alloc, operands),
-        Verb::Attach => shapes::attach(alloc, operands),
-        Verb::CreateArray => shapes::create_array(operands),
-        Verb::Find => shapes::find(operands),
-        Verb::ChainEqual => shapes::chain_equal(operands),
-        Verb::Alone(verb) => verb.read(operands),
-        Verb::Block(verb) => verb.read(operands),
-        Verb::SetWord(verb) => verb.read(operands),
-        Verb::Make(verb) => verb.read(operands),
-        Verb::Chunk(verb) => verb.read(alloc, operands),
+    name == text
+}
+
+/// Edits of blocks.
+#[tactic(none)]
+fn block_edit(alloc: Global, name: &[u8], words: &[&[u8]]) -> Option<Result<Edit, Fault>>
+    ensures { ReadsRows commands.Edit 0 9 name.now (map (λ w. w.now) words.now) result }
+{
+    row_of! { name;
+        b"newraw" => two(words, Edit::NewRaw),
+        b"newheap" => one(words, Edit::NewHeap),
+        b"vfree" => one(words, Edit::FreeBlock),
+        b"vcopy" => one(words, Edit::CopyBlock),
+        b"vwrite" => two_and_bytes(alloc, words, Edit::WriteRaw),
+        b"attach" => one_and_bytes(alloc, words, Edit::Attach),
+        b"uid" => two(words, Edit::SetUserId),
+        b"settype" => two(words, Edit::SetType),
+        b"map" => one(words, Edit::SetMap),
     }
+}
+
+/// Edits of chunks and of arrays.
+#[tactic(none)]
+fn chunk_edit(alloc: Global, name: &[u8], words: &[&[u8]]) -> Option<Result<Edit, Fault>>
+    ensures { ReadsRows commands.Edit 9 21 name.now (map (λ w. w.now) words.now) result }
+{
+    row_of! { name;
+        b"alloc" => two(words, Edit::Alloc),
+        b"free" => two(words, Edit::Free),
+        b"resize" => three(words, Edit::Resize),
+        b"insert" => four(words, Edit::Insert),
+        b"delete" => four(words, Edit::Delete),
+        b"write" => three_and_bytes(alloc, words, Edit::Write),
+        b"acreate" => three(words, Edit::CreateArray),
+        b"ainsert" => three_and_bytes(alloc, words, Edit::InsertElement),
+        b"aset" => three_and_bytes(alloc, words, Edit::SetElement),
+        b"aresize" => four(words, Edit::ResizeElement),
+        b"adelete" => four(words, Edit::DeleteElements),
+        b"azero" => two(words, Edit::ZeroArray),
+    }
+}
+
+/// Edits of element arrays, name arrays and chains.
+#[tactic(none)]
+fn slot_edit(alloc: Global, name: &[u8], words: &[&[u8]]) -> Option<Result<Edit, Fault>>
+    ensures { ReadsRows commands.Edit 21 33 name.now (map (λ w. w.now) words.now) result }
+{
+    row_of! { name;
+        b"ecreate" => two(words, Edit::CreateElementArray),
+        b"eadd" => two_and_bytes(alloc, words, Edit::AddElement),
+        b"eref" => three(words, Edit::AddReference),
+        b"eunref" => three(words, Edit::RemoveReference),
+        b"edelete" => three(words, Edit::DeleteElement),
+        b"echange" => three_and_bytes(alloc, words, Edit::ChangeElement),
+        b"ncreate" => two(words, Edit::CreateNameArray),
+        b"nadd" => add_name(alloc, words),
+        b"nname" => three_and_bytes(alloc, words, Edit::ChangeName),
+        b"nunref" => three(words, Edit::RemoveName),
+        b"chcopy" => one(words, Edit::CopyChain),
+        b"chfree" => one(words, Edit::FreeChain),
+    }
+}
+
+/// Steps and commits.
+#[tactic(none)]
+fn session_command(name: &[u8], words: &[&[u8]]) -> Option<Result<Command, Fault>>
+    ensures { ReadsRows (λ c. c) 33 42 name.now (map (λ w. w.now) words.now) result }
+{
+    row_of! { name;
+        b"undo" => none(words, Command::Undo),
+        b"redo" => none(words, Command::Redo),
+        b"begin" => none(words, Command::Begin),
+        b"end" => none(words, Command::End),
+        b"abandon" => none(words, Command::Abandon),
+        b"update" => none(words, Command::Update),
+        b"save" => none(words, Command::Save),
+        b"revert" => none(words, Command::Revert),
+        b"saveas" => none(words, Command::SaveAs),
+    }
+}
+
+/// Look-ups of blocks, chunks and arrays of any kind.
+#[tactic(none)]
+fn look_up(alloc: Global, name: &[u8], words: &[&[u8]]) -> Option<Result<Command, Fault>>
+    ensures { ReadsRows (λ c. c) 42 61 name.now (map (λ w. w.now) words.now) result }
+{
+    row_of! { name;
+        b"info" => one(words, Command::Info),
+        b"gettype" => one(words, Command::HeapType),
+        b"list" => none(words, Command::List),
+        b"find" => two(words, Command::Find),
+        b"mapblock" => none(words, Command::MapBlock),
+        b"vread" => one(words, Command::ReadRaw),
+        b"chunks" => one(words, Command::Chunks),
+        b"read" => two(words, Command::Read),
+        b"acount" => two(words, Command::ArrayCount),
+        b"aget" => three(words, Command::ArrayElement),
+        b"ecount" => three(words, Command::ElementReferences),
+        b"edata" => three(words, Command::ElementBytes),
+        b"eused" => two(words, Command::ElementsUsed),
+        b"etoken" => three(words, Command::TokenOfUsed),
+        b"eindex" => three(words, Command::UsedOfToken),
+        b"nfind" => two_and_bytes(alloc, words, Command::NameFind),
+        b"ncount" => three(words, Command::NameReferences),
+        b"ntext" => three(words, Command::NameText),
+        b"ndata" => three(words, Command::NamePart),
+    }
+}
+
+/// Look-ups of chains, and locks and counts.
+#[tactic(none)]
+fn chain_or_lock(name: &[u8], words: &[&[u8]]) -> Option<Result<Command, Fault>>
+    ensures { ReadsRows (λ c. c) 61 70 name.now (map (λ w. w.now) words.now) result }
+{
+    row_of! { name;
+        b"walk" => one(words, Command::Walk),
+        b"chsize" => one(words, Command::ChainSize),
+        b"chequal" => two(words, Command::ChainEqual),
+        b"lock" => one(words, Command::Lock),
+        b"unlock" => one(words, Command::Unlock),
+        b"dirty" => one(words, Command::Dirty),
+        b"locks" => one(words, Command::Locks),
+        b"undos" => none(words, Command::Undos),
+        b"redos" => none(words, Command::Redos),
+    }
+}
+
+/// A name, what stands before it, and whether that replaces what stands there.
+fn add_name(alloc: Global, words: &[&[u8]]) -> Result<Edit, Fault>
+    ensures { MakesCommand commands.Edit (with_5 block chunk spelled_bytes spelled_bytes is_set (λ b c name part replace. commands.Edit (edits.AddName b c name part replace)) (map (λ w. w.now) words.now)) result }
+{
+    let [block, chunk, name, part, replace] = words else {
+        return Err(Fault::BadCommand);
+    };
+    let block = VmHandle::read(block)?;
+    let chunk = ChunkHandle::read(chunk)?;
+    let replace = bool::read(replace)?;
+    // A line that is no command takes no memory, not even for its first byte text.
+    if !spells_bytes(part) {
+        return Err(Fault::BadCommand);
+    }
+    let name = bytes(alloc, name)?;
+    Ok(Edit::AddName(block, chunk, name, bytes(alloc, part)?, replace))
 }

@@ -1,13 +1,14 @@
 use Rattle.std.proofs.Common.{◌≡◌, true, refl, ap, rules}
+use Rattle.geos_model.specs.Reply.{reply_of_done}
 use Rattle.geos_shell.specs.Replies.{is_look_up}
-use Rattle.geos_shell.proofs.Replying.{extends_told, replied, replied_told}
+use Rattle.geos_shell.proofs.Replying.{extends_told, replied, replied_mapped, replied_told}
 use Rattle.geos_shell.proofs.Serving.{disk_kept, lock_passes, serves_at_rest, serves_commit, serves_passing, serves_staying, told_as_accepted}
-use Rattle.geos_shell.proofs.replies.push_reply.Goals as goal
+use Rattle.geos_shell.proofs.replies.push_response.Goals as goal
 
 -- Edits, and undo and redo, commit nothing.
 pub returns-in-Edit-clause-replied : goal.returns-in-Edit-clause-replied
 returns-in-Edit-clause-replied g c = λ exact.
-    rw c.in-Edit.is (replied g.S.Store.facts c.push_done.result _ _ _ _ _ _ (serves_passing g.S.Store.facts _ _ _ _ _ _ c.edit.ensures.passes c.edit.ensures.step (λ nothing. nothing) tt exact) c.push_done.ensures.ok)
+    rw c.in-Edit.is (replied_mapped g.S.Store.facts c.push_reply.result _ reply_of_done _ c.edit.result c.map.result _ _ c.map.ensures.cases (λ x y h. search rules) c.push_reply.ensures.ok _ _ (serves_passing g.S.Store.facts _ _ _ _ _ _ c.edit.ensures.passes c.edit.ensures.step (λ nothing. nothing) tt exact))
 
 pub returns-in-Undo-clause-replied : goal.returns-in-Undo-clause-replied
 returns-in-Undo-clause-replied g c = λ exact.

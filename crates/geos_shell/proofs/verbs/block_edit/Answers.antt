@@ -1,0 +1,45 @@
+use Rattle.std.proofs.Common.{ap, refl, ◌∙◌, codes}
+use Rattle.geos_model.specs.declared.command.Edit.TheVariants as edits
+use Rattle.geos_model.specs.Script.{block, number, user_id}
+use Rattle.geos_model.specs.declared.command.Command.TheVariants as commands
+use Rattle.geos_shell.proofs.Rows.{at_row, passed, made_1, made_2, kept_1, kept_2}
+use Rattle.geos_shell.proofs.verbs.block_edit.Goals as goal
+
+pub returns-then-is : goal.returns-then-is
+returns-then-is c = at_row 0 _ (codes "newraw") _ commands.Edit _ _ c.if-is.ensures refl (made_2 user_id number _ commands.Edit (λ u n. commands.Edit (edits.NewRaw u n)) c.args.words.now _ c.two.ensures (λ a b x h. ap commands.Edit h))
+
+pub returns-then-is-2 : goal.returns-then-is-2
+returns-then-is-2 c = at_row 0 _ (codes "newheap") _ commands.Edit _ _ c.if-is-2.ensures refl (made_1 user_id _ commands.Edit (λ u. commands.Edit (edits.NewHeap u)) c.args.words.now _ c.one.ensures (λ a x h. ap commands.Edit h))
+
+pub returns-then-is-3 : goal.returns-then-is-3
+returns-then-is-3 c = at_row 0 _ (codes "vfree") _ commands.Edit _ _ c.if-is-3.ensures refl (made_1 block _ commands.Edit (λ b. commands.Edit (edits.FreeBlock b)) c.args.words.now _ c.one-then-is-3.ensures (λ a x h. ap commands.Edit h))
+
+pub returns-then-is-4 : goal.returns-then-is-4
+returns-then-is-4 c = at_row 0 _ (codes "vcopy") _ commands.Edit _ _ c.if-is-4.ensures refl (made_1 block _ commands.Edit (λ b. commands.Edit (edits.CopyBlock b)) c.args.words.now _ c.one-then-is-4.ensures (λ a x h. ap commands.Edit h))
+
+pub returns-then-is-5 : goal.returns-then-is-5
+returns-then-is-5 c = at_row 0 _ (codes "vwrite") _ commands.Edit _ _ c.if-is-5.ensures refl (kept_2 block number _ commands.Edit (λ b at bs. commands.Edit (edits.WriteRaw b at bs)) c.args.words.now _ c.two_and_bytes.ensures (λ a b bs x h. ap commands.Edit h.1) (λ a b bs. refl))
+
+pub returns-then-is-6 : goal.returns-then-is-6
+returns-then-is-6 c = at_row 0 _ (codes "attach") _ commands.Edit _ _ c.if-is-6.ensures refl (kept_1 block _ commands.Edit (λ b bs. commands.Edit (edits.Attach b bs)) c.args.words.now _ c.one_and_bytes.ensures (λ a bs x h. ap commands.Edit h.1) (λ a bs. refl))
+
+pub returns-then-is-7 : goal.returns-then-is-7
+returns-then-is-7 c = at_row 0 _ (codes "uid") _ commands.Edit _ _ c.if-is-7.ensures refl (made_2 block user_id _ commands.Edit (λ b u. commands.Edit (edits.SetUserId b u)) c.args.words.now _ c.two-then-is-7.ensures (λ a b x h. ap commands.Edit h))
+
+pub returns-then-is-8 : goal.returns-then-is-8
+returns-then-is-8 c = at_row 0 _ (codes "settype") _ commands.Edit _ _ c.if-is-8.ensures refl (made_2 block user_id _ commands.Edit (λ b t. commands.Edit (edits.SetType b t)) c.args.words.now _ c.two-then-is-8.ensures (λ a b x h. ap commands.Edit h))
+
+pub returns-then-is-9 : goal.returns-then-is-9
+returns-then-is-9 c = at_row 0 _ (codes "map") _ commands.Edit _ _ c.if-is-9.ensures refl (made_1 block _ commands.Edit (λ b. commands.Edit (edits.SetMap b)) c.args.words.now _ c.one-then-is-9.ensures (λ a x h. ap commands.Edit h))
+
+pub returns : goal.returns
+returns c =
+    passed 0 1 c.args.name.now (codes "newraw") _ _ refl c.if-is.ensures
+    ∙ passed 1 2 c.args.name.now (codes "newheap") _ _ refl c.if-is-2.ensures
+    ∙ passed 2 3 c.args.name.now (codes "vfree") _ _ refl c.if-is-3.ensures
+    ∙ passed 3 4 c.args.name.now (codes "vcopy") _ _ refl c.if-is-4.ensures
+    ∙ passed 4 5 c.args.name.now (codes "vwrite") _ _ refl c.if-is-5.ensures
+    ∙ passed 5 6 c.args.name.now (codes "attach") _ _ refl c.if-is-6.ensures
+    ∙ passed 6 7 c.args.name.now (codes "uid") _ _ refl c.if-is-7.ensures
+    ∙ passed 7 8 c.args.name.now (codes "settype") _ _ refl c.if-is-8.ensures
+    ∙ passed 8 9 c.args.name.now (codes "map") _ _ refl c.if-is-9.ensures
