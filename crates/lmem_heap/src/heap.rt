@@ -1,3 +1,4 @@
+//! A heap of chunks in a region, seen as finite maps from chunk handles to bytes and to where they lie.
 ghost use Rattle.std.specs.Prelude.{◌≡◌, ◌⊎◌, ◌↔◌, ◌+◌, ◌*◌, ◌≤◌, ◌<◌, ℕ, true, Some, None, IsTrue, IfOk, IfErr, MatchOption, is_some, nat_lt, length, map, drop, replicate};
 ghost use Rattle.std.specs.Borrow.{sem};
 ghost use Rattle.std.specs.List.{splice};

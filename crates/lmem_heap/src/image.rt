@@ -1,3 +1,4 @@
+//! The image of a heap, its table and chunks as bytes: told, written and read.
 ghost use Rattle.std.specs.Prelude.{◌≡◌, ◌↔◌, ◌+◌, ◌*◌, ◌^◌, ◌≤◌, ◌<◌, ◌++◌, ◌∷◌, ℕ, List, true, false, Some, None, IsSome, IfSome, IfOk, OnOk, MatchOption, length, flat_map, take, drop, set, get_or};
 ghost use Rattle.std.specs.Option.{option_map};
 ghost use Rattle.geos_model.specs.Words.{word, word_at};

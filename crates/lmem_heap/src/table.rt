@@ -1,3 +1,4 @@
+//! Chunks in a region under slots, seen as a list of what each slot has and one of where its bytes lie.
 ghost use Rattle.std.specs.Prelude.{◌≡◌, ◌+◌, ◌-◌, ◌≤◌, ◌<◌, ℕ, [], ◌++◌, Some, None, IfOk, IfSome, IsSome, length, replicate, take, set, get_or, unwrap_or, slice_range, is_some, nat_lt, true, ◌==◌, if◌then◌else◌};
 ghost use Rattle.std.specs.Borrow.{sem};
 ghost use Rattle.std.specs.List.{splice};

@@ -4,7 +4,22 @@ use Rattle.geos_model.specs.File.{end_page}
 use Rattle.geos_model.specs.declared.file.Extent.{Extent}
 use Rattle.vm_space.specs.Space.{Space, AreRaised, AreTaken, IsSound}
 use Rattle.vm_space.proofs.SpaceLemmas.{lowered_from, taken-less, sound-less, sound-fewer, taken_there}
+use Rattle.vm_space.proofs.free_space.FreeSpace.release.Goals.{After-count_down}
 use Rattle.vm_space.proofs.free_space.FreeSpace.release.Goals as goal
+
+-- the counts, and the extents that are left
+lowered : (c : After-count_down) → AreRaised c.args.extent.page (end_page c.args.extent) c.count_down.new.counts c.self.inside.counts.items
+lowered c =
+    let e : Extent = c.args.extent in
+    lowered_from e.page (end_page e) c.page_behind-end.result c.self.inside.counts.items c.deref_mut.result.now c.count_down.new.counts c.deref_mut.ensures.value c.page_behind-end.ensures c.count_down.ensures
+
+left : (c : After-count_down) (rest : List Extent) → AreTaken (c.args.extent ∷ rest) c.args.self.now → AreTaken rest (record { counts = c.count_down.new.counts; count = c.self.inside.count - 1 })
+left c rest are =
+    let e : Extent = c.args.extent in
+    let old : List ℕ = c.self.inside.counts.items in
+    let before : AreTaken (e ∷ rest) (record { counts = old; count = c.self.inside.count }) = subst (λ (s : Space). AreTaken (e ∷ rest) s) (sym c.self.view_is) are in
+    let some = before.count in
+    taken-less rest e old c.count_down.new.counts c.self.inside.count (c.self.inside.count - 1) before (lowered c) (omega (arith, some))
 
 pub count_down-requires-clause-some : goal.count_down-requires-clause-some
 count_down-requires-clause-some c = λ page low high.
@@ -18,7 +33,7 @@ invariant_of-self c =
     let e : Extent = c.args.extent in
     let old : List ℕ = c.self.inside.counts.items in
     let new : List ℕ = c.count_down.new.counts in
-    let raised : AreRaised e.page (end_page e) new old = lowered_from e.page (end_page e) c.page_behind-end.result old c.deref_mut.result.now new c.deref_mut.ensures.value c.page_behind-end.ensures c.count_down.ensures in
+    let raised = lowered (goal.at.invariant_of-self c).After-count_down in
     let before : AreTaken (e ∷ c.requires.0) (record { counts = old; count = c.self.inside.count }) = subst (λ (s : Space). AreTaken (e ∷ c.requires.0) s) (sym c.self.view_is) c.requires.1 in
     let is : c.max-first.result ≡ max (e.page - 256) 2 = omega (arith, c.max-first.ensures, c.saturating_sub.ensures) in
     subst (λ (counts : List ℕ). IsSound counts c.lower.new.hints (c.self.inside.count - 1)) (sym (with_items_is c.self.inside.counts new (c.count_down.auto.counts ∙ c.deref_mut.ensures.len)))
@@ -30,7 +45,7 @@ invariant_of-self-else-has_free c =
     let old : List ℕ = c.self.inside.counts.items in
     let new : List ℕ = c.count_down.new.counts in
     let items = with_items_is c.self.inside.counts new (c.count_down.auto.counts ∙ c.deref_mut.ensures.len) in
-    let raised : AreRaised e.page (end_page e) new old = lowered_from e.page (end_page e) c.page_behind-end.result old c.deref_mut.result.now new c.deref_mut.ensures.value c.page_behind-end.ensures c.count_down.ensures in
+    let raised = lowered (goal.at.invariant_of-self-else-has_free c).After-count_down in
     let before : AreTaken (e ∷ c.requires.0) (record { counts = old; count = c.self.inside.count }) = subst (λ (s : Space). AreTaken (e ∷ c.requires.0) s) (sym c.self.view_is) c.requires.1 in
     let seen : c.deref.result.now ≡ new = c.deref.ensures.value ∙ items in
     let held : (page : ℕ) → e.page ≤ page → page < end_page e → 1 ≤ get_or new page 0 = λ page low high.
@@ -40,22 +55,10 @@ invariant_of-self-else-has_free c =
 
 pub returns-then-has_free-clause-left : goal.returns-then-has_free-clause-left
 returns-then-has_free-clause-left c = λ rest are.
-    let e : Extent = c.args.extent in
-    let old : List ℕ = c.self.inside.counts.items in
-    let new : List ℕ = c.count_down.new.counts in
-    let raised : AreRaised e.page (end_page e) new old = lowered_from e.page (end_page e) c.page_behind-end.result old c.deref_mut.result.now new c.deref_mut.ensures.value c.page_behind-end.ensures c.count_down.ensures in
-    let before : AreTaken (e ∷ rest) (record { counts = old; count = c.self.inside.count }) = subst (λ (s : Space). AreTaken (e ∷ rest) s) (sym c.self.view_is) are in
-    let some = before.count in
-    subst (λ (counts : List ℕ). AreTaken rest (record { counts = counts; count = c.self.inside.count - 1 })) (sym (with_items_is c.self.inside.counts new (c.count_down.auto.counts ∙ c.deref_mut.ensures.len)))
-    (taken-less rest e old new c.self.inside.count (c.self.inside.count - 1) before raised (omega (arith, some)))
+    subst (λ (counts : List ℕ). AreTaken rest (record { counts = counts; count = c.self.inside.count - 1 })) (sym (with_items_is c.self.inside.counts c.count_down.new.counts (c.count_down.auto.counts ∙ c.deref_mut.ensures.len)))
+    (left (goal.at.returns-then-has_free-clause-left c).After-count_down rest are)
 
 pub returns-else-has_free-clause-left : goal.returns-else-has_free-clause-left
 returns-else-has_free-clause-left c = λ rest are.
-    let e : Extent = c.args.extent in
-    let old : List ℕ = c.self.inside.counts.items in
-    let new : List ℕ = c.count_down.new.counts in
-    let raised : AreRaised e.page (end_page e) new old = lowered_from e.page (end_page e) c.page_behind-end.result old c.deref_mut.result.now new c.deref_mut.ensures.value c.page_behind-end.ensures c.count_down.ensures in
-    let before : AreTaken (e ∷ rest) (record { counts = old; count = c.self.inside.count }) = subst (λ (s : Space). AreTaken (e ∷ rest) s) (sym c.self.view_is) are in
-    let some = before.count in
-    subst (λ (counts : List ℕ). AreTaken rest (record { counts = counts; count = c.self.inside.count - 1 })) (sym (with_items_is c.self.inside.counts new (c.count_down.auto.counts ∙ c.deref_mut.ensures.len)))
-    (taken-less rest e old new c.self.inside.count (c.self.inside.count - 1) before raised (omega (arith, some)))
+    subst (λ (counts : List ℕ). AreTaken rest (record { counts = counts; count = c.self.inside.count - 1 })) (sym (with_items_is c.self.inside.counts c.count_down.new.counts (c.count_down.auto.counts ∙ c.deref_mut.ensures.len)))
+    (left (goal.at.returns-else-has_free-clause-left c).After-count_down rest are)
