@@ -1,3 +1,4 @@
+//! Plans of edits of whole blocks: made, copied and freed, and their attributes.
 ghost use Rattle.std.specs.Prelude.{◌≡◌, [], ◌∷◌, true, IfOk, MatchResult};
 ghost use Rattle.geos_model.specs.declared.command.Edit.TheVariants as edits;
 ghost use Rattle.vm_blocks.specs.Keeping.{is_loaded};

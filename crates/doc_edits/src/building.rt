@@ -1,3 +1,4 @@
+//! What an edit of a chunk makes of its bytes: a splice of them, or the bytes of a new chunk.
 ghost use Rattle.std.specs.Prelude.{◌≡◌, true, false, IsSome, IsTrue, MatchResult};
 ghost use Rattle.std.specs.FinMap.{contains_key};
 ghost use Rattle.geos_model.specs.Document.{Document};

@@ -1,3 +1,4 @@
+//! Plans of edits of chains: copied and freed whole.
 ghost use Rattle.std.specs.Prelude.{◌≡◌, ◌⊎◌, ◌∷◌, true, false, IfOk, IfErr, MatchResult, Some};
 ghost use Rattle.geos_model.specs.Meaning.{conditions};
 ghost use Rattle.geos_model.specs.Refusal.{first_refusal};

@@ -1,3 +1,4 @@
+//! Plans of edits inside a heap: of a chunk, of an array in one, and of a new chunk, where there is room for it.
 ghost use Rattle.std.specs.Prelude.{◌≡◌, ◌<◌, ◌≤◌, true, false, IsTrue, MatchOption, MatchResult, None, Some, length};
 ghost use Rattle.std.specs.FinMap.{contains_key, get};
 ghost use Rattle.geos_model.specs.Document.{is_heap};

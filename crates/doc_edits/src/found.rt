@@ -1,3 +1,4 @@
+//! What stands under a handle: a raw body, a heap or a chunk's bytes, or the refusal that it doesn't.
 ghost use Rattle.std.specs.Prelude.{◌≡◌, ◌++◌, ℕ, true, MatchResult, Some};
 ghost use Rattle.geos_model.specs.Document.{Document, is_heap, is_raw};
 ghost use Rattle.geos_model.specs.Refusal.{Conditions, first_refusal};

@@ -1,3 +1,4 @@
+//! The plan of an edit: its block is brought into memory, and then it is refused or is one change.
 ghost use Rattle.std.specs.Prelude.{◌≡◌, ◌⊎◌, [], ◌∷◌, true, false, IfErr, IfOk, IsOk, MatchResult, Some};
 ghost use Rattle.geos_model.specs.Machine.{edit_needs, kind_of};
 ghost use Rattle.geos_model.specs.Meaning.{conditions};

@@ -1,3 +1,4 @@
+//! Plans of edits of raw blocks: bytes written over, or put in place of all.
 ghost use Rattle.std.specs.Prelude.{◌≡◌, true, MatchResult};
 ghost use Rattle.geos_model.specs.Document.{is_raw};
 ghost use Rattle.geos_model.specs.declared.command.Edit.TheVariants as edits;

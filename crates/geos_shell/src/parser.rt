@@ -1,3 +1,4 @@
+//! A line of a script as a command: its words, the first of which is a name.
 ghost use Rattle.std.specs.Prelude.{◌≡◌, ◌⊎◌, ◌↔◌, None, Some, IfOk, IfErr, IsSomeAnd, IsTrue, List, ℕ, map, take};
 ghost use Rattle.geos_model.specs.Script.{command};
 ghost use Rattle.geos_model.specs.Script as script;

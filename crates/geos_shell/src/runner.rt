@@ -1,3 +1,4 @@
+//! A run over a script: pieces are read, their lines answered, and the replies written.
 ghost use Rattle.std.specs.Prelude.{◌≡◌, ◌⊎◌, ◌<◌, [], IsTrue, IfOk, IfErr, OnOk, None, Option, length};
 ghost use Rattle.std.specs.Io.KnownBytes.{Appends, Keeps};
 ghost use Rattle.undo_log.specs.Records.{IsExact};

@@ -11,7 +11,7 @@ use Rattle.block_cache.specs.State.{CacheState, is_resident, locks_of, all_locke
 unfoldable pub Keeps : {S : Type 0} → (S → StoreFacts) → CacheState S → CacheState S → Type 0
 Keeps facts old new = Stays facts old new × KeepsLocks old.resident new.resident
 
--- a document stays whatever is brought into memory
+-- the store is honest, so that a document stays whatever is brought into memory
 unfoldable pub IsSteady : {S : Type 0} → (S → StoreFacts) → S → Type 0
 IsSteady facts store = IsTrue (facts store).honest
 

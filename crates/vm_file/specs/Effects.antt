@@ -1,4 +1,4 @@
--- What a call leaves of a file, and why it is refused: each floor from the file up to the session says it in these words.
+-- What a call leaves of a file, and why it is refused: each layer from the file up to the session says it in these words.
 use Rattle.std.specs.Prelude.{◌≡◌, ◌≢◌, ◌⊎◌, ◌↔◌, ◌≤◌, Bool, IsTrue, [], None, Result, OnOk, IfErr, IsErrOf, MatchResult}
 use Rattle.vm_store.specs.Facts.{StoreFacts, Raised, Rests}
 use Rattle.geos_model.specs.Document.{Document, IsValid}
