@@ -1,0 +1,117 @@
+"""Scripts and their replies as files, runs of a program on them with what each took, and the check of what it answered."""
+
+from __future__ import annotations
+
+import ctypes
+import filecmp
+import os
+import signal
+import subprocess
+from dataclasses import dataclass
+from itertools import zip_longest
+from pathlib import Path
+from typing import Final
+
+from workloads import Scale, Workload
+
+BATCH: Final = 1 << 20
+
+
+class BenchError(Exception):
+    """A run that can't stand in the table."""
+
+
+@dataclass(frozen=True, slots=True)
+class Script:
+    """The lines of a workload in a file, and in another the replies that are right."""
+
+    path: Path
+    replies: Path
+    lines: int
+    refused: int
+
+
+@dataclass(frozen=True, slots=True)
+class Run:
+    """What a program took: seconds of processor time, and bytes of memory at its peak."""
+
+    user: float
+    system: float
+    peak: int
+
+    @property
+    def processor(self) -> float:
+        return self.user + self.system
+
+
+def write_script(workload: Workload, scale: Scale, seed: int, folder: Path) -> Script:
+    """Makes the two files of a workload."""
+    path, replies = folder / "script", folder / "right"
+    lines = refused = 0
+    with path.open("w", buffering=BATCH) as script, replies.open("w", buffering=BATCH) as right:
+        for text, reply in workload.lines(scale, seed):
+            script.write(text + "\n")
+            lines += 1
+            if reply:
+                right.write(reply + "\n")
+                refused += reply.startswith("no ")
+    return Script(path, replies, lines, refused)
+
+
+def adopt_orphans() -> None:
+    """Makes this process the parent of each child that a child of its leaves behind (Linux's PR_SET_CHILD_SUBREAPER)."""
+    if ctypes.CDLL(None, use_errno=True).prctl(36, 1, 0, 0, 0):
+        raise OSError(ctypes.get_errno(), "prctl")
+
+
+def start(program: Path, script: Path, folder: Path) -> int:
+    """Starts the program on a new document, and gives its process.
+
+    The peak of a process is no less than what was in memory of the one that it was forked from. So it is forked by `sh`, which is small,
+    and left behind to this process.
+    """
+    command = 'script=$1 replies=$2 errors=$3; shift 3; "$@" <"$script" >"$replies" 2>"$errors" & echo $!'
+    files = [script, folder / "replies", folder / "errors"]
+    words = ["sh", "-c", command, "sh", *files, program, "--new", folder / "document"]
+    shell = subprocess.run(words, stdout=subprocess.PIPE, check=True, text=True)
+    return int(shell.stdout)
+
+
+def finish(process: int) -> tuple[int, Run]:
+    """Waits for the program to end: its exit status, and what it took."""
+    try:
+        _, status, used = os.wait4(process, 0)
+    except ChildProcessError:
+        raise BenchError("it ended before it could be waited for") from None
+    except KeyboardInterrupt:
+        os.kill(process, signal.SIGKILL)
+        raise
+    return os.waitstatus_to_exitcode(status), Run(used.ru_utime, used.ru_stime, used.ru_maxrss * 1024)
+
+
+def run(program: Path, script: Script, folder: Path) -> Run:
+    """Runs the program on the script, and checks each of its replies."""
+    replies, errors, document = folder / "replies", folder / "errors", folder / "document"
+    document.unlink(missing_ok=True)
+    status, took = finish(start(program, script.path, folder))
+    if status:
+        raise BenchError(f"status {status}: {errors.read_text(errors='replace').strip()}")
+    if not filecmp.cmp(replies, script.replies, shallow=False):
+        raise BenchError(first_difference(replies, script.replies))
+    return took
+
+
+def first_difference(got: Path, wanted: Path) -> str:
+    """The first line in which two files differ."""
+    with got.open(errors="replace") as one, wanted.open() as other:
+        for number, (line, right) in enumerate(zip_longest(one, other), 1):
+            if line != right:
+                return f"reply {number} is {shown(line)} and not {shown(right)}"
+    return "no difference"
+
+
+def shown(line: str | None) -> str:
+    if line is None:
+        return "missing"
+    text = line.rstrip("\n")
+    return repr(text if len(text) <= 60 else text[:60] + "..")
