@@ -64,11 +64,11 @@ def fastest(programs: list[Path], script: Script, folder: Path, repeat: int) -> 
     runs: list[list[Run]] = [[] for _ in programs]
     for _ in range(repeat):
         for path, taken in zip(programs, runs):
-            taken.append(told(path, script, folder))
+            taken.append(named_run(path, script, folder))
     return [min(taken, key=lambda one: one.processor) for taken in runs]
 
 
-def told(path: Path, script: Script, folder: Path) -> Run:
+def named_run(path: Path, script: Script, folder: Path) -> Run:
     """A run, where what goes wrong is told with the program's name."""
     try:
         return run(path, script, folder)
@@ -126,8 +126,8 @@ def measured(arguments: argparse.Namespace, chosen_ones: list[Workload]) -> bool
             script = write_script(workload, Scale(arguments.scale), arguments.seed, folder)
             try:
                 printed(row(workload, script, fastest(programs, script, folder, arguments.repeat)), widths)
-            except BenchError as told_of:
-                wrong.append(f"bench: {workload.name}: {told_of}")
+            except BenchError as error:
+                wrong.append(f"bench: {workload.name}: {error}")
     for line in wrong:
         print(line, file=sys.stderr)
     return not wrong

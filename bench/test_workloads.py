@@ -20,6 +20,7 @@ from running import BenchError, Run, Script, adopt_orphans, first_difference, ru
 from workloads import Scale, Workload, workloads
 
 SMALL = Scale(0.002)
+ANSWERED = Scale(0.02)
 
 
 def texts(workload: Workload, scale: Scale, seed: int) -> list[str]:
@@ -127,7 +128,7 @@ class Workloads(unittest.TestCase):
             with self.subTest(workload.name):
                 script = texts(workload, SMALL, 7)
                 self.assertEqual(script, texts(workload, SMALL, 7))
-                if workload.name not in ("start", "chains", "lists", "blanks"):
+                if workload.name not in ("start", "lists", "blanks"):
                     self.assertNotEqual(script, texts(workload, SMALL, 8))
 
     def test_each_has_a_name_of_its_own_and_says_what_it_shows(self) -> None:
@@ -209,7 +210,7 @@ class Program(unittest.TestCase):
         for workload in workloads():
             for seed in (1, 2):
                 with self.subTest(workload.name, seed=seed), tempfile.TemporaryDirectory() as name:
-                    run(program, write_script(workload, SMALL, seed, Path(name)), Path(name))
+                    run(program, write_script(workload, ANSWERED, seed, Path(name)), Path(name))
 
 
 if __name__ == "__main__":
