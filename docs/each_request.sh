@@ -86,7 +86,7 @@ refusing() {
     LD_PRELOAD=$folder/refusing.so REFUSED=$number "$@" 9>happened
 }
 
-echo "-- each request of a test: what is refused is answered as want of memory once, has changed nothing, and is done when it is asked for again"
+echo "-- each request of a test: what is refused is answered as lack of memory once, has changed nothing, and is done when it is asked for again"
 total=0
 for test in $("$tests" --list | sed -n 's/: test$//p' | grep '^memory'); do
     number=0

@@ -12,30 +12,30 @@ use Rattle.geos_model.specs.Document.{Block, Document, with_block, without_block
 use Rattle.geos_model.specs.declared.handle.VmHandle.{VmHandle}
 use Rattle.geos_model.proofs.HeapEdits.{get-put_same, get-put_other, get-taken_same, get-taken_other}
 use Rattle.vm_file.specs.Calls.{put_all, remove_all}
-use Rattle.vm_file.specs.Members.{saved_block}
+use Rattle.vm_file.specs.Members.{imaged_block}
 use Rattle.vm_file.specs.declared.member.Member.{Member}
-use Rattle.block_cache.specs.State.{seats_without}
-use Rattle.block_cache.specs.Frames.{held, seats, overlay, frames_without, IsKept, AreKept}
+use Rattle.block_cache.specs.State.{residents_without}
+use Rattle.block_cache.specs.Frames.{frame_of, residents, overlay, frames_without, IsFrameOf, AreFramesOf}
 use Rattle.block_cache.specs.declared.frame.Frame.{Frame}
 use Rattle.block_cache.proofs.Overlay.{cover, heap_by, get-overlay, overlay_map, same_document, cover_by, body_by}
-use Rattle.block_cache.proofs.Seats.{seats-remove}
+use Rattle.block_cache.proofs.Seats.{residents-remove}
 
 -- a block that isn't in memory is put into the file
-module _ (es : List (ℕ × Frame)) (d : Document) (h : ℕ) (b : Block) (away : held es h ≡ None) where
+module _ (es : List (ℕ × Frame)) (d : Document) (h : ℕ) (b : Block) (away : frame_of es h ≡ None) where
   overlay_put : with_block (overlay es d) h b ≡ overlay es (with_block d h b)
   overlay_put =
       let over = overlay es d in
       let e = with_block d h b in
       same_document (overlay es e) (with_block over h b) (overlay_map es d ∙ sym (overlay_map es e))
       (λ q. elim (cases_eq q h) as (λ _. get (with_block over h b).blocks q ≡ get (overlay es e).blocks q) [
-        | inl here ↦ get-put_same over.blocks h b q here ∙ sym (get-overlay es e q ∙ ap (λ o. cover o e q) (ap (held es) here ∙ away) ∙ get-put_same d.blocks h b q here)
-        | inr other ↦ get-put_other over.blocks h b q other ∙ get-overlay es d q ∙ sym (cover_by (held es q) d e q (get-put_other d.blocks h b q other)) ∙ sym (get-overlay es e q)
+        | inl here ↦ get-put_same over.blocks h b q here ∙ sym (get-overlay es e q ∙ ap (λ o. cover o e q) (ap (frame_of es) here ∙ away) ∙ get-put_same d.blocks h b q here)
+        | inr other ↦ get-put_other over.blocks h b q other ∙ get-overlay es d q ∙ sym (cover_by (frame_of es q) d e q (get-put_other d.blocks h b q other)) ∙ sym (get-overlay es e q)
       ])
 
-  kept_put : (honest : Bool) → AreKept honest d es → AreKept honest (with_block d h b) es
+  kept_put : (honest : Bool) → AreFramesOf honest d es → AreFramesOf honest (with_block d h b) es
   kept_put honest kept = record {
-    each = λ q f is. elim (cases_eq q h) as (λ _. IsKept honest (with_block d h b) q f) [
-      | inl here ↦ let wrong : None ≡ Some f = sym (ap (held es) here ∙ away) ∙ is in absurd (cc wrong)
+    each = λ q f is. elim (cases_eq q h) as (λ _. IsFrameOf honest (with_block d h b) q f) [
+      | inl here ↦ let wrong : None ≡ Some f = sym (ap (frame_of es) here ∙ away) ∙ is in absurd (cc wrong)
       | inr other ↦ let same : get (with_block d h b).blocks q ≡ get d.blocks q = get-put_other d.blocks h b q other in
           record { live = ap is_some same ∙ (kept.each q f is).live; few = (kept.each q f is).few; kind = (kept.each q f is).kind ∙ sym (ap heap_by same); clean = λ so clean. ap body_by same ∙ (kept.each q f is).clean so clean }
     ];
@@ -44,18 +44,18 @@ module _ (es : List (ℕ × Frame)) (d : Document) (h : ℕ) (b : Block) (away :
 -- so are many
 module _ (es : List (ℕ × Frame)) where
   abbrev pub IsAway : Member → Type 0
-  IsAway p = held es p.handle.0 ≡ None
+  IsAway p = frame_of es p.handle.0 ≡ None
 
   pub overlay_puts : (puts : List Member) (d : Document) → All IsAway puts → put_all puts (overlay es d) ≡ overlay es (put_all puts d)
   overlay_puts [] d away = refl
   overlay_puts (p ∷ puts) d away =
-      let b = saved_block p.block in
+      let b = imaged_block p.block in
       ap (put_all puts) (overlay_put es d p.handle.0 b (All-head IsAway p puts away)) ∙ overlay_puts puts (with_block d p.handle.0 b) (All-tail IsAway p puts away)
 
-  pub kept_puts : (honest : Bool) (puts : List Member) (d : Document) → All IsAway puts → AreKept honest d es → AreKept honest (put_all puts d) es
+  pub kept_puts : (honest : Bool) (puts : List Member) (d : Document) → All IsAway puts → AreFramesOf honest d es → AreFramesOf honest (put_all puts d) es
   kept_puts honest [] d away kept = kept
   kept_puts honest (p ∷ puts) d away kept =
-      let b = saved_block p.block in
+      let b = imaged_block p.block in
       kept_puts honest puts (with_block d p.handle.0 b) (All-tail IsAway p puts away) (kept_put es d p.handle.0 b (All-head IsAway p puts away) honest kept)
 
 -- a block goes from memory and from the file
@@ -63,28 +63,28 @@ module _ (es : List (ℕ × Frame)) (d : Document) (h : ℕ) (distinct : IsDisti
   abbrev left : List (ℕ × Frame)
   left = remove_entry (nat_eq h) es
 
-  now : (q : ℕ) → held left q ≡ cond (nat_eq h q) None (held es q)
+  now : (q : ℕ) → frame_of left q ≡ cond (nat_eq h q) None (frame_of es q)
   now q = lookup-remove_entry nat_eq_equiv (nat_eq h) (nat_eq_equiv.congr h) q es distinct
 
-  left_here : (q : ℕ) → q ≡ h → held left q ≡ None
-  left_here q here = now q ∙ ap (λ b. cond b None (held es q)) (eq-eqb h q (sym here))
+  left_here : (q : ℕ) → q ≡ h → frame_of left q ≡ None
+  left_here q here = now q ∙ ap (λ b. cond b None (frame_of es q)) (eq-eqb h q (sym here))
 
-  left_other : (q : ℕ) → q ≢ h → held left q ≡ held es q
-  left_other q other = now q ∙ ap (λ b. cond b None (held es q)) (ne_eqb h q (λ is. other (sym is)))
+  left_other : (q : ℕ) → q ≢ h → frame_of left q ≡ frame_of es q
+  left_other q other = now q ∙ ap (λ b. cond b None (frame_of es q)) (ne_eqb h q (λ is. other (sym is)))
 
   overlay_gone : overlay left (without_block d h) ≡ without_block (overlay es d) h
   overlay_gone =
       let over = overlay es d in
       let e = without_block d h in
       same_document (without_block over h) (overlay left e) (overlay_map left e ∙ sym (overlay_map es d))
-      (λ q. get-overlay left e q ∙ elim (cases_eq q h) as (λ _. cover (held left q) e q ≡ get (without_block over h).blocks q) [
+      (λ q. get-overlay left e q ∙ elim (cases_eq q h) as (λ _. cover (frame_of left q) e q ≡ get (without_block over h).blocks q) [
         | inl here ↦ ap (λ o. cover o e q) (left_here q here) ∙ get-taken_same d.blocks h q here ∙ sym (get-taken_same over.blocks h q here)
-        | inr other ↦ ap (λ o. cover o e q) (left_other q other) ∙ cover_by (held es q) d e q (get-taken_other d.blocks h q other) ∙ sym (get-overlay es d q) ∙ sym (get-taken_other over.blocks h q other)
+        | inr other ↦ ap (λ o. cover o e q) (left_other q other) ∙ cover_by (frame_of es q) d e q (get-taken_other d.blocks h q other) ∙ sym (get-overlay es d q) ∙ sym (get-taken_other over.blocks h q other)
       ])
 
-  kept_gone : (honest : Bool) → AreKept honest d es → AreKept honest (without_block d h) left
+  kept_gone : (honest : Bool) → AreFramesOf honest d es → AreFramesOf honest (without_block d h) left
   kept_gone honest kept = record {
-    each = λ q f is. elim (cases_eq q h) as (λ _. IsKept honest (without_block d h) q f) [
+    each = λ q f is. elim (cases_eq q h) as (λ _. IsFrameOf honest (without_block d h) q f) [
       | inl here ↦ let wrong : None ≡ Some f = sym (left_here q here) ∙ is in absurd (cc wrong)
       | inr other ↦
           let same : get (without_block d h).blocks q ≡ get d.blocks q = get-taken_other d.blocks h q other in
@@ -116,11 +116,11 @@ overlay_without [] es d distinct = refl
 overlay_without (h ∷ handles) es d distinct =
     overlay_without handles (remove_entry (nat_eq h.0) es) (without_block d h.0) (distinct_left (nat_eq h.0) es distinct) ∙ ap (remove_all handles) (overlay_gone es d h.0 distinct)
 
-pub kept_without : (honest : Bool) (handles : List VmHandle) (es : List (ℕ × Frame)) (d : Document) → IsDistinct nat_eq (keys_of es) → AreKept honest d es → AreKept honest (remove_all handles d) (frames_without handles es)
+pub kept_without : (honest : Bool) (handles : List VmHandle) (es : List (ℕ × Frame)) (d : Document) → IsDistinct nat_eq (keys_of es) → AreFramesOf honest d es → AreFramesOf honest (remove_all handles d) (frames_without handles es)
 kept_without honest [] es d distinct kept = kept
 kept_without honest (h ∷ handles) es d distinct kept =
     kept_without honest handles (remove_entry (nat_eq h.0) es) (without_block d h.0) (distinct_left (nat_eq h.0) es distinct) (kept_gone es d h.0 distinct honest kept)
 
-pub seats-without : (handles : List VmHandle) (es : List (ℕ × Frame)) → seats (frames_without handles es) ≡ seats_without handles (seats es)
-seats-without [] es = refl
-seats-without (h ∷ handles) es = seats-without handles (remove_entry (nat_eq h.0) es) ∙ ap (seats_without handles) (seats-remove h.0 es)
+pub residents-without : (handles : List VmHandle) (es : List (ℕ × Frame)) → residents (frames_without handles es) ≡ residents_without handles (residents es)
+residents-without [] es = refl
+residents-without (h ∷ handles) es = residents-without handles (remove_entry (nat_eq h.0) es) ∙ ap (residents_without handles) (residents-remove h.0 es)

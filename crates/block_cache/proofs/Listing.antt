@@ -8,7 +8,7 @@ use Rattle.std.specs.FinMap.{get, keys, entries, entries_sorted, get-entries, na
 use Rattle.std.specs.FinMap.Entries.{find as find_key, is_sorted, below_all, same_entries}
 use Rattle.geos_model.specs.Document.{Block, Document, next_handle, vm_handles}
 use Rattle.geos_model.specs.Reply.{found}
-use Rattle.block_cache.specs.Frames.{held, overlay, AreKept}
+use Rattle.block_cache.specs.Frames.{frame_of, overlay, AreFramesOf}
 use Rattle.block_cache.specs.declared.frame.Frame.{Frame}
 use Rattle.block_cache.proofs.Overlay.{cover, block_by, get-overlay, overlay_live, attributes_by}
 
@@ -56,15 +56,15 @@ pub some_weaker : {X : Type 0} (o : Option X) (P Q : X → Type 0) → ((x : X) 
 some_weaker None P Q more there = tt
 some_weaker (Some x) P Q more there = more x there
 
-module _ (honest : Bool) (es : List (ℕ × Frame)) (d : Document) (kept : AreKept honest d es) where
-  named : (h : ℕ) (o : Option Frame) → held es h ≡ o → option_map (λ (b : Block). b.attributes.user_id) (cover o d h) ≡ option_map (λ (b : Block). b.attributes.user_id) (get d.blocks h)
+module _ (honest : Bool) (es : List (ℕ × Frame)) (d : Document) (kept : AreFramesOf honest d es) where
+  named : (h : ℕ) (o : Option Frame) → frame_of es h ≡ o → option_map (λ (b : Block). b.attributes.user_id) (cover o d h) ≡ option_map (λ (b : Block). b.attributes.user_id) (get d.blocks h)
   named h None here = refl
   named h (Some f) here =
       let b = block_by (get d.blocks h) (kept.each h f here).live in
       ap (λ (o : Option Block). Some (attributes_by o).user_id) b.1 ∙ sym (ap (option_map (λ (b : Block). b.attributes.user_id)) b.1)
 
   same_names : map name (entries (overlay es d).blocks) ≡ map name (entries d.blocks)
-  same_names = names_alike (overlay es d) d (λ h. ap (option_map (λ (b : Block). b.attributes.user_id)) (get-overlay es d h) ∙ named h (held es h) refl)
+  same_names = names_alike (overlay es d) d (λ h. ap (option_map (λ (b : Block). b.attributes.user_id)) (get-overlay es d h) ∙ named h (frame_of es h) refl)
 
   pub overlay_keys : keys (overlay es d).blocks ≡ keys d.blocks
   overlay_keys = keys_read (entries (overlay es d).blocks) ∙ ap (map (λ (n : ℕ × ℕ). n.0)) same_names ∙ sym (keys_read (entries d.blocks))
@@ -77,9 +77,9 @@ module _ (honest : Bool) (es : List (ℕ × Frame)) (d : Document) (kept : AreKe
   unfolding next_handle
   overlay_next = λ i. find (λ h. not (overlay_live honest es d h kept i)) vm_handles
 
-  free_by : (h : ℕ) (o : Option Frame) → held es h ≡ o → get d.blocks h ≡ None → cover o d h ≡ None
+  free_by : (h : ℕ) (o : Option Frame) → frame_of es h ≡ o → get d.blocks h ≡ None → cover o d h ≡ None
   free_by h None here none = none
   free_by h (Some f) here none = let wrong : false ≡ true = sym (ap is_some none) ∙ (kept.each h f here).live in absurd (cc wrong)
 
   pub overlay_free : (h : ℕ) → get d.blocks h ≡ None → get (overlay es d).blocks h ≡ None
-  overlay_free h none = get-overlay es d h ∙ free_by h (held es h) refl none
+  overlay_free h none = get-overlay es d h ∙ free_by h (frame_of es h) refl none

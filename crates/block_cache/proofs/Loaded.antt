@@ -9,7 +9,7 @@ use Rattle.geos_model.specs.declared.command.Body.{Body}
 use Rattle.geos_model.specs.declared.fault.Fault.{Fault}
 use Rattle.geos_model.specs.declared.fault.Fault.TheVariants.{Memory, Damaged}
 use Rattle.geos_model.proofs.Files.{body_of-image}
-use Rattle.vm_file.specs.Calls.{IsSupply}
+use Rattle.vm_file.specs.Calls.{IsResourceFault}
 use Rattle.vm_file.specs.Effects.{Fails, IsDamage}
 
 pub body_is : (body other : Body) (bytes : List ℕ) → body_of bytes ≡ Some body → bytes ≡ image other → is_valid_body other ≡ true → other ≡ body
@@ -34,5 +34,5 @@ pub unread : {S A : Type 0} (facts : S → StoreFacts) (old new : S) (fault : Fa
     → Fails facts (IsDamage (facts old).honest) old new result
 unread facts old new fault result is either other = subst (Fails facts (IsDamage (facts old).honest) old new) (sym is) (record {
   file = λ file. elim either [ inl memory ↦ absurd (cc (file, memory)) | inr damaged ↦ absurd (cc (file, damaged)) ];
-  faults = elim either as (λ _. IsSupply fault ⊎ IsDamage (facts old).honest fault) [ inl memory ↦ inl (inl memory) | inr damaged ↦ inr (damaged, other damaged) ];
+  faults = elim either as (λ _. IsResourceFault fault ⊎ IsDamage (facts old).honest fault) [ inl memory ↦ inl (inl memory) | inr damaged ↦ inr (damaged, other damaged) ];
 })

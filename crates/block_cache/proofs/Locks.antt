@@ -14,22 +14,22 @@ use Rattle.geos_model.specs.Document.{Document}
 use Rattle.geos_model.specs.ElementArray.{all_distinct}
 use Rattle.geos_model.specs.declared.fault.Fault.{Fault}
 use Rattle.lru.specs.LruCache.{promoted}
-use Rattle.block_cache.specs.State.{Seat, is_resident, is_locked, locks_of, locked_count, all_locked, victim, evicted, KeepsLocks}
-use Rattle.block_cache.specs.Frames.{held, seats, IsKept, AreKept}
+use Rattle.block_cache.specs.State.{ResidentBlock, is_resident, is_locked, locks_of, locked_count, all_locked, victim, evicted, KeepsLocks}
+use Rattle.block_cache.specs.Frames.{frame_of, residents, IsFrameOf, AreFramesOf}
 use Rattle.block_cache.specs.declared.frame.Frame.{Frame}
-use Rattle.block_cache.proofs.Seats.{lookup-seats, fewer_locked}
+use Rattle.block_cache.proofs.Seats.{lookup-residents, fewer_locked}
 
-pub keys-seats : (es : List (ℕ × Frame)) → keys_of (seats es) ≡ keys_of es
-keys-seats [] = refl
-keys-seats (e ∷ es) = ap (λ ks. e.0 ∷ ks) (keys-seats es)
+pub keys-residents : (es : List (ℕ × Frame)) → keys_of (residents es) ≡ keys_of es
+keys-residents [] = refl
+keys-residents (e ∷ es) = ap (λ ks. e.0 ∷ ks) (keys-residents es)
 
-abbrev one : Seat → ℕ
+abbrev one : ResidentBlock → ℕ
 one s = cond (is_locked s) 1 0
 
-counts : (s : Seat) (ss : List Seat) → locked_count (s ∷ ss) ≡ one s + locked_count ss
-counts s ss = sum_by-cons (λ (x : Seat). cond (is_locked x) 1 0) s ss
+counts : (s : ResidentBlock) (ss : List ResidentBlock) → locked_count (s ∷ ss) ≡ one s + locked_count ss
+counts s ss = sum_by-cons (λ (x : ResidentBlock). cond (is_locked x) 1 0) s ss
 
-pub keeps_refl : (ss : List Seat) → KeepsLocks ss ss
+pub keeps_refl : (ss : List ResidentBlock) → KeepsLocks ss ss
 keeps_refl ss = record { each = λ h. refl; count = refl }
 
 -- the one that goes isn't locked
@@ -41,7 +41,7 @@ unlocked n is = eqb-true n 0 (by (n == 0) refl)
     by true at = at
     by false at = absurd (cc (at, is))
 
-free_first : (s : Seat) (ss : List Seat) (h : ℕ) (o : Option ℕ) (b : Bool) → is_locked s ≡ b → IsDistinct nat_eq (keys_of (s ∷ ss)) → ((k : ℕ) → o ≡ Some k → lookup (nat_eq k) ss ≡ Some 0)
+free_first : (s : ResidentBlock) (ss : List ResidentBlock) (h : ℕ) (o : Option ℕ) (b : Bool) → is_locked s ≡ b → IsDistinct nat_eq (keys_of (s ∷ ss)) → ((k : ℕ) → o ≡ Some k → lookup (nat_eq k) ss ≡ Some 0)
     → option_map_or (λ h. Some h) o (cond b None (Some s.0)) ≡ Some h → lookup (nat_eq h) (s ∷ ss) ≡ Some 0
 free_first s ss h (Some k) b locked distinct more same =
     let is : k ≡ h = ap (λ (o : Option ℕ). unwrap_or o k) same in
@@ -56,13 +56,13 @@ free_first s ss h None false locked distinct more same =
     let is : s.0 ≡ h = ap (λ (o : Option ℕ). unwrap_or o s.0) same in
     ap (λ b. cond b (Some s.1) (lookup (nat_eq h) ss)) (eq-eqb h s.0 (sym is)) ∙ ap (λ n. Some n) (unlocked s.1 locked)
 
-victim_unlocked : (ss : List Seat) (h : ℕ) → IsDistinct nat_eq (keys_of ss) → victim ss ≡ Some h → lookup (nat_eq h) ss ≡ Some 0
+victim_unlocked : (ss : List ResidentBlock) (h : ℕ) → IsDistinct nat_eq (keys_of ss) → victim ss ≡ Some h → lookup (nat_eq h) ss ≡ Some 0
 victim_unlocked [] h distinct is = absurd (cc is)
 victim_unlocked (s ∷ ss) h distinct is = free_first s ss h (victim ss) (is_locked s) refl distinct (λ k at. victim_unlocked ss k (IsDistinct-tail nat_eq s.0 (keys_of ss) distinct) at) is
 
 -- a block that isn't locked goes
 
-count_removed : (h : ℕ) (ss : List Seat) → lookup (nat_eq h) ss ≡ Some 0 → locked_count (remove_entry (nat_eq h) ss) ≡ locked_count ss
+count_removed : (h : ℕ) (ss : List ResidentBlock) → lookup (nat_eq h) ss ≡ Some 0 → locked_count (remove_entry (nat_eq h) ss) ≡ locked_count ss
 count_removed h [] is = refl
 count_removed h (s ∷ ss) is = (elim (nat_eq h s.0) as (λ b. cond b (Some s.1) (lookup (nat_eq h) ss) ≡ Some 0 → locked_count (cond b ss (s ∷ remove_entry (nat_eq h) ss)) ≡ locked_count (s ∷ ss)) [
   | true ↦ λ here.
@@ -77,7 +77,7 @@ count_removed h (s ∷ ss) is = (elim (nat_eq h s.0) as (λ b. cond b (Some s.1)
       omega (arith, more, a, b)
 ]) is
 
-locks_removed : (h : ℕ) (ss : List Seat) → IsDistinct nat_eq (keys_of ss) → lookup (nat_eq h) ss ≡ Some 0 → (q : ℕ) → locks_of (remove_entry (nat_eq h) ss) q ≡ locks_of ss q
+locks_removed : (h : ℕ) (ss : List ResidentBlock) → IsDistinct nat_eq (keys_of ss) → lookup (nat_eq h) ss ≡ Some 0 → (q : ℕ) → locks_of (remove_entry (nat_eq h) ss) q ≡ locks_of ss q
 locks_removed h ss distinct is q =
     let out : lookup (nat_eq q) (remove_entry (nat_eq h) ss) ≡ cond (nat_eq h q) None (lookup (nat_eq q) ss) = lookup-remove_entry nat_eq_equiv (nat_eq h) (nat_eq_equiv.congr h) q ss distinct in
     ap (λ o. unwrap_or o 0) out ∙ elim (cases_eq q h) as (λ _. unwrap_or (cond (nat_eq h q) None (lookup (nat_eq q) ss)) 0 ≡ locks_of ss q) [
@@ -85,7 +85,7 @@ locks_removed h ss distinct is q =
       | inr other ↦ ap (λ b. unwrap_or (cond b None (lookup (nat_eq q) ss)) 0) (ne_eqb h q (λ same. other (sym same)))
     ]
 
-pub keeps_evicted : (ss : List Seat) → IsDistinct nat_eq (keys_of ss) → KeepsLocks ss (evicted ss)
+pub keeps_evicted : (ss : List ResidentBlock) → IsDistinct nat_eq (keys_of ss) → KeepsLocks ss (evicted ss)
 keeps_evicted ss distinct = by (victim ss) refl
   where
     by : (o : Option ℕ) → victim ss ≡ o → KeepsLocks ss (option_map_or (λ h. remove_entry (nat_eq h) ss) o ss)
@@ -94,7 +94,7 @@ keeps_evicted ss distinct = by (victim ss) refl
 
 -- a block comes in, and is not locked
 
-pub keeps_more : (h : ℕ) (ss ts : List Seat) → lookup (nat_eq h) ss ≡ None → KeepsLocks ss ts → KeepsLocks ss ((h, 0) ∷ ts)
+pub keeps_more : (h : ℕ) (ss ts : List ResidentBlock) → lookup (nat_eq h) ss ≡ None → KeepsLocks ss ts → KeepsLocks ss ((h, 0) ∷ ts)
 keeps_more h ss ts absent keeps = record {
   each = λ q. elim (cases_eq q h) as (λ _. locks_of ((h, 0) ∷ ts) q ≡ locks_of ss q) [
     | inl at ↦ ap (λ b. unwrap_or (cond b (Some 0) (lookup (nat_eq q) ts)) 0) (eq-eqb q h at) ∙ sym (ap (λ k. locks_of ss k) at ∙ ap (λ (o : Option ℕ). unwrap_or o 0) absent)
@@ -106,17 +106,17 @@ keeps_more h ss ts absent keeps = record {
       omega (arith, none, sum, keeps.count);
 }
 
-keeps_cond : (b : Bool) (ss : List Seat) → IsDistinct nat_eq (keys_of ss) → KeepsLocks ss (cond b ss (evicted ss))
+keeps_cond : (b : Bool) (ss : List ResidentBlock) → IsDistinct nat_eq (keys_of ss) → KeepsLocks ss (cond b ss (evicted ss))
 keeps_cond true ss distinct = keeps_refl ss
 keeps_cond false ss distinct = keeps_evicted ss distinct
 
 -- a block that is there goes first
 
-count_first : (h : ℕ) (ss : List Seat) (s : Seat) → lookup_entry (nat_eq h) ss ≡ Some s → one s + locked_count (remove_entry (nat_eq h) ss) ≡ locked_count ss
+count_first : (h : ℕ) (ss : List ResidentBlock) (s : ResidentBlock) → lookup_entry (nat_eq h) ss ≡ Some s → one s + locked_count (remove_entry (nat_eq h) ss) ≡ locked_count ss
 count_first h [] s is = absurd (cc is)
 count_first h (x ∷ ss) s is = (elim (nat_eq h x.0) as (λ b. cond b (Some x) (lookup_entry (nat_eq h) ss) ≡ Some s → one s + locked_count (cond b ss (x ∷ remove_entry (nat_eq h) ss)) ≡ locked_count (x ∷ ss)) [
   | true ↦ λ here.
-      let same : x ≡ s = ap (λ (o : Option Seat). unwrap_or o x) here in
+      let same : x ≡ s = ap (λ (o : Option ResidentBlock). unwrap_or o x) here in
       let ones : ◌≡◌ {A = ℕ} (one x) (one s) = ap one same in
       let sum = counts x ss in
       omega (arith, ones, sum)
@@ -127,16 +127,16 @@ count_first h (x ∷ ss) s is = (elim (nat_eq h x.0) as (λ b. cond b (Some x) (
       omega (arith, more, a, b)
 ]) is
 
-pub count_promoted : (h : ℕ) (ss : List Seat) → locked_count (promoted (nat_eq h) ss) ≡ locked_count ss
+pub count_promoted : (h : ℕ) (ss : List ResidentBlock) → locked_count (promoted (nat_eq h) ss) ≡ locked_count ss
 count_promoted h ss = by (lookup_entry (nat_eq h) ss) refl
   where
-    by : (o : Option Seat) → lookup_entry (nat_eq h) ss ≡ o → locked_count (option_map_or (λ s. s ∷ remove_entry (nat_eq h) ss) o ss) ≡ locked_count ss
+    by : (o : Option ResidentBlock) → lookup_entry (nat_eq h) ss ≡ o → locked_count (option_map_or (λ s. s ∷ remove_entry (nat_eq h) ss) o ss) ≡ locked_count ss
     by None is = refl
     by (Some s) is = counts s (remove_entry (nat_eq h) ss) ∙ count_first h ss s is
 
 -- all that a load may leave
 
-pub keeps_either : (r : Result (Unit {0}) Fault) (h : ℕ) (b : Bool) (ss ts : List Seat) → IsDistinct nat_eq (keys_of ss) → lookup (nat_eq h) ss ≡ None
+pub keeps_either : (r : Result (Unit {0}) Fault) (h : ℕ) (b : Bool) (ss ts : List ResidentBlock) → IsDistinct nat_eq (keys_of ss) → lookup (nat_eq h) ss ≡ None
     → OnOk r (ts ≡ (h, 0) ∷ cond b ss (evicted ss)) → OnErr r ((ts ≡ ss) ⊎ (ts ≡ evicted ss)) → KeepsLocks ss ts
 keeps_either (Ok x) h b ss ts distinct absent ok err = subst (KeepsLocks ss) (sym ok) (keeps_more h ss (cond b ss (evicted ss)) absent (keeps_cond b ss distinct))
 keeps_either (Err x) h b ss ts distinct absent ok err = elim err as (λ _. KeepsLocks ss ts) [
@@ -155,13 +155,13 @@ all_apart [] distinct = refl
 all_apart (x ∷ xs) distinct =
     ap (λ b. not b && all_distinct xs) (none_met x xs (IsDistinct-head nat_eq x xs distinct)) ∙ all_apart xs (IsDistinct-tail nat_eq x xs distinct)
 
-pub seats_apart : (es : List (ℕ × Frame)) → IsDistinct nat_eq (keys_of es) → all_distinct (map (λ s. s.0) (seats es)) ≡ true
-seats_apart es distinct = ap all_distinct (keys-seats es) ∙ all_apart (keys_of es) distinct
+pub seats_apart : (es : List (ℕ × Frame)) → IsDistinct nat_eq (keys_of es) → all_distinct (map (λ s. s.0) (residents es)) ≡ true
+seats_apart es distinct = ap all_distinct (keys-residents es) ∙ all_apart (keys_of es) distinct
 
-pub few_locks : (honest : Bool) (d : Document) (es : List (ℕ × Frame)) → AreKept honest d es → (h : ℕ) → locks_of (seats es) h ≤ 255
-few_locks honest d es kept h = subst (λ (o : Option ℕ). unwrap_or o 0 ≤ 255) (sym (lookup-seats h es)) (by (held es h) (kept.each h))
+pub few_locks : (honest : Bool) (d : Document) (es : List (ℕ × Frame)) → AreFramesOf honest d es → (h : ℕ) → locks_of (residents es) h ≤ 255
+few_locks honest d es kept h = subst (λ (o : Option ℕ). unwrap_or o 0 ≤ 255) (sym (lookup-residents h es)) (by (frame_of es h) (kept.each h))
   where
-    by : (o : Option Frame) → ((f : Frame) → o ≡ Some f → IsKept honest d h f) → unwrap_or (option_map (λ (f : Frame). f.locks) o) 0 ≤ 255
+    by : (o : Option Frame) → ((f : Frame) → o ≡ Some f → IsFrameOf honest d h f) → unwrap_or (option_map (λ (f : Frame). f.locks) o) 0 ≤ 255
     by None each = omega arith
     by (Some f) each = (each f refl).few
 
@@ -187,14 +187,14 @@ from_apart (x ∷ xs) distinct =
     let parts = and_parts (not (list_any (λ y. x == y) xs)) (all_distinct xs) distinct in
     (apart_first x xs (isnt (list_any (λ y. x == y) xs) parts.0), from_apart xs parts.1)
 
-none_removed : (h : ℕ) (ss : List Seat) → lookup (nat_eq h) ss ≡ None → remove_entry (nat_eq h) ss ≡ ss
+none_removed : (h : ℕ) (ss : List ResidentBlock) → lookup (nat_eq h) ss ≡ None → remove_entry (nat_eq h) ss ≡ ss
 none_removed h [] none = refl
 none_removed h (s ∷ ss) none = (elim (nat_eq h s.0) as (λ b. cond b (Some s.1) (lookup (nat_eq h) ss) ≡ None → cond b ss (s ∷ remove_entry (nat_eq h) ss) ≡ s ∷ ss) [
   | true ↦ λ wrong. absurd (cc wrong)
   | false ↦ λ more. ap (λ l. s ∷ l) (none_removed h ss more)
 ]) none
 
-pub keeps_removed : (h : ℕ) (ss : List Seat) → all_distinct (map (λ s. s.0) ss) ≡ true → locks_of ss h ≡ 0 → KeepsLocks ss (remove_entry (nat_eq h) ss)
+pub keeps_removed : (h : ℕ) (ss : List ResidentBlock) → all_distinct (map (λ s. s.0) ss) ≡ true → locks_of ss h ≡ 0 → KeepsLocks ss (remove_entry (nat_eq h) ss)
 keeps_removed h ss distinct none = by (lookup (nat_eq h) ss) refl none
   where
     by : (o : Option ℕ) → lookup (nat_eq h) ss ≡ o → unwrap_or o 0 ≡ 0 → KeepsLocks ss (remove_entry (nat_eq h) ss)
@@ -212,7 +212,7 @@ positive n is = elim (cases_eq n 0) as (λ _. 0 < n) [
 ]
 
 -- Where none is locked, each one isn't.
-pub none_locked : (ss : List Seat) → locked_count ss ≡ 0 → (h : ℕ) → locks_of ss h ≡ 0
+pub none_locked : (ss : List ResidentBlock) → locked_count ss ≡ 0 → (h : ℕ) → locks_of ss h ≡ 0
 none_locked [] none h = refl
 none_locked (s ∷ ss) none h =
     let sum = counts s ss in
@@ -223,7 +223,7 @@ none_locked (s ∷ ss) none h =
       | inr some ↦ let single : ◌≡◌ {A = ℕ} (one s) 1 = ap (λ b. cond (not b) 1 0) (ne_eqb s.1 0 some) in absurd (omega (arith, sum, single, none))
     ]
 
-all_held : (h : ℕ) (ss : List Seat) → length ss ≤ locked_count ss → is_some (lookup (nat_eq h) ss) ≡ true → 0 < locks_of ss h
+all_held : (h : ℕ) (ss : List ResidentBlock) → length ss ≤ locked_count ss → is_some (lookup (nat_eq h) ss) ≡ true → 0 < locks_of ss h
 all_held h [] all there = absurd (cc there)
 all_held h (s ∷ ss) all there =
     let sum = counts s ss in
@@ -239,5 +239,5 @@ all_held h (s ∷ ss) all there =
       | false ↦ λ free. let none : ◌≡◌ {A = ℕ} (one s) 0 = ap (λ b. cond b 1 0) free in absurd (omega (arith, sum, none, most, all))
     ]) refl
 
-pub each_locked : (frames : ℕ) (ss : List Seat) (h : ℕ) → length ss ≤ frames → all_locked frames ss ≡ true → is_resident ss h ≡ true → 0 < locks_of ss h
+pub each_locked : (frames : ℕ) (ss : List ResidentBlock) (h : ℕ) → length ss ≤ frames → all_locked frames ss ≡ true → is_resident ss h ≡ true → 0 < locks_of ss h
 each_locked frames ss h few full there = let most = leb-true frames (locked_count ss) full in all_held h ss (omega (arith, few, most)) there

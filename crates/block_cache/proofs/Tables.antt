@@ -7,8 +7,8 @@ use Rattle.geos_model.specs.Document.{Block, Document, is_live, with_block, with
 use Rattle.geos_model.specs.declared.command.Body.{Body}
 use Rattle.geos_model.proofs.HeapEdits.{get-put_same, get-put_other}
 use Rattle.geos_model.specs.declared.block.Attributes.{Attributes}
-use Rattle.block_cache.specs.Bodies.{body_of}
-use Rattle.block_cache.specs.Frames.{held, overlay, IsKept, AreKept}
+use Rattle.block_cache.specs.Bodies.{body_value}
+use Rattle.block_cache.specs.Frames.{frame_of, overlay, IsFrameOf, AreFramesOf}
 use Rattle.block_cache.specs.declared.body.BlockBody.{BlockBody}
 use Rattle.block_cache.specs.declared.frame.Frame.{Frame}
 use Rattle.block_cache.proofs.Overlay.{cover, attributes_by, heap_by, heap_body, get-overlay, overlay_map, same_document, block_by, body_by, cover_by}
@@ -17,9 +17,9 @@ use Rattle.block_cache.proofs.Overlay.{cover, attributes_by, heap_by, heap_body,
 
 pub overlay_set_map : (es : List (ℕ × Frame)) (d : Document) (m : ℕ) → overlay es (record d { map_block = m }) ≡ record (overlay es d) { map_block = m }
 overlay_set_map [] d m = refl
-overlay_set_map (e ∷ es) d m = ap (λ (x : Document). with_body x e.0 (body_of e.1.body)) (overlay_set_map es d m)
+overlay_set_map (e ∷ es) d m = ap (λ (x : Document). with_body x e.0 (body_value e.1.body)) (overlay_set_map es d m)
 
-pub kept_set_map : (honest : Bool) (es : List (ℕ × Frame)) (d : Document) (m : ℕ) → AreKept honest d es → AreKept honest (record d { map_block = m }) es
+pub kept_set_map : (honest : Bool) (es : List (ℕ × Frame)) (d : Document) (m : ℕ) → AreFramesOf honest d es → AreFramesOf honest (record d { map_block = m }) es
 kept_set_map honest es d m kept = record {
   each = λ h f is. record { live = (kept.each h f is).live; few = (kept.each h f is).few; kind = (kept.each h f is).kind; clean = (kept.each h f is).clean };
 }
@@ -47,7 +47,7 @@ module _ (u : Attributes) where
 
   cover_named : (o : Option Frame) (d e : Document) (h q : ℕ) → q ≡ h → get e.blocks q ≡ Some (record { attributes = u; body = body_by (get d.blocks h) }) → cover o e q ≡ Some (record { attributes = u; body = body_by (cover o d h) })
   cover_named None d e h q here is = is
-  cover_named (Some f) d e h q here is = ap (λ n. Some (record { attributes = n; body = body_of f.body })) (ap attributes_by is)
+  cover_named (Some f) d e h q here is = ap (λ n. Some (record { attributes = n; body = body_value f.body })) (ap attributes_by is)
 
   module _ (es : List (ℕ × Frame)) (d : Document) (h : ℕ) (live : is_live d h ≡ true) where
     pub overlay_set_attributes : is_live (overlay es d) h ≡ true → overlay es (with_attributes d h u) ≡ with_attributes (overlay es d) h u
@@ -55,15 +55,15 @@ module _ (u : Attributes) where
         let e = with_attributes d h u in
         let over = overlay es d in
         same_document (with_attributes over h u) (overlay es e) (overlay_map es e ∙ map_named d h live ∙ sym (overlay_map es d) ∙ sym (map_named over h shown))
-        (λ q. get-overlay es e q ∙ elim (cases_eq q h) as (λ _. cover (held es q) e q ≡ get (with_attributes over h u).blocks q) [
-          | inl here ↦ ap (λ k. cover (held es k) e q) here ∙ cover_named (held es h) d e h q here (get-named d h live q here)
+        (λ q. get-overlay es e q ∙ elim (cases_eq q h) as (λ _. cover (frame_of es q) e q ≡ get (with_attributes over h u).blocks q) [
+          | inl here ↦ ap (λ k. cover (frame_of es k) e q) here ∙ cover_named (frame_of es h) d e h q here (get-named d h live q here)
               ∙ ap (λ (o : Option Block). Some (record { attributes = u; body = body_by o })) (sym (get-overlay es d h)) ∙ sym (get-named over h shown q here)
-          | inr other ↦ cover_by (held es q) d e q (get-unnamed d h live q other) ∙ sym (get-overlay es d q) ∙ sym (get-unnamed over h shown q other)
+          | inr other ↦ cover_by (frame_of es q) d e q (get-unnamed d h live q other) ∙ sym (get-overlay es d q) ∙ sym (get-unnamed over h shown q other)
         ])
 
-    pub kept_set_attributes : (honest : Bool) → AreKept honest d es → AreKept honest (with_attributes d h u) es
+    pub kept_set_attributes : (honest : Bool) → AreFramesOf honest d es → AreFramesOf honest (with_attributes d h u) es
     kept_set_attributes honest kept = record {
-      each = λ q f is. elim (cases_eq q h) as (λ _. IsKept honest (with_attributes d h u) q f) [
+      each = λ q f is. elim (cases_eq q h) as (λ _. IsFrameOf honest (with_attributes d h u) q f) [
         | inl here ↦ record {
           live = ap is_some (get-named d h live q here);
           few = (kept.each q f is).few;
@@ -81,9 +81,9 @@ module _ (u : Attributes) where
 
 -- the body of a block in memory
 
-pub body_under : (es : List (ℕ × Frame)) (d : Document) (h : ℕ) (body : BlockBody) → option_map (λ (f : Frame). f.body) (held es h) ≡ Some body → option_map (λ (b : Block). b.body) (get (overlay es d).blocks h) ≡ Some (body_of body)
-body_under es d h body is = ap (option_map (λ (b : Block). b.body)) (get-overlay es d h) ∙ by (held es h) is
+pub body_under : (es : List (ℕ × Frame)) (d : Document) (h : ℕ) (body : BlockBody) → option_map (λ (f : Frame). f.body) (frame_of es h) ≡ Some body → option_map (λ (b : Block). b.body) (get (overlay es d).blocks h) ≡ Some (body_value body)
+body_under es d h body is = ap (option_map (λ (b : Block). b.body)) (get-overlay es d h) ∙ by (frame_of es h) is
   where
-    by : (o : Option Frame) → option_map (λ (f : Frame). f.body) o ≡ Some body → option_map (λ (b : Block). b.body) (cover o d h) ≡ Some (body_of body)
+    by : (o : Option Frame) → option_map (λ (f : Frame). f.body) o ≡ Some body → option_map (λ (b : Block). b.body) (cover o d h) ≡ Some (body_value body)
     by None is = absurd (cc is)
-    by (Some f) is = ap (option_map body_of) is
+    by (Some f) is = ap (option_map body_value) is

@@ -5,28 +5,28 @@ use Rattle.std.specs.Map.{lookup, remove_entry, set_value}
 use Rattle.vm_store.specs.Facts.{StoreFacts}
 use Rattle.geos_model.specs.declared.handle.VmHandle.{VmHandle}
 use Rattle.geos_model.specs.Document.{Document, block_at, is_heap, is_heap_body, is_live, with_body}
-use Rattle.vm_file.specs.Disk.{FileState, Passes, Drifts}
-use Rattle.block_cache.specs.Bodies.{body_of}
-use Rattle.block_cache.specs.State.{Seat}
+use Rattle.vm_file.specs.Disk.{FileState, KeepsCommitted, SameUnlessCorrupt}
+use Rattle.block_cache.specs.Bodies.{body_value}
+use Rattle.block_cache.specs.State.{ResidentBlock}
 use Rattle.block_cache.specs.declared.body.BlockBody.{BlockBody}
 use Rattle.block_cache.specs.declared.frame.Frame.{Frame}
 
 -- the frame of a block
-abbrev pub held : List (ℕ × Frame) → ℕ → Option Frame
-held es h = lookup (nat_eq h) es
+abbrev pub frame_of : List (ℕ × Frame) → ℕ → Option Frame
+frame_of es h = lookup (nat_eq h) es
 
 -- what callers see of the frames
-abbrev pub seats : List (ℕ × Frame) → List Seat
-seats es = map (λ e. (e.0, e.1.locks)) es
+abbrev pub residents : List (ℕ × Frame) → List ResidentBlock
+residents es = map (λ e. (e.0, e.1.locks)) es
 
 -- the document with the frames' bodies in place of the file's
 abbrev pub overlay : List (ℕ × Frame) → Document → Document
 overlay [] d = d
-overlay (e ∷ es) d = with_body (overlay es d) e.0 (body_of e.1.body)
+overlay (e ∷ es) d = with_body (overlay es d) e.0 (body_value e.1.body)
 
 -- with another frame of a block, if it has one
 abbrev pub with_frame : List (ℕ × Frame) → ℕ → (Frame → Frame) → List (ℕ × Frame)
-with_frame es b g = option_map_or (λ f. set_value (nat_eq b) es (g f)) (held es b) es
+with_frame es b g = option_map_or (λ f. set_value (nat_eq b) es (g f)) (frame_of es b) es
 
 -- without the frames of these blocks
 abbrev pub frames_without : List VmHandle → List (ℕ × Frame) → List (ℕ × Frame)
@@ -34,7 +34,7 @@ frames_without [] es = es
 frames_without (h ∷ handles) es = frames_without handles (remove_entry (nat_eq h.0) es)
 
 abbrev pub is_changed_in : List (ℕ × Frame) → ℕ → Bool
-is_changed_in es h = option_map_or (λ f. f.changed) (held es h) false
+is_changed_in es h = option_map_or (λ f. f.changed) (frame_of es h) false
 
 abbrev pub some_changed : List (ℕ × Frame) → ℕ
 some_changed es = count_by (λ e. e.1.changed) es
@@ -46,28 +46,28 @@ pub record AreClean (es : List (ℕ × Frame)) : Type 0 where
 -- the block is in memory and changed, with this body
 pub record IsChangedBody (es : List (ℕ × Frame)) (h : ℕ) (body : BlockBody) : Type 0 where
   pub frame : Frame
-  pub here : held es h ≡ Some frame
+  pub here : frame_of es h ≡ Some frame
   pub changed : frame.changed ≡ true
   pub same : frame.body ≡ body
 
 -- A frame is of a block of the file and of its kind, also where its body is changed, and is locked 255 times at most. An unchanged one
 -- over an honest store has the file's body.
-pub record IsKept (honest : Bool) (file : Document) (h : ℕ) (f : Frame) : Type 0 where
+pub record IsFrameOf (honest : Bool) (file : Document) (h : ℕ) (f : Frame) : Type 0 where
   pub live : is_live file h ≡ true
   pub few : f.locks ≤ 255
-  pub kind : is_heap_body (body_of f.body) ≡ is_heap file h
-  pub clean : IsTrue honest → f.changed ≡ false → (block_at file h).body ≡ body_of f.body
+  pub kind : is_heap_body (body_value f.body) ≡ is_heap file h
+  pub clean : IsTrue honest → f.changed ≡ false → (block_at file h).body ≡ body_value f.body
 
-pub record AreKept (honest : Bool) (file : Document) (es : List (ℕ × Frame)) : Type 0 where
-  pub each : (h : ℕ) (f : Frame) → held es h ≡ Some f → IsKept honest file h f
+pub record AreFramesOf (honest : Bool) (file : Document) (es : List (ℕ × Frame)) : Type 0 where
+  pub each : (h : ℕ) (f : Frame) → frame_of es h ≡ Some f → IsFrameOf honest file h f
 
 -- the file under its frames, as a file whose document is the one over which they lie
-abbrev pub covered : {S : Type 0} → FileState S → List (ℕ × Frame) → FileState S
-covered file es = record { disk = file.disk; document = overlay es file.document }
+abbrev pub with_frames : {S : Type 0} → FileState S → List (ℕ × Frame) → FileState S
+with_frames file es = record { disk = file.disk; document = overlay es file.document }
 
 -- The document stays, or drifts as the store does, whatever is written or read.
-pub record Moves {S : Type 0} (facts : S → StoreFacts) (file : FileState S) (frames : List (ℕ × Frame))
+pub record KeepsOverlay {S : Type 0} (facts : S → StoreFacts) (file : FileState S) (frames : List (ℕ × Frame))
     (file' : FileState S) (frames' : List (ℕ × Frame)) : Type 0 where
-  pub passes : Passes facts file.disk file'.disk
-  pub drifts : Drifts (facts file.disk.store).honest (overlay frames file.document) (overlay frames' file'.document)
-  pub kept : AreKept (facts file'.disk.store).honest file'.document frames'
+  pub passes : KeepsCommitted facts file.disk file'.disk
+  pub unless_corrupt : SameUnlessCorrupt (facts file.disk.store).honest (overlay frames file.document) (overlay frames' file'.document)
+  pub kept : AreFramesOf (facts file'.disk.store).honest file'.document frames'

@@ -7,19 +7,19 @@ use Rattle.vm_store.specs.Facts.{StoreFacts}
 use Rattle.geos_model.specs.Document.{Document}
 use Rattle.geos_model.specs.declared.handle.VmHandle.{VmHandle}
 use Rattle.geos_model.proofs.Codes.{document_code}
-use Rattle.vm_file.specs.Disk.{Disk, FileState, disk_code, Drifts, MarkDrifts, Passes, unmarked}
-use Rattle.vm_file.specs.Effects.{KeepsFile}
+use Rattle.vm_file.specs.Disk.{Disk, FileState, disk_code, SameUnlessCorrupt, MarkSameUnlessCorrupt, KeepsCommitted, unmarked}
+use Rattle.vm_file.specs.Effects.{LeavesDocument}
 use Rattle.lru.specs.LruCache.{promoted}
 
 -- A block in memory: its handle, and how often it is locked.
-abbrev pub Seat : Type 0
-Seat = ℕ × ℕ
+abbrev pub ResidentBlock : Type 0
+ResidentBlock = ℕ × ℕ
 
 -- The disk, the document as it is now, those of its blocks that are in memory, the most recently used first, and how many may be.
 pub record CacheState (S : Type 0) : Type 0 where
   pub disk : Disk S
   pub document : Document
-  pub resident : List Seat
+  pub resident : List ResidentBlock
   pub frames : ℕ
 
 abbrev pub cache_state_code : {S : Type 0} → Coded S → Coded (CacheState S)
@@ -27,60 +27,60 @@ cache_state_code {S} s =
     code_by (Disk S × (Document × (List (ℕ × ℕ) × ℕ))) (coded× (disk_code s) (coded× document_code (coded× (coded_list (coded× coded_ℕ coded_ℕ)) coded_ℕ))) (λ c. (c.disk, (c.document, (c.resident, c.frames))))
     (λ p. record { disk = p.0; document = p.1.0; resident = p.1.1.0; frames = p.1.1.1 }) (λ _. refl)
 
-abbrev pub is_resident : List Seat → ℕ → Bool
-is_resident seats h = is_some (lookup (nat_eq h) seats)
+abbrev pub is_resident : List ResidentBlock → ℕ → Bool
+is_resident residents h = is_some (lookup (nat_eq h) residents)
 
 -- how often a block is locked, 0 where it isn't in memory
-abbrev pub locks_of : List Seat → ℕ → ℕ
-locks_of seats h = unwrap_or (lookup (nat_eq h) seats) 0
+abbrev pub locks_of : List ResidentBlock → ℕ → ℕ
+locks_of residents h = unwrap_or (lookup (nat_eq h) residents) 0
 
-abbrev pub is_locked : Seat → Bool
+abbrev pub is_locked : ResidentBlock → Bool
 is_locked s = not (s.1 == 0)
 
-abbrev pub locked_count : List Seat → ℕ
-locked_count seats = count_by is_locked seats
+abbrev pub locked_count : List ResidentBlock → ℕ
+locked_count residents = count_by is_locked residents
 
 -- each frame has a locked block
-abbrev pub all_locked : ℕ → List Seat → Bool
-all_locked frames seats = nat_le frames (locked_count seats)
+abbrev pub all_locked : ℕ → List ResidentBlock → Bool
+all_locked frames residents = nat_le frames (locked_count residents)
 
 -- the least recently used block that isn't locked
-abbrev pub victim : List Seat → Option ℕ
+abbrev pub victim : List ResidentBlock → Option ℕ
 victim [] = None
 victim (s ∷ ss) = option_map_or (λ h. Some h) (victim ss) (cond (is_locked s) None (Some s.0))
 
 -- without it
-abbrev pub evicted : List Seat → List Seat
-evicted seats = option_map_or (λ h. remove_entry (nat_eq h) seats) (victim seats) seats
+abbrev pub evicted : List ResidentBlock → List ResidentBlock
+evicted residents = option_map_or (λ h. remove_entry (nat_eq h) residents) (victim residents) residents
 
 -- without these blocks
-abbrev pub seats_without : List VmHandle → List Seat → List Seat
-seats_without [] seats = seats
-seats_without (h ∷ handles) seats = seats_without handles (remove_entry (nat_eq h.0) seats)
+abbrev pub residents_without : List VmHandle → List ResidentBlock → List ResidentBlock
+residents_without [] residents = residents
+residents_without (h ∷ handles) residents = residents_without handles (remove_entry (nat_eq h.0) residents)
 
 -- What is in memory once a block was loaded: that block first. Where it wasn't there and each frame was taken, the least recently
 -- used one that isn't locked had to go.
-abbrev pub seated : ℕ → ℕ → List Seat → List Seat
-seated frames h seats =
-    cond (is_resident seats h) (promoted (nat_eq h) seats) ((h, 0) ∷ cond (nat_lt (length seats) frames) seats (evicted seats))
+abbrev pub after_load : ℕ → ℕ → List ResidentBlock → List ResidentBlock
+after_load frames h residents =
+    cond (is_resident residents h) (promoted (nat_eq h) residents) ((h, 0) ∷ cond (nat_lt (length residents) frames) residents (evicted residents))
 
 -- Each block is locked as often as before, one that isn't in memory not at all, so that as many are locked.
-pub record KeepsLocks (old new : List Seat) : Type 0 where
+pub record KeepsLocks (old new : List ResidentBlock) : Type 0 where
   pub each : (h : ℕ) → locks_of new h ≡ locks_of old h
   pub count : locked_count new ≡ locked_count old
 
 -- The cache as a file, whose document is the one that callers see.
-abbrev pub seen : {S : Type 0} → CacheState S → FileState S
-seen c = record { disk = c.disk; document = c.document }
+abbrev pub as_file : {S : Type 0} → CacheState S → FileState S
+as_file c = record { disk = c.disk; document = c.document }
 
 -- A call that commits nothing and keeps the document, over any store as many frames.
-pub record Stays {S : Type 0} (facts : S → StoreFacts) (old new : CacheState S) : Type 0 where
-  pub file : KeepsFile facts old.document (seen old) (seen new)
+pub record KeepsDocument {S : Type 0} (facts : S → StoreFacts) (old new : CacheState S) : Type 0 where
+  pub file : LeavesDocument facts old.document (as_file old) (as_file new)
   pub frames : new.frames ≡ old.frames
 
 -- The document was marked, and stays; nothing was committed, over any store as many frames.
 pub record Marks {S : Type 0} (facts : S → StoreFacts) (old new : CacheState S) : Type 0 where
-  pub passes : Passes facts old.disk (unmarked new.disk)
-  pub document : Drifts (facts old.disk.store).honest old.document new.document
-  pub marked : MarkDrifts (facts old.disk.store).honest (Some old.document) new.disk.marked
+  pub passes : KeepsCommitted facts old.disk (unmarked new.disk)
+  pub document : SameUnlessCorrupt (facts old.disk.store).honest old.document new.document
+  pub marked : MarkSameUnlessCorrupt (facts old.disk.store).honest (Some old.document) new.disk.marked
   pub frames : new.frames ≡ old.frames

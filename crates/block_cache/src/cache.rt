@@ -11,12 +11,12 @@ ghost use Rattle.geos_model.specs.declared.command.Body.TheVariants as bodies;
 ghost use Rattle.geos_model.specs.ElementArray.{all_distinct};
 ghost use Rattle.geos_model.specs.Reply.{found};
 ghost use Rattle.vm_file.specs.Calls.{IsPut, put_all, remove_all, last_sequence};
-ghost use Rattle.vm_file.specs.Disk.{IsListed, IsSettled, Numbered, unmarked};
-ghost use Rattle.vm_file.specs.Effects.{IsCommit, KeepsFile, Fails, NoFault, IsWorn, IsDamage};
-ghost use Rattle.block_cache.specs.Bodies.{body_of};
+ghost use Rattle.vm_file.specs.Disk.{IsFileDocument, IsCrashConsistent, HasSequence, unmarked};
+ghost use Rattle.vm_file.specs.Effects.{IsCommit, LeavesDocument, Fails, NoFault, IsWorn, IsDamage};
+ghost use Rattle.block_cache.specs.Bodies.{body_value};
 ghost use Rattle.block_cache.specs.Opening.{IsOpenedFrom, IsNotOpened, IsMadeIn, IsNotMade};
 ghost use Rattle.block_cache.specs.SavingAs.{IsSavedAs, IsNotSavedAs};
-ghost use Rattle.block_cache.specs.State.{is_resident, locks_of, locked_count, all_locked, seated, evicted, seats_without, seen, Marks, Stays, KeepsLocks};
+ghost use Rattle.block_cache.specs.State.{is_resident, locks_of, locked_count, all_locked, after_load, evicted, residents_without, as_file, Marks, KeepsDocument, KeepsLocks};
 
 use crate::changing::drop_blocks;
 use crate::frame::{Frame, all_locked, body_in, has_locks, lock, locks_of, mark, unlock};
@@ -47,16 +47,16 @@ impl<S: Store> Model for Cache<S> {
 
     ghost coded = { cache_state_code S.code };
 
-    ghost use Rattle.block_cache.specs.Frames.{overlay, seats, AreKept};
+    ghost use Rattle.block_cache.specs.Frames.{overlay, residents, AreFramesOf};
 
     ghost view = { λ a. record {
       disk = a.file.disk;
       document = overlay a.frames.entries a.file.document;
-      resident = seats a.frames.entries;
+      resident = residents a.frames.entries;
       frames = a.frames.cap;
     } };
 
-    ghost invariant = { λ a. AreKept (S.facts a.file.disk.store).honest a.file.document a.frames.entries };
+    ghost invariant = { λ a. AreFramesOf (S.facts a.file.disk.store).honest a.file.document a.frames.entries };
 }
 
 impl<S: Store> Cache<S> {
@@ -66,7 +66,7 @@ impl<S: Store> Cache<S> {
     pub fn create(alloc: Global, store: S, frames: usize) -> Result<Cache<S>, Refused<S>>
         requires { 1 ≤ frames }
         ensures made { MatchResult result
-            (λ cache. IsMadeIn S.facts store (seen cache))
+            (λ cache. IsMadeIn S.facts store (as_file cache))
             (λ refused. IsNotMade S.facts store refused.store refused.fault) }
         ensures empty { IfOk result (λ cache. (cache.resident ≡ []) × (cache.frames ≡ frames)) }
     {
@@ -90,7 +90,7 @@ impl<S: Store> Cache<S> {
     pub fn open(alloc: Global, store: S, frames: usize) -> Result<Cache<S>, Refused<S>>
         requires { 1 ≤ frames }
         ensures opened { MatchResult result
-            (λ cache. IsOpenedFrom S.facts store (seen cache))
+            (λ cache. IsOpenedFrom S.facts store (as_file cache))
             (λ refused. IsNotOpened S.facts store refused.store refused.fault) }
         ensures empty { IfOk result (λ cache. (cache.resident ≡ []) × (cache.frames ≡ frames)) }
     {
@@ -199,7 +199,7 @@ impl<S: Store> Cache<S> {
     /// The body of a block in memory.
     pub fn body(&self, block: VmHandle) -> &BlockBody
         requires { is_resident self.now.resident block.0 ≡ true }
-        ensures { option_map (λ b. b.body) (get self.now.document.blocks block.0) ≡ Some (body_of result.now) }
+        ensures { option_map (λ b. b.body) (get self.now.document.blocks block.0) ≡ Some (body_value result.now) }
     {
         body_in(&self.frames, block.0)
     }
@@ -253,8 +253,8 @@ impl<S: Store> Cache<S> {
         requires away { All (λ p. is_resident self.old.resident p.handle.0 ≡ false) puts.now }
         // What is done.
         ensures keeps { MatchResult result
-            (λ _. KeepsFile S.facts (put_all puts.now self.old.document) (seen self.old) (seen self.new))
-            (λ _. KeepsFile S.facts self.old.document (seen self.old) (seen self.new)) }
+            (λ _. LeavesDocument S.facts (put_all puts.now self.old.document) (as_file self.old) (as_file self.new))
+            (λ _. LeavesDocument S.facts self.old.document (as_file self.old) (as_file self.new)) }
         // What stays.
         ensures early { IfErr result (λ fault. fault ≢ Fault.File → self.new ≡ self.old) }
         ensures none { puts.now ≡ [] → IsOk result × (self.new ≡ self.old) }
@@ -271,7 +271,7 @@ impl<S: Store> Cache<S> {
         requires { All (λ h. h.0 ≢ self.old.document.map_block) handles.now }
         ensures { self.new ≡ record self.old {
           document = remove_all handles.now self.old.document;
-          resident = seats_without handles.now self.old.resident;
+          resident = residents_without handles.now self.old.resident;
         } }
     {
         let _count = self.frames.len();
@@ -288,8 +288,8 @@ impl<S: Store> Cache<S> {
         requires room { (is_resident self.old.resident block.0 ≡ true)
             ⊎ (all_locked self.old.frames self.old.resident ≡ false) }
         // What is done.
-        ensures stays { Stays S.facts self.old self.new }
-        ensures ok { OnOk result (self.new.resident ≡ seated self.old.frames block.0 self.old.resident) }
+        ensures stays { KeepsDocument S.facts self.old self.new }
+        ensures ok { OnOk result (self.new.resident ≡ after_load self.old.frames block.0 self.old.resident) }
         ensures err { OnErr result
             ((self.new.resident ≡ self.old.resident) ⊎ (self.new.resident ≡ evicted self.old.resident)) }
         ensures locks { KeepsLocks self.old.resident self.new.resident }
@@ -342,7 +342,7 @@ impl<S: Store> Cache<S> {
     /// Writes all blocks in memory that are changed to the file; they stay in memory. Where that is refused, some are written,
     /// and the others are still changed. Memory, File.
     pub fn flush(&mut self) -> Result<(), Fault>
-        ensures stays { Stays S.facts self.old self.new }
+        ensures stays { KeepsDocument S.facts self.old self.new }
         ensures resident { self.new.resident ≡ self.old.resident }
         ensures fails { Fails S.facts NoFault self.old.disk.store self.new.disk.store result }
     {
@@ -352,7 +352,7 @@ impl<S: Store> Cache<S> {
     /// Takes all blocks out of memory, the locked ones too; what is changed is written to the file first. Where that is refused
     /// they stay. Memory, File.
     pub fn drop_frames(&mut self) -> Result<(), Fault>
-        ensures stays { Stays S.facts self.old self.new }
+        ensures stays { KeepsDocument S.facts self.old self.new }
         ensures ok { OnOk result (self.new.resident ≡ []) }
         ensures err { OnErr result (self.new.resident ≡ self.old.resident) }
         ensures fails { Fails S.facts NoFault self.old.disk.store self.new.disk.store result }
@@ -365,7 +365,7 @@ impl<S: Store> Cache<S> {
     pub fn mark(&mut self) -> Result<(), Fault>
         requires { self.old.disk.marked ≡ None }
         ensures ok { OnOk result (Marks S.facts self.old self.new) }
-        ensures err { OnErr result (Stays S.facts self.old self.new) }
+        ensures err { OnErr result (KeepsDocument S.facts self.old self.new) }
         ensures resident { self.new.resident ≡ self.old.resident }
         ensures fails { Fails S.facts NoFault self.old.disk.store self.new.disk.store result }
     {
@@ -397,7 +397,7 @@ impl<S: Store> Cache<S> {
     /// may be read after a crash.
     pub fn commit_update(&mut self) -> Result<(), Fault>
         ensures commit { IsCommit S.facts (self.old.document, self.old.disk.saved) self.old.document
-            (seen self.old) (seen self.new) result }
+            (as_file self.old) (as_file self.new) result }
         ensures resident { (self.new.resident ≡ self.old.resident) × (self.new.frames ≡ self.old.frames) }
         ensures fails { Fails S.facts IsWorn self.old.disk.store self.new.disk.store result }
     {
@@ -407,7 +407,7 @@ impl<S: Store> Cache<S> {
     /// Makes the document as it is now the updated and the saved one. Refused as an update is.
     pub fn commit_save(&mut self) -> Result<(), Fault>
         ensures commit { IsCommit S.facts (self.old.document, self.old.document) self.old.document
-            (seen self.old) (seen self.new) result }
+            (as_file self.old) (as_file self.new) result }
         ensures resident { (self.new.resident ≡ self.old.resident) × (self.new.frames ≡ self.old.frames) }
         ensures fails { Fails S.facts IsWorn self.old.disk.store self.new.disk.store result }
     {
@@ -418,7 +418,7 @@ impl<S: Store> Cache<S> {
     /// with what was changed in them; where it is refused they stay. Refused as an update is.
     pub fn commit_revert(&mut self) -> Result<(), Fault>
         ensures commit { IsCommit S.facts (self.old.disk.saved, self.old.disk.saved) self.old.disk.saved
-            (seen self.old) (seen self.new) result }
+            (as_file self.old) (as_file self.new) result }
         ensures ok { OnOk result (self.new.resident ≡ []) }
         ensures err { OnErr result (self.new.resident ≡ self.old.resident) }
         ensures frames { self.new.frames ≡ self.old.frames }
@@ -429,12 +429,12 @@ impl<S: Store> Cache<S> {
 
     /// Makes the target a file of its own of the document as it is now, and goes on in that, with the same blocks in memory. The
     /// file so far goes back to its saved document, and its store comes back. Where it is refused the file stays, and the target
-    /// comes back, with any bytes; nothing is committed then, but where the store of the file so far fails. Worn, before anything
+    /// comes back, with any bytes; nothing is committed then, but where the store of the old file fails. Worn, before anything
     /// is written; Damaged where what is read is no image, which an honest store never gives; Memory, File.
     pub fn save_as(&mut self, target: S) -> Result<S, Refused<S>>
         ensures saved_as { MatchResult result
-            (λ store. IsSavedAs S.facts target store (seen self.old) (seen self.new))
-            (λ refused. IsNotSavedAs S.facts target refused.store (seen self.old) (seen self.new) refused.fault) }
+            (λ store. IsSavedAs S.facts target store (as_file self.old) (as_file self.new))
+            (λ refused. IsNotSavedAs S.facts target refused.store (as_file self.old) (as_file self.new) refused.fault) }
         ensures valid { IfOk result (λ _. IsTrue (S.facts self.new.disk.store).honest → IsValid self.new.document) }
         ensures worn { IsErrAnd result (λ refused. refused.fault ≡ Fault.Worn)
             ↔ self.old.disk.sequence ≡ last_sequence }
@@ -447,12 +447,12 @@ impl<S: Store> Cache<S> {
     /// document as it is now has what was done to it.
     pub fn validity(&self)
         // Of the documents and their file.
-        ensures settled { IsSettled S.facts self.now.disk }
+        ensures crash_consistent { IsCrashConsistent S.facts self.now.disk }
         ensures valid { IsTrue (S.facts self.now.disk.store).honest
             → IsValid self.now.disk.updated × IsValid self.now.disk.saved }
-        ensures listed { IsListed false self.now.document }
-        ensures numbered { IsTrue (S.facts self.now.disk.store).honest → self.now.disk.attempted ≡ []
-            → Numbered (S.facts self.now.disk.store) self.now.disk.sequence }
+        ensures listed { IsFileDocument false self.now.document }
+        ensures numbered { IsTrue (S.facts self.now.disk.store).honest → self.now.disk.in_doubt ≡ []
+            → HasSequence (S.facts self.now.disk.store) self.now.disk.sequence }
         ensures sequence { (1 ≤ self.now.disk.sequence) × (self.now.disk.sequence ≤ last_sequence) }
         // Of the blocks in memory.
         ensures resident { (h : ℕ) → is_resident self.now.resident h ≡ true → is_live self.now.document h ≡ true }

@@ -4,7 +4,7 @@ ghost use Rattle.geos_model.specs.Document.{Document};
 ghost use Rattle.vm_file.specs.Calls.{last_sequence};
 ghost use Rattle.vm_file.specs.Documents.{Documents};
 ghost use Rattle.vm_file.specs.Effects.{IsCommit, Fails, IsWorn};
-ghost use Rattle.block_cache.specs.Frames.{seats, overlay, covered, AreClean, AreKept, Moves};
+ghost use Rattle.block_cache.specs.Frames.{residents, overlay, with_frames, AreClean, AreFramesOf, KeepsOverlay};
 
 use crate::frame::Frame;
 use crate::loading::flush;
@@ -20,12 +20,12 @@ fn begin<S: Store>(
     file: &mut VmFile<S>,
     frames: &mut LruCache<u16, Frame>,
 ) -> Result<(), Fault>
-    requires kept { AreKept (S.facts file.old.disk.store).honest file.old.document frames.old.entries }
-    ensures moves { Moves S.facts file.old frames.old.entries file.new frames.new.entries }
+    requires kept { AreFramesOf (S.facts file.old.disk.store).honest file.old.document frames.old.entries }
+    ensures moves { KeepsOverlay S.facts file.old frames.old.entries file.new frames.new.entries }
     ensures ok { OnOk result ((file.old.disk.sequence ≢ last_sequence) × AreClean frames.new.entries) }
     ensures err { OnErr result ((pair : Documents) (behind : Document) → IsCommit S.facts pair behind
-        (covered file.old frames.old.entries) (covered file.new frames.new.entries) result) }
-    ensures seats { seats frames.new.entries ≡ seats frames.old.entries }
+        (with_frames file.old frames.old.entries) (with_frames file.new frames.new.entries) result) }
+    ensures residents { residents frames.new.entries ≡ residents frames.old.entries }
     ensures cap { frames.new.cap ≡ frames.old.cap }
     ensures fails { Fails S.facts IsWorn file.old.disk.store file.new.disk.store result }
 {
@@ -44,12 +44,12 @@ pub fn update<S: Store>(
     file: &mut VmFile<S>,
     frames: &mut LruCache<u16, Frame>,
 ) -> Result<(), Fault>
-    requires kept { AreKept (S.facts file.old.disk.store).honest file.old.document frames.old.entries }
+    requires kept { AreFramesOf (S.facts file.old.disk.store).honest file.old.document frames.old.entries }
     ensures commit { IsCommit S.facts (overlay frames.old.entries file.old.document, file.old.disk.saved)
         (overlay frames.old.entries file.old.document)
-        (covered file.old frames.old.entries) (covered file.new frames.new.entries) result }
-    ensures kept { AreKept (S.facts file.new.disk.store).honest file.new.document frames.new.entries }
-    ensures seats { seats frames.new.entries ≡ seats frames.old.entries }
+        (with_frames file.old frames.old.entries) (with_frames file.new frames.new.entries) result }
+    ensures kept { AreFramesOf (S.facts file.new.disk.store).honest file.new.document frames.new.entries }
+    ensures residents { residents frames.new.entries ≡ residents frames.old.entries }
     ensures cap { frames.new.cap ≡ frames.old.cap }
     ensures fails { Fails S.facts IsWorn file.old.disk.store file.new.disk.store result }
 {
@@ -63,13 +63,13 @@ pub fn save<S: Store>(
     file: &mut VmFile<S>,
     frames: &mut LruCache<u16, Frame>,
 ) -> Result<(), Fault>
-    requires kept { AreKept (S.facts file.old.disk.store).honest file.old.document frames.old.entries }
+    requires kept { AreFramesOf (S.facts file.old.disk.store).honest file.old.document frames.old.entries }
     ensures commit { IsCommit S.facts
         (overlay frames.old.entries file.old.document, overlay frames.old.entries file.old.document)
         (overlay frames.old.entries file.old.document)
-        (covered file.old frames.old.entries) (covered file.new frames.new.entries) result }
-    ensures kept { AreKept (S.facts file.new.disk.store).honest file.new.document frames.new.entries }
-    ensures seats { seats frames.new.entries ≡ seats frames.old.entries }
+        (with_frames file.old frames.old.entries) (with_frames file.new frames.new.entries) result }
+    ensures kept { AreFramesOf (S.facts file.new.disk.store).honest file.new.document frames.new.entries }
+    ensures residents { residents frames.new.entries ≡ residents frames.old.entries }
     ensures cap { frames.new.cap ≡ frames.old.cap }
     ensures fails { Fails S.facts IsWorn file.old.disk.store file.new.disk.store result }
 {
@@ -84,11 +84,11 @@ pub fn revert<S: Store>(
     frames: &mut LruCache<u16, Frame>,
 ) -> Result<(), Fault>
     // Asked of the caller.
-    requires kept { AreKept (S.facts file.old.disk.store).honest file.old.document frames.old.entries }
+    requires kept { AreFramesOf (S.facts file.old.disk.store).honest file.old.document frames.old.entries }
     // What is done.
     ensures commit { IsCommit S.facts (file.old.disk.saved, file.old.disk.saved) file.old.disk.saved
-        (covered file.old frames.old.entries) (covered file.new frames.new.entries) result }
-    ensures kept { AreKept (S.facts file.new.disk.store).honest file.new.document frames.new.entries }
+        (with_frames file.old frames.old.entries) (with_frames file.new frames.new.entries) result }
+    ensures kept { AreFramesOf (S.facts file.new.disk.store).honest file.new.document frames.new.entries }
     ensures ok { OnOk result (frames.new.entries ≡ []) }
     // What stays.
     ensures err { OnErr result (frames.new.entries ≡ frames.old.entries) }

@@ -4,8 +4,8 @@ ghost use Rattle.std.specs.Borrow.{sem};
 ghost use Rattle.std.specs.Option.{option_map};
 ghost use Rattle.geos_model.specs.Document.{is_heap_body};
 ghost use Rattle.lru.specs.LruCache.{lru_cache};
-ghost use Rattle.block_cache.specs.Bodies.{body_of};
-ghost use Rattle.block_cache.specs.Frames.{held, seats, with_frame};
+ghost use Rattle.block_cache.specs.Bodies.{body_value};
+ghost use Rattle.block_cache.specs.Frames.{frame_of, residents, with_frame};
 ghost use Rattle.block_cache.specs.State.{locks_of, locked_count, all_locked, victim};
 
 use crate::body::BlockBody;
@@ -29,7 +29,7 @@ impl Frame {
 
     /// The bytes of a raw body, to be changed: from now on the file may have others.
     pub(crate) fn raw_mut(&mut self) -> &mut RawBody
-        requires { is_heap_body (body_of self.old.body) ≡ false }
+        requires { is_heap_body (body_value self.old.body) ≡ false }
         ensures* writes_back { sem 𝓛 (lends_raw self.entry result) }
         ensures value { self.old.body ≡ variants.Raw result.now }
     {
@@ -39,7 +39,7 @@ impl Frame {
 
     /// The heap of a body, to be changed: from now on the file may have another.
     pub(crate) fn heap_mut(&mut self) -> &mut Heap
-        requires { is_heap_body (body_of self.old.body) ≡ true }
+        requires { is_heap_body (body_value self.old.body) ≡ true }
         ensures* writes_back { sem 𝓛 (lends_heap self.entry result) }
         ensures value { self.old.body ≡ variants.Heap result.now }
     {
@@ -60,7 +60,7 @@ pub fn mark(frames: &mut LruCache<u16, Frame>, block: u16, changed: bool)
 
 /// One more lock of a block in memory.
 pub fn lock(frames: &mut LruCache<u16, Frame>, block: u16)
-    requires { MatchOption (held frames.old.entries block) (Unit {0}) (λ f. f.locks < 255) }
+    requires { MatchOption (frame_of frames.old.entries block) (Unit {0}) (λ f. f.locks < 255) }
     ensures { frames.new
         ≡ lru_cache (with_frame frames.old.entries block (λ f. record f { locks = f.locks + 1 })) frames.old.cap }
 {
@@ -71,7 +71,7 @@ pub fn lock(frames: &mut LruCache<u16, Frame>, block: u16)
 
 /// One lock less of a block in memory.
 pub fn unlock(frames: &mut LruCache<u16, Frame>, block: u16)
-    requires { MatchOption (held frames.old.entries block) (Unit {0}) (λ f. 0 < f.locks) }
+    requires { MatchOption (frame_of frames.old.entries block) (Unit {0}) (λ f. 0 < f.locks) }
     ensures { frames.new
         ≡ lru_cache (with_frame frames.old.entries block (λ f. record f { locks = f.locks - 1 })) frames.old.cap }
 {
@@ -82,7 +82,7 @@ pub fn unlock(frames: &mut LruCache<u16, Frame>, block: u16)
 
 /// The least recently used block that isn't locked.
 pub fn victim(frames: &LruCache<u16, Frame>) -> Option<u16>
-    ensures { result ≡ victim (seats frames.now.entries) }
+    ensures { result ≡ victim (residents frames.now.entries) }
 {
     match frames.iter().rev().find(|(_, frame)| frame.locks == 0) {
         Some((block, _)) => Some(*block),
@@ -92,15 +92,15 @@ pub fn victim(frames: &LruCache<u16, Frame>) -> Option<u16>
 
 /// The body of a block in memory.
 pub fn body_in(frames: &LruCache<u16, Frame>, block: u16) -> &BlockBody
-    requires { is_some (held frames.now.entries block) ≡ true }
-    ensures { option_map (λ f. f.body) (held frames.now.entries block) ≡ Some result.now }
+    requires { is_some (frame_of frames.now.entries block) ≡ true }
+    ensures { option_map (λ f. f.body) (frame_of frames.now.entries block) ≡ Some result.now }
 {
     &frames.peek(&block).unwrap().body
 }
 
 /// How often a block is locked, 0 where it isn't in memory.
 pub fn locks_of(frames: &LruCache<u16, Frame>, block: u16) -> u8
-    ensures { result ≡ locks_of (seats frames.now.entries) block }
+    ensures { result ≡ locks_of (residents frames.now.entries) block }
 {
     match frames.peek(&block) {
         Some(frame) => frame.locks,
@@ -110,7 +110,7 @@ pub fn locks_of(frames: &LruCache<u16, Frame>, block: u16) -> u8
 
 /// Whether a block in memory is locked.
 pub fn has_locks(frames: &LruCache<u16, Frame>) -> bool
-    ensures { result ≡ nat_lt 0 (locked_count (seats frames.now.entries)) }
+    ensures { result ≡ nat_lt 0 (locked_count (residents frames.now.entries)) }
 {
     match frames.iter().find(|(_, frame)| frame.locks != 0) {
         Some(_) => true,
@@ -120,7 +120,7 @@ pub fn has_locks(frames: &LruCache<u16, Frame>) -> bool
 
 /// Whether each frame has a locked block, so that no other can come into memory.
 pub fn all_locked(frames: &LruCache<u16, Frame>) -> bool
-    ensures { result ≡ all_locked frames.now.cap (seats frames.now.entries) }
+    ensures { result ≡ all_locked frames.now.cap (residents frames.now.entries) }
 {
     if frames.len() < frames.cap().get() {
         return false;

@@ -3,8 +3,8 @@ ghost use Rattle.std.specs.Prelude.{◌≡◌, ◌⊎◌, ◌<◌, false, true, 
 ghost use Rattle.geos_model.specs.Document.{block_at, is_heap, is_heap_body, is_live, with_body};
 ghost use Rattle.vm_file.specs.Calls.{IsPut, put_all};
 ghost use Rattle.vm_file.specs.Effects.{OnlyReads, Fails, NoFault, IsDamage};
-ghost use Rattle.block_cache.specs.Bodies.{body_of};
-ghost use Rattle.block_cache.specs.Frames.{held, seats, overlay, is_changed_in, some_changed, AreClean, IsChangedBody, AreKept, Moves};
+ghost use Rattle.block_cache.specs.Bodies.{body_value};
+ghost use Rattle.block_cache.specs.Frames.{frame_of, residents, overlay, is_changed_in, some_changed, AreClean, IsChangedBody, AreFramesOf, KeepsOverlay};
 ghost use Rattle.block_cache.specs.State.{all_locked, victim, evicted};
 
 use crate::body::{BlockBody, read_image};
@@ -13,7 +13,7 @@ use geos_model::{Fault, VmHandle};
 use lru::LruCache;
 use raw_region::Region;
 use std::alloc::{AllocError, Global};
-use vm_file::{Member, SavedBlock, VmFile};
+use vm_file::{BlockImage, Member, VmFile};
 use vm_store::Store;
 
 // A block in memory, of the kind that it has in the file, as it is put there.
@@ -24,16 +24,16 @@ fn put_of<S: Store>(
     body: &BlockBody,
 ) -> Result<Member, AllocError>
     requires live { is_live file.now.document block.0 ≡ true }
-    requires kind { is_heap_body (body_of body.now) ≡ is_heap file.now.document block.0 }
+    requires kind { is_heap_body (body_value body.now) ≡ is_heap file.now.document block.0 }
     ensures put { IfOk result IsPut }
     ensures is { IfOk result
-        (λ put. put_all (put ∷ []) file.now.document ≡ with_body file.now.document block.0 (body_of body.now)) }
+        (λ put. put_all (put ∷ []) file.now.document ≡ with_body file.now.document block.0 (body_value body.now)) }
 {
     file.validity();
     let place = file.entry(block).unwrap();
     Ok(Member {
         handle: block,
-        block: SavedBlock::new(place.attributes, body.image(alloc)?),
+        block: BlockImage::new(place.attributes, body.image(alloc)?),
     })
 }
 
@@ -63,10 +63,10 @@ pub fn write_back<S: Store>(
     block: VmHandle,
 ) -> Result<(), Fault>
     // Asked of the caller.
-    requires kept { AreKept (S.facts file.old.disk.store).honest file.old.document frames.old.entries }
+    requires kept { AreFramesOf (S.facts file.old.disk.store).honest file.old.document frames.old.entries }
     // What stays.
-    ensures moves { Moves S.facts file.old frames.old.entries file.new frames.new.entries }
-    ensures seats { seats frames.new.entries ≡ seats frames.old.entries }
+    ensures moves { KeepsOverlay S.facts file.old frames.old.entries file.new frames.new.entries }
+    ensures residents { residents frames.new.entries ≡ residents frames.old.entries }
     ensures cap { frames.new.cap ≡ frames.old.cap }
     // What is done.
     ensures clean { OnOk result (is_changed_in frames.new.entries block.0 ≡ false) }
@@ -93,14 +93,14 @@ fn evict<S: Store>(
     frames: &mut LruCache<u16, Frame>,
 ) -> Result<Region, Fault>
     // Asked of the caller.
-    requires kept { AreKept (S.facts file.old.disk.store).honest file.old.document frames.old.entries }
-    requires some { IsTrue (is_some (victim (seats frames.old.entries))) }
+    requires kept { AreFramesOf (S.facts file.old.disk.store).honest file.old.document frames.old.entries }
+    requires some { IsTrue (is_some (victim (residents frames.old.entries))) }
     // What is done.
-    ensures moves { Moves S.facts file.old frames.old.entries file.new frames.new.entries }
-    ensures ok { OnOk result (seats frames.new.entries ≡ evicted (seats frames.old.entries)) }
+    ensures moves { KeepsOverlay S.facts file.old frames.old.entries file.new frames.new.entries }
+    ensures ok { OnOk result (residents frames.new.entries ≡ evicted (residents frames.old.entries)) }
     ensures fewer { OnOk result (length frames.new.entries < length frames.old.entries) }
     // What stays.
-    ensures err { OnErr result (seats frames.new.entries ≡ seats frames.old.entries) }
+    ensures err { OnErr result (residents frames.new.entries ≡ residents frames.old.entries) }
     ensures cap { frames.new.cap ≡ frames.old.cap }
     // Refusals.
     ensures fails { Fails S.facts NoFault file.old.disk.store file.new.disk.store result }
@@ -120,16 +120,16 @@ pub fn make_room<S: Store>(
     frames: &mut LruCache<u16, Frame>,
 ) -> Result<Region, Fault>
     // Asked of the caller.
-    requires kept { AreKept (S.facts file.old.disk.store).honest file.old.document frames.old.entries }
-    requires room { all_locked frames.old.cap (seats frames.old.entries) ≡ false }
+    requires kept { AreFramesOf (S.facts file.old.disk.store).honest file.old.document frames.old.entries }
+    requires room { all_locked frames.old.cap (residents frames.old.entries) ≡ false }
     // What is done.
-    ensures moves { Moves S.facts file.old frames.old.entries file.new frames.new.entries }
+    ensures moves { KeepsOverlay S.facts file.old frames.old.entries file.new frames.new.entries }
     ensures ok { OnOk result
-        (seats frames.new.entries ≡ cond (nat_lt (length (seats frames.old.entries)) frames.old.cap)
-        (seats frames.old.entries) (evicted (seats frames.old.entries))) }
+        (residents frames.new.entries ≡ cond (nat_lt (length (residents frames.old.entries)) frames.old.cap)
+        (residents frames.old.entries) (evicted (residents frames.old.entries))) }
     ensures room { OnOk result (length frames.new.entries < frames.new.cap) }
     // What stays.
-    ensures err { OnErr result (seats frames.new.entries ≡ seats frames.old.entries) }
+    ensures err { OnErr result (residents frames.new.entries ≡ residents frames.old.entries) }
     ensures cap { frames.new.cap ≡ frames.old.cap }
     // Refusals.
     ensures fails { Fails S.facts NoFault file.old.disk.store file.new.disk.store result }
@@ -149,9 +149,9 @@ fn read_body<S: Store>(
 ) -> Result<BlockBody, Fault>
     requires live { is_live file.old.document block.0 ≡ true }
     ensures reads { OnlyReads S.facts file.old file.new }
-    ensures kind { IfOk result (λ body. is_heap_body (body_of body) ≡ is_heap file.old.document block.0) }
+    ensures kind { IfOk result (λ body. is_heap_body (body_value body) ≡ is_heap file.old.document block.0) }
     ensures same { IfOk result (λ body. IsTrue (S.facts file.old.disk.store).honest
-        → (block_at file.old.document block.0).body ≡ body_of body) }
+        → (block_at file.old.document block.0).body ≡ body_value body) }
     ensures fails { Fails S.facts
         (IsDamage (S.facts file.old.disk.store).honest) file.old.disk.store file.new.disk.store result }
 {
@@ -178,15 +178,15 @@ pub fn fetch<S: Store>(
     region: Region,
 ) -> Result<(), Fault>
     // Asked of the caller.
-    requires kept { AreKept (S.facts file.old.disk.store).honest file.old.document frames.old.entries }
+    requires kept { AreFramesOf (S.facts file.old.disk.store).honest file.old.document frames.old.entries }
     requires live { is_live file.old.document block.0 ≡ true }
-    requires absent { held frames.old.entries block.0 ≡ None }
+    requires absent { frame_of frames.old.entries block.0 ≡ None }
     requires room { length frames.old.entries < frames.old.cap }
     // What is done.
-    ensures moves { Moves S.facts file.old frames.old.entries file.new frames.new.entries }
-    ensures ok { OnOk result (seats frames.new.entries ≡ (block.0, 0) ∷ seats frames.old.entries) }
+    ensures moves { KeepsOverlay S.facts file.old frames.old.entries file.new frames.new.entries }
+    ensures ok { OnOk result (residents frames.new.entries ≡ (block.0, 0) ∷ residents frames.old.entries) }
     // What stays.
-    ensures err { OnErr result (seats frames.new.entries ≡ seats frames.old.entries) }
+    ensures err { OnErr result (residents frames.new.entries ≡ residents frames.old.entries) }
     ensures cap { frames.new.cap ≡ frames.old.cap }
     // Refusals.
     ensures fails { Fails S.facts
@@ -212,17 +212,18 @@ pub fn bring<S: Store>(
     block: VmHandle,
 ) -> Result<(), Fault>
     // Asked of the caller.
-    requires kept { AreKept (S.facts file.old.disk.store).honest file.old.document frames.old.entries }
+    requires kept { AreFramesOf (S.facts file.old.disk.store).honest file.old.document frames.old.entries }
     requires live { is_live file.old.document block.0 ≡ true }
-    requires absent { held frames.old.entries block.0 ≡ None }
-    requires room { all_locked frames.old.cap (seats frames.old.entries) ≡ false }
+    requires absent { frame_of frames.old.entries block.0 ≡ None }
+    requires room { all_locked frames.old.cap (residents frames.old.entries) ≡ false }
     // What is done.
-    ensures moves { Moves S.facts file.old frames.old.entries file.new frames.new.entries }
+    ensures moves { KeepsOverlay S.facts file.old frames.old.entries file.new frames.new.entries }
     ensures ok { OnOk result
-        (seats frames.new.entries ≡ (block.0, 0) ∷ cond (nat_lt (length (seats frames.old.entries)) frames.old.cap)
-        (seats frames.old.entries) (evicted (seats frames.old.entries))) }
-    ensures err { OnErr result ((seats frames.new.entries ≡ seats frames.old.entries)
-        ⊎ (seats frames.new.entries ≡ evicted (seats frames.old.entries))) }
+        (residents frames.new.entries ≡ (block.0, 0) ∷ cond
+        (nat_lt (length (residents frames.old.entries)) frames.old.cap)
+        (residents frames.old.entries) (evicted (residents frames.old.entries))) }
+    ensures err { OnErr result ((residents frames.new.entries ≡ residents frames.old.entries)
+        ⊎ (residents frames.new.entries ≡ evicted (residents frames.old.entries))) }
     // What stays.
     ensures cap { frames.new.cap ≡ frames.old.cap }
     // Refusals.
@@ -253,9 +254,9 @@ pub fn flush<S: Store>(
     file: &mut VmFile<S>,
     frames: &mut LruCache<u16, Frame>,
 ) -> Result<(), Fault>
-    requires kept { AreKept (S.facts file.old.disk.store).honest file.old.document frames.old.entries }
-    ensures moves { Moves S.facts file.old frames.old.entries file.new frames.new.entries }
-    ensures seats { seats frames.new.entries ≡ seats frames.old.entries }
+    requires kept { AreFramesOf (S.facts file.old.disk.store).honest file.old.document frames.old.entries }
+    ensures moves { KeepsOverlay S.facts file.old frames.old.entries file.new frames.new.entries }
+    ensures residents { residents frames.new.entries ≡ residents frames.old.entries }
     ensures cap { frames.new.cap ≡ frames.old.cap }
     ensures clean { OnOk result (AreClean frames.new.entries) }
     ensures fails { Fails S.facts NoFault file.old.disk.store file.new.disk.store result }
@@ -273,10 +274,10 @@ pub fn drop_all<S: Store>(
     file: &mut VmFile<S>,
     frames: &mut LruCache<u16, Frame>,
 ) -> Result<(), Fault>
-    requires kept { AreKept (S.facts file.old.disk.store).honest file.old.document frames.old.entries }
-    ensures moves { Moves S.facts file.old frames.old.entries file.new frames.new.entries }
-    ensures ok { OnOk result (seats frames.new.entries ≡ []) }
-    ensures err { OnErr result (seats frames.new.entries ≡ seats frames.old.entries) }
+    requires kept { AreFramesOf (S.facts file.old.disk.store).honest file.old.document frames.old.entries }
+    ensures moves { KeepsOverlay S.facts file.old frames.old.entries file.new frames.new.entries }
+    ensures ok { OnOk result (residents frames.new.entries ≡ []) }
+    ensures err { OnErr result (residents frames.new.entries ≡ residents frames.old.entries) }
     ensures cap { frames.new.cap ≡ frames.old.cap }
     ensures fails { Fails S.facts NoFault file.old.disk.store file.new.disk.store result }
 {

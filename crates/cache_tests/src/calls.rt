@@ -5,7 +5,7 @@ ghost use Rattle.vm_file.specs.Calls.{IsPut};
 use block_cache::{BlockBody, Cache};
 use geos_model::{Attributes, CAPACITY, Fault, MOST_BLOCKS, VmHandle};
 use std::alloc::Global;
-use vm_file::{Image, Member, Refused, SavedBlock};
+use vm_file::{BlockImage, Image, Member, Refused};
 use vm_store::Store;
 
 pub(crate) fn why<S: Store>(refused: Refused<S>) -> Fault {
@@ -21,7 +21,7 @@ pub(crate) fn raw_block(alloc: Global, handle: u16, body: &[u8]) -> Result<Membe
     }
     Ok(Member {
         handle: VmHandle(handle),
-        block: SavedBlock::new(
+        block: BlockImage::new(
             Attributes {
                 user_id: handle,
                 heap_type: 0,
@@ -44,7 +44,7 @@ pub(crate) fn heap_block(alloc: Global, handle: u16, heap_type: u16) -> Result<M
     };
     Ok(Member {
         handle: VmHandle(handle),
-        block: SavedBlock::empty_heap(alloc, attributes)?,
+        block: BlockImage::empty_heap(alloc, attributes)?,
     })
 }
 
@@ -236,7 +236,7 @@ pub(crate) fn revert<S: Store>(cache: &mut Cache<S>) -> Result<(), Fault> {
     cache.commit_revert()
 }
 
-/// The store of the file so far.
+/// The store of the old file.
 pub(crate) fn save_as<S: Store>(cache: &mut Cache<S>, target: S) -> Result<S, Fault> {
     cache.save_as(target).map_err(why)
 }

@@ -47,13 +47,13 @@ fn the_handles_are_those_in_memory_and_not(rt: HostRuntime) -> Result<(), Fail> 
         Load(3),
         Remove(2),
     ];
-    let seen = [
+    let as_file = [
         Lists(&[1, 3]),
         NextHandle(2),
         Finds(3, 1, 3),
         Finds(3, 3, 0),
     ];
-    made(alloc, MemStore::new(alloc), 1, &begun, &seen)?;
+    made(alloc, MemStore::new(alloc), 1, &begun, &as_file)?;
     Ok(())
 }
 
@@ -73,7 +73,7 @@ fn fused(alloc: Global, passes: u64) -> Fused {
     FuseStore::new(MemStore::new(alloc), passes, true)
 }
 
-// Begins that document, and makes another file of it, where it goes on. Returns the file so far.
+// Begins that document, and makes another file of it, where it goes on. Returns the old file.
 fn go_on(alloc: Global, cache: &mut Cache<Fused>) -> Result<Fused, Mismatch> {
     take(alloc, cache, &THREE)?;
     let so_far = save_as(cache, fused(alloc, u64::MAX)).map_err(Mismatch::NoCopy)?;

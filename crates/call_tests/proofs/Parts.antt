@@ -2,8 +2,8 @@
 use Rattle.std.proofs.Common.{◌≡◌, ℕ, true, List, [], ◌∷◌, sym, ap, subst, ◌∙◌}
 use Rattle.geos_model.specs.Document.{Document, is_live}
 use Rattle.geos_model.specs.declared.handle.VmHandle.{VmHandle}
-use Rattle.vm_blocks.specs.Changes.{made, turned, turned_part}
-use Rattle.vm_blocks.specs.Preparing.{Listed, AllListed}
+use Rattle.vm_blocks.specs.Changes.{after_change, directed, directed_part}
+use Rattle.vm_blocks.specs.Preparing.{CanApplyByHandle, CanApplyAllByHandle}
 use Rattle.vm_blocks.specs.declared.change.Change.{Change}
 use Rattle.vm_blocks.specs.declared.change.Change.TheVariants as changes
 use Rattle.vm_blocks.specs.declared.change.Direction.{Direction}
@@ -17,23 +17,23 @@ pub record IsPartOf (d : Document) (c : Change) : Type 0 where
   pub is : c ≡ changes.Part handle part
   pub live : is_live d handle.0 ≡ true
 
-pub turned_part_of : (direction : Direction) (d : Document) (c : Change) → IsPartOf d c → IsPartOf d (turned direction c)
-turned_part_of direction d c p = record { handle = p.handle; part = turned_part direction p.part; is = ap (turned direction) p.is ∙ turned_of_part direction p.handle p.part; live = p.live }
+pub turned_part_of : (direction : Direction) (d : Document) (c : Change) → IsPartOf d c → IsPartOf d (directed direction c)
+turned_part_of direction d c p = record { handle = p.handle; part = directed_part direction p.part; is = ap (directed direction) p.is ∙ turned_of_part direction p.handle p.part; live = p.live }
 
-listed : (d : Document) (c : Change) → IsPartOf d c → Listed c d
-listed d c p = subst (λ (x : Change). Listed x d) (sym p.is) p.live
+listed : (d : Document) (c : Change) → IsPartOf d c → CanApplyByHandle c d
+listed d c p = subst (λ (x : Change). CanApplyByHandle x d) (sym p.is) p.live
 
-live_after : (d : Document) (c : Change) (h : ℕ) → IsPartOf d c → is_live d h ≡ true → is_live (made c d) h ≡ true
-live_after d c h p live = subst (λ (x : Change). is_live (made x d) h ≡ true) (sym p.is) (part_live_on p.handle.0 p.part d h live)
+live_after : (d : Document) (c : Change) (h : ℕ) → IsPartOf d c → is_live d h ≡ true → is_live (after_change c d) h ≡ true
+live_after d c h p live = subst (λ (x : Change). is_live (after_change x d) h ≡ true) (sym p.is) (part_live_on p.handle.0 p.part d h live)
 
 abbrev pub AreParts : Document → List Change → Type 0
 AreParts d [] = Unit {0}
 AreParts d (c ∷ cs) = IsPartOf d c × AreParts d cs
 
-parts_after : (d : Document) (c : Change) → IsPartOf d c → (cs : List Change) → AreParts d cs → AreParts (made c d) cs
+parts_after : (d : Document) (c : Change) → IsPartOf d c → (cs : List Change) → AreParts d cs → AreParts (after_change c d) cs
 parts_after d c p [] parts = tt
 parts_after d c p (x ∷ xs) parts = (record { handle = parts.0.handle; part = parts.0.part; is = parts.0.is; live = live_after d c parts.0.handle.0 p parts.0.live }, parts_after d c p xs parts.1)
 
-pub parts_listed : (d : Document) (cs : List Change) → AreParts d cs → AllListed cs d
+pub parts_listed : (d : Document) (cs : List Change) → AreParts d cs → CanApplyAllByHandle cs d
 parts_listed d [] parts = tt
-parts_listed d (c ∷ cs) parts = (listed d c parts.0, parts_listed (made c d) cs (parts_after d c parts.0 cs parts.1))
+parts_listed d (c ∷ cs) parts = (listed d c parts.0, parts_listed (after_change c d) cs (parts_after d c parts.0 cs parts.1))

@@ -6,7 +6,7 @@ use geos_model::{
 use lmem_heap::Heap;
 use std::alloc::Global;
 use std::test::Fail;
-use vm_blocks::{Change, Direction, FileBlocks, Members, SavedBlock, change_law, saved_block};
+use vm_blocks::{BlockImage, Change, Direction, FileBlocks, Members, change_law, imaged_block};
 use vm_store::{MemStore, Store};
 
 const BLOCK: VmHandle = VmHandle(1);
@@ -60,7 +60,7 @@ fn images_are_written_and_read(rt: HostRuntime) -> Result<(), Fail> {
 
 // The least free handle gets a block with an empty heap.
 pub(crate) fn put<S: Store>(alloc: Global, blocks: &mut FileBlocks<S>) -> Result<(), Fault> {
-    let block = SavedBlock::empty_heap(alloc, ATTRIBUTES)?;
+    let block = BlockImage::empty_heap(alloc, ATTRIBUTES)?;
     match blocks.next_handle() {
         None => Err(Fault::NoHandles),
         Some(handle) => {
@@ -95,7 +95,7 @@ fn blocks_come_in_and_are_saved(rt: HostRuntime) -> Result<(), Fail> {
     set_map(&mut blocks, BLOCK)?;
     assert_eq!(rt; blocks.map_block(), BLOCK);
     blocks.load(BLOCK)?;
-    let saved = saved_block(alloc, ATTRIBUTES, blocks.body(BLOCK))?;
+    let saved = imaged_block(alloc, ATTRIBUTES, blocks.body(BLOCK))?;
     assert_eq!(rt; saved.byte_count(), 3);
     Ok(())
 }

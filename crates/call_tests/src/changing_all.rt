@@ -8,7 +8,7 @@ use chunk_edits::copied;
 use geos_model::{ChunkHandle, Fault, VmHandle};
 use std::alloc::{AllocError, Global};
 use std::test::Fail;
-use vm_blocks::{Change, Content, Direction, FileBlocks, PartChange, saved_block};
+use vm_blocks::{Change, Content, Direction, FileBlocks, PartChange, imaged_block};
 use vm_store::{FuseStore, MemStore, Store};
 
 type Blocks = FileBlocks<FuseStore<MemStore>>;
@@ -83,7 +83,7 @@ fn size<S: Store>(alloc: Global, blocks: &mut FileBlocks<S>, handle: u16) -> Res
 {
     let handle = VmHandle(handle);
     blocks.load(handle)?;
-    Ok(saved_block(alloc, ATTRIBUTES, blocks.body(handle))?.byte_count())
+    Ok(imaged_block(alloc, ATTRIBUTES, blocks.body(handle))?.byte_count())
 }
 
 // Whether so many bytes have the images of all four.

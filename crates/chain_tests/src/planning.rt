@@ -3,7 +3,7 @@ use geos_model::{Attributes, Fault, VmHandle};
 use raw_region::SIZE;
 use std::alloc::{AllocError, Global};
 use std::test::Fail;
-use vm_blocks::{Change, Direction, FileBlocks, Members, SavedBlock};
+use vm_blocks::{BlockImage, Change, Direction, FileBlocks, Members};
 use vm_chains::{copy_plan, free_plan};
 use vm_store::MemStore;
 
@@ -33,7 +33,7 @@ fn put(alloc: Global, blocks: &mut Blocks, bytes: &[u8]) -> Result<(), Fault> {
         user_id: 0,
         heap_type: 0,
     };
-    let block = SavedBlock::raw(attributes, bytes.to_vec(alloc)?)?;
+    let block = BlockImage::raw(attributes, bytes.to_vec(alloc)?)?;
     match blocks.next_handle() {
         None => Err(Fault::NoHandles),
         Some(handle) => {

@@ -12,7 +12,7 @@ use Rattle.geos_model.specs.Words.{word, word_at}
 use Rattle.geos_model.specs.Array.{places_from, array_start, array_bytes, is_even, cut_at, cut_evenly, array_read, array_of}
 use Rattle.geos_model.proofs.Images.{word-reads_back}
 use Rattle.geos_model.proofs.Arrays.{joined, same_bytes-is, same_bytes-refl, length-joined, length-places, head_of, table_of, places_of, spelled, array_bytes-spelled, start-read, behind_extra, table-any, table-even, length_table-any, all_even, length-array_bytes}
-use Rattle.chunk_arrays.specs.Parts.{AreBytes, place_at, IsTable, HasElements, HasParts}
+use Rattle.chunk_arrays.specs.Parts.{AreBytes, place_at, IsPlaceTable, HasElements, HasParts}
 use Rattle.chunk_arrays.proofs.CutLemmas.{word_at-lt, rejoin, word_rejoin, words_rejoin, word_in_words, length-cut_at, length-cut_evenly, even-cut_evenly, joined-cut_evenly, cut_from, places-cut, joined-cut, length-cut_at_le, place-next, place-le}
 
 module _ (bytes : List ℕ) where
@@ -117,7 +117,7 @@ module _ (bytes : List ℕ) (has : HasParts bytes) where
 
   -- the elements begin where the table says
   module _ (any : size_of bytes ≡ 0) where
-    table : IsTable bytes (count_of bytes) (start_of bytes)
+    table : IsPlaceTable bytes (count_of bytes) (start_of bytes)
     table = has.elements.table any
 
     places_from_first : (n : ℕ) → count_of bytes ≡ n → places_from (start_of bytes + 2 * n) (elements_any bytes) ≡ map (place_at bytes (start_of bytes)) (range_with_len 0 n)
@@ -302,7 +302,7 @@ module _ (bytes : List ℕ) (are : AreBytes bytes) (even : is_even (array_read b
         let all = long in
         omega (arith, none, start, table, all)
 
-    table_back : IsTable bytes (count_of bytes) (start_of bytes)
+    table_back : IsPlaceTable bytes (count_of bytes) (start_of bytes)
     table_back = record {
       room = let start = start_back in let table = length-table in let all = long in omega (arith, start, table, all);
       none = none_back;

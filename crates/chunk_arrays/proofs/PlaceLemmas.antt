@@ -10,7 +10,7 @@ use Rattle.geos_model.specs.Words.{word_at}
 use Rattle.geos_model.specs.Array.{Array, array_start, array_bytes, array_read}
 use Rattle.geos_model.proofs.Arrays.{joined, head_of, table_of, array_bytes-spelled, table-even, length_table-any}
 use Rattle.chunk_arrays.specs.Parts.{place_at, HasParts}
-use Rattle.chunk_arrays.specs.Reading.{elements_start, place_of}
+use Rattle.chunk_arrays.specs.Reading.{elements_start, element_place}
 use Rattle.chunk_arrays.proofs.CutLemmas.{place-is}
 use Rattle.chunk_arrays.proofs.PartsLemmas.{length-elements_read, start_is, places_are, all-even, bytes-read}
 
@@ -43,17 +43,17 @@ bytes-front : (a : Array) → array_bytes a ≡ front_of a ++ joined a.elements
 bytes-front a = array_bytes-spelled a ∙ ap (λ (l : List ℕ). head_of a ++ l) (sym (append_assoc a.extra (table_of a) (joined a.elements)))
 
 -- the bytes from an element on
-drop-place : (a : Array) (i : ℕ) → drop (place_of a i) (array_bytes a) ≡ joined (drop i a.elements)
+drop-place : (a : Array) (i : ℕ) → drop (element_place a i) (array_bytes a) ≡ joined (drop i a.elements)
 drop-place a i =
     let before : List ℕ = joined (take i a.elements) in
     let whole : array_bytes a ≡ (front_of a ++ before) ++ joined (drop i a.elements) =
     bytes-front a ∙ ap (λ (l : List ℕ). front_of a ++ l) (sym (joined_parts a.elements i)) ∙ sym (append_assoc (front_of a) before (joined (drop i a.elements))) in
     let front = length-front a in
-    let long : length (front_of a ++ before) ≡ place_of a i = length-append (front_of a) before ∙ ap (λ (n : ℕ). n + length before) front in
-    ap (drop (place_of a i)) whole ∙ drop_at (front_of a ++ before) (joined (drop i a.elements)) (place_of a i) long
+    let long : length (front_of a ++ before) ≡ element_place a i = length-append (front_of a) before ∙ ap (λ (n : ℕ). n + length before) front in
+    ap (drop (element_place a i)) whole ∙ drop_at (front_of a ++ before) (joined (drop i a.elements)) (element_place a i) long
 
 -- from one place to another are the elements between
-place-step : (a : Array) (from to : ℕ) → from ≤ to → place_of a to ≡ place_of a from + length (joined (take (to - from) (drop from a.elements)))
+place-step : (a : Array) (from to : ℕ) → from ≤ to → element_place a to ≡ element_place a from + length (joined (take (to - from) (drop from a.elements)))
 place-step a from to up =
     let n : ℕ = to - from in
     let is : to ≡ from + n = omega arith in
@@ -65,11 +65,11 @@ place-step a from to up =
     let two : length (joined (drop from (take to a.elements))) ≡ length (joined (take n (drop from a.elements))) = ap (λ (xs : List (List ℕ)). length (joined xs)) rest in
     omega (arith, whole, one, two)
 
-pub place-order : (a : Array) (from to : ℕ) → from ≤ to → place_of a from ≤ place_of a to
+pub place-order : (a : Array) (from to : ℕ) → from ≤ to → element_place a from ≤ element_place a to
 place-order a from to up = let step = place-step a from to up in omega (arith, step)
 
 -- the last element ends where the bytes do
-pub place-end : (a : Array) → place_of a (length a.elements) ≡ length (array_bytes a)
+pub place-end : (a : Array) → element_place a (length a.elements) ≡ length (array_bytes a)
 place-end a =
     let front = length-front a in
     let all : length (joined (take (length a.elements) a.elements)) ≡ length (joined a.elements) = ap (λ (xs : List (List ℕ)). length (joined xs)) (take-length a.elements) in
@@ -77,17 +77,17 @@ place-end a =
     let bytes = ap length (bytes-front a) in
     omega (arith, front, all, whole, bytes)
 
-pub place-within : (a : Array) (i : ℕ) → i ≤ length a.elements → place_of a i ≤ length (array_bytes a)
+pub place-within : (a : Array) (i : ℕ) → i ≤ length a.elements → element_place a i ≤ length (array_bytes a)
 place-within a i l = let up = place-order a i (length a.elements) l in let end = place-end a in omega (arith, up, end)
 
 -- the bytes between two places are those of the elements between
-pub run-is : (a : Array) (from to : ℕ) → from ≤ to → take (place_of a to - place_of a from) (drop (place_of a from) (array_bytes a)) ≡ joined (take (to - from) (drop from a.elements))
+pub run-is : (a : Array) (from to : ℕ) → from ≤ to → take (element_place a to - element_place a from) (drop (element_place a from) (array_bytes a)) ≡ joined (take (to - from) (drop from a.elements))
 run-is a from to up =
     let run : List ℕ = joined (take (to - from) (drop from a.elements)) in
     let step = place-step a from to up in
-    let long : length run ≡ place_of a to - place_of a from = omega (arith, step) in
-    ap (take (place_of a to - place_of a from)) (drop-place a from ∙ sym (joined_parts (drop from a.elements) (to - from)))
-    ∙ take_at run (joined (drop (to - from) (drop from a.elements))) (place_of a to - place_of a from) long
+    let long : length run ≡ element_place a to - element_place a from = omega (arith, step) in
+    ap (take (element_place a to - element_place a from)) (drop-place a from ∙ sym (joined_parts (drop from a.elements) (to - from)))
+    ∙ take_at run (joined (drop (to - from) (drop from a.elements))) (element_place a to - element_place a from) long
 
 -- one element
 pub one-is : (xs : List (List ℕ)) (i : ℕ) → i < length xs → joined (take (i + 1 - i) (drop i xs)) ≡ get_or xs i []
@@ -111,10 +111,10 @@ length-some size (x ∷ xs) (suc i) even l =
 
 -- The places, by the numbers in the bytes.
 module _ (bytes : List ℕ) (has : HasParts bytes) where
-  pub place-last : (i : ℕ) → i ≡ word_at bytes 0 → place_of (array_read bytes) i ≡ length bytes
-  place-last i is = ap (place_of (array_read bytes)) (is ∙ sym (length-elements_read bytes)) ∙ place-end (array_read bytes) ∙ ap length (bytes-read bytes has)
+  pub place-last : (i : ℕ) → i ≡ word_at bytes 0 → element_place (array_read bytes) i ≡ length bytes
+  place-last i is = ap (element_place (array_read bytes)) (is ∙ sym (length-elements_read bytes)) ∙ place-end (array_read bytes) ∙ ap length (bytes-read bytes has)
 
-  pub place-any : word_at bytes 2 ≡ 0 → (i : ℕ) → i < word_at bytes 0 → place_of (array_read bytes) i ≡ word_at bytes (word_at bytes 6 + 2 * i)
+  pub place-any : word_at bytes 2 ≡ 0 → (i : ℕ) → i < word_at bytes 0 → element_place (array_read bytes) i ≡ word_at bytes (word_at bytes 6 + 2 * i)
   place-any any i l =
       let a : Array = array_read bytes in
       let count = length-elements_read bytes in
@@ -124,7 +124,7 @@ module _ (bytes : List ℕ) (has : HasParts bytes) where
       ∙ ap (λ (ps : List ℕ). get_or ps i 0) (places_are bytes has any)
       ∙ get_or-map-range_with_len (place_at bytes (word_at bytes 6)) 0 (word_at bytes 0) i i 0 l (omega arith)
 
-  pub place-even : word_at bytes 2 ≢ 0 → (i : ℕ) → i ≤ word_at bytes 0 → place_of (array_read bytes) i ≡ word_at bytes 6 + i * word_at bytes 2
+  pub place-even : word_at bytes 2 ≢ 0 → (i : ℕ) → i ≤ word_at bytes 0 → element_place (array_read bytes) i ≡ word_at bytes 6 + i * word_at bytes 2
   place-even one i l =
       let a : Array = array_read bytes in
       let count = length-elements_read bytes in

@@ -11,7 +11,7 @@ abbrev pub place_at : List ℕ → ℕ → ℕ → ℕ
 place_at bytes start i = word_at bytes (start + 2 * i)
 
 -- a table of places: the elements begin at its end, in order, and without elements nothing lies behind start
-pub record IsTable (bytes : List ℕ) (count start : ℕ) : Type 0 where
+pub record IsPlaceTable (bytes : List ℕ) (count start : ℕ) : Type 0 where
   pub room : start + 2 * count ≤ length bytes
   pub none : count ≡ 0 → length bytes ≡ start
   pub first : 0 < count → place_at bytes start 0 ≡ start + 2 * count
@@ -21,7 +21,7 @@ pub record IsTable (bytes : List ℕ) (count start : ℕ) : Type 0 where
 -- elements from start on, of one size or with a table of places
 pub record HasElements (bytes : List ℕ) (count size start : ℕ) : Type 0 where
   pub even : size ≢ 0 → length bytes ≡ start + count * size
-  pub table : size ≡ 0 → IsTable bytes count start
+  pub table : size ≡ 0 → IsPlaceTable bytes count start
 
 -- the parts of an array
 pub record HasParts (bytes : List ℕ) : Type 0 where

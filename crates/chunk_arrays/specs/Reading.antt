@@ -8,5 +8,5 @@ abbrev pub elements_start : Array → ℕ
 elements_start a = array_start a + (if a.size == 0 then 2 * length a.elements else 0)
 
 -- where an element begins, or where the last one ends
-abbrev pub place_of : Array → ℕ → ℕ
-place_of a i = elements_start a + length (flat_map (λ x. x) (take i a.elements))
+abbrev pub element_place : Array → ℕ → ℕ
+element_place a i = elements_start a + length (flat_map (λ x. x) (take i a.elements))

@@ -10,6 +10,6 @@ use Rattle.chunk_edits.specs.declared.splice.Splice.{Splice}
 abbrev pub Replaces : Conditions → List ℕ → List ℕ → Splice → Type 0
 Replaces own from to s = Builds (own ++ too_long to) s from to (length from + length to)
 
--- want of memory, or the first refusal
+-- lack of memory, or the first refusal
 abbrev pub RefusesToReplace : Conditions → List ℕ → Fault → Type 0
 RefusesToReplace own to fault = RefusesToBuild (own ++ too_long to) fault

@@ -3,8 +3,8 @@ ghost use Rattle.std.specs.Prelude.{◌≡◌, ◌^◌, ◌<◌, ◌≤◌, ◌+
 ghost use Rattle.std.specs.List.{flat_map};
 ghost use Rattle.geos_model.specs.Words.{word_at};
 ghost use Rattle.geos_model.specs.Array.{array_bytes, array_of, array_read, is_even};
-ghost use Rattle.chunk_arrays.specs.Parts.{AreBytes, IsTable, HasElements};
-ghost use Rattle.chunk_arrays.specs.Reading.{place_of};
+ghost use Rattle.chunk_arrays.specs.Parts.{AreBytes, IsPlaceTable, HasElements};
+ghost use Rattle.chunk_arrays.specs.Reading.{element_place};
 
 use byteorder::{ByteOrder, LittleEndian};
 use geos_model::Fault;
@@ -91,7 +91,7 @@ fn has_elements(bytes: &[u8], count: usize, size: usize, start: usize) -> bool
 fn has_table(bytes: &[u8], count: usize, start: usize) -> bool
     requires start { start ≤ length bytes.now }
     requires words { (count < 2 ^ 16) × (start < 2 ^ 16) }
-    ensures { IsTrue result ↔ IsTable bytes.now count start }
+    ensures { IsTrue result ↔ IsPlaceTable bytes.now count start }
 {
     let len = bytes.len();
     if count == 0 {
@@ -166,7 +166,7 @@ impl<'a> View<'a> {
     /// Where an element begins, or where the last one ends.
     fn place(&self, i: usize) -> usize
         requires { i ≤ length self.now.array.elements }
-        ensures { result ≡ place_of self.now.array i }
+        ensures { result ≡ element_place self.now.array i }
     {
         if i == self.count {
             self.bytes.len()

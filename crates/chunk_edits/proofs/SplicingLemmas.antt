@@ -2,7 +2,7 @@
 use Rattle.std.proofs.Common.{◌≡◌, ℕ, ◌+◌, ◌-◌, ◌≤◌, List, ◌++◌, length, take, drop, arith, refl, sym, ap, ◌∙◌, length-append, length-drop}
 use Rattle.std.proofs.lemmas.List.{take-append-drop, take_at, drop_at, drop-drop, length-take-le}
 use Rattle.std.specs.List.{splice}
-use Rattle.chunk_edits.specs.Splicing.{Stands, Leads, backwards}
+use Rattle.chunk_edits.specs.Splicing.{OccursAt, Leads, backwards}
 use Rattle.chunk_edits.specs.declared.splice.Splice.{Splice}
 
 module _ (xs ys : List ℕ) (at end : ℕ) (within : at ≤ length xs) where
@@ -19,7 +19,7 @@ module _ (xs ys : List ℕ) (at end : ℕ) (within : at ≤ length xs) where
   length-splice = omega (arith, length-append (take at xs) (ys ++ drop end xs), length-append ys (drop end xs), length-take-le at xs within, length-drop end xs)
 
 -- a part that is put where it stands
-splice-standing : (xs part : List ℕ) (at : ℕ) → Stands xs at part → splice xs at (at + length part) part ≡ xs
+splice-standing : (xs part : List ℕ) (at : ℕ) → OccursAt xs at part → splice xs at (at + length part) part ≡ xs
 splice-standing xs part at stands =
     let behind : part ++ drop (at + length part) xs ≡ drop at xs =
     ap (λ (l : List ℕ). part ++ l) (sym (drop-drop (length part) at xs))
@@ -27,8 +27,8 @@ splice-standing xs part at stands =
     ap (λ (l : List ℕ). take at xs ++ l) behind ∙ take-append-drop at xs
 
 -- a part that is put where another stands, and the other again
-module _ (xs old new : List ℕ) (at : ℕ) (stands : Stands xs at old) where
-  stands-splice : Stands (splice xs at (at + length old) new) at new
+module _ (xs old new : List ℕ) (at : ℕ) (stands : OccursAt xs at old) where
+  stands-splice : OccursAt (splice xs at (at + length old) new) at new
   stands-splice =
       let within : at ≤ length xs = let l = stands.within in omega (arith, l) in
       record {
@@ -43,7 +43,7 @@ module _ (xs old new : List ℕ) (at : ℕ) (stands : Stands xs at old) where
       ∙ (ap (λ (l : List ℕ). take at xs ++ (old ++ l)) (drop-splice_past xs new at (at + length old) within)
       ∙ splice-standing xs old at stands)
 
-pub leads_back : (s : Splice) (from to : List ℕ) (held : ℕ) → Leads s from to held → Stands to s.at s.new × (backwards s to ≡ from)
+pub leads_back : (s : Splice) (from to : List ℕ) (held : ℕ) → Leads s from to held → OccursAt to s.at s.new × (backwards s to ≡ from)
 leads_back s from to held leads = (
   rw (sym leads.gives) (stands-splice from s.old s.new s.at leads.stands),
   rw (sym leads.gives) (splice-back from s.old s.new s.at leads.stands),

@@ -7,7 +7,7 @@ use Rattle.geos_model.specs.declared.fault.Fault.TheVariants.{Memory}
 use Rattle.chunk_edits.specs.declared.splice.Splice.{Splice}
 
 -- the part stands at a place of these bytes
-pub record Stands (bytes : List ℕ) (at : ℕ) (part : List ℕ) : Type 0 where
+pub record OccursAt (bytes : List ℕ) (at : ℕ) (part : List ℕ) : Type 0 where
   pub within : at + length part ≤ length bytes
   pub same : take (length part) (drop at bytes) ≡ part
 
@@ -20,7 +20,7 @@ backwards s bytes = splice bytes s.at (s.at + length s.new) s.old
 
 -- From these bytes the splice leads to those, and it holds so many bytes of them.
 pub record Leads (s : Splice) (from to : List ℕ) (held : ℕ) : Type 0 where
-  pub stands : Stands from s.at s.old
+  pub stands : OccursAt from s.at s.old
   pub gives : forwards s from ≡ to
   pub holds : length s.old + length s.new ≡ held
 
@@ -29,10 +29,10 @@ pub record Builds (conditions : Conditions) (s : Splice) (from to : List ℕ) (h
   pub accepted : first_refusal conditions ≡ None
   pub leads : Leads s from to held
 
--- want of memory, or the first refusal
+-- lack of memory, or the first refusal
 abbrev pub RefusesToBuild : Conditions → Fault → Type 0
 RefusesToBuild conditions fault = (fault ≡ Memory) ⊎ (first_refusal conditions ≡ Some fault)
 
 -- Where a splice leads, its new part stands, and it leads back.
 abbrev pub SpliceLaw : Type 0
-SpliceLaw = (s : Splice) (from to : List ℕ) (held : ℕ) → Leads s from to held → Stands to s.at s.new × (backwards s to ≡ from)
+SpliceLaw = (s : Splice) (from to : List ℕ) (held : ℕ) → Leads s from to held → OccursAt to s.at s.new × (backwards s to ≡ from)

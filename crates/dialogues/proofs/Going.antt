@@ -3,8 +3,8 @@ use Rattle.std.proofs.Common.{◌≡◌, ◌++◌, ℕ, List, [], false, None, S
 use Rattle.geos_model.specs.Machine.{Machine, empty_machine}
 use Rattle.geos_model.specs.Script.{lines, requests, Answered}
 use Rattle.vm_store.specs.Facts.{StoreFacts}
-use Rattle.undo_log.specs.Records.{SessionState, machine_of}
-use Rattle.geos_shell.specs.Holdings.{Holding, held, machine}
+use Rattle.undo_log.specs.Sessions.{SessionState, machine_of}
+use Rattle.geos_shell.specs.Holdings.{Holding, holding, machine}
 use Rattle.geos_shell.specs.Runs.{AnswersAll, AnswersOf}
 use Rattle.dialogues.specs.Dialogues.{Goes}
 
@@ -24,7 +24,7 @@ module _ {S : Type 0} (facts : S → StoreFacts) (old new : Holding S) (script l
 
 -- A session on a new document answers so.
 pub begins : {S : Type 0} (facts : S → StoreFacts) (frames : ℕ) (session : SessionState S) (script replies : List ℕ) (after : Holding S)
-    → machine_of false session ≡ empty_machine frames false → AnswersOf facts (held session None None) (requests (lines script)) replies after → Goes frames script replies
+    → machine_of false session ≡ empty_machine frames false → AnswersOf facts (holding session None None) (requests (lines script)) replies after → Goes frames script replies
 begins facts frames session script replies after new answers = record {
   after = machine after;
   failed = answers.failed;

@@ -1,8 +1,8 @@
 //! A dialogue, and whether a run goes as it is written.
 ghost use Rattle.std.specs.Prelude.{◌≡◌, ◌≤◌, ◌++◌, ◌∷◌, [], None, Option, IfOk, OnOk};
 ghost use Rattle.geos_model.specs.Script.{line_feed, lines, requests};
-ghost use Rattle.undo_log.specs.Records.{IsExact};
-ghost use Rattle.geos_shell.specs.Holdings.{AreExact, held};
+ghost use Rattle.undo_log.specs.Sessions.{IsExact};
+ghost use Rattle.geos_shell.specs.Holdings.{AreExact, holding};
 ghost use Rattle.geos_shell.specs.Runs.{AnswersOf};
 ghost use Rattle.dialogues.specs.Dialogues.{Goes};
 
@@ -156,10 +156,11 @@ impl Dialogue {
         session: Session<S>,
         target: Option<S>,
     ) -> Result<Session<S>, Mismatch>
-        ensures answers { IfOk result (λ after. AreExact S.facts (held session target None) → (left former : Option S)
-            × AnswersOf S.facts (held session target None) (requests (lines self.now.0)) self.now.1
-            (held after left former)) }
-        ensures exact { IfOk result (λ after. AreExact S.facts (held session target None) → IsExact S.facts after) }
+        ensures answers { IfOk result
+            (λ after. AreExact S.facts (holding session target None) → (left former : Option S)
+            × AnswersOf S.facts (holding session target None) (requests (lines self.now.0)) self.now.1
+            (holding after left former)) }
+        ensures exact { IfOk result (λ after. AreExact S.facts (holding session target None) → IsExact S.facts after) }
     {
         let mut written = Vec::new(self.alloc);
         let session = run(

@@ -19,33 +19,33 @@ use Rattle.geos_model.specs.declared.fault.Fault.TheVariants.{IsMap, NoHandles}
 use Rattle.geos_model.specs.declared.handle.VmHandle.{VmHandle}
 use Rattle.geos_model.specs.declared.command.Kind.TheVariants.{Plain, Made, Freed}
 use Rattle.geos_model.specs.declared.block.Attributes.{Attributes}
-use Rattle.vm_blocks.specs.Changes.{HasAttributes, IsFree, AreFree, CanGo, CanAllGo}
-use Rattle.vm_file.specs.Members.{saved_blocks}
+use Rattle.vm_blocks.specs.Changes.{HasAttributes, IsFreeHandle, AreFree, CanRemove, CanRemoveAll}
+use Rattle.vm_file.specs.Members.{imaged_blocks}
 use Rattle.vm_blocks.specs.declared.change.Change.TheVariants as changes
 use Rattle.vm_blocks.specs.declared.change.Change.TheVariants.{BlocksIn, BlocksOut}
-use Rattle.vm_blocks.proofs.KindLemmas.{fitted-same}
+use Rattle.vm_blocks.proofs.KindLemmas.{attributes_for_kind-same}
 use Rattle.vm_blocks.specs.declared.member.Members.{Members}
 use Rattle.doc_edits.specs.Planning.{Plans}
 use Rattle.doc_edits.proofs.Documents.{body_at}
 
-module _ (edit : Edit) (d : Document) (ms : Members) (h : ℕ) (b : Block) (done : Done) (one : saved_blocks ms.list.items ≡ (h, b) ∷ []) where
-  length_one : images_length (saved_blocks ms.list.items) ≡ length (image b.body)
+module _ (edit : Edit) (d : Document) (ms : Members) (h : ℕ) (b : Block) (done : Done) (one : imaged_blocks ms.list.items ≡ (h, b) ∷ []) where
+  length_one : images_length (imaged_blocks ms.list.items) ≡ length (image b.body)
   length_one = ap images_length one ∙ omega arith
 
-  pub block_made : first_refusal (conditions edit d) ≡ None → IsFree d h → with_block d h b ≡ (effect edit d).0 → done ≡ (effect edit d).1 → Made ≡ kind_of edit → length (image b.body) ≡ cost edit d (effect edit d).0 → Plans edit d (BlocksIn ms) done
+  pub block_made : first_refusal (conditions edit d) ≡ None → IsFreeHandle d h → with_block d h b ≡ (effect edit d).0 → done ≡ (effect edit d).1 → Made ≡ kind_of edit → length (image b.body) ≡ cost edit d (effect edit d).0 → Plans edit d (BlocksIn ms) done
   block_made accepted free document answer kind charged = record {
     accepted = accepted;
-    applies = subst (λ (ps : List (ℕ × Block)). AreFree d (handles_of ps)) (sym one) (record { free = All-cons (IsFree d) h [] free (All-nil (IsFree d)); distinct = refl });
+    applies = subst (λ (ps : List (ℕ × Block)). AreFree d (handles_of ps)) (sym one) (record { free = All-cons (IsFreeHandle d) h [] free (All-nil (IsFreeHandle d)); distinct = refl });
     document = ap (with_blocks d) one ∙ document;
     answer = answer;
     kind = kind;
     cost = length_one ∙ charged;
   }
 
-  pub block_freed : first_refusal (conditions edit d) ≡ None → CanGo d h b → without_block d h ≡ (effect edit d).0 → done ≡ (effect edit d).1 → Freed ≡ kind_of edit → length (image b.body) ≡ cost edit d (effect edit d).0 → Plans edit d (BlocksOut ms) done
+  pub block_freed : first_refusal (conditions edit d) ≡ None → CanRemove d h b → without_block d h ≡ (effect edit d).0 → done ≡ (effect edit d).1 → Freed ≡ kind_of edit → length (image b.body) ≡ cost edit d (effect edit d).0 → Plans edit d (BlocksOut ms) done
   block_freed accepted goes document answer kind charged = record {
     accepted = accepted;
-    applies = subst (CanAllGo d) (sym one) (record { go = All-cons (λ p. CanGo d p.0 p.1) (h, b) [] goes (All-nil (λ p. CanGo d p.0 p.1)); distinct = refl });
+    applies = subst (CanRemoveAll d) (sym one) (record { go = All-cons (λ p. CanRemove d p.0 p.1) (h, b) [] goes (All-nil (λ p. CanRemove d p.0 p.1)); distinct = refl });
     document = ap (λ (ps : List (ℕ × Block)). without_blocks d (handles_of ps)) one ∙ document;
     answer = answer;
     kind = kind;
@@ -72,12 +72,12 @@ module _ (d : Document) (handle : VmHandle) (attributes : Attributes) (body : Bo
   how_long = sym (ap (λ (o : Option Block). option_map_or (λ (b : Block). length (image b.body)) o 0) there)
 
   module _ (ms : Members) where
-    pub free_planned : (d.map_block == handle.0) ≡ false → saved_blocks ms.list.items ≡ (handle.0, block) ∷ [] → Plans (edits.FreeBlock handle) d (BlocksOut ms) done.Nothing
+    pub free_planned : (d.map_block == handle.0) ≡ false → imaged_blocks ms.list.items ≡ (handle.0, block) ∷ [] → Plans (edits.FreeBlock handle) d (BlocksOut ms) done.Nothing
     free_planned other one =
         block_freed (edits.FreeBlock handle) d ms handle.0 block done.Nothing one (rw (there, other) refl)
         (record { stands = there; other = λ is. true≢false (sym (eq-eqb d.map_block handle.0 is) ∙ other) }) refl refl refl how_long
 
-    pub copy_planned : (new : VmHandle) → next_handle d ≡ Some new.0 → IsFree d new.0 → saved_blocks ms.list.items ≡ (new.0, block) ∷ [] → Plans (edits.CopyBlock handle) d (BlocksIn ms) (done.Block new)
+    pub copy_planned : (new : VmHandle) → next_handle d ≡ Some new.0 → IsFreeHandle d new.0 → imaged_blocks ms.list.items ≡ (new.0, block) ∷ [] → Plans (edits.CopyBlock handle) d (BlocksIn ms) (done.Block new)
     copy_planned new next free one =
         let first : new.0 ≡ unwrap_or (next_handle d) 0 = sym (ap (λ (o : Option ℕ). unwrap_or o 0) next) in
         let at : block ≡ block_at d handle.0 = sym (ap (λ (o : Option Block). unwrap_or o no_block) there) in
@@ -90,7 +90,7 @@ attributes_planned : (edit : Edit) (d : Document) (h : VmHandle) (old new : Attr
 attributes_planned edit d h old new accepted has document answer kind charged = record {
   accepted = accepted;
   applies = has;
-  document = ap (with_attributes d h.0) (fitted-same (is_heap d h.0) new has.typed) ∙ document;
+  document = ap (with_attributes d h.0) (attributes_for_kind-same (is_heap d h.0) new has.typed) ∙ document;
   answer = answer;
   kind = kind;
   cost = charged;

@@ -22,7 +22,7 @@ use Rattle.chunk_edits.specs.declared.splice.Splice.{Splice}
 use Rattle.lmem_heap.proofs.PlacedLemmas.{fits_new-some, fits_new-none}
 use Rattle.vm_blocks.proofs.RoomLemmas.{fits_as, fits_few}
 use Rattle.vm_blocks.specs.Allowing.{AllowsNewChunk}
-use Rattle.vm_blocks.specs.Changes.{bytes_of}
+use Rattle.vm_blocks.specs.Changes.{content_bytes}
 use Rattle.vm_blocks.specs.declared.change.Change.TheVariants as changes
 use Rattle.vm_blocks.specs.declared.change.Content.{Content}
 use Rattle.vm_blocks.specs.declared.change.PartChange.TheVariants as parts
@@ -114,36 +114,36 @@ module _ (edit : Edit) (d : Document) (b : VmHandle) (is : new_in edit ≡ Some 
     pub is_heap_for : IsHeapFor edit d
     is_heap_for = subst (λ (o : Option VmHandle). MatchOption o ⊥ (λ b. IsHeapAt d b.0 (chunks_of d b.0))) (sym is) (heap_here d b.0 m live)
 
-    module _ (content : Content) (built : CreatesAt edit d (bytes_of content)) where
-      creates : Creates edit d b (bytes_of content)
-      creates = subst (λ (o : Option VmHandle). MatchOption o ⊥ (λ b. Creates edit d b (bytes_of content))) is built
+    module _ (content : Content) (built : CreatesAt edit d (content_bytes content)) where
+      creates : Creates edit d b (content_bytes content)
+      creates = subst (λ (o : Option VmHandle). MatchOption o ⊥ (λ b. Creates edit d b (content_bytes content))) is built
 
-      by_place : (fit : Bool) → fits_new m (bytes_of content) ≡ fit → first_refusal (conditions edit d) ≡ cond fit None (Some Full)
+      by_place : (fit : Bool) → fits_new m (content_bytes content) ≡ fit → first_refusal (conditions edit d) ≡ cond fit None (Some Full)
       by_place fit e =
-          creates.refusal ∙ ap (λ (x : ChunkMap). first_refusal (no_place x (bytes_of content))) (chunks_are d b.0 m live) ∙ ap (λ (t : Bool). first_refusal ((Full, not t) ∷ [])) e
+          creates.refusal ∙ ap (λ (x : ChunkMap). first_refusal (no_place x (content_bytes content))) (chunks_are d b.0 m live) ∙ ap (λ (t : Bool). first_refusal ((Full, not t) ∷ [])) e
           ∙ decides fit
         where
           decides : (fit : Bool) → first_refusal ((Full, not fit) ∷ []) ≡ cond fit None (Some Full)
           decides true = refl
           decides false = refl
 
-      pub new_full : fits_new m (bytes_of content) ≡ false → first_refusal (conditions edit d) ≡ Some Full
+      pub new_full : fits_new m (content_bytes content) ≡ false → first_refusal (conditions edit d) ≡ Some Full
       new_full e = by_place false e
 
-      module _ (c : ChunkHandle) (next : next_chunk m ≡ Some c.0) (allows : AllowsNewChunk m c.0 (bytes_of content)) where
+      module _ (c : ChunkHandle) (next : next_chunk m ≡ Some c.0) (allows : AllowsNewChunk m c.0 (content_bytes content)) where
         handle_is : new_chunk d b.0 ≡ c.0
         handle_is = ap (λ (x : ChunkMap). unwrap_or (next_chunk x) 0) (chunks_are d b.0 m live) ∙ ap (λ (o : Option ℕ). unwrap_or o 0) next
 
         pub new_planned : Plans edit d (changes.Part b (parts.ChunkIn c content)) (Chunk c)
         new_planned = record {
-          accepted = by_place true (fits_new-some m c.0 (bytes_of content) next ∙ allows.fits);
+          accepted = by_place true (fits_new-some m c.0 (content_bytes content) next ∙ allows.fits);
           applies = record {
             heap = heap_there d b.0 m live;
             handle = allows.handle;
             free = rw (chunks_are d b.0 m live) allows.free;
             fits = rw (chunks_are d b.0 m live) allows.fits;
           };
-          document = ap (λ (k : ℕ). with_chunk d b.0 k (bytes_of content)) (sym handle_is) ∙ ap (λ p. p.0) (sym creates.does);
+          document = ap (λ (k : ℕ). with_chunk d b.0 k (content_bytes content)) (sym handle_is) ∙ ap (λ p. p.0) (sym creates.does);
           answer = ap (λ (k : ℕ). Chunk (record { 0 = k })) (sym handle_is) ∙ ap (λ p. p.1) (sym creates.does);
           kind = sym creates.kind;
           cost = sym creates.cost;

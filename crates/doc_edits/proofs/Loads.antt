@@ -12,18 +12,18 @@ use Rattle.geos_model.specs.declared.handle.VmHandle.{VmHandle}
 use Rattle.geos_model.specs.declared.scope.Scope.{Scope}
 use Rattle.geos_model.specs.declared.scope.Scope.TheVariants.{Block, Raw, Heap, Chunk}
 use Rattle.block_cache.specs.State.{CacheState}
-use Rattle.vm_blocks.specs.Keeping.{LacksFrame, is_loaded, is_shut_out}
-use Rattle.vm_blocks.specs.Kinds.{IsOfOther}
-use Rattle.doc_edits.specs.Planning.{Refuses}
+use Rattle.vm_blocks.specs.Keeping.{IsCacheFull, is_loaded, is_shut_out}
+use Rattle.vm_blocks.specs.Kinds.{IsWrongBlock}
+use Rattle.doc_edits.specs.Planning.{RefusesEdit}
 use Rattle.doc_edits.specs.Loading.{IsBrought}
 use Rattle.doc_edits.specs.Room.{has_no_room, ReadsNothing}
 use Rattle.doc_edits.proofs.First.{FirstOfScope, heap_begins, scope_first}
-use Rattle.doc_edits.proofs.Rooms.{LooksFor, early_dead, err_dead, err_of, looks_for_any, looks_for_heap, looks_for_raw, rests, room_of, shut_of}
+use Rattle.doc_edits.proofs.Rooms.{LooksFor, early_dead, err_dead, err_of, looks_for_any, looks_for_heap, looks_for_raw, unchanged, room_of, shut_of}
 
 module _ {S : Type 0} (lacks : Fault → Type 0) (edit : Edit) (a b : CacheState S) (h : VmHandle) (result : Result (Unit {0}) Fault) where
   module _ (is_kind : Document → ℕ → Bool) (scope : Scope) (is : scope_of edit ≡ scope) (body : needs_of_scope scope ≡ OneBody h.0) (looks : LooksFor is_kind h.0 (conditions edit))
-      (early : (fault : Fault) → IsOfOther is_kind a.document h.0 fault → (result ≡ Err fault) × (b ≡ a)) (shut : is_kind a.document h.0 ≡ true → is_shut_out a h.0 ≡ true → (result ≡ Err CacheFull) × (b ≡ a))
-      (err : IfErr result (λ fault. lacks fault ⊎ (IsOfOther is_kind b.document h.0 fault ⊎ LacksFrame a h.0 fault)))
+      (early : (fault : Fault) → IsWrongBlock is_kind a.document h.0 fault → (result ≡ Err fault) × (b ≡ a)) (shut : is_kind a.document h.0 ≡ true → is_shut_out a h.0 ≡ true → (result ≡ Err CacheFull) × (b ≡ a))
+      (err : IfErr result (λ fault. lacks fault ⊎ (IsWrongBlock is_kind b.document h.0 fault ⊎ IsCacheFull a h.0 fault)))
       (already : is_loaded a h.0 ≡ true → is_kind a.document h.0 ≡ true → IsOk result × (b.disk ≡ a.disk) × (b.document ≡ a.document)) where
     needs : edit_needs edit ≡ OneBody h.0
     needs = ap needs_of_scope is ∙ body
@@ -35,24 +35,24 @@ module _ {S : Type 0} (lacks : Fault → Type 0) (edit : Edit) (a b : CacheState
     brought = record {
       room = subst (λ (out : Bool). IfOk result (λ _. out ≡ false)) (sym same) (room_of is_kind a b h.0 result early shut (conditions edit) looks);
       shut = λ out. shut_of is_kind a b h.0 result early shut (conditions edit) looks (sym same ∙ out);
-      err = subst (λ (out : Bool). IfErr result (Refuses lacks out edit b.document)) (sym same) (err_of is_kind a b h.0 result early shut (conditions edit) looks lacks err);
-      already = λ nothing. rests is_kind a b h.0 result early shut (conditions edit) looks already (subst (λ (n : Needs). ReadsNothing a n (conditions edit a.document)) needs nothing);
+      err = subst (λ (out : Bool). IfErr result (RefusesEdit lacks out edit b.document)) (sym same) (err_of is_kind a b h.0 result early shut (conditions edit) looks lacks err);
+      already = λ nothing. unchanged is_kind a b h.0 result early shut (conditions edit) looks already (subst (λ (n : Needs). ReadsNothing a n (conditions edit a.document)) needs nothing);
     }
 
   pub block_brought : scope_of edit ≡ Block h → (is_live a.document h.0 ≡ false → (result ≡ Err NoBlock) × (b ≡ a)) → (is_live a.document h.0 ≡ true → is_shut_out a h.0 ≡ true → (result ≡ Err CacheFull) × (b ≡ a))
-      → IfErr result (λ fault. lacks fault ⊎ (((fault ≡ NoBlock) × (is_live b.document h.0 ≡ false)) ⊎ LacksFrame a h.0 fault))
+      → IfErr result (λ fault. lacks fault ⊎ (((fault ≡ NoBlock) × (is_live b.document h.0 ≡ false)) ⊎ IsCacheFull a h.0 fault))
       → (is_loaded a h.0 ≡ true → IsOk result × (b.disk ≡ a.disk) × (b.document ≡ a.document)) → IsBrought lacks edit a b result
   block_brought is dead shut err already =
       brought is_live (Block h) is refl (looks_for_any h.0 (conditions edit) (subst (FirstOfScope edit) is (scope_first edit))) (early_dead a b h.0 result dead) shut (err_dead a b h.0 lacks result err) (λ loaded live. already loaded)
 
-  pub raw_brought : scope_of edit ≡ Raw h → ((fault : Fault) → IsOfOther is_raw a.document h.0 fault → (result ≡ Err fault) × (b ≡ a)) → (is_raw a.document h.0 ≡ true → is_shut_out a h.0 ≡ true → (result ≡ Err CacheFull) × (b ≡ a))
-      → IfErr result (λ fault. lacks fault ⊎ (IsOfOther is_raw b.document h.0 fault ⊎ LacksFrame a h.0 fault))
+  pub raw_brought : scope_of edit ≡ Raw h → ((fault : Fault) → IsWrongBlock is_raw a.document h.0 fault → (result ≡ Err fault) × (b ≡ a)) → (is_raw a.document h.0 ≡ true → is_shut_out a h.0 ≡ true → (result ≡ Err CacheFull) × (b ≡ a))
+      → IfErr result (λ fault. lacks fault ⊎ (IsWrongBlock is_raw b.document h.0 fault ⊎ IsCacheFull a h.0 fault))
       → (is_loaded a h.0 ≡ true → is_raw a.document h.0 ≡ true → IsOk result × (b.disk ≡ a.disk) × (b.document ≡ a.document)) → IsBrought lacks edit a b result
   raw_brought is early shut err already = brought is_raw (Raw h) is refl (looks_for_raw h.0 (conditions edit) (subst (FirstOfScope edit) is (scope_first edit))) early shut err already
 
   -- a heap, for a new chunk or one of its own
-  pub heap_brought : (scope : Scope) → scope ≡ scope_of edit → (scope ≡ Heap h) ⊎ ((c : ChunkHandle) × (scope ≡ Chunk h c)) → ((fault : Fault) → IsOfOther is_heap a.document h.0 fault → (result ≡ Err fault) × (b ≡ a)) → (is_heap a.document h.0 ≡ true → is_shut_out a h.0 ≡ true → (result ≡ Err CacheFull) × (b ≡ a))
-      → IfErr result (λ fault. lacks fault ⊎ (IsOfOther is_heap b.document h.0 fault ⊎ LacksFrame a h.0 fault))
+  pub heap_brought : (scope : Scope) → scope ≡ scope_of edit → (scope ≡ Heap h) ⊎ ((c : ChunkHandle) × (scope ≡ Chunk h c)) → ((fault : Fault) → IsWrongBlock is_heap a.document h.0 fault → (result ≡ Err fault) × (b ≡ a)) → (is_heap a.document h.0 ≡ true → is_shut_out a h.0 ≡ true → (result ≡ Err CacheFull) × (b ≡ a))
+      → IfErr result (λ fault. lacks fault ⊎ (IsWrongBlock is_heap b.document h.0 fault ⊎ IsCacheFull a h.0 fault))
       → (is_loaded a h.0 ≡ true → is_heap a.document h.0 ≡ true → IsOk result × (b.disk ≡ a.disk) × (b.document ≡ a.document)) → IsBrought lacks edit a b result
   heap_brought scope same (inl new) early shut err already =
       let is : scope_of edit ≡ Heap h = sym same ∙ new in

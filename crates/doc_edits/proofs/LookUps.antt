@@ -22,15 +22,15 @@ use Rattle.geos_model.specs.declared.handle.Token.{Token}
 use Rattle.geos_model.specs.declared.handle.VmHandle.{VmHandle}
 use Rattle.element_arrays.specs.Answering.{IsAnswered, IsRefused}
 use Rattle.block_cache.specs.State.{CacheState}
-use Rattle.vm_chains.specs.Answers.{Answers}
+use Rattle.vm_chains.specs.Answers.{AnswersChain}
 use Rattle.vm_store.specs.Facts.{StoreFacts}
-use Rattle.vm_blocks.specs.Keeping.{Keeps, Lacks, LacksFrame, is_loaded, is_shut_out}
-use Rattle.vm_blocks.specs.Kinds.{IsOfOther}
+use Rattle.vm_blocks.specs.Keeping.{KeepsBlocks, IsEnvironmentFault, IsCacheFull, is_loaded, is_shut_out}
+use Rattle.vm_blocks.specs.Kinds.{IsWrongBlock}
 use Rattle.doc_edits.specs.Found.{AreLate, IsChunkAt}
-use Rattle.doc_edits.specs.LookUps.{answer_of, chunk_asked, makes_list, FindsAtHand, LooksUp, LooksUpAtHand, RefusesChunk, Sees}
+use Rattle.doc_edits.specs.LookUps.{answer_of, chunk_asked, makes_list, FindsInMemory, LooksUp, LooksUpInMemory, RefusesChunk, Sees}
 use Rattle.doc_edits.specs.Room.{has_no_room, ReadsNothing}
 use Rattle.doc_edits.proofs.Refusals.{past_chunk}
-use Rattle.doc_edits.proofs.Rooms.{LooksFor, looks_for_heap, refused_for, rests, room_at}
+use Rattle.doc_edits.proofs.Rooms.{LooksFor, looks_for_heap, refused_for, unchanged, room_at}
 
 module _ (lacks : Fault → Type 0) (no_room : Bool) where
   -- a look-up that is refused
@@ -62,7 +62,7 @@ module _ (lacks : Fault → Type 0) (no_room : Bool) where
 
     -- what vm_chains answers of a chain
     pub chain_answered : {T : Type 0} (f : T → Reply) (P : T → Type 0) (r : Result T Fault) → ((x : T) → P x → look_up command d ≡ Some (f x))
-        → Answers lacks (look_up_conditions command d) P r → LooksUp lacks no_room command d (reply_by f r)
+        → AnswersChain lacks (look_up_conditions command d) P r → LooksUp lacks no_room command d (reply_by f r)
     chain_answered f P (Ok x) does answers = answered_with_room (f x) answers.0 (does x answers.1)
     chain_answered f P (Err fault) does (inl lack) = lacked fault lack
     chain_answered f P (Err fault) does (inr first) = refused_with_room fault first
@@ -140,8 +140,8 @@ chunk_looks command b c asked = looks_for_heap b.0 (look_up_conditions command) 
 
 -- A block that isn't loaded refuses what is looked up of its body.
 module _ {S : Type 0} (is_kind : Document → ℕ → Bool) (a e : CacheState S) (h : ℕ) (lacks : Fault → Type 0) (result : Result (Unit {0}) Fault)
-    (early : (fault : Fault) → IsOfOther is_kind a.document h fault → (result ≡ Err fault) × (e ≡ a)) (shut : is_kind a.document h ≡ true → is_shut_out a h ≡ true → (result ≡ Err CacheFull) × (e ≡ a))
-    (fault : Fault) (was : result ≡ Err fault) (why : lacks fault ⊎ (IsOfOther is_kind e.document h fault ⊎ LacksFrame a h fault)) where
+    (early : (fault : Fault) → IsWrongBlock is_kind a.document h fault → (result ≡ Err fault) × (e ≡ a)) (shut : is_kind a.document h ≡ true → is_shut_out a h ≡ true → (result ≡ Err CacheFull) × (e ≡ a))
+    (fault : Fault) (was : result ≡ Err fault) (why : lacks fault ⊎ (IsWrongBlock is_kind e.document h fault ⊎ IsCacheFull a h fault)) where
   pub load_refuses : (command : Command) → LooksFor is_kind h (look_up_conditions command) → LooksUp lacks (is_shut_out a h) command e.document (Refused fault)
   load_refuses command looks = refused_or_lacked lacks (is_shut_out a h) command e.document fault (refused_for is_kind a e h result early shut (look_up_conditions command) looks lacks fault was why)
 
@@ -216,49 +216,49 @@ module _ (lacks : Fault → Type 0) (no_room : Bool) (room : no_room ≡ false) 
   own_answered own value g (Err fault) v conditions does refused = refused_with_room lacks no_room room command d fault (ap first_refusal conditions ∙ past d b c bytes own there ∙ refused)
 
 -- Where nothing has to be read.
-module _ {S : Type 0} (facts : S → StoreFacts) (a e : CacheState S) (keeps : Keeps facts a e) (command : Command) where
-  abbrev Rests : Type 0
-  Rests = (e.disk ≡ a.disk) × (e.document ≡ a.document)
+module _ {S : Type 0} (facts : S → StoreFacts) (a e : CacheState S) (keeps : KeepsBlocks facts a e) (command : Command) where
+  abbrev IsUnchanged : Type 0
+  IsUnchanged = (e.disk ≡ a.disk) × (e.document ≡ a.document)
 
   -- what is refused first is answered
   pub refusal_seen : {T : Type 0} (f : T → Reply) (r : Result T Fault) (fault : Fault) → IsErrAnd r (λ x. x ≡ fault)
-      → LooksUp (Lacks facts a.disk.store e.disk.store) (has_no_room a (look_up_needs command)) command e.document (Refused fault)
+      → LooksUp (IsEnvironmentFault facts a.disk.store e.disk.store) (has_no_room a (look_up_needs command)) command e.document (Refused fault)
       → (ReadsNothing a (look_up_needs command) (look_up_conditions command a.document) → (e.disk ≡ a.disk) × (e.document ≡ a.document) × (first_refusal (look_up_conditions command a.document) ≡ Some fault))
       → Sees facts a e command (reply_by f r)
-  refusal_seen f r fault is value rests = record {
+  refusal_seen f r fault is value unchanged = record {
     keeps = keeps;
-    value = refused_as (Lacks facts a.disk.store e.disk.store) (has_no_room a (look_up_needs command)) command e.document f r fault is value;
+    value = refused_as (IsEnvironmentFault facts a.disk.store e.disk.store) (has_no_room a (look_up_needs command)) command e.document f r fault is value;
     already = λ nothing.
-        let rest = rests nothing in
+        let rest = unchanged nothing in
         (rest.0, rest.1, refused_as (λ x. (x ≡ Memory) × (makes_list command ≡ true)) false command a.document f r fault is (refused_with_room (λ x. (x ≡ Memory) × (makes_list command ≡ true)) false refl command a.document fault rest.2));
   }
 
   -- and so is what is there, whatever may be lacking
   pub answer_seen : (reply : Reply) → has_no_room a (look_up_needs command) ≡ false
       → ((lacks : Fault → Type 0) (no_room : Bool) → no_room ≡ false → LooksUp lacks no_room command e.document reply)
-      → (ReadsNothing a (look_up_needs command) (look_up_conditions command a.document) → Rests)
+      → (ReadsNothing a (look_up_needs command) (look_up_conditions command a.document) → IsUnchanged)
       → Sees facts a e command reply
-  answer_seen reply room answers rests = record {
+  answer_seen reply room answers unchanged = record {
     keeps = keeps;
-    value = answers (Lacks facts a.disk.store e.disk.store) (has_no_room a (look_up_needs command)) room;
+    value = answers (IsEnvironmentFault facts a.disk.store e.disk.store) (has_no_room a (look_up_needs command)) room;
     already = λ nothing.
-        let rest = rests nothing in
-        (rest.0, rest.1, subst (λ (d : Document). LooksUpAtHand command d reply) rest.1 (answers (λ x. (x ≡ Memory) × (makes_list command ≡ true)) false refl));
+        let rest = unchanged nothing in
+        (rest.0, rest.1, subst (λ (d : Document). LooksUpInMemory command d reply) rest.1 (answers (λ x. (x ≡ Memory) × (makes_list command ≡ true)) false refl));
   }
 
 -- Of a look-up into a block, with what came of bringing that into memory.
-module _ {S : Type 0} (facts : S → StoreFacts) (is_kind : Document → ℕ → Bool) (a e : CacheState S) (h : ℕ) (result : Result (Unit {0}) Fault) (keeps : Keeps facts a e)
-    (early : (fault : Fault) → IsOfOther is_kind a.document h fault → (result ≡ Err fault) × (e ≡ a)) (shut : is_kind a.document h ≡ true → is_shut_out a h ≡ true → (result ≡ Err CacheFull) × (e ≡ a))
+module _ {S : Type 0} (facts : S → StoreFacts) (is_kind : Document → ℕ → Bool) (a e : CacheState S) (h : ℕ) (result : Result (Unit {0}) Fault) (keeps : KeepsBlocks facts a e)
+    (early : (fault : Fault) → IsWrongBlock is_kind a.document h fault → (result ≡ Err fault) × (e ≡ a)) (shut : is_kind a.document h ≡ true → is_shut_out a h ≡ true → (result ≡ Err CacheFull) × (e ≡ a))
     (here : is_loaded a h ≡ true → is_kind a.document h ≡ true → IsOk result × (e.disk ≡ a.disk) × (e.document ≡ a.document))
     (command : Command) (looks : LooksFor is_kind h (look_up_conditions command)) (needs : look_up_needs command ≡ OneBody h) where
   pub load_rests : ReadsNothing a (look_up_needs command) (look_up_conditions command a.document) → (e.disk ≡ a.disk) × (e.document ≡ a.document) × IfErr result (λ fault. first_refusal (look_up_conditions command a.document) ≡ Some fault)
-  load_rests nothing = rests is_kind a e h result early shut (look_up_conditions command) looks here (subst (λ (n : Needs). ReadsNothing a n (look_up_conditions command a.document)) needs nothing)
+  load_rests nothing = unchanged is_kind a e h result early shut (look_up_conditions command) looks here (subst (λ (n : Needs). ReadsNothing a n (look_up_conditions command a.document)) needs nothing)
 
   pub load_missed : {T : Type 0} (f : T → Reply) (r : Result T Fault) (fault : Fault) → result ≡ Err fault → IsErrAnd r (λ x. x ≡ fault)
-      → Lacks facts a.disk.store e.disk.store fault ⊎ (IsOfOther is_kind e.document h fault ⊎ LacksFrame a h fault) → Sees facts a e command (reply_by f r)
+      → IsEnvironmentFault facts a.disk.store e.disk.store fault ⊎ (IsWrongBlock is_kind e.document h fault ⊎ IsCacheFull a h fault) → Sees facts a e command (reply_by f r)
   load_missed f r fault was is why =
       refusal_seen facts a e keeps command f r fault is
-      (subst (λ (n : Needs). LooksUp (Lacks facts a.disk.store e.disk.store) (has_no_room a n) command e.document (Refused fault)) (sym needs) (load_refuses is_kind a e h (Lacks facts a.disk.store e.disk.store) result early shut fault was why command looks))
+      (subst (λ (n : Needs). LooksUp (IsEnvironmentFault facts a.disk.store e.disk.store) (has_no_room a n) command e.document (Refused fault)) (sym needs) (load_refuses is_kind a e h (IsEnvironmentFault facts a.disk.store e.disk.store) result early shut fault was why command looks))
       (λ nothing. let rest = load_rests nothing in (rest.0, rest.1, subst (λ (x : Result (Unit {0}) Fault). IfErr x (λ y. first_refusal (look_up_conditions command a.document) ≡ Some y)) was rest.2))
 
   pub load_room : (u : Unit {0}) → result ≡ Ok u → has_no_room a (look_up_needs command) ≡ false
@@ -268,23 +268,23 @@ module _ {S : Type 0} (facts : S → StoreFacts) (is_kind : Document → ℕ →
   load_seen u was reply answers = answer_seen facts a e keeps command reply (load_room u was) answers (λ nothing. let rest = load_rests nothing in (rest.0, rest.1))
 
 -- Of a look-up into a chunk, with what was found of that.
-module _ {S X : Type 0} (facts : S → StoreFacts) (a e : CacheState S) (b : VmHandle) (c : ChunkHandle) (now : X → List ℕ) (r : Result X Fault) (keeps : Keeps facts a e)
-    (found : MatchResult r (λ x. (is_shut_out a b.0 ≡ false) × IsChunkAt e.document b.0 c.0 (now x)) (RefusesChunk (Lacks facts a.disk.store e.disk.store) (is_shut_out a b.0) e.document b c))
-    (at_hand : FindsAtHand a e b c r) (command : Command) (needs : look_up_needs command ≡ OneBody b.0) (asked : chunk_asked command ≡ Some (b, c)) where
+module _ {S X : Type 0} (facts : S → StoreFacts) (a e : CacheState S) (b : VmHandle) (c : ChunkHandle) (now : X → List ℕ) (r : Result X Fault) (keeps : KeepsBlocks facts a e)
+    (found : MatchResult r (λ x. (is_shut_out a b.0 ≡ false) × IsChunkAt e.document b.0 c.0 (now x)) (RefusesChunk (IsEnvironmentFault facts a.disk.store e.disk.store) (is_shut_out a b.0) e.document b c))
+    (in_memory : FindsInMemory a e b c r) (command : Command) (needs : look_up_needs command ≡ OneBody b.0) (asked : chunk_asked command ≡ Some (b, c)) where
   near : ReadsNothing a (look_up_needs command) (look_up_conditions command a.document) → (e.disk ≡ a.disk) × (e.document ≡ a.document) × IfErr r (λ fault. first_refusal (look_up_conditions command a.document) ≡ Some fault)
-  near nothing = at_hand command asked (subst (λ (n : Needs). ReadsNothing a n (look_up_conditions command a.document)) needs nothing)
+  near nothing = in_memory command asked (subst (λ (n : Needs). ReadsNothing a n (look_up_conditions command a.document)) needs nothing)
 
   pub chunk_missed : {T : Type 0} (f : T → Reply) (s : Result T Fault) (fault : Fault) → r ≡ Err fault → IsErrAnd s (λ x. x ≡ fault) → Sees facts a e command (reply_by f s)
   chunk_missed f s fault was is =
-      let refuses : RefusesChunk (Lacks facts a.disk.store e.disk.store) (is_shut_out a b.0) e.document b c fault =
-      subst (λ (x : Result X Fault). MatchResult x (λ y. (is_shut_out a b.0 ≡ false) × IsChunkAt e.document b.0 c.0 (now y)) (RefusesChunk (Lacks facts a.disk.store e.disk.store) (is_shut_out a b.0) e.document b c)) was found in
+      let refuses : RefusesChunk (IsEnvironmentFault facts a.disk.store e.disk.store) (is_shut_out a b.0) e.document b c fault =
+      subst (λ (x : Result X Fault). MatchResult x (λ y. (is_shut_out a b.0 ≡ false) × IsChunkAt e.document b.0 c.0 (now y)) (RefusesChunk (IsEnvironmentFault facts a.disk.store e.disk.store) (is_shut_out a b.0) e.document b c)) was found in
       refusal_seen facts a e keeps command f s fault is
-      (subst (λ (n : Needs). LooksUp (Lacks facts a.disk.store e.disk.store) (has_no_room a n) command e.document (Refused fault)) (sym needs) (refuses command asked))
+      (subst (λ (n : Needs). LooksUp (IsEnvironmentFault facts a.disk.store e.disk.store) (has_no_room a n) command e.document (Refused fault)) (sym needs) (refuses command asked))
       (λ nothing. let rest = near nothing in (rest.0, rest.1, subst (λ (x : Result X Fault). IfErr x (λ y. first_refusal (look_up_conditions command a.document) ≡ Some y)) was rest.2))
 
   module _ (x : X) (was : r ≡ Ok x) where
     is_there : (is_shut_out a b.0 ≡ false) × IsChunkAt e.document b.0 c.0 (now x)
-    is_there = subst (λ (y : Result X Fault). MatchResult y (λ z. (is_shut_out a b.0 ≡ false) × IsChunkAt e.document b.0 c.0 (now z)) (RefusesChunk (Lacks facts a.disk.store e.disk.store) (is_shut_out a b.0) e.document b c)) was found
+    is_there = subst (λ (y : Result X Fault). MatchResult y (λ z. (is_shut_out a b.0 ≡ false) × IsChunkAt e.document b.0 c.0 (now z)) (RefusesChunk (IsEnvironmentFault facts a.disk.store e.disk.store) (is_shut_out a b.0) e.document b c)) was found
 
     -- what its bytes answer is answered
     pub chunk_seen : (reply : Reply) → ((lacks : Fault → Type 0) (no_room : Bool) → no_room ≡ false → IsChunkAt e.document b.0 c.0 (now x) → LooksUp lacks no_room command e.document reply) → Sees facts a e command reply
@@ -298,9 +298,9 @@ module _ {S X : Type 0} (facts : S → StoreFacts) (a e : CacheState S) (b : VmH
         chunk_seen (reply_by (λ y. g (v y)) s) (λ lacks no_room room there. own_answered lacks no_room room e.document b c (now x) there command own value g s v conditions does answered)
 
 -- the bytes of a chunk are answered as they are
-pub read_seen : {S X : Type 0} (facts : S → StoreFacts) (a e : CacheState S) (b : VmHandle) (c : ChunkHandle) (now : X → List ℕ) (r : Result X Fault) → Keeps facts a e
-    → MatchResult r (λ x. (is_shut_out a b.0 ≡ false) × IsChunkAt e.document b.0 c.0 (now x)) (RefusesChunk (Lacks facts a.disk.store e.disk.store) (is_shut_out a b.0) e.document b c)
-    → FindsAtHand a e b c r → Sees facts a e (commands.Read b c) (reply_by (λ x. BytesAre (now x)) r)
-read_seen facts a e b c now (Err fault) keeps found at_hand = chunk_missed facts a e b c now (Err fault) keeps found at_hand (commands.Read b c) refl refl (λ x. BytesAre (now x)) (Err fault) fault refl refl
-read_seen facts a e b c now (Ok x) keeps found at_hand = chunk_seen facts a e b c now (Ok x) keeps found at_hand (commands.Read b c) refl refl x refl (BytesAre (now x))
+pub read_seen : {S X : Type 0} (facts : S → StoreFacts) (a e : CacheState S) (b : VmHandle) (c : ChunkHandle) (now : X → List ℕ) (r : Result X Fault) → KeepsBlocks facts a e
+    → MatchResult r (λ x. (is_shut_out a b.0 ≡ false) × IsChunkAt e.document b.0 c.0 (now x)) (RefusesChunk (IsEnvironmentFault facts a.disk.store e.disk.store) (is_shut_out a b.0) e.document b c)
+    → FindsInMemory a e b c r → Sees facts a e (commands.Read b c) (reply_by (λ x. BytesAre (now x)) r)
+read_seen facts a e b c now (Err fault) keeps found in_memory = chunk_missed facts a e b c now (Err fault) keeps found in_memory (commands.Read b c) refl refl (λ x. BytesAre (now x)) (Err fault) fault refl refl
+read_seen facts a e b c now (Ok x) keeps found in_memory = chunk_seen facts a e b c now (Ok x) keeps found in_memory (commands.Read b c) refl refl x refl (BytesAre (now x))
     (λ lacks no_room room there. bytes_answered lacks no_room e.document b c now (Ok x) (room, there))

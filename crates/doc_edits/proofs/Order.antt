@@ -1,4 +1,4 @@
--- An edit's own refusals come before want of room.
+-- An edit's own refusals come before lack of room.
 use Rattle.std.proofs.Common.{◌≡◌, ◌⊎◌, ℕ, [], ◌∷◌, ◌++◌, Bool, true, false, cond, ◌||◌, ◌&&◌, Option, Some, None, ◌==◌, refl, sym, ap, ◌∙◌, inl, inr}
 use Rattle.std.proofs.lemmas.Bool.{eqb-true, cases_Bool}
 use Rattle.std.proofs.lemmas.List.Folds.{list_any-append}
@@ -23,7 +23,7 @@ late_own g e =
     ap (λ (b : Bool). (6 == number_of_fault g) || b) (list_any-append (λ f. number_of_fault f == number_of_fault g) own_faults (BadChain ∷ IsMap ∷ TooBig ∷ NoHandles ∷ Full ∷ []) ∙ rw e refl)
     ∙ or-true (6 == number_of_fault g)
 
--- an edit's own refusals come late enough, and so does want of room
+-- an edit's own refusals come late enough, and so does lack of room
 pub own_late : (own : Conditions) (full : Bool) → AreOwn own → AreLate (own ++ (Full, full) ∷ [])
 own_late [] full are = refl
 own_late ((g, holds) ∷ own) full are = elim (cases_Bool (is_among own_faults g)) [

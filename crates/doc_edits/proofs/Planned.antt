@@ -14,7 +14,7 @@ use Rattle.geos_model.specs.declared.scope.Scope.{Scope}
 use Rattle.geos_model.specs.declared.scope.Scope.TheVariants as scopes
 use Rattle.block_cache.specs.State.{CacheState}
 use Rattle.vm_blocks.specs.Keeping.{is_loaded}
-use Rattle.vm_blocks.specs.Preparing.{IsAtHand, IsReady}
+use Rattle.vm_blocks.specs.Preparing.{IsInMemory, CanCarryOut}
 use Rattle.vm_blocks.specs.declared.change.Change.{Change}
 use Rattle.vm_blocks.specs.declared.change.Change.TheVariants as changes
 use Rattle.vm_blocks.proofs.Preparing.{applies_listed, applies_takes}
@@ -48,22 +48,22 @@ module _ {S : Type 0} (state : CacheState S) where
   in_there edit b there is = in_scope (scope_of edit) b there is
 
 module _ {S : Type 0} (state : CacheState S) (edit : Edit) where
-  at_hand : (change : Change) → kind_of_change change ≡ kind_of edit → IsThere state (scope_of edit) → IsAtHand change state
-  at_hand (changes.Part b part) kind there = in_there state edit b there (sym kind)
-  at_hand (changes.BlocksIn ms) kind there = tt
-  at_hand (changes.BlocksOut ms) kind there = tt
-  at_hand (changes.Attributes b old new) kind there = tt
-  at_hand (changes.Map old new) kind there = tt
+  in_memory : (change : Change) → kind_of_change change ≡ kind_of edit → IsThere state (scope_of edit) → IsInMemory change state
+  in_memory (changes.Part b part) kind there = in_there state edit b there (sym kind)
+  in_memory (changes.BlocksIn ms) kind there = tt
+  in_memory (changes.BlocksOut ms) kind there = tt
+  in_memory (changes.Attributes b old new) kind there = tt
+  in_memory (changes.Map old new) kind there = tt
 
   module _ (refused : Fault → Type 0) (result : Result (Change × Done) Fault) (planned : MatchResult result (λ p. Plans edit state.document p.0 p.1) refused) where
-    pub ready : IsThere state (scope_of edit) → IfOk result (λ p. IsReady p.0 state)
+    pub ready : IsThere state (scope_of edit) → IfOk result (λ p. CanCarryOut p.0 state)
     ready there = of result planned
       where
-        of : (r : Result (Change × Done) Fault) → MatchResult r (λ p. Plans edit state.document p.0 p.1) refused → IfOk r (λ p. IsReady p.0 state)
+        of : (r : Result (Change × Done) Fault) → MatchResult r (λ p. Plans edit state.document p.0 p.1) refused → IfOk r (λ p. CanCarryOut p.0 state)
         of (Ok p) plans = record {
           listed = applies_listed p.0 state.document plans.applies;
           takes = applies_takes p.0 state.document plans.applies;
-          at_hand = at_hand p.0 plans.kind there;
+          in_memory = in_memory p.0 plans.kind there;
         }
         of (Err fault) is = tt
 

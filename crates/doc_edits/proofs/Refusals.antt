@@ -11,25 +11,25 @@ use Rattle.geos_model.specs.declared.fault.Fault.{Fault}
 use Rattle.geos_model.specs.declared.command.Edit.{Edit}
 use Rattle.geos_model.specs.declared.fault.Fault.TheVariants.{Memory, BadCommand, GroupOpen, NoGroup, Locked, NothingToUndo, NothingToRedo, NoTarget, NoBlock, WrongKind, NotLocked, LockLimit, CacheFull, NoChunk}
 use Rattle.geos_model.proofs.InFront.{none_among, passed}
-use Rattle.vm_blocks.specs.Kinds.{IsOfOther}
+use Rattle.vm_blocks.specs.Kinds.{IsWrongBlock}
 use Rattle.doc_edits.specs.Found.{is_among, late_faults, AreLate, IsHeapAt}
-use Rattle.doc_edits.specs.Planning.{Refuses, RefusesAtHand}
+use Rattle.doc_edits.specs.Planning.{RefusesEdit, RefusesInMemory}
 
 not_late : (rest : Conditions) (f : Fault) → AreLate rest → is_among late_faults f ≡ false → applies rest f ≡ false
 not_late rest f late early = none_among late_faults rest f late early
 
 -- no block under the handle, or one of the other kind
 
-pub block_dead : (d : Document) (h : ℕ) (rest : Conditions) (fault : Fault) → IsOfOther is_live d h fault → AreLate rest → first_refusal (on_block d h ++ rest) ≡ Some fault
+pub block_dead : (d : Document) (h : ℕ) (rest : Conditions) (fault : Fault) → IsWrongBlock is_live d h fault → AreLate rest → first_refusal (on_block d h ++ rest) ≡ Some fault
 block_dead d h rest fault (inl none) late = rw (none.0, none.1, not_late rest BadCommand late refl, not_late rest GroupOpen late refl, not_late rest NoGroup late refl, not_late rest Locked late refl, not_late rest NothingToUndo late refl, not_late rest NothingToRedo late refl, not_late rest NoTarget late refl) refl
 block_dead d h rest fault (inr other) late = absurd (true≢false (sym other.1 ∙ other.2))
 
-pub heap_other : (d : Document) (h : ℕ) (rest : Conditions) (fault : Fault) → IsOfOther is_heap d h fault → AreLate rest → first_refusal (on_heap d h ++ rest) ≡ Some fault
+pub heap_other : (d : Document) (h : ℕ) (rest : Conditions) (fault : Fault) → IsWrongBlock is_heap d h fault → AreLate rest → first_refusal (on_heap d h ++ rest) ≡ Some fault
 heap_other d h rest fault (inl none) late = rw (none.0, none.1, not_late rest BadCommand late refl, not_late rest GroupOpen late refl, not_late rest NoGroup late refl, not_late rest Locked late refl, not_late rest NothingToUndo late refl, not_late rest NothingToRedo late refl, not_late rest NoTarget late refl) refl
 heap_other d h rest fault (inr other) late =
     rw (other.0, other.1, other.2, not_late rest BadCommand late refl, not_late rest GroupOpen late refl, not_late rest NoGroup late refl, not_late rest Locked late refl, not_late rest NothingToUndo late refl, not_late rest NothingToRedo late refl, not_late rest NoTarget late refl, not_late rest NoBlock late refl) refl
 
-pub raw_other : (d : Document) (h : ℕ) (rest : Conditions) (fault : Fault) → IsOfOther is_raw d h fault → AreLate rest → first_refusal (on_raw d h ++ rest) ≡ Some fault
+pub raw_other : (d : Document) (h : ℕ) (rest : Conditions) (fault : Fault) → IsWrongBlock is_raw d h fault → AreLate rest → first_refusal (on_raw d h ++ rest) ≡ Some fault
 raw_other d h rest fault (inl none) late = rw (none.0, none.1, not_late rest BadCommand late refl, not_late rest GroupOpen late refl, not_late rest NoGroup late refl, not_late rest Locked late refl, not_late rest NothingToUndo late refl, not_late rest NothingToRedo late refl, not_late rest NoTarget late refl) refl
 raw_other d h rest fault (inr other) late =
     rw (other.0, other.1, other.2, not_late rest BadCommand late refl, not_late rest GroupOpen late refl, not_late rest NoGroup late refl, not_late rest Locked late refl, not_late rest NothingToUndo late refl, not_late rest NothingToRedo late refl, not_late rest NoTarget late refl, not_late rest NoBlock late refl) refl
@@ -62,7 +62,7 @@ refused_then (Ok x) P Q R is turn = tt
 refused_then (Err fault) P Q R is turn = turn fault is
 
 -- of blocks in memory it can be said that nothing was lacking but memory
-pub may_lack : {T : Type 0} (lacks : Fault → Type 0) (no_room : Bool) (edit : Edit) (d : Document) (P : T → Type 0) (r : Result T Fault) → no_room ≡ false → lacks Memory → MatchResult r P (RefusesAtHand edit d) → MatchResult r P (Refuses lacks no_room edit d)
+pub may_lack : {T : Type 0} (lacks : Fault → Type 0) (no_room : Bool) (edit : Edit) (d : Document) (P : T → Type 0) (r : Result T Fault) → no_room ≡ false → lacks Memory → MatchResult r P (RefusesInMemory edit d) → MatchResult r P (RefusesEdit lacks no_room edit d)
 may_lack lacks no_room edit d P (Ok x) room memory planned = planned
 may_lack lacks no_room edit d P (Err fault) room memory refused = elim refused [
   | inl is ↦ inl (subst lacks (sym is) memory)

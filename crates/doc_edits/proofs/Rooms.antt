@@ -11,10 +11,10 @@ use Rattle.geos_model.specs.declared.fault.Fault.{Fault}
 use Rattle.geos_model.specs.declared.fault.Fault.TheVariants.{BadChain, NoBlock, WrongKind, CacheFull}
 use Rattle.geos_model.proofs.InFront.{ComesBefore, still_first, full-block, full-chain, full-chains, full-heap, full-raw}
 use Rattle.block_cache.specs.State.{CacheState}
-use Rattle.vm_blocks.specs.Keeping.{Keeps, LacksFrame, is_loaded, is_shut_out}
-use Rattle.vm_blocks.specs.Kinds.{IsOfOther}
+use Rattle.vm_blocks.specs.Keeping.{KeepsBlocks, IsCacheFull, is_loaded, is_shut_out}
+use Rattle.vm_blocks.specs.Kinds.{IsWrongBlock}
 use Rattle.vm_blocks.proofs.KeepingLaws.{keeps-full, keeps-shut}
-use Rattle.vm_chains.specs.Answers.{IsOfEither}
+use Rattle.vm_chains.specs.Answers.{IsWrongRoot}
 use Rattle.doc_edits.specs.Found.{AreLate, late_faults}
 use Rattle.doc_edits.specs.Room.{has_no_room, IsChainRefusal, IsRefusedEarly, IsRefusedUnseen}
 use Rattle.vm_chains.proofs.WalkLemmas.{raw_live}
@@ -22,19 +22,19 @@ use Rattle.doc_edits.proofs.Documents.{heap_live}
 use Rattle.doc_edits.proofs.Refusals.{block_dead, heap_other, raw_other}
 
 -- What is brought into memory leaves as much room for what is needed.
-pub keeps-room : {S : Type 0} (facts : S → StoreFacts) (a b : CacheState S) → Keeps facts a b → (needs : Needs) → has_no_room b needs ≡ has_no_room a needs
+pub keeps-room : {S : Type 0} (facts : S → StoreFacts) (a b : CacheState S) → KeepsBlocks facts a b → (needs : Needs) → has_no_room b needs ≡ has_no_room a needs
 keeps-room facts a b keeps NoBody = refl
 keeps-room facts a b keeps (OneBody h) = keeps-shut facts a b keeps h
 keeps-room facts a b keeps ManyBodies = keeps-full facts a b keeps
 
--- What a block is refused for is looked for before want of room.
-pub other_before : (is_kind : Document → ℕ → Bool) (d : Document) (h : ℕ) (fault : Fault) → IsOfOther is_kind d h fault → ComesBefore fault CacheFull
+-- What a block is refused for is looked for before lack of room.
+pub other_before : (is_kind : Document → ℕ → Bool) (d : Document) (h : ℕ) (fault : Fault) → IsWrongBlock is_kind d h fault → ComesBefore fault CacheFull
 other_before is_kind d h fault (inl none) = subst (λ (f : Fault). ComesBefore f CacheFull) (sym none.0) refl
 other_before is_kind d h fault (inr other) = subst (λ (f : Fault). ComesBefore f CacheFull) (sym other.0) refl
 
 -- A command looks first for a block, of this kind, and then for room for it.
 pub record LooksFor (is_kind : Document → ℕ → Bool) (h : ℕ) (conditions : Document → Conditions) : Type 0 where
-  pub other : (d : Document) (fault : Fault) → IsOfOther is_kind d h fault → first_refusal (conditions d) ≡ Some fault
+  pub other : (d : Document) (fault : Fault) → IsWrongBlock is_kind d h fault → first_refusal (conditions d) ≡ Some fault
   pub full : (d : Document) → is_kind d h ≡ true → first_refusal ((CacheFull, true) ∷ conditions d) ≡ Some CacheFull
 
 -- the conditions are those of the block, and later ones
@@ -62,7 +62,7 @@ module _ (h : ℕ) (conditions : Document → Conditions) where
 
 -- A chain is looked for from its root, and then room for any block.
 
-pub root_refused : (d : Document) (h : ℕ) (full : Bool) (fault : Fault) → IsOfOther is_raw d h fault → (rest : Conditions) → AreLate rest → first_refusal ((CacheFull, full) ∷ on_chain d h ++ rest) ≡ Some fault
+pub root_refused : (d : Document) (h : ℕ) (full : Bool) (fault : Fault) → IsWrongBlock is_raw d h fault → (rest : Conditions) → AreLate rest → first_refusal ((CacheFull, full) ∷ on_chain d h ++ rest) ≡ Some fault
 root_refused d h full fault other = λ rest late.
     still_first CacheFull full (on_chain d h ++ rest) fault (other_before is_raw d h fault other) (raw_other d h ((BadChain, is_none (chain d h)) ∷ rest) fault other late)
 
@@ -74,10 +74,10 @@ early_of_chain lacks root full fault (inl refused) = inl (inr (inl refused))
 early_of_chain lacks root full fault (inr is) = inr is
 
 module _ (d : Document) (first second : ℕ) (full : Bool) (fault : Fault) where
-  pub roots_refused : IsOfEither d first second fault → first_refusal (on_chains d first second) ≡ Some fault → first_refusal ((CacheFull, full) ∷ on_chains d first second) ≡ Some fault
+  pub roots_refused : IsWrongRoot d first second fault → first_refusal (on_chains d first second) ≡ Some fault → first_refusal ((CacheFull, full) ∷ on_chains d first second) ≡ Some fault
   roots_refused early is = still_first CacheFull full (on_chains d first second) fault (before early) is
     where
-      before : IsOfEither d first second fault → ComesBefore fault CacheFull
+      before : IsWrongRoot d first second fault → ComesBefore fault CacheFull
       before (inl other) = other_before is_raw d first fault other
       before (inr other) = other_before is_raw d second fault other
 
@@ -86,7 +86,7 @@ module _ (d : Document) (first second : ℕ) (full : Bool) (fault : Fault) where
 
 -- What a load answers is the first refusal, or what it lacks.
 module _ {S : Type 0} (is_kind : Document → ℕ → Bool) (a b : CacheState S) (h : ℕ) (result : Result (Unit {0}) Fault)
-    (early : (fault : Fault) → IsOfOther is_kind a.document h fault → (result ≡ Err fault) × (b ≡ a))
+    (early : (fault : Fault) → IsWrongBlock is_kind a.document h fault → (result ≡ Err fault) × (b ≡ a))
     (shut : is_kind a.document h ≡ true → is_shut_out a h ≡ true → (result ≡ Err CacheFull) × (b ≡ a))
     (conditions : Document → Conditions) (looks : LooksFor is_kind h conditions) where
   -- where there is no room nothing is done
@@ -102,7 +102,7 @@ module _ {S : Type 0} (is_kind : Document → ℕ → Bool) (a b : CacheState S)
     ]
   ]
     where
-      refused : (fault : Fault) → IsOfOther is_kind a.document h fault → IsKeptOut
+      refused : (fault : Fault) → IsWrongBlock is_kind a.document h fault → IsKeptOut
       refused fault why =
           let none = early fault why in
           (fault, none.0, none.1, still_first CacheFull true (conditions a.document) fault (other_before is_kind a.document h fault why) (looks.other a.document fault why))
@@ -130,8 +130,8 @@ module _ {S : Type 0} (is_kind : Document → ℕ → Bool) (a b : CacheState S)
     abbrev IsAtRest : Type 0
     IsAtRest = (b.disk ≡ a.disk) × (b.document ≡ a.document) × IfErr result (λ fault. first_refusal (conditions a.document) ≡ Some fault)
 
-    pub rests : (is_loaded a h ≡ true) ⊎ IsRefusedUnseen (conditions a.document) → IsAtRest
-    rests near = elim (cases_Bool (is_kind a.document h)) as (λ _. IsAtRest) [
+    pub unchanged : (is_loaded a h ≡ true) ⊎ IsRefusedUnseen (conditions a.document) → IsAtRest
+    unchanged near = elim (cases_Bool (is_kind a.document h)) as (λ _. IsAtRest) [
       | inl of ↦ of_kind of near
       | inr other ↦ elim (cases_Bool (is_live a.document h)) as (λ _. IsAtRest) [
         | inl live ↦ refused WrongKind (inr (refl, live, other))
@@ -139,7 +139,7 @@ module _ {S : Type 0} (is_kind : Document → ℕ → Bool) (a b : CacheState S)
       ]
     ]
       where
-        refused : (fault : Fault) → IsOfOther is_kind a.document h fault → IsAtRest
+        refused : (fault : Fault) → IsWrongBlock is_kind a.document h fault → IsAtRest
         refused fault why =
             let none = early fault why in (
               ap (λ (s : CacheState S). s.disk) none.1,
@@ -149,7 +149,7 @@ module _ {S : Type 0} (is_kind : Document → ℕ → Bool) (a b : CacheState S)
 
         -- one of the kind isn't refused unseen
         seen : is_kind a.document h ≡ true → (fault : Fault) → ComesBefore fault CacheFull → (fault ≡ CacheFull → ⊥) → first_refusal (conditions a.document) ≡ Some fault → ⊥
-        seen of fault before other first =
+        as_file of fault before other first =
             let same : Some fault ≡ Some CacheFull = sym (still_first CacheFull true (conditions a.document) fault before first) ∙ looks.full a.document of in
             other (cc same)
 
@@ -159,11 +159,11 @@ module _ {S : Type 0} (is_kind : Document → ℕ → Bool) (a b : CacheState S)
 
         of_kind : is_kind a.document h ≡ true → (is_loaded a h ≡ true) ⊎ IsRefusedUnseen (conditions a.document) → IsAtRest
         of_kind of (inl loaded) = let there = already loaded of in (there.1, there.2, accepted result there.0)
-        of_kind of (inr (inl dead)) = absurd (seen of NoBlock refl (λ is. cc is) dead)
-        of_kind of (inr (inr other)) = absurd (seen of WrongKind refl (λ is. cc is) other)
+        of_kind of (inr (inl dead)) = absurd (as_file of NoBlock refl (λ is. cc is) dead)
+        of_kind of (inr (inr other)) = absurd (as_file of WrongKind refl (λ is. cc is) other)
 
   module _ (lacks : Fault → Type 0) where
-    pub refused_for : (fault : Fault) → result ≡ Err fault → lacks fault ⊎ (IsOfOther is_kind b.document h fault ⊎ LacksFrame a h fault)
+    pub refused_for : (fault : Fault) → result ≡ Err fault → lacks fault ⊎ (IsWrongBlock is_kind b.document h fault ⊎ IsCacheFull a h fault)
         → (lacks fault × (is_shut_out a h ≡ false)) ⊎ (first_refusal ((CacheFull, is_shut_out a h) ∷ conditions b.document) ≡ Some fault)
     refused_for fault was why = elim (cases_Bool (is_shut_out a h)) as (λ _. (lacks fault × (is_shut_out a h ≡ false)) ⊎ (first_refusal ((CacheFull, is_shut_out a h) ∷ conditions b.document) ≡ Some fault)) [
       | inl out ↦
@@ -173,17 +173,17 @@ module _ {S : Type 0} (is_kind : Document → ℕ → Bool) (a b : CacheState S)
       | inr free ↦ with_room free why
     ]
       where
-        with_room : is_shut_out a h ≡ false → lacks fault ⊎ (IsOfOther is_kind b.document h fault ⊎ LacksFrame a h fault)
+        with_room : is_shut_out a h ≡ false → lacks fault ⊎ (IsWrongBlock is_kind b.document h fault ⊎ IsCacheFull a h fault)
             → (lacks fault × (is_shut_out a h ≡ false)) ⊎ (first_refusal ((CacheFull, is_shut_out a h) ∷ conditions b.document) ≡ Some fault)
         with_room free (inl lack) = inl (lack, free)
         with_room free (inr (inl other)) = inr (still_first CacheFull (is_shut_out a h) (conditions b.document) fault (other_before is_kind b.document h fault other) (looks.other b.document fault other))
         with_room free (inr (inr full)) = absurd (true≢false (sym full.1 ∙ free))
 
-    pub err_of : IfErr result (λ fault. lacks fault ⊎ (IsOfOther is_kind b.document h fault ⊎ LacksFrame a h fault))
+    pub err_of : IfErr result (λ fault. lacks fault ⊎ (IsWrongBlock is_kind b.document h fault ⊎ IsCacheFull a h fault))
         → IfErr result (λ fault. lacks fault ⊎ (first_refusal ((CacheFull, is_shut_out a h) ∷ conditions b.document) ≡ Some fault))
     err_of refusals = of result refl refusals
       where
-        of : (r : Result (Unit {0}) Fault) → result ≡ r → IfErr r (λ fault. lacks fault ⊎ (IsOfOther is_kind b.document h fault ⊎ LacksFrame a h fault))
+        of : (r : Result (Unit {0}) Fault) → result ≡ r → IfErr r (λ fault. lacks fault ⊎ (IsWrongBlock is_kind b.document h fault ⊎ IsCacheFull a h fault))
             → IfErr r (λ fault. lacks fault ⊎ (first_refusal ((CacheFull, is_shut_out a h) ∷ conditions b.document) ≡ Some fault))
         of (Ok u) was refusals = tt
         of (Err fault) was refusals = elim (refused_for fault was refusals) as (λ _. lacks fault ⊎ (first_refusal ((CacheFull, is_shut_out a h) ∷ conditions b.document) ≡ Some fault)) [
@@ -194,13 +194,13 @@ module _ {S : Type 0} (is_kind : Document → ℕ → Bool) (a b : CacheState S)
 -- A load of a block of any kind.
 
 pub early_dead : {S : Type 0} (a b : CacheState S) (h : ℕ) (result : Result (Unit {0}) Fault) → (is_live a.document h ≡ false → (result ≡ Err NoBlock) × (b ≡ a))
-    → (fault : Fault) → IsOfOther is_live a.document h fault → (result ≡ Err fault) × (b ≡ a)
+    → (fault : Fault) → IsWrongBlock is_live a.document h fault → (result ≡ Err fault) × (b ≡ a)
 early_dead a b h result dead fault (inl none) = let refused = dead none.1 in (refused.0 ∙ ap (λ (f : Fault). Err f) (sym none.0), refused.1)
 early_dead a b h result dead fault (inr other) = absurd (true≢false (sym other.1 ∙ other.2))
 
 pub err_dead : {S : Type 0} (a b : CacheState S) (h : ℕ) (lacks : Fault → Type 0) (result : Result (Unit {0}) Fault)
-    → IfErr result (λ fault. lacks fault ⊎ (((fault ≡ NoBlock) × (is_live b.document h ≡ false)) ⊎ LacksFrame a h fault))
-    → IfErr result (λ fault. lacks fault ⊎ (IsOfOther is_live b.document h fault ⊎ LacksFrame a h fault))
+    → IfErr result (λ fault. lacks fault ⊎ (((fault ≡ NoBlock) × (is_live b.document h ≡ false)) ⊎ IsCacheFull a h fault))
+    → IfErr result (λ fault. lacks fault ⊎ (IsWrongBlock is_live b.document h fault ⊎ IsCacheFull a h fault))
 err_dead a b h lacks (Ok u) refusals = tt
 err_dead a b h lacks (Err fault) (inl lack) = inl lack
 err_dead a b h lacks (Err fault) (inr (inl none)) = inr (inl (inl none))

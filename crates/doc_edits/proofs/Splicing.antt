@@ -29,7 +29,7 @@ use Rattle.chunk_edits.specs.declared.splice.Splice.{Splice}
 use Rattle.vm_blocks.proofs.RoomLemmas.{bytes-put}
 use Rattle.doc_edits.specs.Found.{AreOwn, IsHeapAt, IsChunkAt}
 use Rattle.doc_edits.specs.Building.{place_of, IsAt, SplicesAt, Splices}
-use Rattle.doc_edits.specs.Planning.{RefusesAtHand}
+use Rattle.doc_edits.specs.Planning.{RefusesInMemory}
 use Rattle.doc_edits.proofs.Order.{more_refused, more_accepted, has_room}
 use Rattle.doc_edits.proofs.Refusals.{past_chunk}
 
@@ -88,7 +88,7 @@ module _ (edit : Edit) (d : Document) (b : VmHandle) (c : ChunkHandle) (own : Li
     past = ap first_refusal means.refusals ∙ past_chunk d b.0 c.0 m (own old ++ no_room m c.0 (to old)) there.heap there.live
 
     -- the builder refuses it
-    built_refused : (fault : Fault) → RefusesToBuild (own bytes ++ too_long (to bytes)) fault → RefusesAtHand edit d fault
+    built_refused : (fault : Fault) → RefusesToBuild (own bytes ++ too_long (to bytes)) fault → RefusesInMemory edit d fault
     built_refused fault (inl memory) = inl memory
     built_refused fault (inr first) =
         let here : first_refusal (own old ++ too_long (to old)) ≡ Some fault = subst (λ (x : List ℕ). first_refusal (own x ++ too_long (to x)) ≡ Some fault) there.value first in
@@ -124,11 +124,11 @@ module _ (edit : Edit) (d : Document) (b : VmHandle) (c : ChunkHandle) (own : Li
     splices_built s builds = splices s (subst (λ (x : List ℕ). BuildsFor s x own to) there.value builds)
 
     -- what a builder answers
-    pub built : (r : Result Splice Fault) → MatchResult r (λ s. BuildsFor s bytes own to) (RefusesToBuild (own bytes ++ too_long (to bytes))) → MatchResult r (λ s. Splices edit d b c s done) (RefusesAtHand edit d)
+    pub built : (r : Result Splice Fault) → MatchResult r (λ s. BuildsFor s bytes own to) (RefusesToBuild (own bytes ++ too_long (to bytes))) → MatchResult r (λ s. Splices edit d b c s done) (RefusesInMemory edit d)
     built (Ok s) builds = splices_built s builds
     built (Err fault) refuses = built_refused fault refuses
 
-    pub refuses_built : (fault : Fault) → RefusesToBuild (own bytes ++ too_long (to bytes)) fault → RefusesAtHand edit d fault
+    pub refuses_built : (fault : Fault) → RefusesToBuild (own bytes ++ too_long (to bytes)) fault → RefusesInMemory edit d fault
     refuses_built fault refuses = built_refused fault refuses
 
 -- An edit that isn't one of an array.
@@ -150,25 +150,25 @@ module _ (edit : Edit) (d : Document) (b : VmHandle) (c : ChunkHandle) (rest : C
         cost = builds.leads.holds ∙ costs;
       }
 
-  plain_refuses : (fault : Fault) → RefusesToBuild rest fault → RefusesAtHand edit d fault
+  plain_refuses : (fault : Fault) → RefusesToBuild rest fault → RefusesInMemory edit d fault
   plain_refuses fault (inl memory) = inl memory
   plain_refuses fault (inr first) = inr (plain_past ∙ first)
 
   pub plain_built : (r : Result Splice Fault) → MatchResult r (λ s. Builds rest s (chunk_at d b.0 c.0) to held) (RefusesToBuild rest) → IfOk r (λ s. fits_with (chunks_of d b.0) c.0 to ≡ true)
-      → MatchResult r (λ s. Splices edit d b c s done.Nothing) (RefusesAtHand edit d)
+      → MatchResult r (λ s. Splices edit d b c s done.Nothing) (RefusesInMemory edit d)
   plain_built (Ok s) builds fit = plain_splices s builds fit
   plain_built (Err fault) refuses fit = plain_refuses fault refuses
 
 -- What a builder answers, of the place that an edit names.
 
 abbrev pub BuildsOf : ChunkMap → ℕ → List ℕ → Done → Result Splice Fault → Edit → Type 0
-BuildsOf m k bytes done r edit = (d : Document) → IsAt edit d m k bytes → MatchResult r (SplicesAt edit d done) (RefusesAtHand edit d)
+BuildsOf m k bytes done r edit = (d : Document) → IsAt edit d m k bytes → MatchResult r (SplicesAt edit d done) (RefusesInMemory edit d)
 
 abbrev pub SplicesOf : ChunkMap → ℕ → List ℕ → Done → Splice → Edit → Type 0
 SplicesOf m k bytes done s edit = (d : Document) → IsAt edit d m k bytes → SplicesAt edit d done s
 
 abbrev pub RefusesOf : ChunkMap → ℕ → List ℕ → Fault → Edit → Type 0
-RefusesOf m k bytes fault edit = (d : Document) → IsAt edit d m k bytes → RefusesAtHand edit d fault
+RefusesOf m k bytes fault edit = (d : Document) → IsAt edit d m k bytes → RefusesInMemory edit d fault
 
 -- An edit of an array, built so at the place that it names.
 module _ (now edit : Edit) (b : VmHandle) (c : ChunkHandle) (is : now ≡ edit) (named : place_of edit ≡ Some (b, c)) (m : ChunkMap) (k : ℕ) (bytes : List ℕ) where
@@ -181,5 +181,5 @@ module _ (now edit : Edit) (b : VmHandle) (c : ChunkHandle) (is : now ≡ edit) 
   pub array_built : (own : List ℕ → Conditions) (to : List ℕ → List ℕ) (done : Done) → ((d : Document) → EditsChunk edit d b c own to done) → (r : Result Splice Fault)
       → MatchResult r (λ s. BuildsFor s bytes own to) (RefusesToBuild (own bytes ++ too_long (to bytes))) → BuildsOf m k bytes done r now
   array_built own to done means r builds = λ d at.
-      subst (λ (o : Option (VmHandle × ChunkHandle)). MatchResult r (λ s. MatchOption o ⊥ (λ p. Splices now d p.0 p.1 s done)) (RefusesAtHand now d)) (sym place_is)
+      subst (λ (o : Option (VmHandle × ChunkHandle)). MatchResult r (λ s. MatchOption o ⊥ (λ p. Splices now d p.0 p.1 s done)) (RefusesInMemory now d)) (sym place_is)
       (built now d b c own to done (subst (λ (e : Edit). EditsChunk e d b c own to done) (sym is) (means d)) bytes (at_place d at) r builds)

@@ -16,7 +16,7 @@ use Rattle.geos_model.specs.declared.handle.VmHandle.{VmHandle}
 use Rattle.geos_model.specs.declared.handle.ChunkHandle.{ChunkHandle}
 use Rattle.geos_model.specs.declared.scope.Scope.{Scope}
 use Rattle.geos_model.specs.declared.scope.Scope.TheVariants.{Heap, Chunk, Chain}
-use Rattle.chunk_edits.specs.Splicing.{Stands, forwards}
+use Rattle.chunk_edits.specs.Splicing.{OccursAt, forwards}
 use Rattle.chunk_edits.specs.declared.splice.Splice.{Splice}
 use Rattle.doc_edits.specs.Found.{IsHeapAt, IsChunkAt}
 
@@ -60,9 +60,9 @@ is_chain scope = false
 abbrev pub is_of_chain : Edit → Bool
 is_of_chain edit = is_chain (scope_of edit)
 
--- The splice is what an edit comes to in a chunk: nothing but want of room refuses it.
+-- The splice is what an edit comes to in a chunk: nothing but lack of room refuses it.
 pub record Splices (edit : Edit) (d : Document) (b : VmHandle) (c : ChunkHandle) (s : Splice) (done : Done) : Type 0 where
-  pub stands : Stands (chunk_at d b.0 c.0) s.at s.old
+  pub stands : OccursAt (chunk_at d b.0 c.0) s.at s.old
   pub short : length (forwards s (chunk_at d b.0 c.0)) ≤ longest_chunk
   pub refusal : first_refusal (conditions edit d) ≡ (if fits_with (chunks_of d b.0) c.0 (forwards s (chunk_at d b.0 c.0)) then None else Some Full)
   pub document : with_chunk d b.0 c.0 (forwards s (chunk_at d b.0 c.0)) ≡ (effect edit d).0
@@ -70,7 +70,7 @@ pub record Splices (edit : Edit) (d : Document) (b : VmHandle) (c : ChunkHandle)
   pub kind : kind_of edit ≡ In b
   pub cost : length s.old + length s.new ≡ cost edit d (effect edit d).0
 
--- The bytes are those of the chunk that an edit makes: nothing but want of room refuses it.
+-- The bytes are those of the chunk that an edit makes: nothing but lack of room refuses it.
 pub record Creates (edit : Edit) (d : Document) (b : VmHandle) (bytes : List ℕ) : Type 0 where
   pub refusal : first_refusal (conditions edit d) ≡ first_refusal (no_place (chunks_of d b.0) bytes)
   pub does : effect edit d ≡ makes_chunk d b.0 bytes

@@ -32,7 +32,7 @@ pub record IsChunkAt (d : Document) (b c : ℕ) (bytes : List ℕ) : Type 0 wher
 abbrev pub is_among : List Fault → Fault → Bool
 is_among faults fault = list_any (λ f. number_of_fault f == number_of_fault fault) faults
 
--- an edit's own refusals come after those for its chunk, and before want of room
+-- an edit's own refusals come after those for its chunk, and before lack of room
 abbrev pub own_faults : List Fault
 own_faults = NotArray ∷ NoElement ∷ NoName ∷ NameInUse ∷ CountFull ∷ Range ∷ []
 

@@ -11,7 +11,7 @@ use Rattle.geos_model.specs.declared.scope.Scope.{Scope}
 use Rattle.geos_model.specs.declared.scope.Scope.TheVariants.{Plain, New, Block, Raw, Heap, Chunk, Chain}
 use Rattle.block_cache.specs.State.{CacheState}
 use Rattle.vm_blocks.specs.Keeping.{is_loaded}
-use Rattle.doc_edits.specs.Planning.{Refuses}
+use Rattle.doc_edits.specs.Planning.{RefusesEdit}
 use Rattle.doc_edits.specs.Room.{has_no_room, ReadsNothing}
 
 -- The block is in memory, and of the kind that has such a part. Of a chain nothing is said.
@@ -28,5 +28,5 @@ IsThere state (Chain b) = Unit {0}
 pub record IsBrought {S : Type 0} (lacks : Fault → Type 0) (edit : Edit) (a b : CacheState S) (result : Result (Unit {0}) Fault) : Type 0 where
   pub room : IfOk result (λ _. has_no_room a (edit_needs edit) ≡ false)
   pub shut : has_no_room a (edit_needs edit) ≡ true → (b ≡ a) × IfErr result (λ fault. first_refusal ((CacheFull, true) ∷ conditions edit a.document) ≡ Some fault)
-  pub err : IfErr result (Refuses lacks (has_no_room a (edit_needs edit)) edit b.document)
+  pub err : IfErr result (RefusesEdit lacks (has_no_room a (edit_needs edit)) edit b.document)
   pub already : ReadsNothing a (edit_needs edit) (conditions edit a.document) → (b.disk ≡ a.disk) × (b.document ≡ a.document) × IfErr result (λ fault. first_refusal (conditions edit a.document) ≡ Some fault)

@@ -14,7 +14,7 @@ use Rattle.geos_model.specs.declared.handle.ChunkHandle.{ChunkHandle}
 use Rattle.geos_model.specs.declared.handle.VmHandle.{VmHandle}
 use Rattle.vm_store.specs.Facts.{StoreFacts}
 use Rattle.block_cache.specs.State.{CacheState}
-use Rattle.vm_blocks.specs.Keeping.{Keeps, Lacks}
+use Rattle.vm_blocks.specs.Keeping.{KeepsBlocks, IsEnvironmentFault}
 use Rattle.doc_edits.specs.Room.{has_no_room, ReadsNothing}
 use mathlib.Core.Option.{none}
 
@@ -46,27 +46,27 @@ chunk_asked command = None
 abbrev pub RefusesChunk : (Fault → Type 0) → Bool → Document → VmHandle → ChunkHandle → Fault → Type 0
 RefusesChunk lacks no_room d b c fault = (command : Command) → chunk_asked command ≡ Some (b, c) → LooksUp lacks no_room command d (Refused fault)
 
--- whether a look-up into one block makes a list, for which memory may be wanting though the block is there
+-- whether a look-up into one block makes a list, for which memory may run out though the block is there
 abbrev pub makes_list : Command → Bool
 makes_list (commands.Chunks b) = true
 makes_list command = false
 
--- it answers by its rules alone, but for want of memory for a list
-abbrev pub LooksUpAtHand : Command → Document → Reply → Type 0
-LooksUpAtHand command d reply = LooksUp (λ fault. (fault ≡ Memory) × (makes_list command ≡ true)) false command d reply
+-- it answers by its rules alone, but for lack of memory for a list
+abbrev pub LooksUpInMemory : Command → Document → Reply → Type 0
+LooksUpInMemory command d reply = LooksUp (λ fault. (fault ≡ Memory) × (makes_list command ≡ true)) false command d reply
 
 -- What a look-up into one block comes to: the file is kept, and the document as it is held from then on is looked up, as far as there was
 -- room for the block. Where no body has to be read no store is called, and the answer is that of the document before.
 pub record Sees {S : Type 0} (facts : S → StoreFacts) (old new : CacheState S) (command : Command) (reply : Reply) : Type 0 where
-  pub keeps : Keeps facts old new
-  pub value : LooksUp (Lacks facts old.disk.store new.disk.store) (has_no_room old (look_up_needs command)) command new.document reply
-  pub already : ReadsNothing old (look_up_needs command) (look_up_conditions command old.document) → (new.disk ≡ old.disk) × (new.document ≡ old.document) × LooksUpAtHand command old.document reply
+  pub keeps : KeepsBlocks facts old new
+  pub value : LooksUp (IsEnvironmentFault facts old.disk.store new.disk.store) (has_no_room old (look_up_needs command)) command new.document reply
+  pub already : ReadsNothing old (look_up_needs command) (look_up_conditions command old.document) → (new.disk ≡ old.disk) × (new.document ≡ old.document) × LooksUpInMemory command old.document reply
 
 -- A chunk is looked for without the store where no body has to be read for a look-up into it, which is then refused by the rules alone.
-abbrev pub FindsAtHand : {S T : Type 0} → CacheState S → CacheState S → VmHandle → ChunkHandle → Result T Fault → Type 0
-FindsAtHand old new b c result = (command : Command) → chunk_asked command ≡ Some (b, c) → ReadsNothing old (OneBody b.0) (look_up_conditions command old.document)
+abbrev pub FindsInMemory : {S T : Type 0} → CacheState S → CacheState S → VmHandle → ChunkHandle → Result T Fault → Type 0
+FindsInMemory old new b c result = (command : Command) → chunk_asked command ≡ Some (b, c) → ReadsNothing old (OneBody b.0) (look_up_conditions command old.document)
     → (new.disk ≡ old.disk) × (new.document ≡ old.document) × IfErr result (λ fault. first_refusal (look_up_conditions command old.document) ≡ Some fault)
 
 -- What is behind a `&mut` is again what the call left there, once what was lent of it is given back, and this holds of that.
-abbrev pub Leaves : (R : RattleType) → MutBor R.Denot → (R.Denot → Type 0) → Fml
-Leaves R s P = follows_so R R s.ghost_name none (λ _ _. ⊤) P
+abbrev pub AfterLoan : (R : RattleType) → MutBor R.Denot → (R.Denot → Type 0) → Fml
+AfterLoan R s P = follows_so R R s.ghost_name none (λ _ _. ⊤) P

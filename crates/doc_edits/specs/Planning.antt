@@ -12,13 +12,13 @@ use Rattle.geos_model.specs.declared.command.Edit.{Edit}
 use Rattle.geos_model.specs.declared.command.Edit.TheVariants as edits
 use Rattle.geos_model.specs.declared.command.Kind.{Kind}
 use Rattle.geos_model.specs.declared.command.Kind.TheVariants.{Plain, In, Made, Freed}
-use Rattle.vm_file.specs.Members.{saved_blocks}
-use Rattle.vm_blocks.specs.Changes.{made, bytes_of, Applies}
+use Rattle.vm_file.specs.Members.{imaged_blocks}
+use Rattle.vm_blocks.specs.Changes.{after_change, content_bytes, CanApply}
 use Rattle.vm_blocks.specs.declared.change.Change.{Change}
 use Rattle.vm_blocks.specs.declared.change.Change.TheVariants as changes
 use Rattle.vm_blocks.specs.declared.change.PartChange.{PartChange}
 use Rattle.vm_blocks.specs.declared.change.PartChange.TheVariants as parts
-use Rattle.vm_blocks.specs.Kinds.{IsOfOther}
+use Rattle.vm_blocks.specs.Kinds.{IsWrongBlock}
 use Rattle.vm_chains.specs.Answers.{IsChainFault}
 
 -- what kind of step a change is
@@ -32,7 +32,7 @@ kind_of_change (changes.Map old new) = Plain
 -- the blocks that go by a change
 abbrev pub freed_by : Change → List ℕ
 freed_by (changes.BlocksIn ms) = []
-freed_by (changes.BlocksOut ms) = handles_of (saved_blocks ms.list.items)
+freed_by (changes.BlocksOut ms) = handles_of (imaged_blocks ms.list.items)
 freed_by (changes.Part b part) = []
 freed_by (changes.Attributes b old new) = []
 freed_by (changes.Map old new) = []
@@ -42,12 +42,12 @@ freed_by (changes.Map old new) = []
 abbrev pub part_cost : PartChange → ℕ
 part_cost (parts.Raw s) = length s.old + length s.new
 part_cost (parts.Chunk c s) = length s.old + length s.new
-part_cost (parts.ChunkIn c content) = length (bytes_of content)
-part_cost (parts.ChunkOut c content) = length (bytes_of content)
+part_cost (parts.ChunkIn c content) = length (content_bytes content)
+part_cost (parts.ChunkOut c content) = length (content_bytes content)
 
 abbrev pub change_cost : Change → ℕ
-change_cost (changes.BlocksIn ms) = images_length (saved_blocks ms.list.items)
-change_cost (changes.BlocksOut ms) = images_length (saved_blocks ms.list.items)
+change_cost (changes.BlocksIn ms) = images_length (imaged_blocks ms.list.items)
+change_cost (changes.BlocksOut ms) = images_length (imaged_blocks ms.list.items)
 change_cost (changes.Part b part) = part_cost part
 change_cost (changes.Attributes b old new) = 0
 change_cost (changes.Map old new) = 0
@@ -55,25 +55,25 @@ change_cost (changes.Map old new) = 0
 -- Nothing refuses the edit, and the change can be made in the document and means the edit.
 pub record Plans (edit : Edit) (d : Document) (change : Change) (done : Done) : Type 0 where
   pub accepted : first_refusal (conditions edit d) ≡ None
-  pub applies : Applies change d
-  pub document : made change d ≡ (effect edit d).0
+  pub applies : CanApply change d
+  pub document : after_change change d ≡ (effect edit d).0
   pub answer : done ≡ (effect edit d).1
   pub kind : kind_of_change change ≡ kind_of edit
   pub cost : change_cost change ≡ cost edit d (effect edit d).0
 
 -- What an edit is refused for where the bodies into which it looks are in memory: memory for the change may be lacking, or it is the
 -- first refusal.
-abbrev pub RefusesAtHand : Edit → Document → Fault → Type 0
-RefusesAtHand edit d fault = (fault ≡ Memory) ⊎ (first_refusal (conditions edit d) ≡ Some fault)
+abbrev pub RefusesInMemory : Edit → Document → Fault → Type 0
+RefusesInMemory edit d fault = (fault ≡ Memory) ⊎ (first_refusal (conditions edit d) ≡ Some fault)
 
 -- What an edit of a chain may be refused for, of the document before: its root for what handles and kinds tell, and else for the chain. Of each
--- body of the chain that is said as it was when it was read, so that over a store that isn't steady no one document need have it as its first
+-- body of the chain that is said as it was when it was read, so that over a store that isn't honest no one document need have it as its first
 -- refusal.
 abbrev pub IsChainEditFault : Edit → Document → Fault → Type 0
-IsChainEditFault (edits.CopyChain b) d fault = IsChainFault (IsOfOther is_raw d b.0) fault ⊎ (fault ≡ NoHandles)
-IsChainEditFault (edits.FreeChain b) d fault = IsChainFault (IsOfOther is_raw d b.0) fault ⊎ (fault ≡ IsMap)
+IsChainEditFault (edits.CopyChain b) d fault = IsChainFault (IsWrongBlock is_raw d b.0) fault ⊎ (fault ≡ NoHandles)
+IsChainEditFault (edits.FreeChain b) d fault = IsChainFault (IsWrongBlock is_raw d b.0) fault ⊎ (fault ≡ IsMap)
 IsChainEditFault edit d fault = ⊥
 
 -- a fault of what the call may lack, or the first refusal of an edit for which there may be no room
-abbrev pub Refuses : (Fault → Type 0) → Bool → Edit → Document → Fault → Type 0
-Refuses lacks no_room edit d fault = lacks fault ⊎ (first_refusal ((CacheFull, no_room) ∷ conditions edit d) ≡ Some fault)
+abbrev pub RefusesEdit : (Fault → Type 0) → Bool → Edit → Document → Fault → Type 0
+RefusesEdit lacks no_room edit d fault = lacks fault ⊎ (first_refusal ((CacheFull, no_room) ∷ conditions edit d) ≡ Some fault)

@@ -2,12 +2,12 @@
 ghost use Rattle.std.specs.Prelude.{◌≡◌, [], ◌∷◌, true, IfOk, MatchResult};
 ghost use Rattle.geos_model.specs.declared.command.Edit.TheVariants as edits;
 ghost use Rattle.vm_blocks.specs.Keeping.{is_loaded};
-ghost use Rattle.doc_edits.specs.Planning.{freed_by, Plans, RefusesAtHand};
+ghost use Rattle.doc_edits.specs.Planning.{freed_by, Plans, RefusesInMemory};
 
 use geos_model::{Attributes, Done, Fault, VmHandle};
 use raw_region::SIZE;
 use std::alloc::Global;
-use vm_blocks::{Change, FileBlocks, Members, SavedBlock, saved_block};
+use vm_blocks::{BlockImage, Change, FileBlocks, Members, imaged_block};
 use vm_store::Store;
 
 /// Of the edit that makes a raw block of zeros.
@@ -18,7 +18,8 @@ pub fn plan_new_raw<S: Store>(
     user_id: u16,
     size: u32,
 ) -> Result<(Change, Done), Fault>
-    ensures { MatchResult result (λ p. Plans (edits.NewRaw user_id size) blocks.now.document p.0 p.1) (RefusesAtHand (edits.NewRaw user_id size) blocks.now.document) }
+    ensures { MatchResult result (λ p. Plans (edits.NewRaw user_id size) blocks.now.document p.0 p.1)
+        (RefusesInMemory (edits.NewRaw user_id size) blocks.now.document) }
 {
     if size as usize > SIZE {
         return Err(Fault::TooBig);
@@ -31,7 +32,7 @@ pub fn plan_new_raw<S: Store>(
         user_id,
         heap_type: 0,
     };
-    let block = SavedBlock::zeros(alloc, attributes, size as usize)?;
+    let block = BlockImage::zeros(alloc, attributes, size as usize)?;
     let made = Members::one(alloc, handle, block)?;
     Ok((Change::BlocksIn(made), Done::Block(handle)))
 }
@@ -43,7 +44,8 @@ pub fn plan_new_heap<S: Store>(
     blocks: &FileBlocks<S>,
     user_id: u16,
 ) -> Result<(Change, Done), Fault>
-    ensures { MatchResult result (λ p. Plans (edits.NewHeap user_id) blocks.now.document p.0 p.1) (RefusesAtHand (edits.NewHeap user_id) blocks.now.document) }
+    ensures { MatchResult result (λ p. Plans (edits.NewHeap user_id) blocks.now.document p.0 p.1)
+        (RefusesInMemory (edits.NewHeap user_id) blocks.now.document) }
 {
     let handle = match blocks.next_handle() {
         Some(handle) => handle,
@@ -53,7 +55,7 @@ pub fn plan_new_heap<S: Store>(
         user_id,
         heap_type: 0,
     };
-    let block = SavedBlock::empty_heap(alloc, attributes)?;
+    let block = BlockImage::empty_heap(alloc, attributes)?;
     let made = Members::one(alloc, handle, block)?;
     Ok((Change::BlocksIn(made), Done::Block(handle)))
 }
@@ -65,13 +67,14 @@ pub fn plan_free_block<S: Store>(
     handle: VmHandle,
 ) -> Result<(Change, Done), Fault>
     requires { is_loaded blocks.now handle.0 ≡ true }
-    ensures planned { MatchResult result (λ p. Plans (edits.FreeBlock handle) blocks.now.document p.0 p.1) (RefusesAtHand (edits.FreeBlock handle) blocks.now.document) }
+    ensures planned { MatchResult result (λ p. Plans (edits.FreeBlock handle) blocks.now.document p.0 p.1)
+        (RefusesInMemory (edits.FreeBlock handle) blocks.now.document) }
     ensures alone { IfOk result (λ p. freed_by p.0 ≡ handle.0 ∷ []) }
 {
     if blocks.map_block() == handle {
         return Err(Fault::IsMap);
     }
-    let saved = saved_block(alloc, blocks.attributes(handle), blocks.body(handle))?;
+    let saved = imaged_block(alloc, blocks.attributes(handle), blocks.body(handle))?;
     let freed = Members::one(alloc, handle, saved)?;
     Ok((Change::BlocksOut(freed), Done::Nothing))
 }
@@ -83,13 +86,14 @@ pub fn plan_copy_block<S: Store>(
     from: VmHandle,
 ) -> Result<(Change, Done), Fault>
     requires { is_loaded blocks.now from.0 ≡ true }
-    ensures { MatchResult result (λ p. Plans (edits.CopyBlock from) blocks.now.document p.0 p.1) (RefusesAtHand (edits.CopyBlock from) blocks.now.document) }
+    ensures { MatchResult result (λ p. Plans (edits.CopyBlock from) blocks.now.document p.0 p.1)
+        (RefusesInMemory (edits.CopyBlock from) blocks.now.document) }
 {
     let handle = match blocks.next_handle() {
         Some(handle) => handle,
         None => return Err(Fault::NoHandles),
     };
-    let copy = saved_block(alloc, blocks.attributes(from), blocks.body(from))?;
+    let copy = imaged_block(alloc, blocks.attributes(from), blocks.body(from))?;
     let made = Members::one(alloc, handle, copy)?;
     Ok((Change::BlocksIn(made), Done::Block(handle)))
 }
@@ -100,7 +104,8 @@ pub fn plan_set_user_id<S: Store>(
     handle: VmHandle,
     user_id: u16,
 ) -> Result<(Change, Done), Fault>
-    ensures { MatchResult result (λ p. Plans (edits.SetUserId handle user_id) blocks.now.document p.0 p.1) (RefusesAtHand (edits.SetUserId handle user_id) blocks.now.document) }
+    ensures { MatchResult result (λ p. Plans (edits.SetUserId handle user_id) blocks.now.document p.0 p.1)
+        (RefusesInMemory (edits.SetUserId handle user_id) blocks.now.document) }
 {
     if !blocks.is_live(handle) {
         return Err(Fault::NoBlock);
@@ -120,7 +125,8 @@ pub fn plan_set_type<S: Store>(
     handle: VmHandle,
     heap_type: u16,
 ) -> Result<(Change, Done), Fault>
-    ensures { MatchResult result (λ p. Plans (edits.SetType handle heap_type) blocks.now.document p.0 p.1) (RefusesAtHand (edits.SetType handle heap_type) blocks.now.document) }
+    ensures { MatchResult result (λ p. Plans (edits.SetType handle heap_type) blocks.now.document p.0 p.1)
+        (RefusesInMemory (edits.SetType handle heap_type) blocks.now.document) }
 {
     if !blocks.is_live(handle) {
         return Err(Fault::NoBlock);
@@ -142,7 +148,8 @@ pub fn plan_set_map<S: Store>(
     blocks: &FileBlocks<S>,
     handle: VmHandle,
 ) -> Result<(Change, Done), Fault>
-    ensures { MatchResult result (λ p. Plans (edits.SetMap handle) blocks.now.document p.0 p.1) (RefusesAtHand (edits.SetMap handle) blocks.now.document) }
+    ensures { MatchResult result (λ p. Plans (edits.SetMap handle) blocks.now.document p.0 p.1)
+        (RefusesInMemory (edits.SetMap handle) blocks.now.document) }
 {
     if handle.0 != 0 && !blocks.is_live(handle) {
         return Err(Fault::NoBlock);

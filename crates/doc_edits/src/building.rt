@@ -3,9 +3,9 @@ ghost use Rattle.std.specs.Prelude.{◌≡◌, true, false, IsSome, IsTrue, Matc
 ghost use Rattle.std.specs.FinMap.{contains_key};
 ghost use Rattle.geos_model.specs.Document.{Document};
 ghost use Rattle.geos_model.specs.declared.command.Done.TheVariants as done;
-ghost use Rattle.vm_blocks.specs.Changes.{bytes_of};
+ghost use Rattle.vm_blocks.specs.Changes.{content_bytes};
 ghost use Rattle.doc_edits.specs.Building.{place_of, answers_token, new_in, creates_array, IsAt, SplicesAt, IsHeapFor, CreatesAt};
-ghost use Rattle.doc_edits.specs.Planning.{RefusesAtHand};
+ghost use Rattle.doc_edits.specs.Planning.{RefusesInMemory};
 
 use chunk_edits::Splice;
 use geos_model::{Bytes, ChunkHandle, Done, Edit, Fault};
@@ -24,7 +24,8 @@ pub fn build(
 ) -> Result<(Splice, Done), Fault>
     requires live { IsTrue (contains_key heap.now.chunks chunk.0) }
     requires place { IsSome (place_of edit.now) }
-    ensures { (d : Document) → IsAt edit.now d heap.now.chunks chunk.0 bytes.now → MatchResult result (λ built. SplicesAt edit.now d built.1 built.0) (RefusesAtHand edit.now d) }
+    ensures { (d : Document) → IsAt edit.now d heap.now.chunks chunk.0 bytes.now
+        → MatchResult result (λ built. SplicesAt edit.now d built.1 built.0) (RefusesInMemory edit.now d) }
 {
     match edit {
         Edit::AddElement(_, _, element) => {
@@ -59,7 +60,8 @@ fn build_silent(
     requires live { IsTrue (contains_key heap.now.chunks chunk.0) }
     requires place { IsSome (place_of edit.now) }
     requires silent { answers_token edit.now ≡ false }
-    ensures { (d : Document) → IsAt edit.now d heap.now.chunks chunk.0 bytes.now → MatchResult result (SplicesAt edit.now d done.Nothing) (RefusesAtHand edit.now d) }
+    ensures { (d : Document) → IsAt edit.now d heap.now.chunks chunk.0 bytes.now
+        → MatchResult result (SplicesAt edit.now d done.Nothing) (RefusesInMemory edit.now d) }
 {
     match edit {
         Edit::Resize(_, _, n) => chunk_edits::resize(alloc, heap, chunk, *n),
@@ -88,7 +90,8 @@ fn build_silent(
 /// What is in the chunk that an edit makes.
 pub fn build_chunk(alloc: Global, edit: &Edit) -> Result<Content, Fault>
     requires { IsSome (new_in edit.now) }
-    ensures { (d : Document) → IsHeapFor edit.now d → MatchResult result (λ content. CreatesAt edit.now d (bytes_of content)) (RefusesAtHand edit.now d) }
+    ensures { (d : Document) → IsHeapFor edit.now d
+        → MatchResult result (λ content. CreatesAt edit.now d (content_bytes content)) (RefusesInMemory edit.now d) }
 {
     match edit {
         Edit::Alloc(_, n) => Ok(Content::Zeros(*n)),
@@ -102,7 +105,8 @@ pub fn build_chunk(alloc: Global, edit: &Edit) -> Result<Content, Fault>
 /// The bytes of the array that an edit makes.
 fn build_array(alloc: Global, edit: &Edit) -> Result<Vec<u8>, Fault>
     requires { creates_array edit.now ≡ true }
-    ensures { (d : Document) → IsHeapFor edit.now d → MatchResult result (λ bytes. CreatesAt edit.now d bytes.items) (RefusesAtHand edit.now d) }
+    ensures { (d : Document) → IsHeapFor edit.now d
+        → MatchResult result (λ bytes. CreatesAt edit.now d bytes.items) (RefusesInMemory edit.now d) }
 {
     match edit {
         Edit::CreateArray(_, size, extra) => chunk_arrays::create_bytes(alloc, *size, *extra),

@@ -5,9 +5,9 @@ ghost use Rattle.geos_model.specs.Refusal.{first_refusal};
 ghost use Rattle.geos_model.specs.declared.command.Edit.TheVariants as edits;
 ghost use Rattle.geos_model.specs.declared.command.Kind.TheVariants.{Made, Freed};
 ghost use Rattle.geos_model.specs.declared.fault.Fault.TheVariants.{CacheFull};
-ghost use Rattle.vm_blocks.specs.Keeping.{Keeps, IsSteady, Lacks, is_full};
-ghost use Rattle.vm_blocks.specs.Preparing.{IsReady};
-ghost use Rattle.doc_edits.specs.Planning.{kind_of_change, IsChainEditFault, Plans, Refuses};
+ghost use Rattle.vm_blocks.specs.Keeping.{KeepsBlocks, IsHonest, IsEnvironmentFault, is_full};
+ghost use Rattle.vm_blocks.specs.Preparing.{CanCarryOut};
+ghost use Rattle.doc_edits.specs.Planning.{kind_of_change, IsChainEditFault, Plans, RefusesEdit};
 
 use crate::room::test_chain;
 use geos_model::{Done, Fault, VmHandle};
@@ -22,16 +22,20 @@ pub fn plan_copy_chain<S: Store>(
     blocks: &mut FileBlocks<S>,
     root: VmHandle,
 ) -> Result<(Change, Done), Fault>
-    ensures keeps { Keeps S.facts blocks.old blocks.new }
-    ensures planned { IsSteady S.facts blocks.old.disk.store
+    ensures keeps { KeepsBlocks S.facts blocks.old blocks.new }
+    ensures planned { IsHonest S.facts blocks.old.disk.store
         → MatchResult result (λ p. Plans (edits.CopyChain root) blocks.new.document p.0 p.1)
-        (Refuses (Lacks S.facts blocks.old.disk.store blocks.new.disk.store) (is_full blocks.old) (edits.CopyChain root) blocks.new.document) }
-    ensures ready { IfOk result (λ p. IsReady p.0 blocks.new) }
+        (RefusesEdit (IsEnvironmentFault S.facts blocks.old.disk.store blocks.new.disk.store) (is_full blocks.old)
+        (edits.CopyChain root) blocks.new.document) }
+    ensures ready { IfOk result (λ p. CanCarryOut p.0 blocks.new) }
     ensures room { IfOk result (λ _. is_full blocks.old ≡ false) }
     ensures shut { is_full blocks.old ≡ true → (blocks.new ≡ blocks.old)
-        × IfErr result (λ fault. first_refusal ((CacheFull, true) ∷ conditions (edits.CopyChain root) blocks.old.document) ≡ Some fault) }
+        × IfErr result (λ fault. first_refusal
+        ((CacheFull, true) ∷ conditions (edits.CopyChain root) blocks.old.document) ≡ Some fault) }
     ensures kind { IfOk result (λ p. kind_of_change p.0 ≡ Made) }
-    ensures refusals { IfErr result (λ fault. Refuses (Lacks S.facts blocks.old.disk.store blocks.new.disk.store) (is_full blocks.old) (edits.CopyChain root) blocks.new.document fault
+    ensures refusals { IfErr result
+        (λ fault. RefusesEdit (IsEnvironmentFault S.facts blocks.old.disk.store blocks.new.disk.store)
+        (is_full blocks.old) (edits.CopyChain root) blocks.new.document fault
         ⊎ IsChainEditFault (edits.CopyChain root) blocks.old.document fault) }
 {
     test_chain(blocks, root)?;
@@ -47,16 +51,20 @@ pub fn plan_free_chain<S: Store>(
     blocks: &mut FileBlocks<S>,
     root: VmHandle,
 ) -> Result<(Change, Done), Fault>
-    ensures keeps { Keeps S.facts blocks.old blocks.new }
-    ensures planned { IsSteady S.facts blocks.old.disk.store
+    ensures keeps { KeepsBlocks S.facts blocks.old blocks.new }
+    ensures planned { IsHonest S.facts blocks.old.disk.store
         → MatchResult result (λ p. Plans (edits.FreeChain root) blocks.new.document p.0 p.1)
-        (Refuses (Lacks S.facts blocks.old.disk.store blocks.new.disk.store) (is_full blocks.old) (edits.FreeChain root) blocks.new.document) }
-    ensures ready { IfOk result (λ p. IsReady p.0 blocks.new) }
+        (RefusesEdit (IsEnvironmentFault S.facts blocks.old.disk.store blocks.new.disk.store) (is_full blocks.old)
+        (edits.FreeChain root) blocks.new.document) }
+    ensures ready { IfOk result (λ p. CanCarryOut p.0 blocks.new) }
     ensures room { IfOk result (λ _. is_full blocks.old ≡ false) }
     ensures shut { is_full blocks.old ≡ true → (blocks.new ≡ blocks.old)
-        × IfErr result (λ fault. first_refusal ((CacheFull, true) ∷ conditions (edits.FreeChain root) blocks.old.document) ≡ Some fault) }
+        × IfErr result (λ fault. first_refusal
+        ((CacheFull, true) ∷ conditions (edits.FreeChain root) blocks.old.document) ≡ Some fault) }
     ensures kind { IfOk result (λ p. kind_of_change p.0 ≡ Freed) }
-    ensures refusals { IfErr result (λ fault. Refuses (Lacks S.facts blocks.old.disk.store blocks.new.disk.store) (is_full blocks.old) (edits.FreeChain root) blocks.new.document fault
+    ensures refusals { IfErr result
+        (λ fault. RefusesEdit (IsEnvironmentFault S.facts blocks.old.disk.store blocks.new.disk.store)
+        (is_full blocks.old) (edits.FreeChain root) blocks.new.document fault
         ⊎ IsChainEditFault (edits.FreeChain root) blocks.old.document fault) }
 {
     test_chain(blocks, root)?;

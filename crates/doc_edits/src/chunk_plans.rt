@@ -7,9 +7,9 @@ ghost use Rattle.geos_model.specs.declared.command.Edit.TheVariants as edits;
 ghost use Rattle.chunk_edits.specs.Splicing.{forwards};
 ghost use Rattle.vm_blocks.specs.Keeping.{is_loaded};
 ghost use Rattle.vm_blocks.specs.Allowing.{AllowsNewChunk};
-ghost use Rattle.vm_blocks.specs.Changes.{bytes_of};
+ghost use Rattle.vm_blocks.specs.Changes.{content_bytes};
 ghost use Rattle.doc_edits.specs.Building.{place_of, new_in, IsBuilt};
-ghost use Rattle.doc_edits.specs.Planning.{Plans, RefusesAtHand};
+ghost use Rattle.doc_edits.specs.Planning.{Plans, RefusesInMemory};
 
 use crate::building::{build, build_chunk};
 use crate::found::{bytes_in, heap_at};
@@ -31,7 +31,8 @@ pub fn plan_in_chunk<S: Store>(
     requires loaded { is_loaded blocks.now handle.0 ≡ true }
     requires heap { is_heap blocks.now.document handle.0 ≡ true }
     requires place { place_of edit.now ≡ Some (handle, chunk) }
-    ensures { MatchResult result (λ p. Plans edit.now blocks.now.document p.0 p.1) (RefusesAtHand edit.now blocks.now.document) }
+    ensures { MatchResult result (λ p. Plans edit.now blocks.now.document p.0 p.1)
+        (RefusesInMemory edit.now blocks.now.document) }
 {
     let heap = heap_at(blocks, handle);
     let bytes = bytes_in(heap, chunk)?;
@@ -62,7 +63,8 @@ pub fn plan_new_chunk<S: Store>(
     requires loaded { is_loaded blocks.now handle.0 ≡ true }
     requires heap { is_heap blocks.now.document handle.0 ≡ true }
     requires new { new_in edit.now ≡ Some handle }
-    ensures { MatchResult result (λ p. Plans edit.now blocks.now.document p.0 p.1) (RefusesAtHand edit.now blocks.now.document) }
+    ensures { MatchResult result (λ p. Plans edit.now blocks.now.document p.0 p.1)
+        (RefusesInMemory edit.now blocks.now.document) }
 {
     let heap = heap_at(blocks, handle);
     let content = build_chunk(alloc, edit)?;
@@ -77,8 +79,9 @@ pub fn plan_new_chunk<S: Store>(
 
 /// The least free handle of a heap, if it has room for a new chunk there.
 fn free_place(heap: &Heap, content: &Content) -> Option<ChunkHandle>
-    ensures { MatchOption result (fits_new heap.now.chunks (bytes_of content.now) ≡ false)
-        (λ chunk. (next_chunk heap.now.chunks ≡ Some chunk.0) × AllowsNewChunk heap.now.chunks chunk.0 (bytes_of content.now)) }
+    ensures { MatchOption result (fits_new heap.now.chunks (content_bytes content.now) ≡ false)
+        (λ chunk. (next_chunk heap.now.chunks ≡ Some chunk.0)
+        × AllowsNewChunk heap.now.chunks chunk.0 (content_bytes content.now)) }
 {
     let chunk = heap.next_handle()?;
     let size = size_of(content)?;
@@ -91,7 +94,8 @@ fn free_place(heap: &Heap, content: &Content) -> Option<ChunkHandle>
 
 /// How many bytes a new chunk has, if a word of 32 bits holds their number.
 fn size_of(content: &Content) -> Option<u32>
-    ensures { MatchOption result (4294967296 ≤ length (bytes_of content.now)) (λ n. n ≡ length (bytes_of content.now)) }
+    ensures { MatchOption result (4294967296 ≤ length (content_bytes content.now))
+        (λ n. n ≡ length (content_bytes content.now)) }
 {
     match content {
         Content::Zeros(n) => Some(*n),
@@ -111,7 +115,8 @@ pub fn plan_free_chunk<S: Store>(
 ) -> Result<(Change, Done), Fault>
     requires loaded { is_loaded blocks.now handle.0 ≡ true }
     requires heap { is_heap blocks.now.document handle.0 ≡ true }
-    ensures { MatchResult result (λ p. Plans (edits.Free handle chunk) blocks.now.document p.0 p.1) (RefusesAtHand (edits.Free handle chunk) blocks.now.document) }
+    ensures { MatchResult result (λ p. Plans (edits.Free handle chunk) blocks.now.document p.0 p.1)
+        (RefusesInMemory (edits.Free handle chunk) blocks.now.document) }
 {
     let heap = heap_at(blocks, handle);
     let bytes = bytes_in(heap, chunk)?;

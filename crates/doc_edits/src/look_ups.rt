@@ -11,12 +11,12 @@ ghost use Rattle.geos_model.specs.Document.{is_raw};
 ghost use Rattle.geos_model.specs.Reply.{AreEqual, BytesAre, NumberIs, TokenIs, reply_by, info_is, blocks_are, chunks_are};
 ghost use Rattle.geos_model.specs.declared.command.Command.TheVariants as commands;
 ghost use Rattle.vm_blocks.specs.contracts.file_blocks.FileBlocks.{the_row};
-ghost use Rattle.vm_blocks.specs.Keeping.{Keeps, IsSteady, Lacks, is_full, is_shut_out};
+ghost use Rattle.vm_blocks.specs.Keeping.{KeepsBlocks, IsHonest, IsEnvironmentFault, is_full, is_shut_out};
 ghost use Rattle.element_arrays.specs.Answering.{IsAnswered, IsRefused};
 ghost use Rattle.doc_edits.specs.Found.{IsChunkAt};
-ghost use Rattle.doc_edits.specs.LookUps.{FindsAtHand, Leaves, LooksUp, RefusesChunk, Sees, answer_of};
-ghost use Rattle.vm_blocks.specs.Kinds.{IsOfOther};
-ghost use Rattle.vm_chains.specs.Answers.{IsOfEither};
+ghost use Rattle.doc_edits.specs.LookUps.{FindsInMemory, AfterLoan, LooksUp, RefusesChunk, Sees, answer_of};
+ghost use Rattle.vm_blocks.specs.Kinds.{IsWrongBlock};
+ghost use Rattle.vm_chains.specs.Answers.{IsWrongRoot};
 ghost use Rattle.doc_edits.specs.Room.{IsChainRefusal};
 
 use crate::found::{bytes_in, heap_at, raw_at};
@@ -40,7 +40,10 @@ pub fn info<S: Store>(blocks: &mut FileBlocks<S>, block: VmHandle) -> Result<Inf
 
 /// The bytes of a raw block.
 pub fn read_raw<S: Store>(blocks: &mut FileBlocks<S>, block: VmHandle) -> Result<&[u8], Fault>
-    ensures* leaves { sem 𝓛 (Leaves (the_row S.row S.Store) blocks.entry (λ loaded. Sees S.facts blocks.old loaded (commands.ReadRaw block) (reply_by (λ bytes. BytesAre bytes.now) result))) }
+    ensures* leaves { sem 𝓛
+        (AfterLoan (the_row S.row S.Store) blocks.entry
+        (λ loaded. Sees S.facts blocks.old loaded (commands.ReadRaw block)
+        (reply_by (λ bytes. BytesAre bytes.now) result))) }
 {
     blocks.load_raw(block)?;
     Ok(raw_at(blocks, block).bytes())
@@ -51,7 +54,8 @@ pub fn chunks<S: Store>(
     blocks: &mut FileBlocks<S>,
     block: VmHandle,
 ) -> Result<Vec<ChunkHandle>, Fault>
-    ensures { Sees S.facts blocks.old blocks.new (commands.Chunks block) (reply_by (λ handles. chunks_are handles.items) result) }
+    ensures { Sees S.facts blocks.old blocks.new (commands.Chunks block)
+        (reply_by (λ handles. chunks_are handles.items) result) }
 {
     blocks.load_heap(block)?;
     Ok(heap_at(blocks, block).handles()?)
@@ -63,10 +67,13 @@ fn chunk_at<S: Store>(
     block: VmHandle,
     chunk: ChunkHandle,
 ) -> Result<&[u8], Fault>
-    ensures* leaves { sem 𝓛 (Leaves (the_row S.row S.Store) blocks.entry (λ loaded. Keeps S.facts blocks.old loaded
-        × MatchResult result (λ bytes. (is_shut_out blocks.old block.0 ≡ false) × IsChunkAt loaded.document block.0 chunk.0 bytes.now)
-        (RefusesChunk (Lacks S.facts blocks.old.disk.store loaded.disk.store) (is_shut_out blocks.old block.0) loaded.document block chunk)
-        × FindsAtHand blocks.old loaded block chunk result)) }
+    ensures* leaves { sem 𝓛
+        (AfterLoan (the_row S.row S.Store) blocks.entry (λ loaded. KeepsBlocks S.facts blocks.old loaded
+        × MatchResult result (λ bytes. (is_shut_out blocks.old block.0 ≡ false)
+        × IsChunkAt loaded.document block.0 chunk.0 bytes.now)
+        (RefusesChunk (IsEnvironmentFault S.facts blocks.old.disk.store loaded.disk.store)
+        (is_shut_out blocks.old block.0) loaded.document block chunk)
+        × FindsInMemory blocks.old loaded block chunk result)) }
 {
     blocks.load_heap(block)?;
     bytes_in(heap_at(blocks, block), chunk)
@@ -78,7 +85,10 @@ pub fn read_chunk<S: Store>(
     block: VmHandle,
     chunk: ChunkHandle,
 ) -> Result<&[u8], Fault>
-    ensures* leaves { sem 𝓛 (Leaves (the_row S.row S.Store) blocks.entry (λ loaded. Sees S.facts blocks.old loaded (commands.Read block chunk) (reply_by (λ bytes. BytesAre bytes.now) result))) }
+    ensures* leaves { sem 𝓛
+        (AfterLoan (the_row S.row S.Store) blocks.entry
+        (λ loaded. Sees S.facts blocks.old loaded (commands.Read block chunk)
+        (reply_by (λ bytes. BytesAre bytes.now) result))) }
 {
     chunk_at(blocks, block, chunk)
 }
@@ -97,7 +107,8 @@ pub fn array_count<S: Store>(
 
 // How many elements the array has that these bytes are. NotArray.
 fn count_in(bytes: &[u8]) -> Result<usize, Fault>
-    ensures { MatchResult result (λ n. IsAnswered (on_array bytes.now) (length (array_in bytes.now).elements) n) (IsRefused (on_array bytes.now)) }
+    ensures { MatchResult result (λ n. IsAnswered (on_array bytes.now) (length (array_in bytes.now).elements) n)
+        (IsRefused (on_array bytes.now)) }
 {
     let view = chunk_arrays::check(bytes)?;
     Ok(view.count())
@@ -110,7 +121,10 @@ pub fn array_element<S: Store>(
     chunk: ChunkHandle,
     i: u32,
 ) -> Result<&[u8], Fault>
-    ensures* leaves { sem 𝓛 (Leaves (the_row S.row S.Store) blocks.entry (λ loaded. Sees S.facts blocks.old loaded (commands.ArrayElement block chunk i) (reply_by (λ bytes. BytesAre bytes.now) result))) }
+    ensures* leaves { sem 𝓛
+        (AfterLoan (the_row S.row S.Store) blocks.entry
+        (λ loaded. Sees S.facts blocks.old loaded (commands.ArrayElement block chunk i)
+        (reply_by (λ bytes. BytesAre bytes.now) result))) }
 {
     let bytes = chunk_at(blocks, block, chunk)?;
     element_in(bytes, i)
@@ -118,7 +132,9 @@ pub fn array_element<S: Store>(
 
 // The bytes of an element of the array that these bytes are. NotArray, NoElement.
 fn element_in(bytes: &[u8], i: u32) -> Result<&[u8], Fault>
-    ensures { MatchResult result (λ element. IsAnswered (on_element bytes.now i) (get_or (array_in bytes.now).elements i []) element.now) (IsRefused (on_element bytes.now i)) }
+    ensures { MatchResult result
+        (λ element. IsAnswered (on_element bytes.now i) (get_or (array_in bytes.now).elements i []) element.now)
+        (IsRefused (on_element bytes.now i)) }
 {
     let view = chunk_arrays::check(bytes)?;
     let i = i as usize;
@@ -135,7 +151,8 @@ pub fn element_refs<S: Store>(
     chunk: ChunkHandle,
     token: Token,
 ) -> Result<u32, Fault>
-    ensures { Sees S.facts blocks.old blocks.new (commands.ElementReferences block chunk token) (reply_by NumberIs result) }
+    ensures { Sees S.facts blocks.old blocks.new (commands.ElementReferences block chunk token)
+        (reply_by NumberIs result) }
 {
     let bytes = chunk_at(blocks, block, chunk)?;
     element_arrays::count_of(bytes, token)
@@ -148,7 +165,10 @@ pub fn element_bytes<S: Store>(
     chunk: ChunkHandle,
     token: Token,
 ) -> Result<&[u8], Fault>
-    ensures* leaves { sem 𝓛 (Leaves (the_row S.row S.Store) blocks.entry (λ loaded. Sees S.facts blocks.old loaded (commands.ElementBytes block chunk token) (reply_by (λ bytes. BytesAre bytes.now) result))) }
+    ensures* leaves { sem 𝓛
+        (AfterLoan (the_row S.row S.Store) blocks.entry
+        (λ loaded. Sees S.facts blocks.old loaded (commands.ElementBytes block chunk token)
+        (reply_by (λ bytes. BytesAre bytes.now) result))) }
 {
     let bytes = chunk_at(blocks, block, chunk)?;
     element_arrays::data_of(bytes, token)
@@ -173,7 +193,8 @@ pub fn token_of_used<S: Store>(
     chunk: ChunkHandle,
     k: u32,
 ) -> Result<Token, Fault>
-    ensures { Sees S.facts blocks.old blocks.new (commands.TokenOfUsed block chunk k) (reply_by (λ token. TokenIs token.0) result) }
+    ensures { Sees S.facts blocks.old blocks.new (commands.TokenOfUsed block chunk k)
+        (reply_by (λ token. TokenIs token.0) result) }
 {
     let bytes = chunk_at(blocks, block, chunk)?;
     element_arrays::token_of_used(bytes, k)
@@ -199,7 +220,8 @@ pub fn name_find<S: Store>(
     chunk: ChunkHandle,
     name: &Bytes,
 ) -> Result<Token, Fault>
-    ensures { Sees S.facts blocks.old blocks.new (commands.NameFind block chunk name.now) (reply_by (λ token. TokenIs token.0) result) }
+    ensures { Sees S.facts blocks.old blocks.new (commands.NameFind block chunk name.now)
+        (reply_by (λ token. TokenIs token.0) result) }
 {
     let bytes = chunk_at(blocks, block, chunk)?;
     name_arrays::find(bytes, name.as_slice())
@@ -212,7 +234,8 @@ pub fn name_refs<S: Store>(
     chunk: ChunkHandle,
     token: Token,
 ) -> Result<u32, Fault>
-    ensures { Sees S.facts blocks.old blocks.new (commands.NameReferences block chunk token) (reply_by NumberIs result) }
+    ensures { Sees S.facts blocks.old blocks.new (commands.NameReferences block chunk token)
+        (reply_by NumberIs result) }
 {
     let bytes = chunk_at(blocks, block, chunk)?;
     name_arrays::count_of(bytes, token)
@@ -225,7 +248,10 @@ pub fn name_text<S: Store>(
     chunk: ChunkHandle,
     token: Token,
 ) -> Result<&[u8], Fault>
-    ensures* leaves { sem 𝓛 (Leaves (the_row S.row S.Store) blocks.entry (λ loaded. Sees S.facts blocks.old loaded (commands.NameText block chunk token) (reply_by (λ bytes. BytesAre bytes.now) result))) }
+    ensures* leaves { sem 𝓛
+        (AfterLoan (the_row S.row S.Store) blocks.entry
+        (λ loaded. Sees S.facts blocks.old loaded (commands.NameText block chunk token)
+        (reply_by (λ bytes. BytesAre bytes.now) result))) }
 {
     let bytes = chunk_at(blocks, block, chunk)?;
     name_arrays::name_of(bytes, token)
@@ -238,7 +264,10 @@ pub fn name_part<S: Store>(
     chunk: ChunkHandle,
     token: Token,
 ) -> Result<&[u8], Fault>
-    ensures* leaves { sem 𝓛 (Leaves (the_row S.row S.Store) blocks.entry (λ loaded. Sees S.facts blocks.old loaded (commands.NamePart block chunk token) (reply_by (λ bytes. BytesAre bytes.now) result))) }
+    ensures* leaves { sem 𝓛
+        (AfterLoan (the_row S.row S.Store) blocks.entry
+        (λ loaded. Sees S.facts blocks.old loaded (commands.NamePart block chunk token)
+        (reply_by (λ bytes. BytesAre bytes.now) result))) }
 {
     let bytes = chunk_at(blocks, block, chunk)?;
     name_arrays::data_of(bytes, token)
@@ -250,10 +279,16 @@ pub fn walk<S: Store>(
     blocks: &mut FileBlocks<S>,
     root: VmHandle,
 ) -> Result<Vec<VmHandle>, Fault>
-    ensures keeps { Keeps S.facts blocks.old blocks.new }
-    ensures value { IsSteady S.facts blocks.old.disk.store → LooksUp (Lacks S.facts blocks.old.disk.store blocks.new.disk.store) (is_full blocks.old) (commands.Walk root) blocks.new.document (reply_by (λ handles. blocks_are handles.items) result) }
-    ensures shut { is_full blocks.old ≡ true → (blocks.new ≡ blocks.old) × (answer_of true (commands.Walk root) blocks.old.document ≡ Some (reply_by (λ handles. blocks_are handles.items) result)) }
-    ensures refusals { IfErr result (IsChainRefusal (Lacks S.facts blocks.old.disk.store blocks.new.disk.store) (IsOfOther is_raw blocks.old.document root.0) (is_full blocks.old)) }
+    ensures keeps { KeepsBlocks S.facts blocks.old blocks.new }
+    ensures value { IsHonest S.facts blocks.old.disk.store
+        → LooksUp (IsEnvironmentFault S.facts blocks.old.disk.store blocks.new.disk.store) (is_full blocks.old)
+        (commands.Walk root) blocks.new.document (reply_by (λ handles. blocks_are handles.items) result) }
+    ensures shut { is_full blocks.old ≡ true → (blocks.new ≡ blocks.old)
+        × (answer_of true (commands.Walk root) blocks.old.document ≡ Some
+        (reply_by (λ handles. blocks_are handles.items) result)) }
+    ensures refusals { IfErr result
+        (IsChainRefusal (IsEnvironmentFault S.facts blocks.old.disk.store blocks.new.disk.store)
+        (IsWrongBlock is_raw blocks.old.document root.0) (is_full blocks.old)) }
 {
     test_chain(blocks, root)?;
     vm_chains::walk(alloc, blocks, root)
@@ -265,10 +300,15 @@ pub fn chain_size<S: Store>(
     blocks: &mut FileBlocks<S>,
     root: VmHandle,
 ) -> Result<u32, Fault>
-    ensures keeps { Keeps S.facts blocks.old blocks.new }
-    ensures value { IsSteady S.facts blocks.old.disk.store → LooksUp (Lacks S.facts blocks.old.disk.store blocks.new.disk.store) (is_full blocks.old) (commands.ChainSize root) blocks.new.document (reply_by NumberIs result) }
-    ensures shut { is_full blocks.old ≡ true → (blocks.new ≡ blocks.old) × (answer_of true (commands.ChainSize root) blocks.old.document ≡ Some (reply_by NumberIs result)) }
-    ensures refusals { IfErr result (IsChainRefusal (Lacks S.facts blocks.old.disk.store blocks.new.disk.store) (IsOfOther is_raw blocks.old.document root.0) (is_full blocks.old)) }
+    ensures keeps { KeepsBlocks S.facts blocks.old blocks.new }
+    ensures value { IsHonest S.facts blocks.old.disk.store
+        → LooksUp (IsEnvironmentFault S.facts blocks.old.disk.store blocks.new.disk.store) (is_full blocks.old)
+        (commands.ChainSize root) blocks.new.document (reply_by NumberIs result) }
+    ensures shut { is_full blocks.old ≡ true → (blocks.new ≡ blocks.old)
+        × (answer_of true (commands.ChainSize root) blocks.old.document ≡ Some (reply_by NumberIs result)) }
+    ensures refusals { IfErr result
+        (IsChainRefusal (IsEnvironmentFault S.facts blocks.old.disk.store blocks.new.disk.store)
+        (IsWrongBlock is_raw blocks.old.document root.0) (is_full blocks.old)) }
 {
     test_chain(blocks, root)?;
     vm_chains::size(alloc, blocks, root)
@@ -281,10 +321,15 @@ pub fn chain_equal<S: Store>(
     first: VmHandle,
     second: VmHandle,
 ) -> Result<bool, Fault>
-    ensures keeps { Keeps S.facts blocks.old blocks.new }
-    ensures value { IsSteady S.facts blocks.old.disk.store → LooksUp (Lacks S.facts blocks.old.disk.store blocks.new.disk.store) (is_full blocks.old) (commands.ChainEqual first second) blocks.new.document (reply_by AreEqual result) }
-    ensures shut { is_full blocks.old ≡ true → (blocks.new ≡ blocks.old) × (answer_of true (commands.ChainEqual first second) blocks.old.document ≡ Some (reply_by AreEqual result)) }
-    ensures refusals { IfErr result (IsChainRefusal (Lacks S.facts blocks.old.disk.store blocks.new.disk.store) (IsOfEither blocks.old.document first.0 second.0) (is_full blocks.old)) }
+    ensures keeps { KeepsBlocks S.facts blocks.old blocks.new }
+    ensures value { IsHonest S.facts blocks.old.disk.store
+        → LooksUp (IsEnvironmentFault S.facts blocks.old.disk.store blocks.new.disk.store) (is_full blocks.old)
+        (commands.ChainEqual first second) blocks.new.document (reply_by AreEqual result) }
+    ensures shut { is_full blocks.old ≡ true → (blocks.new ≡ blocks.old)
+        × (answer_of true (commands.ChainEqual first second) blocks.old.document ≡ Some (reply_by AreEqual result)) }
+    ensures refusals { IfErr result
+        (IsChainRefusal (IsEnvironmentFault S.facts blocks.old.disk.store blocks.new.disk.store)
+        (IsWrongRoot blocks.old.document first.0 second.0) (is_full blocks.old)) }
 {
     test_chains(blocks, first, second)?;
     vm_chains::equal(alloc, blocks, first, second)

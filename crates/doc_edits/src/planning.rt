@@ -7,11 +7,11 @@ ghost use Rattle.geos_model.specs.Scope.{scope_of};
 ghost use Rattle.geos_model.specs.declared.command.Edit.TheVariants as edits;
 ghost use Rattle.geos_model.specs.declared.command.Kind.TheVariants.{Plain};
 ghost use Rattle.geos_model.specs.declared.fault.Fault.TheVariants.{CacheFull};
-ghost use Rattle.vm_blocks.specs.Keeping.{Keeps, IsSteady, Lacks};
-ghost use Rattle.vm_blocks.specs.Preparing.{IsReady};
+ghost use Rattle.vm_blocks.specs.Keeping.{KeepsBlocks, IsHonest, IsEnvironmentFault};
+ghost use Rattle.vm_blocks.specs.Preparing.{CanCarryOut};
 ghost use Rattle.doc_edits.specs.Building.{is_of_chain};
 ghost use Rattle.doc_edits.specs.Loading.{IsBrought, IsThere};
-ghost use Rattle.doc_edits.specs.Planning.{freed_by, kind_of_change, IsChainEditFault, Plans, Refuses, RefusesAtHand};
+ghost use Rattle.doc_edits.specs.Planning.{freed_by, kind_of_change, IsChainEditFault, Plans, RefusesEdit, RefusesInMemory};
 ghost use Rattle.doc_edits.specs.Room.{has_no_room, ReadsNothing};
 
 use crate::block_plans::{
@@ -36,21 +36,27 @@ pub fn plan<S: Store>(
     blocks: &mut FileBlocks<S>,
     edit: &Edit,
 ) -> Result<(Change, Done), Fault>
-    ensures keeps { Keeps S.facts blocks.old blocks.new }
-    ensures planned { (is_of_chain edit.now ≡ true → IsSteady S.facts blocks.old.disk.store)
+    ensures keeps { KeepsBlocks S.facts blocks.old blocks.new }
+    ensures planned { (is_of_chain edit.now ≡ true → IsHonest S.facts blocks.old.disk.store)
         → MatchResult result (λ p. Plans edit.now blocks.new.document p.0 p.1)
-        (Refuses (Lacks S.facts blocks.old.disk.store blocks.new.disk.store) (has_no_room blocks.old (edit_needs edit.now)) edit.now blocks.new.document) }
-    ensures ready { IfOk result (λ p. IsReady p.0 blocks.new) }
+        (RefusesEdit (IsEnvironmentFault S.facts blocks.old.disk.store blocks.new.disk.store)
+        (has_no_room blocks.old (edit_needs edit.now)) edit.now blocks.new.document) }
+    ensures ready { IfOk result (λ p. CanCarryOut p.0 blocks.new) }
     ensures room { IfOk result (λ _. has_no_room blocks.old (edit_needs edit.now) ≡ false) }
     ensures shut { has_no_room blocks.old (edit_needs edit.now) ≡ true → (blocks.new ≡ blocks.old)
-        × IfErr result (λ fault. first_refusal ((CacheFull, true) ∷ conditions edit.now blocks.old.document) ≡ Some fault) }
+        × IfErr result (λ fault. first_refusal
+        ((CacheFull, true) ∷ conditions edit.now blocks.old.document) ≡ Some fault) }
     ensures kind { IfOk result (λ p. kind_of_change p.0 ≡ kind_of edit.now) }
     ensures alone { (b : VmHandle) → edit.now ≡ edits.FreeBlock b → IfOk result (λ p. freed_by p.0 ≡ b.0 ∷ []) }
-    ensures refusals { IfErr result (λ fault. Refuses (Lacks S.facts blocks.old.disk.store blocks.new.disk.store) (has_no_room blocks.old (edit_needs edit.now)) edit.now blocks.new.document fault
+    ensures refusals { IfErr result
+        (λ fault. RefusesEdit (IsEnvironmentFault S.facts blocks.old.disk.store blocks.new.disk.store)
+        (has_no_room blocks.old (edit_needs edit.now)) edit.now blocks.new.document fault
         ⊎ IsChainEditFault edit.now blocks.old.document fault) }
-    ensures plain { kind_of edit.now ≡ Plain → (blocks.new ≡ blocks.old) × IfErr result (RefusesAtHand edit.now blocks.new.document) }
+    ensures plain { kind_of edit.now ≡ Plain → (blocks.new ≡ blocks.old)
+        × IfErr result (RefusesInMemory edit.now blocks.new.document) }
     ensures already { ReadsNothing blocks.old (edit_needs edit.now) (conditions edit.now blocks.old.document)
-        → (blocks.new.disk ≡ blocks.old.disk) × (blocks.new.document ≡ blocks.old.document) × IfErr result (RefusesAtHand edit.now blocks.old.document) }
+        → (blocks.new.disk ≡ blocks.old.disk) × (blocks.new.document ≡ blocks.old.document)
+        × IfErr result (RefusesInMemory edit.now blocks.old.document) }
 {
     match edit {
         Edit::CopyChain(root) => plan_copy_chain(alloc, blocks, *root),
@@ -66,17 +72,21 @@ fn plan_of_block<S: Store>(
     edit: &Edit,
 ) -> Result<(Change, Done), Fault>
     requires { is_of_chain edit.now ≡ false }
-    ensures keeps { Keeps S.facts blocks.old blocks.new }
+    ensures keeps { KeepsBlocks S.facts blocks.old blocks.new }
     ensures planned { MatchResult result (λ p. Plans edit.now blocks.new.document p.0 p.1)
-        (Refuses (Lacks S.facts blocks.old.disk.store blocks.new.disk.store) (has_no_room blocks.old (edit_needs edit.now)) edit.now blocks.new.document) }
-    ensures ready { IfOk result (λ p. IsReady p.0 blocks.new) }
+        (RefusesEdit (IsEnvironmentFault S.facts blocks.old.disk.store blocks.new.disk.store)
+        (has_no_room blocks.old (edit_needs edit.now)) edit.now blocks.new.document) }
+    ensures ready { IfOk result (λ p. CanCarryOut p.0 blocks.new) }
     ensures room { IfOk result (λ _. has_no_room blocks.old (edit_needs edit.now) ≡ false) }
     ensures shut { has_no_room blocks.old (edit_needs edit.now) ≡ true → (blocks.new ≡ blocks.old)
-        × IfErr result (λ fault. first_refusal ((CacheFull, true) ∷ conditions edit.now blocks.old.document) ≡ Some fault) }
+        × IfErr result (λ fault. first_refusal
+        ((CacheFull, true) ∷ conditions edit.now blocks.old.document) ≡ Some fault) }
     ensures alone { (b : VmHandle) → edit.now ≡ edits.FreeBlock b → IfOk result (λ p. freed_by p.0 ≡ b.0 ∷ []) }
-    ensures plain { kind_of edit.now ≡ Plain → (blocks.new ≡ blocks.old) × IfErr result (RefusesAtHand edit.now blocks.new.document) }
+    ensures plain { kind_of edit.now ≡ Plain → (blocks.new ≡ blocks.old)
+        × IfErr result (RefusesInMemory edit.now blocks.new.document) }
     ensures already { ReadsNothing blocks.old (edit_needs edit.now) (conditions edit.now blocks.old.document)
-        → (blocks.new.disk ≡ blocks.old.disk) × (blocks.new.document ≡ blocks.old.document) × IfErr result (RefusesAtHand edit.now blocks.old.document) }
+        → (blocks.new.disk ≡ blocks.old.disk) × (blocks.new.document ≡ blocks.old.document)
+        × IfErr result (RefusesInMemory edit.now blocks.old.document) }
 {
     load_scope(blocks, edit)?;
     plan_loaded(alloc, blocks, edit)
@@ -86,9 +96,10 @@ fn plan_of_block<S: Store>(
 /// of another kind.
 fn load_scope<S: Store>(blocks: &mut FileBlocks<S>, edit: &Edit) -> Result<(), Fault>
     requires { is_of_chain edit.now ≡ false }
-    ensures keeps { Keeps S.facts blocks.old blocks.new }
+    ensures keeps { KeepsBlocks S.facts blocks.old blocks.new }
     ensures ok { IfOk result (λ _. IsThere blocks.new (scope_of edit.now)) }
-    ensures brought { IsBrought (Lacks S.facts blocks.old.disk.store blocks.new.disk.store) edit.now blocks.old blocks.new result }
+    ensures brought { IsBrought
+        (IsEnvironmentFault S.facts blocks.old.disk.store blocks.new.disk.store) edit.now blocks.old blocks.new result }
     ensures plain { kind_of edit.now ≡ Plain → IsOk result × (blocks.new ≡ blocks.old) }
 {
     match edit.scope() {
@@ -107,7 +118,8 @@ fn plan_loaded<S: Store>(
 ) -> Result<(Change, Done), Fault>
     requires of_block { is_of_chain edit.now ≡ false }
     requires there { IsThere blocks.now (scope_of edit.now) }
-    ensures planned { MatchResult result (λ p. Plans edit.now blocks.now.document p.0 p.1) (RefusesAtHand edit.now blocks.now.document) }
+    ensures planned { MatchResult result (λ p. Plans edit.now blocks.now.document p.0 p.1)
+        (RefusesInMemory edit.now blocks.now.document) }
     ensures alone { (b : VmHandle) → edit.now ≡ edits.FreeBlock b → IfOk result (λ p. freed_by p.0 ≡ b.0 ∷ []) }
 {
     match edit {

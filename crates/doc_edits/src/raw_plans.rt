@@ -3,7 +3,7 @@ ghost use Rattle.std.specs.Prelude.{◌≡◌, true, MatchResult};
 ghost use Rattle.geos_model.specs.Document.{is_raw};
 ghost use Rattle.geos_model.specs.declared.command.Edit.TheVariants as edits;
 ghost use Rattle.vm_blocks.specs.Keeping.{is_loaded};
-ghost use Rattle.doc_edits.specs.Planning.{Plans, RefusesAtHand};
+ghost use Rattle.doc_edits.specs.Planning.{Plans, RefusesInMemory};
 
 use crate::found::raw_at;
 use chunk_edits::{raw_replace, raw_write};
@@ -22,7 +22,8 @@ pub fn plan_write_raw<S: Store>(
 ) -> Result<(Change, Done), Fault>
     requires loaded { is_loaded blocks.now handle.0 ≡ true }
     requires raw { is_raw blocks.now.document handle.0 ≡ true }
-    ensures { MatchResult result (λ p. Plans (edits.WriteRaw handle at bytes.now) blocks.now.document p.0 p.1) (RefusesAtHand (edits.WriteRaw handle at bytes.now) blocks.now.document) }
+    ensures { MatchResult result (λ p. Plans (edits.WriteRaw handle at bytes.now) blocks.now.document p.0 p.1)
+        (RefusesInMemory (edits.WriteRaw handle at bytes.now) blocks.now.document) }
 {
     let body = raw_at(blocks, handle);
     let splice = raw_write(alloc, body, at, bytes.as_slice())?;
@@ -38,7 +39,8 @@ pub fn plan_attach<S: Store>(
 ) -> Result<(Change, Done), Fault>
     requires loaded { is_loaded blocks.now handle.0 ≡ true }
     requires raw { is_raw blocks.now.document handle.0 ≡ true }
-    ensures { MatchResult result (λ p. Plans (edits.Attach handle bytes.now) blocks.now.document p.0 p.1) (RefusesAtHand (edits.Attach handle bytes.now) blocks.now.document) }
+    ensures { MatchResult result (λ p. Plans (edits.Attach handle bytes.now) blocks.now.document p.0 p.1)
+        (RefusesInMemory (edits.Attach handle bytes.now) blocks.now.document) }
 {
     let body = raw_at(blocks, handle);
     let splice = raw_replace(alloc, body, bytes.as_slice())?;

@@ -5,8 +5,8 @@ ghost use Rattle.geos_model.specs.Refusal.{Conditions, first_refusal};
 ghost use Rattle.geos_model.specs.declared.fault.Fault.TheVariants.{CacheFull};
 ghost use Rattle.geos_model.specs.Document.{is_raw};
 ghost use Rattle.vm_blocks.specs.Keeping.{is_full};
-ghost use Rattle.vm_blocks.specs.Kinds.{IsOfOther};
-ghost use Rattle.vm_chains.specs.Answers.{IsOfEither};
+ghost use Rattle.vm_blocks.specs.Kinds.{IsWrongBlock};
+ghost use Rattle.vm_chains.specs.Answers.{IsWrongRoot};
 ghost use Rattle.doc_edits.specs.Found.{AreLate};
 ghost use Rattle.doc_edits.specs.Room.{IsRefusedEarly};
 
@@ -18,8 +18,10 @@ use vm_store::Store;
 /// NoBlock and WrongKind as the root of a chain may be refused, and then CacheFull where each frame has a locked block.
 pub fn test_chain<S: Store>(blocks: &FileBlocks<S>, root: VmHandle) -> Result<(), Fault>
     ensures value { MatchResult result (λ _. is_full blocks.now ≡ false)
-        (λ fault. (rest : Conditions) → AreLate rest → first_refusal ((CacheFull, is_full blocks.now) ∷ on_chain blocks.now.document root.0 ++ rest) ≡ Some fault) }
-    ensures refusals { IfErr result (IsRefusedEarly (IsOfOther is_raw blocks.now.document root.0) (is_full blocks.now)) }
+        (λ fault. (rest : Conditions) → AreLate rest
+        → first_refusal ((CacheFull, is_full blocks.now) ∷ on_chain blocks.now.document root.0 ++ rest) ≡ Some fault) }
+    ensures refusals { IfErr result
+        (IsRefusedEarly (IsWrongBlock is_raw blocks.now.document root.0) (is_full blocks.now)) }
 {
     test_root(blocks, root)?;
     test_frames(blocks)
@@ -32,8 +34,10 @@ pub fn test_chains<S: Store>(
     second: VmHandle,
 ) -> Result<(), Fault>
     ensures value { MatchResult result (λ _. is_full blocks.now ≡ false)
-        (λ fault. first_refusal ((CacheFull, is_full blocks.now) ∷ on_chains blocks.now.document first.0 second.0) ≡ Some fault) }
-    ensures refusals { IfErr result (IsRefusedEarly (IsOfEither blocks.now.document first.0 second.0) (is_full blocks.now)) }
+        (λ fault. first_refusal
+        ((CacheFull, is_full blocks.now) ∷ on_chains blocks.now.document first.0 second.0) ≡ Some fault) }
+    ensures refusals { IfErr result
+        (IsRefusedEarly (IsWrongRoot blocks.now.document first.0 second.0) (is_full blocks.now)) }
 {
     test_roots(blocks, first, second)?;
     test_frames(blocks)
@@ -41,7 +45,8 @@ pub fn test_chains<S: Store>(
 
 /// CacheFull where each frame has a locked block.
 fn test_frames<S: Store>(blocks: &FileBlocks<S>) -> Result<(), Fault>
-    ensures { MatchResult result (λ _. is_full blocks.now ≡ false) (λ fault. (fault ≡ CacheFull) × (is_full blocks.now ≡ true)) }
+    ensures { MatchResult result (λ _. is_full blocks.now ≡ false)
+        (λ fault. (fault ≡ CacheFull) × (is_full blocks.now ≡ true)) }
 {
     if blocks.all_locked() {
         Err(Fault::CacheFull)

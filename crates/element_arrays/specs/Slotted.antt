@@ -25,6 +25,6 @@ GivesSlots s slots splice =
     let new = slotted_bytes s.more slots in
     Builds (too_long new) splice (slotted_bytes s.more s.slots) new (length (slotted_bytes s.more s.slots) + length new)
 
--- want of memory, or the new array would be longer than any chunk
+-- lack of memory, or the new array would be longer than any chunk
 abbrev pub RefusesSlots : Slotted → Slots → Fault → Type 0
 RefusesSlots s slots fault = RefusesToBuild (too_long (slotted_bytes s.more slots)) fault

@@ -5,14 +5,14 @@ use Rattle.geos_model.specs.Machine.{empty_machine}
 use Rattle.geos_model.specs.Script.{lines, requests, Answered}
 use Rattle.vm_store.specs.History.{History, facts_of}
 use Rattle.undo_log.specs.Logging.{empty_log}
-use Rattle.undo_log.specs.Records.{SessionState, machine_of}
+use Rattle.undo_log.specs.Sessions.{SessionState, machine_of}
 
 -- on a new document
 abbrev pub IsNew : SessionState History → Type 0
 IsNew session = machine_of false session ≡ empty_machine 8 false
 
 -- on the document that a file stands for, with nothing to undo or to redo and in no group
-pub record IsOpened (file : History) (session : SessionState History) : Type 0 where
+pub record IsPlayOpened (file : History) (session : SessionState History) : Type 0 where
   pub stands_for : stands (facts_of file).content ≡ Ok (session.disk.updated, session.disk.saved)
   pub document : session.document ≡ session.disk.updated
   pub log : session.log ≡ empty_log
@@ -20,7 +20,7 @@ pub record IsOpened (file : History) (session : SessionState History) : Type 0 w
 -- on the document of a file that was left, or a new one where none was
 abbrev pub IsOn : Option History → SessionState History → Type 0
 IsOn None session = IsNew session
-IsOn (Some file) session = IsOpened file session
+IsOn (Some file) session = IsPlayOpened file session
 
 -- From this session the machine may answer the lines of the script by these replies, and the session that it leads to has this file.
 pub record Plays (session : SessionState History) (script replies : List ℕ) (file : History) : Type 0 where

@@ -1,8 +1,8 @@
 //! A script on a document, with the replies that it must get.
 ghost use Rattle.std.specs.Prelude.{IfOk};
 ghost use Rattle.vm_store.specs.History.{facts_of};
-ghost use Rattle.undo_log.specs.Records.{IsExact};
-ghost use Rattle.examples.specs.Playing.{IsNew, IsOpened, IsOn, Plays};
+ghost use Rattle.undo_log.specs.Sessions.{IsExact};
+ghost use Rattle.examples.specs.Playing.{IsNew, IsPlayOpened, IsOn, Plays};
 
 use dialogues::{Dialogue, Mismatch};
 use std::alloc::Global;
@@ -25,7 +25,7 @@ fn create(alloc: Global) -> Result<Session<MemStore>, Mismatch>
 
 /// A session on the document in a file.
 fn open(alloc: Global, file: MemStore) -> Result<Session<MemStore>, Mismatch>
-    ensures opened { IfOk result (IsOpened file) }
+    ensures opened { IfOk result (IsPlayOpened file) }
     ensures exact { IfOk result (IsExact facts_of) }
 {
     match Session::open(alloc, file, FRAMES) {

@@ -6,7 +6,7 @@ ghost use Rattle.geos_model.specs.Document.{most_blocks};
 use geos_model::{Attributes, CAPACITY, Fault, MOST_BLOCKS, VmHandle};
 use lmem_heap::Heap;
 use std::alloc::Global;
-use vm_file::{Image, Member, Refused, SavedBlock, VmFile};
+use vm_file::{BlockImage, Image, Member, Refused, VmFile};
 use vm_store::{MemStore, Store};
 
 pub(crate) fn why<S: Store>(refused: Refused<S>) -> Fault {
@@ -37,7 +37,7 @@ pub(crate) fn raw_block(
     }
     Ok(Member {
         handle: VmHandle(handle),
-        block: SavedBlock::new(
+        block: BlockImage::new(
             Attributes {
                 user_id,
                 heap_type: 0,
@@ -56,7 +56,7 @@ pub(crate) fn heap_block(handle: u16, attributes: Attributes, heap: &Heap) -> Re
     }
     Ok(Member {
         handle: VmHandle(handle),
-        block: SavedBlock::new(attributes, Image::of_heap(heap)?),
+        block: BlockImage::new(attributes, Image::of_heap(heap)?),
     })
 }
 

@@ -15,8 +15,8 @@ fn begun(alloc: Global, begun: &[Step], steps: &[Step]) -> Result<MemStore, Mism
 
 #[test]
 fn no_block_is_listed_at_first(rt: HostRuntime) -> Result<(), Fail> {
-    let seen = [Lists(&[]), NextHandle(Some(1)), Finds(0, 0, None)];
-    begun(rt.alloc(), &[], &seen)?;
+    let as_file = [Lists(&[]), NextHandle(Some(1)), Finds(0, 0, None)];
+    begun(rt.alloc(), &[], &as_file)?;
     Ok(())
 }
 

@@ -508,8 +508,8 @@ fn edited(version: u8, edits: Edits) -> [u8; LENGTH] {
 }
 
 // What is to be read of it.
-fn wanted(alloc: Global, version: u8, seen: Result<Seen, Fault>) -> Result<Answer, Fault> {
-    match seen {
+fn wanted(alloc: Global, version: u8, as_file: Result<Seen, Fault>) -> Result<Answer, Fault> {
+    match as_file {
         Ok(None) => Ok(Answer::Other),
         Ok(Some((handle, heap_type))) => Ok(Answer::Block {
             handle,

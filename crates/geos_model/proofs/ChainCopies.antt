@@ -7,7 +7,7 @@ use Rattle.std.specs.List.{All, Contains, list_all, list_any, range_with_len}
 use Rattle.geos_model.specs.ElementArray.{all_distinct}
 use Rattle.geos_model.specs.Document.{Document, most_blocks, vm_handles, is_vm_handle, is_live}
 use Rattle.geos_model.specs.Chain.{free_handles, new_handles}
-use Rattle.geos_model.specs.ChainLaws.{is_rising, AreNew}
+use Rattle.geos_model.specs.ChainLaws.{handles_rise, AreNew}
 use Rattle.geos_model.proofs.Chains.{contains_cases, contains_first, contains_later}
 
 -- Rising lists.
@@ -16,9 +16,9 @@ above-range : (x a n : ℕ) → x < a → list_all (nat_lt x) (range_with_len a 
 above-range x a zero low = refl
 above-range x a (suc n) low = and_from (nat_lt x a) (list_all (nat_lt x) (range_with_len (a + 1) n)) (lt-ltb x a low) (above-range x (a + 1) n (omega arith))
 
-rising-range : (a n : ℕ) → is_rising (range_with_len a n) ≡ true
+rising-range : (a n : ℕ) → handles_rise (range_with_len a n) ≡ true
 rising-range a zero = refl
-rising-range a (suc n) = and_from (list_all (nat_lt a) (range_with_len (a + 1) n)) (is_rising (range_with_len (a + 1) n)) (above-range a (a + 1) n (omega arith)) (rising-range (a + 1) n)
+rising-range a (suc n) = and_from (list_all (nat_lt a) (range_with_len (a + 1) n)) (handles_rise (range_with_len (a + 1) n)) (above-range a (a + 1) n (omega arith)) (rising-range (a + 1) n)
 
 list_all-filter : (p q : ℕ → Bool) (xs : List ℕ) → list_all q xs ≡ true → list_all q (filter p xs) ≡ true
 list_all-filter p q [] all = refl
@@ -30,14 +30,14 @@ list_all-filter p q (x ∷ xs) all =
       | inr e ↦ ap (list_all q) (cond-false (p x) _ _ e) ∙ rest
     ]
 
-rising-filter : (p : ℕ → Bool) (xs : List ℕ) → is_rising xs ≡ true → is_rising (filter p xs) ≡ true
+rising-filter : (p : ℕ → Bool) (xs : List ℕ) → handles_rise xs ≡ true → handles_rise (filter p xs) ≡ true
 rising-filter p [] up = refl
 rising-filter p (x ∷ xs) up =
-    let parts = and_parts (list_all (nat_lt x) xs) (is_rising xs) up in
+    let parts = and_parts (list_all (nat_lt x) xs) (handles_rise xs) up in
     let rest = rising-filter p xs parts.1 in
     elim (cases_Bool (p x)) [
-      | inl e ↦ ap is_rising (cond-true (p x) _ _ e) ∙ and_from (list_all (nat_lt x) (filter p xs)) (is_rising (filter p xs)) (list_all-filter p (nat_lt x) xs parts.0) rest
-      | inr e ↦ ap is_rising (cond-false (p x) _ _ e) ∙ rest
+      | inl e ↦ ap handles_rise (cond-true (p x) _ _ e) ∙ and_from (list_all (nat_lt x) (filter p xs)) (handles_rise (filter p xs)) (list_all-filter p (nat_lt x) xs parts.0) rest
+      | inr e ↦ ap handles_rise (cond-false (p x) _ _ e) ∙ rest
     ]
 
 list_all-take : (q : ℕ → Bool) (n : ℕ) (xs : List ℕ) → list_all q xs ≡ true → list_all q (take n xs) ≡ true
@@ -47,12 +47,12 @@ list_all-take q (suc n) (x ∷ xs) all =
     let parts = and_parts (q x) (list_all q xs) all in
     and_from (q x) (list_all q (take n xs)) parts.0 (list_all-take q n xs parts.1)
 
-rising-take : (n : ℕ) (xs : List ℕ) → is_rising xs ≡ true → is_rising (take n xs) ≡ true
+rising-take : (n : ℕ) (xs : List ℕ) → handles_rise xs ≡ true → handles_rise (take n xs) ≡ true
 rising-take zero xs up = refl
 rising-take (suc n) [] up = refl
 rising-take (suc n) (x ∷ xs) up =
-    let parts = and_parts (list_all (nat_lt x) xs) (is_rising xs) up in
-    and_from (list_all (nat_lt x) (take n xs)) (is_rising (take n xs)) (list_all-take (nat_lt x) n xs parts.0) (rising-take n xs parts.1)
+    let parts = and_parts (list_all (nat_lt x) xs) (handles_rise xs) up in
+    and_from (list_all (nat_lt x) (take n xs)) (handles_rise (take n xs)) (list_all-take (nat_lt x) n xs parts.0) (rising-take n xs parts.1)
 
 -- none of a rising list is there twice
 met_none : (x : ℕ) (xs : List ℕ) → list_all (nat_lt x) xs ≡ true → list_any (λ y. x == y) xs ≡ false
@@ -68,10 +68,10 @@ met_none x (y ∷ ys) above =
       | inr e ↦ e
     ]
 
-rising-distinct : (xs : List ℕ) → is_rising xs ≡ true → all_distinct xs ≡ true
+rising-distinct : (xs : List ℕ) → handles_rise xs ≡ true → all_distinct xs ≡ true
 rising-distinct [] up = refl
 rising-distinct (x ∷ xs) up =
-    let parts = and_parts (list_all (nat_lt x) xs) (is_rising xs) up in
+    let parts = and_parts (list_all (nat_lt x) xs) (handles_rise xs) up in
     and_from (not (list_any (λ y. x == y) xs)) (all_distinct xs) (not_from_false (list_any (λ y. x == y) xs) (met_none x xs parts.0)) (rising-distinct xs parts.1)
 
 -- what passes is kept
@@ -89,11 +89,11 @@ kept-there p (y ∷ ys) x there good = elim (cases_Bool (p y)) [
 ]
 
 -- what a rising list has behind its first so many is greater than these
-behind_taken : (n : ℕ) (xs : List ℕ) (x y : ℕ) → is_rising xs ≡ true → Contains xs x → (Contains (take n xs) x → ⊥) → Contains (take n xs) y → y < x
+behind_taken : (n : ℕ) (xs : List ℕ) (x y : ℕ) → handles_rise xs ≡ true → Contains xs x → (Contains (take n xs) x → ⊥) → Contains (take n xs) y → y < x
 behind_taken zero xs x y up there absent taken = absurd (let low = taken.1 in omega arith)
 behind_taken (suc n) [] x y up there absent taken = absurd (absent there)
 behind_taken (suc n) (z ∷ zs) x y up there absent taken =
-    let parts = and_parts (list_all (nat_lt z) zs) (is_rising zs) up in
+    let parts = and_parts (list_all (nat_lt z) zs) (handles_rise zs) up in
     elim (contains_cases z zs x there) [
       | inl is ↦ absurd (absent (subst (Contains (z ∷ take n zs)) is (contains_first z (take n zs))))
       | inr later ↦ elim (contains_cases z (take n zs) y taken) [
@@ -124,7 +124,7 @@ vm_handles-all : All (λ h. is_vm_handle h ≡ true) vm_handles
 unfolding vm_handles
 vm_handles-all = handles-range 1 most_blocks (omega arith) (omega arith)
 
-vm_handles-rising : is_rising vm_handles ≡ true
+vm_handles-rising : handles_rise vm_handles ≡ true
 unfolding vm_handles
 vm_handles-rising = rising-range 1 most_blocks
 

@@ -8,7 +8,7 @@ use Rattle.std.specs.FinMap.{get}
 use Rattle.geos_model.specs.Refusal.{Conditions, first_refusal}
 use Rattle.geos_model.specs.Document.{Block, Document, IsValid, is_live, block_at, handles_of, without_blocks, no_block}
 use Rattle.geos_model.specs.Meaning.{copies_blocks}
-use Rattle.geos_model.specs.Chain.{chain, chain_blocks, blocks_of, name_of, free_handles, new_handles, relinked_block, copies_of, free_conditions, copy_conditions}
+use Rattle.geos_model.specs.Chain.{chain, chain_blocks, chain_blocks_of, name_of, free_handles, new_handles, relinked_block, copies_of, free_conditions, copy_conditions}
 use Rattle.geos_model.specs.ChainLaws.{IsFreed, CopiesChain, FreesChain}
 use Rattle.geos_model.specs.declared.fault.Fault.TheVariants.{BadChain, IsMap, NoHandles}
 use Rattle.geos_model.specs.declared.command.Done.TheVariants as done
@@ -19,7 +19,7 @@ use Rattle.geos_model.proofs.CopiedChains.{named-handles, chain-copied}
 
 -- The blocks of a chain and of its copy.
 
-pub blocks_of-handles : (d : Document) (hs : List ℕ) → handles_of (blocks_of d hs) ≡ hs
+pub blocks_of-handles : (d : Document) (hs : List ℕ) → handles_of (chain_blocks_of d hs) ≡ hs
 blocks_of-handles d [] = refl
 blocks_of-handles d (h ∷ hs) = ap (λ (xs : List ℕ). h ∷ xs) (blocks_of-handles d hs)
 
@@ -27,7 +27,7 @@ live_block : (o : Option Block) → is_some o ≡ true → o ≡ Some (unwrap_or
 live_block None live = absurd (cc live)
 live_block (Some b) live = refl
 
-pub blocks_of-stand : (d : Document) (hs : List ℕ) → ((x : ℕ) → Contains hs x → is_live d x ≡ true) → All (λ p. get d.blocks p.0 ≡ Some p.1) (blocks_of d hs)
+pub blocks_of-stand : (d : Document) (hs : List ℕ) → ((x : ℕ) → Contains hs x → is_live d x ≡ true) → All (λ p. get d.blocks p.0 ≡ Some p.1) (chain_blocks_of d hs)
 blocks_of-stand d hs live =
     All-map (λ p. get d.blocks p.0 ≡ Some p.1) (λ h. (h, block_at d h)) hs
     (All-weaker (Contains hs) (λ h. get d.blocks h ≡ Some (block_at d h)) (λ h there. live_block (get d.blocks h) (live h there)) hs (All-contains_itself hs))

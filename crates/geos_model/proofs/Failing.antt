@@ -1,4 +1,4 @@
--- No rule of the document answers want of memory or a file fault.
+-- No rule of the document answers lack of memory or a file fault.
 use Rattle.std.proofs.Common.{◌≡◌, ◌≢◌, ◌⊎◌, List, [], ◌∷◌, Bool, true, false, not, ◌==◌, length, Option, Some, None, is_some, find, refl, sym, ap, subst, ◌∙◌, inl, inr, arith}
 use Rattle.std.proofs.lemmas.Bool.{cases_Bool}
 use Rattle.std.proofs.lemmas.Bool.Decides.{nat_tests}
@@ -15,7 +15,7 @@ use Rattle.geos_model.specs.declared.command.Command.{Command}
 use Rattle.geos_model.specs.declared.command.Command.TheVariants as commands
 use Rattle.geos_model.proofs.Undoing.{OnDone, IsAnswer, on_done, done_by-answers, same_reply, refused, both_true}
 
--- neither want of memory nor a file fault
+-- neither lack of memory nor a file fault
 abbrev is_rule : Fault → Bool
 is_rule Memory = false
 is_rule File = false

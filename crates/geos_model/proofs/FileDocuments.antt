@@ -11,33 +11,33 @@ use Rattle.std.specs.FinMap.{FinMap, get, get-empty, insert, from_entries}
 use Rattle.geos_model.specs.declared.block.Attributes.{Attributes}
 use Rattle.geos_model.specs.Document.{Block, Document, is_vm_handle, is_heap_body, IsValidBlock, IsValid, most_blocks, FitAttributes}
 use Rattle.geos_model.specs.Image.{body_of}
-use Rattle.geos_model.specs.File.{Directory, bytes_in, is_in_file, directory_text, is_rising, is_entry, is_directory, directory_in, directory_of, prepended, if_typed, block_of, blocks_of, document_of, document_at, longest_image, greatest_handle, last_page_of}
-use Rattle.geos_model.specs.FileLaws.{Keeps}
+use Rattle.geos_model.specs.File.{Directory, bytes_in, is_in_file, directory_text, is_rising, is_entry, is_directory, directory_in, directory_of, prepended, if_typed, block_of, blocks_of_entries, document_of, document_at, longest_image, greatest_handle, page_limit_of}
+use Rattle.geos_model.specs.FileLaws.{KeepsExtent}
 use Rattle.geos_model.specs.declared.command.Body.{Body}
 use Rattle.geos_model.specs.declared.file.Extent.{Extent}
 use Rattle.geos_model.specs.declared.file.Entry.{Entry}
 use Rattle.geos_model.proofs.HeapEdits.{get-put_same, get-put_other}
-use Rattle.geos_model.proofs.Files.{no_entry, some_if, or_later, listed, get_or_same, body_of-some, last_page_of-most, is_version_in-newer, IsEntry, is_entry-parts, entry-low, entry-in_reach, is_directory-parts, is_directory-from, directory_in-some, directory_in-text}
+use Rattle.geos_model.proofs.Files.{no_entry, some_if, or_later, listed, get_or_same, body_of-some, page_limit_of-most, is_version_in-newer, IsEntry, is_entry-parts, entry-low, entry-in_reach, is_directory-parts, is_directory-from, directory_in-some, directory_in-text}
 
-abbrev pub Numbered : Type 0
-Numbered = ℕ × Block
+abbrev pub HasSequence : Type 0
+HasSequence = ℕ × Block
 
 -- Blocks of entries.
 
 -- what a list of blocks begins with
-pub record Begins (first : Option Numbered) (others : Option (List Numbered)) (blocks : List Numbered) : Type 0 where
-  pub block : Numbered
-  pub rest : List Numbered
+pub record Begins (first : Option HasSequence) (others : Option (List HasSequence)) (blocks : List HasSequence) : Type 0 where
+  pub block : HasSequence
+  pub rest : List HasSequence
   pub first_is : first ≡ Some block
   pub others_are : others ≡ Some rest
   pub all : block ∷ rest ≡ blocks
 
-prepended-some : (first : Option Numbered) (others : Option (List Numbered)) (blocks : List Numbered) → prepended first others ≡ Some blocks → Begins first others blocks
+prepended-some : (first : Option HasSequence) (others : Option (List HasSequence)) (blocks : List HasSequence) → prepended first others ≡ Some blocks → Begins first others blocks
 prepended-some None others blocks e = absurd (cc e)
 prepended-some (Some b) None blocks e = absurd (cc e)
 prepended-some (Some b) (Some bs) blocks e = record { block = b; rest = bs; first_is = refl; others_are = refl; all = cc e }
 
-body_there : (h : ℕ) (a : Attributes) (o : Option Body) (b : Numbered) → option_map (λ body. let made : Numbered = (h, record { attributes = a; body = body }) in made) o ≡ Some b → (body : Body) × ((o ≡ Some body) × (b ≡ (let made : Numbered = (h, record { attributes = a; body = body }) in made)))
+body_there : (h : ℕ) (a : Attributes) (o : Option Body) (b : HasSequence) → option_map (λ body. let made : HasSequence = (h, record { attributes = a; body = body }) in made) o ≡ Some b → (body : Body) × ((o ≡ Some body) × (b ≡ (let made : HasSequence = (h, record { attributes = a; body = body }) in made)))
 body_there h a None b e = absurd (cc e)
 body_there h a (Some body) b e = (body, (refl, cc e))
 
@@ -57,22 +57,22 @@ if_typed-is t b typed = elim (cases_Bool (is_heap_body b)) [
 
 -- the block of an entry whose extent has the image of a body that can have its type
 pub block_of-is : (file : List ℕ) (e : Entry) (b : Body) → body_of (bytes_in file e.extent) ≡ Some b → (is_heap_body b ≡ false → e.attributes.heap_type ≡ 0)
-    → block_of file e ≡ Some (let made : Numbered = (e.handle.0, record { attributes = e.attributes; body = b }) in made)
+    → block_of file e ≡ Some (let made : HasSequence = (e.handle.0, record { attributes = e.attributes; body = b }) in made)
 block_of-is file e b is typed =
-    let made : Body → Numbered = λ body. (e.handle.0, record { attributes = e.attributes; body = body }) in
+    let made : Body → HasSequence = λ body. (e.handle.0, record { attributes = e.attributes; body = body }) in
     ap (λ (o : Option Body). option_map made (option_and_then (if_typed e.attributes.heap_type) o)) is ∙ ap (option_map made) (if_typed-is e.attributes.heap_type b typed)
 
 -- the block that an entry has is valid
-block_valid : (file : List ℕ) (e : Entry) (b : Numbered) → block_of file e ≡ Some b → 1 ≤ e.handle.0 → e.handle.0 ≤ most_blocks → FitAttributes e.attributes → (b.0 ≡ e.handle.0) × IsValidBlock e.handle.0 b.1
+block_valid : (file : List ℕ) (e : Entry) (b : HasSequence) → block_of file e ≡ Some b → 1 ≤ e.handle.0 → e.handle.0 ≤ most_blocks → FitAttributes e.attributes → (b.0 ≡ e.handle.0) × IsValidBlock e.handle.0 b.1
 block_valid file e b is some low fit =
     let body = body_there e.handle.0 e.attributes (option_and_then (if_typed e.attributes.heap_type) (body_of (bytes_in file e.extent))) b is in
     let typed = if_typed-some e.attributes.heap_type (body_of (bytes_in file e.extent)) body.0 body.1.0 in
     let good = (body_of-some (bytes_in file e.extent) body.0 typed.0).0 in
     let handle : is_vm_handle e.handle.0 ≡ true = and_from (nat_le 1 e.handle.0) (nat_le e.handle.0 most_blocks) (le-leb 1 e.handle.0 some) (le-leb e.handle.0 most_blocks low) in
-    subst (λ (x : Numbered). (x.0 ≡ e.handle.0) × IsValidBlock e.handle.0 x.1) (sym body.1.1) (refl, record { handle = handle; attributes = fit; body = good; typed = typed.1 })
+    subst (λ (x : HasSequence). (x.0 ≡ e.handle.0) × IsValidBlock e.handle.0 x.1) (sym body.1.1) (refl, record { handle = handle; attributes = fit; body = good; typed = typed.1 })
 
 -- each of these blocks is valid, under its entry's handle, and each entry has one
-pub record AreBlocks (entries : List Entry) (blocks : List Numbered) : Type 0 where
+pub record AreBlocks (entries : List Entry) (blocks : List HasSequence) : Type 0 where
   pub valid : (q : ℕ) (c : Block) → get (from_entries {R = nat_cmp} blocks) q ≡ Some c → IsValidBlock q c
   pub live : (k : ℕ) → k < length entries → is_some (get (from_entries {R = nat_cmp} blocks) (get_or entries k no_entry).handle.0) ≡ true
 
@@ -82,24 +82,24 @@ under m h q b there = elim (cases_eq q h) [
   | inr other ↦ ap is_some (get-put_other m h b q other) ∙ there
 ]
 
-live_at : (m : FinMap nat_cmp Block) (b : Numbered) (e : Entry) (es : List Entry) → b.0 ≡ e.handle.0 → ((k : ℕ) → k < length es → is_some (get m (get_or es k no_entry).handle.0) ≡ true)
+live_at : (m : FinMap nat_cmp Block) (b : HasSequence) (e : Entry) (es : List Entry) → b.0 ≡ e.handle.0 → ((k : ℕ) → k < length es → is_some (get m (get_or es k no_entry).handle.0) ≡ true)
     → (k : ℕ) → k < length (e ∷ es) → is_some (get (insert m b.0 b.1) (get_or (e ∷ es) k no_entry).handle.0) ≡ true
 live_at m b e es same rest zero l = ap is_some (get-put_same m b.0 b.1 e.handle.0 (sym same))
 live_at m b e es same rest (suc k) l = under m b.0 (get_or es k no_entry).handle.0 b.1 (rest k (omega (arith, l)))
 
-blocks_are : (file_version n version : ℕ) (file : List ℕ) (last : ℕ) (es : List Entry) (blocks : List Numbered) → blocks_of file es ≡ Some blocks → is_rising last es ≡ true → list_all (is_entry file_version n version) es ≡ true → All (λ e. FitAttributes e.attributes) es → AreBlocks es blocks
+blocks_are : (file_version n version : ℕ) (file : List ℕ) (last : ℕ) (es : List Entry) (blocks : List HasSequence) → blocks_of_entries file es ≡ Some blocks → is_rising last es ≡ true → list_all (is_entry file_version n version) es ≡ true → All (λ e. FitAttributes e.attributes) es → AreBlocks es blocks
 blocks_are file_version n version file last [] blocks is rising all users =
     let none : [] ≡ blocks = cc is in
-    subst (λ (bs : List Numbered). AreBlocks [] bs) none (record { valid = λ q c there. absurd (cc (sym (get-empty nat_cmp q) ∙ there)); live = λ k l. absurd (omega (arith, l)) })
+    subst (λ (bs : List HasSequence). AreBlocks [] bs) none (record { valid = λ q c there. absurd (cc (sym (get-empty nat_cmp q) ∙ there)); live = λ k l. absurd (omega (arith, l)) })
 blocks_are file_version n version file last (e ∷ es) blocks is rising all users =
-    let begins = prepended-some (block_of file e) (blocks_of file es) blocks is in
+    let begins = prepended-some (block_of file e) (blocks_of_entries file es) blocks is in
     let up = and_parts (nat_lt last e.handle.0) (is_rising e.handle.0 es) rising in
     let each = and_parts (is_entry file_version n version e) (list_all (is_entry file_version n version) es) all in
     let above : last < e.handle.0 = ltb-true last e.handle.0 up.0 in
     let here = block_valid file e begins.block begins.first_is (omega (arith, above)) (entry-low file_version n version e (is_entry-parts file_version n version e each.0)) (users 0 e (omega arith)) in
     let rest = blocks_are file_version n version file e.handle.0 es begins.rest begins.others_are up.1 each.1 (λ k d l. users (suc k) d (omega (arith, l))) in
     let m : FinMap nat_cmp Block = from_entries begins.rest in
-    subst (λ (bs : List Numbered). AreBlocks (e ∷ es) bs) begins.all (record {
+    subst (λ (bs : List HasSequence). AreBlocks (e ∷ es) bs) begins.all (record {
       valid = λ q c there. elim (cases_eq q begins.block.0) [
         | inl same ↦
             let some : Some begins.block.1 ≡ Some c = sym (get-put_same m begins.block.0 begins.block.1 q same) ∙ there in
@@ -110,8 +110,8 @@ blocks_are file_version n version file last (e ∷ es) blocks is rising all user
       live = λ k l. live_at m begins.block e es here.0 rest.live k l;
     })
 
-document_there : (d : Directory) (o : Option (List Numbered)) (result : Document) → option_map (λ blocks. let made : Document = record { blocks = from_entries blocks; map_block = d.map_block } in made) o ≡ Some result
-    → (blocks : List Numbered) × ((o ≡ Some blocks) × ((let made : Document = record { blocks = from_entries blocks; map_block = d.map_block } in made) ≡ result))
+document_there : (d : Directory) (o : Option (List HasSequence)) (result : Document) → option_map (λ blocks. let made : Document = record { blocks = from_entries blocks; map_block = d.map_block } in made) o ≡ Some result
+    → (blocks : List HasSequence) × ((o ≡ Some blocks) × ((let made : Document = record { blocks = from_entries blocks; map_block = d.map_block } in made) ≡ result))
 document_there d None result e = absurd (cc e)
 document_there d (Some blocks) result e = (blocks, (refl, cc e))
 
@@ -132,7 +132,7 @@ document_at-valid version file e document is =
     let d : Directory = found.0 in
     let stands = directory_in-some version (length file) (bytes_in file e) d (directory_of-some version file e d found.1.0).1 in
     let parts = is_directory-parts version (length file) d stands.0 in
-    let made = document_there d (blocks_of file d.entries) document found.1.1 in
+    let made = document_there d (blocks_of_entries file d.entries) document found.1.1 in
     let are = blocks_are version (length file) d.version file 0 d.entries made.0 made.1.0 parts.rising parts.entries (λ k x l. (stands.2.entries k x l).attributes) in
     subst IsValid made.1.1 (record {
       blocks = are.valid;
@@ -144,7 +144,7 @@ document_at-valid version file e document is =
 
 -- What stays.
 
-pub bytes_in-keeps : (old new : List ℕ) (e : Extent) → Keeps old new e → 512 * e.page + e.length ≤ length old → bytes_in new e ≡ bytes_in old e
+pub bytes_in-keeps : (old new : List ℕ) (e : Extent) → KeepsExtent old new e → 512 * e.page + e.length ≤ length old → bytes_in new e ≡ bytes_in old e
 bytes_in-keeps old new e keeps inside =
     let at : ℕ = 512 * e.page in
     let long_new : length (bytes_in new e) ≡ e.length = omega (arith, length-take e.length (drop at new), length-drop at new, keeps.within) in
@@ -155,20 +155,20 @@ bytes_in-keeps old new e keeps inside =
     ∙ sym (get_or-take e.length (drop at old) k 0 below ∙ get_or-drop at old k 0))
 
 -- behind the slots and in reach, in a file that has its bytes
-pub is_in_file-from : (version n : ℕ) (e : Extent) → 2 ≤ e.page → 512 * e.page + e.length ≤ n → e.page + (e.length + 511) / 512 ≤ last_page_of version → is_in_file version n e ≡ true
+pub is_in_file-from : (version n : ℕ) (e : Extent) → 2 ≤ e.page → 512 * e.page + e.length ≤ n → e.page + (e.length + 511) / 512 ≤ page_limit_of version → is_in_file version n e ≡ true
 is_in_file-from version n e behind within reach =
-    and_from (nat_le 2 e.page && nat_le (512 * e.page + e.length) n) (nat_le (e.page + (e.length + 511) / 512) (last_page_of version))
-    (and_from (nat_le 2 e.page) (nat_le (512 * e.page + e.length) n) (le-leb 2 e.page behind) (le-leb (512 * e.page + e.length) n within)) (le-leb (e.page + (e.length + 511) / 512) (last_page_of version) reach)
+    and_from (nat_le 2 e.page && nat_le (512 * e.page + e.length) n) (nat_le (e.page + (e.length + 511) / 512) (page_limit_of version))
+    (and_from (nat_le 2 e.page) (nat_le (512 * e.page + e.length) n) (le-leb 2 e.page behind) (le-leb (512 * e.page + e.length) n within)) (le-leb (e.page + (e.length + 511) / 512) (page_limit_of version) reach)
 
 -- Of an extent in a file of a version and of n bytes.
 pub record IsInFile (version n : ℕ) (e : Extent) : Type 0 where
   pub behind_slots : 2 ≤ e.page
   pub within : 512 * e.page + e.length ≤ n
-  pub in_reach : e.page + (e.length + 511) / 512 ≤ last_page_of version
+  pub in_reach : e.page + (e.length + 511) / 512 ≤ page_limit_of version
 
 pub is_in_file-parts : (version n : ℕ) (e : Extent) → is_in_file version n e ≡ true → IsInFile version n e
 is_in_file-parts version n e h =
-    let reach : ℕ = last_page_of version in
+    let reach : ℕ = page_limit_of version in
     let parts = and_parts (nat_le 2 e.page && nat_le (512 * e.page + e.length) n) (nat_le (e.page + (e.length + 511) / 512) reach) h in
     let first = and_parts (nat_le 2 e.page) (nat_le (512 * e.page + e.length) n) parts.0 in
     record { behind_slots = leb-true 2 e.page first.0; within = leb-true (512 * e.page + e.length) n first.1; in_reach = leb-true (e.page + (e.length + 511) / 512) reach parts.1 }
@@ -202,17 +202,17 @@ directory-kept file_version n m d is within =
       map_block = parts.map_block;
     })
 
-blocks_of-kept : (file_version n version : ℕ) (old new : List ℕ) (es : List Entry) → n ≤ length old → list_all (is_entry file_version n version) es ≡ true → All (λ e. Keeps old new e.extent) es → blocks_of new es ≡ blocks_of old es
+blocks_of-kept : (file_version n version : ℕ) (old new : List ℕ) (es : List Entry) → n ≤ length old → list_all (is_entry file_version n version) es ≡ true → All (λ e. KeepsExtent old new e.extent) es → blocks_of_entries new es ≡ blocks_of_entries old es
 blocks_of-kept file_version n version old new [] l all keeps = refl
 blocks_of-kept file_version n version old new (e ∷ es) l all keeps =
     let each = and_parts (is_entry file_version n version e) (list_all (is_entry file_version n version) es) all in
     let inside = (is_entry-parts file_version n version e each.0).within in
-    let made : Body → Numbered = λ body. (e.handle.0, record { attributes = e.attributes; body = body }) in
+    let made : Body → HasSequence = λ body. (e.handle.0, record { attributes = e.attributes; body = body }) in
     let first : block_of new e ≡ block_of old e =
     ap (λ (bytes : List ℕ). option_map made (option_and_then (if_typed e.attributes.heap_type) (body_of bytes))) (bytes_in-keeps old new e.extent (keeps 0 e (omega arith)) (omega (arith, inside, l))) in
     ap₂ prepended first (blocks_of-kept file_version n version old new es l each.1 (λ k d below. keeps (suc k) d (omega (arith, below))))
 
-pub directory_of-kept : (version : ℕ) (old new : List ℕ) (e : Extent) (d : Directory) → directory_of version old e ≡ Some d → Keeps old new e → All (λ entry. Keeps old new entry.extent) d.entries → directory_of version new e ≡ Some d
+pub directory_of-kept : (version : ℕ) (old new : List ℕ) (e : Extent) (d : Directory) → directory_of version old e ≡ Some d → KeepsExtent old new e → All (λ entry. KeepsExtent old new entry.extent) d.entries → directory_of version new e ≡ Some d
 directory_of-kept version old new e d is keeps all =
     let there = directory_of-some version old e d is in
     let place = is_in_file-parts version (length old) e there.0 in
@@ -222,7 +222,7 @@ directory_of-kept version old new e d is keeps all =
     let good : is_directory version (length new) d ≡ true = directory-kept version (length old) (length new) d stands.0 (λ k x l. (all k x l).within) in
     cond-true _ _ _ inside ∙ ap (directory_in version (length new)) same ∙ directory_in-text version (length new) d good (λ k x l. (stands.2.entries k x l).attributes) stands.2.types
 
-pub document_at-kept : (version : ℕ) (old new : List ℕ) (e : Extent) (d : Directory) → directory_of version old e ≡ Some d → Keeps old new e → All (λ entry. Keeps old new entry.extent) d.entries
+pub document_at-kept : (version : ℕ) (old new : List ℕ) (e : Extent) (d : Directory) → directory_of version old e ≡ Some d → KeepsExtent old new e → All (λ entry. KeepsExtent old new entry.extent) d.entries
     → document_at version new e ≡ document_at version old e
 document_at-kept version old new e d is keeps all =
     let stands = directory_in-some version (length old) (bytes_in old e) d (directory_of-some version old e d is).1 in
@@ -236,7 +236,7 @@ document_at-kept version old new e d is keeps all =
 pub is_in_file-newer : (version n : ℕ) (e : Extent) → is_in_file version n e ≡ true → is_in_file 2 n e ≡ true
 is_in_file-newer version n e is =
     let place = is_in_file-parts version n e is in
-    is_in_file-from 2 n e place.behind_slots place.within (let most = last_page_of-most version in omega (arith, most, place.in_reach))
+    is_in_file-from 2 n e place.behind_slots place.within (let most = page_limit_of-most version in omega (arith, most, place.in_reach))
 
 pub is_entry-newer : (file_version n version : ℕ) (e : Entry) → is_entry file_version n version e ≡ true → is_entry 2 n version e ≡ true
 is_entry-newer file_version n version e is =

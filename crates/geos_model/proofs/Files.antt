@@ -11,7 +11,7 @@ use Rattle.geos_model.specs.Words.{word, double_word, quad_word, word_at, quad_w
 use Rattle.geos_model.specs.Bytes.{same_bytes}
 use Rattle.geos_model.specs.Document.{is_valid_body, most_blocks, FitAttributes}
 use Rattle.geos_model.specs.Image.{image, body_read, body_of}
-use Rattle.geos_model.specs.File.{Directory, extent_text, extent_at, slot_text, slot_read, slot_of, type_text, entry_text, directory_text, type_at, entry_read, directory_read, is_in_file, is_rising, is_entry, is_map_block, is_version_in, is_directory, directory_in, longest_image, greatest_handle, last_page, last_page_of}
+use Rattle.geos_model.specs.File.{Directory, extent_text, extent_at, slot_text, slot_fields, slot_of, type_text, entry_text, directory_text, type_at, entry_read, directory_read, is_in_file, is_rising, is_entry, is_map_block, is_version_in, is_directory, directory_in, longest_image, greatest_handle, page_limit, page_limit_of}
 use Rattle.geos_model.specs.FileLaws.{FitsExtent, FitsSlot, FitsEntry, FitTypes, FitsDirectory}
 use Rattle.geos_model.specs.declared.command.Body.{Body}
 use Rattle.geos_model.specs.declared.file.Extent.{Extent}
@@ -69,7 +69,7 @@ extent-reads_back e rest fits =
 pub slot_size : (s : Slot) → length (slot_text s) ≡ 32
 slot_size s = refl
 
-slot_read-text : (s : Slot) → FitsSlot s → slot_read (slot_text s) ≡ s
+slot_read-text : (s : Slot) → FitsSlot s → slot_fields (slot_text s) ≡ s
 slot_read-text s fits =
     let behind : List ℕ = quad_word s.sequence ++ extent_text s.working ++ extent_text s.saved in
     let reserved : word_at (slot_text s) 6 ≡ s.reserved = word-reads_back s.reserved behind fits.reserved in
@@ -90,8 +90,8 @@ chosen-most : (test : Bool) (a b m : ℕ) → a ≤ m → b ≤ m → cond test 
 chosen-most true a b m first second = first
 chosen-most false a b m first second = second
 
-pub last_page_of-most : (version : ℕ) → last_page_of version ≤ last_page
-last_page_of-most version = chosen-most (version == 1) (last_page_of 1) last_page last_page (omega arith) (omega arith)
+pub page_limit_of-most : (version : ℕ) → page_limit_of version ≤ page_limit
+page_limit_of-most version = chosen-most (version == 1) (page_limit_of 1) page_limit page_limit (omega arith) (omega arith)
 
 pub greatest_handle-most : (version : ℕ) → greatest_handle version ≤ most_blocks
 greatest_handle-most version = chosen-most (version == 1) (greatest_handle 1) most_blocks most_blocks (omega arith) (omega arith)
@@ -237,12 +237,12 @@ pub record IsEntry (file_version n version : ℕ) (e : Entry) : Type 0 where
   pub short : e.extent.length ≤ longest_image
   pub behind_slots : 2 ≤ e.extent.page
   pub within : 512 * e.extent.page + e.extent.length ≤ n
-  pub in_reach : e.extent.page + (e.extent.length + 511) / 512 ≤ last_page_of file_version
+  pub in_reach : e.extent.page + (e.extent.length + 511) / 512 ≤ page_limit_of file_version
 
 pub is_entry-parts : (file_version n version : ℕ) (e : Entry) → is_entry file_version n version e ≡ true → IsEntry file_version n version e
 is_entry-parts file_version n version e h =
     let top : ℕ = greatest_handle version in
-    let reach : ℕ = last_page_of file_version in
+    let reach : ℕ = page_limit_of file_version in
     let parts = and_parts (nat_le e.handle.0 top && nat_le 1 e.extent.length && nat_le e.extent.length longest_image) (is_in_file file_version n e.extent) h in
     let sizes = and_parts (nat_le e.handle.0 top && nat_le 1 e.extent.length) (nat_le e.extent.length longest_image) parts.0 in
     let first = and_parts (nat_le e.handle.0 top) (nat_le 1 e.extent.length) sizes.0 in
@@ -262,8 +262,8 @@ is_entry-parts file_version n version e h =
 pub entry-low : (file_version n version : ℕ) (e : Entry) → IsEntry file_version n version e → e.handle.0 ≤ most_blocks
 entry-low file_version n version e is = let most = greatest_handle-most version in omega (arith, is.handle, most)
 
-pub entry-in_reach : (file_version n version : ℕ) (e : Entry) → IsEntry file_version n version e → e.extent.page + (e.extent.length + 511) / 512 ≤ last_page
-entry-in_reach file_version n version e is = let most = last_page_of-most file_version in omega (arith, is.in_reach, most)
+pub entry-in_reach : (file_version n version : ℕ) (e : Entry) → IsEntry file_version n version e → e.extent.page + (e.extent.length + 511) / 512 ≤ page_limit
+entry-in_reach file_version n version e is = let most = page_limit_of-most file_version in omega (arith, is.in_reach, most)
 
 -- handles that rise up to so many blocks are few
 rising_few : (file_version n version last : ℕ) (es : List Entry) → last ≤ most_blocks → is_rising last es ≡ true → list_all (is_entry file_version n version) es ≡ true → last + length es ≤ most_blocks

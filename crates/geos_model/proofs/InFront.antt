@@ -179,7 +179,7 @@ pub locked_first : (holds : Bool) (cs : Conditions) → holds ≡ true → none_
 locked_first holds cs is none =
     rw (is, none_at before_locked cs BadCommand none refl, none_at before_locked cs GroupOpen none refl, none_at before_locked cs NoGroup none refl) refl
 
--- the refusals that are looked for before want of room in memory, but for those of a block and of its kind
+-- the refusals that are looked for before lack of room in memory, but for those of a block and of its kind
 abbrev pub before_room : List Fault
 before_room = BadCommand ∷ GroupOpen ∷ NoGroup ∷ Locked ∷ NothingToUndo ∷ NothingToRedo ∷ NoTarget ∷ NotLocked ∷ LockLimit ∷ []
 
@@ -202,7 +202,7 @@ room_first holds cs is none block kind =
       none_at before_room cs LockLimit none refl,
     ) refl
 
--- refusals among these are looked for later than want of room in memory
+-- refusals among these are looked for later than lack of room in memory
 abbrev pub are_later : List Fault → Bool
 are_later fs = list_all (λ f. not (stands_in f fs)) (NoBlock ∷ WrongKind ∷ before_room)
 
@@ -241,7 +241,7 @@ module _ (fs : List Fault) (rest : Conditions) (are : AreAmong fs rest) (later :
       → first_refusal ((CacheFull, holds) ∷ on_chains d b c ++ rest) ≡ Some CacheFull
   full-chains d b c live raw there kind = room_first holds (on_chains d b c ++ rest) is no_other (rw (live, there, no_block) refl) (rw (raw, kind, no_kind) refl)
 
--- What the document refuses of an edit or of a look-up is of a block or of its kind, or later than want of room in memory.
+-- What the document refuses of an edit or of a look-up is of a block or of its kind, or later than lack of room in memory.
 
 pub edit-early : (e : Edit) (d : Document) → none_apply before_room (conditions e d) ≡ true
 edit-early (edits.NewRaw uid size) d = refl
@@ -251,7 +251,7 @@ pub look_up-early : (c : Command) (d : Document) → none_apply before_room (loo
 look_up-early (commands.Info b) d = refl
 look_up-early _ d = refl
 
--- so that want of room is told where the block is there and of its kind
+-- so that lack of room is told where the block is there and of its kind
 
 pub edit-full : (e : Edit) (d : Document) (holds : Bool) → holds ≡ true → applies (conditions e d) NoBlock ≡ false → applies (conditions e d) WrongKind ≡ false
     → first_refusal ((CacheFull, holds) ∷ conditions e d) ≡ Some CacheFull
@@ -276,7 +276,7 @@ module _ (e : Edit) (m : Machine) where
       locked_first (is_barred e m) with_room barred
       (rw (none_at before_room own BadCommand early refl, none_at before_room own GroupOpen early refl, none_at before_room own NoGroup early refl) refl)
 
-  -- Where it isn't, want of room in memory and the document decide;
+  -- Where it isn't, lack of room in memory and the document decide;
   module _ (free : is_barred e m ≡ false) where
     pub edit-judged : first_refusal (command_conditions (commands.Edit e) m) ≡ first_refusal with_room
     edit-judged = passed Locked (is_barred e m) with_room free

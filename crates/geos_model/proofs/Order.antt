@@ -1,4 +1,4 @@
--- An edit's own refusals come before want of room. Its conditions may be any.
+-- An edit's own refusals come before lack of room. Its conditions may be any.
 use Rattle.std.proofs.Common.{◌≡◌, List, [], ◌∷◌, ◌++◌, Bool, true, false, not, ◌==◌, ◌&&◌, Some, None, find, refl, ap, ◌∙◌, inl, inr}
 use Rattle.std.proofs.lemmas.Bool.{cases_Bool}
 use Rattle.std.proofs.lemmas.List.Folds.{list_any-append}
@@ -7,7 +7,7 @@ use Rattle.geos_model.specs.Refusal.{Conditions, applies, first_refusal, number_
 use Rattle.geos_model.specs.declared.fault.Fault.{Fault}
 use Rattle.geos_model.specs.declared.fault.Fault.TheVariants.{BadCommand, Locked, NothingToUndo, NothingToRedo, NoTarget, NoBlock, WrongKind, NotLocked, LockLimit, CacheFull, NoChunk, NotArray, NoElement, NoName, BadChain, IsMap, NameInUse, CountFull, Range, TooBig, NoHandles, Full, Worn, GroupOpen, NoGroup}
 
--- the refusals that are looked for before want of room
+-- the refusals that are looked for before lack of room
 abbrev before : List Fault
 before =
     BadCommand ∷ GroupOpen ∷ NoGroup ∷ Locked ∷ NothingToUndo ∷ NothingToRedo ∷ NoTarget ∷ NoBlock ∷ WrongKind ∷ NotLocked ∷ LockLimit
@@ -17,7 +17,7 @@ before =
 abbrev is_full : Fault → Bool
 is_full fault = 8 == number_of_fault fault
 
--- the one refusal that is looked for after want of room
+-- the one refusal that is looked for after lack of room
 abbrev pub is_worn : Fault → Bool
 is_worn fault = 27 == number_of_fault fault
 

@@ -26,7 +26,7 @@ compared : command (codes "chequal 0003 0005") ≡ Some (commands.ChainEqual (re
 unfolding command decode_pairs
 compared = refl
 
--- one operand is wanting, or too many
+-- one operand is missing, or too many
 no_second : command (codes "chequal 0003") ≡ None
 unfolding command decode_pairs
 no_second = refl

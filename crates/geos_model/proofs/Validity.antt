@@ -186,7 +186,7 @@ length-deleted bytes at n within = let is = length-splice bytes at (at + n) [] (
 
 -- Edits of a chunk, which nothing refuses.
 
--- behind any conditions, want of room is the last
+-- behind any conditions, lack of room is the last
 pub full_last : (own : Conditions) (room : Bool) → applies (own ++ (Full, not room) ∷ []) Full ≡ false → room ≡ true
 full_last own room none =
     let split = list_any-append (λ c. (number_of_fault c.0 == number_of_fault Full) && c.1) own ((Full, not room) ∷ []) in

@@ -84,8 +84,8 @@ abbrev pub chain_blocks : Document → ℕ → List ℕ
 chain_blocks d h = unwrap_or (chain d h) []
 
 -- how many bytes these blocks have
-abbrev pub bytes_in : Document → List ℕ → ℕ
-bytes_in d hs = sum_by (λ h. length (raw_bytes_of d h)) hs
+abbrev pub chain_bytes : Document → List ℕ → ℕ
+chain_bytes d hs = sum_by (λ h. length (raw_bytes_of d h)) hs
 
 -- what a list of handles and names has for a handle, 0 where it has nothing
 abbrev pub name_of : List (ℕ × ℕ) → ℕ → ℕ
@@ -103,8 +103,8 @@ same_shape d xs ys = pointwise same_bytes (shape d xs) (shape d ys)
 -- Blocks to be put in or taken out, each under its handle.
 
 -- the blocks of a chain as they are
-abbrev pub blocks_of : Document → List ℕ → List (ℕ × Block)
-blocks_of d hs = map (λ h. (h, block_at d h)) hs
+abbrev pub chain_blocks_of : Document → List ℕ → List (ℕ × Block)
+chain_blocks_of d hs = map (λ h. (h, block_at d h)) hs
 
 -- the handles that aren't live, rising
 abbrev pub free_handles : Document → List ℕ

@@ -36,9 +36,9 @@ pub record AreMembers (d : Document) (h : ℕ) (hs : List ℕ) : Type 0 where
   pub linked : (x y : ℕ) → Contains hs x → Contains (links (raw_bytes_of d x)) y → Contains hs y
 
 -- each is less than those behind it
-abbrev pub is_rising : List ℕ → Bool
-is_rising [] = true
-is_rising (x ∷ xs) = list_all (nat_lt x) xs && is_rising xs
+abbrev pub handles_rise : List ℕ → Bool
+handles_rise [] = true
+handles_rise (x ∷ xs) = list_all (nat_lt x) xs && handles_rise xs
 
 -- The least VM handles that aren't live, so many, each once, rising.
 pub record AreNew (d : Document) (n : ℕ) (new : List ℕ) : Type 0 where
@@ -46,7 +46,7 @@ pub record AreNew (d : Document) (n : ℕ) (new : List ℕ) : Type 0 where
   pub handle : (x : ℕ) → Contains new x → is_vm_handle x ≡ true
   pub not_live : (x : ℕ) → Contains new x → is_live d x ≡ false
   pub once : all_distinct new ≡ true
-  pub rising : is_rising new ≡ true
+  pub rising : handles_rise new ≡ true
   pub least : (x y : ℕ) → is_vm_handle x ≡ true → is_live d x ≡ false → (Contains new x → ⊥) → Contains new y → y < x
 
 -- the words where a body's links stand, 0 too

@@ -11,7 +11,7 @@ use Rattle.geos_model.specs.NameEdits.{no_names}
 use Rattle.geos_model.specs.Image.{image}
 use Rattle.geos_model.specs.Meaning.{chunk_at}
 use Rattle.geos_model.specs.Document.{Block, Document, raw_bytes_of}
-use Rattle.geos_model.specs.Chain.{chain_blocks, blocks_of, copies_of}
+use Rattle.geos_model.specs.Chain.{chain_blocks, chain_blocks_of, copies_of}
 use Rattle.geos_model.specs.declared.command.Body.TheVariants.{Raw, Heap}
 use Rattle.geos_model.specs.declared.command.Edit.{Edit}
 use Rattle.geos_model.specs.declared.command.Edit.TheVariants as edits
@@ -68,4 +68,4 @@ cost (edits.AddName b c text part replace) before after = both_lengths before af
 cost (edits.ChangeName b c t text) before after = both_lengths before after b.0 c.0
 cost (edits.RemoveName b c t) before after = both_lengths before after b.0 c.0
 cost (edits.CopyChain b) before after = images_length (copies_of before (chain_blocks before b.0))
-cost (edits.FreeChain b) before after = images_length (blocks_of before (chain_blocks before b.0))
+cost (edits.FreeChain b) before after = images_length (chain_blocks_of before (chain_blocks before b.0))

@@ -7,11 +7,11 @@ use Rattle.geos_model.specs.declared.command.Command.{Command}
 use Rattle.geos_model.specs.declared.command.Command.TheVariants as commands
 use Rattle.geos_model.specs.declared.fault.Fault.TheVariants.{Memory, File}
 
--- Accepted; or refused for want of memory, or since the store failed in that call, and then nothing changes.
+-- Accepted; or refused for lack of memory, or since the store failed in that call, and then nothing changes.
 abbrev pub IsTakenOrGivenUp : Bool → Machine → Reply → Machine → Type 0
 IsTakenOrGivenUp failed old reply new = (reply ≡ Accepted) ⊎ ((new ≡ old) × ((reply ≡ Refused Memory) ⊎ ((reply ≡ Refused File) × (failed ≡ true))))
 
--- A request that is refused leaves the machine. Want of memory is answered to nothing but a command that may take some, and a file
+-- A request that is refused leaves the machine. Lack of memory is answered to nothing but a command that may take some, and a file
 -- fault to nothing but one that calls the store, where it failed.
 pub record FailingLaw : Type 0 where
   pub stays : (failed : Bool) (old new : Machine) (request : Request) (reply : Reply) → Step failed old request reply new → is_refused reply ≡ true → new ≡ old

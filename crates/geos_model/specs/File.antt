@@ -10,7 +10,7 @@ use Rattle.geos_model.specs.Heap.{capacity}
 use Rattle.geos_model.specs.Document.{Block, Document, most_blocks, is_heap_body}
 use Rattle.geos_model.specs.Image.{body_of}
 use Rattle.geos_model.specs.declared.command.Body.{Body}
-use Rattle.geos_model.specs.declared.limit.TheConstants.{LAST_PAGE, LAST_PAGE_OF_VERSION_1, MOST_BLOCKS_OF_VERSION_1}
+use Rattle.geos_model.specs.declared.limit.TheConstants.{PAGE_LIMIT, PAGE_LIMIT_OF_VERSION_1, MOST_BLOCKS_OF_VERSION_1}
 use Rattle.geos_model.specs.declared.fault.Fault.{Fault}
 use Rattle.geos_model.specs.declared.fault.Fault.TheVariants.{NotDocument, Damaged}
 use Rattle.geos_model.specs.declared.file.Extent.{Extent}
@@ -28,11 +28,11 @@ abbrev pub end_page : Extent → ℕ
 end_page e = e.page + pages_of e.length
 
 -- the first page that can't be used, and that in a file of a version
-abbrev pub last_page : ℕ
-last_page = LAST_PAGE
+abbrev pub page_limit : ℕ
+page_limit = PAGE_LIMIT
 
-abbrev pub last_page_of : ℕ → ℕ
-last_page_of version = if version == 1 then LAST_PAGE_OF_VERSION_1 else last_page
+abbrev pub page_limit_of : ℕ → ℕ
+page_limit_of version = if version == 1 then PAGE_LIMIT_OF_VERSION_1 else page_limit
 
 -- the bytes of an extent
 abbrev pub bytes_in : List ℕ → Extent → List ℕ
@@ -40,7 +40,7 @@ bytes_in file e = take e.length (drop (512 * e.page) file)
 
 -- in a file of a version and of so many bytes, behind its slots, on pages that can be used
 abbrev pub is_in_file : ℕ → ℕ → Extent → Bool
-is_in_file version file_length e = nat_le 2 e.page && nat_le (512 * e.page + e.length) file_length && nat_le (end_page e) (last_page_of version)
+is_in_file version file_length e = nat_le 2 e.page && nat_le (512 * e.page + e.length) file_length && nat_le (end_page e) (page_limit_of version)
 
 abbrev pub extent_text : Extent → List ℕ
 extent_text e = double_word e.page ++ double_word e.length
@@ -60,8 +60,8 @@ abbrev pub slot_text : Slot → List ℕ
 slot_text s = slot_mark ++ s.gate ∷ s.version ∷ word s.reserved ++ quad_word s.sequence ++ extent_text s.working ++ extent_text s.saved
 
 -- the fields of a slot's text
-abbrev pub slot_read : List ℕ → Slot
-slot_read bytes =
+abbrev pub slot_fields : List ℕ → Slot
+slot_fields bytes =
     record {
       gate = slice_index bytes 4;
       version = slice_index bytes 5;
@@ -73,7 +73,7 @@ slot_read bytes =
 
 -- the slot whose text these bytes are, if the mark stands
 abbrev pub slot_of : List ℕ → Option Slot
-slot_of bytes = if same_bytes (take 4 bytes) slot_mark then Some (slot_read bytes) else None
+slot_of bytes = if same_bytes (take 4 bytes) slot_mark then Some (slot_fields bytes) else None
 
 abbrev pub if_open : Slot → Option Slot
 if_open s = if s.gate == 1 then Some s else None
@@ -190,12 +190,12 @@ block_of file e =
     option_map (λ body. (e.handle.0, record { attributes = e.attributes; body = body })) (option_and_then (if_typed e.attributes.heap_type) (body_of (bytes_in file e.extent)))
 
 -- the blocks of these entries, where each of them has one
-abbrev pub blocks_of : List ℕ → List Entry → Option (List (ℕ × Block))
-blocks_of file [] = Some []
-blocks_of file (e ∷ es) = prepended (block_of file e) (blocks_of file es)
+abbrev pub blocks_of_entries : List ℕ → List Entry → Option (List (ℕ × Block))
+blocks_of_entries file [] = Some []
+blocks_of_entries file (e ∷ es) = prepended (block_of file e) (blocks_of_entries file es)
 
 abbrev pub document_of : List ℕ → Directory → Option Document
-document_of file d = option_map (λ blocks. record { blocks = from_entries blocks; map_block = d.map_block }) (blocks_of file d.entries)
+document_of file d = option_map (λ blocks. record { blocks = from_entries blocks; map_block = d.map_block }) (blocks_of_entries file d.entries)
 
 -- the document of the directory in an extent of a file of a version
 abbrev pub document_at : ℕ → List ℕ → Extent → Option Document

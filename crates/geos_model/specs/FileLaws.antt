@@ -38,7 +38,7 @@ pub record FitsDirectory (d : Directory) : Type 0 where
   pub entries : All FitsEntry d.entries
 
 -- The bytes of an extent stay, in a file that may get longer or shorter.
-pub record Keeps (old new : List ℕ) (e : Extent) : Type 0 where
+pub record KeepsExtent (old new : List ℕ) (e : Extent) : Type 0 where
   pub within : 512 * e.page + e.length ≤ length new
   pub bytes : (i : ℕ) → 512 * e.page ≤ i → i < 512 * e.page + e.length → slice_index new i ≡ slice_index old i
 
@@ -62,7 +62,7 @@ pub record FileLaw : Type 0 where
   -- A document that stands in a file is valid.
   pub valid : (version : ℕ) (file : List ℕ) (e : Extent) (d : Document) → document_at version file e ≡ Some d → IsValid d
   -- It stands for as long as the bytes of its directory and of its blocks stay.
-  pub kept : (version : ℕ) (old new : List ℕ) (e : Extent) (d : Directory) → directory_of version old e ≡ Some d → Keeps old new e → All (λ entry. Keeps old new entry.extent) d.entries
+  pub kept : (version : ℕ) (old new : List ℕ) (e : Extent) (d : Directory) → directory_of version old e ≡ Some d → KeepsExtent old new e → All (λ entry. KeepsExtent old new entry.extent) d.entries
       → (directory_of version new e ≡ Some d) × (document_at version new e ≡ document_at version old e)
   -- What stands in a file of any version stands in one of version 2: a commit may keep the saved directory.
   pub newer : (version : ℕ) (file : List ℕ) (e : Extent) (d : Directory) → directory_of version file e ≡ Some d

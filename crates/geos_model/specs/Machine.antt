@@ -402,7 +402,7 @@ calls_store commands.List m = false
 calls_store (commands.Edit e) m = not (is_of_no_body (kind_of e))
 calls_store c m = takes_memory c m
 
--- The faults that no rule decides, of a call in which the store, or the target of a save-as, failed or didn't: want of memory where
+-- The faults that no rule decides, of a call in which the store, or the target of a save-as, failed or didn't: lack of memory where
 -- some may be taken, and a file fault where the store is called and failed.
 abbrev pub may_give_up : Bool → Command → Machine → Fault → Bool
 may_give_up failed c m Memory = takes_memory c m

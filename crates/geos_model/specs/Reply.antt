@@ -6,7 +6,7 @@ use Rattle.geos_model.specs.Refusal.{Conditions}
 use Rattle.geos_model.specs.ArrayEdits.{array_in, on_array, on_element}
 use Rattle.geos_model.specs.ElementEdits.{elements_in, count_at, bytes_at, used_in, used_from, used_below, on_elements, on_token, on_used}
 use Rattle.geos_model.specs.NameEdits.{names_in, token_of_text, text_at, part_at, on_name_token, find_conditions}
-use Rattle.geos_model.specs.Chain.{chain_blocks, bytes_in, same_shape, on_chain, on_chains}
+use Rattle.geos_model.specs.Chain.{chain_blocks, chain_bytes, same_shape, on_chain, on_chains}
 use Rattle.geos_model.specs.Heap.{need}
 use Rattle.geos_model.specs.Document.{Document, chunks_of, raw_bytes_of, heap_type_of}
 use Rattle.geos_model.specs.Meaning.{on_block, on_raw, on_heap, on_chunk, chunk_at}
@@ -117,7 +117,7 @@ look_up (commands.NameReferences b c t) d = Some (NumberIs (count_at (names_in (
 look_up (commands.NameText b c t) d = Some (BytesAre (text_at (names_in (chunk_at d b.0 c.0)) t.0))
 look_up (commands.NamePart b c t) d = Some (BytesAre (part_at (names_in (chunk_at d b.0 c.0)) t.0))
 look_up (commands.Walk b) d = Some (BlocksAre (chain_blocks d b.0))
-look_up (commands.ChainSize b) d = Some (NumberIs (bytes_in d (chain_blocks d b.0)))
+look_up (commands.ChainSize b) d = Some (NumberIs (chain_bytes d (chain_blocks d b.0)))
 look_up (commands.ChainEqual b other) d = Some (AreEqual (same_shape d (chain_blocks d b.0) (chain_blocks d other.0)))
 look_up commands.Undos d = None
 look_up commands.Redos d = None

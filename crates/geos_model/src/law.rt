@@ -89,7 +89,7 @@ pub fn save_law()
 {}
 
 /// A refused request changes nothing, and a file fault is answered only where the store failed. Where no block is locked, no
-/// group is open and there is something to take back, an undo is refused only for want of memory or since the store failed in
+/// group is open and there is something to take back, an undo is refused only for lack of memory or since the store failed in
 /// that call; so is a redo where there is something to make again. An abandon where a group is open and no block is locked is
 /// refused for nothing else either.
 pub fn failing_law()

@@ -25,8 +25,8 @@ pub use law::{
     name_edits_law, number_law, redo_law, save_law, undo_law, validity_law, word_law,
 };
 pub use limit::{
-    CAPACITY, LAST_PAGE, LAST_PAGE_OF_VERSION_1, LONGEST_CHUNK, MOST_BLOCKS,
-    MOST_BLOCKS_OF_VERSION_1,
+    CAPACITY, LONGEST_CHUNK, MOST_BLOCKS, MOST_BLOCKS_OF_VERSION_1, PAGE_LIMIT,
+    PAGE_LIMIT_OF_VERSION_1,
 };
 pub use reply::Reply;
 pub use scope::Scope;

@@ -13,7 +13,7 @@ pub const CAPACITY: usize = 65_520;
 pub const LONGEST_CHUNK: usize = 65_498;
 
 /// The first page of a file that can't be used, in pages of 512 bytes.
-pub const LAST_PAGE: u32 = 33_554_432;
+pub const PAGE_LIMIT: u32 = 33_554_432;
 
 /// So in a file of version 1.
-pub const LAST_PAGE_OF_VERSION_1: u32 = 4_194_304;
+pub const PAGE_LIMIT_OF_VERSION_1: u32 = 4_194_304;

@@ -10,7 +10,7 @@ use Rattle.geos_model.specs.Reply.{Reply}
 use Rattle.geos_model.specs.Script.{Answered, gets_reply, reply_line}
 use Rattle.vm_store.specs.Facts.{StoreFacts}
 use Rattle.vm_file.specs.Documents.{Documents}
-use Rattle.geos_shell.specs.Holdings.{AreExact, Holding, Serves, Serving, has_failed_in, machine}
+use Rattle.geos_shell.specs.Holdings.{AreExact, Holding, ServesRequest, Serving, failed_since_in, machine}
 use Rattle.geos_shell.specs.Runs.{AddsNoPair, AfterFailures, AnswersOf, CountsFailures}
 use Rattle.geos_shell.proofs.Failures.{after_serves}
 
@@ -71,10 +71,10 @@ module _ {S : Type 0} (facts : S → StoreFacts) where
   AnswersOf-none h exact = AnswersOf-unasked h [] refl exact
 
   -- one request that is served
-  pub AnswersOf-one : (old new : Holding S) (request : Request) (reply : Reply) → gets_reply request ≡ true → AreExact facts old → Serves facts old request reply new
+  pub AnswersOf-one : (old new : Holding S) (request : Request) (reply : Reply) → gets_reply request ≡ true → AreExact facts old → ServesRequest facts old request reply new
       → AnswersOf facts old (request ∷ []) (reply_line reply) new
   AnswersOf-one old new request reply asks exact serves =
-      let failed = has_failed_in facts old new in
+      let failed = failed_since_in facts old new in
       let one : filter gets_reply (request ∷ []) ≡ request ∷ [] = rw asks refl in
       record {
         exact = serves.exact;

@@ -5,13 +5,13 @@ use Rattle.geos_model.specs.Reply.{Reply, Refused}
 use Rattle.geos_model.specs.Machine.{Request}
 use Rattle.geos_model.specs.declared.fault.Fault.{Fault}
 use Rattle.geos_model.specs.declared.command.Command.TheVariants as commands
-use Rattle.vm_store.specs.Facts.{StoreFacts, Raised, last_count, raised}
-use Rattle.vm_file.specs.Disk.{Disk, Passes}
+use Rattle.vm_store.specs.Facts.{StoreFacts, FailedSince, last_count, raised}
+use Rattle.vm_file.specs.Disk.{Disk, KeepsCommitted}
 use Rattle.vm_file.specs.Documents.{Documents}
-use Rattle.vm_file.proofs.PassingLemmas.{Passes-refl}
-use Rattle.undo_log.specs.Records.{has_failed}
+use Rattle.vm_file.proofs.PassingLemmas.{KeepsCommitted-refl}
+use Rattle.undo_log.specs.Sessions.{failed_since}
 use Rattle.undo_log.proofs.Keeping.{failed_true}
-use Rattle.geos_shell.specs.Holdings.{AreExact, CommitsAsTold, CommitsNothing, Holding, LeavesFiles, SavesAs, Serves, Stays, TriesToCommit, failed_with, has_failed_in}
+use Rattle.geos_shell.specs.Holdings.{AreExact, CommitsAsTold, CommitsNothing, Holding, LeavesFiles, SavesAs, ServesRequest, SameFiles, CommitsOrKeeps, failed_with, failed_since_in}
 use Rattle.geos_shell.specs.Runs.{AfterFailures, CountsFailures}
 
 -- where a count rose, by one at least or to the last value
@@ -30,59 +30,59 @@ module _ {S : Type 0} (facts : S → StoreFacts) where
   -- where the session's store failed and no target was used up
   failed_so : (failed : Bool) (old new : Option S) → (new ≡ None → old ≡ None) → failed ≡ true → failed_with failed facts old new ≡ true
   failed_so failed None new left so = so
-  failed_so failed (Some t) (Some back) left so = or_left failed (has_failed (facts t) (facts back)) so
+  failed_so failed (Some t) (Some back) left so = or_left failed (failed_since (facts t) (facts back)) so
   failed_so failed (Some t) None left so = let none : Some t ≡ None = left refl in cc none
 
   counts : (old new : Holding S) → (old.target ≡ None → new.target ≡ None) → (facts old.session.disk.store).failures ≤ (facts new.session.disk.store).failures
-      → CountsFailures facts old (cond (has_failed_in facts old new) 1 0) new
+      → CountsFailures facts old (cond (failed_since_in facts old new) 1 0) new
   counts old new used least none =
-      (used none, rw none (counts_if (has_failed (facts old.session.disk.store) (facts new.session.disk.store)) _ _ refl least))
+      (used none, rw none (counts_if (failed_since (facts old.session.disk.store) (facts new.session.disk.store)) _ _ refl least))
 
-  after_passes : (old new : Holding S) → CommitsNothing facts old new → IsTrue (facts old.session.disk.store).honest → AfterFailures facts old (cond (has_failed_in facts old new) 1 0) new
+  after_passes : (old new : Holding S) → CommitsNothing facts old new → IsTrue (facts old.session.disk.store).honest → AfterFailures facts old (cond (failed_since_in facts old new) 1 0) new
   after_passes old new nothing so =
-      record { counted = counts old new (λ none. nothing.target ∙ none) nothing.passes.failures; adds = λ _. inl (nothing.passes.attempted so) }
+      record { counted = counts old new (λ none. nothing.target ∙ none) nothing.passes.failures; adds = λ _. inl (nothing.passes.in_doubt so) }
 
-  nothing_of : (old new : Holding S) → Stays old new → CommitsNothing facts old new
+  nothing_of : (old new : Holding S) → SameFiles old new → CommitsNothing facts old new
   nothing_of old new stays =
-      record { passes = subst (λ (d : Disk S). Passes facts old.session.disk d) (sym stays.disk) (Passes-refl facts old.session.disk); target = stays.target; former = stays.former }
+      record { passes = subst (λ (d : Disk S). KeepsCommitted facts old.session.disk d) (sym stays.disk) (KeepsCommitted-refl facts old.session.disk); target = stays.target; former = stays.former }
 
   -- which pairs may be read after a commit in which the store did not fail
-  adds_none : (pair : Documents) (old new : Disk S) (result : Result (Unit {0}) Fault) → TriesToCommit facts pair old new result
-      → IsTrue (facts old.store).honest → (Raised (facts old.store) (facts new.store) → ⊥) → (new.attempted ≡ old.attempted) ⊎ (new.attempted ≡ [])
+  adds_none : (pair : Documents) (old new : Disk S) (result : Result (Unit {0}) Fault) → CommitsOrKeeps facts pair old new result
+      → IsTrue (facts old.store).honest → (FailedSince (facts old.store) (facts new.store) → ⊥) → (new.in_doubt ≡ old.in_doubt) ⊎ (new.in_doubt ≡ [])
   adds_none pair old new (Ok x) tries so quiet = inr (tries.commits.ok so).1
-  adds_none pair old new (Err fault) tries so quiet = inl ((tries.passes (λ _ raised. quiet raised)).attempted so)
+  adds_none pair old new (Err fault) tries so quiet = inl ((tries.passes (λ _ raised. quiet raised)).in_doubt so)
 
-  after_tries : (old new : Holding S) (pair : Documents) (result : Result (Unit {0}) Fault) → TriesToCommit facts pair old.session.disk new.session.disk result
+  after_tries : (old new : Holding S) (pair : Documents) (result : Result (Unit {0}) Fault) → CommitsOrKeeps facts pair old.session.disk new.session.disk result
       → (old.target ≡ None → new.target ≡ None) → (new.target ≡ None → old.target ≡ None) → IsTrue (facts old.session.disk.store).honest
-      → AfterFailures facts old (cond (has_failed_in facts old new) 1 0) new
+      → AfterFailures facts old (cond (failed_since_in facts old new) 1 0) new
   after_tries old new pair result tries used left so =
       record {
         counted = counts old new used tries.commits.failures;
         adds = λ none. adds_none pair old.session.disk new.session.disk result tries so
-            (λ raised. not_failed (has_failed_in facts old new) none (failed_so _ old.target new.target left (failed_true (facts old.session.disk.store) (facts new.session.disk.store) raised)));
+            (λ raised. not_failed (failed_since_in facts old new) none (failed_so _ old.target new.target left (failed_true (facts old.session.disk.store) (facts new.session.disk.store) raised)));
       }
 
   after_settles : (old new : Holding S) (pair : Documents) (reply : Reply) → CommitsAsTold facts pair old reply new → IsTrue (facts old.session.disk.store).honest
-      → AfterFailures facts old (cond (has_failed_in facts old new) 1 0) new
+      → AfterFailures facts old (cond (failed_since_in facts old new) 1 0) new
   after_settles old new pair reply settles so =
       after_tries old new pair _ settles.tries (λ none. settles.target ∙ none) (λ none. sym settles.target ∙ none) so
 
   not_there : (t : S) (o : Option S) → o ≡ Some t → o ≡ None → ⊥
   not_there t o some none = let both : Some t ≡ None = sym some ∙ none in cc both
 
-  after_accepted : (old new : Holding S) (t : S) → old.target ≡ Some t → new.session.disk.attempted ≡ [] → AfterFailures facts old (cond (has_failed_in facts old new) 1 0) new
+  after_accepted : (old new : Holding S) (t : S) → old.target ≡ Some t → new.session.disk.in_doubt ≡ [] → AfterFailures facts old (cond (failed_since_in facts old new) 1 0) new
   after_accepted old new t there none_left =
       record { counted = λ none. absurd (not_there t old.target there none); adds = λ _. inr none_left }
 
   after_save_as : (old new : Holding S) (target : Option S) (reply : Reply) → old.target ≡ target → SavesAs facts old target reply new → IsTrue (facts old.session.disk.store).honest
-      → AfterFailures facts old (cond (has_failed_in facts old new) 1 0) new
+      → AfterFailures facts old (cond (failed_since_in facts old new) 1 0) new
   after_save_as old new None reply is stays so = after_passes old new (nothing_of old new stays) so
   after_save_as old new (Some t) (Refused fault) is back so =
       after_tries old new _ (Err fault) back.tries (λ none. absurd (not_there t old.target is none)) (λ none. absurd (not_there back.back new.target back.target none)) so
   after_save_as old new (Some t) reply is on so = after_accepted old new t is on.new_file.0
 
   after_files : (old new : Holding S) (request : Request) (reply : Reply) → LeavesFiles facts old request reply new → IsTrue (facts old.session.disk.store).honest
-      → AfterFailures facts old (cond (has_failed_in facts old new) 1 0) new
+      → AfterFailures facts old (cond (failed_since_in facts old new) 1 0) new
   after_files old new (Some commands.Update) reply files so = after_settles old new _ reply files so
   after_files old new (Some commands.Save) reply files so = after_settles old new _ reply files so
   after_files old new (Some commands.Revert) reply files so = after_settles old new _ reply files so
@@ -102,6 +102,6 @@ module _ {S : Type 0} (facts : S → StoreFacts) where
   after_files old new None reply files so = after_passes old new (nothing_of old new files) so
 
   -- of a call that is served
-  pub after_serves : (old new : Holding S) (request : Request) (reply : Reply) → AreExact facts old → Serves facts old request reply new
-      → AfterFailures facts old (cond (has_failed_in facts old new) 1 0) new
+  pub after_serves : (old new : Holding S) (request : Request) (reply : Reply) → AreExact facts old → ServesRequest facts old request reply new
+      → AfterFailures facts old (cond (failed_since_in facts old new) 1 0) new
   after_serves old new request reply exact serves = after_files old new request reply serves.files exact.0.honest

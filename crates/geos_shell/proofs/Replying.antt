@@ -10,10 +10,10 @@ use Rattle.geos_model.specs.Script.{reply_line, reply_text}
 use Rattle.geos_model.specs.declared.command.Command.{Command}
 use Rattle.geos_model.specs.declared.command.Command.TheVariants as commands
 use Rattle.vm_store.specs.Facts.{StoreFacts}
-use Rattle.vm_file.specs.Disk.{Passes}
-use Rattle.vm_file.proofs.PassingLemmas.{Passes-refl}
-use Rattle.undo_log.specs.Records.{SessionState, IsStep, has_failed, machine_of}
-use Rattle.geos_shell.specs.Holdings.{AreExact, CommitsNothing, Holding, IsTakenIfSure, LeavesFiles, Serves, Stays, held}
+use Rattle.vm_file.specs.Disk.{KeepsCommitted}
+use Rattle.vm_file.proofs.PassingLemmas.{KeepsCommitted-refl}
+use Rattle.undo_log.specs.Sessions.{SessionState, IsStep, failed_since, machine_of}
+use Rattle.geos_shell.specs.Holdings.{AreExact, CommitsNothing, Holding, IsTakenIfSure, LeavesFiles, ServesRequest, SameFiles, holding}
 use Rattle.geos_shell.specs.Runs.{AnswersOf}
 use Rattle.geos_shell.specs.Replies.{Extends, Replied, Responds, Told, asks_no_body, is_look_up}
 use Rattle.geos_shell.proofs.Composed.{AnswersOf-one, AnswersOf-unasked}
@@ -25,12 +25,12 @@ extends_by old more new e = rw e (take_at old more (length old) refl)
 module _ {S : Type 0} (facts : S → StoreFacts) where
   -- what serves a command, and a call that puts its reply's text
   pub replied : {T E : Type 0} (put : Result T E) (old new : Holding S) (c : Command) (reply : Reply) (before after : List ℕ)
-      → Serves facts old (Some c) reply new → OnOk put (after ≡ before ++ reply_text reply) → Replied put facts old c new before after
+      → ServesRequest facts old (Some c) reply new → OnOk put (after ≡ before ++ reply_text reply) → Replied put facts old c new before after
   replied (Ok x) old new c reply before after serves said = record { reply = reply; serves = serves; text = said }
   replied (Err e) old new c reply before after serves said = inr (reply, serves)
 
   -- a look-up commits nothing
-  leaves : (c : Command) (old new : Holding S) (reply : Reply) → is_look_up c ≡ true → (asks_no_body c ≡ true → Stays old new) → CommitsNothing facts old new → LeavesFiles facts old (Some c) reply new
+  leaves : (c : Command) (old new : Holding S) (reply : Reply) → is_look_up c ≡ true → (asks_no_body c ≡ true → SameFiles old new) → CommitsNothing facts old new → LeavesFiles facts old (Some c) reply new
   leaves commands.Update old new reply asks stays nothing = cc asks
   leaves commands.Save old new reply asks stays nothing = cc asks
   leaves commands.Revert old new reply asks stays nothing = cc asks
@@ -58,11 +58,11 @@ module _ {S : Type 0} (facts : S → StoreFacts) where
   -- what was told of a look-up
   pub replied_told : {T E : Type 0} (put : Result T E) (old new : SessionState S) (target former : Option S) (c : Command) (before after : List ℕ)
       → is_look_up c ≡ true → (asks_no_body c ≡ true → new ≡ old) → Told put facts old c new before after
-      → AreExact facts (held old target former) → Replied put facts (held old target former) c (held new target former) before after
+      → AreExact facts (holding old target former) → Replied put facts (holding old target former) c (holding new target former) before after
   replied_told put old new target former c before after asks same t exact =
-      let first = held old target former in
-      let last = held new target former in
-      let stays : asks_no_body c ≡ true → Stays first last = λ none. record { disk = ap (λ (s : SessionState S). s.disk) (same none); target = refl; former = refl } in
+      let first = holding old target former in
+      let last = holding new target former in
+      let stays : asks_no_body c ≡ true → SameFiles first last = λ none. record { disk = ap (λ (s : SessionState S). s.disk) (same none); target = refl; former = refl } in
       let served = serves_passing facts old new target former c t.reply t.passes t.step (leaves c first last t.reply asks stays) (unsure c old new t.reply asks) exact in
       replied put first last c t.reply before after served t.text
 
@@ -75,7 +75,7 @@ module _ {S : Type 0} (facts : S → StoreFacts) where
 
 module _ {S T E : Type 0} (facts : S → StoreFacts) (put : Result T E) (c : Command) (reply : Reply) (before after : List ℕ) where
   -- a look-up whose reply's text a call that may fail has put
-  pub told : (old new : SessionState S) → IsStep facts old new c reply → Passes facts old.disk new.disk → OnOk put (after ≡ before ++ reply_text reply)
+  pub told : (old new : SessionState S) → IsStep facts old new c reply → KeepsCommitted facts old.disk new.disk → OnOk put (after ≡ before ++ reply_text reply)
       → Told put facts old c new before after
   told old new step passes said = record { reply = reply; step = step; passes = passes; text = said }
 
@@ -83,7 +83,7 @@ module _ {S T E : Type 0} (facts : S → StoreFacts) (put : Result T E) (c : Com
   pub told_at_rest : (s : SessionState S) → ((target : Bool) → Step false (machine_of target s) (Some c) reply (machine_of target s)) → OnOk put (after ≡ before ++ reply_text reply)
       → Told put facts s c s before after
   told_at_rest s step said =
-      record { reply = reply; step = λ exact. (exact, λ target. step_any (has_failed (facts s.disk.store) (facts s.disk.store)) _ _ (Some c) reply (step target)); passes = Passes-refl facts s.disk; text = said }
+      record { reply = reply; step = λ exact. (exact, λ target. step_any (failed_since (facts s.disk.store) (facts s.disk.store)) _ _ (Some c) reply (step target)); passes = KeepsCommitted-refl facts s.disk; text = said }
 
 -- the text of a look-up's reply, put behind what was there, leaves that
 pub extends_told : {S T E : Type 0} (put : Result T E) (facts : S → StoreFacts) (old new : SessionState S) (c : Command) (before after : List ℕ)
@@ -105,7 +105,7 @@ module _ {S T E A : Type 0} (facts : S → StoreFacts) (put : Result T E) (c : C
   put_so = subst (λ (x : Reply). OnOk put (after ≡ before ++ reply_text x)) (mapped f made r m is same) said
 
   -- a look-up whose answer is made a reply, and that put
-  pub told_mapped : (old new : SessionState S) → IsStep facts old new c (reply_by f r) → Passes facts old.disk new.disk → Told put facts old c new before after
+  pub told_mapped : (old new : SessionState S) → IsStep facts old new c (reply_by f r) → KeepsCommitted facts old.disk new.disk → Told put facts old c new before after
   told_mapped old new step passes = told facts put c (reply_by f r) before after old new step passes put_so
 
   -- and one that calls no store
@@ -113,5 +113,5 @@ module _ {S T E A : Type 0} (facts : S → StoreFacts) (put : Result T E) (c : C
   told_mapped_at_rest s step = told_at_rest facts put c (reply_by f r) before after s step put_so
 
   -- what is served, whose answer is made a reply, and that put
-  pub replied_mapped : (old new : Holding S) → Serves facts old (Some c) (reply_by f r) new → Replied put facts old c new before after
+  pub replied_mapped : (old new : Holding S) → ServesRequest facts old (Some c) (reply_by f r) new → Replied put facts old c new before after
   replied_mapped old new serves = replied facts put old new c (reply_by f r) before after serves put_so

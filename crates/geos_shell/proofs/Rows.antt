@@ -7,7 +7,7 @@ use Rattle.geos_model.specs.declared.command.Command.{Command}
 use Rattle.geos_model.specs.declared.fault.Fault.{Fault}
 use Rattle.geos_model.specs.declared.fault.Fault.TheVariants as faults
 use Rattle.geos_shell.specs.Making.{MakesCommand, ReadsRows, Makes0, Makes1, Makes2, Makes3, Makes4, Keeps1, Keeps2, Keeps3, named_from}
-use Rattle.geos_shell.specs.Reading.{Fails, Reads, command_has_bytes, has_bytes}
+use Rattle.geos_shell.specs.Reading.{FailsToRead, ReadsAs, command_has_bytes, has_bytes}
 
 -- the row with the name
 pub at_row : {R : Type 0} (from : ℕ) (name text : List ℕ) (operands : List (List ℕ)) (as_command : R → Command) (meant : Option Command) (result : Result R Fault)
@@ -27,7 +27,7 @@ passed from to name text operands f is other =
     ap (by_name name operands) is ∙ ap (λ b. if b then f operands else by_name name operands (drop to commands_by_name)) (sym other)
 
 -- of bytes for which there is no memory
-lacks : (o : Option Command) (fault : Fault) (c : Command) (b : Bool) → fault ≡ faults.Memory → o ≡ Some c → IsTrue b → b ≡ command_has_bytes c → Fails command_has_bytes o fault
+lacks : (o : Option Command) (fault : Fault) (c : Command) (b : Bool) → fault ≡ faults.Memory → o ≡ Some c → IsTrue b → b ≡ command_has_bytes c → FailsToRead command_has_bytes o fault
 lacks o fault c b memory is kept same =
     inr (memory, subst (λ x. IsSomeAnd x (λ y. IsTrue (command_has_bytes y))) (sym is) (subst IsTrue same kept))
 
@@ -93,7 +93,7 @@ kept_3 p q r made as_command to ws (Err fault) m same has = elim (m to) [
 
 -- behind the last row there is none
 pub last_rows : (name : List ℕ) (operands : List (List ℕ)) (found : Option (Result Command Fault)) (result : Result Command Fault) → ReadsRows (λ c. c) 61 70 name operands found
-    → result ≡ unwrap_or found (Err faults.BadCommand) → Reads command_has_bytes (named_from 61 name operands) result
+    → result ≡ unwrap_or found (Err faults.BadCommand) → ReadsAs command_has_bytes (named_from 61 name operands) result
 unfolding named_from
 last_rows name operands (Some made) result reads is = rw is reads
 last_rows name operands None result none is = rw is (inl (refl, none))

@@ -8,10 +8,10 @@ use Rattle.vm_store.specs.Facts.{StoreFacts}
 use Rattle.geos_shell.specs.declared.answering.Answering.{Answering}
 use Rattle.geos_shell.specs.Holdings.{AreExact, Holding}
 use Rattle.geos_shell.specs.Progress.{AnswersPiece, AnswersRest, Ends, GoesOver, Moment, ProgressOf, StopsAtEnd, StopsIn, StopsPiece, StopsRest, Unsent, moment}
-use Rattle.geos_shell.specs.Runs.{AnswersAll, AnswersFinished, AnswersSome, AnswersUnsent, EndsBy, Stopped}
+use Rattle.geos_shell.specs.Runs.{AnswersAll, AnswersFinished, AnswersSome, AnswersUnsent, EndsBy, StoppedWith}
 use Rattle.geos_shell.specs.declared.runner.RunFault.{RunFault}
 use Rattle.geos_shell.specs.declared.runner.RunFault.TheVariants as faults
-use Rattle.geos_shell.proofs.Steps.{Progress-none, Answered-finished, Stopped-now}
+use Rattle.geos_shell.proofs.Steps.{Progress-none, Answered-finished, StoppedWith-now}
 
 -- the bytes that were read, the replies that were written, and what they led to
 pub record Ran {S : Type 0} (facts : S → StoreFacts) (start : Holding S) (from to before after : Option (List ℕ)) (now : Moment S) : Type 0 where
@@ -131,7 +131,7 @@ EndsBy-or fault facts old from to before after new unsent stopped (inr stops) = 
 module _ {S T E : Type 0} (facts : S → StoreFacts) (old new : Moment S) where
   -- what was done in a piece whose replies weren't sent
   pub Unsent-piece : (bytes : List ℕ) (fed : Result T E) → OnOk fed (GoesOver facts old bytes new) → OnErr fed (StopsIn facts old bytes new) → Unsent facts old bytes new.holding
-  Unsent-piece bytes (Ok x) goes stops start read sent p = (sent ++ new.kept.replies.items, Stopped-now (goes start read sent p))
+  Unsent-piece bytes (Ok x) goes stops start read sent p = (sent ++ new.kept.replies.items, StoppedWith-now (goes start read sent p))
   Unsent-piece bytes (Err e) goes stops start read sent p = (sent ++ new.kept.replies.items, (stops start read sent p).0)
 
   -- what was done at the end
@@ -149,5 +149,5 @@ module _ {S T E : Type 0} (facts : S → StoreFacts) (old new : Moment S) where
   )
   Unsent-end (Err e) ends stops start read sent p = (
     sent ++ new.kept.replies.items,
-    subst (λ (r : List ℕ). Stopped facts start (lines r) (sent ++ new.kept.replies.items) new.holding) (sym (append-nil read)) (stops start read sent p).1.0,
+    subst (λ (r : List ℕ). StoppedWith facts start (lines r) (sent ++ new.kept.replies.items) new.holding) (sym (append-nil read)) (stops start read sent p).1.0,
   )

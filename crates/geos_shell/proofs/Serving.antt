@@ -8,15 +8,15 @@ use Rattle.geos_model.specs.declared.fault.Fault.{Fault}
 use Rattle.geos_model.specs.declared.fault.Fault.TheVariants.{File}
 use Rattle.geos_model.specs.declared.command.Command.{Command}
 use Rattle.geos_model.specs.declared.command.Command.TheVariants as commands
-use Rattle.vm_store.specs.Facts.{StoreFacts, Raised}
-use Rattle.vm_file.specs.Disk.{Disk, Commits, Passes}
-use Rattle.vm_file.specs.Effects.{IsNewFile, Follows}
+use Rattle.vm_store.specs.Facts.{StoreFacts, FailedSince}
+use Rattle.vm_file.specs.Disk.{Disk, MayCommit, KeepsCommitted}
+use Rattle.vm_file.specs.Effects.{IsNewFile, SameStore}
 use Rattle.vm_file.specs.Documents.{Documents}
 use Rattle.vm_blocks.specs.Locking.{GainsLock}
 use Rattle.undo_log.specs.Logging.{Log}
-use Rattle.undo_log.specs.Records.{SessionState, IsExact, IsStep, KeepsSession, blocks_of, machine_of, has_failed}
+use Rattle.undo_log.specs.Sessions.{SessionState, IsExact, IsStep, KeepsSession, cache_of, machine_of, failed_since}
 use Rattle.undo_log.proofs.Keeping.{kept_passes}
-use Rattle.geos_shell.specs.Holdings.{AreExact, CommitsAsTold, CommitsNothing, IsTakenIfSure, LeavesFiles, Serves, Stays, TriesToCommit, failed_with, held, result_told}
+use Rattle.geos_shell.specs.Holdings.{AreExact, CommitsAsTold, CommitsNothing, IsTakenIfSure, LeavesFiles, ServesRequest, SameFiles, CommitsOrKeeps, failed_with, holding, result_told}
 
 -- Where more stores may have failed, no less may be given up.
 
@@ -48,12 +48,12 @@ told_as_accepted (Err fault) so = cc
 step_kept : {S : Type 0} (facts : S → StoreFacts) (target : Option S) (failed : Bool) (old new : Machine) (request : Request) (reply : Reply)
     → Step failed old request reply new → Step (failed_with failed facts target target) old request reply new
 step_kept facts None failed old new request reply step = step
-step_kept facts (Some t) failed old new request reply step = step_more failed (has_failed (facts t) (facts t)) old new request reply step
+step_kept facts (Some t) failed old new request reply step = step_more failed (failed_since (facts t) (facts t)) old new request reply step
 
 module _ {S : Type 0} (facts : S → StoreFacts) where
   -- a block that is locked was brought into memory at most
-  pub lock_passes : (h : ℕ) (old new : SessionState S) (result : Result (Unit {0}) Fault) → OnOk result (GainsLock facts h (blocks_of old) (blocks_of new))
-      → OnErr result (KeepsSession facts old new) → Passes facts old.disk new.disk
+  pub lock_passes : (h : ℕ) (old new : SessionState S) (result : Result (Unit {0}) Fault) → OnOk result (GainsLock facts h (cache_of old) (cache_of new))
+      → OnErr result (KeepsSession facts old new) → KeepsCommitted facts old.disk new.disk
   lock_passes h old new (Ok x) gains keeps = gains.stays.file.passes
   lock_passes h old new (Err fault) gains keeps = kept_passes facts old new keeps
 
@@ -62,15 +62,15 @@ module _ {S : Type 0} (facts : S → StoreFacts) where
   exact_still old new same exact = rw same (record { honest = exact.honest; steps = exact.steps })
 
   -- a call that commits nothing
-  pub serves_passing : (old new : SessionState S) (target former : Option S) (c : Command) (reply : Reply) → Passes facts old.disk new.disk → IsStep facts old new c reply
-      → (CommitsNothing facts (held old target former) (held new target former) → LeavesFiles facts (held old target former) (Some c) reply (held new target former))
+  pub serves_passing : (old new : SessionState S) (target former : Option S) (c : Command) (reply : Reply) → KeepsCommitted facts old.disk new.disk → IsStep facts old new c reply
+      → (CommitsNothing facts (holding old target former) (holding new target former) → LeavesFiles facts (holding old target former) (Some c) reply (holding new target former))
       → IsTakenIfSure facts old (Some c) reply new
-      → AreExact facts (held old target former) → Serves facts (held old target former) (Some c) reply (held new target former)
+      → AreExact facts (holding old target former) → ServesRequest facts (holding old target former) (Some c) reply (holding new target former)
   serves_passing old new target former c reply passes step leaves sure exact =
       let went = step exact.0 in
       record {
         exact = (went.0, exact.1);
-        step = step_kept facts target (has_failed (facts old.disk.store) (facts new.disk.store)) _ _ (Some c) reply (went.1 (is_some target));
+        step = step_kept facts target (failed_since (facts old.disk.store) (facts new.disk.store)) _ _ (Some c) reply (went.1 (is_some target));
         files = leaves (record { passes = passes; target = refl; former = refl });
         sure = sure;
       }
@@ -78,9 +78,9 @@ module _ {S : Type 0} (facts : S → StoreFacts) where
   -- a call that calls no store
   pub serves_staying : (old new : SessionState S) (target former : Option S) (c : Command) (reply : Reply) → new.disk ≡ old.disk → (IsExact facts old → IsExact facts new)
       → ((left : Bool) → Step false (machine_of left old) (Some c) reply (machine_of left new))
-      → (Stays (held old target former) (held new target former) → LeavesFiles facts (held old target former) (Some c) reply (held new target former))
+      → (SameFiles (holding old target former) (holding new target former) → LeavesFiles facts (holding old target former) (Some c) reply (holding new target former))
       → IsTakenIfSure facts old (Some c) reply new
-      → AreExact facts (held old target former) → Serves facts (held old target former) (Some c) reply (held new target former)
+      → AreExact facts (holding old target former) → ServesRequest facts (holding old target former) (Some c) reply (holding new target former)
   serves_staying old new target former c reply same still step leaves sure exact =
       record {
         exact = (still exact.0, exact.1);
@@ -92,9 +92,9 @@ module _ {S : Type 0} (facts : S → StoreFacts) where
   -- one that changes nothing but locks
   pub serves_at_rest : (old new : SessionState S) (target former : Option S) (c : Command) (reply : Reply) → new ≡ record old { resident = new.resident }
       → ((left : Bool) → Step false (machine_of left old) (Some c) reply (machine_of left new))
-      → (Stays (held old target former) (held new target former) → LeavesFiles facts (held old target former) (Some c) reply (held new target former))
+      → (SameFiles (holding old target former) (holding new target former) → LeavesFiles facts (holding old target former) (Some c) reply (holding new target former))
       → IsTakenIfSure facts old (Some c) reply new
-      → AreExact facts (held old target former) → Serves facts (held old target former) (Some c) reply (held new target former)
+      → AreExact facts (holding old target former) → ServesRequest facts (holding old target former) (Some c) reply (holding new target former)
   serves_at_rest old new target former c reply same step leaves sure exact =
       serves_staying old new target former c reply (ap (λ (s : SessionState S). s.disk) same) (exact_still old new same) step leaves sure exact
 
@@ -105,38 +105,38 @@ module _ {S : Type 0} (facts : S → StoreFacts) where
   disk_kept P Q wrong old new log (Err fault) ok err = ap (λ (s : SessionState S). s.disk) err.2
 
   -- how a commit tries a pair, in the words of its reply
-  tries : (pair : Documents) (old new : Disk S) (result : Result (Unit {0}) Fault) → Commits facts pair old new result
-      → IfErr result (λ fault. fault ≢ File → Passes facts old new) → (IsErrOf result File → Raised (facts old.store) (facts new.store))
-      → TriesToCommit facts pair old new (result_told (reply_by (λ _. Accepted) result))
+  tries : (pair : Documents) (old new : Disk S) (result : Result (Unit {0}) Fault) → MayCommit facts pair old new result
+      → IfErr result (λ fault. fault ≢ File → KeepsCommitted facts old new) → (IsErrOf result File → FailedSince (facts old.store) (facts new.store))
+      → CommitsOrKeeps facts pair old new (result_told (reply_by (λ _. Accepted) result))
   tries pair old new (Ok x) commits passes file = record { commits = commits; passes = tt }
   tries pair old new (Err fault) commits passes file =
       record { commits = commits; passes = λ unless. passes (λ is. unless is (file (ap Err is))) }
 
   -- a commit
   pub serves_commit : (old new : SessionState S) (target former : Option S) (c : Command) (pair : Documents) (result : Result (Unit {0}) Fault)
-      → Commits facts pair old.disk new.disk result → IfErr result (λ fault. fault ≢ File → Passes facts old.disk new.disk)
-      → (IsErrOf result File → Raised (facts old.disk.store) (facts new.disk.store))
+      → MayCommit facts pair old.disk new.disk result → IfErr result (λ fault. fault ≢ File → KeepsCommitted facts old.disk new.disk)
+      → (IsErrOf result File → FailedSince (facts old.disk.store) (facts new.disk.store))
       → IsStep facts old new c (reply_by (λ _. Accepted) result)
-      → (CommitsAsTold facts pair (held old target former) (reply_by (λ _. Accepted) result) (held new target former)
-      → LeavesFiles facts (held old target former) (Some c) (reply_by (λ _. Accepted) result) (held new target former))
+      → (CommitsAsTold facts pair (holding old target former) (reply_by (λ _. Accepted) result) (holding new target former)
+      → LeavesFiles facts (holding old target former) (Some c) (reply_by (λ _. Accepted) result) (holding new target former))
       → IsTakenIfSure facts old (Some c) (reply_by (λ _. Accepted) result) new
-      → AreExact facts (held old target former) → Serves facts (held old target former) (Some c) (reply_by (λ _. Accepted) result) (held new target former)
+      → AreExact facts (holding old target former) → ServesRequest facts (holding old target former) (Some c) (reply_by (λ _. Accepted) result) (holding new target former)
   serves_commit old new target former c pair result commits passes file step leaves sure exact =
       let went = step exact.0 in
       record {
         exact = (went.0, exact.1);
-        step = step_kept facts target (has_failed (facts old.disk.store) (facts new.disk.store)) _ _ (Some c) _ (went.1 (is_some target));
+        step = step_kept facts target (failed_since (facts old.disk.store) (facts new.disk.store)) _ _ (Some c) _ (went.1 (is_some target));
         files = leaves (record { tries = tries pair old.disk new.disk result commits passes file; target = refl; former = refl });
         sure = sure;
       }
 
   -- a save-as that was refused, after which the target is there again
   pub serves_refused : (old new : SessionState S) (target back : S) (former : Option S) (fault : Fault)
-      → (IsExact facts old → IsExact facts new × Step (has_failed (facts old.disk.store) (facts new.disk.store) || has_failed (facts target) (facts back)) (machine_of true old) (Some commands.SaveAs) (Refused fault) (machine_of true new))
-      → Commits facts (old.disk.saved, old.disk.saved) old.disk new.disk (Err fault)
-      → ((fault ≡ File → Raised (facts old.disk.store) (facts new.disk.store) → ⊥) → Passes facts old.disk new.disk)
-      → Follows facts target back
-      → AreExact facts (held old (Some target) former) → Serves facts (held old (Some target) former) (Some commands.SaveAs) (Refused fault) (held new (Some back) former)
+      → (IsExact facts old → IsExact facts new × Step (failed_since (facts old.disk.store) (facts new.disk.store) || failed_since (facts target) (facts back)) (machine_of true old) (Some commands.SaveAs) (Refused fault) (machine_of true new))
+      → MayCommit facts (old.disk.saved, old.disk.saved) old.disk new.disk (Err fault)
+      → ((fault ≡ File → FailedSince (facts old.disk.store) (facts new.disk.store) → ⊥) → KeepsCommitted facts old.disk new.disk)
+      → SameStore facts target back
+      → AreExact facts (holding old (Some target) former) → ServesRequest facts (holding old (Some target) former) (Some commands.SaveAs) (Refused fault) (holding new (Some back) former)
   serves_refused old new target back former fault step commits passes follows exact =
       let went = step exact.0 in
       record {
@@ -149,9 +149,9 @@ module _ {S : Type 0} (facts : S → StoreFacts) where
   -- a save-as that was accepted, after which the store so far is put aside
   pub serves_accepted : (old new : SessionState S) (target store : S) (former : Option S)
       → (IsExact facts old → IsTrue (facts target).honest → IsExact facts new × Step false (machine_of true old) (Some commands.SaveAs) Accepted (machine_of false new))
-      → (disk : Disk S) × (disk.store ≡ store) × Commits facts (old.disk.saved, old.disk.saved) old.disk disk (Ok tt)
-      → IsNewFile facts new.disk.updated new.disk → Follows facts target new.disk.store
-      → AreExact facts (held old (Some target) former) → Serves facts (held old (Some target) former) (Some commands.SaveAs) Accepted (held new None (Some store))
+      → (disk : Disk S) × (disk.store ≡ store) × MayCommit facts (old.disk.saved, old.disk.saved) old.disk disk (Ok tt)
+      → IsNewFile facts new.disk.updated new.disk → SameStore facts target new.disk.store
+      → AreExact facts (holding old (Some target) former) → ServesRequest facts (holding old (Some target) former) (Some commands.SaveAs) Accepted (holding new None (Some store))
   serves_accepted old new target store former step commits new_file follows exact =
       let went = step exact.0 exact.1 in
       record {
@@ -163,9 +163,9 @@ module _ {S : Type 0} (facts : S → StoreFacts) where
           former = ap Some (sym commits.1);
           target = refl;
           failures = follows.failures;
-          new_file = (new_file.attempted, new_file.sequence);
+          new_file = (new_file.in_doubt, new_file.sequence);
           numbered = new_file.numbered went.0.honest;
-          settled = new_file.settled;
+          crash_consistent = new_file.crash_consistent;
         };
         sure = tt;
       }

@@ -5,7 +5,7 @@ use Rattle.std.proofs.lemmas.Bool.{cases_lt}
 use Rattle.geos_model.specs.Script.{lines, finished_lines, requests, command}
 use Rattle.vm_store.specs.Facts.{StoreFacts}
 use Rattle.geos_shell.specs.Holdings.{AreExact, Holding, MayServe}
-use Rattle.geos_shell.specs.Runs.{AnswersOf, MayServeNext, Stopped}
+use Rattle.geos_shell.specs.Runs.{AnswersOf, MayServeNext, StoppedWith}
 use Rattle.geos_shell.specs.Progress.{HasNoFeed, StandsFor, Progress, GoesOver, Moment, StopsAt, StopsIn}
 use Rattle.geos_shell.proofs.Lines.{lines-at_feed, lines-one, lines-some, finished_lines-at_feed, finished_lines-none, HasNoFeed-append, StandsFor-same, StandsFor-trans}
 use Rattle.geos_shell.proofs.Composed.{AnswersOf-none, AnswersOf-append}
@@ -86,8 +86,8 @@ module _ {S : Type 0} {facts : S → StoreFacts} {start now : Holding S} {read r
   )
 
   -- behind all that was read
-  pub Stopped-now : Stopped facts start (lines read) replies now
-  Stopped-now = subst (λ (r : List ℕ). Stopped facts start (lines r) replies now) (append-nil read) (StopsAt-after []).0
+  pub StoppedWith-now : StoppedWith facts start (lines read) replies now
+  StoppedWith-now = subst (λ (r : List ℕ). StoppedWith facts start (lines r) replies now) (append-nil read) (StopsAt-after []).0
 
   -- a run that stops at a line that ends
   pub StopsAt-feed : {new : Holding S} (rest : List ℕ) → MayServe facts now (command kept) new → StopsAt facts start (read ++ 10 ∷ rest) replies new

@@ -17,7 +17,7 @@ use Rattle.clap.specs.declared.error.kind.ErrorKind.TheVariants.{DisplayHelp, Ou
 use Rattle.clap.specs.declared.parser.matches.Found.{Found}
 use Rattle.clap.proofs.CallerReads.{signed_reads}
 use Rattle.clap.proofs.WalkLemmas.{first_value-rows, one_text-rows}
-use Rattle.geos_shell.specs.Options.{CommandLine, IsMatched, Refuses, TurnsInto, command_line, geosvm, read_number, said}
+use Rattle.geos_shell.specs.Options.{CommandLine, IsMatched, RefusesWords, TurnsInto, command_line, geosvm, read_number, said}
 use Rattle.geos_shell.specs.declared.outcome.Outcome.{Outcome}
 use Rattle.geos_shell.specs.declared.outcome.Outcome.TheVariants as outcomes
 use Rattle.geos_shell.specs.declared.runner.RunFault.TheVariants as faults
@@ -83,7 +83,7 @@ told_is f is_new cache target file n c t w =
 
 -- ---- what an error comes to
 
-pub refused : (words : List Text) (kind : ErrorKind) (o : Outcome) → (kind ≡ OutOfMemory) ⊎ IsAmong kind (fault_of geosvm words) → TurnsInto kind o → Refuses words o
+pub refused : (words : List Text) (kind : ErrorKind) (o : Outcome) → (kind ≡ OutOfMemory) ⊎ IsAmong kind (fault_of geosvm words) → TurnsInto kind o → RefusesWords words o
 refused words kind (outcomes.Usage text) (inl e) t = absurd (t.1 e)
 refused words kind (outcomes.Usage text) (inr a) t = (kind, a, t.0)
 refused words kind (outcomes.Help text) (inl e) t =

@@ -5,11 +5,11 @@ use Rattle.geos_model.specs.Reply.{Reply, Accepted, Refused}
 use Rattle.geos_model.specs.declared.fault.Fault.{Fault}
 use Rattle.geos_model.specs.declared.fault.Fault.TheVariants.{File}
 use Rattle.geos_model.specs.declared.command.Command.TheVariants as commands
-use Rattle.vm_store.specs.Facts.{StoreFacts, Raised}
-use Rattle.vm_file.specs.Disk.{Disk, Commits, IsSettled, Numbered, Passes}
+use Rattle.vm_store.specs.Facts.{StoreFacts, FailedSince}
+use Rattle.vm_file.specs.Disk.{Disk, MayCommit, IsCrashConsistent, HasSequence, KeepsCommitted}
 use Rattle.vm_file.specs.Documents.{Documents}
-use Rattle.undo_log.specs.Records.{SessionState, IsExact, machine_of, has_failed}
-use Rattle.undo_log.specs.Turning.{IsSure, abandon_fault, rest_fault}
+use Rattle.undo_log.specs.Sessions.{SessionState, IsExact, machine_of, failed_since}
+use Rattle.undo_log.specs.Turning.{IsSure, abandon_fault, busy_fault}
 use Rattle.vm_blocks.specs.declared.change.Direction.TheVariants.{Forwards, Backwards}
 
 -- a session, the target of a save-as while one is left, and the store that a save-as went away from, where it was put aside
@@ -18,8 +18,8 @@ pub record Holding (S : Type 0) : Type 0 where
   pub target : Option S
   pub former : Option S
 
-abbrev pub held : {S : Type 0} → SessionState S → Option S → Option S → Holding S
-held session target former = record { session = session; target = target; former = former }
+abbrev pub holding : {S : Type 0} → SessionState S → Option S → Option S → Holding S
+holding session target former = record { session = session; target = target; former = former }
 
 -- the machine that it is
 abbrev pub machine : {S : Type 0} → Holding S → Machine
@@ -34,30 +34,30 @@ AreExact facts h = IsExact facts h.session × IfSome h.target (λ store. IsTrue 
 
 abbrev pub failed_with : {S : Type 0} → Bool → (S → StoreFacts) → Option S → Option S → Bool
 failed_with failed facts None target = failed
-failed_with failed facts (Some old) (Some new) = failed || has_failed (facts old) (facts new)
+failed_with failed facts (Some old) (Some new) = failed || failed_since (facts old) (facts new)
 failed_with failed facts (Some old) None = false
 
-abbrev pub has_failed_in : {S : Type 0} → (S → StoreFacts) → Holding S → Holding S → Bool
-has_failed_in facts old new = failed_with (has_failed (facts old.session.disk.store) (facts new.session.disk.store)) facts old.target new.target
+abbrev pub failed_since_in : {S : Type 0} → (S → StoreFacts) → Holding S → Holding S → Bool
+failed_since_in facts old new = failed_with (failed_since (facts old.session.disk.store) (facts new.session.disk.store)) facts old.target new.target
 
 -- What becomes of the files.
 
 -- Nothing of them is committed.
 pub record CommitsNothing {S : Type 0} (facts : S → StoreFacts) (old new : Holding S) : Type 0 where
-  pub passes : Passes facts old.session.disk new.session.disk
+  pub passes : KeepsCommitted facts old.session.disk new.session.disk
   pub target : new.target ≡ old.target
   pub former : new.former ≡ old.former
 
 -- nothing of them changes
-pub record Stays {S : Type 0} (old new : Holding S) : Type 0 where
+pub record SameFiles {S : Type 0} (old new : Holding S) : Type 0 where
   pub disk : new.session.disk ≡ old.session.disk
   pub target : new.target ≡ old.target
   pub former : new.former ≡ old.former
 
 -- This pair is committed to the session's file, or refused. Unless the refusal is that the store failed, nothing is committed.
-pub record TriesToCommit {S : Type 0} (facts : S → StoreFacts) (pair : Documents) (old new : Disk S) (result : Result (Unit {0}) Fault) : Type 0 where
-  pub commits : Commits facts pair old new result
-  pub passes : IfErr result (λ fault. (fault ≡ File → Raised (facts old.store) (facts new.store) → ⊥) → Passes facts old new)
+pub record CommitsOrKeeps {S : Type 0} (facts : S → StoreFacts) (pair : Documents) (old new : Disk S) (result : Result (Unit {0}) Fault) : Type 0 where
+  pub commits : MayCommit facts pair old new result
+  pub passes : IfErr result (λ fault. (fault ≡ File → FailedSince (facts old.store) (facts new.store) → ⊥) → KeepsCommitted facts old new)
 
 -- the result that a reply to a commit tells
 abbrev pub result_told : Reply → Result (Unit {0}) Fault
@@ -66,33 +66,33 @@ result_told _ = Ok tt
 
 -- A commit of this pair to the session's file ends as the reply tells.
 pub record CommitsAsTold {S : Type 0} (facts : S → StoreFacts) (pair : Documents) (old : Holding S) (reply : Reply) (new : Holding S) : Type 0 where
-  pub tries : TriesToCommit facts pair old.session.disk new.session.disk (result_told reply)
+  pub tries : CommitsOrKeeps facts pair old.session.disk new.session.disk (result_told reply)
   pub target : new.target ≡ old.target
   pub former : new.former ≡ old.former
 
 -- A save-as is refused: the session's file may have its saved document committed, and the target is back, with any bytes.
 pub record SaveAsRefused {S : Type 0} (facts : S → StoreFacts) (old : Holding S) (lent : S) (fault : Fault) (new : Holding S) : Type 0 where
-  pub tries : TriesToCommit facts (old.session.disk.saved, old.session.disk.saved) old.session.disk new.session.disk (Err fault)
+  pub tries : CommitsOrKeeps facts (old.session.disk.saved, old.session.disk.saved) old.session.disk new.session.disk (Err fault)
   pub back : S
   pub target : new.target ≡ Some back
   pub failures : (facts lent).failures ≤ (facts back).failures
   pub former : new.former ≡ old.former
 
--- A save-as is accepted: the file so far has its saved document committed, and its store is put aside. The target is used up, and
+-- A save-as is accepted: the old file has its saved document committed, and its store is put aside. The target is used up, and
 -- the session is in it, which is a new file.
 pub record SaveAsAccepted {S : Type 0} (facts : S → StoreFacts) (old : Holding S) (lent : S) (new : Holding S) : Type 0 where
   pub disk : Disk S
-  pub commits : Commits facts (old.session.disk.saved, old.session.disk.saved) old.session.disk disk (Ok tt)
+  pub commits : MayCommit facts (old.session.disk.saved, old.session.disk.saved) old.session.disk disk (Ok tt)
   pub former : new.former ≡ Some disk.store
   pub target : new.target ≡ None
   pub failures : (facts lent).failures ≤ (facts new.session.disk.store).failures
-  pub new_file : (new.session.disk.attempted ≡ []) × (new.session.disk.sequence ≡ 1)
-  pub numbered : Numbered (facts new.session.disk.store) 1
-  pub settled : IsSettled facts new.session.disk
+  pub new_file : (new.session.disk.in_doubt ≡ []) × (new.session.disk.sequence ≡ 1)
+  pub numbered : HasSequence (facts new.session.disk.store) 1
+  pub crash_consistent : IsCrashConsistent facts new.session.disk
 
 -- by the target that was left, and the reply
 abbrev pub SavesAs : {S : Type 0} → (S → StoreFacts) → Holding S → Option S → Reply → Holding S → Type 0
-SavesAs facts old None reply new = Stays old new
+SavesAs facts old None reply new = SameFiles old new
 SavesAs facts old (Some target) (Refused fault) new = SaveAsRefused facts old target fault new
 SavesAs facts old (Some target) reply new = SaveAsAccepted facts old target new
 
@@ -102,43 +102,43 @@ LeavesFiles facts old (Some commands.Update) reply new = CommitsAsTold facts (ol
 LeavesFiles facts old (Some commands.Save) reply new = CommitsAsTold facts (old.session.document, old.session.document) old reply new
 LeavesFiles facts old (Some commands.Revert) reply new = CommitsAsTold facts (old.session.disk.saved, old.session.disk.saved) old reply new
 LeavesFiles facts old (Some commands.SaveAs) reply new = SavesAs facts old old.target reply new
-LeavesFiles facts old (Some commands.Begin) reply new = Stays old new
-LeavesFiles facts old (Some commands.End) reply new = Stays old new
-LeavesFiles facts old (Some (commands.HeapType b)) reply new = Stays old new
-LeavesFiles facts old (Some commands.List) reply new = Stays old new
-LeavesFiles facts old (Some (commands.Find uid start)) reply new = Stays old new
-LeavesFiles facts old (Some commands.MapBlock) reply new = Stays old new
-LeavesFiles facts old (Some (commands.Unlock b)) reply new = Stays old new
-LeavesFiles facts old (Some (commands.Dirty b)) reply new = Stays old new
-LeavesFiles facts old (Some (commands.Locks b)) reply new = Stays old new
-LeavesFiles facts old (Some commands.Undos) reply new = Stays old new
-LeavesFiles facts old (Some commands.Redos) reply new = Stays old new
+LeavesFiles facts old (Some commands.Begin) reply new = SameFiles old new
+LeavesFiles facts old (Some commands.End) reply new = SameFiles old new
+LeavesFiles facts old (Some (commands.HeapType b)) reply new = SameFiles old new
+LeavesFiles facts old (Some commands.List) reply new = SameFiles old new
+LeavesFiles facts old (Some (commands.Find uid start)) reply new = SameFiles old new
+LeavesFiles facts old (Some commands.MapBlock) reply new = SameFiles old new
+LeavesFiles facts old (Some (commands.Unlock b)) reply new = SameFiles old new
+LeavesFiles facts old (Some (commands.Dirty b)) reply new = SameFiles old new
+LeavesFiles facts old (Some (commands.Locks b)) reply new = SameFiles old new
+LeavesFiles facts old (Some commands.Undos) reply new = SameFiles old new
+LeavesFiles facts old (Some commands.Redos) reply new = SameFiles old new
 LeavesFiles facts old (Some command) reply new = CommitsNothing facts old new
-LeavesFiles facts old None reply new = Stays old new
+LeavesFiles facts old None reply new = SameFiles old new
 
 -- Requests.
 
 -- An undo or a redo that is sure, as a session says which are, is accepted and calls no store, where no group is open and no block is
 -- locked. So is an abandon of a group without an edit, where no block is locked.
 abbrev pub IsTakenIfSure : {S : Type 0} → (S → StoreFacts) → SessionState S → Request → Reply → SessionState S → Type 0
-IsTakenIfSure facts old (Some commands.Undo) reply new = rest_fault old ≡ None → IsSure facts old Backwards old.log.undo → (reply ≡ Accepted) × (new.disk ≡ old.disk)
-IsTakenIfSure facts old (Some commands.Redo) reply new = rest_fault old ≡ None → IsSure facts old Forwards old.log.redo → (reply ≡ Accepted) × (new.disk ≡ old.disk)
+IsTakenIfSure facts old (Some commands.Undo) reply new = busy_fault old ≡ None → IsSure facts old Backwards old.log.undo → (reply ≡ Accepted) × (new.disk ≡ old.disk)
+IsTakenIfSure facts old (Some commands.Redo) reply new = busy_fault old ≡ None → IsSure facts old Forwards old.log.redo → (reply ≡ Accepted) × (new.disk ≡ old.disk)
 IsTakenIfSure facts old (Some commands.Abandon) reply new = abandon_fault old ≡ None → old.log.group ≡ Some [] → (reply ≡ Accepted) × (new.disk ≡ old.disk)
 IsTakenIfSure facts old request reply new = Unit {0}
 
 -- The request is answered so: by the machine, with a file fault in place of its answer only where a store failed in this very call.
 -- The files are as the reply tells, and all is exact still.
-pub record Serves {S : Type 0} (facts : S → StoreFacts) (old : Holding S) (request : Request) (reply : Reply) (new : Holding S) : Type 0 where
+pub record ServesRequest {S : Type 0} (facts : S → StoreFacts) (old : Holding S) (request : Request) (reply : Reply) (new : Holding S) : Type 0 where
   pub exact : AreExact facts new
-  pub step : Step (has_failed_in facts old new) (machine old) request reply (machine new)
+  pub step : Step (failed_since_in facts old new) (machine old) request reply (machine new)
   pub files : LeavesFiles facts old request reply new
   pub sure : IsTakenIfSure facts old.session request reply new.session
 
 -- Nothing is done, or the request is served by a reply that isn't told.
 abbrev pub MayServe : {S : Type 0} → (S → StoreFacts) → Holding S → Request → Holding S → Type 0
-MayServe facts old request new = (new ≡ old) ⊎ ((reply : Reply) × Serves facts old request reply new)
+MayServe facts old request new = (new ≡ old) ⊎ ((reply : Reply) × ServesRequest facts old request reply new)
 
 -- these calls are served, one after another
 abbrev pub Serving : {S : Type 0} → (S → StoreFacts) → Holding S → List Call → Holding S → Type 0
 Serving {S} facts old [] new = new ≡ old
-Serving {S} facts old (c ∷ cs) new = (mid : Holding S) × (c.failed ≡ has_failed_in facts old mid) × Serves facts old c.request c.reply mid × Serving facts mid cs new
+Serving {S} facts old (c ∷ cs) new = (mid : Holding S) × (c.failed ≡ failed_since_in facts old mid) × ServesRequest facts old c.request c.reply mid × Serving facts mid cs new

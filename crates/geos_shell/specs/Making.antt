@@ -4,7 +4,7 @@ use Rattle.geos_model.specs.Script.{by_name, commands_by_name, bytes, with_none,
 use Rattle.geos_model.specs.declared.fault.Fault.{Fault}
 use Rattle.geos_model.specs.declared.fault.Fault.TheVariants as faults
 use Rattle.geos_model.specs.declared.command.Command.{Command}
-use Rattle.geos_shell.specs.Reading.{Fails, command_has_bytes, has_bytes}
+use Rattle.geos_shell.specs.Reading.{FailsToRead, command_has_bytes, has_bytes}
 
 -- Just so many words spell operands, of which this was made; or they are a BadCommand. That is so for whatever command the operands mean.
 
@@ -58,7 +58,7 @@ named_from row name operands = by_name name operands (drop row commands_by_name)
 
 -- what is made of a name and its operands, which mean this
 abbrev pub MakesCommand : {R : Type 0} → (R → Command) → Option Command → Result R Fault → Type 0
-MakesCommand as_command meant result = MatchResult result (λ x. meant ≡ Some (as_command x)) (Fails command_has_bytes meant)
+MakesCommand as_command meant result = MatchResult result (λ x. meant ≡ Some (as_command x)) (FailsToRead command_has_bytes meant)
 
 -- Of the rows from one on and before another, that with the name makes this of the operands; or none of them has the name.
 abbrev pub ReadsRows : {R : Type 0} → (R → Command) → ℕ → ℕ → List ℕ → List (List ℕ) → Option (Result R Fault) → Type 0

@@ -98,9 +98,9 @@ TurnsInto kind (outcomes.Run faults.Memory) = ⊤
 TurnsInto kind _ = ⊥
 
 -- the words end in this outcome and give no options
-abbrev pub Refuses : List Text → Outcome → Type 0
-Refuses words (outcomes.Usage text) = (kind : ErrorKind) × IsAmong kind (fault_of geosvm words) × (kind ≢ DisplayHelp)
-Refuses words (outcomes.Help text) = IsAmong DisplayHelp (fault_of geosvm words)
-Refuses words outcomes.SameFile = (line : CommandLine) × (command_line words ≡ Some line) × (line.target ≡ Some line.file)
-Refuses words (outcomes.Run faults.Memory) = ⊤
-Refuses words _ = ⊥
+abbrev pub RefusesWords : List Text → Outcome → Type 0
+RefusesWords words (outcomes.Usage text) = (kind : ErrorKind) × IsAmong kind (fault_of geosvm words) × (kind ≢ DisplayHelp)
+RefusesWords words (outcomes.Help text) = IsAmong DisplayHelp (fault_of geosvm words)
+RefusesWords words outcomes.SameFile = (line : CommandLine) × (command_line words ≡ Some line) × (line.target ≡ Some line.file)
+RefusesWords words (outcomes.Run faults.Memory) = ⊤
+RefusesWords words _ = ⊥

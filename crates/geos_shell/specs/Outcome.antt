@@ -31,12 +31,12 @@ run_line faults.Write = codes "geosvm: write fault" ++ line_feed ∷ []
 run_line faults.Memory = codes "geosvm: memory" ++ line_feed ∷ []
 
 -- what is written: help on standard output, all else on standard error
-abbrev pub text_of : Outcome → List ℕ
-text_of outcomes.Done = []
-text_of (outcomes.Help text) = text
-text_of (outcomes.Create fault) = fault_line (codes "create") fault
-text_of (outcomes.Open fault) = fault_line (codes "open") fault
-text_of outcomes.Target = fault_line (codes "target") File
-text_of (outcomes.Run fault) = run_line fault
-text_of (outcomes.Usage text) = text
-text_of outcomes.SameFile = codes "geosvm: FILE2 is FILE" ++ line_feed ∷ []
+abbrev pub outcome_text : Outcome → List ℕ
+outcome_text outcomes.Done = []
+outcome_text (outcomes.Help text) = text
+outcome_text (outcomes.Create fault) = fault_line (codes "create") fault
+outcome_text (outcomes.Open fault) = fault_line (codes "open") fault
+outcome_text outcomes.Target = fault_line (codes "target") File
+outcome_text (outcomes.Run fault) = run_line fault
+outcome_text (outcomes.Usage text) = text
+outcome_text outcomes.SameFile = codes "geosvm: FILE2 is FILE" ++ line_feed ∷ []

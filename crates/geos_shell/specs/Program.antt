@@ -5,14 +5,14 @@ use Rattle.geos_model.specs.File.{stands}
 use Rattle.geos_model.specs.Machine.{empty_machine, opened_machine}
 use Rattle.geos_model.specs.declared.fault.Fault.{Fault}
 use Rattle.geos_model.specs.declared.fault.Fault.TheVariants.{File}
-use Rattle.vm_store.specs.Facts.{StoreFacts, Raised, Rests}
-use Rattle.vm_file.specs.Calls.{IsSupply, IsOpenRefusal}
-use Rattle.vm_file.specs.Disk.{IsSettled, Numbered}
+use Rattle.vm_store.specs.Facts.{StoreFacts, FailedSince, IsUnchanged}
+use Rattle.vm_file.specs.Calls.{IsResourceFault, IsOpenRefusal}
+use Rattle.vm_file.specs.Disk.{IsCrashConsistent, HasSequence}
 use Rattle.vm_file.specs.Documents.{sequence_in}
-use Rattle.undo_log.specs.Records.{SessionState, IsExact, machine_of}
+use Rattle.undo_log.specs.Sessions.{SessionState, IsExact, machine_of}
 use Rattle.geos_shell.specs.Files.{Opener, OpensFile, FileFails, OpensTarget, TargetFails, ClosesAny}
-use Rattle.geos_shell.specs.Options.{CommandLine, IsUsable, Refuses, command_line}
-use Rattle.geos_shell.specs.Holdings.{Holding, AreExact, held}
+use Rattle.geos_shell.specs.Options.{CommandLine, IsUsable, RefusesWords, command_line}
+use Rattle.geos_shell.specs.Holdings.{Holding, AreExact, holding}
 use Rattle.geos_shell.specs.Runs.{AnswersAll, EndsBy}
 use Rattle.geos_shell.specs.declared.outcome.Outcome.{Outcome}
 use Rattle.geos_shell.specs.declared.outcome.Outcome.TheVariants as outcomes
@@ -25,41 +25,41 @@ pub record IsCreated {S : Type 0} (facts : S → StoreFacts) (frames : ℕ) (sto
   pub failures : (facts store).failures ≤ (facts session.disk.store).failures
   pub exact : IsTrue (facts store).honest → IsExact facts session
   pub machine : (target : Bool) → machine_of target session ≡ empty_machine frames target
-  pub attempted : session.disk.attempted ≡ []
-  pub numbered : IsTrue (facts store).honest → Numbered (facts session.disk.store) 1
-  pub settled : IsSettled facts session.disk
+  pub in_doubt : session.disk.in_doubt ≡ []
+  pub numbered : IsTrue (facts store).honest → HasSequence (facts session.disk.store) 1
+  pub crash_consistent : IsCrashConsistent facts session.disk
 
 -- A session on the file that a store has, in which nothing was written: the machine of the documents that the file stands for.
 pub record IsOpened {S : Type 0} (facts : S → StoreFacts) (frames : ℕ) (store : S) (session : SessionState S) : Type 0 where
   pub honest : (facts session.disk.store).honest ≡ (facts store).honest
   pub failures : (facts store).failures ≤ (facts session.disk.store).failures
-  pub rests : IsTrue (facts store).honest → Rests (facts store) (facts session.disk.store)
+  pub unchanged : IsTrue (facts store).honest → IsUnchanged (facts store) (facts session.disk.store)
   pub stands : IsTrue (facts store).honest → stands (facts store).content ≡ Ok (session.disk.updated, session.disk.saved)
   pub sequence : IsTrue (facts store).honest → sequence_in (facts store).content ≡ Some session.disk.sequence
   pub exact : IsTrue (facts store).honest → IsExact facts session
   pub machine : IsTrue (facts store).honest → (target : Bool) → machine_of target session ≡ opened_machine session.disk.updated session.disk.saved session.disk.sequence frames target
-  pub numbered : IsTrue (facts store).honest → Numbered (facts session.disk.store) session.disk.sequence
+  pub numbered : IsTrue (facts store).honest → HasSequence (facts session.disk.store) session.disk.sequence
   pub frames_are : session.frames ≡ frames
-  pub attempted : IsTrue (facts store).honest → session.disk.attempted ≡ []
-  pub settled : IsSettled facts session.disk
+  pub in_doubt : IsTrue (facts store).honest → session.disk.in_doubt ≡ []
+  pub crash_consistent : IsCrashConsistent facts session.disk
 
 -- which of the two is asked for
 abbrev pub IsMadeOrOpened : {S : Type 0} → (S → StoreFacts) → Bool → ℕ → S → SessionState S → Type 0
 IsMadeOrOpened facts true frames store session = IsCreated facts frames store session
 IsMadeOrOpened facts false frames store session = IsOpened facts frames store session
 
--- What a store is left as in which no new document was made: as it was, where memory was wanting.
+-- What a store is left as in which no new document was made: as it was, where memory ran out.
 pub record IsNotCreated {S : Type 0} (facts : S → StoreFacts) (fault : Fault) (store left : S) : Type 0 where
-  pub supply : IsSupply fault
+  pub supply : IsResourceFault fault
   pub early : fault ≢ File → left ≡ store
-  pub file : fault ≡ File → Raised (facts store) (facts left)
+  pub file : fault ≡ File → FailedSince (facts store) (facts left)
 
 -- What a store is left as of which no document was opened: nothing was written.
-pub record IsNotOpened {S : Type 0} (facts : S → StoreFacts) (fault : Fault) (store left : S) : Type 0 where
+pub record IsOpenFailure {S : Type 0} (facts : S → StoreFacts) (fault : Fault) (store left : S) : Type 0 where
   pub refusal : IsOpenRefusal fault
-  pub rests : IsTrue (facts store).honest → Rests (facts store) (facts left)
-  pub refused : IsTrue (facts store).honest → IsSupply fault ⊎ (stands (facts store).content ≡ Err fault)
-  pub file : fault ≡ File → Raised (facts store) (facts left)
+  pub unchanged : IsTrue (facts store).honest → IsUnchanged (facts store) (facts left)
+  pub refused : IsTrue (facts store).honest → IsResourceFault fault ⊎ (stands (facts store).content ≡ Err fault)
+  pub file : fault ≡ File → FailedSince (facts store) (facts left)
 
 -- ---- what is done with the files
 
@@ -84,7 +84,7 @@ pub record CreateFails {F S : Type 0} (calls : Opener F S) (facts : S → StoreF
 -- FILE's store has no document that could be opened
 pub record OpenFails {F S : Type 0} (calls : Opener F S) (facts : S → StoreFacts) (fault : Fault) (store : S) (opened new : F) : Type 0 where
   pub left : S
-  pub fails : IsNotOpened facts fault store left
+  pub fails : IsOpenFailure facts fault store left
   pub closes : calls.closes opened left new
 
 -- FILE2 can't be opened. Nothing was written to FILE: where it is to be made anew it wasn't called at all, and else its document was
@@ -98,7 +98,7 @@ pub record TargetIsShut {F S : Type 0} (calls : Opener F S) (facts : S → Store
   pub closes : calls.closes failed left new
 
 -- A session is begun on FILE's store, and FILE2 is the target if it is named. A new document is made only after both are opened.
-pub record Begins {F S : Type 0} (calls : Opener F S) (facts : S → StoreFacts) (line : CommandLine) (store : S) (opened : F) (session : SessionState S) (target : Option S) (new : F) : Type 0 where
+pub record BeginsSession {F S : Type 0} (calls : Opener F S) (facts : S → StoreFacts) (line : CommandLine) (store : S) (opened : F) (session : SessionState S) (target : Option S) (new : F) : Type 0 where
   pub target_is : OpensTarget calls line.target opened target new
   pub session_is : IsMadeOrOpened facts line.is_new line.cache store session
 
@@ -137,23 +137,23 @@ IsNotBegun calls facts line old new outcome =
     (FileFails calls line old new × IsFileFault line outcome) ⊎ FromFile calls line old (λ store opened. IsGivenUp calls facts line store opened new outcome)
 
 -- the script is answered: well, or until the run ended by a fault, which is the one that is told
-abbrev pub IsAnswered : {F S : Type 0} → Opener F S → (S → StoreFacts) → Holding S → F → F → Option (List ℕ) → Option (List ℕ) → Option (List ℕ) → Option (List ℕ) → Outcome → Type 0
-IsAnswered calls facts first old new from to before after outcomes.Done = RunsOn calls (λ left. AreExact facts first → AnswersAll facts first from to before after left) old new
-IsAnswered calls facts first old new from to before after (outcomes.Run fault) = RunsOn calls (λ left. AreExact facts first → EndsBy fault facts first from to before after left) old new
-IsAnswered calls facts first old new from to before after _ = ⊥
+abbrev pub IsScriptAnswered : {F S : Type 0} → Opener F S → (S → StoreFacts) → Holding S → F → F → Option (List ℕ) → Option (List ℕ) → Option (List ℕ) → Option (List ℕ) → Outcome → Type 0
+IsScriptAnswered calls facts first old new from to before after outcomes.Done = RunsOn calls (λ left. AreExact facts first → AnswersAll facts first from to before after left) old new
+IsScriptAnswered calls facts first old new from to before after (outcomes.Run fault) = RunsOn calls (λ left. AreExact facts first → EndsBy fault facts first from to before after left) old new
+IsScriptAnswered calls facts first old new from to before after _ = ⊥
 
 -- a session was begun on FILE, and the script is answered
-pub record Serves {F S : Type 0} (calls : Opener F S) (facts : S → StoreFacts) (line : CommandLine) (old new : F) (from to before after : Option (List ℕ)) (outcome : Outcome) : Type 0 where
+pub record ServesFiles {F S : Type 0} (calls : Opener F S) (facts : S → StoreFacts) (line : CommandLine) (old new : F) (from to before after : Option (List ℕ)) (outcome : Outcome) : Type 0 where
   pub begun : F
   pub session : SessionState S
   pub target : Option S
-  pub begins : FromFile calls line old (λ store opened. Begins calls facts line store opened session target begun)
-  pub answers : IsAnswered calls facts (held session target None) begun new from to before after outcome
+  pub begins : FromFile calls line old (λ store opened. BeginsSession calls facts line store opened session target begun)
+  pub answers : IsScriptAnswered calls facts (holding session target None) begun new from to before after outcome
 
--- Words that are no usable command line end in what says so, or in want of memory, and no file is opened. Of a usable one the files
+-- Words that are no usable command line end in what says so, or in lack of memory, and no file is opened. Of a usable one the files
 -- are opened and the script is answered, or, where that can't begin, nothing of it is read and no reply is written.
 abbrev pub ComesTo : {F S : Type 0} → Opener F S → (S → StoreFacts) → List Text → F → F → Option (List ℕ) → Option (List ℕ) → Option (List ℕ) → Option (List ℕ) → Outcome → Type 0
 ComesTo calls facts words old new from to before after outcome =
-    (Refuses words outcome × (new ≡ old) × (to ≡ from) × (after ≡ before))
+    (RefusesWords words outcome × (new ≡ old) × (to ≡ from) × (after ≡ before))
     ⊎ ((line : CommandLine) × (command_line words ≡ Some line) × IsUsable line
-    × ((IsNotBegun calls facts line old new outcome × (to ≡ from) × (after ≡ before)) ⊎ Serves calls facts line old new from to before after outcome))
+    × ((IsNotBegun calls facts line old new outcome × (to ≡ from) × (after ≡ before)) ⊎ ServesFiles calls facts line old new from to before after outcome))

@@ -4,7 +4,7 @@ use Rattle.std.specs.Io.KnownBytes.{Appends}
 use Rattle.geos_model.specs.Script.{line_feed, command, lines, finished_lines, requests}
 use Rattle.vm_store.specs.Facts.{StoreFacts}
 use Rattle.geos_shell.specs.Holdings.{Holding}
-use Rattle.geos_shell.specs.Runs.{AnswersOf, AreFirst, Stopped}
+use Rattle.geos_shell.specs.Runs.{AnswersOf, AreFirst, StoppedWith}
 use Rattle.geos_shell.specs.declared.answering.Answering.{Answering}
 
 abbrev pub HasNoFeed : List ℕ → Type 0
@@ -45,7 +45,7 @@ GoesOver {S} facts old bytes new = (start : Holding S) (read sent : List ℕ) �
 
 -- Of what was read since start, the run stopped in a line, and answered those before, which a line feed ends.
 abbrev pub StopsAt : {S : Type 0} → (S → StoreFacts) → Holding S → List ℕ → List ℕ → Holding S → Type 0
-StopsAt facts start read replies new = (stopped : Stopped facts start (lines read) replies new) × AreFirst stopped.answered (finished_lines read)
+StopsAt facts start read replies new = (stopped : StoppedWith facts start (lines read) replies new) × AreFirst stopped.answered (finished_lines read)
 
 -- In these bytes the run stopped, and its replies are right so far.
 abbrev pub StopsIn : {S : Type 0} → (S → StoreFacts) → Moment S → List ℕ → Moment S → Type 0
@@ -90,4 +90,4 @@ pub record StopsRest {S : Type 0} (facts : S → StoreFacts) (old : Moment S) (n
 -- The writer failed behind these bytes or in a line of them.
 abbrev pub Unsent : {S : Type 0} → (S → StoreFacts) → Moment S → List ℕ → Holding S → Type 0
 Unsent {S} facts old bytes new =
-    (start : Holding S) (read sent : List ℕ) → ProgressOf facts start read sent old → (replies : List ℕ) × Stopped facts start (lines (read ++ bytes)) replies new
+    (start : Holding S) (read sent : List ℕ) → ProgressOf facts start read sent old → (replies : List ℕ) × StoppedWith facts start (lines (read ++ bytes)) replies new

@@ -30,9 +30,9 @@ command_has_bytes (commands.NameFind b c name) = has_bytes name
 command_has_bytes _ = false
 
 -- why reading fails: BadCommand where nothing is meant, or Memory where what is meant has bytes
-abbrev pub Fails : {A : Type 0} → (A → Bool) → Option A → Fault → Type 0
-Fails has meant fault = ((fault ≡ faults.BadCommand) × (meant ≡ None)) ⊎ ((fault ≡ faults.Memory) × IsSomeAnd meant (λ x. IsTrue (has x)))
+abbrev pub FailsToRead : {A : Type 0} → (A → Bool) → Option A → Fault → Type 0
+FailsToRead has meant fault = ((fault ≡ faults.BadCommand) × (meant ≡ None)) ⊎ ((fault ≡ faults.Memory) × IsSomeAnd meant (λ x. IsTrue (has x)))
 
 -- what reading answers: what is meant, or why it fails
-abbrev pub Reads : {A : Type 0} → (A → Bool) → Option A → Result A Fault → Type 0
-Reads has meant result = MatchResult result (λ x. meant ≡ Some x) (Fails has meant)
+abbrev pub ReadsAs : {A : Type 0} → (A → Bool) → Option A → Result A Fault → Type 0
+ReadsAs has meant result = MatchResult result (λ x. meant ≡ Some x) (FailsToRead has meant)

@@ -6,9 +6,9 @@ use Rattle.geos_model.specs.Script.{reply_line, reply_text}
 use Rattle.geos_model.specs.declared.command.Command.{Command}
 use Rattle.geos_model.specs.declared.command.Command.TheVariants as commands
 use Rattle.vm_store.specs.Facts.{StoreFacts}
-use Rattle.vm_file.specs.Disk.{Passes}
-use Rattle.undo_log.specs.Records.{SessionState, IsStep}
-use Rattle.geos_shell.specs.Holdings.{Holding, MayServe, Serves}
+use Rattle.vm_file.specs.Disk.{KeepsCommitted}
+use Rattle.undo_log.specs.Sessions.{SessionState, IsStep}
+use Rattle.geos_shell.specs.Holdings.{Holding, MayServe, ServesRequest}
 
 -- The bytes are still there, whatever stands behind them.
 abbrev pub Extends : List ℕ → List ℕ → Type 0
@@ -63,13 +63,13 @@ asks_no_body _ = false
 pub record Told {S T E : Type 0} (result : Result T E) (facts : S → StoreFacts) (old : SessionState S) (command : Command) (new : SessionState S) (before after : List ℕ) : Type 0 where
   pub reply : Reply
   pub step : IsStep facts old new command reply
-  pub passes : Passes facts old.disk new.disk
+  pub passes : KeepsCommitted facts old.disk new.disk
   pub text : OnOk result (after ≡ before ++ reply_text reply)
 
 -- The command is served, and its reply's text was put behind what was there.
 pub record Tells {S : Type 0} (facts : S → StoreFacts) (old : Holding S) (command : Command) (new : Holding S) (before after : List ℕ) : Type 0 where
   pub reply : Reply
-  pub serves : Serves facts old (Some command) reply new
+  pub serves : ServesRequest facts old (Some command) reply new
   pub text : after ≡ before ++ reply_text reply
 
 -- A command is served, and where there was memory for its reply's text, that was put behind what was there.
@@ -79,4 +79,4 @@ Replied result facts old command new before after = MatchResult result (λ _. Te
 -- The request is served, and its reply line was put behind what was there; a blank line does nothing, and gets none.
 abbrev pub Responds : {S : Type 0} → (S → StoreFacts) → Holding S → Request → Holding S → List ℕ → List ℕ → Type 0
 Responds facts old (Some commands.Blank) new before after = (new ≡ old) × (after ≡ before)
-Responds facts old request new before after = (reply : Reply) × Serves facts old request reply new × (after ≡ before ++ reply_line reply)
+Responds facts old request new before after = (reply : Reply) × ServesRequest facts old request reply new × (after ≡ before ++ reply_line reply)

@@ -16,7 +16,7 @@ CountsFailures facts old failed new =
 
 -- Where no call failed, the pairs of a failed commit that may be read are those from before, or there is none any more.
 abbrev pub AddsNoPair : {S : Type 0} → Holding S → ℕ → Holding S → Type 0
-AddsNoPair old failed new = failed ≡ 0 → (new.session.disk.attempted ≡ old.session.disk.attempted) ⊎ (new.session.disk.attempted ≡ [])
+AddsNoPair old failed new = failed ≡ 0 → (new.session.disk.in_doubt ≡ old.session.disk.in_doubt) ⊎ (new.session.disk.in_doubt ≡ [])
 
 -- What is known of the stores after calls of which so many failed.
 pub record AfterFailures {S : Type 0} (facts : S → StoreFacts) (old : Holding S) (failed : ℕ) (new : Holding S) : Type 0 where
@@ -59,7 +59,7 @@ MayServeNext facts old [] new = new ≡ old
 MayServeNext facts old (line ∷ lines) new = MayServe facts old (command line) new
 
 -- The first ones of the lines are answered, and of the others at most the next is served, whose reply isn't among these.
-pub record Stopped {S : Type 0} (facts : S → StoreFacts) (old : Holding S) (lines : List (List ℕ)) (replies : List ℕ) (new : Holding S) : Type 0 where
+pub record StoppedWith {S : Type 0} (facts : S → StoreFacts) (old : Holding S) (lines : List (List ℕ)) (replies : List ℕ) (new : Holding S) : Type 0 where
   pub answered : List (List ℕ)
   pub others : List (List ℕ)
   pub parts : lines ≡ answered ++ others
@@ -74,7 +74,7 @@ pub record AnswersSome {S : Type 0} (facts : S → StoreFacts) (old : Holding S)
   pub some : 0 < length read
   pub consumed : Consumes from to read
   pub written : List ℕ
-  pub stopped : Stopped facts old (lines read) written new
+  pub stopped : StoppedWith facts old (lines read) written new
   pub finished : AreFirst stopped.answered (finished_lines read)
   pub appended : Appends before after written
 
@@ -83,7 +83,7 @@ pub record AnswersUnsent {S : Type 0} (facts : S → StoreFacts) (old : Holding 
   pub read : List ℕ
   pub consumed : Consumes from to read
   pub replies : List ℕ
-  pub stopped : Stopped facts old (lines read) replies new
+  pub stopped : StoppedWith facts old (lines read) replies new
 
 -- what a run has done that ends by this fault
 abbrev pub EndsBy : {S : Type 0} → RunFault → (S → StoreFacts) → Holding S → Option (List ℕ) → Option (List ℕ) → Option (List ℕ) → Option (List ℕ) → Holding S → Type 0

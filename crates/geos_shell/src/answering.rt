@@ -1,7 +1,7 @@
 //! The lines of a script and their replies, as the script comes piece by piece.
 ghost use Rattle.std.specs.Prelude.{◌≡◌, ◌++◌, ◌∷◌, [], ◌≤◌, ℕ, List, length, OnOk, OnErr};
 ghost use Rattle.geos_model.specs.Script.{line_feed};
-ghost use Rattle.geos_shell.specs.Holdings.{held};
+ghost use Rattle.geos_shell.specs.Holdings.{holding};
 ghost use Rattle.geos_shell.specs.Progress.{Ends, GoesOver, HasNoFeed, StandsFor, StopsAtEnd, StopsIn, moment};
 
 use crate::replies::answer_line;
@@ -32,8 +32,12 @@ impl Answering {
         former: &mut Option<S>,
         piece: &[u8],
     ) -> Result<(), AllocError>
-        ensures ok { OnOk result (GoesOver S.facts (moment (held session.old target.old former.old) self.old) piece.now (moment (held session.new target.new former.new) self.new)) }
-        ensures err { OnErr result (StopsIn S.facts (moment (held session.old target.old former.old) self.old) piece.now (moment (held session.new target.new former.new) self.new)) }
+        ensures ok { OnOk result
+            (GoesOver S.facts (moment (holding session.old target.old former.old) self.old) piece.now
+            (moment (holding session.new target.new former.new) self.new)) }
+        ensures err { OnErr result
+            (StopsIn S.facts (moment (holding session.old target.old former.old) self.old) piece.now
+            (moment (holding session.new target.new former.new) self.new)) }
     {
         let mut rest = piece;
         while let Some(end) = rest.find_byte(b'\n') {
@@ -53,9 +57,11 @@ impl Answering {
         tail: &[u8],
     ) -> Result<(), AllocError>
         ensures ok { OnOk result (HasNoFeed tail.now
-            → GoesOver S.facts (moment (held session.old target.old former.old) self.old) (tail.now ++ line_feed ∷ []) (moment (held session.new target.new former.new) self.new)) }
+            → GoesOver S.facts (moment (holding session.old target.old former.old) self.old)
+            (tail.now ++ line_feed ∷ []) (moment (holding session.new target.new former.new) self.new)) }
         ensures err { OnErr result (HasNoFeed tail.now → (rest : List ℕ)
-            → StopsIn S.facts (moment (held session.old target.old former.old) self.old) (tail.now ++ line_feed ∷ rest) (moment (held session.new target.new former.new) self.new)) }
+            → StopsIn S.facts (moment (holding session.old target.old former.old) self.old)
+            (tail.now ++ line_feed ∷ rest) (moment (holding session.new target.new former.new) self.new)) }
     {
         if self.begun.is_empty() {
             return answer_line(alloc, session, target, former, tail, &mut self.replies);
@@ -81,8 +87,12 @@ impl Answering {
         target: &mut Option<S>,
         former: &mut Option<S>,
     ) -> Result<(), AllocError>
-        ensures ok { OnOk result (Ends S.facts (moment (held session.old target.old former.old) self.old) (moment (held session.new target.new former.new) self.new)) }
-        ensures err { OnErr result (StopsAtEnd S.facts (moment (held session.old target.old former.old) self.old) (moment (held session.new target.new former.new) self.new)) }
+        ensures ok { OnOk result
+            (Ends S.facts (moment (holding session.old target.old former.old) self.old)
+            (moment (holding session.new target.new former.new) self.new)) }
+        ensures err { OnErr result
+            (StopsAtEnd S.facts (moment (holding session.old target.old former.old) self.old)
+            (moment (holding session.new target.new former.new) self.new)) }
     {
         if self.begun.is_empty() {
             return Ok(());

@@ -2,7 +2,7 @@
 ghost use Rattle.std.specs.Prelude.{◌≡◌, ◌≤◌, codes, drop, true, false, IfOk, IfErr, map};
 ghost use Rattle.std.specs.List.{Contains};
 ghost use Rattle.clap.specs.Words.{FailsBy, app_of, fault_of, found_of, kind_of, matches_of, rows_of, rule_of};
-ghost use Rattle.geos_shell.specs.Options.{IsMatched, IsUsable, Refuses, TurnsInto, as_option, cache_option, command_line, file_operand, geosvm, new_flag, said, told_by};
+ghost use Rattle.geos_shell.specs.Options.{IsMatched, IsUsable, RefusesWords, TurnsInto, as_option, cache_option, command_line, file_operand, geosvm, new_flag, said, told_by};
 
 use crate::outcome::Outcome;
 use crate::runner::RunFault;
@@ -18,9 +18,10 @@ const FRAMES: u8 = 8;
 
 /// Reads a command line, whose first word is the name of the program.
 pub fn options<'a, S: AsStr>(alloc: Global, words: &'a [S]) -> Result<Options<'a>, Outcome>
-    ensures ok { IfOk result (λ o. (command_line (map S.text words.entry.now) ≡ Some (told_by o)) × IsUsable (told_by o)) }
+    ensures ok { IfOk result
+        (λ o. (command_line (map S.text words.entry.now) ≡ Some (told_by o)) × IsUsable (told_by o)) }
     ensures new { IfOk result (λ o. o.new ≡ true → Contains (drop 1 (map S.text words.entry.now)) (codes "--new")) }
-    ensures err { IfErr result (Refuses (map S.text words.entry.now)) }
+    ensures err { IfErr result (RefusesWords (map S.text words.entry.now)) }
 {
     let options = match parse(alloc, words) {
         Ok(matches) => told(&matches),

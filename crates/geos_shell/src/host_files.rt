@@ -1,6 +1,6 @@
 //! The files of a system.
 ghost use Rattle.std.specs.Prelude.{MatchResult, ◌≡◌};
-ghost use Rattle.vm_store.specs.System.{IsNotReady, IsReady};
+ghost use Rattle.vm_store.specs.System.{IsNotOpenedOrLocked, IsOpenedAndLocked};
 
 use crate::files::Files;
 use std::fs::File;
@@ -67,7 +67,7 @@ impl<F: SystemFile, Y: System<F> + Drop> Files for HostFiles<F, Y> {
     // Of the guards nothing is known. A file is opened by just the calls of the system that open and lock it.
     ghost calls = { record {
       guards = λ old result new. Unit {0};
-      opens = λ old name make result new. MatchResult result (λ store. IsReady Y.calls name make old.system store.file new.system) (λ _. IsNotReady Y.calls name make old.system new.system);
+      opens = λ old name make result new. MatchResult result (λ store. IsOpenedAndLocked Y.calls name make old.system store.file new.system) (λ _. IsNotOpenedOrLocked Y.calls name make old.system new.system);
       closes = λ old store new. new ≡ old;
     } };
 

@@ -4,7 +4,7 @@ ghost use Rattle.std.specs.List.{list_all};
 ghost use Rattle.hex.specs.Hex.{is_hex_digit};
 ghost use Rattle.geos_model.specs.Script as script;
 ghost use Rattle.geos_model.specs.declared.fault.Fault.TheVariants as faults;
-ghost use Rattle.geos_shell.specs.Reading.{Reads, has_bytes};
+ghost use Rattle.geos_shell.specs.Reading.{ReadsAs, has_bytes};
 
 use geos_model::{Bytes, ChunkHandle, Fault, Token, VmHandle};
 use hex::FromHex;
@@ -112,7 +112,7 @@ pub(crate) fn spells_bytes(word: &[u8]) -> bool
 
 /// Bytes in hexadecimal digits, or a dash for none.
 pub(crate) fn bytes(alloc: Global, word: &[u8]) -> Result<Bytes, Fault>
-    ensures { Reads has_bytes (script.bytes word.now) result }
+    ensures { ReadsAs has_bytes (script.bytes word.now) result }
 {
     if !spells_bytes(word) {
         return Err(Fault::BadCommand);

@@ -1,7 +1,7 @@
 //! What a run of the program comes to.
 ghost use Rattle.std.specs.Prelude.{◌≡◌, OnOk};
 ghost use Rattle.std.specs.Io.KnownBytes.{Appends};
-ghost use Rattle.geos_shell.specs.Outcome.{fault_line, status_of, text_of};
+ghost use Rattle.geos_shell.specs.Outcome.{fault_line, status_of, outcome_text};
 
 use crate::runner::RunFault;
 use geos_model::{Bytes, Fault};
@@ -42,7 +42,7 @@ impl Outcome {
 
     /// Writes what there is to tell: help is for standard output, all else for standard error.
     pub fn write_line<W: Write>(&self, writer: &mut W) -> io::Result<()>
-        ensures { OnOk result (Appends (W.contents writer.old) (W.contents writer.new) (text_of self.now)) }
+        ensures { OnOk result (Appends (W.contents writer.old) (W.contents writer.new) (outcome_text self.now)) }
     {
         match self {
             Outcome::Usage(text) | Outcome::Help(text) => writer.write_all(text.as_slice()),

@@ -2,7 +2,7 @@
 ghost use Rattle.std.specs.Prelude.{◌≡◌, ◌⊎◌, ◌↔◌, None, Some, IfOk, IfErr, IsSomeAnd, IsTrue, List, ℕ, map, take};
 ghost use Rattle.geos_model.specs.Script.{command};
 ghost use Rattle.geos_model.specs.Script as script;
-ghost use Rattle.geos_shell.specs.Reading.{Reads, command_has_bytes};
+ghost use Rattle.geos_shell.specs.Reading.{ReadsAs, command_has_bytes};
 
 use crate::verbs::command_of;
 use arrayvec::ArrayVec;
@@ -36,7 +36,7 @@ pub fn parse(alloc: Global, line: &[u8]) -> Result<Command, Fault>
 /// The command that the words of a line are, of which these are the first ones, or all.
 fn command_of_words(alloc: Global, first: &[&[u8]]) -> Result<Command, Fault>
     ensures { (words : List (List ℕ)) → map (λ w. w.now) first.now ≡ take MOST_WORDS words
-        → Reads command_has_bytes (script.command_of_words words) result }
+        → ReadsAs command_has_bytes (script.command_of_words words) result }
 {
     let Some((name, operands)) = first.split_first() else {
         return Ok(Command::Blank);

@@ -2,8 +2,8 @@
 ghost use Rattle.std.specs.Prelude.{◌≡◌, ◌≤◌, true, false, None, OnErr, IfOk, IfErr, map};
 ghost use Rattle.geos_shell.specs.Files.{OpensFile, FileFails, OpensTarget, TargetFails, ClosesAny};
 ghost use Rattle.geos_shell.specs.Options.{told_by};
-ghost use Rattle.geos_shell.specs.Program.{FromFile, Begins, ComesTo, IsAnswered, IsGivenUp, IsNotBegun};
-ghost use Rattle.geos_shell.specs.Holdings.{held};
+ghost use Rattle.geos_shell.specs.Program.{FromFile, BeginsSession, ComesTo, IsScriptAnswered, IsGivenUp, IsNotBegun};
+ghost use Rattle.geos_shell.specs.Holdings.{holding};
 
 use crate::command_line::options;
 use crate::files::Files;
@@ -29,7 +29,8 @@ pub fn serve<'a, F: Files, T: AsStr, R: Read, W: Write>(
     reader: &mut R,
     writer: &mut W,
 ) -> Outcome
-    ensures { ComesTo F.calls F.Opened.facts (map T.text words.entry.now) files.old files.new (R.remaining reader.old) (R.remaining reader.new) (W.contents writer.old) (W.contents writer.new) result }
+    ensures { ComesTo F.calls F.Opened.facts (map T.text words.entry.now) files.old files.new (R.remaining reader.old)
+        (R.remaining reader.new) (W.contents writer.old) (W.contents writer.new) result }
 {
     match options(alloc, words) {
         Ok(options) => match begin(alloc, files, options) {
@@ -54,7 +55,10 @@ fn begin<F: Files>(
     options: Options,
 ) -> Result<Begun<F::Opened>, Outcome>
     requires { (1 ≤ options.cache) × (options.cache ≤ 64) }
-    ensures ok { IfOk result (λ begun. FromFile F.calls (told_by options.entry) files.old (λ store opened. Begins F.calls F.Opened.facts (told_by options.entry) store opened begun.session begun.target files.new)) }
+    ensures ok { IfOk result
+        (λ begun. FromFile F.calls (told_by options.entry) files.old
+        (λ store opened. BeginsSession F.calls F.Opened.facts
+        (told_by options.entry) store opened begun.session begun.target files.new)) }
     ensures err { IfErr result (IsNotBegun F.calls F.Opened.facts (told_by options.entry) files.old files.new) }
 {
     match open_file(files, options) {
@@ -94,7 +98,9 @@ fn create<F: Files>(
 ) -> Result<Begun<F::Opened>, Outcome>
     requires frames { (1 ≤ options.cache) × (options.cache ≤ 64) }
     requires new { options.new ≡ true }
-    ensures ok { IfOk result (λ begun. Begins F.calls F.Opened.facts (told_by options.entry) store files.old begun.session begun.target files.new) }
+    ensures ok { IfOk result
+        (λ begun. BeginsSession F.calls F.Opened.facts
+        (told_by options.entry) store files.old begun.session begun.target files.new) }
     ensures err { IfErr result (IsGivenUp F.calls F.Opened.facts (told_by options.entry) store files.old files.new) }
 {
     let target = match open_target(files, options) {
@@ -123,7 +129,9 @@ fn open<F: Files>(
 ) -> Result<Begun<F::Opened>, Outcome>
     requires frames { (1 ≤ options.cache) × (options.cache ≤ 64) }
     requires old { options.new ≡ false }
-    ensures ok { IfOk result (λ begun. Begins F.calls F.Opened.facts (told_by options.entry) store files.old begun.session begun.target files.new) }
+    ensures ok { IfOk result
+        (λ begun. BeginsSession F.calls F.Opened.facts
+        (told_by options.entry) store files.old begun.session begun.target files.new) }
     ensures err { IfErr result (IsGivenUp F.calls F.Opened.facts (told_by options.entry) store files.old files.new) }
 {
     let session = match Session::open(alloc, store, usize::from(options.cache)) {
@@ -150,7 +158,8 @@ fn answer<F: Files, R: Read, W: Write>(
     reader: &mut R,
     writer: &mut W,
 ) -> Outcome
-    ensures { IsAnswered F.calls F.Opened.facts (held begun.session begun.target None) files.old files.new (R.remaining reader.old) (R.remaining reader.new) (W.contents writer.old) (W.contents writer.new) result }
+    ensures { IsScriptAnswered F.calls F.Opened.facts (holding begun.session begun.target None) files.old files.new
+        (R.remaining reader.old) (R.remaining reader.new) (W.contents writer.old) (W.contents writer.new) result }
 {
     let Begun {
         mut session,

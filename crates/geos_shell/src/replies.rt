@@ -3,7 +3,7 @@ ghost use Rattle.std.specs.Prelude.{◌≡◌, ◌≢◌, ◌++◌, true, OnOk, 
 ghost use Rattle.geos_model.specs.Reply.{Accepted, reply_by};
 ghost use Rattle.geos_model.specs.Script.{command, reply_text};
 ghost use Rattle.geos_model.specs.declared.command.Command.TheVariants as commands;
-ghost use Rattle.geos_shell.specs.Holdings.{AreExact, MayServe, Serves, held};
+ghost use Rattle.geos_shell.specs.Holdings.{AreExact, MayServe, ServesRequest, holding};
 ghost use Rattle.geos_shell.specs.Replies.{Extends, Replied, Responds, Told, asks_chunk, asks_no_body, is_look_up};
 
 use crate::parser::parse;
@@ -176,8 +176,9 @@ fn save_as<S: Store>(
     target: &mut Option<S>,
     former: &mut Option<S>,
 ) -> Result<(), Fault>
-    ensures { AreExact S.facts (held session.old target.old former.old)
-        → Serves S.facts (held session.old target.old former.old) (Some commands.SaveAs) (reply_by (λ _. Accepted) result) (held session.new target.new former.new) }
+    ensures { AreExact S.facts (holding session.old target.old former.old)
+        → ServesRequest S.facts (holding session.old target.old former.old) (Some commands.SaveAs)
+        (reply_by (λ _. Accepted) result) (holding session.new target.new former.new) }
 {
     let Some(store) = target.take() else {
         // What is to be done first, whether there is a target or not.
@@ -212,7 +213,7 @@ fn push_accepted(
     push_reply(alloc, out, done.map(|()| Reply::Accepted))
 }
 
-// Carries out a command that gets a reply, and puts the reply's text behind `out`. Where memory is wanting, a part of it may stand
+// Carries out a command that gets a reply, and puts the reply's text behind `out`. Where memory runs out, a part of it may stand
 // there.
 fn push_response<S: Store>(
     alloc: Global,
@@ -223,8 +224,9 @@ fn push_response<S: Store>(
     out: &mut Vec<u8>,
 ) -> Result<(), AllocError>
     requires { command.now ≢ Command.Blank }
-    ensures replied { AreExact S.facts (held session.old target.old former.old)
-        → Replied result S.facts (held session.old target.old former.old) command.now (held session.new target.new former.new) out.old.items out.new.items }
+    ensures replied { AreExact S.facts (holding session.old target.old former.old)
+        → Replied result S.facts (holding session.old target.old former.old) command.now
+        (holding session.new target.new former.new) out.old.items out.new.items }
     ensures ok { OnOk result (Extends out.old.items out.new.items) }
     ensures err { OnErr result (Extends out.old.items out.new.items) }
 {
@@ -250,7 +252,7 @@ fn push_response<S: Store>(
     }
 }
 
-// Carries out a command, and puts its reply line behind `out`. Where memory is wanting, a part of the line may stand there.
+// Carries out a command, and puts its reply line behind `out`. Where memory runs out, a part of the line may stand there.
 fn respond<S: Store>(
     alloc: Global,
     session: &mut Session<S>,
@@ -259,10 +261,12 @@ fn respond<S: Store>(
     command: &Command,
     out: &mut Vec<u8>,
 ) -> Result<(), AllocError>
-    ensures ok { OnOk result (AreExact S.facts (held session.old target.old former.old)
-        → Responds S.facts (held session.old target.old former.old) (Some command.now) (held session.new target.new former.new) out.old.items out.new.items) }
-    ensures may { OnErr result (AreExact S.facts (held session.old target.old former.old)
-        → MayServe S.facts (held session.old target.old former.old) (Some command.now) (held session.new target.new former.new)) }
+    ensures ok { OnOk result (AreExact S.facts (holding session.old target.old former.old)
+        → Responds S.facts (holding session.old target.old former.old) (Some command.now)
+        (holding session.new target.new former.new) out.old.items out.new.items) }
+    ensures may { OnErr result (AreExact S.facts (holding session.old target.old former.old)
+        → MayServe S.facts (holding session.old target.old former.old) (Some command.now)
+        (holding session.new target.new former.new)) }
     ensures err { OnErr result (Extends out.old.items out.new.items) }
 {
     match command {
@@ -274,7 +278,7 @@ fn respond<S: Store>(
     }
 }
 
-// Answers a line, and may leave a part of its reply line where memory is wanting.
+// Answers a line, and may leave a part of its reply line where memory runs out.
 fn push_answer<S: Store>(
     alloc: Global,
     session: &mut Session<S>,
@@ -283,10 +287,12 @@ fn push_answer<S: Store>(
     line: &[u8],
     out: &mut Vec<u8>,
 ) -> Result<(), AllocError>
-    ensures ok { OnOk result (AreExact S.facts (held session.old target.old former.old)
-        → Responds S.facts (held session.old target.old former.old) (command line.now) (held session.new target.new former.new) out.old.items out.new.items) }
-    ensures may { OnErr result (AreExact S.facts (held session.old target.old former.old)
-        → MayServe S.facts (held session.old target.old former.old) (command line.now) (held session.new target.new former.new)) }
+    ensures ok { OnOk result (AreExact S.facts (holding session.old target.old former.old)
+        → Responds S.facts (holding session.old target.old former.old) (command line.now)
+        (holding session.new target.new former.new) out.old.items out.new.items) }
+    ensures may { OnErr result (AreExact S.facts (holding session.old target.old former.old)
+        → MayServe S.facts (holding session.old target.old former.old) (command line.now)
+        (holding session.new target.new former.new)) }
     ensures err { OnErr result (Extends out.old.items out.new.items) }
 {
     match parse(alloc, line) {
@@ -306,7 +312,7 @@ fn push_answer<S: Store>(
 /// Where what is held is exact, over an honest store and target, each answer is the machine's, a file fault stands in its place only
 /// where a store failed in just this call, the files are as the reply tells, and all is exact still.
 ///
-/// An `Err` is want of memory for the line or for the text of its reply. Then `out` is as it was, and the line may be carried out all
+/// An `Err` is lack of memory for the line or for the text of its reply. Then `out` is as it was, and the line may be carried out all
 /// the same: what it was answered isn't told.
 pub fn answer_line<S: Store>(
     alloc: Global,
@@ -316,10 +322,12 @@ pub fn answer_line<S: Store>(
     line: &[u8],
     out: &mut Vec<u8>,
 ) -> Result<(), AllocError>
-    ensures ok { OnOk result (AreExact S.facts (held session.old target.old former.old)
-        → Responds S.facts (held session.old target.old former.old) (command line.now) (held session.new target.new former.new) out.old.items out.new.items) }
-    ensures may { OnErr result (AreExact S.facts (held session.old target.old former.old)
-        → MayServe S.facts (held session.old target.old former.old) (command line.now) (held session.new target.new former.new)) }
+    ensures ok { OnOk result (AreExact S.facts (holding session.old target.old former.old)
+        → Responds S.facts (holding session.old target.old former.old) (command line.now)
+        (holding session.new target.new former.new) out.old.items out.new.items) }
+    ensures may { OnErr result (AreExact S.facts (holding session.old target.old former.old)
+        → MayServe S.facts (holding session.old target.old former.old) (command line.now)
+        (holding session.new target.new former.new)) }
     ensures err { OnErr result (out.new.items ≡ out.old.items) }
 {
     let start = out.len();

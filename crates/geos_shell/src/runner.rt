@@ -1,8 +1,8 @@
 //! A run over a script: pieces are read, their lines answered, and the replies written.
 ghost use Rattle.std.specs.Prelude.{◌≡◌, ◌⊎◌, ◌<◌, [], IsTrue, IfOk, IfErr, OnOk, None, Option, length};
 ghost use Rattle.std.specs.Io.KnownBytes.{Appends, Keeps};
-ghost use Rattle.undo_log.specs.Records.{IsExact};
-ghost use Rattle.geos_shell.specs.Holdings.{AreExact, Holding, held};
+ghost use Rattle.undo_log.specs.Sessions.{IsExact};
+ghost use Rattle.geos_shell.specs.Holdings.{AreExact, Holding, holding};
 ghost use Rattle.geos_shell.specs.Runs.{AnswersAll, EndsBy};
 ghost use Rattle.geos_shell.specs.Given.{Gives};
 ghost use Rattle.geos_shell.specs.Progress.{AnswersPiece, AnswersRest, StopsPiece, StopsRest, Unsent, moment};
@@ -60,12 +60,14 @@ pub fn run<S: Store, R: Read, W: Write>(
     writer: &mut W,
 ) -> Result<Session<S>, RunFault>
     // Where the run ends well, a whole script was read and each line of it answered.
-    ensures ok { IfOk result (λ after. AreExact S.facts (held session target None) → (left former : Option S)
-        × AnswersAll S.facts (held session target None) (R.remaining reader.old) (R.remaining reader.new) (W.contents writer.old) (W.contents writer.new) (held after left former)) }
-    ensures exact { IfOk result (λ after. AreExact S.facts (held session target None) → IsExact S.facts after) }
+    ensures ok { IfOk result (λ after. AreExact S.facts (holding session target None) → (left former : Option S)
+        × AnswersAll S.facts (holding session target None) (R.remaining reader.old) (R.remaining reader.new)
+        (W.contents writer.old) (W.contents writer.new) (holding after left former)) }
+    ensures exact { IfOk result (λ after. AreExact S.facts (holding session target None) → IsExact S.facts after) }
     // Where reading fails, each line that had ended is answered; where memory runs out or the writer fails, the first ones.
-    ensures err { IfErr result (λ fault. AreExact S.facts (held session target None) → (after : Holding S)
-        × EndsBy fault S.facts (held session target None) (R.remaining reader.old) (R.remaining reader.new) (W.contents writer.old) (W.contents writer.new) after) }
+    ensures err { IfErr result (λ fault. AreExact S.facts (holding session target None) → (after : Holding S)
+        × EndsBy fault S.facts (holding session target None) (R.remaining reader.old) (R.remaining reader.new)
+        (W.contents writer.old) (W.contents writer.new) after) }
 {
     let mut session = session;
     let mut target = target;
@@ -96,13 +98,15 @@ pub fn run_in<S: Store, R: Read, W: Write>(
     writer: &mut W,
 ) -> Result<(), RunFault>
     // Where the run ends well, a whole script was read and each line of it answered.
-    ensures ok { OnOk result (AreExact S.facts (held session.old target.old former.old)
-        → AnswersAll S.facts (held session.old target.old former.old) (R.remaining reader.old) (R.remaining reader.new) (W.contents writer.old) (W.contents writer.new)
-        (held session.new target.new former.new)) }
+    ensures ok { OnOk result (AreExact S.facts (holding session.old target.old former.old)
+        → AnswersAll S.facts (holding session.old target.old former.old) (R.remaining reader.old)
+        (R.remaining reader.new) (W.contents writer.old) (W.contents writer.new)
+        (holding session.new target.new former.new)) }
     // Where reading fails, each line that had ended is answered; where memory runs out or the writer fails, the first ones.
-    ensures err { IfErr result (λ fault. AreExact S.facts (held session.old target.old former.old)
-        → EndsBy fault S.facts (held session.old target.old former.old) (R.remaining reader.old) (R.remaining reader.new) (W.contents writer.old) (W.contents writer.new)
-        (held session.new target.new former.new)) }
+    ensures err { IfErr result (λ fault. AreExact S.facts (holding session.old target.old former.old)
+        → EndsBy fault S.facts (holding session.old target.old former.old) (R.remaining reader.old)
+        (R.remaining reader.new) (W.contents writer.old) (W.contents writer.new)
+        (holding session.new target.new former.new)) }
 {
     run_in_reads(alloc, session, target, former, reader, writer, READS)
 }
@@ -118,13 +122,15 @@ pub fn run_in_reads<S: Store, R: Read, W: Write>(
     reads: u32,
 ) -> Result<(), RunFault>
     // Where the run ends well, a whole script was read and each line of it answered.
-    ensures ok { OnOk result (AreExact S.facts (held session.old target.old former.old)
-        → AnswersAll S.facts (held session.old target.old former.old) (R.remaining reader.old) (R.remaining reader.new) (W.contents writer.old) (W.contents writer.new)
-        (held session.new target.new former.new)) }
+    ensures ok { OnOk result (AreExact S.facts (holding session.old target.old former.old)
+        → AnswersAll S.facts (holding session.old target.old former.old) (R.remaining reader.old)
+        (R.remaining reader.new) (W.contents writer.old) (W.contents writer.new)
+        (holding session.new target.new former.new)) }
     // Where reading fails, each line that had ended is answered; where memory runs out or the writer fails, the first ones.
-    ensures err { IfErr result (λ fault. AreExact S.facts (held session.old target.old former.old)
-        → EndsBy fault S.facts (held session.old target.old former.old) (R.remaining reader.old) (R.remaining reader.new) (W.contents writer.old) (W.contents writer.new)
-        (held session.new target.new former.new)) }
+    ensures err { IfErr result (λ fault. AreExact S.facts (holding session.old target.old former.old)
+        → EndsBy fault S.facts (holding session.old target.old former.old) (R.remaining reader.old)
+        (R.remaining reader.new) (W.contents writer.old) (W.contents writer.new)
+        (holding session.new target.new former.new)) }
 {
     let mut answering = Answering {
         begun: Vec::new(alloc),
@@ -165,7 +171,8 @@ enum Given {
 fn read_piece<R: Read>(reader: &mut R, piece: &mut [u8]) -> Result<Given, RunFault>
     requires { 0 < length piece.old }
     ensures ok { IfOk result (λ given. Gives (R.remaining reader.old) (R.remaining reader.new) piece.new given) }
-    ensures err { IfErr result (λ fault. (fault ≡ RunFault.Read) × Keeps (R.remaining reader.old) (R.remaining reader.new)) }
+    ensures err { IfErr result
+        (λ fault. (fault ≡ RunFault.Read) × Keeps (R.remaining reader.old) (R.remaining reader.new)) }
 {
     match reader.read(piece) {
         Ok(0) => Ok(Given::End),
@@ -185,12 +192,17 @@ fn answer_piece<S: Store, W: Write>(
     piece: &[u8],
     writer: &mut W,
 ) -> Result<(), RunFault>
-    ensures ok { OnOk result (AnswersPiece S.facts (moment (held session.old target.old former.old) answering.old) piece.now
-        (moment (held session.new target.new former.new) answering.new) (W.contents writer.old) (W.contents writer.new)) }
+    ensures ok { OnOk result
+        (AnswersPiece S.facts (moment (holding session.old target.old former.old) answering.old) piece.now
+        (moment (holding session.new target.new former.new) answering.new) (W.contents writer.old)
+        (W.contents writer.new)) }
     ensures err { IfErr result (λ fault.
-        ((fault ≡ RunFault.Write) × Unsent S.facts (moment (held session.old target.old former.old) answering.old) piece.now (held session.new target.new former.new))
-        ⊎ ((fault ≡ RunFault.Memory) × StopsPiece S.facts (moment (held session.old target.old former.old) answering.old) piece.now
-        (held session.new target.new former.new) (W.contents writer.old) (W.contents writer.new))) }
+        ((fault ≡ RunFault.Write)
+        × Unsent S.facts (moment (holding session.old target.old former.old) answering.old) piece.now
+        (holding session.new target.new former.new))
+        ⊎ ((fault ≡ RunFault.Memory)
+        × StopsPiece S.facts (moment (holding session.old target.old former.old) answering.old) piece.now
+        (holding session.new target.new former.new) (W.contents writer.old) (W.contents writer.new))) }
 {
     let fed = answering.feed(alloc, session, target, former, piece);
     send(&mut answering.replies, writer)?;
@@ -209,11 +221,16 @@ fn answer_rest<S: Store, W: Write>(
     former: &mut Option<S>,
     writer: &mut W,
 ) -> Result<(), RunFault>
-    ensures ok { OnOk result (AnswersRest S.facts (moment (held session.old target.old former.old) answering.old) (held session.new target.new former.new) (W.contents writer.old) (W.contents writer.new)) }
+    ensures ok { OnOk result
+        (AnswersRest S.facts (moment (holding session.old target.old former.old) answering.old)
+        (holding session.new target.new former.new) (W.contents writer.old) (W.contents writer.new)) }
     ensures err { IfErr result (λ fault.
-        ((fault ≡ RunFault.Write) × Unsent S.facts (moment (held session.old target.old former.old) answering.old) [] (held session.new target.new former.new))
-        ⊎ ((fault ≡ RunFault.Memory) × StopsRest S.facts (moment (held session.old target.old former.old) answering.old)
-        (held session.new target.new former.new) (W.contents writer.old) (W.contents writer.new))) }
+        ((fault ≡ RunFault.Write)
+        × Unsent S.facts (moment (holding session.old target.old former.old) answering.old) []
+        (holding session.new target.new former.new))
+        ⊎ ((fault ≡ RunFault.Memory)
+        × StopsRest S.facts (moment (holding session.old target.old former.old) answering.old)
+        (holding session.new target.new former.new) (W.contents writer.old) (W.contents writer.new))) }
 {
     let ended = answering.end(alloc, session, target, former);
     send(&mut answering.replies, writer)?;

@@ -47,7 +47,8 @@ pub(crate) fn three<A: Operand, B: Operand, C: Operand, R, F: FnOnce(A, B, C) ->
     make: F,
 ) -> Result<R, Fault>
     requires { F.IsAlwaysCallable make }
-    ensures { Makes3 A.spelled B.spelled C.spelled (λ a b c r. F.post make a b c r) (map (λ w. w.now) words.now) result }
+    ensures { Makes3 A.spelled B.spelled C.spelled (λ a b c r. F.post make a b c r)
+        (map (λ w. w.now) words.now) result }
 {
     let [a, b, c] = words else {
         return Err(Fault::BadCommand);
@@ -64,7 +65,8 @@ pub(crate) fn four<
     F: FnOnce(A, B, C, D) -> R + Drop,
 >(words: &[&[u8]], make: F) -> Result<R, Fault>
     requires { F.IsAlwaysCallable make }
-    ensures { Makes4 A.spelled B.spelled C.spelled D.spelled (λ a b c d r. F.post make a b c d r) (map (λ w. w.now) words.now) result }
+    ensures { Makes4 A.spelled B.spelled C.spelled D.spelled (λ a b c d r. F.post make a b c d r)
+        (map (λ w. w.now) words.now) result }
 {
     let [a, b, c, d] = words else {
         return Err(Fault::BadCommand);
@@ -108,7 +110,8 @@ pub(crate) fn three_and_bytes<
     F: FnOnce(A, B, C, Bytes) -> R + Drop,
 >(alloc: Global, words: &[&[u8]], make: F) -> Result<R, Fault>
     requires { F.IsAlwaysCallable make }
-    ensures { Keeps3 A.spelled B.spelled C.spelled (λ a b c bs r. F.post make a b c bs r) (map (λ w. w.now) words.now) result }
+    ensures { Keeps3 A.spelled B.spelled C.spelled (λ a b c bs r. F.post make a b c bs r)
+        (map (λ w. w.now) words.now) result }
 {
     let [a, b, c, last] = words else {
         return Err(Fault::BadCommand);

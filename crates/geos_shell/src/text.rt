@@ -1,4 +1,4 @@
-//! The texts of replies. Where memory is wanting, a part of a text may stand behind what was there.
+//! The texts of replies. Where memory runs out, a part of a text may stand behind what was there.
 #![tactic(auto, using(crate::proofs::Extending::extending), unfolding(geos_model::specs::Script::reply_text))]
 
 ghost use Rattle.std.specs.Prelude.{◌≡◌, ◌++◌, ◌∷◌, OnOk, OnErr, codes, map};

@@ -4,7 +4,7 @@ ghost use Rattle.geos_model.specs.Script.{block, bytes as spelled_bytes, chunk, 
 ghost use Rattle.geos_model.specs.declared.command.Command.TheVariants as commands;
 ghost use Rattle.geos_model.specs.declared.command.Edit.TheVariants as edits;
 ghost use Rattle.geos_shell.specs.Making.{MakesCommand, ReadsRows, named_from};
-ghost use Rattle.geos_shell.specs.Reading.{Reads, command_has_bytes};
+ghost use Rattle.geos_shell.specs.Reading.{ReadsAs, command_has_bytes};
 
 use crate::operands::{Operand, bytes, spells_bytes};
 use crate::shapes::{four, none, one, one_and_bytes, three, three_and_bytes, two, two_and_bytes};
@@ -13,7 +13,7 @@ use std::alloc::Global;
 
 /// The command that a name and its operands are.
 pub(crate) fn command_of(alloc: Global, name: &[u8], words: &[&[u8]]) -> Result<Command, Fault>
-    ensures { Reads command_has_bytes (named_from 0 name.now (map (λ w. w.now) words.now)) result }
+    ensures { ReadsAs command_has_bytes (named_from 0 name.now (map (λ w. w.now) words.now)) result }
 {
     if let Some(edit) = block_edit(alloc, name, words) {
         return edit.map(Command::Edit);
@@ -175,7 +175,10 @@ fn chain_or_lock(name: &[u8], words: &[&[u8]]) -> Option<Result<Command, Fault>>
 
 /// A name, what stands before it, and whether that replaces what stands there.
 fn add_name(alloc: Global, words: &[&[u8]]) -> Result<Edit, Fault>
-    ensures { MakesCommand commands.Edit (with_5 block chunk spelled_bytes spelled_bytes is_set (λ b c name part replace. commands.Edit (edits.AddName b c name part replace)) (map (λ w. w.now) words.now)) result }
+    ensures { MakesCommand commands.Edit
+        (with_5 block chunk spelled_bytes spelled_bytes is_set
+        (λ b c name part replace. commands.Edit (edits.AddName b c name part replace))
+        (map (λ w. w.now) words.now)) result }
 {
     let [block, chunk, name, part, replace] = words else {
         return Err(Fault::BadCommand);

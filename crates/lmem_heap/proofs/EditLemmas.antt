@@ -7,7 +7,7 @@ use Rattle.raw_region.proofs.Puts.{put_is, drop-put, drop-put_past, length-put}
 use Rattle.lmem_heap.specs.Pieces.{word_in, entry}
 use Rattle.std.proofs.lemmas.List.Edits.{length-between, get_or-between}
 use Rattle.std.proofs.lemmas.Bool.{cases_lt, cases_eq}
-use Rattle.lmem_heap.specs.Edits.{Same, IsSet, IsSlid, IsZeroed, IsSized, IsCopied, IsLow, IsEntryLowered}
+use Rattle.lmem_heap.specs.Edits.{Same, IsSet, IsSlid, IsZeroed, IsSized, IsRangeCopied, IsLow, IsEntryLowered}
 
 -- ---- the bytes of a region one by one, after a run of them was written over
 
@@ -131,7 +131,7 @@ sized_is xs us ys p size n more less head = elim (cases_lt size n) [
 ]
 
 -- they are copied
-pub copied_is : (xs us ys : List ℕ) (p q size n : ℕ) → size ≤ n → IsSlid xs us (p + 2) (q + 2) size → IsZeroed us ys (q + 2 + size) (n - size) → IsCopied xs ys p q size n
+pub copied_is : (xs us ys : List ℕ) (p q size n : ℕ) → size ≤ n → IsSlid xs us (p + 2) (q + 2) size → IsZeroed us ys (q + 2 + size) (n - size) → IsRangeCopied xs ys p q size n
 copied_is xs us ys p q size n le slid z = record {
   long = z.long ∙ slid.long;
   moved = λ k l. z.before (q + 2 + k) (omega arith) ∙ slid.moved k l;

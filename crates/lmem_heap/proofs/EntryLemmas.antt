@@ -7,7 +7,7 @@ use Rattle.geos_model.proofs.Table.{slot_space}
 use Rattle.lmem_heap.specs.declared.space.Space.{Space}
 use Rattle.lmem_heap.specs.Pieces.{word_in, entry, piece_space, Piece, Used, Free, size_head, AllShaped, IsFresh, spaces, used, frees, Points, place_of}
 use Rattle.lmem_heap.specs.Edits.{Same, IsSet, IsZeroed}
-use Rattle.lmem_heap.specs.Tiled.{IsTiled, chunk_under, chunks_in, chunk_at, table_end}
+use Rattle.lmem_heap.specs.Tiled.{IsTiled, chunk_under, chunks_in, chunk_from, table_end}
 use Rattle.lmem_heap.specs.Space.{AreSpare, IsOther, IsChain, HasPieces, IsWellFormedBut, IsWellFormed, IsDetached, IsChanged, HasFree, HasNext}
 use Rattle.lmem_heap.proofs.EditLemmas.{word_kept, entry_kept, entry_set, entry_other, set_before, set_behind, same_same}
 use Rattle.lmem_heap.proofs.PieceLemmas.{lies_end, shaped_split, fresh_split, used_le, lies_kept, points_kept, shaped_more}
@@ -411,7 +411,7 @@ module _ (xs ys : List ℕ) (t u low : ℕ) (cs : List Piece) (tiled : IsTiled x
       chunks_by ys u (old ++ none) (omega (arith, length-append old none)) (λ k l. elim (cases_lt k t) [
         | inl below ↦
             get_or_append_left old none None k (omega arith) ∙ (chunk_in xs t k below ∙ (tiled_chunk xs t low cs tiled k below
-            ∙ (ap (λ (e : ℕ). chunk_at k e cs) (sym (grown_entry k below)) ∙ sym (tiled_chunk ys u low cs grown k l))))
+            ∙ (ap (λ (e : ℕ). chunk_from k e cs) (sym (grown_entry k below)) ∙ sym (tiled_chunk ys u low cs grown k l))))
         | inr above ↦
             get_or-append_right old none t k None count above
             ∙ (get_or-replicate (u - t) (k - t) None None (omega arith) ∙ sym (ap (chunk_under ys) (grown_new k above l) ∙ under_dead ys 0 (omega arith)))

@@ -11,7 +11,7 @@ use Rattle.lmem_heap.specs.declared.space.Space.{Space}
 use Rattle.lmem_heap.specs.Pieces.{word_in, entry}
 use Rattle.lmem_heap.specs.Tiled.{chunk_under, chunks_in}
 use Rattle.lmem_heap.specs.Space.{IsWellFormed, IsRunOf}
-use Rattle.lmem_heap.specs.Stored.{Stored, store_of, offsets_in, IsStored}
+use Rattle.lmem_heap.specs.Stored.{Stored, store_of, offsets_in, IsStoredHeap}
 use Rattle.lmem_heap.specs.LendsChunk.{with_chunk}
 use Rattle.lmem_heap.proofs.TiledLemmas.{under_piece, under_dead}
 use Rattle.lmem_heap.proofs.EntryLemmas.{IsLivePiece, live_piece}
@@ -33,7 +33,7 @@ none_bytes : (b : Bool) → length {A = ℕ} (unwrap_or (if b then None else Som
 none_bytes true = refl
 none_bytes false = refl
 
-module _ (s : Space) (m : Stored) (i from size : ℕ) (stored : IsStored s) (is : store_of s.region s.slots ≡ m) (slot : i < length m.chunks) (run : IsRunOf s.region i from size) where
+module _ (s : Space) (m : Stored) (i from size : ℕ) (stored : IsStoredHeap s) (is : store_of s.region s.slots ≡ m) (slot : i < length m.chunks) (run : IsRunOf s.region i from size) where
   within : i < s.slots
   within = in_table s m i stored is slot
 
@@ -108,7 +108,7 @@ module _ (s : Space) (m : Stored) (i from size : ℕ) (stored : IsStored s) (is 
       | inr dead ↦ ap (λ (y : List ℕ). offsets_in y s.slots) (same dead) ∙ v.offsets
     ]
 
-    pub over_stored : IsStored (record { region = ys; slots = s.slots; low = s.low; head = s.head; total = s.total })
+    pub over_stored : IsStoredHeap (record { region = ys; slots = s.slots; low = s.low; head = s.head; total = s.total })
     over_stored =
         let b = unwrap_or (get_or m.chunks i None) [] in let u : Space = record { region = ys; slots = s.slots; low = s.low; head = s.head; total = s.total } in
         stored_written s u i (put b at ws) stored over_well_formed within refl (over_chunks ∙ ap (λ (x : List (Option (List ℕ))). set x i (Some (put b at ws))) (sym v.chunks))
@@ -123,20 +123,20 @@ slice-slice xs from size at n le inside =
     ∙ (sym (get_or-between xs from (from + size) (at + k) 0 (omega arith)) ∙ sym (get_or-between b at (at + n) k 0 (omega arith)))))
 
 -- a part of a slot's chunk
-pub run_part : (s : Space) (m : Stored) (i from size at n : ℕ) → IsStored s → store_of s.region s.slots ≡ m → i < length m.chunks → IsRunOf s.region i from size → at + n ≤ size
+pub run_part : (s : Space) (m : Stored) (i from size at n : ℕ) → IsStoredHeap s → store_of s.region s.slots ≡ m → i < length m.chunks → IsRunOf s.region i from size → at + n ≤ size
     → slice_range s.region (from + at) (from + at + n) ≡ slice_range (unwrap_or (get_or m.chunks i None) []) at (at + n)
 run_part s m i from size at n stored is slot run inside =
     slice-slice s.region from size at n (let long = stored.well_formed.held.tiled.long in omega (arith, run.ends)) inside ∙ ap (λ (b : List ℕ). slice_range b at (at + n)) (run_bytes s m i from size stored is slot run)
 
 -- the chunk is lent, and comes back with the bytes w
-module _ (s : Space) (m : Stored) (i from size : ℕ) (stored : IsStored s) (is : store_of s.region s.slots ≡ m) (slot : i < length m.chunks) (run : IsRunOf s.region i from size) (some : is_some (get_or m.chunks i None) ≡ true) (w : List ℕ) where
+module _ (s : Space) (m : Stored) (i from size : ℕ) (stored : IsStoredHeap s) (is : store_of s.region s.slots ≡ m) (slot : i < length m.chunks) (run : IsRunOf s.region i from size) (some : is_some (get_or m.chunks i None) ≡ true) (w : List ℕ) where
   there : put s.region from (take size w) ≡ put s.region (from + 0) (take size w)
   there = let at : from ≡ from + 0 = omega arith in ap (λ (k : ℕ). put s.region k (take size w)) at
 
   range : 0 + length (take size w) ≤ size
   range = omega (arith, length-take size w)
 
-  pub lent_stored : IsStored (record { region = put s.region from (take size w); slots = s.slots; low = s.low; head = s.head; total = s.total })
+  pub lent_stored : IsStoredHeap (record { region = put s.region from (take size w); slots = s.slots; low = s.low; head = s.head; total = s.total })
   lent_stored = over_stored s m i from size stored is slot run some (put s.region from (take size w)) 0 (take size w) range there
 
   pub lent_shows : store_of (put s.region from (take size w)) s.slots ≡ with_chunk m i w

@@ -5,9 +5,9 @@ use Rattle.std.proofs.lemmas.List.{set-set}
 use Rattle.geos_model.specs.Bytes.{resized}
 use Rattle.lmem_heap.specs.declared.space.Space.{Space}
 use Rattle.lmem_heap.specs.Pieces.{word_in, entry, piece_space, Piece, Used, Free, size_head, Lies, IsFresh, spaces}
-use Rattle.lmem_heap.specs.Edits.{Same, IsSet, IsCopied}
+use Rattle.lmem_heap.specs.Edits.{Same, IsSet, IsRangeCopied}
 use Rattle.lmem_heap.specs.Tiled.{IsTiled, chunk_under, chunks_in}
-use Rattle.lmem_heap.specs.Space.{IsSpareAt, IsOther, HasPieces, IsWellFormedBut, IsDetached, IsUnmoved, IsReady, IsResized}
+use Rattle.lmem_heap.specs.Space.{IsSpareAt, IsOther, HasPieces, IsWellFormedBut, IsDetached, IsUnmoved, IsReadyToTake, IsResized}
 use Rattle.lmem_heap.proofs.EditLemmas.{word_kept, entry_kept, entry_set, entry_other, set_before, set_behind}
 use Rattle.lmem_heap.proofs.PieceLemmas.{lies_split, shaped_split, fresh_append, fresh_split}
 use Rattle.lmem_heap.proofs.TiledLemmas.{piece_chunk, piece_others, chunk_in, shaped_fresh, IsEdit, edited_set, edited_unmoved, spare_bounds, spare_parts, spare_right, spare_edited, Each, each_all, each_other, IsLinkKept}
@@ -83,20 +83,20 @@ module _ (s : Space) (q room : ℕ) (f : IsDetached s q room) (ys : List ℕ) (l
     chunks = edited_unmoved s.region ys s.slots s.slots s.low q f.before (Free room ∷ []) (Free room ∷ []) f.after f.held.tiled f.place over_edit front_fresh back_fresh (omega arith);
   }
 
-pub copied_detached : {ys : List ℕ} {p size : ℕ} (s : Space) (q n : ℕ) → IsDetached s q (piece_space n) → IsCopied s.region ys p q size n → IsDetached (record { region = ys; slots = s.slots; low = s.low; head = s.head; total = s.total }) q (piece_space n)
+pub copied_detached : {ys : List ℕ} {p size : ℕ} (s : Space) (q n : ℕ) → IsDetached s q (piece_space n) → IsRangeCopied s.region ys p q size n → IsDetached (record { region = ys; slots = s.slots; low = s.low; head = s.head; total = s.total }) q (piece_space n)
 copied_detached {ys = ys} s q n f c = over_detached s q (piece_space n) f ys (c.long ∙ f.held.tiled.long) (record { at = λ j from to. c.before j to }) (record { at = λ j from to. c.behind j (omega arith) })
 
-pub copied_unmoved : {ys : List ℕ} {p size : ℕ} (s : Space) (q n : ℕ) → IsDetached s q (piece_space n) → IsCopied s.region ys p q size n → IsUnmoved s (record { region = ys; slots = s.slots; low = s.low; head = s.head; total = s.total })
+pub copied_unmoved : {ys : List ℕ} {p size : ℕ} (s : Space) (q n : ℕ) → IsDetached s q (piece_space n) → IsRangeCopied s.region ys p q size n → IsUnmoved s (record { region = ys; slots = s.slots; low = s.low; head = s.head; total = s.total })
 copied_unmoved {ys = ys} s q n f c = over_unmoved s q (piece_space n) f ys (c.long ∙ f.held.tiled.long) (record { at = λ j from to. c.before j to }) (record { at = λ j from to. c.behind j (omega arith) })
 
 -- the bytes of a chunk
-module _ {detached : ℕ} (s : Space) (k : IsWellFormedBut s detached) (ys : List ℕ) (i p q size n : ℕ) (g : IsLivePiece s k i p size) (within : i < s.slots) (copied : IsCopied s.region ys p q size n) where
+module _ {detached : ℕ} (s : Space) (k : IsWellFormedBut s detached) (ys : List ℕ) (i p q size n : ℕ) (g : IsLivePiece s k i p size) (within : i < s.slots) (copied : IsRangeCopied s.region ys p q size n) where
   bytes_at : (j : ℕ) → j < size → get_or s.region (p + 2 + j) 0 ≡ get_or g.bytes j 0
   bytes_at j l =
       let parts = (lies_split size_head s.region s.low g.before (Used i g.bytes ∷ g.after) 65520 g.held.tiled.lies).1 in
       ap (λ (m : ℕ). get_or s.region (m + 2 + j) 0) g.place ∙ parts.0.bytes j (omega (arith, g.size))
 
-  pub ready_bytes : chunks_in ys s.slots ≡ chunks_in s.region s.slots → IsReady (record { region = ys; slots = s.slots; low = s.low; head = s.head; total = s.total }) i q n
+  pub ready_bytes : chunks_in ys s.slots ≡ chunks_in s.region s.slots → IsReadyToTake (record { region = ys; slots = s.slots; low = s.low; head = s.head; total = s.total }) i q n
   ready_bytes same = λ j l.
       let old : get_or (chunks_in ys s.slots) i None ≡ Some g.bytes
       = ap (λ (cs : List (Option (List ℕ))). get_or cs i None) same ∙ (chunk_in s.region s.slots i within ∙ piece_chunk s.region s.slots s.low (g.before ++ (Used i g.bytes ∷ g.after)) g.held.tiled i g.before g.bytes g.after refl) in
@@ -108,7 +108,7 @@ module _ {detached : ℕ} (s : Space) (k : IsWellFormedBut s detached) (ys : Lis
 -- ---- the pieces are exchanged
 
 module _ (s : Space) (i p q size n room h : ℕ) (f : IsDetached s q room) (g : IsLivePiece s (detached_well_formed f) i p size) (within : i < s.slots) (some : 0 < n) (takes : room ≡ piece_space n)
-    (ready : IsReady s i q n) (v1 y1 v2 y2 : List ℕ) (head1 : IsSet s.region v1 p (piece_space size + 1)) (none : IsSet v1 y1 h 0) (head2 : IsSet y1 v2 q n) (own : IsSet v2 y2 h q) (here : h ≡ 16 + 2 * i) where
+    (ready : IsReadyToTake s i q n) (v1 y1 v2 y2 : List ℕ) (head1 : IsSet s.region v1 p (piece_space size + 1)) (none : IsSet v1 y1 h 0) (head2 : IsSet y1 v2 q n) (own : IsSet v2 y2 h q) (here : h ≡ 16 + 2 * i) where
   abbrev s1 : Space
   s1 = record { region = y1; slots = s.slots; low = s.low; head = s.head; total = s.total - piece_space size }
 

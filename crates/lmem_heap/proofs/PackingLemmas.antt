@@ -1,8 +1,8 @@
 -- The walk that packs the chunks, run by run, and how all move up together then.
 use Rattle.std.proofs.Common.{◌≡◌, ◌≢◌, ℕ, ◌+◌, ◌-◌, ◌*◌, ◌/◌, ◌%◌, ◌<◌, ◌≤◌, List, [], ◌∷◌, ◌++◌, length, refl, sym, ap, subst, ◌∙◌, append_assoc, arith, inl, inr}
-use Rattle.lmem_heap.specs.Pieces.{word_in, entry, piece_space, Piece, Used, Free, size_head, handle_head, space, IsAt, Lies, Points, AllShaped, AreDistinct, used, spaces, place_to, size_of, IsFresh, frees, place_of}
+use Rattle.lmem_heap.specs.Pieces.{word_in, entry, piece_space, Piece, Used, Free, size_head, handle_head, space, IsPieceAt, Lies, Points, AllShaped, ArePiecesDistinct, used, spaces, place_to, size_of, IsFresh, frees, place_of}
 use Rattle.lmem_heap.specs.Edits.{IsReadyToPack, IsRunPacked, IsSlid, IsPacked}
-use Rattle.lmem_heap.specs.Tiled.{IsThreaded, IsTiled, AreThreaded, IsCompacted, chunk_at}
+use Rattle.lmem_heap.specs.Tiled.{IsThreaded, IsTiled, AreThreaded, IsCompacted, chunk_from}
 use Rattle.lmem_heap.proofs.EditLemmas.{entry_word, entry_kept}
 use Rattle.lmem_heap.proofs.PieceLemmas.{fits_in, spaces_append, lies_end, lies_append, points_append, shaped_split, fresh_split, fresh_used, used_joined, distinct_at, head_within, lies_kept, points_kept, shaped_append, used_le, shaped_more, distinct_behind, distinct_before, points_apart, points_same, used_fresh, lies_slid, points_slid}
 use Rattle.std.proofs.lemmas.List.{append-nil}
@@ -39,12 +39,12 @@ module _ (old : List ℕ) (start delta : ℕ) (cs : List Piece) (swapped : IsRea
       run_room = omega (arith, swapped.room, ap spaces parts, spaces_append r.run (Used i b ∷ used after), lies_end size_head xs start r.run p r.lies)
 
       -- the chunk that comes is one more of them
-      run_next : (ys : List ℕ) → IsAt handle_head xs p (Used i b) → Lies handle_head xs (p + piece_space (length b)) after 65520 → Points size_of xs (p + piece_space (length b)) after
+      run_next : (ys : List ℕ) → IsPieceAt handle_head xs p (Used i b) → Lies handle_head xs (p + piece_space (length b)) after 65520 → Points size_of xs (p + piece_space (length b)) after
           → IsThreaded xs ys i p (length b) (p + delta) → IsRunPacked old ys start delta cs (p + piece_space (length b))
       run_next ys at waiting sizes h =
           let c = Used i b in let end = p + piece_space (length b) in let place = lies_end size_head xs start r.run p r.lies in let last = lies_end handle_head xs end after 65520 waiting in
           let shape = shapes in let below = shape.1.0.1 in
-          let fresh = distinct_at r.run i b (used after) (subst AreDistinct parts swapped.distinct) in
+          let fresh = distinct_at r.run i b (used after) (subst ArePiecesDistinct parts swapped.distinct) in
           let others : (j : ℕ) → j ≢ i → 18 + 2 * j ≤ start → entry ys j ≡ entry xs j = λ j ne in_table. h.others j ne (omega arith) in
           let front : Lies size_head ys start r.run p = lies_kept size_head xs ys start start p (record { at = λ k u v. h.before.at k (omega arith) v }) start r.run p shape.0 r.lies (omega arith) (omega arith) in
           let here : Lies size_head ys p (c ∷ []) end = (record { head = h.head; bytes = λ k l. h.behind.at (p + 2 + k) (omega arith) (omega arith) ∙ at.bytes k l }, refl) in
@@ -213,7 +213,7 @@ module _ (old : List ℕ) (low delta : ℕ) (pieces : List Piece) where
           lies = w.coming;
           points = w.sizes;
           shaped = shaped_more low p w.rest (omega (arith, turn_low, w.behind)) w.shaped;
-          distinct = distinct_behind w.done (used w.rest) (subst AreDistinct (sym w.whole) swapped.distinct);
+          distinct = distinct_behind w.done (used w.rest) (subst ArePiecesDistinct (sym w.whole) swapped.distinct);
           room = omega (arith, turn_sum, turn_up);
         }
 
@@ -223,7 +223,7 @@ module _ (old : List ℕ) (low delta : ℕ) (pieces : List Piece) where
             let le = turn_low in let back = w.behind in let up = turn_up in let past = lies_end size_head ys p r.run end r.lies in let place = lies_end size_head xs low w.done q w.packed in
             let parts : used w.rest ≡ r.run ++ used r.rest = sym (ap used r.whole) ∙ (used_joined r.run r.rest ∙ ap (λ (l : List Piece). l ++ used r.rest) r.chunks) in
             let join : (w.done ++ r.run) ++ used r.rest ≡ used pieces = append_assoc w.done r.run (used r.rest) ∙ (ap (λ (l : List Piece). w.done ++ l) (sym parts) ∙ w.whole) in
-            let apart : AreDistinct ((w.done ++ r.run) ++ used r.rest) = subst AreDistinct (sym join) swapped.distinct in
+            let apart : ArePiecesDistinct ((w.done ++ r.run) ++ used r.rest) = subst ArePiecesDistinct (sym join) swapped.distinct in
             let shape = shaped_split low r.run r.rest (subst (AllShaped low) (sym r.whole) w.shaped) in
             let entries : (j : ℕ) → 18 + 2 * j ≤ low → entry zs j ≡ entry ys j = λ j in_table. entry_kept ys zs 0 q j (record { at = λ k u v. slid.before k v }) (omega arith) (omega arith) in
             let others : (j : ℕ) → IsFresh j r.run → 18 + 2 * j ≤ low → entry zs j ≡ entry xs j = λ j fresh in_table. entries j in_table ∙ r.others j fresh (omega arith) in
@@ -292,7 +292,7 @@ shaped_used limit [] h = tt
 shaped_used limit (Used i b ∷ cs) h = (h.0, shaped_used limit cs h.1)
 shaped_used limit (Free s ∷ cs) h = shaped_used limit cs h.1
 
-pub distinct_used : (cs : List Piece) → AreDistinct cs → AreDistinct (used cs)
+pub distinct_used : (cs : List Piece) → ArePiecesDistinct cs → ArePiecesDistinct (used cs)
 distinct_used [] h = tt
 distinct_used (Used i b ∷ cs) h = (used_fresh i cs h.0, distinct_used cs h.1)
 distinct_used (Free s ∷ cs) h = distinct_used cs h
@@ -333,8 +333,8 @@ module _ (xs : List ℕ) (t low total : ℕ) (cs : List Piece) (tiled : IsTiled 
         chunks = same_chunks xs ws t low high cs (used cs) tiled after (λ j l. elim (slot_in j cs) [
           | inl h ↦
               let other = (piece_others xs t low cs tiled j h.before h.bytes h.after h.is).0 in
-              at_used j (entry ws j) cs ∙ (ap (chunk_at j (entry ws j)) (sym h.is) ∙ (at_slot j (entry ws j) h.bytes h.before h.after other ∙ (sym (at_slot j (entry xs j) h.bytes h.before h.after other) ∙ ap (chunk_at j (entry xs j)) h.is)))
-          | inr fresh ↦ ap (λ (e : ℕ). chunk_at j e (used cs)) (same j l (used_fresh j cs fresh)) ∙ at_used j (entry xs j) cs
+              at_used j (entry ws j) cs ∙ (ap (chunk_from j (entry ws j)) (sym h.is) ∙ (at_slot j (entry ws j) h.bytes h.before h.after other ∙ (sym (at_slot j (entry xs j) h.bytes h.before h.after other) ∙ ap (chunk_from j (entry xs j)) h.is)))
+          | inr fresh ↦ ap (λ (e : ℕ). chunk_from j e (used cs)) (same j l (used_fresh j cs fresh)) ∙ at_used j (entry xs j) cs
         ]);
         entries = λ j l fresh. same j l (used_fresh j cs fresh);
       }

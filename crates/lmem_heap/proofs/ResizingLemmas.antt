@@ -4,9 +4,9 @@ use Rattle.std.proofs.lemmas.Bool.{cases_lt}
 use Rattle.std.proofs.lemmas.List.{length-replicate, get_or-replicate, get_or_append_left, get_or-append_right, get_or-take}
 use Rattle.geos_model.specs.Bytes.{resized}
 use Rattle.lmem_heap.specs.declared.space.Space.{Space}
-use Rattle.lmem_heap.specs.Pieces.{word_in, entry, piece_space, Piece, Used, Free, size_head, Lies, Points, AllShaped, IsFresh, AreDistinct, frees, used, spaces, place_of}
+use Rattle.lmem_heap.specs.Pieces.{word_in, entry, piece_space, Piece, Used, Free, size_head, Lies, Points, AllShaped, IsFresh, ArePiecesDistinct, frees, used, spaces, place_of}
 use Rattle.lmem_heap.specs.Edits.{Same, IsSet, IsSized, IsSlid, AreLowered}
-use Rattle.lmem_heap.specs.Tiled.{chunks_in, IsTiled, chunk_at, table_end}
+use Rattle.lmem_heap.specs.Tiled.{chunks_in, IsTiled, chunk_from, table_end}
 use Rattle.lmem_heap.specs.Space.{AreSpare, IsOther, HasPieces, IsWellFormed, IsDetached, HasNext, IsResized, IsChain}
 use Rattle.lmem_heap.proofs.EditLemmas.{word_kept, entry_kept, set_before}
 use Rattle.lmem_heap.proofs.PieceLemmas.{spaces_append, lies_end, lies_split, shaped_split, used_le, lies_append, points_append, points_split, shaped_append, fresh_append, fresh_split, lies_kept, points_same, lies_slid}
@@ -51,7 +51,7 @@ module _ {detached : ℕ} (s : Space) (ys : List ℕ) (i p n : ℕ) (a : List Pi
     (within : i < s.slots) (some : 0 < n) (long : length ys ≡ 65520) (head : word_in ys p ≡ n)
     (front : (k : ℕ) → k < length b → k < n → get_or ys (p + 2 + k) 0 ≡ get_or s.region (p + 2 + k) 0) (zeros : (k : ℕ) → length b ≤ k → k < n → get_or ys (p + 2 + k) 0 ≡ 0)
     (before : Same s.region ys 0 p) (behind : Same s.region ys (p + (piece_space (length b) + spaces x)) 65520)
-    (rest : Lies size_head ys (p + piece_space n) y (p + (piece_space (length b) + spaces x))) (points : Points place_of ys (p + piece_space n) y) (shape : AllShaped (16 + 2 * s.slots) y) (distinct : AreDistinct y)
+    (rest : Lies size_head ys (p + piece_space n) y (p + (piece_space (length b) + spaces x))) (points : Points place_of ys (p + piece_space n) y) (shape : AllShaped (16 + 2 * s.slots) y) (distinct : ArePiecesDistinct y)
     (fresh_x : (j : ℕ) → IsFresh j x) (fresh_y : (j : ℕ) → IsFresh j y) where
   -- what is known of the piece
   parts : Lies size_head s.region (s.low + spaces a) (Used i b ∷ (x ++ d)) 65520
@@ -363,15 +363,15 @@ module _ (xs us vs ys : List ℕ) (t low room i end : ℕ) (a : List Piece) (b :
             omega (arith, same_entries j l, (lowered.each j l).dead (omega (arith, same_entries j l)));
       }
 
-  gap_chunk : (j : ℕ) → j < t → chunk_at j (entry ys j) (a ++ (Used i b ∷ d)) ≡ chunk_at j (entry xs j) (a ++ (Used i b ∷ d))
+  gap_chunk : (j : ℕ) → j < t → chunk_from j (entry ys j) (a ++ (Used i b ∷ d)) ≡ chunk_from j (entry xs j) (a ++ (Used i b ∷ d))
   gap_chunk j l = elim (slot_in j (a ++ (Used i b ∷ d))) [
     | inl h ↦
         let other = (piece_others xs t low (a ++ (Used i b ∷ d)) tiled j h.before h.bytes h.after h.is).0 in
-        ap (chunk_at j (entry ys j)) (sym h.is) ∙ (at_slot j (entry ys j) h.bytes h.before h.after other ∙ (sym (at_slot j (entry xs j) h.bytes h.before h.after other) ∙ ap (chunk_at j (entry xs j)) h.is))
+        ap (chunk_from j (entry ys j)) (sym h.is) ∙ (at_slot j (entry ys j) h.bytes h.before h.after other ∙ (sym (at_slot j (entry xs j) h.bytes h.before h.after other) ∙ ap (chunk_from j (entry xs j)) h.is))
     | inr fresh ↦
         let dead = tiled.covered j l fresh in
         let same : entry ys j ≡ entry xs j = (lowered.each j l).dead (omega (arith, same_entries j l)) ∙ same_entries j l in
-        ap (λ (e : ℕ). chunk_at j e (a ++ (Used i b ∷ d))) same
+        ap (λ (e : ℕ). chunk_from j e (a ++ (Used i b ∷ d))) same
   ]
 
   pub gap_chunks : chunks_in ys t ≡ chunks_in xs t

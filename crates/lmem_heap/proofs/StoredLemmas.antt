@@ -16,7 +16,7 @@ use Rattle.lmem_heap.specs.Pieces.{word_in, entry, piece_space, space, spaces, P
 use Rattle.lmem_heap.specs.Tiled.{chunk_under, chunks_in, offset_under, table_end}
 use Rattle.lmem_heap.specs.Space.{IsWellFormedBut, IsWellFormed}
 use Rattle.lmem_heap.specs.Slots.{space_in, need_in}
-use Rattle.lmem_heap.specs.Stored.{Stored, store_of, offsets_in, IsStored, IsApart, AreDisjoint, AreBehind, HoldsChunks, AreLast}
+use Rattle.lmem_heap.specs.Stored.{Stored, store_of, offsets_in, IsStoredHeap, IsChunkApart, AreStoredDisjoint, AreBehind, StoredHoldsChunks, AreLast}
 use Rattle.lmem_heap.proofs.TiledLemmas.{under_dead, chunk_in, length-chunks_in, under_piece}
 use Rattle.lmem_heap.proofs.EntryLemmas.{live_piece, size_live, size_dead, space_dead, total_small}
 use Rattle.lmem_heap.proofs.ChunkBytesLemmas.{offset_some, offset_none}
@@ -72,7 +72,7 @@ shown s m is = record {
 }
 
 -- what a table's number of slots tells
-module _ (s : Space) (m : Stored) (i : ℕ) (stored : IsStored s) (is : store_of s.region s.slots ≡ m) (l : i < length m.chunks) where
+module _ (s : Space) (m : Stored) (i : ℕ) (stored : IsStoredHeap s) (is : store_of s.region s.slots ≡ m) (l : i < length m.chunks) where
   pub in_table : i < s.slots
   in_table = omega (arith, (shown s m is).count)
 
@@ -82,12 +82,12 @@ module _ (s : Space) (m : Stored) (i : ℕ) (stored : IsStored s) (is : store_of
   pub chunk_shown : get_or m.chunks i None ≡ chunk_under s.region (entry s.region i)
   chunk_shown = ap (λ (cs : List (Option (List ℕ))). get_or cs i None) (sym (shown s m is).chunks) ∙ chunk_in s.region s.slots i in_table
 
-pub room_shown : (s : Space) (m : Stored) → IsStored s → store_of s.region s.slots ≡ m → need_in m.chunks ≤ 65520
+pub room_shown : (s : Space) (m : Stored) → IsStoredHeap s → store_of s.region s.slots ≡ m → need_in m.chunks ≤ 65520
 room_shown s m stored is =
     let v = shown s m is in let k = stored.well_formed in let table = k.held.tiled.table in
     omega (arith, total_small s k.pieces k.free k.held, stored.count, ap space_in v.chunks, v.count)
 
-pub space_shown : (s : Space) (m : Stored) → IsStored s → store_of s.region s.slots ≡ m → s.total ≡ space_in m.chunks
+pub space_shown : (s : Space) (m : Stored) → IsStoredHeap s → store_of s.region s.slots ≡ m → s.total ≡ space_in m.chunks
 space_shown s m stored is = stored.count ∙ ap space_in (shown s m is).chunks
 
 -- ---- an empty table
@@ -102,7 +102,7 @@ no_chunks s none = nil_of (chunks_in s.region s.slots) (length-chunks_in s.regio
 pub no_offsets : (s : Space) → s.slots ≡ 0 → offsets_in s.region s.slots ≡ []
 no_offsets s none = nil_of (offsets_in s.region s.slots) (length-offsets_in s.region s.slots ∙ none)
 
-pub stored_new : (s : Space) → IsWellFormed s → s.slots ≡ 0 → s.total ≡ 0 → IsStored s
+pub stored_new : (s : Space) → IsWellFormed s → s.slots ≡ 0 → s.total ≡ 0 → IsStoredHeap s
 stored_new s well_formed none empty = record { well_formed = well_formed; count = empty ∙ ap space_in (sym (no_chunks s none)) }
 
 -- ---- sizes
@@ -149,14 +149,14 @@ dead_space : (b : Bool) → slot_space (if b then None else Some []) ≡ 0
 dead_space true = refl
 dead_space false = refl
 
-pub stored_set : (s u : Space) (i : ℕ) (o : Option (List ℕ)) → IsStored s → IsWellFormed u → i < s.slots → chunks_in u.region u.slots ≡ set (chunks_in s.region s.slots) i o
-    → u.total + slot_space (chunk_under s.region (entry s.region i)) ≡ s.total + slot_space o → IsStored u
+pub stored_set : (s u : Space) (i : ℕ) (o : Option (List ℕ)) → IsStoredHeap s → IsWellFormed u → i < s.slots → chunks_in u.region u.slots ≡ set (chunks_in s.region s.slots) i o
+    → u.total + slot_space (chunk_under s.region (entry s.region i)) ≡ s.total + slot_space o → IsStoredHeap u
 stored_set s u i o stored well_formed l chunks total =
     let cs = chunks_in s.region s.slots in
     record { well_formed = well_formed; count = omega (arith, ap space_in chunks, sum_by-set slot_space cs i o None (omega (arith, length-chunks_in s.region s.slots)), ap slot_space (chunk_in s.region s.slots i l), stored.count) }
 
-pub stored_vacated : (s u : Space) (i e : ℕ) → IsStored s → IsWellFormed u → i < s.slots → chunks_in u.region u.slots ≡ set (chunks_in s.region s.slots) i (if e == 0 then None else Some [])
-    → u.total + slot_space (chunk_under s.region (entry s.region i)) ≡ s.total → IsStored u
+pub stored_vacated : (s u : Space) (i e : ℕ) → IsStoredHeap s → IsWellFormed u → i < s.slots → chunks_in u.region u.slots ≡ set (chunks_in s.region s.slots) i (if e == 0 then None else Some [])
+    → u.total + slot_space (chunk_under s.region (entry s.region i)) ≡ s.total → IsStoredHeap u
 stored_vacated s u i e stored well_formed l chunks total = stored_set s u i (if e == 0 then None else Some []) stored well_formed l chunks (omega (arith, dead_space (e == 0)))
 
 -- a chunk with no bytes takes nothing
@@ -187,7 +187,7 @@ module _ (s u : Space) (same : u.region ≡ s.region) (less : u.slots ≤ s.slot
     ])
   ]
 
-  pub stored_cut : IsStored s → IsWellFormed u → u.total ≡ s.total → chunks_in u.region u.slots ≡ take u.slots (chunks_in s.region s.slots) → IsStored u
+  pub stored_cut : IsStoredHeap s → IsWellFormed u → u.total ≡ s.total → chunks_in u.region u.slots ≡ take u.slots (chunks_in s.region s.slots) → IsStoredHeap u
   stored_cut stored well_formed total chunks =
       let cs = chunks_in s.region s.slots in
       record { well_formed = well_formed; count = total ∙ (stored.count ∙ (sym (space-same (take u.slots cs) cs (table_map-cut 2 16 cs u.slots cut_gaps)) ∙ ap space_in (sym chunks))) }
@@ -211,7 +211,7 @@ cut_trimmed s u m v well_formed less chunks last some =
 
 -- ---- a chunk is placed, or written
 
-module _ (s : Space) (m : Stored) (i : ℕ) (stored : IsStored s) (is : store_of s.region s.slots ≡ m) (l : i < length m.chunks) where
+module _ (s : Space) (m : Stored) (i : ℕ) (stored : IsStoredHeap s) (is : store_of s.region s.slots ≡ m) (l : i < length m.chunks) where
   the_slot : i < s.slots
   the_slot = in_table s m i stored is l
 
@@ -247,8 +247,8 @@ slot_space-live None w live same = cc
 slot_space-live (Some b) w live same = ap space_of same
 
 -- a chunk has other bytes, as many
-pub stored_written : (s u : Space) (i : ℕ) (w : List ℕ) → IsStored s → IsWellFormed u → i < s.slots → u.total ≡ s.total → chunks_in u.region u.slots ≡ set (chunks_in s.region s.slots) i (Some w)
-    → is_some (get_or (chunks_in s.region s.slots) i None) ≡ true → length w ≡ length (unwrap_or (get_or (chunks_in s.region s.slots) i None) []) → IsStored u
+pub stored_written : (s u : Space) (i : ℕ) (w : List ℕ) → IsStoredHeap s → IsWellFormed u → i < s.slots → u.total ≡ s.total → chunks_in u.region u.slots ≡ set (chunks_in s.region s.slots) i (Some w)
+    → is_some (get_or (chunks_in s.region s.slots) i None) ≡ true → length w ≡ length (unwrap_or (get_or (chunks_in s.region s.slots) i None) []) → IsStoredHeap u
 stored_written s u i w stored well_formed l total chunks live same =
     let here = chunk_in s.region s.slots i l in
     stored_set s u i (Some w) stored well_formed l chunks
@@ -256,7 +256,7 @@ stored_written s u i w stored well_formed l total chunks live same =
 
 -- ---- places
 
-module _ (s : Space) (m : Stored) (i : ℕ) (stored : IsStored s) (is : store_of s.region s.slots ≡ m) (l : i < length m.chunks) (place : Option ℕ) (at : place ≡ offset_under (entry s.region i)) where
+module _ (s : Space) (m : Stored) (i : ℕ) (stored : IsStoredHeap s) (is : store_of s.region s.slots ≡ m) (l : i < length m.chunks) (place : Option ℕ) (at : place ≡ offset_under (entry s.region i)) where
   live_size : 1 < entry s.region i → length (unwrap_or (get_or m.chunks i None) []) ≡ word_in s.region (entry s.region i)
   live_size live = sym (bytes_are s m i stored is l) ∙ size_is s i stored.well_formed (in_table s m i stored is l) live
 
@@ -302,7 +302,7 @@ same_slot i j b c same = cc
 space_some : (n : ℕ) → 0 < n → space_of n ≡ piece_space n
 space_some n some = cond-false (n == 0) _ _ (ne_eqb n 0 (λ none. omega (arith, none)))
 
-module _ (s : Space) (stored : IsStored s) where
+module _ (s : Space) (stored : IsStoredHeap s) where
   -- what holds of no place, and of each piece's, holds of each slot's
   each_slot : (P : Option ℕ → Type 0) (i : ℕ) → P None → (i < s.slots → 1 < entry s.region i → P (Some (entry s.region i + 2))) → P (get_or (offsets_in s.region s.slots) i None)
   each_slot P i none some = elim (cases_lt i s.slots) [
@@ -321,7 +321,7 @@ module _ (s : Space) (stored : IsStored s) where
       let n = word_in s.region (entry s.region i) in let f = live_piece s stored.well_formed i (entry s.region i) n l live refl refl in
       ap (λ (o : Option (List ℕ)). space_of (length (unwrap_or o []))) (chunk_in s.region s.slots i l) ∙ (ap space_of (size_is s i stored.well_formed l live) ∙ space_some n f.some)
 
-  two_apart : (i j : ℕ) → i ≢ j → i < s.slots → 1 < entry s.region i → j < s.slots → 1 < entry s.region j → IsApart (entry s.region i + 2) (chunk_of i) (entry s.region j + 2) (chunk_of j)
+  two_apart : (i j : ℕ) → i ≢ j → i < s.slots → 1 < entry s.region i → j < s.slots → 1 < entry s.region j → IsChunkApart (entry s.region i + 2) (chunk_of i) (entry s.region j + 2) (chunk_of j)
   two_apart i j ne l live m other =
       let f = live_piece s stored.well_formed i (entry s.region i) (word_in s.region (entry s.region i)) l live refl refl in
       let g = live_piece s stored.well_formed j (entry s.region j) (word_in s.region (entry s.region j)) m other refl refl in
@@ -330,17 +330,17 @@ module _ (s : Space) (stored : IsStored s) where
         | inr behind ↦ inr (omega (arith, behind, f.place, g.place, space_there j m other, ap piece_space g.size))
       ]
 
-  disjoint : AreDisjoint (store_of s.region s.slots)
+  disjoint : AreStoredDisjoint (store_of s.region s.slots)
   disjoint i j ne =
-      each_slot (λ o. IfSome o (λ a. IfSome (get_or (offsets_in s.region s.slots) j None) (λ b. IsApart a (chunk_of i) b (chunk_of j)))) i tt
-      (λ l live. each_slot (λ o. IfSome o (λ b. IsApart (entry s.region i + 2) (chunk_of i) b (chunk_of j))) j tt (λ m other. two_apart i j ne l live m other))
+      each_slot (λ o. IfSome o (λ a. IfSome (get_or (offsets_in s.region s.slots) j None) (λ b. IsChunkApart a (chunk_of i) b (chunk_of j)))) i tt
+      (λ l live. each_slot (λ o. IfSome o (λ b. IsChunkApart (entry s.region i + 2) (chunk_of i) b (chunk_of j))) j tt (λ m other. two_apart i j ne l live m other))
 
   behind : AreBehind (store_of s.region s.slots)
   behind i =
       each_slot (λ o. IfSome o (λ at. 18 + 2 * length (chunks_in s.region s.slots) ≤ at)) i tt
       (λ l live. let f = live_piece s stored.well_formed i (entry s.region i) (word_in s.region (entry s.region i)) l live refl refl in omega (arith, f.table, length-chunks_in s.region s.slots))
 
-  holding : HoldsChunks s.region (store_of s.region s.slots)
+  holding : StoredHoldsChunks s.region (store_of s.region s.slots)
   holding i =
       each_slot (λ o. IfSome o (λ at. slice_range s.region at (at + length (chunk_of i)) ≡ chunk_of i)) i tt
       (λ l live.
@@ -348,14 +348,14 @@ module _ (s : Space) (stored : IsStored s) where
       ap (λ (n : ℕ). slice_range s.region (e + 2) (e + 2 + n)) (ap (λ (o : Option (List ℕ)). length (unwrap_or o [])) here ∙ size_is s i stored.well_formed l live)
       ∙ sym (ap (λ (o : Option (List ℕ)). unwrap_or o []) (here ∙ under_piece s.region e live)))
 
-pub shown_disjoint : (s : Space) (m : Stored) → IsStored s → store_of s.region s.slots ≡ m → AreDisjoint m
-shown_disjoint s m stored is = subst AreDisjoint is (disjoint s stored)
+pub shown_disjoint : (s : Space) (m : Stored) → IsStoredHeap s → store_of s.region s.slots ≡ m → AreStoredDisjoint m
+shown_disjoint s m stored is = subst AreStoredDisjoint is (disjoint s stored)
 
-pub shown_behind : (s : Space) (m : Stored) → IsStored s → store_of s.region s.slots ≡ m → AreBehind m
+pub shown_behind : (s : Space) (m : Stored) → IsStoredHeap s → store_of s.region s.slots ≡ m → AreBehind m
 shown_behind s m stored is = subst AreBehind is (behind s stored)
 
-pub shown_holding : (s : Space) (m : Stored) → IsStored s → store_of s.region s.slots ≡ m → HoldsChunks s.region m
-shown_holding s m stored is = subst (HoldsChunks s.region) is (holding s stored)
+pub shown_holding : (s : Space) (m : Stored) → IsStoredHeap s → store_of s.region s.slots ≡ m → StoredHoldsChunks s.region m
+shown_holding s m stored is = subst (StoredHoldsChunks s.region) is (holding s stored)
 
 -- ---- under handles
 
@@ -373,13 +373,13 @@ module _ (m : Stored) where
   bytes_of h i at = ap (λ (o : Option (List ℕ)). unwrap_or o []) (get-table_map_at (omega arith) 16 m.chunks i h at)
 
   abbrev LieApart : Option ℕ → List ℕ → Option ℕ → List ℕ → Type 0
-  LieApart o bytes p others = IfSome o (λ a. IfSome p (λ b. IsApart a bytes b others))
+  LieApart o bytes p others = IfSome o (λ a. IfSome p (λ b. IsChunkApart a bytes b others))
 
   no_other : (o : Option ℕ) (bytes others : List ℕ) → LieApart o bytes None others
   no_other None bytes others = tt
   no_other (Some a) bytes others = tt
 
-  apart_at : AreDisjoint m → (h k i j : ℕ) → h ≢ k → h ≡ 16 + 2 * i → k ≡ 16 + 2 * j
+  apart_at : AreStoredDisjoint m → (h k i j : ℕ) → h ≢ k → h ≡ 16 + 2 * i → k ≡ 16 + 2 * j
       → LieApart (get (table_map 2 16 m.offsets) h) (chunk_bytes (table_map 2 16 m.chunks) h) (get (table_map 2 16 m.offsets) k) (chunk_bytes (table_map 2 16 m.chunks) k)
   apart_at apart h k i j ne at to =
       subst (λ (o : Option ℕ). LieApart o (chunk_bytes (table_map 2 16 m.chunks) h) (get (table_map 2 16 m.offsets) k) (chunk_bytes (table_map 2 16 m.chunks) k)) (sym (place_of h i at))
@@ -388,7 +388,7 @@ module _ (m : Stored) where
       (subst (λ (b : List ℕ). LieApart (get_or m.offsets i None) (unwrap_or (get_or m.chunks i None) []) (get_or m.offsets j None) b) (sym (bytes_of k j to))
       (apart i j (λ same. ne (omega (arith, same)))))))
 
-  placed_apart : AreDisjoint m → placed.AreDisjoint (placed_in m)
+  placed_apart : AreStoredDisjoint m → placed.AreDisjoint (placed_in m)
   placed_apart apart h k ne = elim (slot_or_none h (length m.offsets)) [
     | inl at ↦ elim (slot_or_none k (length m.offsets)) [
       | inl to ↦ apart_at apart h k at.0 to.0 ne at.1 to.1
@@ -419,7 +419,7 @@ module _ (m : Stored) where
   abbrev HasThere : List ℕ → Option ℕ → List ℕ → Type 0
   HasThere xs o bytes = IfSome o (λ at. slice_range xs at (at + length bytes) ≡ bytes)
 
-  placed_holding : (xs : List ℕ) → HoldsChunks xs m → placed.HoldsChunks xs (placed_in m)
+  placed_holding : (xs : List ℕ) → StoredHoldsChunks xs m → placed.HoldsChunks xs (placed_in m)
   placed_holding xs holds h = elim (slot_or_none h (length m.offsets)) [
     | inl at ↦
         subst (λ (o : Option ℕ). HasThere xs o (chunk_bytes (table_map 2 16 m.chunks) h)) (sym (place_of h at.0 at.1))
@@ -427,13 +427,13 @@ module _ (m : Stored) where
     | inr off ↦ subst (λ (o : Option ℕ). HasThere xs o (chunk_bytes (table_map 2 16 m.chunks) h)) (sym (get-table_map_off (omega arith) 16 m.offsets h off)) tt
   ]
 
-pub heap_disjoint : (m : Stored) (p : Placed) → placed_in m ≡ p → AreDisjoint m → placed.AreDisjoint p
+pub heap_disjoint : (m : Stored) (p : Placed) → placed_in m ≡ p → AreStoredDisjoint m → placed.AreDisjoint p
 heap_disjoint m p is apart = subst placed.AreDisjoint is (placed_apart m apart)
 
 pub heap_behind : (m : Stored) (p : Placed) → placed_in m ≡ p → AreBehind m → placed.AreBehindTable p
 heap_behind m p is behind = subst placed.AreBehindTable is (placed_behind m behind)
 
-pub heap_holding : (xs : List ℕ) (m : Stored) (p : Placed) → placed_in m ≡ p → HoldsChunks xs m → placed.HoldsChunks xs p
+pub heap_holding : (xs : List ℕ) (m : Stored) (p : Placed) → placed_in m ≡ p → StoredHoldsChunks xs m → placed.HoldsChunks xs p
 heap_holding xs m p is holds = subst (placed.HoldsChunks xs) is (placed_holding m xs holds)
 
 -- ---- chunks that have been packed lie at the end of the region

@@ -4,8 +4,8 @@ use Rattle.std.proofs.lemmas.Bool.{cases_eq, cond-true, cond-false, ne_eqb, eq-e
 use Rattle.std.proofs.lemmas.List.Edits.{length-between, get_or-between}
 use Rattle.std.proofs.lemmas.List.FromFn.{fill_by_all, length-map-range_with_len, get_or-map-range_with_len}
 use Rattle.std.proofs.lemmas.Grind.{same_number_lists, get_or-set_at}
-use Rattle.lmem_heap.specs.Pieces.{word_in, entry, piece_space, Piece, Used, Free, size_head, Lies, Points, IsFresh, AreDistinct, used, spaces, place_of, AllShaped, frees}
-use Rattle.lmem_heap.specs.Tiled.{IsTiled, chunk_under, chunks_in, chunk_at}
+use Rattle.lmem_heap.specs.Pieces.{word_in, entry, piece_space, Piece, Used, Free, size_head, Lies, Points, IsFresh, ArePiecesDistinct, used, spaces, place_of, AllShaped, frees}
+use Rattle.lmem_heap.specs.Tiled.{IsTiled, chunk_under, chunks_in, chunk_from}
 use Rattle.lmem_heap.proofs.PieceLemmas.{lies_end, lies_split, points_split, distinct_at, spaces_append, lies_append, points_append, shaped_append, shaped_split, fresh_append, fresh_split, distinct_behind, lies_kept, points_kept}
 use Rattle.lmem_heap.proofs.ThreadingLemmas.{slot_in}
 use Rattle.lmem_heap.specs.Edits.{Same}
@@ -52,17 +52,17 @@ under_some xs e = elim (e == 0) as (λ v. is_some (if v then None else (if e == 
 
 -- ---- by pieces
 
-pub at_fresh : (i e : ℕ) (cs : List Piece) → IsFresh i cs → chunk_at i e cs ≡ (if e == 0 then None else Some [])
+pub at_fresh : (i e : ℕ) (cs : List Piece) → IsFresh i cs → chunk_from i e cs ≡ (if e == 0 then None else Some [])
 at_fresh i e [] fresh = refl
-at_fresh i e (Used j b ∷ cs) fresh = cond-false (i == j) (Some b) (chunk_at i e cs) (ne_eqb i j fresh.0) ∙ at_fresh i e cs fresh.1
+at_fresh i e (Used j b ∷ cs) fresh = cond-false (i == j) (Some b) (chunk_from i e cs) (ne_eqb i j fresh.0) ∙ at_fresh i e cs fresh.1
 at_fresh i e (Free s ∷ cs) fresh = at_fresh i e cs fresh
 
-pub at_slot : (i e : ℕ) (b : List ℕ) (cs ds : List Piece) → IsFresh i cs → chunk_at i e (cs ++ (Used i b ∷ ds)) ≡ Some b
-at_slot i e b [] ds fresh = cond-true (i == i) (Some b) (chunk_at i e ds) (eq-eqb i i refl)
-at_slot i e b (Used j d ∷ cs) ds fresh = cond-false (i == j) (Some d) (chunk_at i e (cs ++ (Used i b ∷ ds))) (ne_eqb i j fresh.0) ∙ at_slot i e b cs ds fresh.1
+pub at_slot : (i e : ℕ) (b : List ℕ) (cs ds : List Piece) → IsFresh i cs → chunk_from i e (cs ++ (Used i b ∷ ds)) ≡ Some b
+at_slot i e b [] ds fresh = cond-true (i == i) (Some b) (chunk_from i e ds) (eq-eqb i i refl)
+at_slot i e b (Used j d ∷ cs) ds fresh = cond-false (i == j) (Some d) (chunk_from i e (cs ++ (Used i b ∷ ds))) (ne_eqb i j fresh.0) ∙ at_slot i e b cs ds fresh.1
 at_slot i e b (Free s ∷ cs) ds fresh = at_slot i e b cs ds fresh
 
-pub at_used : (i e : ℕ) (cs : List Piece) → chunk_at i e (used cs) ≡ chunk_at i e cs
+pub at_used : (i e : ℕ) (cs : List Piece) → chunk_from i e (used cs) ≡ chunk_from i e cs
 at_used i e [] = refl
 at_used i e (Used j b ∷ cs) = ap (λ (o : Option (List ℕ)). if i == j then Some b else o) (at_used i e cs)
 at_used i e (Free s ∷ cs) = at_used i e cs
@@ -94,17 +94,17 @@ module _ (xs : List ℕ) (t low : ℕ) (cs : List Piece) (tiled : IsTiled xs t l
         under_piece xs p (omega (arith, piece_place, tiled.table)) ∙ (ap (λ (n : ℕ). Some (slice_range xs (p + 2) (p + 2 + n))) piece_size ∙ ap Some piece_bytes)
 
     pub piece_others : IsFresh i a × IsFresh i d
-    piece_others = distinct_at a i b d (subst AreDistinct (sym is) tiled.distinct)
+    piece_others = distinct_at a i b d (subst ArePiecesDistinct (sym is) tiled.distinct)
 
-  pub tiled_chunk : i < t → chunk_under xs (entry xs i) ≡ chunk_at i (entry xs i) cs
+  pub tiled_chunk : i < t → chunk_under xs (entry xs i) ≡ chunk_from i (entry xs i) cs
   tiled_chunk l = elim (slot_in i cs) [
     | inl h ↦
-        piece_chunk h.before h.bytes h.after h.is ∙ (sym (at_slot i (entry xs i) h.bytes h.before h.after (piece_others h.before h.bytes h.after h.is).0) ∙ ap (chunk_at i (entry xs i)) h.is)
+        piece_chunk h.before h.bytes h.after h.is ∙ (sym (at_slot i (entry xs i) h.bytes h.before h.after (piece_others h.before h.bytes h.after h.is).0) ∙ ap (chunk_from i (entry xs i)) h.is)
     | inr fresh ↦ under_dead xs (entry xs i) (tiled.covered i l fresh) ∙ sym (at_fresh i (entry xs i) cs fresh)
   ]
 
 -- two tilings of the same chunks
-pub same_chunks : (xs ys : List ℕ) (t low high : ℕ) (cs ds : List Piece) → IsTiled xs t low cs → IsTiled ys t high ds → ((i : ℕ) → i < t → chunk_at i (entry ys i) ds ≡ chunk_at i (entry xs i) cs) → chunks_in ys t ≡ chunks_in xs t
+pub same_chunks : (xs ys : List ℕ) (t low high : ℕ) (cs ds : List Piece) → IsTiled xs t low cs → IsTiled ys t high ds → ((i : ℕ) → i < t → chunk_from i (entry ys i) ds ≡ chunk_from i (entry xs i) cs) → chunks_in ys t ≡ chunks_in xs t
 same_chunks xs ys t low high cs ds tiled tiled_y same = chunks_by ys t (chunks_in xs t) (length-chunks_in xs t)
     (λ k l. chunk_in xs t k l ∙ (tiled_chunk xs t low cs tiled k l ∙ (sym (same k l) ∙ sym (tiled_chunk ys t high ds tiled_y k l))))
 
@@ -118,14 +118,14 @@ shaped_fresh t (Used j b ∷ cs) i past h = ((λ e. omega (arith, h.0.1)), shape
 shaped_fresh t (Free s ∷ cs) i past h = shaped_fresh t cs i past h.1
 
 -- pieces of slot i alone, before others
-distinct_new : (i : ℕ) (cs ds : List Piece) → ((j : ℕ) → j ≢ i → IsFresh j cs) → IsFresh i ds → AreDistinct cs → AreDistinct ds → AreDistinct (cs ++ ds)
+distinct_new : (i : ℕ) (cs ds : List Piece) → ((j : ℕ) → j ≢ i → IsFresh j cs) → IsFresh i ds → ArePiecesDistinct cs → ArePiecesDistinct ds → ArePiecesDistinct (cs ++ ds)
 distinct_new i [] ds only fresh h r = r
 distinct_new i (Used j b ∷ cs) ds only fresh h r =
     let one : j ≡ i = elim (cases_eq j i) [ inl same ↦ same | inr ne ↦ absurd ((only j ne).0 refl) ] in
     (fresh_append j cs ds h.0 (subst (λ (k : ℕ). IsFresh k ds) (sym one) fresh), distinct_new i cs ds (λ k ne. (only k ne).1) fresh h.1 r)
 distinct_new i (Free s ∷ cs) ds only fresh h r = distinct_new i cs ds only fresh h r
 
-pub distinct_edit : (i : ℕ) (a old new d : List Piece) → ((j : ℕ) → j ≢ i → IsFresh j new) → IsFresh i a → IsFresh i d → AreDistinct new → AreDistinct (a ++ (old ++ d)) → AreDistinct (a ++ (new ++ d))
+pub distinct_edit : (i : ℕ) (a old new d : List Piece) → ((j : ℕ) → j ≢ i → IsFresh j new) → IsFresh i a → IsFresh i d → ArePiecesDistinct new → ArePiecesDistinct (a ++ (old ++ d)) → ArePiecesDistinct (a ++ (new ++ d))
 distinct_edit i [] old new d only front back h l = distinct_new i new d only back h (distinct_behind old d l)
 distinct_edit i (Used j b ∷ a) old new d only front back h l =
     let f = fresh_split j a (old ++ d) l.0 in let g = fresh_split j old d f.1 in
@@ -134,12 +134,12 @@ distinct_edit i (Free s ∷ a) old new d only front back h l = distinct_edit i a
 
 -- ---- chunks
 
-at_skip : (j e : ℕ) (cs ds : List Piece) → IsFresh j cs → chunk_at j e (cs ++ ds) ≡ chunk_at j e ds
+at_skip : (j e : ℕ) (cs ds : List Piece) → IsFresh j cs → chunk_from j e (cs ++ ds) ≡ chunk_from j e ds
 at_skip j e [] ds fresh = refl
-at_skip j e (Used k b ∷ cs) ds fresh = cond-false (j == k) (Some b) (chunk_at j e (cs ++ ds)) (ne_eqb j k fresh.0) ∙ at_skip j e cs ds fresh.1
+at_skip j e (Used k b ∷ cs) ds fresh = cond-false (j == k) (Some b) (chunk_from j e (cs ++ ds)) (ne_eqb j k fresh.0) ∙ at_skip j e cs ds fresh.1
 at_skip j e (Free s ∷ cs) ds fresh = at_skip j e cs ds fresh
 
-pub at_after : (j e : ℕ) (a ds es : List Piece) → chunk_at j e ds ≡ chunk_at j e es → chunk_at j e (a ++ ds) ≡ chunk_at j e (a ++ es)
+pub at_after : (j e : ℕ) (a ds es : List Piece) → chunk_from j e ds ≡ chunk_from j e es → chunk_from j e (a ++ ds) ≡ chunk_from j e (a ++ es)
 at_after j e [] ds es same = same
 at_after j e (Used k b ∷ a) ds es same = ap (λ (o : Option (List ℕ)). if j == k then Some b else o) (at_after j e a ds es same)
 at_after j e (Free s ∷ a) ds es same = at_after j e a ds es same
@@ -155,7 +155,7 @@ pub record IsEdit (xs ys : List ℕ) (t i low p : ℕ) (old new : List Piece) : 
   pub lies : Lies size_head ys p new (p + spaces old)
   pub points : Points place_of ys p new
   pub shaped : AllShaped (16 + 2 * t) new
-  pub distinct : AreDistinct new
+  pub distinct : ArePiecesDistinct new
   pub only_new : (j : ℕ) → j ≢ i → IsFresh j new
   pub only_old : (j : ℕ) → j ≢ i → IsFresh j old
   pub covered : i < t → IsFresh i new → entry ys i ≤ 1
@@ -207,7 +207,7 @@ module _ (xs ys : List ℕ) (t i low p : ℕ) (a old new d : List Piece) (tiled 
   edited_other j l ne =
       let k = entry xs j in
       tiled_chunk ys t low (a ++ (new ++ d)) edited j l
-      ∙ (ap (λ (m : ℕ). chunk_at j m (a ++ (new ++ d))) (e.others j l ne)
+      ∙ (ap (λ (m : ℕ). chunk_from j m (a ++ (new ++ d))) (e.others j l ne)
       ∙ (at_after j k a (new ++ d) (old ++ d) (at_skip j k new d (e.only_new j ne) ∙ sym (at_skip j k old d (e.only_old j ne)))
       ∙ sym (tiled_chunk xs t low (a ++ (old ++ d)) tiled j l)))
 

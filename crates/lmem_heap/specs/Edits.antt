@@ -1,6 +1,6 @@
 -- What a write leaves of the other bytes.
 use Rattle.std.specs.Prelude.{◌≡◌, ◌≢◌, ℕ, ◌+◌, ◌*◌, ◌<◌, ◌≤◌, List, ◌++◌, length, get_or}
-use Rattle.lmem_heap.specs.Pieces.{word_in, entry, Piece, Lies, Points, AllShaped, IsFresh, AreDistinct, size_head, handle_head, size_of, place_to, used, spaces}
+use Rattle.lmem_heap.specs.Pieces.{word_in, entry, Piece, Lies, Points, AllShaped, IsFresh, ArePiecesDistinct, size_head, handle_head, size_of, place_to, used, spaces}
 
 -- the bytes from a to b are the same
 pub record Same (xs ys : List ℕ) (a b : ℕ) : Type 0 where
@@ -40,7 +40,7 @@ pub record IsReadyToPack (xs : List ℕ) (low delta : ℕ) (cs : List Piece) : T
   pub lies : Lies handle_head xs low cs 65520
   pub points : Points size_of xs low cs
   pub shaped : AllShaped low cs
-  pub distinct : AreDistinct (used cs)
+  pub distinct : ArePiecesDistinct (used cs)
   pub room : low + spaces (used cs) + delta ≡ 65520
 
 -- the chunks that lie first, up to `end`, have their sizes back, and entries of a place `delta` further up; the pieces behind them wait
@@ -84,7 +84,7 @@ pub record IsSized (xs ys : List ℕ) (p size n : ℕ) : Type 0 where
   pub behind : (k : ℕ) → p + 2 + n ≤ k → p + 2 + size ≤ k → get_or ys k 0 ≡ get_or xs k 0
 
 -- the `size` bytes of the piece at p stand behind the first word at q too, and zeros up to n bytes
-pub record IsCopied (xs ys : List ℕ) (p q size n : ℕ) : Type 0 where
+pub record IsRangeCopied (xs ys : List ℕ) (p q size n : ℕ) : Type 0 where
   pub long : length ys ≡ length xs
   pub moved : (k : ℕ) → k < size → get_or ys (q + 2 + k) 0 ≡ get_or xs (p + 2 + k) 0
   pub zeros : (k : ℕ) → size ≤ k → k < n → get_or ys (q + 2 + k) 0 ≡ 0

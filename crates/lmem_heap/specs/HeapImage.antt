@@ -5,7 +5,7 @@ use Rattle.geos_model.specs.Image.{image}
 use Rattle.geos_model.specs.Words.{word}
 use Rattle.geos_model.specs.declared.command.Body.TheVariants as bodies
 use Rattle.geos_model.proofs.Table.{IsTrimmed}
-use Rattle.lmem_heap.specs.Packed.{IsTable, slots_in}
+use Rattle.lmem_heap.specs.Packed.{IsPackedTable, slots_in}
 use Rattle.lmem_heap.specs.Slots.{need_in}
 
 -- the image of a heap that fits
@@ -15,6 +15,6 @@ IsHeapImage bytes = (m : ChunkMap) × (is_heap_map m ≡ true) × (image (bodies
 -- the same, by the table of n slots that the image holds
 pub record HasHeapTable (n : ℕ) (bytes : List ℕ) : Type 0 where
   pub begins : bytes ≡ 1 ∷ word n ++ drop 3 bytes
-  pub table : IsTable n (drop 3 bytes)
+  pub table : IsPackedTable n (drop 3 bytes)
   pub trimmed : IsTrimmed (slots_in n (drop 3 bytes))
   pub fits : need_in (slots_in n (drop 3 bytes)) ≤ 65520

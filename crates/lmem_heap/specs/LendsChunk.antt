@@ -3,7 +3,7 @@ use Rattle.std.specs.Prelude.{ℕ, List, [], Some, None, set, get_or, unwrap_or}
 use Rattle.std.specs.Borrow.{Lends, MutBor, Fml, Array, u8}
 use Rattle.raw_region.specs.Bytes.{put}
 use Rattle.lmem_heap.specs.Stored.{Stored}
-use Rattle.lmem_heap.specs.contracts.table.Table.{the_row}
+use Rattle.lmem_heap.specs.contracts.table.ChunkTable.{the_row}
 
 -- the table with bytes written over a chunk's
 abbrev pub with_chunk : Stored → ℕ → List ℕ → Stored

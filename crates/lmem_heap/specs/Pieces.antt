@@ -36,14 +36,14 @@ handle_head (Used i bytes) = 16 + 2 * i
 handle_head (Free s) = s + 1
 
 -- a piece lies at p
-pub record IsAt (head_of : Piece → ℕ) (xs : List ℕ) (p : ℕ) (c : Piece) : Type 0 where
+pub record IsPieceAt (head_of : Piece → ℕ) (xs : List ℕ) (p : ℕ) (c : Piece) : Type 0 where
   pub head : word_in xs p ≡ head_of c
   pub bytes : (k : ℕ) → k < length (content c) → get_or xs (p + 2 + k) 0 ≡ get_or (content c) k 0
 
 -- pieces lie one after another from p to q
 abbrev pub Lies : (Piece → ℕ) → List ℕ → ℕ → List Piece → ℕ → Type 0
 Lies head_of xs p [] q = p ≡ q
-Lies head_of xs p (c ∷ cs) q = IsAt head_of xs p c × Lies head_of xs (p + space c) cs q
+Lies head_of xs p (c ∷ cs) q = IsPieceAt head_of xs p c × Lies head_of xs (p + space c) cs q
 
 -- the entries of the pieces' slots are as `entry_of` says, of the place, the slot and the chunk
 abbrev pub Points : (ℕ → ℕ → List ℕ → ℕ) → List ℕ → ℕ → List Piece → Type 0
@@ -67,10 +67,10 @@ IsFresh i (Used j bytes ∷ cs) = (i ≢ j) × IsFresh i cs
 IsFresh i (Free s ∷ cs) = IsFresh i cs
 
 -- no two pieces are of one slot
-abbrev pub AreDistinct : List Piece → Type 0
-AreDistinct [] = Unit {0}
-AreDistinct (Used i bytes ∷ cs) = IsFresh i cs × AreDistinct cs
-AreDistinct (Free s ∷ cs) = AreDistinct cs
+abbrev pub ArePiecesDistinct : List Piece → Type 0
+ArePiecesDistinct [] = Unit {0}
+ArePiecesDistinct (Used i bytes ∷ cs) = IsFresh i cs × ArePiecesDistinct cs
+ArePiecesDistinct (Free s ∷ cs) = ArePiecesDistinct cs
 
 -- the pieces with a chunk
 abbrev pub used : List Piece → List Piece

@@ -5,7 +5,7 @@ use Rattle.std.specs.Coded.{Coded, code_by, coded×, coded_ℕ, coded_list}
 use Rattle.std.specs.FinMap.{FinMap, code, entries, get, contains_key}
 use Rattle.geos_model.specs.Heap.{ChunkMap, capacity, space_of, chunk_bytes}
 use Rattle.geos_model.proofs.Table.{table_map}
-use Rattle.lmem_heap.specs.Stored.{Stored, IsApart}
+use Rattle.lmem_heap.specs.Stored.{Stored, IsChunkApart}
 
 pub record Placed : Type 0 where
   pub chunks : ChunkMap
@@ -25,7 +25,7 @@ space_taken m = sum_by (λ c. space_of (length c.1)) (entries m)
 
 -- Each chunk lies in the space that it takes, with the word before its bytes, apart from every other one.
 abbrev pub AreDisjoint : Placed → Type 0
-AreDisjoint p = (h k : ℕ) → h ≢ k → IfSome (get p.places h) (λ a. IfSome (get p.places k) (λ b. IsApart a (chunk_bytes p.chunks h) b (chunk_bytes p.chunks k)))
+AreDisjoint p = (h k : ℕ) → h ≢ k → IfSome (get p.places h) (λ a. IfSome (get p.places k) (λ b. IsChunkApart a (chunk_bytes p.chunks h) b (chunk_bytes p.chunks k)))
 
 -- A handle is where its entry of two bytes stands: chunks lie behind the entries of all of them.
 abbrev pub AreBehindTable : Placed → Type 0

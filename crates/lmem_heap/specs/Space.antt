@@ -83,7 +83,7 @@ pub record HasFree (s : Space) (p room : ℕ) : Type 0 where
   pub place : p ≡ s.low + spaces before
 
 -- none of the first pieces of the free list has this room
-pub record HasNone (s : Space) (room : ℕ) : Type 0 where
+pub record HasNoFree (s : Space) (room : ℕ) : Type 0 where
   pub pieces : List Piece
   pub free : List ℕ
   pub held : HasPieces s pieces free 0
@@ -133,5 +133,5 @@ pub record IsResized (s u : Space) (i n : ℕ) : Type 0 where
   pub total : u.total + piece_space (word_in s.region (entry s.region i)) ≡ s.total + piece_space n
 
 -- behind the first word at q stand the bytes of slot i's chunk, cut to n or with zeros behind them
-abbrev pub IsReady : Space → ℕ → ℕ → ℕ → Type 0
-IsReady s i q n = (k : ℕ) → k < n → get_or s.region (q + 2 + k) 0 ≡ get_or (resized (unwrap_or (get_or (chunks_in s.region s.slots) i None) []) n) k 0
+abbrev pub IsReadyToTake : Space → ℕ → ℕ → ℕ → Type 0
+IsReadyToTake s i q n = (k : ℕ) → k < n → get_or s.region (q + 2 + k) 0 ≡ get_or (resized (unwrap_or (get_or (chunks_in s.region s.slots) i None) []) n) k 0

@@ -22,7 +22,7 @@ abbrev pub store_of : List ℕ → ℕ → Stored
 store_of xs t = record { chunks = chunks_in xs t; offsets = offsets_in xs t }
 
 -- what a table keeps: its space, with a count of what the chunks take
-pub record IsStored (s : Space) : Type 0 where
+pub record IsStoredHeap (s : Space) : Type 0 where
   pub well_formed : IsWellFormed s
   pub count : s.total ≡ space_in (chunks_in s.region s.slots)
 
@@ -31,18 +31,18 @@ abbrev pub AreLast : List (Option ℕ) → ℕ → Type 0
 AreLast offsets space = (i : ℕ) → IfSome (get_or offsets i None) (λ at. 65522 ≤ at + space)
 
 -- two chunks lie apart, each in the space that it takes: their bytes begin at `a` and `b`
-abbrev pub IsApart : ℕ → List ℕ → ℕ → List ℕ → Type 0
-IsApart a bytes b others = (a + space_of (length bytes) ≤ b) ⊎ (b + space_of (length others) ≤ a)
+abbrev pub IsChunkApart : ℕ → List ℕ → ℕ → List ℕ → Type 0
+IsChunkApart a bytes b others = (a + space_of (length bytes) ≤ b) ⊎ (b + space_of (length others) ≤ a)
 
-abbrev pub AreDisjoint : Stored → Type 0
-AreDisjoint m =
+abbrev pub AreStoredDisjoint : Stored → Type 0
+AreStoredDisjoint m =
     (i j : ℕ) → i ≢ j → IfSome (get_or m.offsets i None) (λ a. IfSome (get_or m.offsets j None) (λ b.
-    IsApart a (unwrap_or (get_or m.chunks i None) []) b (unwrap_or (get_or m.chunks j None) [])))
+    IsChunkApart a (unwrap_or (get_or m.chunks i None) []) b (unwrap_or (get_or m.chunks j None) [])))
 
 -- and behind the words of all slots
 abbrev pub AreBehind : Stored → Type 0
 AreBehind m = (i : ℕ) → IfSome (get_or m.offsets i None) (λ at. 18 + 2 * length m.chunks ≤ at)
 
 -- the region has each chunk's bytes where they lie
-abbrev pub HoldsChunks : List ℕ → Stored → Type 0
-HoldsChunks xs m = (i : ℕ) → IfSome (get_or m.offsets i None) (λ at. let bytes = unwrap_or (get_or m.chunks i None) [] in slice_range xs at (at + length bytes) ≡ bytes)
+abbrev pub StoredHoldsChunks : List ℕ → Stored → Type 0
+StoredHoldsChunks xs m = (i : ℕ) → IfSome (get_or m.offsets i None) (λ at. let bytes = unwrap_or (get_or m.chunks i None) [] in slice_range xs at (at + length bytes) ≡ bytes)

@@ -13,7 +13,7 @@ ghost use Rattle.lmem_heap.specs.HeapImage.{IsHeapImage, HasHeapTable};
 
 use crate::image::{HEAP_KIND, PREFIX, heap_slots, image_len, push_chunks, push_sizes, unpack};
 use crate::sizes::{need_of, space_of};
-use crate::table::Table;
+use crate::table::ChunkTable;
 use crate::words::{HEADER, NO_CHUNK, SIZE, entry_at, slot_at};
 use geos_model::{ChunkHandle, Fault};
 use raw_region::Region;
@@ -26,7 +26,7 @@ const MOST_CHUNKS: usize = 32_752;
 /// Chunks in 65,520 bytes.
 #[derive(Drop)]
 pub struct Heap {
-    table: Table,
+    table: ChunkTable,
     /// The slots below this one all have chunks.
     gap: usize,
     alloc: Global,
@@ -62,7 +62,7 @@ impl Heap {
     {
         let alloc = region.alloc();
         Heap {
-            table: Table::of_region(region),
+            table: ChunkTable::of_region(region),
             gap: 0,
             alloc,
         }
@@ -360,7 +360,7 @@ fn slot(h: ChunkHandle) -> usize
 }
 
 /// The first slot from `start` on that has no chunk, or the table's length.
-fn gap_from(table: &Table, start: usize) -> usize
+fn gap_from(table: &ChunkTable, start: usize) -> usize
     requires { start ≤ length table.now.chunks }
     ensures { result ≡ start + first_gap (drop start table.now.chunks) }
 {

@@ -4,12 +4,12 @@ ghost use Rattle.std.specs.Option.{option_map};
 ghost use Rattle.geos_model.specs.Words.{word, word_at};
 ghost use Rattle.geos_model.proofs.Table.{IsTrimmed};
 ghost use Rattle.geos_model.proofs.HeapTables.{slot_size_word, slot_bytes};
-ghost use Rattle.lmem_heap.specs.Packed.{Slots, IsTable, chunks, packed, slots_in, words, total};
+ghost use Rattle.lmem_heap.specs.Packed.{PackedSlots, IsPackedTable, chunks, packed, slots_in, packed_words, total};
 ghost use Rattle.lmem_heap.specs.Slots.{space_in, need_in};
 ghost use Rattle.lmem_heap.specs.HeapImage.{IsHeapImage, HasHeapTable};
 
 use crate::sizes::{need_of, space_of};
-use crate::table::Table;
+use crate::table::ChunkTable;
 use crate::words::SIZE;
 use raw_region::Region;
 use std::alloc::AllocError;
@@ -24,7 +24,7 @@ pub(crate) const PREFIX: usize = 3;
 const NO_SIZE: u16 = 0xFFFF;
 
 /// How many bytes the image has, so that no more are taken for it.
-pub(crate) fn image_len(table: &Table) -> usize {
+pub(crate) fn image_len(table: &ChunkTable) -> usize {
     let mut len = PREFIX + 2 * table.len();
     for i in 0..table.len() {
         len = len.saturating_add(table.size(i).unwrap_or(0));
@@ -33,7 +33,7 @@ pub(crate) fn image_len(table: &Table) -> usize {
 }
 
 /// The size of each slot's chunk, as a word.
-pub(crate) fn push_sizes(table: &Table, image: &mut Vec<u8>) -> Result<(), AllocError>
+pub(crate) fn push_sizes(table: &ChunkTable, image: &mut Vec<u8>) -> Result<(), AllocError>
     ensures { OnOk result (image.new.items ≡ image.old.items ++ flat_map slot_size_word table.now.chunks) }
 {
     for i in 0..table.len() {
@@ -47,7 +47,7 @@ pub(crate) fn push_sizes(table: &Table, image: &mut Vec<u8>) -> Result<(), Alloc
 }
 
 /// The chunks, one behind the other.
-pub(crate) fn push_chunks(table: &Table, image: &mut Vec<u8>) -> Result<(), AllocError>
+pub(crate) fn push_chunks(table: &ChunkTable, image: &mut Vec<u8>) -> Result<(), AllocError>
     ensures { OnOk result (image.new.items ≡ image.old.items ++ flat_map slot_bytes table.now.chunks) }
 {
     for i in 0..table.len() {
@@ -83,7 +83,7 @@ fn size_word(rest: &[u8], i: usize) -> usize
 fn bytes_total(rest: &[u8], slots: usize) -> usize
     requires within { 2 * slots ≤ length rest.now }
     requires small { slots < 2 ^ 16 }
-    ensures { result ≡ total (words slots rest.now) }
+    ensures { result ≡ total (packed_words slots rest.now) }
 {
     let mut sum: usize = 0;
     for k in 0..slots {
@@ -98,8 +98,8 @@ fn bytes_total(rest: &[u8], slots: usize) -> usize
 /// Whether what stands behind an image's first bytes is a size word for each of so many slots, and the chunks.
 fn is_table(rest: &[u8], slots: usize) -> bool
     requires { length rest.now ≤ 65520 }
-    ensures yes { result ≡ true → IsTable slots rest.now }
-    ensures no { result ≡ false → (t : Slots) → length t ≡ slots → packed t ≡ rest.now → ⊥ }
+    ensures yes { result ≡ true → IsPackedTable slots rest.now }
+    ensures no { result ≡ false → (t : PackedSlots) → length t ≡ slots → packed t ≡ rest.now → ⊥ }
 {
     if slots > rest.len() / 2 {
         return false;
@@ -109,7 +109,7 @@ fn is_table(rest: &[u8], slots: usize) -> bool
 
 /// The size of a slot's chunk.
 fn slot_size(rest: &[u8], slots: usize, i: usize) -> Option<usize>
-    requires table { IsTable slots rest.now }
+    requires table { IsPackedTable slots rest.now }
     requires slot { i < slots }
     ensures { result ≡ option_map length (get_or (slots_in slots rest.now) i None) }
 {
@@ -123,7 +123,7 @@ fn slot_size(rest: &[u8], slots: usize, i: usize) -> Option<usize>
 
 /// What the chunks take in a heap.
 fn space_total(rest: &[u8], slots: usize) -> usize
-    requires { IsTable slots rest.now }
+    requires { IsPackedTable slots rest.now }
     ensures value { result ≡ space_in (slots_in slots rest.now) }
     ensures bound { result < 2 ^ 33 }
 {
@@ -138,7 +138,7 @@ fn space_total(rest: &[u8], slots: usize) -> usize
 
 /// Whether the last slot has a chunk, and the chunks fit into a heap.
 fn is_heap(rest: &[u8], slots: usize) -> bool
-    requires { IsTable slots rest.now }
+    requires { IsPackedTable slots rest.now }
     ensures yes { result ≡ true → IsTrimmed (slots_in slots rest.now) × (need_in (slots_in slots rest.now) ≤ 65520) }
     ensures no { result ≡ false → IsTrimmed (slots_in slots rest.now) → need_in (slots_in slots rest.now) ≤ 65520 → ⊥ }
 {
@@ -165,12 +165,12 @@ pub(crate) fn heap_slots(bytes: &[u8]) -> Option<usize>
 }
 
 /// The chunks, in a region that may have any bytes.
-pub(crate) fn unpack(region: Region, rest: &[u8], slots: usize) -> Table
-    requires table { IsTable slots rest.now }
+pub(crate) fn unpack(region: Region, rest: &[u8], slots: usize) -> ChunkTable
+    requires table { IsPackedTable slots rest.now }
     requires fits { need_in (slots_in slots rest.now) ≤ 65520 }
     ensures { result.chunks ≡ slots_in slots rest.now }
 {
-    let mut table = Table::of_region(region);
+    let mut table = ChunkTable::of_region(region);
     table.grow(slots);
     let mut at = 2 * slots;
     for i in 0..slots {
@@ -180,9 +180,9 @@ pub(crate) fn unpack(region: Region, rest: &[u8], slots: usize) -> Table
 }
 
 /// The chunk of a slot, if it has one, whose bytes begin at `at`. Says where they end.
-fn unpack_slot(table: &mut Table, rest: &[u8], slots: usize, i: usize, at: usize) -> usize
+fn unpack_slot(table: &mut ChunkTable, rest: &[u8], slots: usize, i: usize, at: usize) -> usize
     // What is unpacked.
-    requires table { IsTable slots rest.now }
+    requires table { IsPackedTable slots rest.now }
     requires slot { i < slots }
     requires count { length table.old.chunks ≡ slots }
     // Where it goes.

@@ -2,7 +2,7 @@
 ghost use Rattle.std.specs.Prelude.{◌≡◌, ◌⊎◌, ◌+◌, ◌-◌, ◌*◌, ◌/◌, ◌≤◌, ◌<◌, ℕ, MatchOption};
 ghost use Rattle.lmem_heap.specs.Pieces.{word_in, entry};
 ghost use Rattle.lmem_heap.specs.Tiled.{chunks_in, table_end};
-ghost use Rattle.lmem_heap.specs.Space.{IsWellFormed, IsDetached, HasNone, HasFree, IsLinked, IsUnmoved, HasSameChunks};
+ghost use Rattle.lmem_heap.specs.Space.{IsWellFormed, IsDetached, HasNoFree, HasFree, IsLinked, IsUnmoved, HasSameChunks};
 
 use crate::sizes::table_end;
 use crate::space::Space;
@@ -30,7 +30,7 @@ impl Space {
     fn find_fit(&self, room: usize) -> Option<Fit>
         requires { IsWellFormed self.now }
         ensures { MatchOption result
-            (HasNone self.now room)
+            (HasNoFree self.now room)
             (λ fit. IsLinked self.now fit.prev fit.place × (room < word_in self.now.region fit.place)) }
     {
         let mut prev = 0;
@@ -88,7 +88,7 @@ impl Space {
         requires some { 0 < room }
         requires whole { room ≡ 4 * (room / 4) }
         ensures taken { MatchOption result
-            ((self.new ≡ self.old) × HasNone self.old room)
+            ((self.new ≡ self.old) × HasNoFree self.old room)
             (λ p. IsDetached self.new p room × IsUnmoved self.old self.new × (self.new.low ≡ self.old.low)) }
     {
         match self.find_fit(room) {
@@ -123,7 +123,7 @@ impl Space {
         requires some { 0 < room }
         requires whole { room ≡ 4 * (room / 4) }
         ensures found { MatchOption result
-            ((self.new ≡ self.old) × HasNone self.old room × (self.old.low < table_end self.old.slots + room))
+            ((self.new ≡ self.old) × HasNoFree self.old room × (self.old.low < table_end self.old.slots + room))
             (λ p. IsDetached self.new p room × IsUnmoved self.old self.new) }
     {
         if self.low - table_end(self.slots) >= room {
@@ -144,7 +144,7 @@ impl Space {
         ensures detached { IsDetached self.new result room }
         // When chunks move.
         ensures spared { IsUnmoved self.old self.new
-            ⊎ (HasNone self.old room × (self.old.low < table_end self.old.slots + room)) }
+            ⊎ (HasNoFree self.old room × (self.old.low < table_end self.old.slots + room)) }
         ensures same { HasSameChunks self.old self.new }
     {
         match self.find_room(room) {

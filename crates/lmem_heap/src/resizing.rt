@@ -2,7 +2,7 @@
 ghost use Rattle.std.specs.Prelude.{◌≡◌, ◌+◌, ◌-◌, ◌*◌, ◌/◌, ◌≤◌, ◌<◌, ℕ};
 ghost use Rattle.lmem_heap.specs.Pieces.{word_in, entry, piece_space};
 ghost use Rattle.lmem_heap.specs.Tiled.{chunks_in, table_end};
-ghost use Rattle.lmem_heap.specs.Space.{IsWellFormed, IsDetached, HasNext, IsUnmoved, IsReady, IsResized, room_of};
+ghost use Rattle.lmem_heap.specs.Space.{IsWellFormed, IsDetached, HasNext, IsUnmoved, IsReadyToTake, IsResized, room_of};
 
 use crate::compaction::lower_entries;
 use crate::sizes::piece_space;
@@ -75,7 +75,7 @@ impl Space {
         // What it leaves.
         ensures detached { IsDetached self.new q (piece_space n) }
         ensures unmoved { IsUnmoved self.old self.new }
-        ensures ready { IsReady self.new i q n }
+        ensures ready { IsReadyToTake self.new i q n }
     {
         let LivePiece { place: p, size } = self.live_piece(i);
         copy_piece(&mut self.region, p, q, size, n);
@@ -91,7 +91,7 @@ impl Space {
         requires live { 1 < entry self.old.region i }
         // The new size.
         requires some { 0 < n }
-        requires ready { IsReady self.old i q n }
+        requires ready { IsReadyToTake self.old i q n }
         // What it leaves.
         ensures detached { IsDetached self.new result (room_of self.old i) }
         ensures resized { IsResized self.old self.new i n }

@@ -15,39 +15,39 @@ use std::marker::Model;
 
 /// Chunks in a region, each under a slot.
 #[derive(Drop)]
-pub(crate) struct Table {
+pub(crate) struct ChunkTable {
     space: Space,
 }
 
-impl Model for Table {
-    ghost use Rattle.lmem_heap.specs.Stored.{Stored, store_of, IsStored};
+impl Model for ChunkTable {
+    ghost use Rattle.lmem_heap.specs.Stored.{Stored, store_of, IsStoredHeap};
 
     ghost Value = { Stored };
 
     ghost view = { λ t. store_of t.space.region t.space.slots };
 
-    ghost invariant = { λ t. IsStored t.space };
+    ghost invariant = { λ t. IsStoredHeap t.space };
 }
 
-impl Table {
+impl ChunkTable {
     ghost use Rattle.lmem_heap.specs.LendsChunk.{lends_chunk};
-    ghost use Rattle.lmem_heap.specs.Stored.{AreLast, AreDisjoint, AreBehind, HoldsChunks};
+    ghost use Rattle.lmem_heap.specs.Stored.{AreLast, AreStoredDisjoint, AreBehind, StoredHoldsChunks};
 
     /// No slots, in a region that may have any bytes.
-    pub(crate) fn of_region(region: Region) -> Table
+    pub(crate) fn of_region(region: Region) -> ChunkTable
         ensures chunks { result.chunks ≡ [] }
         ensures offsets { result.offsets ≡ [] }
     {
-        Table {
+        ChunkTable {
             space: Space::of_region(region),
         }
     }
 
     /// The region, with the chunks' bytes where they lie.
     pub(crate) fn into_region(self) -> Region
-        ensures { HoldsChunks result self }
+        ensures { StoredHoldsChunks result self }
     {
-        let Table { space } = self;
+        let ChunkTable { space } = self;
         space.region
     }
 
@@ -56,7 +56,7 @@ impl Table {
         ensures chunks { result ≡ length self.now.chunks }
         ensures offsets { result ≡ length self.now.offsets }
         ensures room { need_in self.now.chunks ≤ 65520 }
-        ensures apart { AreDisjoint self.now }
+        ensures apart { AreStoredDisjoint self.now }
         ensures behind { AreBehind self.now }
     {
         self.space.slots
@@ -190,7 +190,8 @@ impl Table {
     /// A slot's chunk becomes one of `n` bytes: those that it had, cut or with zeros behind them.
     pub(crate) fn resize(&mut self, i: usize, n: usize)
         requires slot { i < length self.old.chunks }
-        requires room { need_in (set self.old.chunks i (Some (resized (unwrap_or (get_or self.old.chunks i None) []) n))) ≤ 65520 }
+        requires room { need_in
+            (set self.old.chunks i (Some (resized (unwrap_or (get_or self.old.chunks i None) []) n))) ≤ 65520 }
         ensures { self.new.chunks ≡
             set self.old.chunks i (Some (resized (unwrap_or (get_or self.old.chunks i None) []) n)) }
     {

@@ -1,7 +1,7 @@
 //! A region's words, read and written, and among them the table's entries, one for each slot.
 ghost use Rattle.std.specs.Prelude.{◌≡◌, ◌+◌, ◌-◌, ◌*◌, ◌/◌, ◌≤◌, ◌<◌, length};
 ghost use Rattle.lmem_heap.specs.Pieces.{entry, word_in};
-ghost use Rattle.lmem_heap.specs.Edits.{IsSet, IsSlid, IsZeroed, IsSized, IsCopied};
+ghost use Rattle.lmem_heap.specs.Edits.{IsSet, IsSlid, IsZeroed, IsSized, IsRangeCopied};
 
 use geos_model::CAPACITY;
 use raw_region::Region;
@@ -111,7 +111,7 @@ pub(crate) fn copy_piece(region: &mut Region, p: usize, q: usize, size: usize, n
     requires target { q + 2 + n ≤ 65520 }
     requires more { size ≤ n }
     requires long { length region.old ≡ 65520 }
-    ensures { IsCopied region.old region.new p q size n }
+    ensures { IsRangeCopied region.old region.new p q size n }
 {
     slide(region, p + 2, q + 2, size);
     zero(region, q + 2 + size, n - size);

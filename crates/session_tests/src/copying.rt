@@ -1,4 +1,4 @@
-//! Save-as: a file of its own for the document, and the file so far.
+//! Save-as: a file of its own for the document, and the old file.
 use crate::calls::{
     Byte, FRAMES, Fused, Pair, both, byte_in, create, expect_replies, fused, made, pair_in,
 };
@@ -142,13 +142,13 @@ fn refuse_and_copy(
     copy(alloc, session, target)
 }
 
-// Whether the file so far has its saved document, and the other one that in memory.
+// Whether the old file has its saved document, and the other one that in memory.
 fn are_both_files(alloc: Global, so_far: &MemStore, store: &MemStore) -> Result<bool, Fault> {
     let pair = pair_in(alloc, so_far.bytes())?;
     Ok(pair == both(0) && pair_in(alloc, store.bytes())? == both(0x62))
 }
 
-// Whether that goes well, where the file so far fails after so many calls and the target after so many.
+// Whether that goes well, where the old file fails after so many calls and the target after so many.
 fn is_copied_again(alloc: Global, passes: u64, target_passes: u64) -> Result<bool, Fail> {
     let mut session = create(alloc, fused(alloc, passes, false))?;
     let so_far = refuse_and_copy(alloc, &mut session, fused(alloc, target_passes, false));
@@ -180,12 +180,12 @@ fn is_in_its_file(alloc: Global, passes: u64, target_passes: u64) -> Result<bool
     Ok(updated.updated == Some(0x62) && pair == updated)
 }
 
-// The calls of the file so far before the save-as.
+// The calls of the old file before the save-as.
 fn calls_before(alloc: Global) -> Result<u64, Mismatch> {
     Ok(made(alloc, fused(alloc, u64::MAX, false), FRAMES, &[BEGUN])?.calls())
 }
 
-// The calls of the file so far and of the target when the save-as is done.
+// The calls of the old file and of the target when the save-as is done.
 fn calls_behind(alloc: Global) -> Result<(u64, u64), Fail> {
     let (so_far, store) = copied(
         alloc,

@@ -2,7 +2,7 @@
 use std::alloc::AllocError;
 use vm_store::{Store, StoreFault};
 
-pub(crate) fn has_failed<T>(answer: &Result<T, StoreFault>) -> bool {
+pub(crate) fn failed_since<T>(answer: &Result<T, StoreFault>) -> bool {
     answer.is_err()
 }
 
@@ -88,7 +88,7 @@ pub(crate) fn serve<S: Store>(store: &mut S, calls: &[Call<'_>]) -> Result<(), M
 /// Makes calls that fail.
 pub(crate) fn refuse<S: Store>(store: &mut S, calls: &[Call<'_>]) -> Result<(), Mismatch> {
     for (place, call) in calls.iter().enumerate() {
-        if !has_failed(&is_answered(store, *call)) {
+        if !failed_since(&is_answered(store, *call)) {
             return Err(Mismatch::Serves(place));
         }
     }

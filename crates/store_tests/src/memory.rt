@@ -54,7 +54,7 @@ fn grow(store: &mut MemStore, byte: u8) -> Result<(), Mismatch> {
     make_again(store, Call::SetLen(u64::from(grown)), grown)
 }
 
-// Run with each allocation failing in turn: a call that fails for want of memory does nothing, and serves when made again.
+// Run with each allocation failing in turn: a call that fails for lack of memory does nothing, and serves when made again.
 #[test]
 fn a_growth_that_is_refused_changes_nothing(rt: HostRuntime) -> Result<(), Fail> {
     let mut store = MemStore::new(rt.alloc());

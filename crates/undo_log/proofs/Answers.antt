@@ -11,13 +11,13 @@ use Rattle.geos_model.proofs.InFront.{edit-passed}
 use Rattle.geos_model.specs.declared.command.Done.{Done}
 use Rattle.geos_model.specs.declared.command.Edit.{Edit}
 use Rattle.geos_model.specs.declared.command.Command.TheVariants as commands
-use Rattle.vm_blocks.specs.Changes.{made, flipped}
+use Rattle.vm_blocks.specs.Changes.{after_change, reversed}
 use Rattle.vm_blocks.specs.declared.change.Change.{Change}
 use Rattle.vm_blocks.specs.declared.change.Direction.{Direction}
 use Rattle.vm_blocks.specs.declared.change.Direction.TheVariants.{Forwards, Backwards}
 use Rattle.doc_edits.specs.Planning.{change_cost, Plans}
 use Rattle.undo_log.specs.Logging.{AreExclusive, Log, after_all, after_entry, all_changes, changes_cost, closed_with, entry_cost, kind_of_entry, step, steps, turned_over, with_change}
-use Rattle.undo_log.specs.Records.{opposite, AreSteps}
+use Rattle.undo_log.specs.Sessions.{opposite, AreSteps}
 use Rattle.undo_log.specs.declared.entry.LogEntry.{LogEntry}
 use Rattle.undo_log.specs.declared.entry.LogEntry.TheVariants as entries
 use Rattle.undo_log.proofs.Keeping.{machine_with}
@@ -31,11 +31,11 @@ some_steps s rest = ne_eqb (suc (length rest)) 0 (λ e. cc e)
 abbrev log_of : List LogEntry → List LogEntry → Option (List Change) → Log
 log_of undo redo group = record { undo = undo; redo = redo; group = group }
 
-module _ (m : Machine) (edit : Edit) (d : Document) (c : Change) (done : Done) (plans : Plans edit d c done) (gives : made (flipped c) (made c d) ≡ d) where
+module _ (m : Machine) (edit : Edit) (d : Document) (c : Change) (done : Done) (plans : Plans edit d c done) (gives : after_change (reversed c) (after_change c d) ≡ d) where
   -- the machine after an edit in a group, which is counted there
   abbrev after_edit : List LogEntry → List Change → Machine
   after_edit undo cs = record m {
-    document = made c d;
+    document = after_change c d;
     past = steps Backwards undo (after_all Backwards cs d);
     future = [];
     group = Some (record { before = after_all Backwards cs d; edits = length cs + 1; cost = changes_cost cs + change_cost c });
@@ -47,13 +47,13 @@ module _ (m : Machine) (edit : Edit) (d : Document) (c : Change) (done : Done) (
   edit_counted undo redo cs free room =
       rw (edit-passed edit (machine_with m d (log_of undo redo (Some cs))) free room, plans.accepted, plans.document, plans.answer, plans.cost) refl
 
-  counted : (undo : List LogEntry) (cs : List Change) → after_edit undo cs ≡ machine_with m (made c d) (log_of undo [] (Some (c ∷ cs)))
+  counted : (undo : List LogEntry) (cs : List Change) → after_edit undo cs ≡ machine_with m (after_change c d) (log_of undo [] (Some (c ∷ cs)))
   counted undo cs =
-      let back : d ≡ made (flipped c) (made c d) = sym gives in
+      let back : d ≡ after_change (reversed c) (after_change c d) = sym gives in
       let more : length cs + 1 ≡ length (c ∷ cs) = omega arith in
       let charged : changes_cost cs + change_cost c ≡ changes_cost (c ∷ cs) = let sum = sum_by-cons change_cost c cs in omega (arith, sum) in
       λ i. record m {
-        document = made c d;
+        document = after_change c d;
         past = steps Backwards undo (after_all Backwards cs (back i));
         future = [];
         group = Some (record { before = after_all Backwards cs (back i); edits = more i; cost = charged i });
@@ -62,7 +62,7 @@ module _ (m : Machine) (edit : Edit) (d : Document) (c : Change) (done : Done) (
   -- an edit in no group, and in one
   edit_in : (undo redo : List LogEntry) (group : Option (List Change)) → is_barred edit (machine_with m d (log_of undo redo group)) ≡ false
       → machine.has_no_room (machine_with m d (log_of undo redo group)) (edit_needs edit) ≡ false
-      → Answers (machine_with m d (log_of undo redo group)) (Some (commands.Edit edit)) (reply_of_done done) (machine_with m (made c d) (with_change c (log_of undo redo group)))
+      → Answers (machine_with m d (log_of undo redo group)) (Some (commands.Edit edit)) (reply_of_done done) (machine_with m (after_change c d) (with_change c (log_of undo redo group)))
   edit_in undo redo None free room =
       rw (edit-passed edit (machine_with m d (log_of undo redo None)) free room, plans.accepted, gives, plans.document, plans.answer, plans.kind, plans.cost) refl
   edit_in undo redo (Some cs) free room =
@@ -71,7 +71,7 @@ module _ (m : Machine) (edit : Edit) (d : Document) (c : Change) (done : Done) (
 -- an edit that was planned and carried out
 pub edit_answers : (m : Machine) (edit : Edit) (d : Document) (log : Log) (undone redone : List Change) (c : Change) (done : Done) → AreSteps Backwards d undone redone → Plans edit d c done
     → is_barred edit (machine_with m d log) ≡ false → machine.has_no_room (machine_with m d log) (edit_needs edit) ≡ false
-    → Answers (machine_with m d log) (Some (commands.Edit edit)) (reply_of_done done) (machine_with m (made c d) (with_change c log))
+    → Answers (machine_with m d log) (Some (commands.Edit edit)) (reply_of_done done) (machine_with m (after_change c d) (with_change c log))
 edit_answers m edit d log undone redone c done are plans free room = edit_in m edit d c done plans (goes_back Forwards c d are.valid plans.applies).gives log.undo log.redo log.group free room
 
 -- An entry that was made, as the newest of the other list.

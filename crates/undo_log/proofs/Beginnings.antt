@@ -12,7 +12,7 @@ use Rattle.vm_file.specs.Disk.{FileState}
 use Rattle.vm_blocks.specs.Committing.{IsSavedAs}
 use Rattle.vm_file.proofs.ContentLemmas.{committed_content}
 use Rattle.undo_log.specs.Logging.{Log, before, empty_log, group_of, steps, to_redo, to_undo}
-use Rattle.undo_log.specs.Records.{SessionState, file_of, locks_in, machine_of, AreSteps, IsExact}
+use Rattle.undo_log.specs.Sessions.{SessionState, file_of, locks_in, machine_of, AreSteps, IsExact}
 
 -- with nothing to undo or to redo
 pub begun : {S : Type 0} (s : SessionState S) (updated saved : Document) (sequence frames : ℕ) (target : Bool) → s.document ≡ updated → s.disk.updated ≡ updated → s.disk.saved ≡ saved → s.disk.sequence ≡ sequence

@@ -13,17 +13,17 @@ use Rattle.geos_model.specs.declared.command.Command.TheVariants as commands
 use Rattle.geos_model.specs.declared.fault.Fault.{Fault}
 use Rattle.geos_model.specs.declared.fault.Fault.TheVariants.{Memory, File, GroupOpen, Locked, Worn}
 use Rattle.vm_store.specs.Facts.{StoreFacts}
-use Rattle.vm_file.specs.Calls.{IsCommitRefusal, IsSupply, last_sequence}
-use Rattle.vm_file.specs.Disk.{Commits, Drifts, IsSettled}
-use Rattle.vm_file.proofs.PassingLemmas.{Commits-refused, Passes-refl}
+use Rattle.vm_file.specs.Calls.{IsCommitRefusal, IsResourceFault, last_sequence}
+use Rattle.vm_file.specs.Disk.{MayCommit, SameUnlessCorrupt, IsCrashConsistent}
+use Rattle.vm_file.proofs.PassingLemmas.{MayCommit-refused, KeepsCommitted-refl}
 use Rattle.vm_file.specs.Effects.{IsCommit, Fails, IsWorn}
 use Rattle.vm_file.specs.Documents.{Documents}
-use Rattle.block_cache.specs.State.{CacheState, seen}
+use Rattle.block_cache.specs.State.{CacheState, as_file}
 use Rattle.vm_blocks.specs.declared.change.Direction.TheVariants.{Backwards}
-use Rattle.undo_log.specs.Committing.{IsHeld, TriesCommit}
+use Rattle.undo_log.specs.Committing.{IsHeld, IsSessionCommit}
 use Rattle.undo_log.specs.Logging.{Log, empty_log, group_of, to_redo, to_undo}
-use Rattle.undo_log.specs.Records.{SessionState, file_of, has_locks, locks_in, machine_of, has_failed, AreSteps, IsStep}
-use Rattle.undo_log.specs.Turning.{rest_fault}
+use Rattle.undo_log.specs.Sessions.{SessionState, file_of, has_locks, locks_in, machine_of, failed_since, AreSteps, IsStep}
+use Rattle.undo_log.specs.Turning.{busy_fault}
 use Rattle.undo_log.proofs.Keeping.{Holds, drifted_listed, failed_true, machine_is, none_marked, same_exact}
 use Rattle.undo_log.proofs.Locks.{no_locks}
 use Rattle.undo_log.proofs.Turns.{at_rest, group_open, none_open}
@@ -40,18 +40,18 @@ refused_commit failed m new c fault stays refuses outside unlocked takes calls w
 ]
 
 -- What is known of a commit of an exact session that tries a pair of documents, the document being that of a machine.
-module _ {S : Type 0} (facts : S → StoreFacts) (target : Bool) (old new : SessionState S) (so : IsTrue (facts old.disk.store).honest) (free : rest_fault old ≡ None) (locks : locks_in new.resident ≡ locks_in old.resident) where
+module _ {S : Type 0} (facts : S → StoreFacts) (target : Bool) (old new : SessionState S) (so : IsTrue (facts old.disk.store).honest) (free : busy_fault old ≡ None) (locks : locks_in new.resident ≡ locks_in old.resident) where
   none : has_locks old ≡ false
   none = (at_rest old free).1
 
   outside : is_some (option_map (group_of old.document) old.log.group) ≡ false
   outside = group_open (group_of old.document) old.log.group ∙ (at_rest old free).0
 
-  same_numbers : (fault : Fault) (pair : Documents) → Commits facts pair old.disk new.disk (Err fault) → new.disk.sequence ≡ old.disk.sequence
+  same_numbers : (fault : Fault) (pair : Documents) → MayCommit facts pair old.disk new.disk (Err fault) → new.disk.sequence ≡ old.disk.sequence
   same_numbers fault pair commits = commits.sequence
 
   -- where it is refused
-  pub stays : (fault : Fault) (pair : Documents) → Commits facts pair old.disk new.disk (Err fault) → new.document ≡ old.document → new.log ≡ old.log → new.frames ≡ old.frames
+  pub stays : (fault : Fault) (pair : Documents) → MayCommit facts pair old.disk new.disk (Err fault) → new.document ≡ old.document → new.log ≡ old.log → new.frames ≡ old.frames
       → machine_of target new ≡ machine_of target old
   stays fault pair commits d l f =
       let was = commits.err so in
@@ -63,7 +63,7 @@ module _ {S : Type 0} (facts : S → StoreFacts) (target : Bool) (old new : Sess
   -- an update
   pub update_step : (result : Result (Unit {0}) Fault) → IsCommit facts (old.document, old.disk.saved) old.document (file_of old) (file_of new) result → Fails facts IsWorn old.disk.store new.disk.store result
       → (new.log ≡ old.log) × (new.frames ≡ old.frames)
-      → Step (has_failed (facts old.disk.store) (facts new.disk.store)) (machine_of target old) (Some commands.Update) (reply_by (λ _. Accepted) result) (machine_of target new)
+      → Step (failed_since (facts old.disk.store) (facts new.disk.store)) (machine_of target old) (Some commands.Update) (reply_by (λ _. Accepted) result) (machine_of target new)
   update_step (Ok x) commit fails lists =
       let is = commit.commits.ok so in
       let fresh = not_worn (Ok x) commit.worn refl in
@@ -75,7 +75,7 @@ module _ {S : Type 0} (facts : S → StoreFacts) (target : Bool) (old new : Sess
   -- a save
   pub save_step : (result : Result (Unit {0}) Fault) → IsCommit facts (old.document, old.document) old.document (file_of old) (file_of new) result → Fails facts IsWorn old.disk.store new.disk.store result
       → (new.log ≡ old.log) × (new.frames ≡ old.frames)
-      → Step (has_failed (facts old.disk.store) (facts new.disk.store)) (machine_of target old) (Some commands.Save) (reply_by (λ _. Accepted) result) (machine_of target new)
+      → Step (failed_since (facts old.disk.store) (facts new.disk.store)) (machine_of target old) (Some commands.Save) (reply_by (λ _. Accepted) result) (machine_of target new)
   save_step (Ok x) commit fails lists =
       let is = commit.commits.ok so in
       let fresh = not_worn (Ok x) commit.worn refl in
@@ -88,7 +88,7 @@ module _ {S : Type 0} (facts : S → StoreFacts) (target : Bool) (old new : Sess
   pub revert_step : (result : Result (Unit {0}) Fault) → IsCommit facts (old.disk.saved, old.disk.saved) old.disk.saved (file_of old) (file_of new) result
       → Fails facts IsWorn old.disk.store new.disk.store result
       → MatchResult result (λ _. new.log ≡ empty_log) (λ _. new.log ≡ old.log) → new.frames ≡ old.frames
-      → Step (has_failed (facts old.disk.store) (facts new.disk.store)) (machine_of target old) (Some commands.Revert) (reply_by (λ _. Accepted) result) (machine_of target new)
+      → Step (failed_since (facts old.disk.store) (facts new.disk.store)) (machine_of target old) (Some commands.Revert) (reply_by (λ _. Accepted) result) (machine_of target new)
   revert_step (Ok x) commit fails lists frames =
       let is = commit.commits.ok so in
       let fresh = not_worn (Ok x) commit.worn refl in
@@ -98,12 +98,12 @@ module _ {S : Type 0} (facts : S → StoreFacts) (target : Bool) (old new : Sess
       (λ is. commit.worn.0 (ap Err is)) (λ is. failed_true (facts old.disk.store) (facts new.disk.store) (fails.file (ap Err is))) fails.faults
 
 -- the document stays, whether it is refused or not
-kept_document : (honest : Bool) (a b : Document) (result : Result (Unit {0}) Fault) → MatchResult result (λ _. Drifts honest a b) (λ _. Drifts honest a b) → Drifts honest a b
-kept_document honest a b (Ok x) drifts = drifts
-kept_document honest a b (Err fault) drifts = drifts
+kept_document : (honest : Bool) (a b : Document) (result : Result (Unit {0}) Fault) → MatchResult result (λ _. SameUnlessCorrupt honest a b) (λ _. SameUnlessCorrupt honest a b) → SameUnlessCorrupt honest a b
+kept_document honest a b (Ok x) unless_corrupt = unless_corrupt
+kept_document honest a b (Err fault) unless_corrupt = unless_corrupt
 
 -- So it is of sessions, which stay exact.
-module _ {S : Type 0} (facts : S → StoreFacts) (old new : SessionState S) (free : rest_fault old ≡ None) where
+module _ {S : Type 0} (facts : S → StoreFacts) (old new : SessionState S) (free : busy_fault old ≡ None) where
   pub update_is : (result : Result (Unit {0}) Fault) → IsCommit facts (old.document, old.disk.saved) old.document (file_of old) (file_of new) result → Fails facts IsWorn old.disk.store new.disk.store result
       → (new.log ≡ old.log) × (new.frames ≡ old.frames) → new.resident ≡ old.resident → IsStep facts old new commands.Update (reply_by (λ _. Accepted) result)
   update_is result commit fails lists resident = λ exact. (
@@ -135,12 +135,12 @@ module _ {S : Type 0} (facts : S → StoreFacts) (old new : SessionState S) (fre
       (same_exact facts old new commit.commits.honest (commit.document.same exact.honest) lists exact, λ target. revert_step facts target old new exact.honest free (ap locks_in resident) (Err fault) commit fails lists frames)
 
 -- What is known of the log stays, and no document is marked where none was.
-pub committed_invariant : {S : Type 0} (facts : S → StoreFacts) (pair : Documents) (old new : CacheState S) (log : Log) (result : Result (Unit {0}) Fault) → IsCommit facts pair old.document (seen old) (seen new) result → Holds old log → Holds new log
+pub committed_invariant : {S : Type 0} (facts : S → StoreFacts) (pair : Documents) (old new : CacheState S) (log : Log) (result : Result (Unit {0}) Fault) → IsCommit facts pair old.document (as_file old) (as_file new) result → Holds old log → Holds new log
 committed_invariant facts pair old new log result commit holds =
     (drifted_listed _ old.document new.document log (kept_document _ old.document new.document result commit.document) holds.0, none_marked _ old.disk.marked new.disk.marked holds.1 commit.commits.marked)
 
 -- so where it is refused, whatever would have been behind it
-pub refused_invariant : {S : Type 0} (facts : S → StoreFacts) (pair : Documents) (d : Document) (old new : CacheState S) (log : Log) (fault : Fault) → IsCommit facts pair d (seen old) (seen new) (Err fault) → Holds old log → Holds new log
+pub refused_invariant : {S : Type 0} (facts : S → StoreFacts) (pair : Documents) (d : Document) (old new : CacheState S) (log : Log) (fault : Fault) → IsCommit facts pair d (as_file old) (as_file new) (Err fault) → Holds old log → Holds new log
 refused_invariant facts pair d old new log fault commit holds =
     (drifted_listed _ old.document new.document log commit.document holds.0, none_marked _ old.disk.marked new.disk.marked holds.1 commit.commits.marked)
 
@@ -172,10 +172,10 @@ module _ {S : Type 0} (facts : S → StoreFacts) (s : SessionState S) (fault : F
   pub revert_held : IsStep facts s s commands.Revert (Refused fault)
   revert_held = held_step commands.Revert (λ target. refl)
 
-  pub commit_held : (pair : Documents) (d : Document) → IsSettled facts s.disk → TriesCommit facts pair d s s (Err fault)
-  commit_held pair d settled = record {
-    commits = Commits-refused facts s.disk pair fault settled;
-    passes = λ other. Passes-refl facts s.disk;
+  pub commit_held : (pair : Documents) (d : Document) → IsCrashConsistent facts s.disk → IsSessionCommit facts pair d s s (Err fault)
+  commit_held pair d crash_consistent = record {
+    commits = MayCommit-refused facts s.disk pair fault crash_consistent;
+    passes = λ other. KeepsCommitted-refl facts s.disk;
     free = λ free. let no : None ≡ Some fault = sym free ∙ held in absurd (cc no);
     held = λ other is. let same : Some fault ≡ Some other = sym held ∙ is in (ap Err (cc same), refl);
   }
@@ -189,8 +189,8 @@ module _ {S : Type 0} (facts : S → StoreFacts) (s : SessionState S) (fault : F
   fails_held IsOther = record { file = λ is. absurd (not_file (is_some s.log.group) (has_locks s) held is); faults = inr (inr held) }
 
 -- Where neither is it is a commit of the file.
-pub tries_free : {S : Type 0} (facts : S → StoreFacts) (pair : Documents) (d : Document) (old new : SessionState S) (result : Result (Unit {0}) Fault) → rest_fault old ≡ None
-    → IsCommit facts pair d (file_of old) (file_of new) result → TriesCommit facts pair d old new result
+pub tries_free : {S : Type 0} (facts : S → StoreFacts) (pair : Documents) (d : Document) (old new : SessionState S) (result : Result (Unit {0}) Fault) → busy_fault old ≡ None
+    → IsCommit facts pair d (file_of old) (file_of new) result → IsSessionCommit facts pair d old new result
 tries_free facts pair d old new result none commit = record {
   commits = commit.commits;
   passes = commit.passes;
@@ -203,5 +203,5 @@ pub fails_more : {S A : Type 0} (facts : S → StoreFacts) (IsOther IsMore : Fau
 fails_more facts IsOther IsMore old new (Ok x) fails = record { file = fails.file; faults = tt }
 fails_more facts IsOther IsMore old new (Err fault) fails = record {
   file = fails.file;
-  faults = elim fails.faults as (λ _. IsSupply fault ⊎ (IsOther fault ⊎ IsMore fault)) [ inl supply ↦ inl supply | inr other ↦ inr (inl other) ];
+  faults = elim fails.faults as (λ _. IsResourceFault fault ⊎ (IsOther fault ⊎ IsMore fault)) [ inl supply ↦ inl supply | inr other ↦ inr (inl other) ];
 }

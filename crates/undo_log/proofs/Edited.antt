@@ -22,26 +22,26 @@ use Rattle.geos_model.specs.declared.fault.Fault.{Fault}
 use Rattle.geos_model.specs.declared.fault.Fault.TheVariants.{CacheFull, Locked, Memory}
 use Rattle.geos_model.specs.declared.handle.VmHandle.{VmHandle}
 use Rattle.vm_store.specs.Facts.{StoreFacts}
-use Rattle.vm_file.specs.Disk.{Drifts}
-use Rattle.vm_file.proofs.PassingLemmas.{Passes-trans, Drifts-trans}
+use Rattle.vm_file.specs.Disk.{SameUnlessCorrupt}
+use Rattle.vm_file.proofs.PassingLemmas.{KeepsCommitted-trans, SameUnlessCorrupt-trans}
 use Rattle.geos_model.proofs.InFront.{edit-judged, edit-locked, edit-passed}
-use Rattle.block_cache.specs.State.{CacheState, Seat, KeepsLocks, locks_of}
-use Rattle.vm_blocks.specs.Changes.{made, blocks_in}
-use Rattle.vm_blocks.specs.Keeping.{IsSteady, Keeps, Lacks, is_loaded}
-use Rattle.vm_blocks.specs.Preparing.{AreUnlocked, BodyTakes, IsAtHand, IsOutOfReach, IsReady, IsUnready, Makes}
+use Rattle.block_cache.specs.State.{CacheState, ResidentBlock, KeepsLocks, locks_of}
+use Rattle.vm_blocks.specs.Changes.{after_change, incoming_blocks}
+use Rattle.vm_blocks.specs.Keeping.{IsHonest, KeepsBlocks, IsEnvironmentFault, is_loaded}
+use Rattle.vm_blocks.specs.Preparing.{AreUnlocked, AllowsChange, IsInMemory, IsShutOut, CanCarryOut, CantPrepare, IsApplied}
 use Rattle.vm_blocks.specs.declared.change.Change.{Change}
 use Rattle.vm_blocks.specs.declared.change.Change.TheVariants as changes
 use Rattle.vm_blocks.specs.declared.change.Direction.TheVariants.{Backwards}
-use Rattle.vm_blocks.proofs.KeepingLaws.{honest-steady, keeps-passes, keeps-drifts, keeps-frames, keeps-locks, lacks-damaged, lacks-later, loaded-resident, resident-open}
+use Rattle.vm_blocks.proofs.KeepingLaws.{honest-steady, keeps-passes, keeps-unless_corrupt, keeps-frames, keeps-locks, lacks-damaged, lacks-later, loaded-resident, resident-open}
 use Rattle.vm_blocks.proofs.Preparing.{made_on}
 use Rattle.doc_edits.specs.Building.{is_of_chain}
-use Rattle.doc_edits.specs.Planning.{freed_by, kind_of_change, Plans, Refuses, RefusesAtHand}
+use Rattle.doc_edits.specs.Planning.{freed_by, kind_of_change, Plans, RefusesEdit, RefusesInMemory}
 use Rattle.doc_edits.specs.Room.{has_no_room, ReadsNothing}
 use Rattle.undo_log.specs.Locking.{IsBarred, bars}
-use Rattle.undo_log.specs.Editing.{EditsAtHand}
-use Rattle.undo_log.specs.Making.{IsMade}
+use Rattle.undo_log.specs.Editing.{EditsInMemory}
+use Rattle.undo_log.specs.Making.{IsEditApplied}
 use Rattle.undo_log.specs.Logging.{Log, added_to, all_changes, open_changes, to_redo, to_undo, with_change}
-use Rattle.undo_log.specs.Records.{SessionState, blocks_of, machine_of, has_failed, AreListed, AreSteps, IsStep, KeepsSession}
+use Rattle.undo_log.specs.Sessions.{SessionState, cache_of, machine_of, failed_since, CanApplyBothByHandle, AreSteps, IsStep, KeepsSession}
 use Rattle.undo_log.proofs.Answers.{edit_answers}
 use Rattle.undo_log.proofs.Keeping.{gives_up, kept_exact, kept_machine, kept_document, machine_with, passed_machine}
 use Rattle.undo_log.proofs.Listing.{listed_before}
@@ -49,16 +49,16 @@ use Rattle.undo_log.proofs.Locks.{has_no_room-is, is_barred-is, none_of_count}
 use Rattle.undo_log.proofs.Steps.{edited_steps}
 
 -- a block in memory can be brought there
-in_reach : {S : Type 0} (c : Change) (state : CacheState S) → length state.resident ≤ state.frames → IsAtHand c state → IsOutOfReach c state → ⊥
-in_reach (changes.BlocksIn ms) state few at_hand out = out
-in_reach (changes.BlocksOut ms) state few at_hand out = out
-in_reach (changes.Part b part) state few at_hand out = true≢false (sym out ∙ resident-open state b.0 few (loaded-resident state b.0 at_hand))
-in_reach (changes.Attributes b old new) state few at_hand out = out
-in_reach (changes.Map old new) state few at_hand out = out
+in_reach : {S : Type 0} (c : Change) (state : CacheState S) → length state.resident ≤ state.frames → IsInMemory c state → IsShutOut c state → ⊥
+in_reach (changes.BlocksIn ms) state few in_memory out = out
+in_reach (changes.BlocksOut ms) state few in_memory out = out
+in_reach (changes.Part b part) state few in_memory out = true≢false (sym out ∙ resident-open state b.0 few (loaded-resident state b.0 in_memory))
+in_reach (changes.Attributes b old new) state few in_memory out = out
+in_reach (changes.Map old new) state few in_memory out = out
 
 -- The blocks that go by an edit that no lock bars aren't locked.
 
-freed_unlocked : (edit : Edit) (hs : List ℕ) (old mid : List Seat) → KeepsLocks old mid → bars old edit ≡ false → Freed ≡ kind_of edit → ((b : VmHandle) → edit ≡ edits.FreeBlock b → hs ≡ b.0 ∷ [])
+freed_unlocked : (edit : Edit) (hs : List ℕ) (old mid : List ResidentBlock) → KeepsLocks old mid → bars old edit ≡ false → Freed ≡ kind_of edit → ((b : VmHandle) → edit ≡ edits.FreeBlock b → hs ≡ b.0 ∷ [])
     → All (λ h. locks_of mid h ≡ 0) hs
 freed_unlocked (edits.FreeBlock b) hs old mid keeps free kind alone =
     let few = ltb-false 0 (locks_of old b.0) free in
@@ -67,7 +67,7 @@ freed_unlocked (edits.FreeBlock b) hs old mid keeps free kind alone =
 freed_unlocked (edits.FreeChain b) hs old mid keeps free kind alone = λ i d within. keeps.each _ ∙ none_of_count old free _
 freed_unlocked _ hs old mid keeps free kind alone = absurd (cc kind)
 
-pub unlocked_change : (edit : Edit) (c : Change) (old mid : List Seat) → KeepsLocks old mid → bars old edit ≡ false → kind_of_change c ≡ kind_of edit
+pub unlocked_change : (edit : Edit) (c : Change) (old mid : List ResidentBlock) → KeepsLocks old mid → bars old edit ≡ false → kind_of_change c ≡ kind_of edit
     → ((b : VmHandle) → edit ≡ edits.FreeBlock b → freed_by c ≡ b.0 ∷ []) → AreUnlocked c mid
 unlocked_change edit (changes.BlocksIn ms) old mid keeps free kind alone = tt
 unlocked_change edit (changes.BlocksOut ms) old mid keeps free kind alone = freed_unlocked edit (freed_by (changes.BlocksOut ms)) old mid keeps free kind alone
@@ -87,7 +87,7 @@ plain_needs (edits.SetMap b) kind = refl
 plain_needs _ kind = absurd (cc kind)
 
 -- blocks come in by no edit but one that makes some
-none_come_in : (c : Change) (k : Kind) → kind_of_change c ≡ k → k ≢ Made → blocks_in c ≡ []
+none_come_in : (c : Change) (k : Kind) → kind_of_change c ≡ k → k ≢ Made → incoming_blocks c ≡ []
 none_come_in (changes.BlocksIn ms) k kind other = absurd (other (sym kind))
 none_come_in (changes.BlocksOut ms) k kind other = refl
 none_come_in (changes.Part b part) k kind other = refl
@@ -102,13 +102,13 @@ reads_chain state _ own nothing chain = absurd (cc chain)
 
 -- the change is made and no store called, if the body is there and takes it
 abbrev pub IsSurelyMade : {S : Type 0} → Change → CacheState S → CacheState S → Result (Unit {0}) Fault → Type 0
-IsSurelyMade c mid new result = blocks_in c ≡ [] → IsAtHand c mid → BodyTakes c mid.document → IsOk result × (new.disk ≡ mid.disk) × (new.document ≡ made c mid.document)
+IsSurelyMade c mid new result = incoming_blocks c ≡ [] → IsInMemory c mid → AllowsChange c mid.document → IsOk result × (new.disk ≡ mid.disk) × (new.document ≡ after_change c mid.document)
 
 -- so that it isn't refused
-pub never_refused : {S : Type 0} (edit : Edit) (c : Change) (mid new : CacheState S) (fault : Fault) (result : Result (Unit {0}) Fault) → result ≡ Err fault → kind_of_change c ≡ kind_of edit → kind_of edit ≢ Made → IsReady c mid
+pub never_refused : {S : Type 0} (edit : Edit) (c : Change) (mid new : CacheState S) (fault : Fault) (result : Result (Unit {0}) Fault) → result ≡ Err fault → kind_of_change c ≡ kind_of edit → kind_of edit ≢ Made → CanCarryOut c mid
     → IsSurelyMade c mid new result → ⊥
 never_refused edit c mid new fault result was kind other ready sure =
-    not_both result was (sure (none_come_in c (kind_of edit) kind other) ready.at_hand ready.takes).0
+    not_both result was (sure (none_come_in c (kind_of edit) kind other) ready.in_memory ready.takes).0
   where
     not_both : (r : Result (Unit {0}) Fault) → r ≡ Err fault → IsOk r → ⊥
     not_both (Ok u) is accepted = cc is
@@ -134,38 +134,38 @@ changed_steps : (log : Log) (c : Change) (d : Document) → AreSteps Backwards d
 changed_steps log c d are =
     subst (λ (cs : List Change). AreSteps Backwards d cs (to_redo (with_change c log))) (sym (to_undo-is log c)) (subst (λ (cs : List Change). AreSteps Backwards d (c ∷ to_undo log) cs) (sym (to_redo-is log c)) are)
 
-pub changed_listed : (log : Log) (c : Change) (d : Document) → AreListed Backwards d (c ∷ to_undo log) [] → AreListed Backwards d (to_undo (with_change c log)) (to_redo (with_change c log))
+pub changed_listed : (log : Log) (c : Change) (d : Document) → CanApplyBothByHandle Backwards d (c ∷ to_undo log) [] → CanApplyBothByHandle Backwards d (to_undo (with_change c log)) (to_redo (with_change c log))
 changed_listed log c d are =
-    subst (λ (cs : List Change). AreListed Backwards d cs (to_redo (with_change c log))) (sym (to_undo-is log c)) (subst (λ (cs : List Change). AreListed Backwards d (c ∷ to_undo log) cs) (sym (to_redo-is log c)) are)
+    subst (λ (cs : List Change). CanApplyBothByHandle Backwards d cs (to_redo (with_change c log))) (sym (to_undo-is log c)) (subst (λ (cs : List Change). CanApplyBothByHandle Backwards d (c ∷ to_undo log) cs) (sym (to_redo-is log c)) are)
 
 module _ {S : Type 0} (facts : S → StoreFacts) where
   -- A change that is made after its block was brought into memory.
-  module _ (old mid : CacheState S) (keeps : Keeps facts old mid) where
-    pub makes_later : (c : Change) (new : CacheState S) → Makes facts c mid new → Makes facts c old new
+  module _ (old mid : CacheState S) (keeps : KeepsBlocks facts old mid) where
+    pub makes_later : (c : Change) (new : CacheState S) → IsApplied facts c mid new → IsApplied facts c old new
     makes_later c new makes =
         let passes = keeps-passes facts old mid keeps in
         record {
-          passes = Passes-trans facts old.disk mid.disk new.disk passes makes.passes;
-          document = Drifts-trans _ _ _ _ (made_on c _ old.document mid.document (keeps-drifts facts old mid keeps)) (subst (λ (honest : Bool). Drifts honest (made c mid.document) new.document) passes.honest makes.document);
-          at_hand = makes.at_hand;
+          passes = KeepsCommitted-trans facts old.disk mid.disk new.disk passes makes.passes;
+          document = SameUnlessCorrupt-trans _ _ _ _ (made_on c _ old.document mid.document (keeps-unless_corrupt facts old mid keeps)) (subst (λ (honest : Bool). SameUnlessCorrupt honest (after_change c mid.document) new.document) passes.honest makes.document);
+          in_memory = makes.in_memory;
           frames = makes.frames ∙ keeps-frames facts old mid keeps;
           locks = let first = keeps-locks facts old mid keeps in record { each = λ h. makes.locks.each h ∙ first.each h; count = makes.locks.count ∙ first.count };
         }
 
     -- one that the body takes is refused for what the call may lack alone
-    pub unready_lacks : (c : Change) (new : CacheState S) (fault : Fault) → BodyTakes c mid.document → IsAtHand c mid → length mid.resident ≤ mid.frames → IsUnready facts c mid new fault
-        → Lacks facts old.disk.store new.disk.store fault
-    unready_lacks c new fault takes at_hand few unready = lacks-later facts old mid new.disk.store fault keeps (elim unready as (λ _. Lacks facts mid.disk.store new.disk.store fault) [
+    pub unready_lacks : (c : Change) (new : CacheState S) (fault : Fault) → AllowsChange c mid.document → IsInMemory c mid → length mid.resident ≤ mid.frames → CantPrepare facts c mid new fault
+        → IsEnvironmentFault facts old.disk.store new.disk.store fault
+    unready_lacks c new fault takes in_memory few unready = lacks-later facts old mid new.disk.store fault keeps (elim unready as (λ _. IsEnvironmentFault facts mid.disk.store new.disk.store fault) [
       | inl lacks ↦ lacks
-      | inr (inl damaged) ↦ subst (Lacks facts mid.disk.store new.disk.store) (sym damaged.0) (lacks-damaged facts mid.disk.store new.disk.store (λ steady. damaged.1 steady takes))
-      | inr (inr out) ↦ absurd (in_reach c mid few at_hand out.1)
+      | inr (inl damaged) ↦ subst (IsEnvironmentFault facts mid.disk.store new.disk.store) (sym damaged.0) (lacks-damaged facts mid.disk.store new.disk.store (λ steady. damaged.1 steady takes))
+      | inr (inr out) ↦ absurd (in_reach c mid few in_memory out.1)
     ])
 
     -- what was planned for the document as it was held then
-    pub made_of_plan : (edit : Edit) (c : Change) (done : Done) (new : CacheState S) (result : Result (Unit {0}) Fault) → IsReady c mid → has_no_room old (edit_needs edit) ≡ false → kind_of_change c ≡ kind_of edit
-        → ((is_of_chain edit ≡ true → IsSteady facts old.disk.store) → Plans edit mid.document c done) → IsSurelyMade c mid new result → Makes facts c mid new → IsMade facts edit old new c done
+    pub made_of_plan : (edit : Edit) (c : Change) (done : Done) (new : CacheState S) (result : Result (Unit {0}) Fault) → CanCarryOut c mid → has_no_room old (edit_needs edit) ≡ false → kind_of_change c ≡ kind_of edit
+        → ((is_of_chain edit ≡ true → IsHonest facts old.disk.store) → Plans edit mid.document c done) → IsSurelyMade c mid new result → IsApplied facts c mid new → IsEditApplied facts edit old new c done
     made_of_plan edit c done new result ready room kind plans sure makes = record {
-      listed = listed_before c (facts old.disk.store).honest old.document mid.document (keeps-drifts facts old mid keeps) ready.listed;
+      listed = listed_before c (facts old.disk.store).honest old.document mid.document (keeps-unless_corrupt facts old mid keeps) ready.listed;
       makes = makes_later c new makes;
       room = room;
       kind = kind;
@@ -173,22 +173,22 @@ module _ {S : Type 0} (facts : S → StoreFacts) where
           let planned = plans (λ chain. honest-steady facts old.disk.store (so chain)) in
           record {
             loaded = mid.document;
-            drifts = keeps-drifts facts old mid keeps;
+            unless_corrupt = keeps-unless_corrupt facts old mid keeps;
             plans = planned;
-            document = λ other. (sure (none_come_in c (kind_of edit) kind other) ready.at_hand ready.takes).2 ∙ planned.document;
+            document = λ other. (sure (none_come_in c (kind_of edit) kind other) ready.in_memory ready.takes).2 ∙ planned.document;
           };
     }
 
     -- where that is the document before, nothing else is
-    pub made_at_rest : (edit : Edit) (c : Change) (done : Done) (new : CacheState S) (result : Result (Unit {0}) Fault) → mid.disk ≡ old.disk → mid.document ≡ old.document → kind_of edit ≢ Made → IsReady c mid
+    pub made_at_rest : (edit : Edit) (c : Change) (done : Done) (new : CacheState S) (result : Result (Unit {0}) Fault) → mid.disk ≡ old.disk → mid.document ≡ old.document → kind_of edit ≢ Made → CanCarryOut c mid
         → Plans edit mid.document c done → IsSurelyMade c mid new result
         → (new.disk ≡ old.disk) × ((new.document ≡ (effect edit old.document).0) × (done ≡ (effect edit old.document).1))
     made_at_rest edit c done new result disk document other ready plans sure =
-        let is = sure (none_come_in c (kind_of edit) plans.kind other) ready.at_hand ready.takes in
+        let is = sure (none_come_in c (kind_of edit) plans.kind other) ready.in_memory ready.takes in
         (is.1 ∙ disk, (is.2 ∙ plans.document ∙ ap (λ (d : Document). (effect edit d).0) document, plans.answer ∙ ap (λ (d : Document). (effect edit d).1) document))
 
   -- A user ID or the map block is changed without memory.
-  pub plain_sure : (c : Change) (state : CacheState S) → kind_of_change c ≡ Plain → (blocks_in c ≡ []) × IsAtHand c state × BodyTakes c state.document
+  pub plain_sure : (c : Change) (state : CacheState S) → kind_of_change c ≡ Plain → (incoming_blocks c ≡ []) × IsInMemory c state × AllowsChange c state.document
   plain_sure (changes.BlocksIn ms) state plain = absurd (cc plain)
   plain_sure (changes.BlocksOut ms) state plain = absurd (cc plain)
   plain_sure (changes.Part b part) state plain = absurd (cc plain)
@@ -196,26 +196,26 @@ module _ {S : Type 0} (facts : S → StoreFacts) where
   plain_sure (changes.Map old new) state plain = (refl, tt, tt)
 
   -- the block of a part is in memory where the change was made
-  pub made_at_hand : (c : Change) (k : Kind) (state : CacheState S) → kind_of_change c ≡ k → IsAtHand c state → (b : VmHandle) → k ≡ In b → is_loaded state b.0 ≡ true
-  made_at_hand (changes.BlocksIn ms) k state kind at_hand b is = absurd (cc (kind ∙ is))
-  made_at_hand (changes.BlocksOut ms) k state kind at_hand b is = absurd (cc (kind ∙ is))
-  made_at_hand (changes.Part h part) k state kind at_hand b is = let same : In h ≡ In b = kind ∙ is in subst (λ (x : VmHandle). is_loaded state x.0 ≡ true) (cc same) at_hand
-  made_at_hand (changes.Attributes h old new) k state kind at_hand b is = absurd (cc (kind ∙ is))
-  made_at_hand (changes.Map old new) k state kind at_hand b is = absurd (cc (kind ∙ is))
+  pub made_at_hand : (c : Change) (k : Kind) (state : CacheState S) → kind_of_change c ≡ k → IsInMemory c state → (b : VmHandle) → k ≡ In b → is_loaded state b.0 ≡ true
+  made_at_hand (changes.BlocksIn ms) k state kind in_memory b is = absurd (cc (kind ∙ is))
+  made_at_hand (changes.BlocksOut ms) k state kind in_memory b is = absurd (cc (kind ∙ is))
+  made_at_hand (changes.Part h part) k state kind in_memory b is = let same : In h ≡ In b = kind ∙ is in subst (λ (x : VmHandle). is_loaded state x.0 ≡ true) (cc same) in_memory
+  made_at_hand (changes.Attributes h old new) k state kind in_memory b is = absurd (cc (kind ∙ is))
+  made_at_hand (changes.Map old new) k state kind in_memory b is = absurd (cc (kind ∙ is))
 
   module _ (old new : SessionState S) (edit : Edit) (distinct : all_distinct (map (λ s. s.0) old.resident) ≡ true) (free : bars old.resident edit ≡ false) where
-    pub edit_step : (c : Change) (done : Done) → IsMade facts edit (blocks_of old) (blocks_of new) c done → new.log ≡ with_change c old.log → IsStep facts old new (commands.Edit edit) (reply_of_done done)
+    pub edit_step : (c : Change) (done : Done) → IsEditApplied facts edit (cache_of old) (cache_of new) c done → new.log ≡ with_change c old.log → IsStep facts old new (commands.Edit edit) (reply_of_done done)
     edit_step c done is log = λ exact.
         let so = exact.honest in
         let meant = is.meant (λ _. so) in
-        let plans : Plans edit old.document c done = subst (λ (d : Document). Plans edit d c done) (meant.drifts.same so) meant.plans in
-        let document : new.document ≡ made c old.document = is.makes.document.same so in
-        let steps : AreSteps Backwards (made c old.document) (to_undo (with_change c old.log)) (to_redo (with_change c old.log)) =
-        changed_steps old.log c (made c old.document) (edited_steps old.document (to_undo old.log) (to_redo old.log) c exact.steps plans.applies) in (
+        let plans : Plans edit old.document c done = subst (λ (d : Document). Plans edit d c done) (meant.unless_corrupt.same so) meant.plans in
+        let document : new.document ≡ after_change c old.document = is.makes.document.same so in
+        let steps : AreSteps Backwards (after_change c old.document) (to_undo (with_change c old.log)) (to_redo (with_change c old.log)) =
+        changed_steps old.log c (after_change c old.document) (edited_steps old.document (to_undo old.log) (to_redo old.log) c exact.steps plans.applies) in (
           record {
             honest = subst IsTrue (sym is.makes.passes.honest) so;
             steps = subst (λ (d : Document). AreSteps Backwards d (to_undo new.log) (to_redo new.log)) (sym document)
-                (subst (λ (l : Log). AreSteps Backwards (made c old.document) (to_undo l) (to_redo l)) (sym log) steps);
+                (subst (λ (l : Log). AreSteps Backwards (after_change c old.document) (to_undo l) (to_redo l)) (sym log) steps);
           },
           λ target.
               let m = machine_of target old in
@@ -229,46 +229,46 @@ module _ {S : Type 0} (facts : S → StoreFacts) where
         same : new_m ≡ m
         document : m.document ≡ old.document
         unbarred : is_barred edit m ≡ false
-        room : machine.has_no_room m (edit_needs edit) ≡ has_no_room (blocks_of old) (edit_needs edit)
+        room : machine.has_no_room m (edit_needs edit) ≡ has_no_room (cache_of old) (edit_needs edit)
 
       module _ (m new_m : Machine) (judges : Judges m new_m) (so : IsTrue (facts old.disk.store).honest) where
         -- the first refusal is its own
-        refused_first : first_refusal ((CacheFull, has_no_room (blocks_of old) (edit_needs edit)) ∷ conditions edit new.document) ≡ Some fault → Answers m (Some (commands.Edit edit)) (Refused fault) m
+        refused_first : first_refusal ((CacheFull, has_no_room (cache_of old) (edit_needs edit)) ∷ conditions edit new.document) ≡ Some fault → Answers m (Some (commands.Edit edit)) (Refused fault) m
         refused_first first =
             let judged : first_refusal (machine.command_conditions (commands.Edit edit) m) ≡ Some fault =
             edit-judged edit m judges.unbarred
             ∙ ap (λ r. first_refusal ((CacheFull, r) ∷ conditions edit m.document)) judges.room
-            ∙ ap (λ (d : Document). first_refusal ((CacheFull, has_no_room (blocks_of old) (edit_needs edit)) ∷ conditions edit d)) (judges.document ∙ sym (kept_document facts old new keeps so))
+            ∙ ap (λ (d : Document). first_refusal ((CacheFull, has_no_room (cache_of old) (edit_needs edit)) ∷ conditions edit d)) (judges.document ∙ sym (kept_document facts old new keeps so))
             ∙ first in
             ap (λ o. option_map_or (λ f. Some (Refused f, m)) o (machine.done_by (commands.Edit edit) m)) judged
 
-        refused_alone : has_no_room (blocks_of old) (edit_needs edit) ≡ false → first_refusal (conditions edit new.document) ≡ Some fault → Answers m (Some (commands.Edit edit)) (Refused fault) m
+        refused_alone : has_no_room (cache_of old) (edit_needs edit) ≡ false → first_refusal (conditions edit new.document) ≡ Some fault → Answers m (Some (commands.Edit edit)) (Refused fault) m
         refused_alone room first = rw (edit-passed edit m judges.unbarred (judges.room ∙ room), judges.document, ← kept_document facts old new keeps so, first) refl
 
         refused_in : (k : Kind) → kind_of edit ≡ k → is_of_no_body k ≡ false
-            → Refuses (Lacks facts old.disk.store new.disk.store) (has_no_room (blocks_of old) (edit_needs edit)) edit new.document fault
-            → Step (has_failed (facts old.disk.store) (facts new.disk.store)) m (Some (commands.Edit edit)) (Refused fault) new_m
-        refused_in k kind body refuses = elim refuses as (λ _. Step (has_failed (facts old.disk.store) (facts new.disk.store)) m (Some (commands.Edit edit)) (Refused fault) new_m) [
+            → RefusesEdit (IsEnvironmentFault facts old.disk.store new.disk.store) (has_no_room (cache_of old) (edit_needs edit)) edit new.document fault
+            → Step (failed_since (facts old.disk.store) (facts new.disk.store)) m (Some (commands.Edit edit)) (Refused fault) new_m
+        refused_in k kind body refuses = elim refuses as (λ _. Step (failed_since (facts old.disk.store) (facts new.disk.store)) m (Some (commands.Edit edit)) (Refused fault) new_m) [
           | inl lacks ↦ gives_up facts old.disk.store new.disk.store m new_m (commands.Edit edit) fault so lacks judges.same refl (rw (kind, body) refl)
           | inr first ↦ inl (rw judges.same (refused_first first))
         ]
 
-        refused_plain : kind_of edit ≡ Plain → RefusesAtHand edit new.document fault → Step (has_failed (facts old.disk.store) (facts new.disk.store)) m (Some (commands.Edit edit)) (Refused fault) new_m
-        refused_plain kind refuses = elim refuses as (λ _. Step (has_failed (facts old.disk.store) (facts new.disk.store)) m (Some (commands.Edit edit)) (Refused fault) new_m) [
+        refused_plain : kind_of edit ≡ Plain → RefusesInMemory edit new.document fault → Step (failed_since (facts old.disk.store) (facts new.disk.store)) m (Some (commands.Edit edit)) (Refused fault) new_m
+        refused_plain kind refuses = elim refuses as (λ _. Step (failed_since (facts old.disk.store) (facts new.disk.store)) m (Some (commands.Edit edit)) (Refused fault) new_m) [
           | inl memory ↦ inr (record { fault = Memory; may = refl; says = ap Refused memory; stays = judges.same })
-          | inr first ↦ inl (rw judges.same (refused_alone (ap (has_no_room (blocks_of old)) (plain_needs edit kind)) first))
+          | inr first ↦ inl (rw judges.same (refused_alone (ap (has_no_room (cache_of old)) (plain_needs edit kind)) first))
         ]
 
-        by_kind : (k : Kind) → kind_of edit ≡ k → Refuses (Lacks facts old.disk.store new.disk.store) (has_no_room (blocks_of old) (edit_needs edit)) edit new.document fault
-            → (kind_of edit ≡ Plain → RefusesAtHand edit new.document fault) → Step (has_failed (facts old.disk.store) (facts new.disk.store)) m (Some (commands.Edit edit)) (Refused fault) new_m
+        by_kind : (k : Kind) → kind_of edit ≡ k → RefusesEdit (IsEnvironmentFault facts old.disk.store new.disk.store) (has_no_room (cache_of old) (edit_needs edit)) edit new.document fault
+            → (kind_of edit ≡ Plain → RefusesInMemory edit new.document fault) → Step (failed_since (facts old.disk.store) (facts new.disk.store)) m (Some (commands.Edit edit)) (Refused fault) new_m
         by_kind Plain kind refuses plain = refused_plain kind (plain kind)
         by_kind (In b) kind refuses plain = refused_in (In b) kind refl refuses
         by_kind Made kind refuses plain = refused_in Made kind refl refuses
         by_kind Freed kind refuses plain = refused_in Freed kind refl refuses
         by_kind Group kind refuses plain = refused_in Group kind refl refuses
 
-      pub edit_refused : (IsTrue (facts old.disk.store).honest → Refuses (Lacks facts old.disk.store new.disk.store) (has_no_room (blocks_of old) (edit_needs edit)) edit new.document fault)
-          → (kind_of edit ≡ Plain → RefusesAtHand edit new.document fault) → IsStep facts old new (commands.Edit edit) (Refused fault)
+      pub edit_refused : (IsTrue (facts old.disk.store).honest → RefusesEdit (IsEnvironmentFault facts old.disk.store new.disk.store) (has_no_room (cache_of old) (edit_needs edit)) edit new.document fault)
+          → (kind_of edit ≡ Plain → RefusesInMemory edit new.document fault) → IsStep facts old new (commands.Edit edit) (Refused fault)
       edit_refused refuses plain = λ exact. (
         kept_exact facts old new keeps exact,
         λ target.
@@ -296,9 +296,9 @@ not_barred s edit distinct free all = true≢false (sym (all true) ∙ is_barred
 
 -- An edit for which no store is called, refused.
 module _ {S : Type 0} (edit : Edit) (old new : SessionState S) (disk : new.disk ≡ old.disk) where
-  pub refused_at_hand : (fault : Fault) (result : Result Done Fault) → IsErrAnd result (λ e. e ≡ fault) → new.document ≡ old.document → IsBarred edit old fault ⊎ RefusesAtHand edit old.document fault → EditsAtHand edit old new result
+  pub refused_at_hand : (fault : Fault) (result : Result Done Fault) → IsErrAnd result (λ e. e ≡ fault) → new.document ≡ old.document → IsBarred edit old fault ⊎ RefusesInMemory edit old.document fault → EditsInMemory edit old new result
   refused_at_hand fault (Ok done) is document why = absurd is
-  refused_at_hand fault (Err e) is document why = record { disk = disk; ok = tt; err = (document, subst (λ (f : Fault). IsBarred edit old f ⊎ RefusesAtHand edit old.document f) (sym is) why) }
+  refused_at_hand fault (Err e) is document why = record { disk = disk; ok = tt; err = (document, subst (λ (f : Fault). IsBarred edit old f ⊎ RefusesInMemory edit old.document f) (sym is) why) }
 
 -- the fault that `?` hands on
 pub carried_fault : {A : Type 0} (result : Result A Fault) (P : Fault → Type 0) (fault : Fault) → IsErrAnd result (λ e. e ≡ fault) → P fault → IsErrAnd result P

@@ -7,15 +7,15 @@ use Rattle.geos_model.specs.Machine.{IsValidGroup, Step}
 use Rattle.geos_model.specs.Reply.{Accepted}
 use Rattle.geos_model.specs.declared.command.Command.TheVariants as commands
 use Rattle.vm_store.specs.Facts.{StoreFacts}
-use Rattle.vm_file.specs.Disk.{IsListed}
+use Rattle.vm_file.specs.Disk.{IsFileDocument}
 use Rattle.block_cache.specs.State.{CacheState}
-use Rattle.vm_blocks.specs.Changes.{turned}
-use Rattle.vm_blocks.specs.Preparing.{AllListed, MakesAll}
+use Rattle.vm_blocks.specs.Changes.{directed}
+use Rattle.vm_blocks.specs.Preparing.{CanApplyAllByHandle, AreApplied}
 use Rattle.vm_blocks.specs.declared.change.Change.{Change}
 use Rattle.vm_blocks.specs.declared.change.Direction.TheVariants.{Forwards, Backwards}
-use Rattle.undo_log.specs.Logging.{AreExclusive, IsFirst, Log, after_all, all_changes, before, changes_in, closed_with, group_of, open_changes, redone, steps, to_redo, to_undo, turned_over, undone, with_group_closed}
-use Rattle.undo_log.specs.Records.{SessionState, machine_of, AreListed, AreSteps, IsExact}
-use Rattle.undo_log.specs.Turning.{MakesEntry}
+use Rattle.undo_log.specs.Logging.{AreExclusive, IsHead, Log, after_all, all_changes, before, changes_in, closed_with, group_of, open_changes, log_redone, steps, to_redo, to_undo, turned_over, log_undone, with_group_closed}
+use Rattle.undo_log.specs.Sessions.{SessionState, machine_of, CanApplyBothByHandle, AreSteps, IsExact}
+use Rattle.undo_log.specs.Turning.{IsEntryApplied}
 use Rattle.undo_log.specs.declared.entry.LogEntry.{LogEntry}
 use Rattle.undo_log.proofs.Answers.{begin_moved, end_moved}
 use Rattle.undo_log.proofs.Keeping.{Holds, answers_on, machine_with, none_marked}
@@ -61,7 +61,7 @@ opened_undo log none = sym (ap (λ (g : Option (List Change)). open_changes g ++
 -- with the same changes what is known of the blocks stays
 pub same_holds : {S : Type 0} (blocks : CacheState S) (old new : Log) → to_undo new ≡ to_undo old → to_redo new ≡ to_redo old → Holds blocks old → Holds blocks new
 same_holds blocks old new undo redo holds = (
-  subst (λ (cs : List Change). AreListed Backwards blocks.document cs (to_redo new)) (sym undo) (subst (λ (cs : List Change). AreListed Backwards blocks.document (to_undo old) cs) (sym redo) holds.0),
+  subst (λ (cs : List Change). CanApplyBothByHandle Backwards blocks.document cs (to_redo new)) (sym undo) (subst (λ (cs : List Change). CanApplyBothByHandle Backwards blocks.document (to_undo old) cs) (sym redo) holds.0),
   holds.1,
 )
 
@@ -94,37 +94,37 @@ module _ {S : Type 0} (s : SessionState S) where
 
 module _ {S : Type 0} (facts : S → StoreFacts) (old new : CacheState S) (log : Log) where
   -- An entry was made.
-  module _ (e : LogEntry) (none : log.group ≡ None) (known : IsListed (facts old.disk.store).honest old.document) where
-    undo_known : (first : IsFirst e log.undo) → Holds old log → AreListed Backwards old.document (all_changes (e ∷ first.others)) (all_changes log.redo)
+  module _ (e : LogEntry) (none : log.group ≡ None) (known : IsFileDocument (facts old.disk.store).honest old.document) where
+    undo_known : (first : IsHead e log.undo) → Holds old log → CanApplyBothByHandle Backwards old.document (all_changes (e ∷ first.others)) (all_changes log.redo)
     undo_known first holds =
-        subst (λ (es : List LogEntry). AreListed Backwards old.document (all_changes es) (all_changes log.redo)) first.are
-        (subst (λ (g : Option (List Change)). AreListed Backwards old.document (open_changes g ++ all_changes log.undo) (all_changes log.redo)) none holds.0)
+        subst (λ (es : List LogEntry). CanApplyBothByHandle Backwards old.document (all_changes es) (all_changes log.redo)) first.are
+        (subst (λ (g : Option (List Change)). CanApplyBothByHandle Backwards old.document (open_changes g ++ all_changes log.undo) (all_changes log.redo)) none holds.0)
 
-    redo_known : (first : IsFirst e log.redo) → Holds old log → AreListed Forwards old.document (all_changes (e ∷ first.others)) (all_changes log.undo)
+    redo_known : (first : IsHead e log.redo) → Holds old log → CanApplyBothByHandle Forwards old.document (all_changes (e ∷ first.others)) (all_changes log.undo)
     redo_known first holds =
-        subst (λ (es : List LogEntry). AreListed Forwards old.document (all_changes es) (all_changes log.undo)) first.are
-        (swapped_listed old.document (all_changes log.undo) (all_changes log.redo) (subst (λ (g : Option (List Change)). AreListed Backwards old.document (open_changes g ++ all_changes log.undo) (all_changes log.redo)) none holds.0))
+        subst (λ (es : List LogEntry). CanApplyBothByHandle Forwards old.document (all_changes es) (all_changes log.undo)) first.are
+        (swapped_listed old.document (all_changes log.undo) (all_changes log.redo) (subst (λ (g : Option (List Change)). CanApplyBothByHandle Backwards old.document (open_changes g ++ all_changes log.undo) (all_changes log.redo)) none holds.0))
 
-    pub undo_listed : IsFirst e log.undo → Holds old log → AllListed (map (turned Backwards) (changes_in e)) old.document
+    pub undo_listed : IsHead e log.undo → Holds old log → CanApplyAllByHandle (map (directed Backwards) (changes_in e)) old.document
     undo_listed first holds = entry_listed Backwards e first.others old.document (undo_known first holds).first
 
-    pub redo_listed : IsFirst e log.redo → Holds old log → AllListed (map (turned Forwards) (changes_in e)) old.document
+    pub redo_listed : IsHead e log.redo → Holds old log → CanApplyAllByHandle (map (directed Forwards) (changes_in e)) old.document
     redo_listed first holds = entry_listed Forwards e first.others old.document (redo_known first holds).first
 
-    pub undone_invariant : IsFirst e log.undo → MakesEntry facts Backwards e old new → Holds old log → Holds new (undone log)
+    pub undone_invariant : IsHead e log.undo → IsEntryApplied facts Backwards e old new → Holds old log → Holds new (log_undone log)
     undone_invariant first makes holds =
-        let is : undone log ≡ log_of first.others (turned_over e ∷ log.redo) None = rw (first.are, none) refl in
+        let is : log_undone log ≡ log_of first.others (turned_over e ∷ log.redo) None = rw (first.are, none) refl in
         let honest = (facts old.disk.store).honest in (
-          subst (λ (l : Log). AreListed Backwards new.document (to_undo l) (to_redo l)) (sym is)
+          subst (λ (l : Log). CanApplyBothByHandle Backwards new.document (to_undo l) (to_redo l)) (sym is)
               (moved_listed honest Backwards old.document new.document e first.others log.redo known (drifted honest _ new.document (entry_document facts Backwards e old new makes)) (undo_known first holds)),
           none_marked honest old.disk.marked new.disk.marked holds.1 (entry_passes facts Backwards e old new makes).marked,
         )
 
-    pub redone_invariant : IsFirst e log.redo → MakesEntry facts Forwards e old new → Holds old log → Holds new (redone log)
+    pub redone_invariant : IsHead e log.redo → IsEntryApplied facts Forwards e old new → Holds old log → Holds new (log_redone log)
     redone_invariant first makes holds =
-        let is : redone log ≡ log_of (turned_over e ∷ log.undo) first.others None = rw (first.are, none) refl in
+        let is : log_redone log ≡ log_of (turned_over e ∷ log.undo) first.others None = rw (first.are, none) refl in
         let honest = (facts old.disk.store).honest in (
-          subst (λ (l : Log). AreListed Backwards new.document (to_undo l) (to_redo l)) (sym is)
+          subst (λ (l : Log). CanApplyBothByHandle Backwards new.document (to_undo l) (to_redo l)) (sym is)
               (swapped_back_listed new.document (all_changes (turned_over e ∷ log.undo)) (all_changes first.others)
               (moved_listed honest Forwards old.document new.document e first.others log.undo known (drifted honest _ new.document (entry_document facts Forwards e old new makes)) (redo_known first holds))),
           none_marked honest old.disk.marked new.disk.marked holds.1 (entry_passes facts Forwards e old new makes).marked,
@@ -132,17 +132,17 @@ module _ {S : Type 0} (facts : S → StoreFacts) (old new : CacheState S) (log :
 
   -- The group that is open is taken back.
   module _ (cs : List Change) (is_open : log.group ≡ Some cs) where
-    group_known : Holds old log → AreListed Backwards old.document (cs ++ all_changes log.undo) (all_changes log.redo)
-    group_known holds = subst (λ (g : Option (List Change)). AreListed Backwards old.document (open_changes g ++ all_changes log.undo) (all_changes log.redo)) is_open holds.0
+    group_known : Holds old log → CanApplyBothByHandle Backwards old.document (cs ++ all_changes log.undo) (all_changes log.redo)
+    group_known holds = subst (λ (g : Option (List Change)). CanApplyBothByHandle Backwards old.document (open_changes g ++ all_changes log.undo) (all_changes log.redo)) is_open holds.0
 
-    pub group_listed : Holds old log → AllListed (map (turned Backwards) cs) old.document
+    pub group_listed : Holds old log → CanApplyAllByHandle (map (directed Backwards) cs) old.document
     group_listed holds = listed_front Backwards cs (all_changes log.undo) old.document (group_known holds).first
 
-    apart_listed : (xs : List Change) → AreExclusive xs log.redo → AllListed (map (turned Forwards) (all_changes log.redo)) old.document → AllListed (map (turned Forwards) (all_changes log.redo)) (after_all Backwards xs old.document)
+    apart_listed : (xs : List Change) → AreExclusive xs log.redo → CanApplyAllByHandle (map (directed Forwards) (all_changes log.redo)) old.document → CanApplyAllByHandle (map (directed Forwards) (all_changes log.redo)) (after_all Backwards xs old.document)
     apart_listed [] apart listed = listed
-    apart_listed (x ∷ xs) apart listed = subst (λ (es : List LogEntry). AllListed (map (turned Forwards) (all_changes es)) (after_all Backwards (x ∷ xs) old.document)) (sym apart) tt
+    apart_listed (x ∷ xs) apart listed = subst (λ (es : List LogEntry). CanApplyAllByHandle (map (directed Forwards) (all_changes es)) (after_all Backwards (x ∷ xs) old.document)) (sym apart) tt
 
-    pub abandoned_invariant : AreExclusive cs log.redo → MakesAll facts (map (turned Backwards) cs) old new → Holds old log → Holds new (record log { group = None })
+    pub abandoned_invariant : AreExclusive cs log.redo → AreApplied facts (map (directed Backwards) cs) old new → Holds old log → Holds new (record log { group = None })
     abandoned_invariant apart makes holds =
         let honest = (facts old.disk.store).honest in (
           are_listed_alike Backwards (after_all Backwards cs old.document) new.document (all_changes log.undo) (all_changes log.redo) (drifted honest _ new.document makes.document)

@@ -10,14 +10,14 @@ use Rattle.geos_model.specs.Reply.{Reply, Refused}
 use Rattle.geos_model.specs.declared.command.Command.{Command}
 use Rattle.geos_model.specs.declared.fault.Fault.{Fault}
 use Rattle.geos_model.specs.declared.fault.Fault.TheVariants.{Memory, File}
-use Rattle.vm_store.specs.Facts.{StoreFacts, Raised, raised}
-use Rattle.vm_file.specs.Disk.{Drifts, MarkDrifts, Passes}
+use Rattle.vm_store.specs.Facts.{StoreFacts, FailedSince, raised}
+use Rattle.vm_file.specs.Disk.{SameUnlessCorrupt, MarkSameUnlessCorrupt, KeepsCommitted}
 use Rattle.block_cache.specs.State.{CacheState, KeepsLocks}
-use Rattle.vm_blocks.specs.Keeping.{Keeps, Lacks}
+use Rattle.vm_blocks.specs.Keeping.{KeepsBlocks, IsEnvironmentFault}
 use Rattle.vm_blocks.specs.declared.change.Direction.TheVariants.{Forwards, Backwards}
-use Rattle.vm_blocks.proofs.KeepingLaws.{keeps-refl, keeps-passes, keeps-drifts, keeps-frames, keeps-locks, lacks-cases}
+use Rattle.vm_blocks.proofs.KeepingLaws.{keeps-refl, keeps-passes, keeps-unless_corrupt, keeps-frames, keeps-locks, lacks-cases}
 use Rattle.undo_log.specs.Logging.{Log, before, group_of, steps, to_redo, to_undo}
-use Rattle.undo_log.specs.Records.{SessionState, blocks_of, locks_in, machine_of, has_failed, AreListed, AreSteps, IsExact, KeepsSession}
+use Rattle.undo_log.specs.Sessions.{SessionState, cache_of, locks_in, machine_of, failed_since, CanApplyBothByHandle, AreSteps, IsExact, KeepsSession}
 use Rattle.undo_log.proofs.Listing.{drifted, are_listed_alike}
 use Rattle.undo_log.proofs.Locks.{kept_locks}
 
@@ -57,14 +57,14 @@ machine_with m d log = record m { document = d; past = steps Backwards log.undo 
 pub answers_on : (m m' n n' : Machine) (request : Request) (reply : Reply) → m ≡ m' → n ≡ n' → Answers m' request reply n' → Answers m request reply n
 answers_on m m' n n' request reply p q is = ap (next request) p ∙ is ∙ ap (λ (x : Machine). Some (reply, x)) (sym q)
 
-pub failed_true : (a b : StoreFacts) → Raised a b → has_failed a b ≡ true
+pub failed_true : (a b : StoreFacts) → FailedSince a b → failed_since a b ≡ true
 failed_true a b more = le-leb (raised a.failures) b.failures more
 
 module _ {S : Type 0} (facts : S → StoreFacts) where
-  -- What is wanting that no rule decides stands in place of the answer.
-  pub gives_up : (a b : S) (m new : Machine) (c : Command) (fault : Fault) → IsTrue (facts a).honest → Lacks facts a b fault → new ≡ m → takes_memory c m ≡ true → calls_store c m ≡ true
-      → Step (has_failed (facts a) (facts b)) m (Some c) (Refused fault) new
-  gives_up a b m new c fault so lacks stays takes calls = elim (lacks-cases facts a b fault lacks) as (λ _. Step (has_failed (facts a) (facts b)) m (Some c) (Refused fault) new) [
+  -- What no rule decides stands in place of the answer.
+  pub gives_up : (a b : S) (m new : Machine) (c : Command) (fault : Fault) → IsTrue (facts a).honest → IsEnvironmentFault facts a b fault → new ≡ m → takes_memory c m ≡ true → calls_store c m ≡ true
+      → Step (failed_since (facts a) (facts b)) m (Some c) (Refused fault) new
+  gives_up a b m new c fault so lacks stays takes calls = elim (lacks-cases facts a b fault lacks) as (λ _. Step (failed_since (facts a) (facts b)) m (Some c) (Refused fault) new) [
     | inl memory ↦ inr (record { fault = Memory; may = takes; says = ap Refused memory; stays = stays })
     | inr (inl failed) ↦ inr (record { fault = File; may = rw (failed_true (facts a) (facts b) failed.1, calls) refl; says = ap Refused failed.0; stays = stays })
     | inr (inr damage) ↦ absurd (damage.1 so)
@@ -80,23 +80,23 @@ module _ {S : Type 0} (facts : S → StoreFacts) where
     }
 
     -- the machine after a call that commits nothing
-    pub passed_machine : (target : Bool) → IsTrue (facts old.disk.store).honest → Passes facts old.disk new.disk → new.frames ≡ old.frames → KeepsLocks old.resident new.resident
+    pub passed_machine : (target : Bool) → IsTrue (facts old.disk.store).honest → KeepsCommitted facts old.disk new.disk → new.frames ≡ old.frames → KeepsLocks old.resident new.resident
         → machine_of target new ≡ machine_with (machine_of target old) new.document new.log
     passed_machine target so passes frames locks = sym (machine_is target new.document old.disk.updated old.disk.saved new.log (locks_in old.resident) old.frames old.disk.sequence new
         refl refl (sym (passes.updated so)) (sym (passes.saved so)) (sym (kept_locks old.resident new.resident locks)) (sym frames) (sym passes.sequence))
 
     module _ (keeps : KeepsSession facts old new) where
-      pub kept_passes : Passes facts old.disk new.disk
-      kept_passes = keeps-passes facts (blocks_of old) (blocks_of new) keeps.blocks
+      pub kept_passes : KeepsCommitted facts old.disk new.disk
+      kept_passes = keeps-passes facts (cache_of old) (cache_of new) keeps.blocks
 
-      pub kept_drifts : Drifts (facts old.disk.store).honest old.document new.document
-      kept_drifts = keeps-drifts facts (blocks_of old) (blocks_of new) keeps.blocks
+      pub kept_drifts : SameUnlessCorrupt (facts old.disk.store).honest old.document new.document
+      kept_drifts = keeps-unless_corrupt facts (cache_of old) (cache_of new) keeps.blocks
 
       pub kept_frames : new.frames ≡ old.frames
-      kept_frames = keeps-frames facts (blocks_of old) (blocks_of new) keeps.blocks
+      kept_frames = keeps-frames facts (cache_of old) (cache_of new) keeps.blocks
 
       pub kept_locked : KeepsLocks old.resident new.resident
-      kept_locked = keeps-locks facts (blocks_of old) (blocks_of new) keeps.blocks
+      kept_locked = keeps-locks facts (cache_of old) (cache_of new) keeps.blocks
 
       pub kept_document : IsTrue (facts old.disk.store).honest → new.document ≡ old.document
       kept_document so = kept_drifts.same so
@@ -110,24 +110,24 @@ module _ {S : Type 0} (facts : S → StoreFacts) where
           (sym (kept_passes.updated exact.honest)) (sym (kept_passes.saved exact.honest)) (sym (kept_locks old.resident new.resident kept_locked)) (sym kept_frames) (sym kept_passes.sequence))
 
   pub keeps_refl : (s : SessionState S) → KeepsSession facts s s
-  keeps_refl s = record { blocks = keeps-refl facts (blocks_of s); log = refl }
+  keeps_refl s = record { blocks = keeps-refl facts (cache_of s); log = refl }
 
 -- The invariant stays with the log, in a document that drifts.
-pub drifted_listed : (honest : Bool) (a b : Document) (log : Log) → Drifts honest a b → AreListed Backwards a (to_undo log) (to_redo log) → AreListed Backwards b (to_undo log) (to_redo log)
-drifted_listed honest a b log drifts are = are_listed_alike Backwards a b (to_undo log) (to_redo log) (drifted honest a b drifts) are
+pub drifted_listed : (honest : Bool) (a b : Document) (log : Log) → SameUnlessCorrupt honest a b → CanApplyBothByHandle Backwards a (to_undo log) (to_redo log) → CanApplyBothByHandle Backwards b (to_undo log) (to_redo log)
+drifted_listed honest a b log unless_corrupt are = are_listed_alike Backwards a b (to_undo log) (to_redo log) (drifted honest a b unless_corrupt) are
 
 -- No document is marked where none was.
-pub none_marked : (honest : Bool) (old new : Option Document) → old ≡ None → MarkDrifts honest old new → new ≡ None
-none_marked honest None new none drifts = drifts
-none_marked honest (Some d) new none drifts = absurd (cc none)
+pub none_marked : (honest : Bool) (old new : Option Document) → old ≡ None → MarkSameUnlessCorrupt honest old new → new ≡ None
+none_marked honest None new none unless_corrupt = unless_corrupt
+none_marked honest (Some d) new none unless_corrupt = absurd (cc none)
 
 -- what a session keeps true of its blocks and its log
 abbrev pub Holds : {S : Type 0} → CacheState S → Log → Type 0
-Holds blocks log = AreListed Backwards blocks.document (to_undo log) (to_redo log) × (blocks.disk.marked ≡ None)
+Holds blocks log = CanApplyBothByHandle Backwards blocks.document (to_undo log) (to_redo log) × (blocks.disk.marked ≡ None)
 
 -- A call that commits nothing keeps it.
-pub kept_invariant : {S : Type 0} (facts : S → StoreFacts) (old new : CacheState S) (log : Log) → Keeps facts old new → Holds old log → Holds new log
+pub kept_invariant : {S : Type 0} (facts : S → StoreFacts) (old new : CacheState S) (log : Log) → KeepsBlocks facts old new → Holds old log → Holds new log
 kept_invariant facts old new log keeps holds = (
-  drifted_listed _ old.document new.document log (keeps-drifts facts old new keeps) holds.0,
+  drifted_listed _ old.document new.document log (keeps-unless_corrupt facts old new keeps) holds.0,
   none_marked _ old.disk.marked new.disk.marked holds.1 (keeps-passes facts old new keeps).marked,
 )

@@ -20,11 +20,11 @@ use Rattle.geos_model.proofs.HeapEdits.{get-put_same, get-put_other, get-taken_s
 use Rattle.vm_store.specs.Facts.{StoreFacts}
 use Rattle.block_cache.specs.State.{CacheState, is_resident, locks_of}
 use Rattle.block_cache.proofs.Seats.{fewer_locked, locked_there}
-use Rattle.vm_blocks.specs.Keeping.{Keeps, Lacks, is_shut_out}
+use Rattle.vm_blocks.specs.Keeping.{KeepsBlocks, IsEnvironmentFault, is_shut_out}
 use Rattle.vm_blocks.specs.Locking.{CantLock, GainsLock, HasNoLock, LosesLock}
 use Rattle.vm_blocks.proofs.KeepingLaws.{shut-unlocked}
 use Rattle.undo_log.specs.Logging.{Log}
-use Rattle.undo_log.specs.Records.{SessionState, blocks_of, has_failed, locks_in, machine_of, IsStep, KeepsSession}
+use Rattle.undo_log.specs.Sessions.{SessionState, cache_of, failed_since, locks_in, machine_of, IsStep, KeepsSession}
 use Rattle.undo_log.proofs.Keeping.{Holds, drifted_listed, gives_up, kept_exact, kept_invariant, kept_machine, machine_is, none_marked, same_exact}
 use Rattle.undo_log.proofs.Locks.{as_locked, is_locked-is, is_shut_out-is, lock_count-is, same_locks, get-locks, len-locks}
 
@@ -34,16 +34,16 @@ use Rattle.undo_log.proofs.Locks.{as_locked, is_locked-is, is_shut_out-is, lock_
 record CanLock {S : Type 0} (s : SessionState S) (b : ℕ) : Type 0 where
   live : is_live s.document b ≡ true
   few : (locks_of s.resident b == most_locks) ≡ false
-  place : is_shut_out (blocks_of s) b ≡ false
+  place : is_shut_out (cache_of s) b ≡ false
 
 -- which is so where it was accepted
-can_lock : {S : Type 0} (s : SessionState S) (b : ℕ) → ((fault : Fault) → CantLock (blocks_of s) b fault → ⊥) → CanLock s b
+can_lock : {S : Type 0} (s : SessionState S) (b : ℕ) → ((fault : Fault) → CantLock (cache_of s) b fault → ⊥) → CanLock s b
 can_lock s b none = elim (cases_Bool (is_live s.document b)) as (λ _. CanLock s b) [
   | inr dead ↦ absurd (none NoBlock (inl (refl, dead)))
   | inl live ↦ record {
     live = live;
     few = ne_eqb (locks_of s.resident b) most_locks (λ all. none LockLimit (inr (inl (refl, live, all))));
-    place = elim (cases_Bool (is_shut_out (blocks_of s) b)) as (λ _. is_shut_out (blocks_of s) b ≡ false) [
+    place = elim (cases_Bool (is_shut_out (cache_of s) b)) as (λ _. is_shut_out (cache_of s) b ≡ false) [
       | inl shut ↦ absurd (none CacheFull (inr (inr (live, (refl, shut)))))
       | inr place ↦ place
     ];
@@ -52,7 +52,7 @@ can_lock s b none = elim (cases_Bool (is_live s.document b)) as (λ _. CanLock s
 
 module _ {S : Type 0} (facts : S → StoreFacts) (old new : SessionState S) (b : VmHandle) (distinct : all_distinct (map (λ s. s.0) old.resident) ≡ true) where
   -- the map of locks with one more
-  locks_more : (target : Bool) → GainsLock facts b.0 (blocks_of old) (blocks_of new) → insert (locks_in old.resident) b.0 (lock_count (machine_of target old) b.0 + 1) ≡ locks_in new.resident
+  locks_more : (target : Bool) → GainsLock facts b.0 (cache_of old) (cache_of new) → insert (locks_in old.resident) b.0 (lock_count (machine_of target old) b.0 + 1) ≡ locks_in new.resident
   locks_more target gains = same_locks _ new.resident (λ h. elim (cases_eq h b.0) [
     | inl at ↦
         get-put_same (locks_in old.resident) b.0 (lock_count (machine_of target old) b.0 + 1) h at
@@ -63,7 +63,7 @@ module _ {S : Type 0} (facts : S → StoreFacts) (old new : SessionState S) (b :
   ])
 
   module _ (log : new.log ≡ old.log) where
-    locked_step : ((fault : Fault) → CantLock (blocks_of old) b.0 fault → ⊥) → GainsLock facts b.0 (blocks_of old) (blocks_of new) → IsStep facts old new (commands.Lock b) Accepted
+    locked_step : ((fault : Fault) → CantLock (cache_of old) b.0 fault → ⊥) → GainsLock facts b.0 (cache_of old) (cache_of new) → IsStep facts old new (commands.Lock b) Accepted
     locked_step none gains = λ exact.
         let so = exact.honest in
         let passes = gains.stays.file.passes in
@@ -83,36 +83,36 @@ module _ {S : Type 0} (facts : S → StoreFacts) (old new : SessionState S) (b :
         )
 
   -- it is refused for a rule
-  cant_lock : (m : Machine) (target : Bool) (fault : Fault) → m ≡ machine_of target old → CantLock (blocks_of old) b.0 fault → machine.next (Some (commands.Lock b)) (machine_of target old) ≡ Some (Refused fault, machine_of target old)
+  cant_lock : (m : Machine) (target : Bool) (fault : Fault) → m ≡ machine_of target old → CantLock (cache_of old) b.0 fault → machine.next (Some (commands.Lock b)) (machine_of target old) ≡ Some (Refused fault, machine_of target old)
   cant_lock m target fault same cant = elim cant as (λ _. machine.next (Some (commands.Lock b)) (machine_of target old) ≡ Some (Refused fault, machine_of target old)) [
     | inl dead ↦ rw (dead.0, dead.1) refl
     | inr (inl many) ↦
         let all : (lock_count (machine_of target old) b.0 == most_locks) ≡ true = eq-eqb _ most_locks (lock_count-is old target b.0 ∙ many.2) in
         rw (many.0, many.1, all) refl
     | inr (inr full) ↦
-        let none : lock_count (machine_of target old) b.0 ≡ 0 = lock_count-is old target b.0 ∙ shut-unlocked (blocks_of old) b.0 full.1.1 in
+        let none : lock_count (machine_of target old) b.0 ≡ 0 = lock_count-is old target b.0 ∙ shut-unlocked (cache_of old) b.0 full.1.1 in
         let few : (lock_count (machine_of target old) b.0 == most_locks) ≡ false = ap (λ n. n == most_locks) none in
         let shut : machine.is_shut_out (machine_of target old) b.0 ≡ true = is_shut_out-is old distinct target b.0 ∙ full.1.1 in
         rw (full.1.0, full.0, few, shut) refl
   ]
 
-  pub lock_is : (result : Result (Unit {0}) Fault) → OnOk result (GainsLock facts b.0 (blocks_of old) (blocks_of new)) → OnErr result (KeepsSession facts old new)
-      → IfErr result (λ fault. Lacks facts old.disk.store new.disk.store fault ⊎ CantLock (blocks_of old) b.0 fault)
-      → ((fault : Fault) → CantLock (blocks_of old) b.0 fault → result ≡ Err fault) → new.log ≡ old.log
+  pub lock_is : (result : Result (Unit {0}) Fault) → OnOk result (GainsLock facts b.0 (cache_of old) (cache_of new)) → OnErr result (KeepsSession facts old new)
+      → IfErr result (λ fault. IsEnvironmentFault facts old.disk.store new.disk.store fault ⊎ CantLock (cache_of old) b.0 fault)
+      → ((fault : Fault) → CantLock (cache_of old) b.0 fault → result ≡ Err fault) → new.log ≡ old.log
       → IsStep facts old new (commands.Lock b) (reply_by (λ _. Accepted) result)
   lock_is (Ok x) gains keeps refusals early log = locked_step log (λ fault cant. let wrong : Ok tt ≡ Err fault = early fault cant in absurd (cc wrong)) gains
   lock_is (Err fault) gains keeps refusals early log = λ exact. (
     kept_exact facts old new keeps exact,
     λ target.
         let same = kept_machine facts old new keeps target exact in
-        elim refusals as (λ _. Step (has_failed (facts old.disk.store) (facts new.disk.store)) (machine_of target old) (Some (commands.Lock b)) (Refused fault) (machine_of target new)) [
+        elim refusals as (λ _. Step (failed_since (facts old.disk.store) (facts new.disk.store)) (machine_of target old) (Some (commands.Lock b)) (Refused fault) (machine_of target new)) [
           | inl lacks ↦ gives_up facts old.disk.store new.disk.store (machine_of target old) (machine_of target new) (commands.Lock b) fault exact.honest lacks same refl refl
           | inr cant ↦ inl (rw same (cant_lock (machine_of target old) target fault refl cant))
         ],
   )
 
 -- What is known of the log stays, and no document is marked where none was.
-pub lock_invariant : {S : Type 0} (facts : S → StoreFacts) (old new : CacheState S) (log : Log) (b : ℕ) (result : Result (Unit {0}) Fault) → OnOk result (GainsLock facts b old new) → OnErr result (Keeps facts old new)
+pub lock_invariant : {S : Type 0} (facts : S → StoreFacts) (old new : CacheState S) (log : Log) (b : ℕ) (result : Result (Unit {0}) Fault) → OnOk result (GainsLock facts b old new) → OnErr result (KeepsBlocks facts old new)
     → Holds old log → Holds new log
 lock_invariant facts old new log b (Ok x) gains keeps holds =
     (drifted_listed _ old.document new.document log gains.stays.file.document holds.0, none_marked _ old.disk.marked new.disk.marked holds.1 gains.stays.file.passes.marked)
@@ -121,7 +121,7 @@ lock_invariant facts old new log b (Err fault) gains keeps holds = kept_invarian
 -- A lock is taken away, and asked for.
 module _ {S : Type 0} (s : SessionState S) (b : VmHandle) where
   -- why there is none
-  unlocked_next : (fault : Fault) (target : Bool) → HasNoLock (blocks_of s) b.0 fault → (machine.next (Some (commands.Unlock b)) (machine_of target s) ≡ Some (Refused fault, machine_of target s))
+  unlocked_next : (fault : Fault) (target : Bool) → HasNoLock (cache_of s) b.0 fault → (machine.next (Some (commands.Unlock b)) (machine_of target s) ≡ Some (Refused fault, machine_of target s))
       × (machine.next (Some (commands.Dirty b)) (machine_of target s) ≡ Some (Refused fault, machine_of target s))
   unlocked_next fault target none = elim none as (λ _. (machine.next (Some (commands.Unlock b)) (machine_of target s) ≡ Some (Refused fault, machine_of target s))
       × (machine.next (Some (commands.Dirty b)) (machine_of target s) ≡ Some (Refused fault, machine_of target s))) [
@@ -136,13 +136,13 @@ module _ {S : Type 0} (s : SessionState S) (b : VmHandle) where
     live : is_live s.document b.0 ≡ true
     locked : (target : Bool) → machine.is_locked (machine_of target s) b.0 ≡ true
 
-  has_lock : 0 < locks_of s.resident b.0 → ((fault : Fault) → HasNoLock (blocks_of s) b.0 fault → ⊥) → HasLock
+  has_lock : 0 < locks_of s.resident b.0 → ((fault : Fault) → HasNoLock (cache_of s) b.0 fault → ⊥) → HasLock
   has_lock some none = record {
     live = elim (cases_Bool (is_live s.document b.0)) as (λ _. is_live s.document b.0 ≡ true) [ inl live ↦ live | inr dead ↦ absurd (none NoBlock (inl (refl, dead))) ];
     locked = λ target. is_locked-is s target b.0 ∙ ap not (ne_eqb (locks_of s.resident b.0) 0 (λ free. absurd (omega (arith, some, free))));
   }
 
-  pub dirty_is : (result : Result (Unit {0}) Fault) → OnOk result (0 < locks_of s.resident b.0) → IfErr result (HasNoLock (blocks_of s) b.0) → ((fault : Fault) → HasNoLock (blocks_of s) b.0 fault → result ≡ Err fault)
+  pub dirty_is : (result : Result (Unit {0}) Fault) → OnOk result (0 < locks_of s.resident b.0) → IfErr result (HasNoLock (cache_of s) b.0) → ((fault : Fault) → HasNoLock (cache_of s) b.0 fault → result ≡ Err fault)
       → (target : Bool) → Step false (machine_of target s) (Some (commands.Dirty b)) (reply_by (λ _. Accepted) result) (machine_of target s)
   dirty_is (Ok x) some refusals early target =
       let has = has_lock some (λ fault none. let wrong : Ok tt ≡ Err fault = early fault none in absurd (cc wrong)) in
@@ -158,7 +158,7 @@ module _ {S : Type 0} (s : SessionState S) (b : VmHandle) where
 
 module _ {S : Type 0} (old new : SessionState S) (b : VmHandle) where
   -- the map of locks with one less
-  locks_less : LosesLock b.0 (blocks_of old) (blocks_of new) → (n : ℕ) → n ≡ locks_of old.resident b.0
+  locks_less : LosesLock b.0 (cache_of old) (cache_of new) → (n : ℕ) → n ≡ locks_of old.resident b.0
       → (if nat_le n 1 then remove (locks_in old.resident) b.0 else insert (locks_in old.resident) b.0 (n - 1)) ≡ locks_in new.resident
   locks_less loses n is = same_locks _ new.resident each
     where
@@ -185,8 +185,8 @@ module _ {S : Type 0} (old new : SessionState S) (b : VmHandle) where
         | inr other ↦ away h other (nat_le n 1)
       ]
 
-  pub unlock_is : (result : Result (Unit {0}) Fault) → OnOk result (LosesLock b.0 (blocks_of old) (blocks_of new)) → OnErr result (new ≡ old) → IfErr result (HasNoLock (blocks_of old) b.0)
-      → ((fault : Fault) → HasNoLock (blocks_of old) b.0 fault → result ≡ Err fault) → new.log ≡ old.log
+  pub unlock_is : (result : Result (Unit {0}) Fault) → OnOk result (LosesLock b.0 (cache_of old) (cache_of new)) → OnErr result (new ≡ old) → IfErr result (HasNoLock (cache_of old) b.0)
+      → ((fault : Fault) → HasNoLock (cache_of old) b.0 fault → result ≡ Err fault) → new.log ≡ old.log
       → (target : Bool) → Step false (machine_of target old) (Some (commands.Unlock b)) (reply_by (λ _. Accepted) result) (machine_of target new)
   unlock_is (Ok x) loses same refusals early log target =
       let has = has_lock old b loses.was (λ fault none. let wrong : Ok tt ≡ Err fault = early fault none in absurd (cc wrong)) in

@@ -13,13 +13,13 @@ use Rattle.geos_model.specs.Machine.{Needs, NoBody, OneBody, ManyBodies, is_barr
 use Rattle.geos_model.specs.declared.command.Edit.{Edit}
 use Rattle.geos_model.specs.declared.command.Edit.TheVariants as edits
 use Rattle.geos_model.proofs.HeapEdits.{get-put_same, get-put_other, get-taken_same, get-taken_other}
-use Rattle.block_cache.specs.State.{Seat, is_locked, locks_of, locked_count, KeepsLocks}
+use Rattle.block_cache.specs.State.{ResidentBlock, is_locked, locks_of, locked_count, KeepsLocks}
 use Rattle.block_cache.proofs.Locks.{none_locked}
 use Rattle.vm_blocks.specs.Keeping.{is_full, is_shut_out}
 use Rattle.vm_blocks.proofs.KeepingLaws.{full-is, shut-is}
 use Rattle.doc_edits.specs.Room.{has_no_room}
 use Rattle.undo_log.specs.Locking.{bars}
-use Rattle.undo_log.specs.Records.{SessionState, blocks_of, has_locks, locks_in, machine_of}
+use Rattle.undo_log.specs.Sessions.{SessionState, cache_of, has_locks, locks_in, machine_of}
 
 -- a count as a map has it, which has none of 0
 abbrev pub as_locked : ℕ → Option ℕ
@@ -34,19 +34,19 @@ is_not true is = refl
 is_not false wrong = absurd (cc wrong)
 
 -- the first seat of a list, of which the handle is
-get_same : (m : FinMap nat_cmp ℕ) (s : Seat) (h : ℕ) → h ≡ s.0 → get (if is_locked s then insert m s.0 s.1 else remove m s.0) h ≡ as_locked s.1
+get_same : (m : FinMap nat_cmp ℕ) (s : ResidentBlock) (h : ℕ) → h ≡ s.0 → get (if is_locked s then insert m s.0 s.1 else remove m s.0) h ≡ as_locked s.1
 get_same m s h at = elim (cases_Bool (is_locked s)) as (λ _. get (if is_locked s then insert m s.0 s.1 else remove m s.0) h ≡ as_locked s.1) [
   | inl locked ↦ ap (λ b. get (if b then insert m s.0 s.1 else remove m s.0) h) locked ∙ get-put_same m s.0 s.1 h at ∙ sym (cond-false _ _ _ (isnt (s.1 == 0) locked))
   | inr free ↦ ap (λ b. get (if b then insert m s.0 s.1 else remove m s.0) h) free ∙ get-taken_same m s.0 h at ∙ sym (cond-true _ _ _ (is_not (s.1 == 0) free))
 ]
 
-get_other : (m : FinMap nat_cmp ℕ) (s : Seat) (h : ℕ) → h ≢ s.0 → get (if is_locked s then insert m s.0 s.1 else remove m s.0) h ≡ get m h
+get_other : (m : FinMap nat_cmp ℕ) (s : ResidentBlock) (h : ℕ) → h ≢ s.0 → get (if is_locked s then insert m s.0 s.1 else remove m s.0) h ≡ get m h
 get_other m s h other = elim (is_locked s) as (λ b. get (if b then insert m s.0 s.1 else remove m s.0) h ≡ get m h) [
   | true ↦ get-put_other m s.0 s.1 h other
   | false ↦ get-taken_other m s.0 h other
 ]
 
-pub get-locks : (ss : List Seat) (h : ℕ) → get (locks_in ss) h ≡ as_locked (locks_of ss h)
+pub get-locks : (ss : List ResidentBlock) (h : ℕ) → get (locks_in ss) h ≡ as_locked (locks_of ss h)
 get-locks [] h = get-empty nat_cmp h
 get-locks (s ∷ ss) h = elim (cases_eq h s.0) as (λ _. get (locks_in (s ∷ ss)) h ≡ as_locked (locks_of (s ∷ ss) h)) [
   | inl at ↦ get_same (locks_in ss) s h at ∙ sym (ap (λ b. as_locked (unwrap_or (cond b (Some s.1) (lookup (nat_eq h) ss)) 0)) (eq-eqb h s.0 at))
@@ -57,11 +57,11 @@ some_locked : (n : ℕ) (b : Bool) → is_some (cond b None (Some n)) ≡ not b
 some_locked n true = refl
 some_locked n false = refl
 
-pub contains-locks : (ss : List Seat) (h : ℕ) → contains_key (locks_in ss) h ≡ not (locks_of ss h == 0)
+pub contains-locks : (ss : List ResidentBlock) (h : ℕ) → contains_key (locks_in ss) h ≡ not (locks_of ss h == 0)
 contains-locks ss h = ap is_some (get-locks ss h) ∙ some_locked (locks_of ss h) (locks_of ss h == 0)
 
 -- how often a block is locked
-pub count-locks : (ss : List Seat) (h : ℕ) → unwrap_or (get (locks_in ss) h) 0 ≡ locks_of ss h
+pub count-locks : (ss : List ResidentBlock) (h : ℕ) → unwrap_or (get (locks_in ss) h) 0 ≡ locks_of ss h
 count-locks ss h = ap (λ o. unwrap_or o 0) (get-locks ss h) ∙ elim (cases_eq (locks_of ss h) 0) as (λ _. unwrap_or (as_locked (locks_of ss h)) 0 ≡ locks_of ss h) [
   | inl none ↦ ap (λ b. unwrap_or (cond b None (Some (locks_of ss h))) 0) (eq-eqb (locks_of ss h) 0 none) ∙ sym none
   | inr some ↦ ap (λ b. unwrap_or (cond b None (Some (locks_of ss h))) 0) (ne_eqb (locks_of ss h) 0 some)
@@ -69,17 +69,17 @@ count-locks ss h = ap (λ o. unwrap_or o 0) (get-locks ss h) ∙ elim (cases_eq 
 
 -- How many blocks are locked, where none is in memory twice.
 
-absent : (x : ℕ) (ss : List Seat) → list_any (λ y. x == y) (map (λ s. s.0) ss) ≡ false → locks_of ss x ≡ 0
+absent : (x : ℕ) (ss : List ResidentBlock) → list_any (λ y. x == y) (map (λ s. s.0) ss) ≡ false → locks_of ss x ≡ 0
 absent x [] none = refl
 absent x (s ∷ ss) none = (elim (nat_eq x s.0) as (λ b. b || list_any (λ y. x == y) (map (λ s. s.0) ss) ≡ false → unwrap_or (cond b (Some s.1) (lookup (nat_eq x) ss)) 0 ≡ 0) [
   | true ↦ λ wrong. absurd (cc wrong)
   | false ↦ λ more. absent x ss more
 ]) none
 
-counts : (s : Seat) (ss : List Seat) → locked_count (s ∷ ss) ≡ cond (is_locked s) 1 0 + locked_count ss
-counts s ss = sum_by-cons (λ (x : Seat). cond (is_locked x) 1 0) s ss
+counts : (s : ResidentBlock) (ss : List ResidentBlock) → locked_count (s ∷ ss) ≡ cond (is_locked s) 1 0 + locked_count ss
+counts s ss = sum_by-cons (λ (x : ResidentBlock). cond (is_locked x) 1 0) s ss
 
-pub len-locks : (ss : List Seat) → all_distinct (map (λ s. s.0) ss) ≡ true → len (locks_in ss) ≡ locked_count ss
+pub len-locks : (ss : List ResidentBlock) → all_distinct (map (λ s. s.0) ss) ≡ true → len (locks_in ss) ≡ locked_count ss
 len-locks [] distinct = len-empty nat_cmp ℕ
 len-locks (s ∷ ss) distinct =
     let parts = and_parts (not (list_any (λ y. s.0 == y) (map (λ s. s.0) ss))) (all_distinct (map (λ s. s.0) ss)) distinct in
@@ -93,18 +93,18 @@ len-locks (s ∷ ss) distinct =
     ]) sum
 
 -- where none is, each one isn't
-pub none_of_count : (ss : List Seat) → nat_lt 0 (locked_count ss) ≡ false → (h : ℕ) → locks_of ss h ≡ 0
+pub none_of_count : (ss : List ResidentBlock) → nat_lt 0 (locked_count ss) ≡ false → (h : ℕ) → locks_of ss h ≡ 0
 none_of_count ss none h = let few = ltb-false 0 (locked_count ss) none in none_locked ss (omega (arith, few)) h
 
 -- maps of the same locks
-pub same_locks : (m : FinMap nat_cmp ℕ) (ss : List Seat) → ((h : ℕ) → get m h ≡ as_locked (locks_of ss h)) → m ≡ locks_in ss
+pub same_locks : (m : FinMap nat_cmp ℕ) (ss : List ResidentBlock) → ((h : ℕ) → get m h ≡ as_locked (locks_of ss h)) → m ≡ locks_in ss
 same_locks m ss each = same_map nat_cmp_total nat_cmp-IsAntisymmetric m (locks_in ss) (λ h. each h ∙ sym (get-locks ss h))
 
 -- without a lock there is nothing in the map
-pub no_locks : (ss : List Seat) → nat_lt 0 (len (locks_in ss)) ≡ false → locks_in ss ≡ empty
+pub no_locks : (ss : List ResidentBlock) → nat_lt 0 (len (locks_in ss)) ≡ false → locks_in ss ≡ empty
 no_locks ss none = let few = ltb-false 0 (len (locks_in ss)) none in empty_of_len (locks_in ss) (omega (arith, few))
 
-pub kept_locks : (old new : List Seat) → KeepsLocks old new → locks_in new ≡ locks_in old
+pub kept_locks : (old new : List ResidentBlock) → KeepsLocks old new → locks_in new ≡ locks_in old
 kept_locks old new keeps = same_locks (locks_in new) old (λ h. get-locks new h ∙ ap as_locked (keeps.each h))
 
 -- What the machine tells of locks, where no block is in memory twice.
@@ -119,19 +119,19 @@ module _ {S : Type 0} (s : SessionState S) where
     pub has_locks-is : has_locks s ≡ nat_lt 0 (locked_count s.resident)
     has_locks-is = ap (nat_lt 0) (len-locks s.resident distinct)
 
-    pub all_locked-is : (target : Bool) → machine.all_locked (machine_of target s) ≡ is_full (blocks_of s)
-    all_locked-is target = ap (nat_le s.frames) (len-locks s.resident distinct) ∙ sym (full-is (blocks_of s))
+    pub all_locked-is : (target : Bool) → machine.all_locked (machine_of target s) ≡ is_full (cache_of s)
+    all_locked-is target = ap (nat_le s.frames) (len-locks s.resident distinct) ∙ sym (full-is (cache_of s))
 
-    pub is_shut_out-is : (target : Bool) (b : ℕ) → machine.is_shut_out (machine_of target s) b ≡ is_shut_out (blocks_of s) b
+    pub is_shut_out-is : (target : Bool) (b : ℕ) → machine.is_shut_out (machine_of target s) b ≡ is_shut_out (cache_of s) b
     is_shut_out-is target b =
-        ap (λ t. t && not (machine.is_locked (machine_of target s) b)) (all_locked-is target) ∙ ap (λ t. is_full (blocks_of s) && t) (ap not (is_locked-is target b) ∙ not_not (locks_of s.resident b == 0))
-        ∙ sym (shut-is (blocks_of s) b)
+        ap (λ t. t && not (machine.is_locked (machine_of target s) b)) (all_locked-is target) ∙ ap (λ t. is_full (cache_of s) && t) (ap not (is_locked-is target b) ∙ not_not (locks_of s.resident b == 0))
+        ∙ sym (shut-is (cache_of s) b)
       where
         not_not : (b : Bool) → not (not b) ≡ b
         not_not true = refl
         not_not false = refl
 
-    pub has_no_room-is : (target : Bool) (needs : Needs) → machine.has_no_room (machine_of target s) needs ≡ has_no_room (blocks_of s) needs
+    pub has_no_room-is : (target : Bool) (needs : Needs) → machine.has_no_room (machine_of target s) needs ≡ has_no_room (cache_of s) needs
     has_no_room-is target NoBody = refl
     has_no_room-is target (OneBody b) = is_shut_out-is target b
     has_no_room-is target ManyBodies = all_locked-is target

@@ -12,12 +12,12 @@ use Rattle.geos_model.specs.declared.command.Command.{Command}
 use Rattle.geos_model.specs.Document.{Document}
 use Rattle.vm_store.specs.Facts.{StoreFacts}
 use Rattle.block_cache.specs.State.{CacheState}
-use Rattle.vm_blocks.specs.Keeping.{Keeps, Lacks, IsSteady, is_full}
+use Rattle.vm_blocks.specs.Keeping.{KeepsBlocks, IsEnvironmentFault, IsHonest, is_full}
 use Rattle.vm_blocks.proofs.KeepingLaws.{honest-steady}
 use Rattle.doc_edits.specs.LookUps.{LooksUp, Sees}
 use Rattle.doc_edits.specs.Room.{has_no_room}
 use Rattle.undo_log.specs.Logging.{Log}
-use Rattle.undo_log.specs.Records.{SessionState, blocks_of, machine_of, has_failed, IsStep, KeepsSession, Looks}
+use Rattle.undo_log.specs.Sessions.{SessionState, cache_of, machine_of, failed_since, IsStep, KeepsSession, AnswersLookUp}
 use Rattle.undo_log.proofs.Keeping.{gives_up, kept_exact, kept_machine, kept_document}
 use Rattle.undo_log.proofs.Locks.{has_no_room-is}
 
@@ -43,38 +43,38 @@ session_with blocks log = record { disk = blocks.disk; document = blocks.documen
 
 module _ {S : Type 0} (facts : S → StoreFacts) (old new : SessionState S) (keeps : KeepsSession facts old new) (distinct : all_distinct (map (λ s. s.0) old.resident) ≡ true) where
   -- What is answered of the document, the machine answers.
-  pub look_up_step : (c : Command) (reply : Reply) → IsLookUp c → (IsTrue (facts old.disk.store).honest → LooksUp (Lacks facts old.disk.store new.disk.store) (has_no_room (blocks_of old) (look_up_needs c)) c new.document reply) → IsStep facts old new c reply
+  pub look_up_step : (c : Command) (reply : Reply) → IsLookUp c → (IsTrue (facts old.disk.store).honest → LooksUp (IsEnvironmentFault facts old.disk.store new.disk.store) (has_no_room (cache_of old) (look_up_needs c)) c new.document reply) → IsStep facts old new c reply
   look_up_step c reply is looks = λ exact.
       let so = exact.honest in
-      let now : LooksUp (Lacks facts old.disk.store new.disk.store) (has_no_room (blocks_of old) (look_up_needs c)) c old.document reply = subst (λ (d : Document). LooksUp (Lacks facts old.disk.store new.disk.store) (has_no_room (blocks_of old) (look_up_needs c)) c d reply) (kept_document facts old new keeps so) (looks so) in (
+      let now : LooksUp (IsEnvironmentFault facts old.disk.store new.disk.store) (has_no_room (cache_of old) (look_up_needs c)) c old.document reply = subst (λ (d : Document). LooksUp (IsEnvironmentFault facts old.disk.store new.disk.store) (has_no_room (cache_of old) (look_up_needs c)) c d reply) (kept_document facts old new keeps so) (looks so) in (
         kept_exact facts old new keeps exact,
         λ target.
             let m = machine_of target old in
             let same : machine_of target new ≡ m = kept_machine facts old new keeps target exact in
-            elim now as (λ _. Step (has_failed (facts old.disk.store) (facts new.disk.store)) m (Some c) reply (machine_of target new)) [
+            elim now as (λ _. Step (failed_since (facts old.disk.store) (facts new.disk.store)) m (Some c) reply (machine_of target new)) [
               | inl lack ↦ rw lack.2 (gives_up facts old.disk.store new.disk.store m (machine_of target new) c lack.0 so lack.1 same (is.takes m) (is.calls m))
-              | inr first ↦ inl (rw (same, is.refuses m, is.answers m, has_no_room-is old distinct target (look_up_needs c)) (stays_with m (first_refusal ((CacheFull, has_no_room (blocks_of old) (look_up_needs c)) ∷ look_up_conditions c m.document)) (look_up c m.document) reply first))
+              | inr first ↦ inl (rw (same, is.refuses m, is.answers m, has_no_room-is old distinct target (look_up_needs c)) (stays_with m (first_refusal ((CacheFull, has_no_room (cache_of old) (look_up_needs c)) ∷ look_up_conditions c m.document)) (look_up c m.document) reply first))
             ],
       )
 
-  pub looked : (c : Command) (reply : Reply) → IsLookUp c → Sees facts (blocks_of old) (blocks_of new) c reply → Looks facts old new c reply
+  pub looked : (c : Command) (reply : Reply) → IsLookUp c → Sees facts (cache_of old) (cache_of new) c reply → AnswersLookUp facts old new c reply
   looked c reply is sees = record { keeps = keeps; step = look_up_step c reply is (λ _. sees.value); sees = sees }
 
   -- of a chain
-  pub chain_step : (c : Command) (reply : Reply) → IsLookUp c → (IsSteady facts old.disk.store → LooksUp (Lacks facts old.disk.store new.disk.store) (has_no_room (blocks_of old) (look_up_needs c)) c new.document reply) → IsStep facts old new c reply
+  pub chain_step : (c : Command) (reply : Reply) → IsLookUp c → (IsHonest facts old.disk.store → LooksUp (IsEnvironmentFault facts old.disk.store new.disk.store) (has_no_room (cache_of old) (look_up_needs c)) c new.document reply) → IsStep facts old new c reply
   chain_step c reply is value = look_up_step c reply is (λ so. value (honest-steady facts old.disk.store so))
 
 -- So it is of a session that is seen to be one of these blocks.
-module _ {S : Type 0} (facts : S → StoreFacts) (old new : CacheState S) (log : Log) (keeps : Keeps facts old new) (s : SessionState S) (is : session_with old log ≡ s) where
+module _ {S : Type 0} (facts : S → StoreFacts) (old new : CacheState S) (log : Log) (keeps : KeepsBlocks facts old new) (s : SessionState S) (is : session_with old log ≡ s) where
   pub kept_session : KeepsSession facts s (session_with new log)
   kept_session = subst (λ (x : SessionState S). KeepsSession facts x (session_with new log)) is (record { blocks = keeps; log = refl })
 
   module _ (distinct : all_distinct (map (λ s. s.0) old.resident) ≡ true) (c : Command) (reply : Reply) (asks : IsLookUp c) where
-    pub looked_at : Sees facts old new c reply → Looks facts s (session_with new log) c reply
+    pub looked_at : Sees facts old new c reply → AnswersLookUp facts s (session_with new log) c reply
     looked_at sees =
-        subst (λ (x : SessionState S). Looks facts x (session_with new log) c reply) is (looked facts (session_with old log) (session_with new log) (record { blocks = keeps; log = refl }) distinct c reply asks sees)
+        subst (λ (x : SessionState S). AnswersLookUp facts x (session_with new log) c reply) is (looked facts (session_with old log) (session_with new log) (record { blocks = keeps; log = refl }) distinct c reply asks sees)
 
-    pub chain_stepped : (IsSteady facts old.disk.store → LooksUp (Lacks facts old.disk.store new.disk.store) (has_no_room old (look_up_needs c)) c new.document reply) → IsStep facts s (session_with new log) c reply
+    pub chain_stepped : (IsHonest facts old.disk.store → LooksUp (IsEnvironmentFault facts old.disk.store new.disk.store) (has_no_room old (look_up_needs c)) c new.document reply) → IsStep facts s (session_with new log) c reply
     chain_stepped value =
         subst (λ (x : SessionState S). IsStep facts x (session_with new log) c reply) is (chain_step facts (session_with old log) (session_with new log) (record { blocks = keeps; log = refl }) distinct c reply asks value)
 
@@ -84,6 +84,6 @@ same_session old new log log' p q = λ i. session_with (p i) (q i)
 
 -- A chain isn't followed where each frame has a locked block.
 pub chain_shut : {S : Type 0} (old new : CacheState S) (log : Log) (s : SessionState S) (is : session_with old log ≡ s) (P : Document → Type 0)
-    → (is_full old ≡ true → (new ≡ old) × P old.document) → is_full (blocks_of s) ≡ true → (session_with new log ≡ s) × P s.document
-chain_shut old new log s is P shut = subst (λ x. is_full (blocks_of x) ≡ true → (session_with new log ≡ x) × P x.document) is
+    → (is_full old ≡ true → (new ≡ old) × P old.document) → is_full (cache_of s) ≡ true → (session_with new log ≡ s) × P s.document
+chain_shut old new log s is P shut = subst (λ x. is_full (cache_of x) ≡ true → (session_with new log ≡ x) × P x.document) is
     (λ full. let kept = shut full in (same_session old new log log kept.0 refl, kept.1))

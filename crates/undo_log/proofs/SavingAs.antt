@@ -11,25 +11,25 @@ use Rattle.geos_model.specs.Machine.{Step}
 use Rattle.geos_model.specs.declared.command.Command.TheVariants as commands
 use Rattle.geos_model.specs.declared.fault.Fault.{Fault}
 use Rattle.geos_model.specs.declared.fault.Fault.TheVariants.{Memory, File, Damaged, GroupOpen, Locked, NoTarget, Worn}
-use Rattle.vm_store.specs.Facts.{StoreFacts, Raised}
+use Rattle.vm_store.specs.Facts.{StoreFacts, FailedSince}
 use Rattle.vm_file.specs.Calls.{IsCommitRefusal, last_sequence}
-use Rattle.vm_file.specs.Disk.{Commits, IsSettled}
-use Rattle.vm_file.proofs.PassingLemmas.{Commits-refused, Passes-refl}
+use Rattle.vm_file.specs.Disk.{MayCommit, IsCrashConsistent}
+use Rattle.vm_file.proofs.PassingLemmas.{MayCommit-refused, KeepsCommitted-refl}
 use Rattle.vm_file.specs.Documents.{Documents}
 use Rattle.vm_blocks.specs.Committing.{IsSavedAs, IsNotSavedAs}
-use Rattle.block_cache.specs.State.{CacheState, seen}
-use Rattle.undo_log.specs.Committing.{IsHeld, IsNotMoved}
+use Rattle.block_cache.specs.State.{CacheState, as_file}
+use Rattle.undo_log.specs.Committing.{IsHeld, IsSaveAsRefused}
 use Rattle.undo_log.specs.Logging.{Log, group_of}
-use Rattle.undo_log.specs.Records.{SessionState, file_of, has_locks, locks_in, machine_of, has_failed, IsExact}
-use Rattle.undo_log.specs.Turning.{rest_fault}
+use Rattle.undo_log.specs.Sessions.{SessionState, file_of, has_locks, locks_in, machine_of, failed_since, IsExact}
+use Rattle.undo_log.specs.Turning.{busy_fault}
 use Rattle.undo_log.proofs.Keeping.{Holds, drifted_listed, machine_is, none_marked, same_exact}
 use Rattle.undo_log.proofs.Turns.{at_rest, group_open}
 
 -- one of two stores failed
-one_failed : (a b c d : StoreFacts) → Raised a b ⊎ Raised c d → (has_failed a b || has_failed c d) ≡ true
-one_failed a b c d either = elim either as (λ _. (has_failed a b || has_failed c d) ≡ true) [
-  | inl first ↦ or_left (has_failed a b) (has_failed c d) (le-leb _ _ first)
-  | inr second ↦ or_right (has_failed a b) (has_failed c d) (le-leb _ _ second)
+one_failed : (a b c d : StoreFacts) → FailedSince a b ⊎ FailedSince c d → (failed_since a b || failed_since c d) ≡ true
+one_failed a b c d either = elim either as (λ _. (failed_since a b || failed_since c d) ≡ true) [
+  | inl first ↦ or_left (failed_since a b) (failed_since c d) (le-leb _ _ first)
+  | inr second ↦ or_right (failed_since a b) (failed_since c d) (le-leb _ _ second)
 ]
 
 -- where a target is left
@@ -45,14 +45,14 @@ pub record Keeps {S : Type 0} (old new : SessionState S) : Type 0 where
   pub frames : new.frames ≡ old.frames
   pub resident : new.resident ≡ old.resident
 
-module _ {S : Type 0} (facts : S → StoreFacts) (old new : SessionState S) (keeps : Keeps old new) (free : rest_fault old ≡ None) where
+module _ {S : Type 0} (facts : S → StoreFacts) (old new : SessionState S) (keeps : Keeps old new) (free : busy_fault old ≡ None) where
   none : has_locks old ≡ false
   none = (at_rest old free).1
 
   outside : is_some (option_map (group_of old.document) old.log.group) ≡ false
   outside = group_open (group_of old.document) old.log.group ∙ (at_rest old free).0
 
-  same_machine : (pair : Documents) (fault : Fault) → Commits facts pair old.disk new.disk (Err fault) → new.document ≡ old.document → IsTrue (facts old.disk.store).honest → machine_of true new ≡ machine_of true old
+  same_machine : (pair : Documents) (fault : Fault) → MayCommit facts pair old.disk new.disk (Err fault) → new.document ≡ old.document → IsTrue (facts old.disk.store).honest → machine_of true new ≡ machine_of true old
   same_machine pair fault commits document so =
       let was = commits.err so in
       sym (machine_is true old.document old.disk.updated old.disk.saved old.log (locks_in old.resident) old.frames old.disk.sequence new (sym document) (sym keeps.log) (sym was.0) (sym was.1) (sym (ap locks_in keeps.resident)) (sym keeps.frames) (sym commits.sequence))
@@ -70,12 +70,12 @@ module _ {S : Type 0} (facts : S → StoreFacts) (old new : SessionState S) (kee
       → MatchResult r P (λ e. IsNotSavedAs facts target (store e) (file_of old) (file_of new) (fault e))
       → (IsErrAnd r (λ e. fault e ≡ Worn) ↔ (old.disk.sequence ≡ last_sequence))
       → IfErr r (λ e. IsExact facts old → IsExact facts new
-      × Step (has_failed (facts old.disk.store) (facts new.disk.store) || has_failed (facts target) (facts (store e))) (machine_of true old) (Some commands.SaveAs) (Refused (fault e)) (machine_of true new))
+      × Step (failed_since (facts old.disk.store) (facts new.disk.store) || failed_since (facts target) (facts (store e))) (machine_of true old) (Some commands.SaveAs) (Refused (fault e)) (machine_of true new))
   refused fault store target P (Ok x) given worn = tt
   refused fault store target P (Err e) given worn = λ exact.
       let so = exact.honest in let document = given.document.same so in (
         same_exact facts old new given.commits.honest document keeps.log exact,
-        refusal (fault e) (has_failed (facts old.disk.store) (facts new.disk.store) || has_failed (facts target) (facts (store e))) (same_machine (old.disk.saved, old.disk.saved) (fault e) given.commits document so) worn.0
+        refusal (fault e) (failed_since (facts old.disk.store) (facts new.disk.store) || failed_since (facts target) (facts (store e))) (same_machine (old.disk.saved, old.disk.saved) (fault e) given.commits document so) worn.0
             (λ failing. one_failed (facts old.disk.store) (facts new.disk.store) (facts target) (facts (store e)) (given.file failing)) (λ is_damaged. given.damaged is_damaged so) given.faults,
       )
 
@@ -98,16 +98,16 @@ module _ {S : Type 0} (facts : S → StoreFacts) (old new : SessionState S) (kee
   -- the words of a session for it
   pub saved_or_not : {E : Type 0} (fault : E → Fault) (store : E → S) (target : S) (r : Result S E)
       → MatchResult r (λ back. IsSavedAs facts target back (file_of old) (file_of new)) (λ e. IsNotSavedAs facts target (store e) (file_of old) (file_of new) (fault e))
-      → MatchResult r (λ back. IsSavedAs facts target back (file_of old) (file_of new)) (λ e. IsNotMoved facts target (store e) old new (fault e))
+      → MatchResult r (λ back. IsSavedAs facts target back (file_of old) (file_of new)) (λ e. IsSaveAsRefused facts target (store e) old new (fault e))
   saved_or_not fault store target (Ok x) saved = saved
   saved_or_not fault store target (Err e) given = record { commits = given.commits; passes = given.passes; follows = given.follows; free = λ _. given }
 
-  pub worn_free : (P : Type 0) → (P ↔ (old.disk.sequence ≡ last_sequence)) → P ↔ ((rest_fault old ≡ None) × (old.disk.sequence ≡ last_sequence))
+  pub worn_free : (P : Type 0) → (P ↔ (old.disk.sequence ≡ last_sequence)) → P ↔ ((busy_fault old ≡ None) × (old.disk.sequence ≡ last_sequence))
   worn_free P worn = (λ is. (free, worn.0 is), λ both. worn.1 both.1)
 
 -- What is known of the log stays, and no document is marked where none was.
 pub saved_invariant : {S E : Type 0} (facts : S → StoreFacts) (old new : CacheState S) (log : Log) (target : S) (store : E → S) (fault : E → Fault) (r : Result S E)
-    → MatchResult r (λ back. IsSavedAs facts target back (seen old) (seen new)) (λ e. IsNotSavedAs facts target (store e) (seen old) (seen new) (fault e))
+    → MatchResult r (λ back. IsSavedAs facts target back (as_file old) (as_file new)) (λ e. IsNotSavedAs facts target (store e) (as_file old) (as_file new) (fault e))
     → Holds old log → Holds new log
 saved_invariant facts old new log target store fault (Ok x) saved holds = (drifted_listed _ old.document new.document log saved.document holds.0, saved.new_file.unmarked)
 saved_invariant facts old new log target store fault (Err e) given holds =
@@ -135,13 +135,13 @@ module _ {S : Type 0} (facts : S → StoreFacts) (s : SessionState S) (fault : F
       ∙ held_first (is_some s.log.group) (has_locks s) fault held worn in
       inl (rw first refl)
 
-  pub not_moved : (target : S) → IsSettled facts s.disk → IsNotMoved facts target target s s fault
-  not_moved target settled = record {
-    commits = Commits-refused facts s.disk (s.disk.saved, s.disk.saved) fault settled;
-    passes = λ _. Passes-refl facts s.disk;
+  pub not_moved : (target : S) → IsCrashConsistent facts s.disk → IsSaveAsRefused facts target target s s fault
+  not_moved target crash_consistent = record {
+    commits = MayCommit-refused facts s.disk (s.disk.saved, s.disk.saved) fault crash_consistent;
+    passes = λ _. KeepsCommitted-refl facts s.disk;
     follows = record { honest = refl; failures = omega arith };
     free = λ free. let no : None ≡ Some fault = sym free ∙ held in absurd (cc no);
   }
 
-  pub not_worn : (fault ≡ Worn) ↔ ((rest_fault s ≡ None) × (s.disk.sequence ≡ last_sequence))
+  pub not_worn : (fault ≡ Worn) ↔ ((busy_fault s ≡ None) × (s.disk.sequence ≡ last_sequence))
   not_worn = (λ is. absurd (never_worn (is_some s.log.group) (has_locks s) fault held is), λ both. let no : None ≡ Some fault = sym both.0 ∙ held in absurd (cc no))

@@ -3,69 +3,69 @@ use Rattle.std.proofs.Common.{◌≡◌, List, [], ◌∷◌, ◌++◌, reverse,
 use Rattle.std.proofs.lemmas.List.{reverse-append}
 use Rattle.geos_model.specs.Document.{Document, IsValid}
 use Rattle.geos_model.proofs.ValidSteps.{AreValid, valid-push, valid-none}
-use Rattle.vm_blocks.specs.Changes.{made, flipped, turned, after, Applies}
+use Rattle.vm_blocks.specs.Changes.{after_change, reversed, directed, after_directed, CanApply}
 use Rattle.vm_blocks.specs.declared.change.Change.{Change}
 use Rattle.vm_blocks.specs.declared.change.Direction.{Direction}
 use Rattle.vm_blocks.specs.declared.change.Direction.TheVariants.{Forwards, Backwards}
 use Rattle.vm_blocks.proofs.ChangeLaws.{change_back, flip_twice}
 use Rattle.undo_log.specs.Logging.{Log, after_all, after_entry, all_changes, before, open_changes, step, steps, to_redo, to_undo, turned_over}
-use Rattle.undo_log.specs.Records.{opposite, CanTake, AreSteps}
+use Rattle.undo_log.specs.Sessions.{opposite, CanApplyAll, AreSteps}
 use Rattle.undo_log.specs.declared.entry.LogEntry.{LogEntry}
 use Rattle.undo_log.specs.declared.entry.LogEntry.TheVariants as entries
 use Rattle.undo_log.proofs.Lists.{reverse_onto}
 
 -- what holds of a change that was carried out
 pub record IsBack (direction : Direction) (c : Change) (d : Document) : Type 0 where
-  pub valid : IsValid (after direction c d)
-  pub applies : Applies (turned (opposite direction) c) (after direction c d)
-  pub gives : after (opposite direction) c (after direction c d) ≡ d
+  pub valid : IsValid (after_directed direction c d)
+  pub applies : CanApply (directed (opposite direction) c) (after_directed direction c d)
+  pub gives : after_directed (opposite direction) c (after_directed direction c d) ≡ d
 
-pub goes_back : (direction : Direction) (c : Change) (d : Document) → IsValid d → Applies (turned direction c) d → IsBack direction c d
+pub goes_back : (direction : Direction) (c : Change) (d : Document) → IsValid d → CanApply (directed direction c) d → IsBack direction c d
 goes_back Forwards c d valid applies = let law = change_back c d valid applies in record { valid = law.0; applies = law.1; gives = law.2 }
 goes_back Backwards c d valid applies =
-    let law = change_back (flipped c) d valid applies in
+    let law = change_back (reversed c) d valid applies in
     record {
       valid = law.0;
-      applies = subst (λ (x : Change). Applies x (made (flipped c) d)) (flip_twice c) law.1;
-      gives = ap (λ (x : Change). made x (made (flipped c) d)) (sym (flip_twice c)) ∙ law.2;
+      applies = subst (λ (x : Change). CanApply x (after_change (reversed c) d)) (flip_twice c) law.1;
+      gives = ap (λ (x : Change). after_change x (after_change (reversed c) d)) (sym (flip_twice c)) ∙ law.2;
     }
 
 -- Changes one after another.
 
 pub after_all-append : (direction : Direction) (cs others : List Change) (d : Document) → after_all direction (cs ++ others) d ≡ after_all direction others (after_all direction cs d)
 after_all-append direction [] others d = refl
-after_all-append direction (c ∷ cs) others d = after_all-append direction cs others (after direction c d)
+after_all-append direction (c ∷ cs) others d = after_all-append direction cs others (after_directed direction c d)
 
 -- what can be taken of the first ones, and of those behind them
-pub can_split : (direction : Direction) (cs others : List Change) (d : Document) → CanTake direction (cs ++ others) d → CanTake direction cs d × CanTake direction others (after_all direction cs d)
+pub can_split : (direction : Direction) (cs others : List Change) (d : Document) → CanApplyAll direction (cs ++ others) d → CanApplyAll direction cs d × CanApplyAll direction others (after_all direction cs d)
 can_split direction [] others d can = (tt, can)
-can_split direction (c ∷ cs) others d can = let rest = can_split direction cs others (after direction c d) can.1 in ((can.0, rest.0), rest.1)
+can_split direction (c ∷ cs) others d can = let rest = can_split direction cs others (after_directed direction c d) can.1 in ((can.0, rest.0), rest.1)
 
 -- changes that were carried out, the other way round, the last one first
 pub record AreBack (direction : Direction) (cs : List Change) (d : Document) : Type 0 where
   pub valid : IsValid (after_all direction cs d)
   pub gives : after_all (opposite direction) (reverse cs) (after_all direction cs d) ≡ d
 
-pub all_back : (direction : Direction) (cs : List Change) (d : Document) → IsValid d → CanTake direction cs d → AreBack direction cs d
+pub all_back : (direction : Direction) (cs : List Change) (d : Document) → IsValid d → CanApplyAll direction cs d → AreBack direction cs d
 all_back direction [] d valid can = record { valid = valid; gives = refl }
 all_back direction (c ∷ cs) d valid can =
     let first = goes_back direction c d valid can.0 in
-    let rest = all_back direction cs (after direction c d) first.valid can.1 in
-    let last = after_all direction cs (after direction c d) in
+    let rest = all_back direction cs (after_directed direction c d) first.valid can.1 in
+    let last = after_all direction cs (after_directed direction c d) in
     record {
       valid = rest.valid;
       gives = ap (λ (xs : List Change). after_all (opposite direction) xs last) (reverse-append (c ∷ []) cs)
           ∙ after_all-append (opposite direction) (reverse cs) (c ∷ []) last
-          ∙ ap (λ (x : Document). after (opposite direction) c x) rest.gives
+          ∙ ap (λ (x : Document). after_directed (opposite direction) c x) rest.gives
           ∙ first.gives;
     }
 
 -- each document along the entries is valid
-steps-valid : (direction : Direction) (es : List LogEntry) (d : Document) → IsValid d → CanTake direction (all_changes es) d → AreValid (steps direction es d)
+steps-valid : (direction : Direction) (es : List LogEntry) (d : Document) → IsValid d → CanApplyAll direction (all_changes es) d → AreValid (steps direction es d)
 steps-valid direction [] d valid can = valid-none
 steps-valid direction (entries.One c ∷ es) d valid can =
     let back = goes_back direction c d valid can.0 in
-    valid-push (step direction (entries.One c) d) (steps direction es (after direction c d)) back.valid (steps-valid direction es (after direction c d) back.valid can.1)
+    valid-push (step direction (entries.One c) d) (steps direction es (after_directed direction c d)) back.valid (steps-valid direction es (after_directed direction c d) back.valid can.1)
 steps-valid direction (entries.Group cs ∷ es) d valid can =
     let parts = can_split direction cs (all_changes es) d can in
     let back = all_back direction cs d valid parts.0 in
@@ -73,7 +73,7 @@ steps-valid direction (entries.Group cs ∷ es) d valid can =
 
 -- The steps of a log: the group that is open, and then those of its lists.
 module _ (d : Document) (log : Log) (are : AreSteps Backwards d (to_undo log) (to_redo log)) where
-  open_parts : CanTake Backwards (open_changes log.group) d × CanTake Backwards (all_changes log.undo) (before log.group d)
+  open_parts : CanApplyAll Backwards (open_changes log.group) d × CanApplyAll Backwards (all_changes log.undo) (before log.group d)
   open_parts = can_split Backwards (open_changes log.group) (all_changes log.undo) d are.first
 
   pub before-valid : IsValid (before log.group d)
@@ -93,31 +93,31 @@ pub swapped_back : (d : Document) (undo redo : List Change) → AreSteps Forward
 swapped_back d undo redo are = record { valid = are.valid; first = are.second; second = are.first }
 
 -- an edit puts its change before the others, and nothing is left to redo
-pub edited_steps : (d : Document) (undo redo : List Change) (c : Change) → AreSteps Backwards d undo redo → Applies c d → AreSteps Backwards (made c d) (c ∷ undo) []
+pub edited_steps : (d : Document) (undo redo : List Change) (c : Change) → AreSteps Backwards d undo redo → CanApply c d → AreSteps Backwards (after_change c d) (c ∷ undo) []
 edited_steps d undo redo c are applies =
     let back = goes_back Forwards c d are.valid applies in
     record {
       valid = back.valid;
-      first = (back.applies, subst (CanTake Backwards undo) (sym back.gives) are.first);
+      first = (back.applies, subst (CanApplyAll Backwards undo) (sym back.gives) are.first);
       second = tt;
     }
 
 -- the newest change of one list is carried out, and is the newest of the other
-pub moved_steps : (direction : Direction) (d : Document) (from to : List Change) (c : Change) → AreSteps direction d (c ∷ from) to → AreSteps direction (after direction c d) from (c ∷ to)
+pub moved_steps : (direction : Direction) (d : Document) (from to : List Change) (c : Change) → AreSteps direction d (c ∷ from) to → AreSteps direction (after_directed direction c d) from (c ∷ to)
 moved_steps direction d from to c are =
     let back = goes_back direction c d are.valid are.first.0 in
     record {
       valid = back.valid;
       first = are.first.1;
-      second = (back.applies, subst (CanTake (opposite direction) to) (sym back.gives) are.second);
+      second = (back.applies, subst (CanApplyAll (opposite direction) to) (sym back.gives) are.second);
     }
 
 -- the newest changes of one list are carried out, and are the newest of the other
 pub moved_all : (direction : Direction) (d : Document) (cs from to : List Change) → AreSteps direction d (cs ++ from) to → AreSteps direction (after_all direction cs d) from (reverse cs ++ to)
 moved_all direction d [] from to are = are
 moved_all direction d (c ∷ cs) from to are =
-    subst (λ (to' : List Change). AreSteps direction (after_all direction cs (after direction c d)) from to') (sym (reverse_onto c cs to))
-    (moved_all direction (after direction c d) cs from (c ∷ to) (moved_steps direction d (cs ++ from) to c are))
+    subst (λ (to' : List Change). AreSteps direction (after_all direction cs (after_directed direction c d)) from to') (sym (reverse_onto c cs to))
+    (moved_all direction (after_directed direction c d) cs from (c ∷ to) (moved_steps direction d (cs ++ from) to c are))
 
 -- so it is of an entry
 pub moved_entry : (direction : Direction) (d : Document) (e : LogEntry) (from to : List LogEntry) → AreSteps direction d (all_changes (e ∷ from)) (all_changes to)
@@ -126,7 +126,7 @@ moved_entry direction d (entries.One c) from to are = moved_steps direction d (a
 moved_entry direction d (entries.Group cs) from to are = moved_all direction d cs (all_changes from) (all_changes to) are
 
 -- and it can be taken back
-pub entry_back : (direction : Direction) (d : Document) (e : LogEntry) (others : List LogEntry) → IsValid d → CanTake direction (all_changes (e ∷ others)) d
+pub entry_back : (direction : Direction) (d : Document) (e : LogEntry) (others : List LogEntry) → IsValid d → CanApplyAll direction (all_changes (e ∷ others)) d
     → after_entry (opposite direction) (turned_over e) (after_entry direction e d) ≡ d
 entry_back direction d (entries.One c) others valid can = (goes_back direction c d valid can.0).gives
 entry_back direction d (entries.Group cs) others valid can = (all_back direction cs d valid (can_split direction cs (all_changes others) d can).0).gives

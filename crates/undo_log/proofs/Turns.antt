@@ -14,11 +14,11 @@ use Rattle.geos_model.specs.declared.command.Kind.{Kind}
 use Rattle.geos_model.specs.declared.fault.Fault.{Fault}
 use Rattle.geos_model.specs.declared.fault.Fault.TheVariants.{GroupOpen, Locked, NoGroup, NothingToUndo, NothingToRedo}
 use Rattle.vm_store.specs.Facts.{StoreFacts}
-use Rattle.vm_file.specs.Disk.{Drifts, Passes}
-use Rattle.block_cache.specs.State.{CacheState, KeepsLocks, Seat, locks_of}
-use Rattle.vm_blocks.specs.Changes.{made, turned, Applies}
-use Rattle.vm_blocks.specs.Keeping.{Lacks, is_full}
-use Rattle.vm_blocks.specs.Preparing.{AllTake, AreUnlocked, AreUnready, IsOutOfReach, IsUnready, MakesAll}
+use Rattle.vm_file.specs.Disk.{SameUnlessCorrupt, KeepsCommitted}
+use Rattle.block_cache.specs.State.{CacheState, KeepsLocks, ResidentBlock, locks_of}
+use Rattle.vm_blocks.specs.Changes.{after_change, directed, CanApply}
+use Rattle.vm_blocks.specs.Keeping.{IsEnvironmentFault, is_full}
+use Rattle.vm_blocks.specs.Preparing.{AllowAll, AreUnlocked, CantPrepareAll, IsShutOut, CantPrepare, AreApplied}
 use Rattle.vm_blocks.specs.declared.change.Change.{Change}
 use Rattle.vm_blocks.specs.declared.change.Change.TheVariants as changes
 use Rattle.vm_blocks.specs.declared.change.Direction.{Direction}
@@ -26,9 +26,9 @@ use Rattle.vm_blocks.specs.declared.change.Direction.TheVariants.{Forwards, Back
 use Rattle.vm_blocks.proofs.KeepingLaws.{honest-steady, open-shut}
 use Rattle.vm_blocks.proofs.Preparing.{applies_takes}
 use Rattle.doc_edits.specs.Planning.{kind_of_change}
-use Rattle.undo_log.specs.Logging.{AreExclusive, IsFirst, Log, after_all, after_entry, all_changes, before, group_of, kind_of_entry, open_changes, redone, steps, to_redo, to_undo, turned_over, undone}
-use Rattle.undo_log.specs.Records.{SessionState, blocks_of, has_locks, machine_of, CanTake, AreSteps, IsExact, IsStep, KeepsSession}
-use Rattle.undo_log.specs.Turning.{MakesEntry, Moves, CanMakeEntry, CantMake, CantMakeEntry, IsNotTaken, IsSure, IsSureKind, abandon_fault, newest_made, rest_fault}
+use Rattle.undo_log.specs.Logging.{AreExclusive, IsHead, Log, after_all, after_entry, all_changes, before, group_of, kind_of_entry, open_changes, log_redone, steps, to_redo, to_undo, turned_over, log_undone}
+use Rattle.undo_log.specs.Sessions.{SessionState, cache_of, has_locks, machine_of, CanApplyAll, AreSteps, IsExact, IsStep, KeepsSession}
+use Rattle.undo_log.specs.Turning.{IsEntryApplied, MovesEntry, CanApplyEntry, CantApply, CantApplyEntry, CantApplyLog, IsSure, IsSureKind, abandon_fault, newest_made, busy_fault}
 use Rattle.undo_log.specs.declared.entry.LogEntry.{LogEntry}
 use Rattle.undo_log.specs.declared.entry.LogEntry.TheVariants as entries
 use Rattle.undo_log.proofs.Answers.{abandon_moved, redo_moved, some_steps, undo_moved}
@@ -41,7 +41,7 @@ turn_takes Forwards kind = redo_takes kind
 turn_takes Backwards kind = undo_takes kind
 
 -- Where there is room nothing is out of reach,
-pub within : {S : Type 0} (c : Change) (state : CacheState S) → is_full state ≡ false → IsOutOfReach c state → ⊥
+pub within : {S : Type 0} (c : Change) (state : CacheState S) → is_full state ≡ false → IsShutOut c state → ⊥
 within (changes.BlocksIn ms) state room out = out
 within (changes.BlocksOut ms) state room out = out
 within (changes.Part b part) state room out = true≢false (sym out ∙ open-shut state b.0 room)
@@ -49,7 +49,7 @@ within (changes.Attributes b old new) state room out = out
 within (changes.Map old new) state room out = out
 
 -- and where no block is locked none that goes is.
-pub none_locked : (c : Change) (ss : List Seat) → ((h : ℕ) → locks_of ss h ≡ 0) → AreUnlocked c ss
+pub none_locked : (c : Change) (ss : List ResidentBlock) → ((h : ℕ) → locks_of ss h ≡ 0) → AreUnlocked c ss
 none_locked (changes.BlocksIn ms) ss none = tt
 none_locked (changes.BlocksOut ms) ss none = λ i d within. none _
 none_locked (changes.Part b part) ss none = tt
@@ -57,9 +57,9 @@ none_locked (changes.Attributes b old new) ss none = tt
 none_locked (changes.Map old new) ss none = tt
 
 -- Changes that can be taken one after another are taken by the bodies.
-all_take : (direction : Direction) (cs : List Change) (d : Document) → CanTake direction cs d → AllTake (map (turned direction) cs) d
+all_take : (direction : Direction) (cs : List Change) (d : Document) → CanApplyAll direction cs d → AllowAll (map (directed direction) cs) d
 all_take direction [] d can = tt
-all_take direction (c ∷ cs) d can = (applies_takes (turned direction c) d can.0, all_take direction cs (made (turned direction c) d) can.1)
+all_take direction (c ∷ cs) d can = (applies_takes (directed direction c) d can.0, all_take direction cs (after_change (directed direction c) d) can.1)
 
 -- What is refused before all else of a session is so of its machine.
 
@@ -68,7 +68,7 @@ group_open f None = refl
 group_open f (Some x) = refl
 
 -- where nothing is, no group is open and no block is locked
-pub at_rest : {S : Type 0} (s : SessionState S) → rest_fault s ≡ None → (is_some s.log.group ≡ false) × (has_locks s ≡ false)
+pub at_rest : {S : Type 0} (s : SessionState S) → busy_fault s ≡ None → (is_some s.log.group ≡ false) × (has_locks s ≡ false)
 at_rest s free = by_parts (is_some s.log.group) (has_locks s) free
   where
     by_parts : (is_open locked : Bool) → (if is_open then Some GroupOpen else if locked then Some Locked else None) ≡ None → (is_open ≡ false) × (locked ≡ false)
@@ -77,10 +77,10 @@ at_rest s free = by_parts (is_some s.log.group) (has_locks s) free
     by_parts false false is = (refl, refl)
 
 -- a list with a first entry isn't empty
-pub some_newest : (e : LogEntry) (from : List LogEntry) → IsFirst e from → from ≢ []
+pub some_newest : (e : LogEntry) (from : List LogEntry) → IsHead e from → from ≢ []
 some_newest e from first none = let no : e ∷ first.others ≡ [] = sym first.are ∙ none in absurd (cc no)
 
-pub none_open : {S : Type 0} (s : SessionState S) → rest_fault s ≡ None → s.log.group ≡ None
+pub none_open : {S : Type 0} (s : SessionState S) → busy_fault s ≡ None → s.log.group ≡ None
 none_open s free = by_group s.log.group (at_rest s free).0
   where
     by_group : (o : Option (List Change)) → is_some o ≡ false → o ≡ None
@@ -109,36 +109,36 @@ abandon_free s free = by_parts s.log.group (has_locks s) free
     by_parts (Some cs) false is = (refl, refl)
 
 module _ {S : Type 0} (facts : S → StoreFacts) where
-  pub unready_cant : (c : Change) (old new : CacheState S) (fault : Fault) → is_full old ≡ false → IsUnready facts c old new fault → CantMake facts c old new fault
-  unready_cant c old new fault room unready = elim unready as (λ _. CantMake facts c old new fault) [
+  pub unready_cant : (c : Change) (old new : CacheState S) (fault : Fault) → is_full old ≡ false → CantPrepare facts c old new fault → CantApply facts c old new fault
+  unready_cant c old new fault room unready = elim unready as (λ _. CantApply facts c old new fault) [
     | inl lacks ↦ inl lacks
     | inr (inl damaged) ↦ inr damaged
     | inr (inr out) ↦ absurd (within c old room out.1)
   ]
 
-  pub unready_refuses : (c : Change) (old new : CacheState S) (result : Result (Unit {0}) Fault) → is_full old ≡ false → IfErr result (IsUnready facts c old new) → IfErr result (CantMake facts c old new)
+  pub unready_refuses : (c : Change) (old new : CacheState S) (result : Result (Unit {0}) Fault) → is_full old ≡ false → IfErr result (CantPrepare facts c old new) → IfErr result (CantApply facts c old new)
   unready_refuses c old new (Ok x) room refused = tt
   unready_refuses c old new (Err fault) room refused = unready_cant c old new fault room refused
 
   -- What an entry makes passes, and drifts from what it means.
-  pub entry_passes : (direction : Direction) (e : LogEntry) (old new : CacheState S) → MakesEntry facts direction e old new → Passes facts old.disk new.disk
+  pub entry_passes : (direction : Direction) (e : LogEntry) (old new : CacheState S) → IsEntryApplied facts direction e old new → KeepsCommitted facts old.disk new.disk
   entry_passes direction (entries.One c) old new makes = makes.passes
   entry_passes direction (entries.Group cs) old new makes = makes.passes
 
-  pub entry_document : (direction : Direction) (e : LogEntry) (old new : CacheState S) → MakesEntry facts direction e old new → Drifts (facts old.disk.store).honest (after_entry direction e old.document) new.document
+  pub entry_document : (direction : Direction) (e : LogEntry) (old new : CacheState S) → IsEntryApplied facts direction e old new → SameUnlessCorrupt (facts old.disk.store).honest (after_entry direction e old.document) new.document
   entry_document direction (entries.One c) old new makes = makes.document
   entry_document direction (entries.Group cs) old new makes = makes.document
 
-  entry_frames : (direction : Direction) (e : LogEntry) (old new : CacheState S) → MakesEntry facts direction e old new → new.frames ≡ old.frames
+  entry_frames : (direction : Direction) (e : LogEntry) (old new : CacheState S) → IsEntryApplied facts direction e old new → new.frames ≡ old.frames
   entry_frames direction (entries.One c) old new makes = makes.frames
   entry_frames direction (entries.Group cs) old new makes = makes.frames
 
-  entry_locks : (direction : Direction) (e : LogEntry) (old new : CacheState S) → MakesEntry facts direction e old new → KeepsLocks old.resident new.resident
+  entry_locks : (direction : Direction) (e : LogEntry) (old new : CacheState S) → IsEntryApplied facts direction e old new → KeepsLocks old.resident new.resident
   entry_locks direction (entries.One c) old new makes = makes.locks
   entry_locks direction (entries.Group cs) old new makes = makes.locks
 
   -- What isn't sure may take memory.
-  one_may_take : (direction : Direction) (c : Change) (state : CacheState S) → (CanMakeEntry direction (entries.One c) state → ⊥) → turn_takes direction (kind_of_change c) ≡ true
+  one_may_take : (direction : Direction) (c : Change) (state : CacheState S) → (CanApplyEntry direction (entries.One c) state → ⊥) → turn_takes direction (kind_of_change c) ≡ true
   one_may_take Forwards (changes.BlocksIn ms) state unsure = refl
   one_may_take Forwards (changes.BlocksOut ms) state unsure = absurd (unsure (refl, tt, tt))
   one_may_take Forwards (changes.Part b part) state unsure = refl
@@ -150,56 +150,56 @@ module _ {S : Type 0} (facts : S → StoreFacts) where
   one_may_take Backwards (changes.Attributes b old new) state unsure = absurd (unsure (refl, tt, tt))
   one_may_take Backwards (changes.Map old new) state unsure = absurd (unsure (refl, tt, tt))
 
-  may_take : (direction : Direction) (e : LogEntry) (state : CacheState S) → (CanMakeEntry direction e state → ⊥) → turn_takes direction (kind_of_entry e) ≡ true
+  may_take : (direction : Direction) (e : LogEntry) (state : CacheState S) → (CanApplyEntry direction e state → ⊥) → turn_takes direction (kind_of_entry e) ≡ true
   may_take direction (entries.One c) state unsure = one_may_take direction c state unsure
   may_take Forwards (entries.Group cs) state unsure = refl
   may_take Backwards (entries.Group cs) state unsure = refl
 
   -- What is sure can be taken.
-  sure_one : (s : SessionState S) (direction : Direction) (c : Change) → (IsExact facts s → Applies (turned direction c) s.document) → IsSureKind facts s direction (kind_of_change c)
-      → CanMakeEntry direction (entries.One c) (blocks_of s)
+  sure_one : (s : SessionState S) (direction : Direction) (c : Change) → (IsExact facts s → CanApply (directed direction c) s.document) → IsSureKind facts s direction (kind_of_change c)
+      → CanApplyEntry direction (entries.One c) (cache_of s)
   sure_one s Forwards (changes.BlocksIn ms) applies sure = absurd sure
   sure_one s Forwards (changes.BlocksOut ms) applies sure = (refl, tt, tt)
-  sure_one s Forwards (changes.Part b part) applies sure = (refl, sure.1, applies_takes (turned Forwards (changes.Part b part)) s.document (applies sure.0))
+  sure_one s Forwards (changes.Part b part) applies sure = (refl, sure.1, applies_takes (directed Forwards (changes.Part b part)) s.document (applies sure.0))
   sure_one s Forwards (changes.Attributes b old new) applies sure = (refl, tt, tt)
   sure_one s Forwards (changes.Map old new) applies sure = (refl, tt, tt)
   sure_one s Backwards (changes.BlocksIn ms) applies sure = (refl, tt, tt)
   sure_one s Backwards (changes.BlocksOut ms) applies sure = absurd sure
-  sure_one s Backwards (changes.Part b part) applies sure = (refl, sure.1, applies_takes (turned Backwards (changes.Part b part)) s.document (applies sure.0))
+  sure_one s Backwards (changes.Part b part) applies sure = (refl, sure.1, applies_takes (directed Backwards (changes.Part b part)) s.document (applies sure.0))
   sure_one s Backwards (changes.Attributes b old new) applies sure = (refl, tt, tt)
   sure_one s Backwards (changes.Map old new) applies sure = (refl, tt, tt)
 
-  sure_entry : (s : SessionState S) (direction : Direction) (e : LogEntry) (es : List LogEntry) → (IsExact facts s → CanTake direction (all_changes (e ∷ es)) s.document) → IsSureKind facts s direction (kind_of_entry e)
-      → CanMakeEntry direction e (blocks_of s)
+  sure_entry : (s : SessionState S) (direction : Direction) (e : LogEntry) (es : List LogEntry) → (IsExact facts s → CanApplyAll direction (all_changes (e ∷ es)) s.document) → IsSureKind facts s direction (kind_of_entry e)
+      → CanApplyEntry direction e (cache_of s)
   sure_entry s direction (entries.One c) es can sure = sure_one s direction c (λ exact. (can exact).0) sure
   sure_entry s Forwards (entries.Group cs) es can sure = absurd sure
   sure_entry s Backwards (entries.Group cs) es can sure = absurd sure
 
   -- the newest of a list is
-  pub sure_turns : (s : SessionState S) (direction : Direction) (e : LogEntry) (from : List LogEntry) → IsFirst e from → (IsExact facts s → CanTake direction (all_changes from) s.document) → IsSure facts s direction from
-      → CanMakeEntry direction e (blocks_of s)
+  pub sure_turns : (s : SessionState S) (direction : Direction) (e : LogEntry) (from : List LogEntry) → IsHead e from → (IsExact facts s → CanApplyAll direction (all_changes from) s.document) → IsSure facts s direction from
+      → CanApplyEntry direction e (cache_of s)
   sure_turns s direction e from first can sure =
-      sure_entry s direction e first.others (λ exact. subst (λ (es : List LogEntry). CanTake direction (all_changes es) s.document) first.are (can exact)) (subst (IsSure facts s direction) first.are sure)
+      sure_entry s direction e first.others (λ exact. subst (λ (es : List LogEntry). CanApplyAll direction (all_changes es) s.document) first.are (can exact)) (subst (IsSure facts s direction) first.are sure)
 
-  pub newest_is : (direction : Direction) (e : LogEntry) (from : List LogEntry) (d : Document) → IsFirst e from → after_entry direction e d ≡ newest_made direction from d
+  pub newest_is : (direction : Direction) (e : LogEntry) (from : List LogEntry) (d : Document) → IsHead e from → after_entry direction e d ≡ newest_made direction from d
   newest_is direction e from d first = ap (λ (es : List LogEntry). newest_made direction es d) (sym first.are)
 
   pub none_sure : (s : SessionState S) (direction : Direction) (from : List LogEntry) → from ≡ [] → IsSure facts s direction from → ⊥
   none_sure s direction from none sure = subst (IsSure facts s direction) none sure
 
   -- What can be taken of an exact session in which no group is open.
-  pub undo_can : (s : SessionState S) → rest_fault s ≡ None → IsExact facts s → CanTake Backwards (all_changes s.log.undo) s.document
-  undo_can s free exact = subst (λ (g : Option (List Change)). CanTake Backwards (open_changes g ++ all_changes s.log.undo) s.document) (none_open s free) exact.steps.first
+  pub undo_can : (s : SessionState S) → busy_fault s ≡ None → IsExact facts s → CanApplyAll Backwards (all_changes s.log.undo) s.document
+  undo_can s free exact = subst (λ (g : Option (List Change)). CanApplyAll Backwards (open_changes g ++ all_changes s.log.undo) s.document) (none_open s free) exact.steps.first
 
-  pub redo_can : (s : SessionState S) → IsExact facts s → CanTake Forwards (all_changes s.log.redo) s.document
+  pub redo_can : (s : SessionState S) → IsExact facts s → CanApplyAll Forwards (all_changes s.log.redo) s.document
   redo_can s exact = exact.steps.second
 
-  pub newest_can : (direction : Direction) (e : LogEntry) (from : List LogEntry) (d : Document) → (first : IsFirst e from) → CanTake direction (all_changes from) d → CanTake direction (all_changes (e ∷ first.others)) d
-  newest_can direction e from d first can = subst (λ (es : List LogEntry). CanTake direction (all_changes es) d) first.are can
+  pub newest_can : (direction : Direction) (e : LogEntry) (from : List LogEntry) (d : Document) → (first : IsHead e from) → CanApplyAll direction (all_changes from) d → CanApplyAll direction (all_changes (e ∷ first.others)) d
+  newest_can direction e from d first can = subst (λ (es : List LogEntry). CanApplyAll direction (all_changes es) d) first.are can
 
   -- What can be made isn't refused.
   pub never_refused : (direction : Direction) (e : LogEntry) (old new : CacheState S) (fault : Fault) (result : Result (Unit {0}) Fault) → result ≡ Err fault
-      → (CanMakeEntry direction e old → IsOk result × (new.disk ≡ old.disk) × (new.document ≡ after_entry direction e old.document)) → CanMakeEntry direction e old → ⊥
+      → (CanApplyEntry direction e old → IsOk result × (new.disk ≡ old.disk) × (new.document ≡ after_entry direction e old.document)) → CanApplyEntry direction e old → ⊥
   never_refused direction e old new fault result was sure can = not_both result was (sure can).0
     where
       not_both : (r : Result (Unit {0}) Fault) → r ≡ Err fault → IsOk r → ⊥
@@ -208,29 +208,29 @@ module _ {S : Type 0} (facts : S → StoreFacts) where
 
   module _ (old new : SessionState S) where
     -- Why an entry can't be made, in a session.
-    pub cant_take : (direction : Direction) (fault : Fault) (e : LogEntry) (es : List LogEntry) → (IsExact facts old → CanTake direction (all_changes (e ∷ es)) old.document) → CantMakeEntry facts direction e (blocks_of old) (blocks_of new) fault
-        → IsNotTaken facts old new fault
-    cant_take direction fault (entries.One c) es can unready = elim unready as (λ _. IsNotTaken facts old new fault) [
+    pub cant_take : (direction : Direction) (fault : Fault) (e : LogEntry) (es : List LogEntry) → (IsExact facts old → CanApplyAll direction (all_changes (e ∷ es)) old.document) → CantApplyEntry facts direction e (cache_of old) (cache_of new) fault
+        → CantApplyLog facts old new fault
+    cant_take direction fault (entries.One c) es can unready = elim unready as (λ _. CantApplyLog facts old new fault) [
       | inl lacks ↦ inl lacks
-      | inr damaged ↦ inr (damaged.0, λ exact. damaged.1 (honest-steady facts old.disk.store exact.honest) (applies_takes (turned direction c) old.document (can exact).0))
+      | inr damaged ↦ inr (damaged.0, λ exact. damaged.1 (honest-steady facts old.disk.store exact.honest) (applies_takes (directed direction c) old.document (can exact).0))
     ]
-    cant_take direction fault (entries.Group cs) es can unready = elim unready as (λ _. IsNotTaken facts old new fault) [
+    cant_take direction fault (entries.Group cs) es can unready = elim unready as (λ _. CantApplyLog facts old new fault) [
       | inl lacks ↦ inl lacks
       | inr damaged ↦ inr (damaged.0, λ exact. damaged.1 (honest-steady facts old.disk.store exact.honest) (all_take direction cs old.document (can_split direction cs (all_changes es) old.document (can exact)).0))
     ]
 
     -- so that it is for what the call may lack where it is exact
-    lacking : (fault : Fault) → IsExact facts old → IsNotTaken facts old new fault → Lacks facts old.disk.store new.disk.store fault
-    lacking fault exact why = elim why as (λ _. Lacks facts old.disk.store new.disk.store fault) [
+    lacking : (fault : Fault) → IsExact facts old → CantApplyLog facts old new fault → IsEnvironmentFault facts old.disk.store new.disk.store fault
+    lacking fault exact why = elim why as (λ _. IsEnvironmentFault facts old.disk.store new.disk.store fault) [
       | inl lacks ↦ lacks
       | inr damaged ↦ absurd (damaged.1 exact)
     ]
 
-    newest_may : (direction : Direction) (e : LogEntry) (es from : List LogEntry) (d : Document) → from ≡ e ∷ es → (CanMakeEntry direction e (blocks_of old) → ⊥) → newest_takes (turn_takes direction) (steps direction from d) ≡ true
-    newest_may direction e es from d is unsure = ap (λ (xs : List LogEntry). newest_takes (turn_takes direction) (steps direction xs d)) is ∙ may_take direction e (blocks_of old) unsure
+    newest_may : (direction : Direction) (e : LogEntry) (es from : List LogEntry) (d : Document) → from ≡ e ∷ es → (CanApplyEntry direction e (cache_of old) → ⊥) → newest_takes (turn_takes direction) (steps direction from d) ≡ true
+    newest_may direction e es from d is unsure = ap (λ (xs : List LogEntry). newest_takes (turn_takes direction) (steps direction xs d)) is ∙ may_take direction e (cache_of old) unsure
 
     module _ (fault : Fault) (keeps : KeepsSession facts old new) (e : LogEntry) where
-      pub undo_refused : IsFirst e old.log.undo → (CanMakeEntry Backwards e (blocks_of old) → ⊥) → IsNotTaken facts old new fault → IsStep facts old new commands.Undo (Refused fault)
+      pub undo_refused : IsHead e old.log.undo → (CanApplyEntry Backwards e (cache_of old) → ⊥) → CantApplyLog facts old new fault → IsStep facts old new commands.Undo (Refused fault)
       undo_refused first unsure why = λ exact. (
         kept_exact facts old new keeps exact,
         λ target.
@@ -238,7 +238,7 @@ module _ {S : Type 0} (facts : S → StoreFacts) where
             gives_up facts old.disk.store new.disk.store (machine_of target old) (machine_of target new) commands.Undo fault exact.honest (lacking fault exact why) (kept_machine facts old new keeps target exact) takes takes,
       )
 
-      pub redo_refused : IsFirst e old.log.redo → (CanMakeEntry Forwards e (blocks_of old) → ⊥) → IsNotTaken facts old new fault → IsStep facts old new commands.Redo (Refused fault)
+      pub redo_refused : IsHead e old.log.redo → (CanApplyEntry Forwards e (cache_of old) → ⊥) → CantApplyLog facts old new fault → IsStep facts old new commands.Redo (Refused fault)
       redo_refused first unsure why = λ exact. (
         kept_exact facts old new keeps exact,
         λ target.
@@ -247,36 +247,36 @@ module _ {S : Type 0} (facts : S → StoreFacts) where
       )
 
     -- One is taken.
-    module _ (e : LogEntry) (free : rest_fault old ≡ None) where
-      log_undone : (first : IsFirst e old.log.undo) → undone old.log ≡ record { undo = first.others; redo = turned_over e ∷ old.log.redo; group = None }
+    module _ (e : LogEntry) (free : busy_fault old ≡ None) where
+      log_undone : (first : IsHead e old.log.undo) → log_undone old.log ≡ record { undo = first.others; redo = turned_over e ∷ old.log.redo; group = None }
       log_undone first = rw (first.are, none_open old free) refl
 
-      log_redone : (first : IsFirst e old.log.redo) → redone old.log ≡ record { undo = turned_over e ∷ old.log.undo; redo = first.others; group = None }
+      log_redone : (first : IsHead e old.log.redo) → log_redone old.log ≡ record { undo = turned_over e ∷ old.log.undo; redo = first.others; group = None }
       log_redone first = rw (first.are, none_open old free) refl
 
-      log_was_undo : (first : IsFirst e old.log.undo) → old.log ≡ record { undo = e ∷ first.others; redo = old.log.redo; group = None }
+      log_was_undo : (first : IsHead e old.log.undo) → old.log ≡ record { undo = e ∷ first.others; redo = old.log.redo; group = None }
       log_was_undo first = λ i. record { undo = first.are i; redo = old.log.redo; group = none_open old free i }
 
-      log_was_redo : (first : IsFirst e old.log.redo) → old.log ≡ record { undo = old.log.undo; redo = e ∷ first.others; group = None }
+      log_was_redo : (first : IsHead e old.log.redo) → old.log ≡ record { undo = old.log.undo; redo = e ∷ first.others; group = None }
       log_was_redo first = λ i. record { undo = old.log.undo; redo = first.are i; group = none_open old free i }
 
-      pub undo_moves : IsFirst e old.log.undo → new.log ≡ undone old.log → MakesEntry facts Backwards e (blocks_of old) (blocks_of new)
-          → Moves facts Backwards (blocks_of old) (blocks_of new) old.log.undo old.log.redo new.log.undo new.log.redo
+      pub undo_moves : IsHead e old.log.undo → new.log ≡ log_undone old.log → IsEntryApplied facts Backwards e (cache_of old) (cache_of new)
+          → MovesEntry facts Backwards (cache_of old) (cache_of new) old.log.undo old.log.redo new.log.undo new.log.redo
       undo_moves first log makes =
           let is : new.log ≡ record { undo = first.others; redo = turned_over e ∷ old.log.redo; group = None } = log ∙ log_undone first in
           record { entry = e; makes = makes; from_was = first.are ∙ ap (λ (es : List LogEntry). e ∷ es) (sym (ap (λ (l : Log). l.undo) is)); to_is = ap (λ (l : Log). l.redo) is }
 
-      pub redo_moves : IsFirst e old.log.redo → new.log ≡ redone old.log → MakesEntry facts Forwards e (blocks_of old) (blocks_of new)
-          → Moves facts Forwards (blocks_of old) (blocks_of new) old.log.redo old.log.undo new.log.redo new.log.undo
+      pub redo_moves : IsHead e old.log.redo → new.log ≡ log_redone old.log → IsEntryApplied facts Forwards e (cache_of old) (cache_of new)
+          → MovesEntry facts Forwards (cache_of old) (cache_of new) old.log.redo old.log.undo new.log.redo new.log.undo
       redo_moves first log makes =
           let is : new.log ≡ record { undo = turned_over e ∷ old.log.undo; redo = first.others; group = None } = log ∙ log_redone first in
           record { entry = e; makes = makes; from_was = first.are ∙ ap (λ (es : List LogEntry). e ∷ es) (sym (ap (λ (l : Log). l.redo) is)); to_is = ap (λ (l : Log). l.undo) is }
 
-      pub undo_taken : IsFirst e old.log.undo → new.log ≡ undone old.log → MakesEntry facts Backwards e (blocks_of old) (blocks_of new) → IsStep facts old new commands.Undo Accepted
+      pub undo_taken : IsHead e old.log.undo → new.log ≡ log_undone old.log → IsEntryApplied facts Backwards e (cache_of old) (cache_of new) → IsStep facts old new commands.Undo Accepted
       undo_taken first log makes = λ exact.
           let so = exact.honest in
-          let passes = entry_passes Backwards e (blocks_of old) (blocks_of new) makes in
-          let document : new.document ≡ after_entry Backwards e old.document = (entry_document Backwards e (blocks_of old) (blocks_of new) makes).same so in
+          let passes = entry_passes Backwards e (cache_of old) (cache_of new) makes in
+          let document : new.document ≡ after_entry Backwards e old.document = (entry_document Backwards e (cache_of old) (cache_of new) makes).same so in
           let was_log = log_was_undo first in
           let is_log : new.log ≡ record { undo = first.others; redo = turned_over e ∷ old.log.redo; group = None } = log ∙ log_undone first in
           let are : AreSteps Backwards old.document (all_changes (e ∷ first.others)) (all_changes old.log.redo) = subst (λ (l : Log). AreSteps Backwards old.document (to_undo l) (to_redo l)) was_log exact.steps in
@@ -288,17 +288,17 @@ module _ {S : Type 0} (facts : S → StoreFacts) where
             },
             λ target.
                 let m = machine_of target old in
-                let is = passed_machine facts old new target so passes (entry_frames Backwards e (blocks_of old) (blocks_of new) makes) (entry_locks Backwards e (blocks_of old) (blocks_of new) makes)
+                let is = passed_machine facts old new target so passes (entry_frames Backwards e (cache_of old) (cache_of new) makes) (entry_locks Backwards e (cache_of old) (cache_of new) makes)
                 ∙ ap (λ (d : Document). machine_with m d new.log) document ∙ ap (λ (l : Log). machine_with m (after_entry Backwards e old.document) l) is_log in
                 inl (answers_on m _ (machine_of target new) _ (Some commands.Undo) Accepted (ap (λ (l : Log). machine_with m old.document l) was_log) is
                 (undo_moved m old.document e first.others old.log.redo (at_rest old free).1 are)),
           )
 
-      pub redo_taken : IsFirst e old.log.redo → new.log ≡ redone old.log → MakesEntry facts Forwards e (blocks_of old) (blocks_of new) → IsStep facts old new commands.Redo Accepted
+      pub redo_taken : IsHead e old.log.redo → new.log ≡ log_redone old.log → IsEntryApplied facts Forwards e (cache_of old) (cache_of new) → IsStep facts old new commands.Redo Accepted
       redo_taken first log makes = λ exact.
           let so = exact.honest in
-          let passes = entry_passes Forwards e (blocks_of old) (blocks_of new) makes in
-          let document : new.document ≡ after_entry Forwards e old.document = (entry_document Forwards e (blocks_of old) (blocks_of new) makes).same so in
+          let passes = entry_passes Forwards e (cache_of old) (cache_of new) makes in
+          let document : new.document ≡ after_entry Forwards e old.document = (entry_document Forwards e (cache_of old) (cache_of new) makes).same so in
           let was_log = log_was_redo first in
           let is_log : new.log ≡ record { undo = turned_over e ∷ old.log.undo; redo = first.others; group = None } = log ∙ log_redone first in
           let are : AreSteps Forwards old.document (all_changes (e ∷ first.others)) (all_changes old.log.undo) =
@@ -311,14 +311,14 @@ module _ {S : Type 0} (facts : S → StoreFacts) where
             },
             λ target.
                 let m = machine_of target old in
-                let is = passed_machine facts old new target so passes (entry_frames Forwards e (blocks_of old) (blocks_of new) makes) (entry_locks Forwards e (blocks_of old) (blocks_of new) makes)
+                let is = passed_machine facts old new target so passes (entry_frames Forwards e (cache_of old) (cache_of new) makes) (entry_locks Forwards e (cache_of old) (cache_of new) makes)
                 ∙ ap (λ (d : Document). machine_with m d new.log) document ∙ ap (λ (l : Log). machine_with m (after_entry Forwards e old.document) l) is_log in
                 inl (answers_on m _ (machine_of target new) _ (Some commands.Redo) Accepted (ap (λ (l : Log). machine_with m old.document l) was_log) is
                 (redo_moved m old.document e old.log.undo first.others (at_rest old free).1 are)),
           )
 
   -- It is refused before all else.
-  module _ (s : SessionState S) (fault : Fault) (held : rest_fault s ≡ Some fault) where
+  module _ (s : SessionState S) (fault : Fault) (held : busy_fault s ≡ Some fault) where
     held_first : (nothing : Fault) → ((is_open locked none : Bool) → (if is_open then Some GroupOpen else if locked then Some Locked else None) ≡ Some fault
         → first_refusal ((nothing, none) ∷ (GroupOpen, is_open) ∷ (Locked, locked) ∷ []) ≡ Some fault)
         → (target none : Bool) → first_refusal ((nothing, none) ∷ machine.at_rest (machine_of target s)) ≡ Some fault
@@ -342,7 +342,7 @@ module _ {S : Type 0} (facts : S → StoreFacts) where
     redo_held = λ exact. (exact, λ target. inl (rw (held_first NothingToRedo redo_parts target (length (machine_of target s).future == 0)) refl))
 
   -- There is none.
-  module _ (s : SessionState S) (free : rest_fault s ≡ None) where
+  module _ (s : SessionState S) (free : busy_fault s ≡ None) where
     pub undo_none : s.log.undo ≡ [] → IsStep facts s s commands.Undo (Refused NothingToUndo)
     undo_none none = λ exact. (exact, λ target. inl (rw (none_open s free, (at_rest s free).1, none) refl))
 
@@ -368,14 +368,14 @@ module _ {S : Type 0} (facts : S → StoreFacts) where
   -- The group that is open.
   module _ (old new : SessionState S) (cs : List Change) (is_open : old.log.group ≡ Some cs) where
     -- its changes can be taken back where the session is exact
-    pub group_can : IsExact facts old → CanTake Backwards cs old.document
+    pub group_can : IsExact facts old → CanApplyAll Backwards cs old.document
     group_can exact =
-        let can : CanTake Backwards (cs ++ all_changes old.log.undo) old.document =
-        subst (λ (g : Option (List Change)). CanTake Backwards (open_changes g ++ all_changes old.log.undo) old.document) is_open exact.steps.first in
+        let can : CanApplyAll Backwards (cs ++ all_changes old.log.undo) old.document =
+        subst (λ (g : Option (List Change)). CanApplyAll Backwards (open_changes g ++ all_changes old.log.undo) old.document) is_open exact.steps.first in
         (can_split Backwards cs (all_changes old.log.undo) old.document can).0
 
-    pub group_not_taken : (fault : Fault) → AreUnready facts (map (turned Backwards) cs) (blocks_of old) (blocks_of new) fault → IsNotTaken facts old new fault
-    group_not_taken fault unready = elim unready as (λ _. IsNotTaken facts old new fault) [
+    pub group_not_taken : (fault : Fault) → CantPrepareAll facts (map (directed Backwards) cs) (cache_of old) (cache_of new) fault → CantApplyLog facts old new fault
+    group_not_taken fault unready = elim unready as (λ _. CantApplyLog facts old new fault) [
       | inl lacks ↦ inl lacks
       | inr damaged ↦ inr (damaged.0, λ exact. damaged.1 (honest-steady facts old.disk.store exact.honest) (all_take Backwards cs old.document (group_can exact)))
     ]
@@ -387,7 +387,7 @@ module _ {S : Type 0} (facts : S → StoreFacts) where
         by_changes [] some = absurd (some refl)
         by_changes (c ∷ xs) some = rw (some_steps c xs) refl
 
-    pub abandon_refused : (fault : Fault) → KeepsSession facts old new → cs ≢ [] → IsNotTaken facts old new fault → IsStep facts old new commands.Abandon (Refused fault)
+    pub abandon_refused : (fault : Fault) → KeepsSession facts old new → cs ≢ [] → CantApplyLog facts old new fault → IsStep facts old new commands.Abandon (Refused fault)
     abandon_refused fault keeps some why = λ exact. (
       kept_exact facts old new keeps exact,
       λ target.
@@ -395,7 +395,7 @@ module _ {S : Type 0} (facts : S → StoreFacts) where
           gives_up facts old.disk.store new.disk.store (machine_of target old) (machine_of target new) commands.Abandon fault exact.honest (lacking old new fault exact why) (kept_machine facts old new keeps target exact) takes takes,
     )
 
-    pub abandon_taken : has_locks old ≡ false → AreExclusive cs old.log.redo → new.log ≡ record old.log { group = None } → MakesAll facts (map (turned Backwards) cs) (blocks_of old) (blocks_of new)
+    pub abandon_taken : has_locks old ≡ false → AreExclusive cs old.log.redo → new.log ≡ record old.log { group = None } → AreApplied facts (map (directed Backwards) cs) (cache_of old) (cache_of new)
         → IsStep facts old new commands.Abandon Accepted
     abandon_taken none apart log makes = λ exact.
         let so = exact.honest in
@@ -422,6 +422,6 @@ module _ {S : Type 0} (facts : S → StoreFacts) where
         )
       where
         -- what can be made again can be in the document before the group, which is the same or has nothing to make again
-        apart_can : (xs : List Change) → AreExclusive xs old.log.redo → CanTake Forwards (all_changes old.log.redo) old.document → CanTake Forwards (all_changes old.log.redo) (after_all Backwards xs old.document)
+        apart_can : (xs : List Change) → AreExclusive xs old.log.redo → CanApplyAll Forwards (all_changes old.log.redo) old.document → CanApplyAll Forwards (all_changes old.log.redo) (after_all Backwards xs old.document)
         apart_can [] apart can = can
-        apart_can (c ∷ xs) apart can = subst (λ (es : List LogEntry). CanTake Forwards (all_changes es) (after_all Backwards (c ∷ xs) old.document)) (sym apart) tt
+        apart_can (c ∷ xs) apart can = subst (λ (es : List LogEntry). CanApplyAll Forwards (all_changes es) (after_all Backwards (c ∷ xs) old.document)) (sym apart) tt

@@ -6,7 +6,7 @@ use Rattle.std.specs.List.{sum_by}
 use Rattle.std.specs.Option.{option_map, option_map_or}
 use Rattle.geos_model.specs.Document.{Document}
 use Rattle.geos_model.specs.Machine.{UndoStep}
-use Rattle.vm_blocks.specs.Changes.{weight, part_weight, content_weight, bytes_of}
+use Rattle.vm_blocks.specs.Changes.{weight, part_weight, content_weight, content_bytes}
 use Rattle.vm_blocks.specs.declared.change.Change.{Change}
 use Rattle.vm_blocks.specs.declared.change.Change.TheVariants as changes
 use Rattle.vm_blocks.specs.declared.change.Content.{Content}
@@ -16,13 +16,13 @@ use Rattle.vm_blocks.specs.declared.change.PartChange.TheVariants as parts
 use Rattle.vm_blocks.specs.declared.change.Direction.{Direction}
 use Rattle.vm_blocks.specs.declared.change.Direction.TheVariants.{Forwards, Backwards}
 use Rattle.doc_edits.specs.Planning.{part_cost, change_cost}
-use Rattle.vm_blocks.specs.Changes.{after}
+use Rattle.vm_blocks.specs.Changes.{after_directed}
 use Rattle.undo_log.specs.Logging.{Log, after_all, all_changes, before, changes_cost, entry_weight, group_of, open_changes, step, steps, to_redo, to_undo, total_weight}
-use Rattle.undo_log.specs.Records.{total_cost}
+use Rattle.undo_log.specs.Sessions.{total_cost}
 use Rattle.undo_log.specs.declared.entry.LogEntry.{LogEntry}
 use Rattle.undo_log.specs.declared.entry.LogEntry.TheVariants as entries
 
-content_weight-le : (content : Content) → content_weight content ≤ length (bytes_of content)
+content_weight-le : (content : Content) → content_weight content ≤ length (content_bytes content)
 content_weight-le (contents.Bytes bytes) = omega arith
 content_weight-le (contents.Zeros n) = omega arith
 
@@ -43,8 +43,8 @@ weight-le (changes.Map old new) = omega arith
 costs : (direction : Direction) (es : List LogEntry) (d : Document) → total_cost (steps direction es d) ≡ changes_cost (all_changes es)
 costs direction [] d = refl
 costs direction (entries.One c ∷ es) d =
-    sum_by-cons (λ (s : UndoStep). s.cost) (step direction (entries.One c) d) (steps direction es (after direction c d))
-    ∙ ap (λ (n : ℕ). change_cost c + n) (costs direction es (after direction c d))
+    sum_by-cons (λ (s : UndoStep). s.cost) (step direction (entries.One c) d) (steps direction es (after_directed direction c d))
+    ∙ ap (λ (n : ℕ). change_cost c + n) (costs direction es (after_directed direction c d))
     ∙ sym (sum_by-cons change_cost c (all_changes es))
 costs direction (entries.Group cs ∷ es) d =
     sum_by-cons (λ (s : UndoStep). s.cost) (step direction (entries.Group cs) d) (steps direction es (after_all direction cs d))

@@ -5,7 +5,7 @@ use Rattle.block_cache.specs.State.{CacheState, cache_state_code}
 use Rattle.vm_blocks.specs.declared.change.Change.{Change}
 use Rattle.vm_blocks.specs.contracts.change.Change as change_type
 use Rattle.undo_log.specs.Logging.{Log, LogState}
-use Rattle.undo_log.specs.Records.{SessionState, blocks_of}
+use Rattle.undo_log.specs.Sessions.{SessionState, cache_of}
 use Rattle.undo_log.specs.declared.entry.LogEntry.{LogEntry}
 use Rattle.undo_log.specs.contracts.entry.LogEntry as entry_type
 
@@ -20,4 +20,4 @@ log_state_code = code_by (Log × Bool) (coded× log_code coded_bool) (λ l. (l.l
 abbrev pub session_code : {S : Type 0} → Coded S → Coded (SessionState S)
 session_code {S} s =
     code_by (CacheState S × Log) (coded× (cache_state_code s) log_code)
-    (λ d. (blocks_of d, d.log)) (λ p. record { disk = p.0.disk; document = p.0.document; resident = p.0.resident; frames = p.0.frames; log = p.1 }) (λ _. refl)
+    (λ d. (cache_of d, d.log)) (λ p. record { disk = p.0.disk; document = p.0.document; resident = p.0.resident; frames = p.0.frames; log = p.1 }) (λ _. refl)

@@ -1,6 +1,6 @@
 pub mod Logging
 pub mod Rooms
-pub mod Records
+pub mod Sessions
 pub mod Making
 pub mod Turning
 pub mod Locking

@@ -5,15 +5,15 @@ use Rattle.geos_model.specs.declared.command.Edit.{Edit}
 use Rattle.geos_model.specs.declared.command.Edit.TheVariants as edits
 use Rattle.geos_model.specs.declared.fault.Fault.{Fault}
 use Rattle.geos_model.specs.declared.fault.Fault.TheVariants.{Locked}
-use Rattle.block_cache.specs.State.{Seat, locks_of, locked_count}
-use Rattle.undo_log.specs.Records.{SessionState, machine_of}
+use Rattle.block_cache.specs.State.{ResidentBlock, locks_of, locked_count}
+use Rattle.undo_log.specs.Sessions.{SessionState, machine_of}
 
 -- whether an edit frees a block that is locked of these in memory, or copies or frees a chain while any is
-abbrev pub bars : List Seat → Edit → Bool
-bars seats (edits.FreeBlock b) = nat_lt 0 (locks_of seats b.0)
-bars seats (edits.CopyChain b) = nat_lt 0 (locked_count seats)
-bars seats (edits.FreeChain b) = nat_lt 0 (locked_count seats)
-bars seats e = false
+abbrev pub bars : List ResidentBlock → Edit → Bool
+bars residents (edits.FreeBlock b) = nat_lt 0 (locks_of residents b.0)
+bars residents (edits.CopyChain b) = nat_lt 0 (locked_count residents)
+bars residents (edits.FreeChain b) = nat_lt 0 (locked_count residents)
+bars residents e = false
 
 -- The edit is Locked.
 abbrev pub IsBarred : {S : Type 0} → Edit → SessionState S → Fault → Type 0

@@ -5,8 +5,8 @@ use Rattle.geos_model.specs.Document.{Document}
 use Rattle.geos_model.specs.Machine.{OpenGroup, UndoStep}
 use Rattle.geos_model.specs.declared.command.Kind.{Kind}
 use Rattle.geos_model.specs.declared.command.Kind.TheVariants.{Group}
-use Rattle.vm_blocks.specs.Changes.{after, turned, weight}
-use Rattle.vm_blocks.specs.Preparing.{made_all}
+use Rattle.vm_blocks.specs.Changes.{after_directed, directed, weight}
+use Rattle.vm_blocks.specs.Preparing.{after_changes}
 use Rattle.vm_blocks.specs.declared.change.Change.{Change}
 use Rattle.vm_blocks.specs.declared.change.Direction.{Direction}
 use Rattle.vm_blocks.specs.declared.change.Direction.TheVariants.{Backwards}
@@ -50,10 +50,10 @@ entry_cost (entries.Group cs) = changes_cost cs
 
 -- the document after changes are carried out in a direction, one after another
 abbrev pub after_all : Direction → List Change → Document → Document
-after_all direction cs d = made_all (map (turned direction) cs) d
+after_all direction cs d = after_changes (map (directed direction) cs) d
 
 abbrev pub after_entry : Direction → LogEntry → Document → Document
-after_entry direction (entries.One c) d = after direction c d
+after_entry direction (entries.One c) d = after_directed direction c d
 after_entry direction (entries.Group cs) d = after_all direction cs d
 
 -- the step that an entry is, carried out in a direction
@@ -76,7 +76,7 @@ abbrev pub empty_log : Log
 empty_log = record { undo = []; redo = []; group = None }
 
 -- an entry is the first of these
-pub record IsFirst (e : LogEntry) (es : List LogEntry) : Type 0 where
+pub record IsHead (e : LogEntry) (es : List LogEntry) : Type 0 where
   pub others : List LogEntry
   pub are : es ≡ e ∷ others
 
@@ -129,15 +129,15 @@ abbrev pub undone_from : List LogEntry → Log → Log
 undone_from [] log = log
 undone_from (e ∷ es) log = record log { undo = es; redo = turned_over e ∷ log.redo }
 
-abbrev pub undone : Log → Log
-undone log = undone_from log.undo log
+abbrev pub log_undone : Log → Log
+log_undone log = undone_from log.undo log
 
 abbrev pub redone_from : List LogEntry → Log → Log
 redone_from [] log = log
 redone_from (e ∷ es) log = record log { undo = turned_over e ∷ log.undo; redo = es }
 
-abbrev pub redone : Log → Log
-redone log = redone_from log.redo log
+abbrev pub log_redone : Log → Log
+log_redone log = redone_from log.redo log
 
 -- A log, and whether there is room for one change more.
 pub record LogState : Type 0 where

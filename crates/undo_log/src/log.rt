@@ -1,7 +1,7 @@
 //! The log: what can be undone, what can be made again, and the group that is open.
 ghost use Rattle.std.specs.Prelude.{◌≡◌, ◌+◌, ◌-◌, ◌^◌, [], true, Some, None, OnOk, MatchOption, is_some, length, min, reverse};
 ghost use Rattle.std.specs.Option.{option_map};
-ghost use Rattle.undo_log.specs.Logging.{AreExclusive, IsFirst, empty_log, open_changes, redone, to_redo, to_undo, total_weight, undone, with_change, with_group_closed};
+ghost use Rattle.undo_log.specs.Logging.{AreExclusive, IsHead, empty_log, open_changes, log_redone, to_redo, to_undo, total_weight, log_undone, with_change, with_group_closed};
 
 use crate::entry::{Changes, LogEntry};
 use crate::weighing::{entries_weight, total_weight};
@@ -90,14 +90,14 @@ impl UndoLog {
 
     /// The newest entry that can be undone.
     pub(crate) fn newest_undo(&self) -> Option<&LogEntry>
-        ensures { MatchOption result (self.now.lists.undo ≡ []) (λ entry. IsFirst entry.now self.now.lists.undo) }
+        ensures { MatchOption result (self.now.lists.undo ≡ []) (λ entry. IsHead entry.now self.now.lists.undo) }
     {
         self.undo.last()
     }
 
     /// The next entry that can be made again.
     pub(crate) fn newest_redo(&self) -> Option<&LogEntry>
-        ensures { MatchOption result (self.now.lists.redo ≡ []) (λ entry. IsFirst entry.now self.now.lists.redo) }
+        ensures { MatchOption result (self.now.lists.redo ≡ []) (λ entry. IsHead entry.now self.now.lists.redo) }
     {
         self.redo.last()
     }
@@ -105,7 +105,7 @@ impl UndoLog {
     /// The newest entry, if there is one, was undone: it is the next that can be made again.
     pub(crate) fn move_undone(&mut self)
         requires { self.old.lists.group ≡ None }
-        ensures { self.new.lists ≡ undone self.old.lists }
+        ensures { self.new.lists ≡ log_undone self.old.lists }
     {
         if let Some(mut entry) = self.undo.pop() {
             entry.turn_over();
@@ -116,7 +116,7 @@ impl UndoLog {
     /// The next entry, if there is one, was made again: it is the newest that can be undone.
     pub(crate) fn move_redone(&mut self)
         requires { self.old.lists.group ≡ None }
-        ensures { self.new.lists ≡ redone self.old.lists }
+        ensures { self.new.lists ≡ log_redone self.old.lists }
     {
         if let Some(mut entry) = self.redo.pop() {
             entry.turn_over();

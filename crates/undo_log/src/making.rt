@@ -6,11 +6,11 @@ ghost use Rattle.geos_model.specs.Meaning.{conditions, effect};
 ghost use Rattle.geos_model.specs.Refusal.{first_refusal};
 ghost use Rattle.geos_model.specs.declared.command.Kind.TheVariants.{Made, Plain};
 ghost use Rattle.geos_model.specs.declared.fault.Fault.TheVariants.{CacheFull};
-ghost use Rattle.vm_blocks.specs.Keeping.{Keeps, Lacks};
-ghost use Rattle.doc_edits.specs.Planning.{IsChainEditFault, Refuses, RefusesAtHand};
+ghost use Rattle.vm_blocks.specs.Keeping.{KeepsBlocks, IsEnvironmentFault};
+ghost use Rattle.doc_edits.specs.Planning.{IsChainEditFault, RefusesEdit, RefusesInMemory};
 ghost use Rattle.doc_edits.specs.Room.{has_no_room, ReadsNothing};
 ghost use Rattle.undo_log.specs.Locking.{bars};
-ghost use Rattle.undo_log.specs.Making.{IsMade};
+ghost use Rattle.undo_log.specs.Making.{IsEditApplied};
 
 use doc_edits::plan;
 use geos_model::{Done, Edit, Fault};
@@ -38,17 +38,18 @@ pub fn make<S: Store>(
     // Asked of the caller.
     requires unlocked { bars blocks.old.resident edit.now ≡ false }
     // What is done.
-    ensures ok { IfOk result (λ p. IsMade S.facts edit.now blocks.old blocks.new p.0 p.1) }
-    ensures err { OnErr result (Keeps S.facts blocks.old blocks.new) }
+    ensures ok { IfOk result (λ p. IsEditApplied S.facts edit.now blocks.old blocks.new p.0 p.1) }
+    ensures err { OnErr result (KeepsBlocks S.facts blocks.old blocks.new) }
     // Refusals.
-    ensures refusals { IfErr result (λ fault. Refuses (Lacks S.facts blocks.old.disk.store blocks.new.disk.store)
+    ensures refusals { IfErr result
+        (λ fault. RefusesEdit (IsEnvironmentFault S.facts blocks.old.disk.store blocks.new.disk.store)
         (has_no_room blocks.old (edit_needs edit.now)) edit.now blocks.new.document fault
         ⊎ IsChainEditFault edit.now blocks.old.document fault) }
     ensures rules { IsTrue (S.facts blocks.old.disk.store).honest
-        → IfErr result (Refuses (Lacks S.facts blocks.old.disk.store blocks.new.disk.store)
+        → IfErr result (RefusesEdit (IsEnvironmentFault S.facts blocks.old.disk.store blocks.new.disk.store)
         (has_no_room blocks.old (edit_needs edit.now)) edit.now blocks.new.document) }
     ensures plain { kind_of edit.now ≡ Plain
-        → (blocks.new.disk ≡ blocks.old.disk) × IfErr result (RefusesAtHand edit.now blocks.new.document) }
+        → (blocks.new.disk ≡ blocks.old.disk) × IfErr result (RefusesInMemory edit.now blocks.new.document) }
     // When the answer is known beforehand.
     ensures shut { has_no_room blocks.old (edit_needs edit.now) ≡ true → (blocks.new ≡ blocks.old)
         × IsErrAnd result
@@ -58,7 +59,7 @@ pub fn make<S: Store>(
         → (blocks.new.disk ≡ blocks.old.disk)
         × MatchResult result (λ p. (blocks.new.document ≡ (effect edit.now blocks.old.document).0)
         × (p.1 ≡ (effect edit.now blocks.old.document).1))
-        (λ fault. (blocks.new.document ≡ blocks.old.document) × RefusesAtHand edit.now blocks.old.document fault) }
+        (λ fault. (blocks.new.document ≡ blocks.old.document) × RefusesInMemory edit.now blocks.old.document fault) }
 {
     let (change, done) = plan(alloc, blocks, edit)?;
     blocks.validity();

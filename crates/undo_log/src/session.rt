@@ -12,27 +12,27 @@ ghost use Rattle.geos_model.specs.Machine.{AreValidLocks, IsValidMachine, Step, 
 ghost use Rattle.geos_model.specs.declared.command.Command.TheVariants as commands;
 ghost use Rattle.geos_model.specs.declared.command.Kind.TheVariants.{In, Made};
 ghost use Rattle.vm_file.specs.Calls.{last_sequence};
-ghost use Rattle.vm_file.specs.Disk.{IsListed, IsSettled, Passes};
+ghost use Rattle.vm_file.specs.Disk.{IsFileDocument, IsCrashConsistent, KeepsCommitted};
 ghost use Rattle.vm_file.specs.Documents.{sequence_in};
 ghost use Rattle.vm_file.specs.Effects.{IsCommit, Fails, IsWorn};
-ghost use Rattle.block_cache.specs.Bodies.{body_of};
+ghost use Rattle.block_cache.specs.Bodies.{body_value};
 ghost use Rattle.block_cache.specs.State.{locks_of, locked_count};
 ghost use Rattle.vm_blocks.specs.Committing.{IsSavedAs};
-ghost use Rattle.vm_blocks.specs.Keeping.{IsSteady, Lacks, is_full, is_loaded};
-ghost use Rattle.vm_blocks.specs.Kinds.{IsOfOther};
+ghost use Rattle.vm_blocks.specs.Keeping.{IsHonest, IsEnvironmentFault, is_full, is_loaded};
+ghost use Rattle.vm_blocks.specs.Kinds.{IsWrongBlock};
 ghost use Rattle.vm_blocks.specs.Locking.{CantLock, GainsLock, HasNoLock, LosesLock};
 ghost use Rattle.vm_blocks.specs.Opening.{IsOpenedFrom, IsNotOpened, IsMadeIn, IsNotMade};
 ghost use Rattle.vm_blocks.specs.declared.change.Direction.TheVariants.{Backwards, Forwards};
-ghost use Rattle.vm_chains.specs.Answers.{IsOfEither};
-ghost use Rattle.doc_edits.specs.LookUps.{Leaves, LooksUp, answer_of};
-ghost use Rattle.doc_edits.specs.Planning.{IsChainEditFault, Refuses};
+ghost use Rattle.vm_chains.specs.Answers.{IsWrongRoot};
+ghost use Rattle.doc_edits.specs.LookUps.{AfterLoan, LooksUp, answer_of};
+ghost use Rattle.doc_edits.specs.Planning.{IsChainEditFault, RefusesEdit};
 ghost use Rattle.doc_edits.specs.Room.{has_no_room, IsChainRefusal, ReadsNothing};
-ghost use Rattle.undo_log.specs.Editing.{EditsAtHand};
+ghost use Rattle.undo_log.specs.Editing.{EditsInMemory};
 ghost use Rattle.undo_log.specs.Locking.{IsBarred};
-ghost use Rattle.undo_log.specs.Committing.{IsHeld, IsNotMoved, TriesCommit};
+ghost use Rattle.undo_log.specs.Committing.{IsHeld, IsSaveAsRefused, IsSessionCommit};
 ghost use Rattle.undo_log.specs.Logging.{AreExclusive, empty_log, open_changes, to_redo, to_undo, total_weight, with_group_closed};
-ghost use Rattle.undo_log.specs.Records.{blocks_of, file_of, has_locks, machine_of, has_failed, total_cost, IsExact, IsStep, KeepsSession, Looks, Records};
-ghost use Rattle.undo_log.specs.Turning.{Abandons, IsNotAbandoned, IsRefusedTurn, IsSure, Moves, abandon_fault, newest_made, rest_fault};
+ghost use Rattle.undo_log.specs.Sessions.{cache_of, file_of, has_locks, machine_of, failed_since, total_cost, IsExact, IsStep, KeepsSession, AnswersLookUp, PushesEdit};
+ghost use Rattle.undo_log.specs.Turning.{Abandons, IsNotAbandoned, IsRefusedUndoOrRedo, IsSure, MovesEntry, abandon_fault, newest_made, busy_fault};
 ghost use Rattle.undo_log.specs.contracts.session.Session.{the_row};
 
 use crate::log::UndoLog;
@@ -56,7 +56,7 @@ pub struct Session<S: Store> {
 }
 
 impl<S: Store> Model for Session<S> {
-    ghost use Rattle.undo_log.specs.Records.{SessionState};
+    ghost use Rattle.undo_log.specs.Sessions.{SessionState};
     ghost use Rattle.undo_log.specs.Codes.{session_code};
 
     ghost Value = { SessionState S };
@@ -66,7 +66,7 @@ impl<S: Store> Model for Session<S> {
     ghost use Rattle.std.specs.Prelude.{◌≡◌, None};
     ghost use Rattle.vm_blocks.specs.declared.change.Direction.TheVariants.{Backwards};
     ghost use Rattle.undo_log.specs.Logging.{to_redo, to_undo};
-    ghost use Rattle.undo_log.specs.Records.{AreListed};
+    ghost use Rattle.undo_log.specs.Sessions.{CanApplyBothByHandle};
 
     ghost view = { λ s. record {
       disk = s.blocks.disk;
@@ -76,7 +76,7 @@ impl<S: Store> Model for Session<S> {
       log = s.log.lists;
     } };
 
-    ghost invariant = { λ s. AreListed Backwards s.blocks.document (to_undo s.log.lists) (to_redo s.log.lists)
+    ghost invariant = { λ s. CanApplyBothByHandle Backwards s.blocks.document (to_undo s.log.lists) (to_redo s.log.lists)
         × (s.blocks.disk.marked ≡ None) };
 }
 
@@ -84,7 +84,7 @@ impl<S: Store> Session<S> {
     // A session of blocks of a file, none of which is in memory, with nothing to undo.
     fn start(alloc: Global, blocks: FileBlocks<S>) -> Session<S>
         requires { blocks.disk.marked ≡ None }
-        ensures blocks { blocks_of result ≡ blocks }
+        ensures blocks { cache_of result ≡ blocks }
         ensures log { result.log ≡ empty_log }
         ensures exact { IsTrue (S.facts blocks.disk.store).honest → IsExact S.facts result }
     {
@@ -146,7 +146,7 @@ impl<S: Store> Session<S> {
     /// was to be may be read after a crash.
     pub fn update(&mut self) -> Result<(), Fault>
         ensures step { IsStep S.facts self.old self.new commands.Update (reply_by (λ _. Accepted) result) }
-        ensures commit { TriesCommit S.facts
+        ensures commit { IsSessionCommit S.facts
             (self.old.document, self.old.disk.saved) self.old.document self.old self.new result }
         ensures fails { Fails S.facts
             (λ fault. IsWorn fault ⊎ IsHeld self.old fault) self.old.disk.store self.new.disk.store result }
@@ -154,7 +154,7 @@ impl<S: Store> Session<S> {
         ensures resident { self.new.resident ≡ self.old.resident }
     {
         self.blocks.validity();
-        if let Some(fault) = self.rest_fault() {
+        if let Some(fault) = self.busy_fault() {
             return Err(fault);
         }
         self.blocks.update()
@@ -163,7 +163,7 @@ impl<S: Store> Session<S> {
     /// Makes the document as it is now the updated and the saved one. Refused as an update is.
     pub fn save(&mut self) -> Result<(), Fault>
         ensures step { IsStep S.facts self.old self.new commands.Save (reply_by (λ _. Accepted) result) }
-        ensures commit { TriesCommit S.facts
+        ensures commit { IsSessionCommit S.facts
             (self.old.document, self.old.document) self.old.document self.old self.new result }
         ensures fails { Fails S.facts
             (λ fault. IsWorn fault ⊎ IsHeld self.old fault) self.old.disk.store self.new.disk.store result }
@@ -171,7 +171,7 @@ impl<S: Store> Session<S> {
         ensures resident { self.new.resident ≡ self.old.resident }
     {
         self.blocks.validity();
-        if let Some(fault) = self.rest_fault() {
+        if let Some(fault) = self.busy_fault() {
             // Before the sequence number is looked at.
             return Err(fault);
         }
@@ -182,7 +182,7 @@ impl<S: Store> Session<S> {
     /// document, over an honest store, and both lists stay. Refused as an update is.
     pub fn revert(&mut self) -> Result<(), Fault>
         ensures step { IsStep S.facts self.old self.new commands.Revert (reply_by (λ _. Accepted) result) }
-        ensures commit { TriesCommit S.facts
+        ensures commit { IsSessionCommit S.facts
             (self.old.disk.saved, self.old.disk.saved) self.old.disk.saved self.old self.new result }
         ensures fails { Fails S.facts
             (λ fault. IsWorn fault ⊎ IsHeld self.old fault) self.old.disk.store self.new.disk.store result }
@@ -195,7 +195,7 @@ impl<S: Store> Session<S> {
             (λ _. self.new.resident ≡ self.old.resident) }
     {
         self.blocks.validity();
-        if let Some(fault) = self.rest_fault() {
+        if let Some(fault) = self.busy_fault() {
             return Err(fault);
         }
         self.blocks.revert()?;
@@ -206,8 +206,8 @@ impl<S: Store> Session<S> {
 
     /// Makes another store a file of its own, with the document as it is now as its updated and its saved one, and goes on in that. The
     /// file so far goes back to its saved document, and its store comes back. Where it is refused the session stays in its file, and the
-    /// target comes back, with any bytes; in the file so far nothing is committed then, but where its store fails. GroupOpen while a group
-    /// is open, and then Locked where any block is, before all else, and Worn where the sequence number of the file so far can't rise,
+    /// target comes back, with any bytes; in the old file nothing is committed then, but where its store fails. GroupOpen while a group
+    /// is open, and then Locked where any block is, before all else, and Worn where the sequence number of the old file can't rise,
     /// before anything is written; over a store that isn't honest what is read may be no image, which is Damaged; Memory, File.
     pub fn save_as(&mut self, target: S) -> Result<S, Refused<S>>
         // What is done: a step of the machine, where it is accepted into an honest target.
@@ -216,14 +216,14 @@ impl<S: Store> Session<S> {
             × Step false (machine_of true self.old) (Some commands.SaveAs) Accepted (machine_of false self.new)) }
         ensures err { IfErr result (λ refused. IsExact S.facts self.old
             → IsExact S.facts self.new
-            × Step (has_failed (S.facts self.old.disk.store) (S.facts self.new.disk.store) || has_failed
+            × Step (failed_since (S.facts self.old.disk.store) (S.facts self.new.disk.store) || failed_since
             (S.facts target) (S.facts refused.store))
             (machine_of true self.old) (Some commands.SaveAs) (RefusedWith refused.fault) (machine_of true self.new)) }
         ensures saved_as { MatchResult result
             (λ store. IsSavedAs S.facts target store (file_of self.old) (file_of self.new))
-            (λ refused. IsNotMoved S.facts target refused.store self.old self.new refused.fault) }
+            (λ refused. IsSaveAsRefused S.facts target refused.store self.old self.new refused.fault) }
         // Refusals.
-        ensures held { (fault : Fault) → rest_fault self.old ≡ Some fault
+        ensures held { (fault : Fault) → busy_fault self.old ≡ Some fault
             → IsErrAnd result (λ refused. (refused.fault ≡ fault) × (refused.store ≡ target)) × (self.new ≡ self.old) }
         // Of the store that comes back.
         ensures reverted { IfOk result (λ store. IsTrue (S.facts self.old.disk.store).honest
@@ -233,10 +233,10 @@ impl<S: Store> Session<S> {
         ensures resident { self.new.resident ≡ self.old.resident }
         // Refusals: Worn.
         ensures worn { IsErrAnd result (λ refused. refused.fault ≡ Fault.Worn)
-            ↔ (rest_fault self.old ≡ None) × (self.old.disk.sequence ≡ last_sequence) }
+            ↔ (busy_fault self.old ≡ None) × (self.old.disk.sequence ≡ last_sequence) }
     {
         self.blocks.validity();
-        if let Some(fault) = self.rest_fault() {
+        if let Some(fault) = self.busy_fault() {
             return Err(Refused {
                 fault,
                 store: target,
@@ -252,27 +252,27 @@ impl<S: Store> Session<S> {
     pub fn edit(&mut self, edit: &Edit) -> Result<Done, Fault>
         // What is done.
         ensures step { IsStep S.facts self.old self.new (commands.Edit edit.now) (reply_by reply_of_done result) }
-        ensures ok { IfOk result (λ done. Records S.facts edit.now done self.old self.new) }
+        ensures ok { IfOk result (λ done. PushesEdit S.facts edit.now done self.old self.new) }
         ensures err { OnErr result (KeepsSession S.facts self.old self.new) }
         // Refusals.
         ensures refusals { IfErr result (λ fault. IsBarred edit.now self.old fault
-            ⊎ (Refuses (Lacks S.facts self.old.disk.store self.new.disk.store)
-            (has_no_room (blocks_of self.old) (edit_needs edit.now)) edit.now self.new.document fault
+            ⊎ (RefusesEdit (IsEnvironmentFault S.facts self.old.disk.store self.new.disk.store)
+            (has_no_room (cache_of self.old) (edit_needs edit.now)) edit.now self.new.document fault
             ⊎ IsChainEditFault edit.now self.old.document fault)) }
         ensures locked { ((target : Bool) → is_barred edit.now (machine_of target self.old) ≡ true)
             → (result ≡ Err Fault.Locked) × (self.new ≡ self.old) }
-        ensures shut { has_no_room (blocks_of self.old) (edit_needs edit.now) ≡ true → (self.new ≡ self.old)
+        ensures shut { has_no_room (cache_of self.old) (edit_needs edit.now) ≡ true → (self.new ≡ self.old)
             × IsErrAnd result (λ fault. IsBarred edit.now self.old fault
-            ⊎ Refuses (λ f. f ≡ Fault.Memory) true edit.now self.old.document fault) }
+            ⊎ RefusesEdit (λ f. f ≡ Fault.Memory) true edit.now self.old.document fault) }
         // What is in memory afterwards.
-        ensures at_hand { OnOk result ((b : VmHandle) → kind_of edit.now ≡ In b
-            → is_loaded (blocks_of self.new) b.0 ≡ true) }
+        ensures in_memory { OnOk result ((b : VmHandle) → kind_of edit.now ≡ In b
+            → is_loaded (cache_of self.new) b.0 ≡ true) }
         // What stays.
-        ensures passes { Passes S.facts self.old.disk self.new.disk }
+        ensures passes { KeepsCommitted S.facts self.old.disk self.new.disk }
         // When the answer is known beforehand: no store is called where no block comes in and no body has to be read.
         ensures already { kind_of edit.now ≢ Made
-            → ReadsNothing (blocks_of self.old) (edit_needs edit.now) (conditions edit.now self.old.document)
-            → EditsAtHand edit.now self.old self.new result }
+            → ReadsNothing (cache_of self.old) (edit_needs edit.now) (conditions edit.now self.old.document)
+            → EditsInMemory edit.now self.old self.new result }
     {
         self.blocks.validity();
         if is_barred(&self.blocks, edit) {
@@ -291,24 +291,24 @@ impl<S: Store> Session<S> {
     pub fn undo(&mut self) -> Result<(), Fault>
         // What is done.
         ensures step { IsStep S.facts self.old self.new commands.Undo (reply_by (λ _. Accepted) result) }
-        ensures ok { OnOk result (Moves S.facts Backwards (blocks_of self.old)
-            (blocks_of self.new) self.old.log.undo self.old.log.redo self.new.log.undo self.new.log.redo) }
+        ensures ok { OnOk result (MovesEntry S.facts Backwards (cache_of self.old)
+            (cache_of self.new) self.old.log.undo self.old.log.redo self.new.log.undo self.new.log.redo) }
         ensures err { OnErr result (KeepsSession S.facts self.old self.new) }
         // Refusals.
         ensures refusals { IfErr result
-            (IsRefusedTurn S.facts Fault.NothingToUndo self.old.log.undo self.old self.new) }
-        ensures held { (fault : Fault) → rest_fault self.old ≡ Some fault
+            (IsRefusedUndoOrRedo S.facts Fault.NothingToUndo self.old.log.undo self.old self.new) }
+        ensures held { (fault : Fault) → busy_fault self.old ≡ Some fault
             → (result ≡ Err fault) × (self.new ≡ self.old) }
         // What stays.
         ensures group { self.new.log.group ≡ self.old.log.group }
-        ensures passes { Passes S.facts self.old.disk self.new.disk }
+        ensures passes { KeepsCommitted S.facts self.old.disk self.new.disk }
         // When the answer is known beforehand.
-        ensures sure { rest_fault self.old ≡ None → IsSure S.facts self.old Backwards self.old.log.undo
+        ensures sure { busy_fault self.old ≡ None → IsSure S.facts self.old Backwards self.old.log.undo
             → IsOk result × (self.new.disk ≡ self.old.disk)
             × (self.new.document ≡ newest_made Backwards self.old.log.undo self.old.document) }
     {
         self.blocks.validity();
-        if let Some(fault) = self.rest_fault() {
+        if let Some(fault) = self.busy_fault() {
             // Before it is asked whether there is anything to undo.
             return Err(fault);
         }
@@ -326,24 +326,24 @@ impl<S: Store> Session<S> {
     pub fn redo(&mut self) -> Result<(), Fault>
         // What is done.
         ensures step { IsStep S.facts self.old self.new commands.Redo (reply_by (λ _. Accepted) result) }
-        ensures ok { OnOk result (Moves S.facts Forwards (blocks_of self.old)
-            (blocks_of self.new) self.old.log.redo self.old.log.undo self.new.log.redo self.new.log.undo) }
+        ensures ok { OnOk result (MovesEntry S.facts Forwards (cache_of self.old)
+            (cache_of self.new) self.old.log.redo self.old.log.undo self.new.log.redo self.new.log.undo) }
         ensures err { OnErr result (KeepsSession S.facts self.old self.new) }
         // Refusals.
         ensures refusals { IfErr result
-            (IsRefusedTurn S.facts Fault.NothingToRedo self.old.log.redo self.old self.new) }
-        ensures held { (fault : Fault) → rest_fault self.old ≡ Some fault
+            (IsRefusedUndoOrRedo S.facts Fault.NothingToRedo self.old.log.redo self.old self.new) }
+        ensures held { (fault : Fault) → busy_fault self.old ≡ Some fault
             → (result ≡ Err fault) × (self.new ≡ self.old) }
         // What stays.
         ensures group { self.new.log.group ≡ self.old.log.group }
-        ensures passes { Passes S.facts self.old.disk self.new.disk }
+        ensures passes { KeepsCommitted S.facts self.old.disk self.new.disk }
         // When the answer is known beforehand.
-        ensures sure { rest_fault self.old ≡ None → IsSure S.facts self.old Forwards self.old.log.redo
+        ensures sure { busy_fault self.old ≡ None → IsSure S.facts self.old Forwards self.old.log.redo
             → IsOk result × (self.new.disk ≡ self.old.disk)
             × (self.new.document ≡ newest_made Forwards self.old.log.redo self.old.document) }
     {
         self.blocks.validity();
-        if let Some(fault) = self.rest_fault() {
+        if let Some(fault) = self.busy_fault() {
             return Err(fault);
         }
         match self.log.newest_redo() {
@@ -404,7 +404,7 @@ impl<S: Store> Session<S> {
         ensures held { (fault : Fault) → abandon_fault self.old ≡ Some fault
             → (result ≡ Err fault) × (self.new ≡ self.old) }
         // What stays.
-        ensures passes { Passes S.facts self.old.disk self.new.disk }
+        ensures passes { KeepsCommitted S.facts self.old.disk self.new.disk }
         // When the answer is known beforehand.
         ensures empty { abandon_fault self.old ≡ None → self.old.log.group ≡ Some []
             → IsOk result × (self.new ≡ record self.old { log = record self.old.log { group = None } }) }
@@ -428,8 +428,8 @@ impl<S: Store> Session<S> {
     }
 
     // What keeps a commit, an undo or a redo from being tried.
-    fn rest_fault(&self) -> Option<Fault>
-        ensures is { result ≡ rest_fault self.now }
+    fn busy_fault(&self) -> Option<Fault>
+        ensures is { result ≡ busy_fault self.now }
         ensures unlocked { result ≡ None → nat_lt 0 (locked_count self.now.resident) ≡ false }
     {
         if self.log.in_group() {
@@ -477,8 +477,8 @@ impl<S: Store> Session<S> {
     pub fn validity(&self)
         ensures machine { IsExact S.facts self.now → (target : Bool) → IsValidMachine (machine_of target self.now) }
         ensures locks { (target : Bool) → AreValidLocks (machine_of target self.now) }
-        ensures listed { IsListed (S.facts self.now.disk.store).honest self.now.document }
-        ensures settled { IsSettled S.facts self.now.disk }
+        ensures listed { IsFileDocument (S.facts self.now.disk.store).honest self.now.document }
+        ensures crash_consistent { IsCrashConsistent S.facts self.now.disk }
         ensures group { AreExclusive (open_changes self.now.log.group) self.now.log.redo }
         ensures few { length self.now.resident ≤ self.now.frames }
     {
@@ -502,17 +502,18 @@ impl<S: Store> Session<S> {
     pub fn lock(&mut self, block: VmHandle) -> Result<(), Fault>
         // What is done.
         ensures step { IsStep S.facts self.old self.new (commands.Lock block) (reply_by (λ _. Accepted) result) }
-        ensures ok { OnOk result (GainsLock S.facts block.0 (blocks_of self.old) (blocks_of self.new)) }
+        ensures ok { OnOk result (GainsLock S.facts block.0 (cache_of self.old) (cache_of self.new)) }
         ensures err { OnErr result (KeepsSession S.facts self.old self.new) }
         // Refusals.
-        ensures refusals { IfErr result (λ fault. Lacks S.facts self.old.disk.store self.new.disk.store fault
-            ⊎ CantLock (blocks_of self.old) block.0 fault) }
-        ensures early { (fault : Fault) → CantLock (blocks_of self.old) block.0 fault
+        ensures refusals { IfErr result
+            (λ fault. IsEnvironmentFault S.facts self.old.disk.store self.new.disk.store fault
+            ⊎ CantLock (cache_of self.old) block.0 fault) }
+        ensures early { (fault : Fault) → CantLock (cache_of self.old) block.0 fault
             → (result ≡ Err fault) × (self.new ≡ self.old) }
         // What stays.
         ensures log { self.new.log ≡ self.old.log }
         // When the answer is known beforehand.
-        ensures already { is_loaded (blocks_of self.old) block.0 ≡ true → locks_of self.old.resident block.0 < 255
+        ensures already { is_loaded (cache_of self.old) block.0 ≡ true → locks_of self.old.resident block.0 < 255
             → IsOk result × (self.new.disk ≡ self.old.disk) × (self.new.document ≡ self.old.document) }
     {
         self.blocks.validity();
@@ -523,9 +524,9 @@ impl<S: Store> Session<S> {
     pub fn unlock(&mut self, block: VmHandle) -> Result<(), Fault>
         ensures step { (target : Bool) → Step false (machine_of target self.old) (Some (commands.Unlock block))
             (reply_by (λ _. Accepted) result) (machine_of target self.new) }
-        ensures ok { OnOk result (LosesLock block.0 (blocks_of self.old) (blocks_of self.new)) }
+        ensures ok { OnOk result (LosesLock block.0 (cache_of self.old) (cache_of self.new)) }
         ensures err { OnErr result (self.new ≡ self.old) }
-        ensures refusals { IfErr result (HasNoLock (blocks_of self.old) block.0) }
+        ensures refusals { IfErr result (HasNoLock (cache_of self.old) block.0) }
         // but for the locks
         ensures same { self.new ≡ record self.old { resident = self.new.resident } }
     {
@@ -537,7 +538,7 @@ impl<S: Store> Session<S> {
     pub fn dirty(&mut self, block: VmHandle) -> Result<(), Fault>
         ensures step { (target : Bool) → Step false (machine_of target self.old) (Some (commands.Dirty block))
             (reply_by (λ _. Accepted) result) (machine_of target self.new) }
-        ensures refusals { IfErr result (HasNoLock (blocks_of self.old) block.0) }
+        ensures refusals { IfErr result (HasNoLock (cache_of self.old) block.0) }
         ensures same { self.new ≡ self.old }
     {
         self.blocks.dirty(block)
@@ -592,7 +593,7 @@ impl<S: Store> Session<S> {
     fn locked_body(&self, block: VmHandle) -> Option<&BlockBody>
         ensures { MatchOption result (locks_of self.now.resident block.0 ≡ 0)
             (λ body. (0 < locks_of self.now.resident block.0)
-            × (option_map (λ b. b.body) (get self.now.document.blocks block.0) ≡ Some (body_of body.now))) }
+            × (option_map (λ b. b.body) (get self.now.document.blocks block.0) ≡ Some (body_value body.now))) }
     {
         self.blocks.validity();
         if self.blocks.locks(block) > 0 {
@@ -604,7 +605,7 @@ impl<S: Store> Session<S> {
 
     /// Whether a block is in memory.
     pub fn is_resident(&self, block: VmHandle) -> bool
-        ensures { result ≡ is_loaded (blocks_of self.now) block.0 }
+        ensures { result ≡ is_loaded (cache_of self.now) block.0 }
     {
         self.blocks.is_resident(block)
     }
@@ -647,7 +648,7 @@ impl<S: Store> Session<S> {
 
     /// A block's user ID and size.
     pub fn info(&mut self, block: VmHandle) -> Result<Info, Fault>
-        ensures { Looks S.facts self.old self.new (commands.Info block) (reply_by info_is result) }
+        ensures { AnswersLookUp S.facts self.old self.new (commands.Info block) (reply_by info_is result) }
     {
         self.blocks.validity();
         look_ups::info(&mut self.blocks, block)
@@ -655,7 +656,7 @@ impl<S: Store> Session<S> {
 
     /// The bytes of a raw block.
     pub fn read_raw(&mut self, block: VmHandle) -> Result<&[u8], Fault>
-        ensures* leaves { sem 𝓛 (Leaves (the_row S.row S.Store) self.entry (λ new. Looks S.facts self.old new
+        ensures* leaves { sem 𝓛 (AfterLoan (the_row S.row S.Store) self.entry (λ new. AnswersLookUp S.facts self.old new
             (commands.ReadRaw block) (reply_by (λ bytes. BytesAre bytes.now) result))) }
     {
         self.blocks.validity();
@@ -664,7 +665,7 @@ impl<S: Store> Session<S> {
 
     /// The live chunks of a heap, rising.
     pub fn chunks(&mut self, block: VmHandle) -> Result<Vec<ChunkHandle>, Fault>
-        ensures { Looks S.facts self.old self.new (commands.Chunks block)
+        ensures { AnswersLookUp S.facts self.old self.new (commands.Chunks block)
             (reply_by (λ handles. chunks_are handles.items) result) }
     {
         self.blocks.validity();
@@ -673,7 +674,7 @@ impl<S: Store> Session<S> {
 
     /// The bytes of a chunk.
     pub fn read_chunk(&mut self, block: VmHandle, chunk: ChunkHandle) -> Result<&[u8], Fault>
-        ensures* leaves { sem 𝓛 (Leaves (the_row S.row S.Store) self.entry (λ new. Looks S.facts self.old new
+        ensures* leaves { sem 𝓛 (AfterLoan (the_row S.row S.Store) self.entry (λ new. AnswersLookUp S.facts self.old new
             (commands.Read block chunk) (reply_by (λ bytes. BytesAre bytes.now) result))) }
     {
         self.blocks.validity();
@@ -682,7 +683,7 @@ impl<S: Store> Session<S> {
 
     /// How many elements the array in a chunk has.
     pub fn array_count(&mut self, block: VmHandle, chunk: ChunkHandle) -> Result<usize, Fault>
-        ensures { Looks S.facts self.old self.new (commands.ArrayCount block chunk) (reply_by NumberIs result) }
+        ensures { AnswersLookUp S.facts self.old self.new (commands.ArrayCount block chunk) (reply_by NumberIs result) }
     {
         self.blocks.validity();
         look_ups::array_count(&mut self.blocks, block, chunk)
@@ -695,7 +696,7 @@ impl<S: Store> Session<S> {
         chunk: ChunkHandle,
         i: u32,
     ) -> Result<&[u8], Fault>
-        ensures* leaves { sem 𝓛 (Leaves (the_row S.row S.Store) self.entry (λ new. Looks S.facts self.old new
+        ensures* leaves { sem 𝓛 (AfterLoan (the_row S.row S.Store) self.entry (λ new. AnswersLookUp S.facts self.old new
             (commands.ArrayElement block chunk i) (reply_by (λ bytes. BytesAre bytes.now) result))) }
     {
         self.blocks.validity();
@@ -709,7 +710,7 @@ impl<S: Store> Session<S> {
         chunk: ChunkHandle,
         token: Token,
     ) -> Result<u32, Fault>
-        ensures { Looks S.facts self.old self.new (commands.ElementReferences block chunk token)
+        ensures { AnswersLookUp S.facts self.old self.new (commands.ElementReferences block chunk token)
             (reply_by NumberIs result) }
     {
         self.blocks.validity();
@@ -723,7 +724,7 @@ impl<S: Store> Session<S> {
         chunk: ChunkHandle,
         token: Token,
     ) -> Result<&[u8], Fault>
-        ensures* leaves { sem 𝓛 (Leaves (the_row S.row S.Store) self.entry (λ new. Looks S.facts self.old new
+        ensures* leaves { sem 𝓛 (AfterLoan (the_row S.row S.Store) self.entry (λ new. AnswersLookUp S.facts self.old new
             (commands.ElementBytes block chunk token) (reply_by (λ bytes. BytesAre bytes.now) result))) }
     {
         self.blocks.validity();
@@ -732,7 +733,8 @@ impl<S: Store> Session<S> {
 
     /// How many elements of the element array in a chunk are used.
     pub fn elements_used(&mut self, block: VmHandle, chunk: ChunkHandle) -> Result<usize, Fault>
-        ensures { Looks S.facts self.old self.new (commands.ElementsUsed block chunk) (reply_by NumberIs result) }
+        ensures { AnswersLookUp S.facts self.old self.new (commands.ElementsUsed block chunk)
+            (reply_by NumberIs result) }
     {
         self.blocks.validity();
         look_ups::elements_used(&mut self.blocks, block, chunk)
@@ -745,7 +747,7 @@ impl<S: Store> Session<S> {
         chunk: ChunkHandle,
         k: u32,
     ) -> Result<Token, Fault>
-        ensures { Looks S.facts self.old self.new (commands.TokenOfUsed block chunk k)
+        ensures { AnswersLookUp S.facts self.old self.new (commands.TokenOfUsed block chunk k)
             (reply_by (λ token. TokenIs token.0) result) }
     {
         self.blocks.validity();
@@ -759,7 +761,8 @@ impl<S: Store> Session<S> {
         chunk: ChunkHandle,
         token: Token,
     ) -> Result<usize, Fault>
-        ensures { Looks S.facts self.old self.new (commands.UsedOfToken block chunk token) (reply_by NumberIs result) }
+        ensures { AnswersLookUp S.facts self.old self.new (commands.UsedOfToken block chunk token)
+            (reply_by NumberIs result) }
     {
         self.blocks.validity();
         look_ups::used_of_token(&mut self.blocks, block, chunk, token)
@@ -772,7 +775,7 @@ impl<S: Store> Session<S> {
         chunk: ChunkHandle,
         name: &Bytes,
     ) -> Result<Token, Fault>
-        ensures { Looks S.facts self.old self.new (commands.NameFind block chunk name.now)
+        ensures { AnswersLookUp S.facts self.old self.new (commands.NameFind block chunk name.now)
             (reply_by (λ token. TokenIs token.0) result) }
     {
         self.blocks.validity();
@@ -786,7 +789,7 @@ impl<S: Store> Session<S> {
         chunk: ChunkHandle,
         token: Token,
     ) -> Result<u32, Fault>
-        ensures { Looks S.facts self.old self.new (commands.NameReferences block chunk token)
+        ensures { AnswersLookUp S.facts self.old self.new (commands.NameReferences block chunk token)
             (reply_by NumberIs result) }
     {
         self.blocks.validity();
@@ -800,7 +803,7 @@ impl<S: Store> Session<S> {
         chunk: ChunkHandle,
         token: Token,
     ) -> Result<&[u8], Fault>
-        ensures* leaves { sem 𝓛 (Leaves (the_row S.row S.Store) self.entry (λ new. Looks S.facts self.old new
+        ensures* leaves { sem 𝓛 (AfterLoan (the_row S.row S.Store) self.entry (λ new. AnswersLookUp S.facts self.old new
             (commands.NameText block chunk token) (reply_by (λ bytes. BytesAre bytes.now) result))) }
     {
         self.blocks.validity();
@@ -814,7 +817,7 @@ impl<S: Store> Session<S> {
         chunk: ChunkHandle,
         token: Token,
     ) -> Result<&[u8], Fault>
-        ensures* leaves { sem 𝓛 (Leaves (the_row S.row S.Store) self.entry (λ new. Looks S.facts self.old new
+        ensures* leaves { sem 𝓛 (AfterLoan (the_row S.row S.Store) self.entry (λ new. AnswersLookUp S.facts self.old new
             (commands.NamePart block chunk token) (reply_by (λ bytes. BytesAre bytes.now) result))) }
     {
         self.blocks.validity();
@@ -826,13 +829,14 @@ impl<S: Store> Session<S> {
         ensures keeps { KeepsSession S.facts self.old self.new }
         ensures step { IsStep S.facts self.old self.new (commands.Walk root)
             (reply_by (λ handles. blocks_are handles.items) result) }
-        ensures value { IsSteady S.facts self.old.disk.store
-            → LooksUp (Lacks S.facts self.old.disk.store self.new.disk.store) (is_full (blocks_of self.old))
+        ensures value { IsHonest S.facts self.old.disk.store
+            → LooksUp (IsEnvironmentFault S.facts self.old.disk.store self.new.disk.store) (is_full (cache_of self.old))
             (commands.Walk root) self.new.document (reply_by (λ handles. blocks_are handles.items) result) }
-        ensures shut { is_full (blocks_of self.old) ≡ true → (self.new ≡ self.old) × (answer_of true
+        ensures shut { is_full (cache_of self.old) ≡ true → (self.new ≡ self.old) × (answer_of true
             (commands.Walk root) self.old.document ≡ Some (reply_by (λ handles. blocks_are handles.items) result)) }
-        ensures refusals { IfErr result (IsChainRefusal (Lacks S.facts self.old.disk.store self.new.disk.store)
-            (IsOfOther is_raw self.old.document root.0) (is_full (blocks_of self.old))) }
+        ensures refusals { IfErr result
+            (IsChainRefusal (IsEnvironmentFault S.facts self.old.disk.store self.new.disk.store)
+            (IsWrongBlock is_raw self.old.document root.0) (is_full (cache_of self.old))) }
     {
         self.blocks.validity();
         look_ups::walk(self.alloc, &mut self.blocks, root)
@@ -842,13 +846,14 @@ impl<S: Store> Session<S> {
     pub fn chain_size(&mut self, root: VmHandle) -> Result<u32, Fault>
         ensures keeps { KeepsSession S.facts self.old self.new }
         ensures step { IsStep S.facts self.old self.new (commands.ChainSize root) (reply_by NumberIs result) }
-        ensures value { IsSteady S.facts self.old.disk.store
-            → LooksUp (Lacks S.facts self.old.disk.store self.new.disk.store)
-            (is_full (blocks_of self.old)) (commands.ChainSize root) self.new.document (reply_by NumberIs result) }
-        ensures shut { is_full (blocks_of self.old) ≡ true → (self.new ≡ self.old)
+        ensures value { IsHonest S.facts self.old.disk.store
+            → LooksUp (IsEnvironmentFault S.facts self.old.disk.store self.new.disk.store)
+            (is_full (cache_of self.old)) (commands.ChainSize root) self.new.document (reply_by NumberIs result) }
+        ensures shut { is_full (cache_of self.old) ≡ true → (self.new ≡ self.old)
             × (answer_of true (commands.ChainSize root) self.old.document ≡ Some (reply_by NumberIs result)) }
-        ensures refusals { IfErr result (IsChainRefusal (Lacks S.facts self.old.disk.store self.new.disk.store)
-            (IsOfOther is_raw self.old.document root.0) (is_full (blocks_of self.old))) }
+        ensures refusals { IfErr result
+            (IsChainRefusal (IsEnvironmentFault S.facts self.old.disk.store self.new.disk.store)
+            (IsWrongBlock is_raw self.old.document root.0) (is_full (cache_of self.old))) }
     {
         self.blocks.validity();
         look_ups::chain_size(self.alloc, &mut self.blocks, root)
@@ -858,13 +863,14 @@ impl<S: Store> Session<S> {
     pub fn chain_equal(&mut self, first: VmHandle, second: VmHandle) -> Result<bool, Fault>
         ensures keeps { KeepsSession S.facts self.old self.new }
         ensures step { IsStep S.facts self.old self.new (commands.ChainEqual first second) (reply_by AreEqual result) }
-        ensures value { IsSteady S.facts self.old.disk.store
-            → LooksUp (Lacks S.facts self.old.disk.store self.new.disk.store) (is_full (blocks_of self.old))
+        ensures value { IsHonest S.facts self.old.disk.store
+            → LooksUp (IsEnvironmentFault S.facts self.old.disk.store self.new.disk.store) (is_full (cache_of self.old))
             (commands.ChainEqual first second) self.new.document (reply_by AreEqual result) }
-        ensures shut { is_full (blocks_of self.old) ≡ true → (self.new ≡ self.old)
+        ensures shut { is_full (cache_of self.old) ≡ true → (self.new ≡ self.old)
             × (answer_of true (commands.ChainEqual first second) self.old.document ≡ Some (reply_by AreEqual result)) }
-        ensures refusals { IfErr result (IsChainRefusal (Lacks S.facts self.old.disk.store self.new.disk.store)
-            (IsOfEither self.old.document first.0 second.0) (is_full (blocks_of self.old))) }
+        ensures refusals { IfErr result
+            (IsChainRefusal (IsEnvironmentFault S.facts self.old.disk.store self.new.disk.store)
+            (IsWrongRoot self.old.document first.0 second.0) (is_full (cache_of self.old))) }
     {
         self.blocks.validity();
         look_ups::chain_equal(self.alloc, &mut self.blocks, first, second)

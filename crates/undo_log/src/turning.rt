@@ -1,12 +1,12 @@
 //! Entries that are made in a direction, and changes that are taken back.
 ghost use Rattle.std.specs.Prelude.{◌≡◌, [], true, false, None, map, nat_lt, IsOk, IfErr, OnOk, OnErr, reverse};
 ghost use Rattle.block_cache.specs.State.{locked_count};
-ghost use Rattle.vm_blocks.specs.Changes.{turned};
-ghost use Rattle.vm_blocks.specs.Keeping.{Keeps};
-ghost use Rattle.vm_blocks.specs.Preparing.{AllListed, AreUnready, MakesAll};
+ghost use Rattle.vm_blocks.specs.Changes.{directed};
+ghost use Rattle.vm_blocks.specs.Keeping.{KeepsBlocks};
+ghost use Rattle.vm_blocks.specs.Preparing.{CanApplyAllByHandle, CantPrepareAll, AreApplied};
 ghost use Rattle.vm_blocks.specs.declared.change.Direction.TheVariants.{Backwards};
 ghost use Rattle.undo_log.specs.Logging.{after_entry, changes_in};
-ghost use Rattle.undo_log.specs.Turning.{CanMakeEntry, CantMakeEntry, MakesEntry};
+ghost use Rattle.undo_log.specs.Turning.{CanApplyEntry, CantApplyEntry, IsEntryApplied};
 
 use crate::entry::LogEntry;
 use geos_model::Fault;
@@ -22,14 +22,14 @@ pub fn make_entry<S: Store>(
     // Asked of the caller.
     requires unmarked { blocks.old.disk.marked ≡ None }
     requires unlocked { nat_lt 0 (locked_count blocks.old.resident) ≡ false }
-    requires listed { AllListed (map (turned direction) (changes_in entry.now)) blocks.old.document }
+    requires listed { CanApplyAllByHandle (map (directed direction) (changes_in entry.now)) blocks.old.document }
     // What is done.
-    ensures ok { OnOk result (MakesEntry S.facts direction entry.now blocks.old blocks.new) }
-    ensures err { OnErr result (Keeps S.facts blocks.old blocks.new) }
+    ensures ok { OnOk result (IsEntryApplied S.facts direction entry.now blocks.old blocks.new) }
+    ensures err { OnErr result (KeepsBlocks S.facts blocks.old blocks.new) }
     // Refusals.
-    ensures refusals { IfErr result (CantMakeEntry S.facts direction entry.now blocks.old blocks.new) }
+    ensures refusals { IfErr result (CantApplyEntry S.facts direction entry.now blocks.old blocks.new) }
     // When the answer is known beforehand.
-    ensures sure { CanMakeEntry direction entry.now blocks.old
+    ensures sure { CanApplyEntry direction entry.now blocks.old
         → IsOk result × (blocks.new.disk ≡ blocks.old.disk)
         × (blocks.new.document ≡ after_entry direction entry.now blocks.old.document) }
 {
@@ -45,13 +45,14 @@ pub fn take_back<S: Store>(blocks: &mut FileBlocks<S>, changes: &[Change]) -> Re
     // Asked of the caller.
     requires unmarked { blocks.old.disk.marked ≡ None }
     requires unlocked { nat_lt 0 (locked_count blocks.old.resident) ≡ false }
-    requires listed { AllListed (map (turned Backwards) (reverse changes.now)) blocks.old.document }
+    requires listed { CanApplyAllByHandle (map (directed Backwards) (reverse changes.now)) blocks.old.document }
     // What is done.
-    ensures ok { OnOk result (MakesAll S.facts (map (turned Backwards) (reverse changes.now)) blocks.old blocks.new) }
-    ensures err { OnErr result (Keeps S.facts blocks.old blocks.new) }
+    ensures ok { OnOk result
+        (AreApplied S.facts (map (directed Backwards) (reverse changes.now)) blocks.old blocks.new) }
+    ensures err { OnErr result (KeepsBlocks S.facts blocks.old blocks.new) }
     // Refusals.
     ensures refusals { IfErr result
-        (AreUnready S.facts (map (turned Backwards) (reverse changes.now)) blocks.old blocks.new) }
+        (CantPrepareAll S.facts (map (directed Backwards) (reverse changes.now)) blocks.old blocks.new) }
     // When the answer is known beforehand.
     ensures none { changes.now ≡ [] → IsOk result × (blocks.new ≡ blocks.old) }
 {

@@ -16,10 +16,10 @@ use Rattle.geos_model.proofs.HeapTables.{live_handle}
 use Rattle.geos_model.proofs.BlockLists.{put_stands, put_valid, put_map_block}
 use Rattle.geos_model.proofs.Validity.{with_block-valid}
 use Rattle.geos_model.specs.declared.block.Attributes.{Attributes}
-use Rattle.chunk_edits.specs.Splicing.{Stands, forwards, backwards}
+use Rattle.chunk_edits.specs.Splicing.{OccursAt, forwards, backwards}
 use Rattle.chunk_edits.specs.declared.splice.Splice.{Splice}
 use Rattle.chunk_edits.proofs.SplicingLemmas.{leads_back}
-use Rattle.vm_file.specs.Members.{saved_block, saved_blocks}
+use Rattle.vm_file.specs.Members.{imaged_block, imaged_blocks}
 use Rattle.vm_file.specs.declared.member.Member.{Member}
 use Rattle.vm_blocks.specs.declared.change.Change.{Change}
 use Rattle.vm_blocks.specs.declared.change.Change.TheVariants as changes
@@ -28,37 +28,37 @@ use Rattle.vm_blocks.specs.declared.change.PartChange.{PartChange}
 use Rattle.vm_blocks.specs.declared.change.PartChange.TheVariants as parts
 use Rattle.vm_blocks.proofs.MapLemmas.{put_back, put_taken, taken_put}
 use Rattle.vm_blocks.proofs.ManyBlocks.{All-from_map, taken_gone, taken_valid, in_and_out, out_and_in, out_handles}
-use Rattle.vm_blocks.specs.Changes.{bytes_of, fitted, part_made, made, flipped_splice, flipped_part, flipped, IsFree, AreFree, CanAllGo, FitsRaw, FitsChunk, FitsNewChunk, HasChunk, HasAttributes, HasMap, PartApplies, Applies, ChangeLaw, FlipLaw}
-use Rattle.vm_blocks.proofs.KindLemmas.{fitted-same}
+use Rattle.vm_blocks.specs.Changes.{content_bytes, attributes_for_kind, after_part, after_change, reversed_splice, reversed_part, reversed, IsFreeHandle, AreFree, CanRemoveAll, FitsRaw, FitsChunk, FitsNewChunk, HasChunk, HasAttributes, HasMap, CanApplyPart, CanApply, ChangeLaw, ReverseLaw}
+use Rattle.vm_blocks.proofs.KindLemmas.{attributes_for_kind-same}
 
 -- A change of a document leads back.
 abbrev Undone : Change → Document → Type 0
-Undone c d = IsValid (made c d) × Applies (flipped c) (made c d) × (made (flipped c) (made c d) ≡ d)
+Undone c d = IsValid (after_change c d) × CanApply (reversed c) (after_change c d) × (after_change (reversed c) (after_change c d) ≡ d)
 
 abbrev PartUndone : ℕ → PartChange → Document → Type 0
-PartUndone b p d = IsValid (part_made b p d) × PartApplies b (flipped_part p) (part_made b p d) × (part_made b (flipped_part p) (part_made b p d) ≡ d)
+PartUndone b p d = IsValid (after_part b p d) × CanApplyPart b (reversed_part p) (after_part b p d) × (after_part b (reversed_part p) (after_part b p d) ≡ d)
 
 -- so from the document that it makes
-part_undone : (b : ℕ) (p : PartChange) (d after : Document) → part_made b p d ≡ after → IsValid after → PartApplies b (flipped_part p) after → part_made b (flipped_part p) after ≡ d → PartUndone b p d
+part_undone : (b : ℕ) (p : PartChange) (d after : Document) → after_part b p d ≡ after → IsValid after → CanApplyPart b (reversed_part p) after → after_part b (reversed_part p) after ≡ d → PartUndone b p d
 part_undone b p d after is valid applies back =
-    subst (λ (x : Document). IsValid x × PartApplies b (flipped_part p) x × (part_made b (flipped_part p) x ≡ d)) (sym is) (valid, applies, back)
+    subst (λ (x : Document). IsValid x × CanApplyPart b (reversed_part p) x × (after_part b (reversed_part p) x ≡ d)) (sym is) (valid, applies, back)
 
 -- Blocks come in or go.
 module _ (d : Document) (valid : IsValid d) where
-  free_not_map : (h : ℕ) → IsFree d h → d.map_block ≢ h
+  free_not_map : (h : ℕ) → IsFreeHandle d h → d.map_block ≢ h
   free_not_map h free same =
       let some : d.map_block ≢ 0 = λ none. (let no : is_vm_handle 0 ≡ true = ap is_vm_handle (sym none ∙ same) ∙ free.handle in cc) in
       let dead : is_live d d.map_block ≡ false = ap (λ (h : ℕ). is_some (get d.blocks h)) same ∙ ap is_some free.free in
       true≢false (sym (valid.map_block some) ∙ dead)
 
-  blocks_in_undone : (ms : List Member) → AreFree d (handles_of (saved_blocks ms))
-      → IsValid (with_blocks d (saved_blocks ms)) × CanAllGo (with_blocks d (saved_blocks ms)) (saved_blocks ms) × (without_blocks (with_blocks d (saved_blocks ms)) (handles_of (saved_blocks ms)) ≡ d)
+  blocks_in_undone : (ms : List Member) → AreFree d (handles_of (imaged_blocks ms))
+      → IsValid (with_blocks d (imaged_blocks ms)) × CanRemoveAll (with_blocks d (imaged_blocks ms)) (imaged_blocks ms) × (without_blocks (with_blocks d (imaged_blocks ms)) (handles_of (imaged_blocks ms)) ≡ d)
   blocks_in_undone ms are =
-      let ps : List (ℕ × Block) = saved_blocks ms in
-      let free : All (λ p. IsFree d p.0) ps = All-from_map (IsFree d) (λ p. p.0) ps are.free in
-      let each : All (λ m. IsFree d m.handle.0) ms = All-from_map (λ p. IsFree d p.0) (λ m. (m.handle.0, saved_block m.block)) ms free in
+      let ps : List (ℕ × Block) = imaged_blocks ms in
+      let free : All (λ p. IsFreeHandle d p.0) ps = All-from_map (IsFreeHandle d) (λ p. p.0) ps are.free in
+      let each : All (λ m. IsFreeHandle d m.handle.0) ms = All-from_map (λ p. IsFreeHandle d p.0) (λ m. (m.handle.0, imaged_block m.block)) ms free in
       let stands = put_stands d ps are.distinct in (
-        put_valid d ps valid (All-map (λ p. IsValidBlock p.0 p.1) (λ m. (m.handle.0, saved_block m.block)) ms
+        put_valid d ps valid (All-map (λ p. IsValidBlock p.0 p.1) (λ m. (m.handle.0, imaged_block m.block)) ms
             (λ i m within. record { handle = (each i m within).handle; attributes = (get_or ms i m).block.fit; body = (get_or ms i m).block.valid; typed = (get_or ms i m).block.typed })),
         record {
           go = λ i p within. record { stands = stands i p within; other = λ same. free_not_map (get_or ps i p).0 (free i p within) (sym (put_map_block d ps) ∙ same) };
@@ -67,7 +67,7 @@ module _ (d : Document) (valid : IsValid d) where
         in_and_out d ps (λ i p within. (free i p within).free) are.distinct,
       )
 
-  blocks_out_undone : (ps : List (ℕ × Block)) → CanAllGo d ps
+  blocks_out_undone : (ps : List (ℕ × Block)) → CanRemoveAll d ps
       → IsValid (without_blocks d (handles_of ps)) × AreFree (without_blocks d (handles_of ps)) (handles_of ps) × (with_blocks (without_blocks d (handles_of ps)) ps ≡ d)
   blocks_out_undone ps can =
       let gone = taken_gone d (handles_of ps) can.distinct in
@@ -104,20 +104,20 @@ raw_at d b raw = by_block (get d.blocks b) refl raw
     by_block (Some block) is raw = by_body block.attributes block.body is (not-true (is_heap_body block.body) raw)
 
 module _ (d : Document) (b : ℕ) (u : Attributes) (bytes : List ℕ) (there : get d.blocks b ≡ Some (raw_block u bytes)) where
-  raw_made : (s : Splice) → part_made b (parts.Raw s) d ≡ with_block d b (raw_block u (forwards s bytes))
+  raw_made : (s : Splice) → after_part b (parts.Raw s) d ≡ with_block d b (raw_block u (forwards s bytes))
   raw_made s = rw there refl
 
-  raw_fits : (s : Splice) → Stands bytes s.at s.old → length (forwards s bytes) ≤ capacity → FitsRaw d b s
+  raw_fits : (s : Splice) → OccursAt bytes s.at s.old → length (forwards s bytes) ≤ capacity → FitsRaw d b s
   raw_fits s stands fits = record { raw = rw there refl; stands = rw there stands; fits = rw there fits }
 
-  raw_stands : (s : Splice) → FitsRaw d b s → Stands bytes s.at s.old
+  raw_stands : (s : Splice) → FitsRaw d b s → OccursAt bytes s.at s.old
   raw_stands s fits = rw there at fits.stands
 
   raw_few : (s : Splice) → FitsRaw d b s → length (forwards s bytes) ≤ capacity
   raw_few s fits = rw there at fits.fits
 
 -- bytes that are spliced, and back
-spliced_back : (s : Splice) (bytes : List ℕ) → Stands bytes s.at s.old → Stands (forwards s bytes) s.at s.new × (backwards s (forwards s bytes) ≡ bytes)
+spliced_back : (s : Splice) (bytes : List ℕ) → OccursAt bytes s.at s.old → OccursAt (forwards s bytes) s.at s.new × (backwards s (forwards s bytes) ≡ bytes)
 spliced_back s bytes stands = leads_back s bytes (forwards s bytes) (length s.old + length s.new) (record { stands = stands; gives = refl; holds = refl })
 
 raw_undone : (d : Document) (b : ℕ) (s : Splice) → IsValid d → FitsRaw d b s → PartUndone b (parts.Raw s) d
@@ -133,8 +133,8 @@ raw_undone d b s valid fits =
     let few : length bytes ≤ capacity = leb-true (length bytes) capacity (valid.blocks b old there).body in
     part_undone b (parts.Raw s) d (with_block d b new) (raw_made d b u bytes there s)
     (new_valid d b old new there valid (valid.blocks b old there).attributes (valid.blocks b old there).typed (le-leb _ _ (raw_few d b u bytes there s fits)))
-    (raw_fits (with_block d b new) b u (forwards s bytes) now (flipped_splice s) back.0 (omega (arith, few, ap length back.1)))
-    (raw_made (with_block d b new) b u (forwards s bytes) now (flipped_splice s) ∙ ap (λ (x : List ℕ). with_block (with_block d b new) b (raw_block u x)) back.1 ∙ old_back d b old new there)
+    (raw_fits (with_block d b new) b u (forwards s bytes) now (reversed_splice s) back.0 (omega (arith, few, ap length back.1)))
+    (raw_made (with_block d b new) b u (forwards s bytes) now (reversed_splice s) ∙ ap (λ (x : List ℕ). with_block (with_block d b new) b (raw_block u x)) back.1 ∙ old_back d b old new there)
 
 -- Of a heap.
 abbrev heap_block : Attributes → ChunkMap → Block
@@ -161,7 +161,7 @@ module _ (d : Document) (b : ℕ) (u : Attributes) (m : ChunkMap) (there : get d
   splice_made : (c : ℕ) (s : Splice) (bytes : List ℕ) → get m c ≡ Some bytes → with_chunk d b c (forwards s (chunk_at d b c)) ≡ with_block d b (heap_block u (insert m c (forwards s bytes)))
   splice_made c s bytes is = rw (there, is) refl
 
-  chunk_fits : (c : ℕ) (s : Splice) (bytes : List ℕ) → get m c ≡ Some bytes → Stands bytes s.at s.old → fits_with m c (forwards s bytes) ≡ true → FitsChunk d b c s
+  chunk_fits : (c : ℕ) (s : Splice) (bytes : List ℕ) → get m c ≡ Some bytes → OccursAt bytes s.at s.old → fits_with m c (forwards s bytes) ≡ true → FitsChunk d b c s
   chunk_fits c s bytes is stands fits = record { heap = rw there refl; live = rw (there, is) refl; stands = rw (there, is) stands; fits = rw (there, is) fits }
 
   new_chunk_fits : (c : ℕ) (bytes : List ℕ) → is_chunk_handle c ≡ true → get m c ≡ None → fits_with m c bytes ≡ true → FitsNewChunk d b c bytes
@@ -201,7 +201,7 @@ chunk_undone d b c s valid fits =
     let chunk = some_bytes (get m c.0) live in
     let bytes : List ℕ = chunk.0 in
     let is : get m c.0 ≡ Some bytes = chunk.1 in
-    let stands : Stands bytes s.at s.old = rw (there, is) at fits.stands in
+    let stands : OccursAt bytes s.at s.old = rw (there, is) at fits.stands in
     let room : fits_with m c.0 (forwards s bytes) ≡ true = rw (there, is) at fits.fits in
     let back = spliced_back s bytes stands in
     let n : ChunkMap = insert m c.0 (forwards s bytes) in
@@ -210,17 +210,17 @@ chunk_undone d b c s valid fits =
     let now = heap_now d b u m there n in
     part_undone b (parts.Chunk c s) d (with_block d b (heap_block u n)) (splice_made d b u m there c.0 s bytes is)
     (heap_valid d b u m there n valid (heap-insert m c.0 (forwards s bytes) heap (live_handle m c.0 heap live) room))
-    (chunk_fits (with_block d b (heap_block u n)) b u n now c.0 (flipped_splice s) (forwards s bytes) is_now back.0 (fits_again m n c.0 (backwards s (forwards s bytes)) given heap))
-    (splice_made (with_block d b (heap_block u n)) b u n now c.0 (flipped_splice s) (forwards s bytes) is_now ∙ heap_back d b u m there n _ given)
+    (chunk_fits (with_block d b (heap_block u n)) b u n now c.0 (reversed_splice s) (forwards s bytes) is_now back.0 (fits_again m n c.0 (backwards s (forwards s bytes)) given heap))
+    (splice_made (with_block d b (heap_block u n)) b u n now c.0 (reversed_splice s) (forwards s bytes) is_now ∙ heap_back d b u m there n _ given)
 
-chunk_in_undone : (d : Document) (b : ℕ) (c : ChunkHandle) (content : Content) → IsValid d → FitsNewChunk d b c.0 (bytes_of content) → PartUndone b (parts.ChunkIn c content) d
+chunk_in_undone : (d : Document) (b : ℕ) (c : ChunkHandle) (content : Content) → IsValid d → FitsNewChunk d b c.0 (content_bytes content) → PartUndone b (parts.ChunkIn c content) d
 chunk_in_undone d b c content valid fits =
     let found = heap_at d b fits.heap in
     let u : Attributes = found.0 in
     let m : ChunkMap = found.1 in
     let there : get d.blocks b ≡ Some (heap_block u m) = found.2 in
     let heap : is_heap_map m ≡ true = (valid.blocks b (heap_block u m) there).body in
-    let bytes : List ℕ = bytes_of content in
+    let bytes : List ℕ = content_bytes content in
     let free : get m c.0 ≡ None = rw there at fits.free in
     let room : fits_with m c.0 bytes ≡ true = rw there at fits.fits in
     let n : ChunkMap = insert m c.0 bytes in
@@ -230,14 +230,14 @@ chunk_in_undone d b c content valid fits =
     (has_chunk (with_block d b (heap_block u n)) b u n now c.0 bytes (get-put_same m c.0 bytes c.0 refl))
     (chunk_taken (with_block d b (heap_block u n)) b u n now c.0 ∙ heap_back d b u m there n _ (taken_put m c.0 bytes free))
 
-chunk_out_undone : (d : Document) (b : ℕ) (c : ChunkHandle) (content : Content) → IsValid d → HasChunk d b c.0 (bytes_of content) → PartUndone b (parts.ChunkOut c content) d
+chunk_out_undone : (d : Document) (b : ℕ) (c : ChunkHandle) (content : Content) → IsValid d → HasChunk d b c.0 (content_bytes content) → PartUndone b (parts.ChunkOut c content) d
 chunk_out_undone d b c content valid has =
     let found = heap_at d b has.heap in
     let u : Attributes = found.0 in
     let m : ChunkMap = found.1 in
     let there : get d.blocks b ≡ Some (heap_block u m) = found.2 in
     let heap : is_heap_map m ≡ true = (valid.blocks b (heap_block u m) there).body in
-    let bytes : List ℕ = bytes_of content in
+    let bytes : List ℕ = content_bytes content in
     let is : get m c.0 ≡ Some bytes = rw there at has.stands in
     let n : ChunkMap = remove m c.0 in
     let now = heap_now d b u m there n in
@@ -247,7 +247,7 @@ chunk_out_undone d b c content valid has =
     (new_chunk_fits (with_block d b (heap_block u n)) b u n now c.0 bytes (live_handle m c.0 heap (ap is_some is)) (get-taken_same m c.0 c.0 refl) (fits_again m n c.0 bytes given heap))
     (chunk_made (with_block d b (heap_block u n)) b u n now c.0 bytes ∙ heap_back d b u m there n _ given)
 
-part_back : (b : ℕ) (p : PartChange) (d : Document) → IsValid d → PartApplies b p d → PartUndone b p d
+part_back : (b : ℕ) (p : PartChange) (d : Document) → IsValid d → CanApplyPart b p d → PartUndone b p d
 part_back b (parts.Raw s) d valid applies = raw_undone d b s valid applies
 part_back b (parts.Chunk c s) d valid applies = chunk_undone d b c s valid applies
 part_back b (parts.ChunkIn c content) d valid applies = chunk_in_undone d b c content valid applies
@@ -279,12 +279,12 @@ attributes_undone d b old new valid has =
 
 -- so it is of attributes that the block can have
 fitted_undone : (d : Document) (b : ℕ) (old new : Attributes) → IsValid d → HasAttributes d b old new
-    → let after = with_attributes d b (fitted (is_heap d b) new) in IsValid after × HasAttributes after b new old × (with_attributes after b (fitted (is_heap after b) old) ≡ d)
+    → let after = with_attributes d b (attributes_for_kind (is_heap d b) new) in IsValid after × HasAttributes after b new old × (with_attributes after b (attributes_for_kind (is_heap after b) old) ≡ d)
 fitted_undone d b old new valid has =
     let undone = attributes_undone d b old new valid has in
-    let made = with_attributes d b new in
-    subst (λ (a : Attributes). let after = with_attributes d b a in IsValid after × HasAttributes after b new old × (with_attributes after b (fitted (is_heap after b) old) ≡ d)) (sym (fitted-same (is_heap d b) new has.typed))
-    (undone.0, undone.1, ap (with_attributes made b) (fitted-same (is_heap made b) old undone.1.typed) ∙ undone.2)
+    let after_change = with_attributes d b new in
+    subst (λ (a : Attributes). let after = with_attributes d b a in IsValid after × HasAttributes after b new old × (with_attributes after b (attributes_for_kind (is_heap after b) old) ≡ d)) (sym (attributes_for_kind-same (is_heap d b) new has.typed))
+    (undone.0, undone.1, ap (with_attributes after_change b) (attributes_for_kind-same (is_heap after_change b) old undone.1.typed) ∙ undone.2)
 
 map_undone : (d : Document) (old new : ℕ) → IsValid d → HasMap d old new
     → IsValid (record d { map_block = new }) × HasMap (record d { map_block = new }) new old × (record d { map_block = old } ≡ d)
@@ -296,18 +296,18 @@ map_undone d old new valid has = (
 
 pub change_back : ChangeLaw
 change_back (changes.BlocksIn ms) d valid applies = blocks_in_undone d valid ms.list.items applies
-change_back (changes.BlocksOut ms) d valid applies = blocks_out_undone d valid (saved_blocks ms.list.items) applies
+change_back (changes.BlocksOut ms) d valid applies = blocks_out_undone d valid (imaged_blocks ms.list.items) applies
 change_back (changes.Part b part) d valid applies = part_back b.0 part d valid applies
 change_back (changes.Attributes b old new) d valid applies = fitted_undone d b.0 old new valid applies
 change_back (changes.Map old new) d valid applies = map_undone d old.0 new.0 valid applies
 
-part_twice : (p : PartChange) → flipped_part (flipped_part p) ≡ p
+part_twice : (p : PartChange) → reversed_part (reversed_part p) ≡ p
 part_twice (parts.Raw s) = refl
 part_twice (parts.Chunk c s) = refl
 part_twice (parts.ChunkIn c content) = refl
 part_twice (parts.ChunkOut c content) = refl
 
-pub flip_twice : FlipLaw
+pub flip_twice : ReverseLaw
 flip_twice (changes.BlocksIn ms) = refl
 flip_twice (changes.BlocksOut ms) = refl
 flip_twice (changes.Part b part) = ap (changes.Part b) (part_twice part)

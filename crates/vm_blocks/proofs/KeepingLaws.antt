@@ -2,136 +2,136 @@
 use Rattle.std.proofs.Common.{◌≡◌, ◌⊎◌, ℕ, Bool, IsTrue, not, Option, None, Some, is_some, true, false, ap, inl, inr, refl, sym, subst, ◌∙◌, arith, eq-eqb, eqb-true, ltb-false}
 use Rattle.std.specs.Prelude.{Result, Ok, Err, IfErr, ◌==◌, ◌&&◌, ◌≤◌, ◌<◌, nat_le, nat_lt, length}
 use Rattle.std.proofs.lemmas.Bool.{and_parts, cases_Bool}
-use Rattle.vm_store.specs.Facts.{StoreFacts, Raised}
+use Rattle.vm_store.specs.Facts.{StoreFacts, FailedSince}
 use Rattle.std.specs.Option.{option_map_or}
 use Rattle.geos_model.specs.Document.{Block, is_heap_body, is_live}
 use Rattle.geos_model.specs.declared.fault.Fault.{Fault}
 use Rattle.geos_model.specs.declared.fault.Fault.TheVariants.{Damaged, File, Memory}
-use Rattle.vm_file.specs.Disk.{Passes, Drifts}
+use Rattle.vm_file.specs.Disk.{KeepsCommitted, SameUnlessCorrupt}
 use Rattle.vm_file.specs.Effects.{IsDamage}
-use Rattle.vm_file.proofs.PassingLemmas.{Passes-refl, Passes-trans, Drifts-refl, Drifts-trans}
-use Rattle.block_cache.specs.State.{CacheState, is_resident, locks_of, locked_count, all_locked, KeepsLocks, Stays}
+use Rattle.vm_file.proofs.PassingLemmas.{KeepsCommitted-refl, KeepsCommitted-trans, SameUnlessCorrupt-refl, SameUnlessCorrupt-trans}
+use Rattle.block_cache.specs.State.{CacheState, is_resident, locks_of, locked_count, all_locked, KeepsLocks, KeepsDocument}
 use Rattle.block_cache.proofs.Locks.{keeps_refl, each_locked}
 use Rattle.block_cache.proofs.Seats.{locked_there, some_free}
-use Rattle.vm_blocks.specs.Keeping.{Keeps, IsSteady, Lacks, LacksFrame, is_loaded, is_full, is_shut_out}
+use Rattle.vm_blocks.specs.Keeping.{KeepsBlocks, IsHonest, IsEnvironmentFault, IsCacheFull, is_loaded, is_full, is_shut_out}
 use Rattle.vm_blocks.proofs.Residents.{both}
 
 module _ {S : Type 0} (facts : S → StoreFacts) where
-  pub keeps-refl : (a : CacheState S) → Keeps facts a a
-  unfolding Keeps
-  keeps-refl a = (record { file = record { passes = Passes-refl facts a.disk; document = Drifts-refl _ _ }; frames = refl }, keeps_refl a.resident)
+  pub keeps-refl : (a : CacheState S) → KeepsBlocks facts a a
+  unfolding KeepsBlocks
+  keeps-refl a = (record { file = record { passes = KeepsCommitted-refl facts a.disk; document = SameUnlessCorrupt-refl _ _ }; frames = refl }, keeps_refl a.resident)
 
-  pub keeps-is : (a b : CacheState S) → b ≡ a → Keeps facts a b
-  keeps-is a b is = subst (Keeps facts a) (sym is) (keeps-refl a)
+  pub keeps-is : (a b : CacheState S) → b ≡ a → KeepsBlocks facts a b
+  keeps-is a b is = subst (KeepsBlocks facts a) (sym is) (keeps-refl a)
 
-  pub keeps-trans : (a b c : CacheState S) → Keeps facts a b → Keeps facts b c → Keeps facts a c
-  unfolding Keeps
+  pub keeps-trans : (a b c : CacheState S) → KeepsBlocks facts a b → KeepsBlocks facts b c → KeepsBlocks facts a c
+  unfolding KeepsBlocks
   keeps-trans a b c p q = (
     record {
       file = record {
-        passes = Passes-trans facts a.disk b.disk c.disk p.0.file.passes q.0.file.passes;
-        document = Drifts-trans _ _ _ _ p.0.file.document (subst (λ (t : Bool). Drifts t b.document c.document) p.0.file.passes.honest q.0.file.document);
+        passes = KeepsCommitted-trans facts a.disk b.disk c.disk p.0.file.passes q.0.file.passes;
+        document = SameUnlessCorrupt-trans _ _ _ _ p.0.file.document (subst (λ (t : Bool). SameUnlessCorrupt t b.document c.document) p.0.file.passes.honest q.0.file.document);
       };
       frames = q.0.frames ∙ p.0.frames;
     },
     record { each = λ h. q.1.each h ∙ p.1.each h; count = q.1.count ∙ p.1.count },
   )
 
-  pub keeps-passes : (a b : CacheState S) → Keeps facts a b → Passes facts a.disk b.disk
-  unfolding Keeps
+  pub keeps-passes : (a b : CacheState S) → KeepsBlocks facts a b → KeepsCommitted facts a.disk b.disk
+  unfolding KeepsBlocks
   keeps-passes a b p = p.0.file.passes
 
-  pub keeps-drifts : (a b : CacheState S) → Keeps facts a b → Drifts (facts a.disk.store).honest a.document b.document
-  unfolding Keeps
-  keeps-drifts a b p = p.0.file.document
+  pub keeps-unless_corrupt : (a b : CacheState S) → KeepsBlocks facts a b → SameUnlessCorrupt (facts a.disk.store).honest a.document b.document
+  unfolding KeepsBlocks
+  keeps-unless_corrupt a b p = p.0.file.document
 
-  pub keeps-frames : (a b : CacheState S) → Keeps facts a b → b.frames ≡ a.frames
-  unfolding Keeps
+  pub keeps-frames : (a b : CacheState S) → KeepsBlocks facts a b → b.frames ≡ a.frames
+  unfolding KeepsBlocks
   keeps-frames a b p = p.0.frames
 
-  pub keeps-stays : (a b : CacheState S) → Keeps facts a b → Stays facts a b
-  unfolding Keeps
+  pub keeps-stays : (a b : CacheState S) → KeepsBlocks facts a b → KeepsDocument facts a b
+  unfolding KeepsBlocks
   keeps-stays a b p = p.0
 
-  pub keeps-locks : (a b : CacheState S) → Keeps facts a b → KeepsLocks a.resident b.resident
-  unfolding Keeps
+  pub keeps-locks : (a b : CacheState S) → KeepsBlocks facts a b → KeepsLocks a.resident b.resident
+  unfolding KeepsBlocks
   keeps-locks a b p = p.1
 
-  pub keeps-by : (a b : CacheState S) → Stays facts a b → KeepsLocks a.resident b.resident → Keeps facts a b
-  unfolding Keeps
+  pub keeps-by : (a b : CacheState S) → KeepsDocument facts a b → KeepsLocks a.resident b.resident → KeepsBlocks facts a b
+  unfolding KeepsBlocks
   keeps-by a b stays locks = (stays, locks)
 
   -- the same blocks can be brought into memory
-  pub keeps-full : (a b : CacheState S) → Keeps facts a b → is_full b ≡ is_full a
-  unfolding Keeps is_full
+  pub keeps-full : (a b : CacheState S) → KeepsBlocks facts a b → is_full b ≡ is_full a
+  unfolding KeepsBlocks is_full
   keeps-full a b p = ap (λ n. all_locked n b.resident) p.0.frames ∙ ap (nat_le a.frames) p.1.count
 
-  pub keeps-shut : (a b : CacheState S) → Keeps facts a b → (h : ℕ) → is_shut_out b h ≡ is_shut_out a h
-  unfolding Keeps is_shut_out
+  pub keeps-shut : (a b : CacheState S) → KeepsBlocks facts a b → (h : ℕ) → is_shut_out b h ≡ is_shut_out a h
+  unfolding KeepsBlocks is_shut_out
   keeps-shut a b p h = ap (λ t. t && (locks_of b.resident h == 0)) (keeps-full a b p) ∙ ap (λ n. is_full a && (n == 0)) (p.1.each h)
 
   -- over a store that gives back what it has
-  pub keeps-same : (a b : CacheState S) → Keeps facts a b → IsSteady facts a.disk.store → b.document ≡ a.document
-  unfolding Keeps IsSteady
+  pub keeps-same : (a b : CacheState S) → KeepsBlocks facts a b → IsHonest facts a.disk.store → b.document ≡ a.document
+  unfolding KeepsBlocks IsHonest
   keeps-same a b p steady = p.0.file.document.same steady
 
-  pub keeps-steady : (a b : CacheState S) → Keeps facts a b → IsSteady facts a.disk.store → IsSteady facts b.disk.store
-  unfolding Keeps IsSteady
+  pub keeps-steady : (a b : CacheState S) → KeepsBlocks facts a b → IsHonest facts a.disk.store → IsHonest facts b.disk.store
+  unfolding KeepsBlocks IsHonest
   keeps-steady a b p steady = subst IsTrue (sym p.0.file.passes.honest) steady
 
   -- and it was so before
-  pub keeps-was_steady : (a b : CacheState S) → Keeps facts a b → IsSteady facts b.disk.store → IsSteady facts a.disk.store
-  unfolding Keeps IsSteady
+  pub keeps-was_steady : (a b : CacheState S) → KeepsBlocks facts a b → IsHonest facts b.disk.store → IsHonest facts a.disk.store
+  unfolding KeepsBlocks IsHonest
   keeps-was_steady a b p steady = subst IsTrue p.0.file.passes.honest steady
 
   -- as an honest one does, and no other is known to
-  pub honest-steady : (a : S) → IsTrue (facts a).honest → IsSteady facts a
-  unfolding IsSteady
+  pub honest-steady : (a : S) → IsTrue (facts a).honest → IsHonest facts a
+  unfolding IsHonest
   honest-steady a so = so
 
-  pub steady-honest : (a : S) → IsSteady facts a → IsTrue (facts a).honest
-  unfolding IsSteady
+  pub steady-honest : (a : S) → IsHonest facts a → IsTrue (facts a).honest
+  unfolding IsHonest
   steady-honest a steady = steady
 
-  pub lacks-memory : (a b : S) → Lacks facts a b Memory
-  unfolding Lacks
+  pub lacks-memory : (a b : S) → IsEnvironmentFault facts a b Memory
+  unfolding IsEnvironmentFault
   lacks-memory a b = inl refl
 
-  -- what is read and can't be, over a store that isn't steady
-  pub lacks-damaged : (a b : S) → (IsSteady facts a → ⊥) → Lacks facts a b Damaged
-  unfolding IsSteady Lacks
-  lacks-damaged a b drifts = inr (inr (refl, drifts))
+  -- what is read and can't be, over a store that isn't honest
+  pub lacks-damaged : (a b : S) → (IsHonest facts a → ⊥) → IsEnvironmentFault facts a b Damaged
+  unfolding IsHonest IsEnvironmentFault
+  lacks-damaged a b unless_corrupt = inr (inr (refl, unless_corrupt))
 
   -- it is one of the three
-  pub lacks-cases : (a b : S) (fault : Fault) → Lacks facts a b fault → (fault ≡ Memory) ⊎ (((fault ≡ File) × Raised (facts a) (facts b)) ⊎ IsDamage (facts a).honest fault)
-  unfolding Lacks
+  pub lacks-cases : (a b : S) (fault : Fault) → IsEnvironmentFault facts a b fault → (fault ≡ Memory) ⊎ (((fault ≡ File) × FailedSince (facts a) (facts b)) ⊎ IsDamage (facts a).honest fault)
+  unfolding IsEnvironmentFault
   lacks-cases a b fault lacks = lacks
 
-  pub steady-on : (a b : S) → (facts b).honest ≡ (facts a).honest → IsSteady facts a → IsSteady facts b
-  unfolding IsSteady
+  pub steady-on : (a b : S) → (facts b).honest ≡ (facts a).honest → IsHonest facts a → IsHonest facts b
+  unfolding IsHonest
   steady-on a b same steady = subst IsTrue (sym same) steady
 
   -- a call that was refused after others of the same store
-  pub lacks-since : (a b c : S) (fault : Fault) → (facts b).honest ≡ (facts a).honest → (facts a).failures ≤ (facts b).failures → Lacks facts b c fault → Lacks facts a c fault
-  unfolding Lacks
-  lacks-since a b c fault same first lacks = elim lacks as (λ _. (fault ≡ Memory) ⊎ (((fault ≡ File) × Raised (facts a) (facts c)) ⊎ IsDamage (facts a).honest fault)) [
+  pub lacks-since : (a b c : S) (fault : Fault) → (facts b).honest ≡ (facts a).honest → (facts a).failures ≤ (facts b).failures → IsEnvironmentFault facts b c fault → IsEnvironmentFault facts a c fault
+  unfolding IsEnvironmentFault
+  lacks-since a b c fault same first lacks = elim lacks as (λ _. (fault ≡ Memory) ⊎ (((fault ≡ File) × FailedSince (facts a) (facts c)) ⊎ IsDamage (facts a).honest fault)) [
     | inl memory ↦ inl memory
-    | inr more ↦ inr (elim more as (λ _. ((fault ≡ File) × Raised (facts a) (facts c)) ⊎ IsDamage (facts a).honest fault) [
+    | inr more ↦ inr (elim more as (λ _. ((fault ≡ File) × FailedSince (facts a) (facts c)) ⊎ IsDamage (facts a).honest fault) [
       | inl failed ↦ let raised = failed.1 in inl (failed.0, omega (arith, raised, first))
       | inr damage ↦ inr (damage.0, λ so. damage.1 (subst IsTrue (sym same) so))
     ])
   ]
 
   -- after others that were not
-  pub lacks-later : (a b : CacheState S) (c : S) (fault : Fault) → Keeps facts a b → Lacks facts b.disk.store c fault → Lacks facts a.disk.store c fault
+  pub lacks-later : (a b : CacheState S) (c : S) (fault : Fault) → KeepsBlocks facts a b → IsEnvironmentFault facts b.disk.store c fault → IsEnvironmentFault facts a.disk.store c fault
   lacks-later a b c fault p lacks = let passes = keeps-passes a b p in lacks-since a.disk.store b.disk.store c fault passes.honest passes.failures lacks
 
   -- and others after it
-  pub lacks-before : (a : S) (b c : CacheState S) (fault : Fault) → Keeps facts b c → Lacks facts a b.disk.store fault → Lacks facts a c.disk.store fault
-  unfolding Keeps Lacks
-  lacks-before a b c fault p lacks = elim lacks as (λ _. (fault ≡ Memory) ⊎ (((fault ≡ File) × Raised (facts a) (facts c.disk.store)) ⊎ IsDamage (facts a).honest fault)) [
+  pub lacks-before : (a : S) (b c : CacheState S) (fault : Fault) → KeepsBlocks facts b c → IsEnvironmentFault facts a b.disk.store fault → IsEnvironmentFault facts a c.disk.store fault
+  unfolding KeepsBlocks IsEnvironmentFault
+  lacks-before a b c fault p lacks = elim lacks as (λ _. (fault ≡ Memory) ⊎ (((fault ≡ File) × FailedSince (facts a) (facts c.disk.store)) ⊎ IsDamage (facts a).honest fault)) [
     | inl memory ↦ inl memory
-    | inr more ↦ inr (elim more as (λ _. ((fault ≡ File) × Raised (facts a) (facts c.disk.store)) ⊎ IsDamage (facts a).honest fault) [
+    | inr more ↦ inr (elim more as (λ _. ((fault ≡ File) × FailedSince (facts a) (facts c.disk.store)) ⊎ IsDamage (facts a).honest fault) [
       | inl failed ↦ let raised = failed.1 in let last = p.0.file.passes.failures in inl (failed.0, omega (arith, raised, last))
       | inr damage ↦ inr damage
     ])
@@ -206,11 +206,11 @@ pub locked-loaded : {S : Type 0} (state : CacheState S) (h : ℕ) → ((k : ℕ)
 locked-loaded state h live locked = let there : is_resident state.resident h ≡ true = locked_there h state.resident locked in loaded-by state h there (live h there)
 
 -- a block that isn't shut out is never refused so
-pub frame-there : {S : Type 0} (state : CacheState S) (h : ℕ) (fault : Fault) → is_shut_out state h ≡ false → LacksFrame state h fault → ⊥
+pub frame-there : {S : Type 0} (state : CacheState S) (h : ℕ) (fault : Fault) → is_shut_out state h ≡ false → IsCacheFull state h fault → ⊥
 frame-there state h fault free lacks = cc (lacks.1, free)
 
 pub err-with_frame : {A S : Type 0} (state : CacheState S) (h : ℕ) (P Q : Fault → Type 0) (r : Result A Fault) → is_shut_out state h ≡ false
-    → IfErr r (λ fault. P fault ⊎ (Q fault ⊎ LacksFrame state h fault)) → IfErr r (λ fault. P fault ⊎ Q fault)
+    → IfErr r (λ fault. P fault ⊎ (Q fault ⊎ IsCacheFull state h fault)) → IfErr r (λ fault. P fault ⊎ Q fault)
 err-with_frame state h P Q (Ok done) free err = tt
 err-with_frame state h P Q (Err fault) free err = elim err as (λ _. P fault ⊎ Q fault) [
   | inl one ↦ inl one

@@ -5,7 +5,7 @@ use Rattle.std.specs.FinMap.{get}
 use Rattle.geos_model.specs.Document.{Block, Document, is_heap, is_heap_body, IsTyped}
 use Rattle.geos_model.specs.declared.block.Attributes.{Attributes}
 use Rattle.geos_model.specs.declared.command.Body.{Body}
-use Rattle.vm_blocks.specs.Changes.{fitted}
+use Rattle.vm_blocks.specs.Changes.{attributes_for_kind}
 
 -- a block that has this body is of its kind
 pub kind_there : (d : Document) (h : ℕ) (body : Body) → option_map (λ b. b.body) (get d.blocks h) ≡ Some body → is_heap d h ≡ is_heap_body body
@@ -21,10 +21,10 @@ typed_there d h body attributes there typed = λ raw. typed (kind_there d h body
 
 -- Attributes as a block of a kind has them.
 
-pub fitted-same : (is_heap : Bool) (a : Attributes) → IsTyped is_heap a → fitted is_heap a ≡ a
-fitted-same true a typed = refl
-fitted-same false a typed = ap (λ (t : ℕ). record a { heap_type = t }) (sym (typed refl))
+pub attributes_for_kind-same : (is_heap : Bool) (a : Attributes) → IsTyped is_heap a → attributes_for_kind is_heap a ≡ a
+attributes_for_kind-same true a typed = refl
+attributes_for_kind-same false a typed = ap (λ (t : ℕ). record a { heap_type = t }) (sym (typed refl))
 
-pub fitted-typed : (is_heap : Bool) (a : Attributes) → IsTyped is_heap (fitted is_heap a)
-fitted-typed true a = λ raw. absurd (cc raw)
-fitted-typed false a = λ _. refl
+pub attributes_for_kind-typed : (is_heap : Bool) (a : Attributes) → IsTyped is_heap (attributes_for_kind is_heap a)
+attributes_for_kind-typed true a = λ raw. absurd (cc raw)
+attributes_for_kind-typed false a = λ _. refl

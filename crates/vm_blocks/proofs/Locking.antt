@@ -9,9 +9,9 @@ use Rattle.vm_store.specs.Facts.{StoreFacts}
 use Rattle.geos_model.specs.Document.{is_live}
 use Rattle.geos_model.specs.declared.fault.Fault.{Fault}
 use Rattle.geos_model.specs.declared.fault.Fault.TheVariants.{LockLimit}
-use Rattle.block_cache.specs.State.{CacheState, Seat, all_locked, is_resident, locks_of}
+use Rattle.block_cache.specs.State.{CacheState, ResidentBlock, all_locked, is_resident, locks_of}
 use Rattle.block_cache.proofs.Seats.{locked_there}
-use Rattle.vm_blocks.specs.Keeping.{Keeps, is_full, is_loaded, is_shut_out}
+use Rattle.vm_blocks.specs.Keeping.{KeepsBlocks, is_full, is_loaded, is_shut_out}
 use Rattle.vm_blocks.specs.Locking.{GainsLock, LosesLock, CantLock}
 use Rattle.vm_blocks.proofs.KeepingLaws.{full-is, keeps-locks, keeps-stays, loaded-by, loaded-live, loaded-resident, shut-is, shut-unlocked}
 
@@ -36,7 +36,7 @@ one_of P Q (Err fault) err = inl err
 
 -- Another number of locks of a block in memory.
 
-module _ (h n : ℕ) (ss : List Seat) (there : is_resident ss h ≡ true) where
+module _ (h n : ℕ) (ss : List ResidentBlock) (there : is_resident ss h ≡ true) where
   set : (k : ℕ) → lookup (nat_eq k) (set_value (nat_eq h) ss n) ≡ cond (nat_eq h k) (Some n) (lookup (nat_eq k) ss)
   set k = lookup-set_value nat_eq_equiv (nat_eq h) (nat_eq_equiv.congr h) k n ss there
 
@@ -64,7 +64,7 @@ loses {S} h old new was is =
       others = λ k other. ap (λ ss. locks_of ss k) resident ∙ locks_still h n old.resident there k other;
     }
 
-module _ {S : Type 0} (facts : S → StoreFacts) (h : ℕ) (old mid : CacheState S) (keeps : Keeps facts old mid) (loaded : is_loaded mid h ≡ true) where
+module _ {S : Type 0} (facts : S → StoreFacts) (h : ℕ) (old mid : CacheState S) (keeps : KeepsBlocks facts old mid) (loaded : is_loaded mid h ≡ true) where
   abbrev n : ℕ
   n = locks_of mid.resident h + 1
 

@@ -11,10 +11,10 @@ use Rattle.geos_model.proofs.Chains.{contains_first, contains_later}
 use Rattle.geos_model.proofs.HeapEdits.{get-taken_same}
 use Rattle.geos_model.proofs.Validity.{without_block-valid}
 use Rattle.vm_blocks.proofs.MapLemmas.{put_taken, taken_put, put_past_taken}
-use Rattle.vm_file.specs.Members.{saved_block, saved_blocks}
-use Rattle.block_cache.specs.State.{Seat, locks_of}
-use Rattle.vm_blocks.specs.Changes.{AreFree, CanAllGo, IsFree}
-use Rattle.vm_blocks.specs.Preparing.{CanLeave}
+use Rattle.vm_file.specs.Members.{imaged_block, imaged_blocks}
+use Rattle.block_cache.specs.State.{ResidentBlock, locks_of}
+use Rattle.vm_blocks.specs.Changes.{AreFree, CanRemoveAll, IsFreeHandle}
+use Rattle.vm_blocks.specs.Preparing.{CanRemoveByHandle}
 use Rattle.vm_file.specs.declared.member.Member.{Member}
 
 -- What holds of each of a list that is made of another.
@@ -93,18 +93,18 @@ out_and_in d (p ∷ ps) there once =
 
 -- What can come in or go does so under a VM handle, and what goes isn't the map block.
 
-pub in_handles : (d : Document) (ms : List Member) → AreFree d (handles_of (saved_blocks ms)) → All (λ m. IsFree d m.handle.0) ms
+pub in_handles : (d : Document) (ms : List Member) → AreFree d (handles_of (imaged_blocks ms)) → All (λ m. IsFreeHandle d m.handle.0) ms
 in_handles d ms are =
-    All-from_map (λ p. IsFree d p.0) (λ m. (m.handle.0, saved_block m.block)) ms (All-from_map (IsFree d) (λ p. p.0) (saved_blocks ms) are.free)
+    All-from_map (λ p. IsFreeHandle d p.0) (λ m. (m.handle.0, imaged_block m.block)) ms (All-from_map (IsFreeHandle d) (λ p. p.0) (imaged_blocks ms) are.free)
 
-pub out_handles : (d : Document) → IsValid d → (ps : List (ℕ × Block)) → CanAllGo d ps → All (λ p. is_vm_handle p.0 ≡ true) ps
+pub out_handles : (d : Document) → IsValid d → (ps : List (ℕ × Block)) → CanRemoveAll d ps → All (λ p. is_vm_handle p.0 ≡ true) ps
 out_handles d valid ps can = λ i p within. (valid.blocks (get_or ps i p).0 (get_or ps i p).1 (can.go i p within).stands).handle
 
-module _ (d : Document) (ms : List Member) (can : CanLeave d (handles_of (saved_blocks ms))) where
-  each_leaves : (P : ℕ → Type 0) → All P (handles_of (saved_blocks ms)) → All (λ m. P m.handle.0) ms
-  each_leaves P all = All-from_map (λ p. P p.0) (λ m. (m.handle.0, saved_block m.block)) ms (All-from_map P (λ p. p.0) (saved_blocks ms) all)
+module _ (d : Document) (ms : List Member) (can : CanRemoveByHandle d (handles_of (imaged_blocks ms))) where
+  each_leaves : (P : ℕ → Type 0) → All P (handles_of (imaged_blocks ms)) → All (λ m. P m.handle.0) ms
+  each_leaves P all = All-from_map (λ p. P p.0) (λ m. (m.handle.0, imaged_block m.block)) ms (All-from_map P (λ p. p.0) (imaged_blocks ms) all)
 
-  pub leaving_unlocked : (ss : List Seat) → All (λ h. locks_of ss h ≡ 0) (handles_of (saved_blocks ms)) → All (λ m. locks_of ss m.handle.0 ≡ 0) ms
+  pub leaving_unlocked : (ss : List ResidentBlock) → All (λ h. locks_of ss h ≡ 0) (handles_of (imaged_blocks ms)) → All (λ m. locks_of ss m.handle.0 ≡ 0) ms
   leaving_unlocked ss unlocked = each_leaves (λ h. locks_of ss h ≡ 0) unlocked
 
   pub leaving_others : All (λ m. d.map_block ≢ m.handle.0) ms

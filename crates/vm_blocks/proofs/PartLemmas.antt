@@ -13,8 +13,8 @@ use Rattle.geos_model.specs.declared.block.Attributes.{Attributes}
 use Rattle.chunk_edits.specs.Splicing.{forwards}
 use Rattle.vm_blocks.specs.declared.change.PartChange.{PartChange}
 use Rattle.vm_blocks.specs.declared.change.PartChange.TheVariants as parts
-use Rattle.vm_blocks.specs.Changes.{bytes_of, part_made, PartApplies}
-use Rattle.vm_blocks.specs.Parts.{Takes, body_made}
+use Rattle.vm_blocks.specs.Changes.{content_bytes, after_part, CanApplyPart}
+use Rattle.vm_blocks.specs.Parts.{AllowsPart, body_after_part}
 
 -- a block of either kind is live
 raw_live : (o : Option Block) → option_map_or (λ b. not (is_heap_body b.body)) o false ≡ true → is_some o ≡ true
@@ -25,7 +25,7 @@ heap_live : (o : Option Block) → option_map_or (λ b. is_heap_body b.body) o f
 heap_live None heap = absurd (cc heap)
 heap_live (Some block) heap = refl
 
-pub part_live : (b : ℕ) (p : PartChange) (d : Document) → PartApplies b p d → is_live d b ≡ true
+pub part_live : (b : ℕ) (p : PartChange) (d : Document) → CanApplyPart b p d → is_live d b ≡ true
 part_live b (parts.Raw s) d fits = raw_live (get d.blocks b) fits.raw
 part_live b (parts.Chunk c s) d fits = heap_live (get d.blocks b) fits.heap
 part_live b (parts.ChunkIn c content) d fits = heap_live (get d.blocks b) fits.heap
@@ -33,7 +33,7 @@ part_live b (parts.ChunkOut c content) d has = heap_live (get d.blocks b) has.he
 
 -- Its body takes the change.
 module _ (d : Document) (b : ℕ) (u : Attributes) where
-  takes : (p : PartChange) (body : Body) → get d.blocks b ≡ Some (record { attributes = u; body = body }) → PartApplies b p d → Takes p body
+  takes : (p : PartChange) (body : Body) → get d.blocks b ≡ Some (record { attributes = u; body = body }) → CanApplyPart b p d → AllowsPart p body
   takes (parts.Raw s) (Raw bytes) is fits = record { within = rw is at fits.stands.within; room = rw is at fits.fits }
   takes (parts.Raw s) (Heap m) is fits = let no : false ≡ true = rw is at fits.raw in cc
   takes (parts.Chunk c s) (Raw bytes) is fits = let no : false ≡ true = rw is at fits.heap in cc
@@ -43,14 +43,14 @@ module _ (d : Document) (b : ℕ) (u : Attributes) where
   takes (parts.ChunkOut c content) (Raw bytes) is has = let no : false ≡ true = rw is at has.heap in cc
   takes (parts.ChunkOut c content) (Heap m) is has = live_of (get m c.0) (rw is at has.stands)
     where
-      live_of : (o : Option (List ℕ)) → o ≡ Some (bytes_of content) → is_some o ≡ true
+      live_of : (o : Option (List ℕ)) → o ≡ Some (content_bytes content) → is_some o ≡ true
       live_of o some = rw some refl
 
-pub part_takes : (b : ℕ) (p : PartChange) (d : Document) (block : Block) → get d.blocks b ≡ Some block → PartApplies b p d → Takes p block.body
+pub part_takes : (b : ℕ) (p : PartChange) (d : Document) (block : Block) → get d.blocks b ≡ Some block → CanApplyPart b p d → AllowsPart p block.body
 part_takes b p d block is applies = takes d b block.attributes p block.body is applies
 
 -- the document then
-pub part_is : (b : ℕ) (p : PartChange) (d : Document) (block : Block) → get d.blocks b ≡ Some block → part_made b p d ≡ option_map_or (λ x. with_block d b (record x { body = body_made p x.body })) (get d.blocks b) d
+pub part_is : (b : ℕ) (p : PartChange) (d : Document) (block : Block) → get d.blocks b ≡ Some block → after_part b p d ≡ option_map_or (λ x. with_block d b (record x { body = body_after_part p x.body })) (get d.blocks b) d
 part_is b (parts.Raw s) d block is = rw is refl
 part_is b (parts.Chunk c s) d block is = rw is refl
 part_is b (parts.ChunkIn c content) d block is = rw is refl
@@ -58,7 +58,7 @@ part_is b (parts.ChunkOut c content) d block is = rw is refl
 
 -- what a body takes leaves a body of its kind, and one that can be
 
-pub part_kind : (p : PartChange) (body : Body) → Takes p body → is_heap_body (body_made p body) ≡ is_heap_body body
+pub part_kind : (p : PartChange) (body : Body) → AllowsPart p body → is_heap_body (body_after_part p body) ≡ is_heap_body body
 part_kind (parts.Raw s) (Raw bytes) takes = refl
 part_kind (parts.Raw s) (Heap m) takes = absurd takes
 part_kind (parts.Chunk c s) (Raw bytes) takes = absurd takes
@@ -68,12 +68,12 @@ part_kind (parts.ChunkIn c content) (Heap m) takes = refl
 part_kind (parts.ChunkOut c content) (Raw bytes) takes = absurd takes
 part_kind (parts.ChunkOut c content) (Heap m) takes = refl
 
-pub part_valid : (p : PartChange) (body : Body) → is_valid_body body ≡ true → Takes p body → is_valid_body (body_made p body) ≡ true
+pub part_valid : (p : PartChange) (body : Body) → is_valid_body body ≡ true → AllowsPart p body → is_valid_body (body_after_part p body) ≡ true
 part_valid (parts.Raw s) (Raw bytes) valid takes = le-leb _ _ takes.room
 part_valid (parts.Raw s) (Heap m) valid takes = absurd takes
 part_valid (parts.Chunk c s) (Raw bytes) valid takes = absurd takes
 part_valid (parts.Chunk c s) (Heap m) valid takes = heap-insert m c.0 (forwards s (chunk_bytes m c.0)) valid (live_handle m c.0 valid takes.live) takes.fits
 part_valid (parts.ChunkIn c content) (Raw bytes) valid takes = absurd takes
-part_valid (parts.ChunkIn c content) (Heap m) valid takes = heap-insert m c.0 (bytes_of content) valid takes.handle takes.fits
+part_valid (parts.ChunkIn c content) (Heap m) valid takes = heap-insert m c.0 (content_bytes content) valid takes.handle takes.fits
 part_valid (parts.ChunkOut c content) (Raw bytes) valid takes = absurd takes
 part_valid (parts.ChunkOut c content) (Heap m) valid takes = heap-remove m c.0 valid

@@ -10,54 +10,54 @@ use Rattle.geos_model.specs.declared.fault.Fault.{Fault}
 use Rattle.geos_model.proofs.Validity.{attributes-typed, empty_document-valid, with_body-valid, with_attributes-valid, without_block-valid}
 use Rattle.geos_model.specs.declared.block.Attributes.{Attributes}
 use Rattle.vm_store.specs.Facts.{StoreFacts}
-use Rattle.vm_file.specs.Disk.{Drifts}
-use Rattle.vm_file.specs.Effects.{KeepsFile}
+use Rattle.vm_file.specs.Disk.{SameUnlessCorrupt}
+use Rattle.vm_file.specs.Effects.{LeavesDocument}
 use Rattle.block_cache.specs.SavingAs.{IsSavedAs, IsNotSavedAs}
-use Rattle.block_cache.specs.State.{CacheState, seen}
-use Rattle.vm_blocks.specs.Parts.{Takes, body_made}
-use Rattle.vm_blocks.specs.Sound.{IsSound}
+use Rattle.block_cache.specs.State.{CacheState, as_file}
+use Rattle.vm_blocks.specs.Parts.{AllowsPart, body_after_part}
+use Rattle.vm_blocks.specs.Sound.{IsValidState}
 use Rattle.vm_blocks.specs.declared.change.PartChange.{PartChange}
 use Rattle.vm_blocks.proofs.KindLemmas.{kind_there}
 use Rattle.vm_blocks.proofs.PartLemmas.{part_kind, part_valid}
 use Rattle.vm_blocks.proofs.Preparing.{body_of_option, live_there, takes_body}
 
 module _ {S : Type 0} (facts : S → StoreFacts) where
-  pub sound_made : (frames : ℕ) (state : CacheState S) → 1 ≤ frames → state.document ≡ empty_document → (state.resident ≡ []) × (state.frames ≡ frames) → IsSound facts state
+  pub sound_made : (frames : ℕ) (state : CacheState S) → 1 ≤ frames → state.document ≡ empty_document → (state.resident ≡ []) × (state.frames ≡ frames) → IsValidState facts state
   sound_made frames state some document empty = record {
     valid = λ so. subst IsValid (sym document) empty_document-valid;
     room = let same = empty.1 in omega (arith, some, same);
   }
 
-  module _ (old new : CacheState S) (sound : IsSound facts old) where
+  module _ (old new : CacheState S) (sound : IsValidState facts old) where
     -- where the document drifts at most
-    pub sound_drifts : (facts new.disk.store).honest ≡ (facts old.disk.store).honest → Drifts (facts old.disk.store).honest old.document new.document
-        → new.frames ≡ old.frames → IsSound facts new
-    sound_drifts honest drifts frames = record {
-      valid = λ so. let before : IsTrue (facts old.disk.store).honest = subst IsTrue honest so in subst IsValid (sym (drifts.same before)) (sound.valid before);
+    pub sound_drifts : (facts new.disk.store).honest ≡ (facts old.disk.store).honest → SameUnlessCorrupt (facts old.disk.store).honest old.document new.document
+        → new.frames ≡ old.frames → IsValidState facts new
+    sound_drifts honest unless_corrupt frames = record {
+      valid = λ so. let before : IsTrue (facts old.disk.store).honest = subst IsTrue honest so in subst IsValid (sym (unless_corrupt.same before)) (sound.valid before);
       room = let some = sound.room in omega (arith, some, frames);
     }
 
   -- other documents of the same cache
   module _ (state : CacheState S) where
-    sound_with : (d : Document) → (IsValid state.document → IsValid d) → IsSound facts state → IsSound facts (record state { document = d })
+    sound_with : (d : Document) → (IsValid state.document → IsValid d) → IsValidState facts state → IsValidState facts (record state { document = d })
     sound_with d valid sound = record { valid = λ so. valid (sound.valid so); room = sound.room }
 
-    pub sound_map : (h : ℕ) → (h ≢ 0 → is_live state.document h ≡ true) → IsSound facts state → IsSound facts (record state { document = record state.document { map_block = h } })
+    pub sound_map : (h : ℕ) → (h ≢ 0 → is_live state.document h ≡ true) → IsValidState facts state → IsValidState facts (record state { document = record state.document { map_block = h } })
     sound_map h live sound = sound_with (record state.document { map_block = h }) (λ valid. record { blocks = valid.blocks; map_block = live }) sound
 
-    pub sound_attributes : (h : ℕ) (attributes : Attributes) → FitAttributes attributes → IsTyped (is_heap state.document h) attributes → IsSound facts state → IsSound facts (record state { document = with_attributes state.document h attributes })
+    pub sound_attributes : (h : ℕ) (attributes : Attributes) → FitAttributes attributes → IsTyped (is_heap state.document h) attributes → IsValidState facts state → IsValidState facts (record state { document = with_attributes state.document h attributes })
     sound_attributes h attributes fit typed sound = sound_with (with_attributes state.document h attributes) (λ valid. with_attributes-valid state.document h attributes valid fit typed) sound
 
     -- a block was taken out
-    pub sound_taken : (h : ℕ) → (state.document.map_block ≡ h → ⊥) → IsSound facts state → IsSound facts (record state { document = without_block state.document h; resident = remove_entry (nat_eq h) state.resident })
+    pub sound_taken : (h : ℕ) → (state.document.map_block ≡ h → ⊥) → IsValidState facts state → IsValidState facts (record state { document = without_block state.document h; resident = remove_entry (nat_eq h) state.resident })
     sound_taken h other sound = record {
       valid = λ so. without_block-valid state.document h (sound.valid so) other;
       room = sound.room;
     }
 
   -- blocks were put in, or not
-  pub sound_put : (old new : CacheState S) (d : Document) (r : Result (Unit {0}) Fault) → IsSound facts old → (IsValid old.document → IsValid d)
-      → MatchResult r (λ _. KeepsFile facts d (seen old) (seen new)) (λ _. KeepsFile facts old.document (seen old) (seen new)) → (new.resident ≡ old.resident) × (new.frames ≡ old.frames) → IsSound facts new
+  pub sound_put : (old new : CacheState S) (d : Document) (r : Result (Unit {0}) Fault) → IsValidState facts old → (IsValid old.document → IsValid d)
+      → MatchResult r (λ _. LeavesDocument facts d (as_file old) (as_file new)) (λ _. LeavesDocument facts old.document (as_file old) (as_file new)) → (new.resident ≡ old.resident) × (new.frames ≡ old.frames) → IsValidState facts new
   sound_put old new d (Ok done) sound valid keeps same = record {
     valid = λ so. let before : IsTrue (facts old.disk.store).honest = subst IsTrue keeps.passes.honest so in subst IsValid (sym (keeps.document.same before)) (valid (sound.valid before));
     room = let some = sound.room in let frames = same.1 in omega (arith, some, frames);
@@ -65,18 +65,18 @@ module _ {S : Type 0} (facts : S → StoreFacts) where
   sound_put old new d (Err fault) sound valid keeps same = sound_drifts old new sound keeps.passes.honest keeps.document same.1
 
   -- the file was saved under another store, or not
-  pub sound_saved_as : {E : Type 0} (fault : E → Fault) (back : E → S) (target : S) (old new : CacheState S) (r : Result S E) → IsSound facts old
+  pub sound_saved_as : {E : Type 0} (fault : E → Fault) (back : E → S) (target : S) (old new : CacheState S) (r : Result S E) → IsValidState facts old
       → IfOk r (λ _. IsTrue (facts new.disk.store).honest → IsValid new.document)
-      → MatchResult r (λ store. IsSavedAs facts target store (seen old) (seen new)) (λ e. IsNotSavedAs facts target (back e) (seen old) (seen new) (fault e))
-      → (new.resident ≡ old.resident) × (new.frames ≡ old.frames) → IsSound facts new
+      → MatchResult r (λ store. IsSavedAs facts target store (as_file old) (as_file new)) (λ e. IsNotSavedAs facts target (back e) (as_file old) (as_file new) (fault e))
+      → (new.resident ≡ old.resident) × (new.frames ≡ old.frames) → IsValidState facts new
   sound_saved_as fault back target old new (Ok store) sound valid saved same =
       record { valid = valid; room = let some = sound.room in let frames = same.1 in omega (arith, some, frames) }
   sound_saved_as fault back target old new (Err e) sound valid saved same =
       sound_drifts old new sound saved.commits.honest saved.document same.1
 
   -- the body of a block was changed
-  module _ (state : CacheState S) (h : ℕ) (p : PartChange) (body made : Body) (there : option_map (λ (b : Block). b.body) (get state.document.blocks h) ≡ Some body) (takes : Takes p (block_at state.document h).body) (is : made ≡ body_made p body) where
-    taken : Takes p body
+  module _ (state : CacheState S) (h : ℕ) (p : PartChange) (body made : Body) (there : option_map (λ (b : Block). b.body) (get state.document.blocks h) ≡ Some body) (takes : AllowsPart p (block_at state.document h).body) (is : made ≡ body_after_part p body) where
+    taken : AllowsPart p body
     taken = takes_body state.document h p body there takes
 
     made_valid : IsValid state.document → is_live state.document h ≡ true → is_valid_body made ≡ true
@@ -87,7 +87,7 @@ module _ {S : Type 0} (facts : S → StoreFacts) where
     made_typed : IsValid state.document → IsTyped (is_heap_body made) (attributes_of state.document h)
     made_typed valid = λ raw. attributes-typed state.document h valid (kind_there state.document h body there ∙ sym (part_kind p body taken) ∙ sym (ap is_heap_body is) ∙ raw)
 
-    pub sound_part : is_live state.document h ≡ true → IsSound facts state → IsSound facts (record state { document = with_body state.document h made })
+    pub sound_part : is_live state.document h ≡ true → IsValidState facts state → IsValidState facts (record state { document = with_body state.document h made })
     sound_part live sound = record {
       valid = λ so. let valid = sound.valid so in with_body-valid state.document h made valid live (made_typed valid) (made_valid valid live);
       room = sound.room;

@@ -7,11 +7,11 @@ use Rattle.geos_model.specs.Document.{Block, Document, IsValid, is_vm_handle, is
 use Rattle.geos_model.specs.ElementArray.{all_distinct}
 use Rattle.geos_model.specs.Meaning.{chunk_at, with_chunk, without_chunk}
 use Rattle.geos_model.specs.declared.command.Body.TheVariants.{Raw}
-use Rattle.chunk_edits.specs.Splicing.{Stands, forwards}
+use Rattle.chunk_edits.specs.Splicing.{OccursAt, forwards}
 use Rattle.chunk_edits.specs.declared.splice.Splice.{Splice}
 use Rattle.geos_model.specs.Cost.{images_length}
 use Rattle.geos_model.specs.declared.block.Attributes.{Attributes}
-use Rattle.vm_file.specs.Members.{saved_blocks}
+use Rattle.vm_file.specs.Members.{imaged_blocks}
 use Rattle.vm_blocks.specs.declared.change.Change.{Change}
 use Rattle.vm_blocks.specs.declared.change.Change.TheVariants as changes
 use Rattle.vm_blocks.specs.declared.change.PartChange.{PartChange}
@@ -22,98 +22,98 @@ use Rattle.vm_blocks.specs.declared.change.Direction.{Direction}
 use Rattle.vm_blocks.specs.declared.change.Direction.TheVariants.{Forwards, Backwards}
 
 -- the bytes of a chunk that comes in or goes
-abbrev pub bytes_of : Content → List ℕ
-bytes_of (contents.Bytes bytes) = bytes
-bytes_of (contents.Zeros n) = replicate n 0
+abbrev pub content_bytes : Content → List ℕ
+content_bytes (contents.Bytes bytes) = bytes
+content_bytes (contents.Zeros n) = replicate n 0
 
 -- What a change makes of a document.
 
 -- attributes as a block of a kind has them: only a heap has a type
-abbrev pub fitted : Bool → Attributes → Attributes
-fitted true a = a
-fitted false a = record a { heap_type = 0 }
+abbrev pub attributes_for_kind : Bool → Attributes → Attributes
+attributes_for_kind true a = a
+attributes_for_kind false a = record a { heap_type = 0 }
 
-abbrev pub part_made : ℕ → PartChange → Document → Document
-part_made b (parts.Raw s) d = with_body d b (Raw (forwards s (raw_bytes_of d b)))
-part_made b (parts.Chunk c s) d = with_chunk d b c.0 (forwards s (chunk_at d b c.0))
-part_made b (parts.ChunkIn c content) d = with_chunk d b c.0 (bytes_of content)
-part_made b (parts.ChunkOut c content) d = without_chunk d b c.0
+abbrev pub after_part : ℕ → PartChange → Document → Document
+after_part b (parts.Raw s) d = with_body d b (Raw (forwards s (raw_bytes_of d b)))
+after_part b (parts.Chunk c s) d = with_chunk d b c.0 (forwards s (chunk_at d b c.0))
+after_part b (parts.ChunkIn c content) d = with_chunk d b c.0 (content_bytes content)
+after_part b (parts.ChunkOut c content) d = without_chunk d b c.0
 
-abbrev pub made : Change → Document → Document
-made (changes.BlocksIn ms) d = with_blocks d (saved_blocks ms.list.items)
-made (changes.BlocksOut ms) d = without_blocks d (handles_of (saved_blocks ms.list.items))
-made (changes.Part b part) d = part_made b.0 part d
-made (changes.Attributes b old new) d = with_attributes d b.0 (fitted (is_heap d b.0) new)
-made (changes.Map old new) d = record d { map_block = new.0 }
+abbrev pub after_change : Change → Document → Document
+after_change (changes.BlocksIn ms) d = with_blocks d (imaged_blocks ms.list.items)
+after_change (changes.BlocksOut ms) d = without_blocks d (handles_of (imaged_blocks ms.list.items))
+after_change (changes.Part b part) d = after_part b.0 part d
+after_change (changes.Attributes b old new) d = with_attributes d b.0 (attributes_for_kind (is_heap d b.0) new)
+after_change (changes.Map old new) d = record d { map_block = new.0 }
 
 -- The same change the other way round.
 
-abbrev pub flipped_splice : Splice → Splice
-flipped_splice s = record { at = s.at; old = s.new; new = s.old }
+abbrev pub reversed_splice : Splice → Splice
+reversed_splice s = record { at = s.at; old = s.new; new = s.old }
 
-abbrev pub flipped_part : PartChange → PartChange
-flipped_part (parts.Raw s) = parts.Raw (flipped_splice s)
-flipped_part (parts.Chunk c s) = parts.Chunk c (flipped_splice s)
-flipped_part (parts.ChunkIn c content) = parts.ChunkOut c content
-flipped_part (parts.ChunkOut c content) = parts.ChunkIn c content
+abbrev pub reversed_part : PartChange → PartChange
+reversed_part (parts.Raw s) = parts.Raw (reversed_splice s)
+reversed_part (parts.Chunk c s) = parts.Chunk c (reversed_splice s)
+reversed_part (parts.ChunkIn c content) = parts.ChunkOut c content
+reversed_part (parts.ChunkOut c content) = parts.ChunkIn c content
 
-abbrev pub flipped : Change → Change
-flipped (changes.BlocksIn ms) = changes.BlocksOut ms
-flipped (changes.BlocksOut ms) = changes.BlocksIn ms
-flipped (changes.Part b part) = changes.Part b (flipped_part part)
-flipped (changes.Attributes b old new) = changes.Attributes b new old
-flipped (changes.Map old new) = changes.Map new old
+abbrev pub reversed : Change → Change
+reversed (changes.BlocksIn ms) = changes.BlocksOut ms
+reversed (changes.BlocksOut ms) = changes.BlocksIn ms
+reversed (changes.Part b part) = changes.Part b (reversed_part part)
+reversed (changes.Attributes b old new) = changes.Attributes b new old
+reversed (changes.Map old new) = changes.Map new old
 
 -- the change that is made by carrying one out in a direction
-abbrev pub turned_part : Direction → PartChange → PartChange
-turned_part Forwards part = part
-turned_part Backwards part = flipped_part part
+abbrev pub directed_part : Direction → PartChange → PartChange
+directed_part Forwards part = part
+directed_part Backwards part = reversed_part part
 
-abbrev pub turned : Direction → Change → Change
-turned Forwards change = change
-turned Backwards change = flipped change
+abbrev pub directed : Direction → Change → Change
+directed Forwards change = change
+directed Backwards change = reversed change
 
 -- the changes that are made by taking changes off a stack, on which the last one lies uppermost, and carrying each out in a direction
-abbrev pub turned_all : Direction → List Change → List Change
-turned_all direction changes = map (turned direction) (reverse changes)
+abbrev pub directed_all : Direction → List Change → List Change
+directed_all direction changes = map (directed direction) (reverse changes)
 
 -- the document after a change is carried out in a direction
-abbrev pub after : Direction → Change → Document → Document
-after direction c d = made (turned direction c) d
+abbrev pub after_directed : Direction → Change → Document → Document
+after_directed direction c d = after_change (directed direction c) d
 
 -- In which documents a change can be made.
 
 -- a handle that a block can have, and none has
-pub record IsFree (d : Document) (b : ℕ) : Type 0 where
+pub record IsFreeHandle (d : Document) (b : ℕ) : Type 0 where
   pub handle : is_vm_handle b ≡ true
   pub free : get d.blocks b ≡ None
 
 -- the block stands there, and isn't the map block
-pub record CanGo (d : Document) (b : ℕ) (block : Block) : Type 0 where
+pub record CanRemove (d : Document) (b : ℕ) (block : Block) : Type 0 where
   pub stands : get d.blocks b ≡ Some block
   pub other : d.map_block ≢ b
 
 -- so of each of these handles, no two of them the same
 pub record AreFree (d : Document) (hs : List ℕ) : Type 0 where
-  pub free : All (IsFree d) hs
+  pub free : All (IsFreeHandle d) hs
   pub distinct : all_distinct hs ≡ true
 
 -- so of each of these blocks, no two of them under the same handle
-pub record CanAllGo (d : Document) (ps : List (ℕ × Block)) : Type 0 where
-  pub go : All (λ p. CanGo d p.0 p.1) ps
+pub record CanRemoveAll (d : Document) (ps : List (ℕ × Block)) : Type 0 where
+  pub go : All (λ p. CanRemove d p.0 p.1) ps
   pub distinct : all_distinct (handles_of ps) ≡ true
 
 -- the part stands in a raw body, and the result fits
 pub record FitsRaw (d : Document) (b : ℕ) (s : Splice) : Type 0 where
   pub raw : is_raw d b ≡ true
-  pub stands : Stands (raw_bytes_of d b) s.at s.old
+  pub stands : OccursAt (raw_bytes_of d b) s.at s.old
   pub fits : length (forwards s (raw_bytes_of d b)) ≤ capacity
 
 -- the part stands in a chunk, and the result fits
 pub record FitsChunk (d : Document) (b c : ℕ) (s : Splice) : Type 0 where
   pub heap : is_heap d b ≡ true
   pub live : contains_key (chunks_of d b) c ≡ true
-  pub stands : Stands (chunk_at d b c) s.at s.old
+  pub stands : OccursAt (chunk_at d b c) s.at s.old
   pub fits : fits_with (chunks_of d b) c (forwards s (chunk_at d b c)) ≡ true
 
 -- a handle that a chunk can have, and none has, and the heap has room for a chunk of these bytes there
@@ -140,35 +140,35 @@ pub record HasMap (d : Document) (old new : ℕ) : Type 0 where
   pub stands : d.map_block ≡ old
   pub live : new ≢ 0 → is_live d new ≡ true
 
-abbrev pub PartApplies : ℕ → PartChange → Document → Type 0
-PartApplies b (parts.Raw s) d = FitsRaw d b s
-PartApplies b (parts.Chunk c s) d = FitsChunk d b c.0 s
-PartApplies b (parts.ChunkIn c content) d = FitsNewChunk d b c.0 (bytes_of content)
-PartApplies b (parts.ChunkOut c content) d = HasChunk d b c.0 (bytes_of content)
+abbrev pub CanApplyPart : ℕ → PartChange → Document → Type 0
+CanApplyPart b (parts.Raw s) d = FitsRaw d b s
+CanApplyPart b (parts.Chunk c s) d = FitsChunk d b c.0 s
+CanApplyPart b (parts.ChunkIn c content) d = FitsNewChunk d b c.0 (content_bytes content)
+CanApplyPart b (parts.ChunkOut c content) d = HasChunk d b c.0 (content_bytes content)
 
-abbrev pub Applies : Change → Document → Type 0
-Applies (changes.BlocksIn ms) d = AreFree d (handles_of (saved_blocks ms.list.items))
-Applies (changes.BlocksOut ms) d = CanAllGo d (saved_blocks ms.list.items)
-Applies (changes.Part b part) d = PartApplies b.0 part d
-Applies (changes.Attributes b old new) d = HasAttributes d b.0 old new
-Applies (changes.Map old new) d = HasMap d old.0 new.0
+abbrev pub CanApply : Change → Document → Type 0
+CanApply (changes.BlocksIn ms) d = AreFree d (handles_of (imaged_blocks ms.list.items))
+CanApply (changes.BlocksOut ms) d = CanRemoveAll d (imaged_blocks ms.list.items)
+CanApply (changes.Part b part) d = CanApplyPart b.0 part d
+CanApply (changes.Attributes b old new) d = HasAttributes d b.0 old new
+CanApply (changes.Map old new) d = HasMap d old.0 new.0
 
 -- A change of a valid document leaves a valid one, to which the same change the other way round applies and gives back the first.
 abbrev pub ChangeLaw : Type 0
-ChangeLaw = (c : Change) (d : Document) → IsValid d → Applies c d
-    → IsValid (made c d) × Applies (flipped c) (made c d) × (made (flipped c) (made c d) ≡ d)
+ChangeLaw = (c : Change) (d : Document) → IsValid d → CanApply c d
+    → IsValid (after_change c d) × CanApply (reversed c) (after_change c d) × (after_change (reversed c) (after_change c d) ≡ d)
 
 -- The other way round twice is the change itself.
-abbrev pub FlipLaw : Type 0
-FlipLaw = (c : Change) → flipped (flipped c) ≡ c
+abbrev pub ReverseLaw : Type 0
+ReverseLaw = (c : Change) → reversed (reversed c) ≡ c
 
 -- the blocks that a change brings in, in order
-abbrev pub blocks_in : Change → List (ℕ × Block)
-blocks_in (changes.BlocksIn ms) = saved_blocks ms.list.items
-blocks_in (changes.BlocksOut ms) = []
-blocks_in (changes.Part b part) = []
-blocks_in (changes.Attributes b old new) = []
-blocks_in (changes.Map old new) = []
+abbrev pub incoming_blocks : Change → List (ℕ × Block)
+incoming_blocks (changes.BlocksIn ms) = imaged_blocks ms.list.items
+incoming_blocks (changes.BlocksOut ms) = []
+incoming_blocks (changes.Part b part) = []
+incoming_blocks (changes.Attributes b old new) = []
+incoming_blocks (changes.Map old new) = []
 
 -- How many content bytes a change holds.
 
@@ -183,8 +183,8 @@ part_weight (parts.ChunkIn c content) = content_weight content
 part_weight (parts.ChunkOut c content) = content_weight content
 
 abbrev pub weight : Change → ℕ
-weight (changes.BlocksIn ms) = images_length (saved_blocks ms.list.items)
-weight (changes.BlocksOut ms) = images_length (saved_blocks ms.list.items)
+weight (changes.BlocksIn ms) = images_length (imaged_blocks ms.list.items)
+weight (changes.BlocksOut ms) = images_length (imaged_blocks ms.list.items)
 weight (changes.Part b part) = part_weight part
 weight (changes.Attributes b old new) = 0
 weight (changes.Map old new) = 0

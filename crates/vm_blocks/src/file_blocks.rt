@@ -9,19 +9,19 @@ ghost use Rattle.geos_model.specs.Document.{IsValid, block_at, is_heap, is_raw, 
 ghost use Rattle.geos_model.specs.ElementArray.{all_distinct};
 ghost use Rattle.geos_model.specs.Reply.{found};
 ghost use Rattle.vm_file.specs.Calls.{last_sequence};
-ghost use Rattle.vm_file.specs.Disk.{IsListed, IsSettled, Passes};
+ghost use Rattle.vm_file.specs.Disk.{IsFileDocument, IsCrashConsistent, KeepsCommitted};
 ghost use Rattle.vm_file.specs.Effects.{IsCommit, Fails, IsWorn};
-ghost use Rattle.vm_file.specs.Members.{saved_blocks};
-ghost use Rattle.block_cache.specs.Bodies.{body_of};
-ghost use Rattle.block_cache.specs.State.{is_resident, locks_of, locked_count, seen, KeepsLocks};
-ghost use Rattle.vm_blocks.specs.Changes.{fitted, made, part_made, turned, turned_all, turned_part, blocks_in, AreFree};
+ghost use Rattle.vm_file.specs.Members.{imaged_blocks};
+ghost use Rattle.block_cache.specs.Bodies.{body_value};
+ghost use Rattle.block_cache.specs.State.{is_resident, locks_of, locked_count, as_file, KeepsLocks};
+ghost use Rattle.vm_blocks.specs.Changes.{attributes_for_kind, after_change, after_part, directed, directed_all, directed_part, incoming_blocks, AreFree};
 ghost use Rattle.vm_blocks.specs.Committing.{IsSavedAs, IsNotSavedAs};
-ghost use Rattle.vm_blocks.specs.Keeping.{Keeps, Lacks, LacksFrame, is_full, is_loaded, is_shut_out};
+ghost use Rattle.vm_blocks.specs.Keeping.{KeepsBlocks, IsEnvironmentFault, IsCacheFull, is_full, is_loaded, is_shut_out};
 ghost use Rattle.vm_blocks.specs.Locking.{GainsLock, LosesLock, CantLock, HasNoLock};
 ghost use Rattle.vm_blocks.specs.Opening.{IsOpenedFrom, IsNotOpened, IsMadeIn, IsNotMade};
-ghost use Rattle.vm_blocks.specs.Parts.{Takes};
-ghost use Rattle.vm_blocks.specs.Kinds.{IsOfOther};
-ghost use Rattle.vm_blocks.specs.Preparing.{CanLeave, Listed, AllListed, AreUnlocked, BodyTakes, IsAtHand, IsOutOfReach, IsUnready, AreUnready, Makes, MakesAll, Turns};
+ghost use Rattle.vm_blocks.specs.Parts.{AllowsPart};
+ghost use Rattle.vm_blocks.specs.Kinds.{IsWrongBlock};
+ghost use Rattle.vm_blocks.specs.Preparing.{CanRemoveByHandle, CanApplyByHandle, CanApplyAllByHandle, AreUnlocked, AllowsChange, IsInMemory, IsShutOut, CantPrepare, CantPrepareAll, IsApplied, AreApplied, Turns};
 
 use crate::part::{can_take, carry_out_heap, carry_out_raw};
 use crate::{BlockBody, Change, Direction, Members, PartChange};
@@ -42,7 +42,7 @@ pub struct FileBlocks<S: Store> {
 
 impl<S: Store> Model for FileBlocks<S> {
     ghost use Rattle.block_cache.specs.State.{CacheState, cache_state_code};
-    ghost use Rattle.vm_blocks.specs.Sound.{IsSound};
+    ghost use Rattle.vm_blocks.specs.Sound.{IsValidState};
 
     ghost Value = { CacheState S };
 
@@ -50,7 +50,7 @@ impl<S: Store> Model for FileBlocks<S> {
 
     ghost view = { λ b. b.cache };
 
-    ghost invariant = { λ b. IsSound S.facts b.cache };
+    ghost invariant = { λ b. IsValidState S.facts b.cache };
 }
 
 impl<S: Store> FileBlocks<S> {
@@ -59,7 +59,7 @@ impl<S: Store> FileBlocks<S> {
     pub fn create(alloc: Global, store: S, frames: usize) -> Result<FileBlocks<S>, Refused<S>>
         requires { 1 ≤ frames }
         ensures made { MatchResult result
-            (λ blocks. IsMadeIn S.facts store (seen blocks))
+            (λ blocks. IsMadeIn S.facts store (as_file blocks))
             (λ refused. IsNotMade S.facts store refused.store refused.fault) }
         ensures frames { IfOk result (λ blocks. blocks.frames ≡ frames) }
         ensures empty { IfOk result (λ blocks. blocks.resident ≡ []) }
@@ -76,7 +76,7 @@ impl<S: Store> FileBlocks<S> {
     pub fn open(alloc: Global, store: S, frames: usize) -> Result<FileBlocks<S>, Refused<S>>
         requires { 1 ≤ frames }
         ensures opened { MatchResult result
-            (λ blocks. IsOpenedFrom S.facts store (seen blocks))
+            (λ blocks. IsOpenedFrom S.facts store (as_file blocks))
             (λ refused. IsNotOpened S.facts store refused.store refused.fault) }
         ensures frames { IfOk result (λ blocks. blocks.frames ≡ frames) }
         ensures empty { IfOk result (λ blocks. blocks.resident ≡ []) }
@@ -102,8 +102,8 @@ impl<S: Store> FileBlocks<S> {
     pub fn validity(&self)
         // Of the documents and their file.
         ensures document { IsTrue (S.facts self.now.disk.store).honest → IsValid self.now.document }
-        ensures listed { IsListed (S.facts self.now.disk.store).honest self.now.document }
-        ensures settled { IsSettled S.facts self.now.disk }
+        ensures listed { IsFileDocument (S.facts self.now.disk.store).honest self.now.document }
+        ensures crash_consistent { IsCrashConsistent S.facts self.now.disk }
         ensures valid { IsTrue (S.facts self.now.disk.store).honest
             → IsValid self.now.disk.updated × IsValid self.now.disk.saved }
         // Of the blocks in memory.
@@ -120,7 +120,7 @@ impl<S: Store> FileBlocks<S> {
     /// can't rise, before anything is written; Memory, where nothing is committed; File, where what was to be may be read after a crash.
     pub fn update(&mut self) -> Result<(), Fault>
         ensures commit { IsCommit S.facts (self.old.document, self.old.disk.saved) self.old.document
-            (seen self.old) (seen self.new) result }
+            (as_file self.old) (as_file self.new) result }
         ensures fails { Fails S.facts IsWorn self.old.disk.store self.new.disk.store result }
         ensures resident { (self.new.resident ≡ self.old.resident) × (self.new.frames ≡ self.old.frames) }
     {
@@ -130,7 +130,7 @@ impl<S: Store> FileBlocks<S> {
     /// Makes the document as it is now the updated and the saved one. Refused as an update is.
     pub fn save(&mut self) -> Result<(), Fault>
         ensures commit { IsCommit S.facts (self.old.document, self.old.document) self.old.document
-            (seen self.old) (seen self.new) result }
+            (as_file self.old) (as_file self.new) result }
         ensures fails { Fails S.facts IsWorn self.old.disk.store self.new.disk.store result }
         ensures resident { (self.new.resident ≡ self.old.resident) × (self.new.frames ≡ self.old.frames) }
     {
@@ -141,7 +141,7 @@ impl<S: Store> FileBlocks<S> {
     /// refused, as an update is, those in memory stay.
     pub fn revert(&mut self) -> Result<(), Fault>
         ensures commit { IsCommit S.facts (self.old.disk.saved, self.old.disk.saved) self.old.disk.saved
-            (seen self.old) (seen self.new) result }
+            (as_file self.old) (as_file self.new) result }
         ensures fails { Fails S.facts IsWorn self.old.disk.store self.new.disk.store result }
         ensures ok { OnOk result (self.new.resident ≡ []) }
         ensures err { OnErr result (self.new.resident ≡ self.old.resident) }
@@ -153,12 +153,12 @@ impl<S: Store> FileBlocks<S> {
 
     /// Makes the target a file of its own of the document as it is now, and goes on in that, with the same blocks in memory. The file so
     /// far goes back to its saved document, and its store comes back. Where it is refused the file stays, and the target comes back, with
-    /// any bytes; nothing is committed then, but where the store of the file so far fails. Worn, before anything is written; Damaged where
+    /// any bytes; nothing is committed then, but where the store of the old file fails. Worn, before anything is written; Damaged where
     /// what is read is no image, which an honest store never gives; Memory, File.
     pub fn save_as(&mut self, target: S) -> Result<S, Refused<S>>
         ensures saved_as { MatchResult result
-            (λ store. IsSavedAs S.facts target store (seen self.old) (seen self.new))
-            (λ refused. IsNotSavedAs S.facts target refused.store (seen self.old) (seen self.new) refused.fault) }
+            (λ store. IsSavedAs S.facts target store (as_file self.old) (as_file self.new))
+            (λ refused. IsNotSavedAs S.facts target refused.store (as_file self.old) (as_file self.new) refused.fault) }
         ensures worn { IsErrAnd result (λ refused. refused.fault ≡ Fault.Worn)
             ↔ self.old.disk.sequence ≡ last_sequence }
         ensures resident { (self.new.resident ≡ self.old.resident) × (self.new.frames ≡ self.old.frames) }
@@ -234,11 +234,11 @@ impl<S: Store> FileBlocks<S> {
     /// changes. Memory, File; Damaged where what is read is no body, which an honest store never gives. For a block that is in memory
     /// it takes no memory, calls no store and isn't refused.
     pub fn load(&mut self, handle: VmHandle) -> Result<(), Fault>
-        ensures keeps { Keeps S.facts self.old self.new }
+        ensures keeps { KeepsBlocks S.facts self.old self.new }
         ensures ok { OnOk result (is_loaded self.new handle.0 ≡ true) }
-        ensures err { IfErr result (λ fault. Lacks S.facts self.old.disk.store self.new.disk.store fault
+        ensures err { IfErr result (λ fault. IsEnvironmentFault S.facts self.old.disk.store self.new.disk.store fault
             ⊎ (((fault ≡ Fault.NoBlock) × (is_live self.new.document handle.0 ≡ false))
-            ⊎ LacksFrame self.old handle.0 fault)) }
+            ⊎ IsCacheFull self.old handle.0 fault)) }
         ensures already { is_loaded self.old handle.0 ≡ true
             → IsOk result × (self.new.disk ≡ self.old.disk) × (self.new.document ≡ self.old.document) }
         ensures dead { is_live self.old.document handle.0 ≡ false
@@ -256,13 +256,13 @@ impl<S: Store> FileBlocks<S> {
     /// Brings a raw block into memory, as `load` does. WrongKind where it is a heap: then, and where it isn't live, no memory is taken
     /// and no store is called.
     pub fn load_raw(&mut self, handle: VmHandle) -> Result<(), Fault>
-        ensures keeps { Keeps S.facts self.old self.new }
+        ensures keeps { KeepsBlocks S.facts self.old self.new }
         ensures ok { OnOk result ((is_loaded self.new handle.0 ≡ true) × (is_raw self.new.document handle.0 ≡ true)) }
-        ensures err { IfErr result (λ fault. Lacks S.facts self.old.disk.store self.new.disk.store fault
-            ⊎ (IsOfOther is_raw self.new.document handle.0 fault ⊎ LacksFrame self.old handle.0 fault)) }
+        ensures err { IfErr result (λ fault. IsEnvironmentFault S.facts self.old.disk.store self.new.disk.store fault
+            ⊎ (IsWrongBlock is_raw self.new.document handle.0 fault ⊎ IsCacheFull self.old handle.0 fault)) }
         ensures already { is_loaded self.old handle.0 ≡ true → is_raw self.old.document handle.0 ≡ true
             → IsOk result × (self.new.disk ≡ self.old.disk) × (self.new.document ≡ self.old.document) }
-        ensures early { (fault : Fault) → IsOfOther is_raw self.old.document handle.0 fault
+        ensures early { (fault : Fault) → IsWrongBlock is_raw self.old.document handle.0 fault
             → (result ≡ Err fault) × (self.new ≡ self.old) }
         ensures shut { is_raw self.old.document handle.0 ≡ true → is_shut_out self.old handle.0 ≡ true
             → (result ≡ Err Fault.CacheFull) × (self.new ≡ self.old) }
@@ -279,13 +279,13 @@ impl<S: Store> FileBlocks<S> {
     /// Brings a heap into memory, as `load` does. WrongKind where the block is raw: then, and where it isn't live, no memory is taken
     /// and no store is called.
     pub fn load_heap(&mut self, handle: VmHandle) -> Result<(), Fault>
-        ensures keeps { Keeps S.facts self.old self.new }
+        ensures keeps { KeepsBlocks S.facts self.old self.new }
         ensures ok { OnOk result ((is_loaded self.new handle.0 ≡ true) × (is_heap self.new.document handle.0 ≡ true)) }
-        ensures err { IfErr result (λ fault. Lacks S.facts self.old.disk.store self.new.disk.store fault
-            ⊎ (IsOfOther is_heap self.new.document handle.0 fault ⊎ LacksFrame self.old handle.0 fault)) }
+        ensures err { IfErr result (λ fault. IsEnvironmentFault S.facts self.old.disk.store self.new.disk.store fault
+            ⊎ (IsWrongBlock is_heap self.new.document handle.0 fault ⊎ IsCacheFull self.old handle.0 fault)) }
         ensures already { is_loaded self.old handle.0 ≡ true → is_heap self.old.document handle.0 ≡ true
             → IsOk result × (self.new.disk ≡ self.old.disk) × (self.new.document ≡ self.old.document) }
-        ensures early { (fault : Fault) → IsOfOther is_heap self.old.document handle.0 fault
+        ensures early { (fault : Fault) → IsWrongBlock is_heap self.old.document handle.0 fault
             → (result ≡ Err fault) × (self.new ≡ self.old) }
         ensures shut { is_heap self.old.document handle.0 ≡ true → is_shut_out self.old handle.0 ≡ true
             → (result ≡ Err Fault.CacheFull) × (self.new ≡ self.old) }
@@ -302,10 +302,10 @@ impl<S: Store> FileBlocks<S> {
     // Brings a live block into memory, if it isn't shut out.
     fn load_live(&mut self, handle: VmHandle) -> Result<(), Fault>
         requires { is_live self.old.document handle.0 ≡ true }
-        ensures keeps { Keeps S.facts self.old self.new }
+        ensures keeps { KeepsBlocks S.facts self.old self.new }
         ensures ok { OnOk result (is_loaded self.new handle.0 ≡ true) }
-        ensures err { IfErr result (λ fault. Lacks S.facts self.old.disk.store self.new.disk.store fault
-            ⊎ LacksFrame self.old handle.0 fault) }
+        ensures err { IfErr result (λ fault. IsEnvironmentFault S.facts self.old.disk.store self.new.disk.store fault
+            ⊎ IsCacheFull self.old handle.0 fault) }
         ensures already { is_loaded self.old handle.0 ≡ true
             → IsOk result × (self.new.disk ≡ self.old.disk) × (self.new.document ≡ self.old.document) }
         ensures shut { is_shut_out self.old handle.0 ≡ true → (result ≡ Err Fault.CacheFull) × (self.new ≡ self.old) }
@@ -329,9 +329,10 @@ impl<S: Store> FileBlocks<S> {
     /// nothing changes. Otherwise refused as `load` is.
     pub fn lock(&mut self, handle: VmHandle) -> Result<(), Fault>
         ensures ok { OnOk result (GainsLock S.facts handle.0 self.old self.new) }
-        ensures err { OnErr result (Keeps S.facts self.old self.new) }
+        ensures err { OnErr result (KeepsBlocks S.facts self.old self.new) }
         ensures refusals { IfErr result
-            (λ fault. Lacks S.facts self.old.disk.store self.new.disk.store fault ⊎ CantLock self.old handle.0 fault) }
+            (λ fault. IsEnvironmentFault S.facts self.old.disk.store self.new.disk.store fault
+            ⊎ CantLock self.old handle.0 fault) }
         ensures early { (fault : Fault) → CantLock self.old handle.0 fault
             → (result ≡ Err fault) × (self.new ≡ self.old) }
         ensures already { is_loaded self.old handle.0 ≡ true → locks_of self.old.resident handle.0 < 255
@@ -404,7 +405,7 @@ impl<S: Store> FileBlocks<S> {
     /// The body of a block that is in memory.
     pub fn body(&self, handle: VmHandle) -> &BlockBody
         requires { is_loaded self.now handle.0 ≡ true }
-        ensures { option_map (λ b. b.body) (get self.now.document.blocks handle.0) ≡ Some (body_of result.now) }
+        ensures { option_map (λ b. b.body) (get self.now.document.blocks handle.0) ≡ Some (body_value result.now) }
     {
         self.cache.body(handle)
     }
@@ -445,19 +446,20 @@ impl<S: Store> FileBlocks<S> {
     /// one that changes is in memory, it takes no memory, calls no store and isn't refused for want of either.
     pub fn change(&mut self, change: &Change, direction: Direction) -> Result<(), Fault>
         // Asked of the caller.
-        requires listed { Listed (turned direction change.now) self.old.document }
-        requires unlocked { AreUnlocked (turned direction change.now) self.old.resident }
+        requires listed { CanApplyByHandle (directed direction change.now) self.old.document }
+        requires unlocked { AreUnlocked (directed direction change.now) self.old.resident }
         // What is done.
-        ensures ok { OnOk result (Makes S.facts (turned direction change.now) self.old self.new) }
-        ensures err { OnErr result (Keeps S.facts self.old self.new) }
+        ensures ok { OnOk result (IsApplied S.facts (directed direction change.now) self.old self.new) }
+        ensures err { OnErr result (KeepsBlocks S.facts self.old self.new) }
         // Refusals.
-        ensures refusals { IfErr result (IsUnready S.facts (turned direction change.now) self.old self.new) }
+        ensures refusals { IfErr result (CantPrepare S.facts (directed direction change.now) self.old self.new) }
         // When the answer is known beforehand.
-        ensures sure { blocks_in (turned direction change.now) ≡ [] → IsAtHand (turned direction change.now) self.old
-            → BodyTakes (turned direction change.now) self.old.document
+        ensures sure { incoming_blocks (directed direction change.now) ≡ []
+            → IsInMemory (directed direction change.now) self.old
+            → AllowsChange (directed direction change.now) self.old.document
             → IsOk result × (self.new.disk ≡ self.old.disk)
-            × (self.new.document ≡ made (turned direction change.now) self.old.document) }
-        ensures shut { IsOutOfReach (turned direction change.now) self.old
+            × (self.new.document ≡ after_change (directed direction change.now) self.old.document) }
+        ensures shut { IsShutOut (directed direction change.now) self.old
             → (result ≡ Err Fault.CacheFull) × (self.new ≡ self.old) }
     {
         self.turn(change, direction)
@@ -468,11 +470,12 @@ impl<S: Store> FileBlocks<S> {
     /// Where it is refused after that no block is in memory.
     pub fn change_all(&mut self, changes: &[Change], direction: Direction) -> Result<(), Fault>
         requires unmarked { self.old.disk.marked ≡ None }
-        requires listed { AllListed (turned_all direction changes.now) self.old.document }
+        requires listed { CanApplyAllByHandle (directed_all direction changes.now) self.old.document }
         requires unlocked { locked_count self.old.resident ≡ 0 }
-        ensures ok { OnOk result (MakesAll S.facts (turned_all direction changes.now) self.old self.new) }
-        ensures err { OnErr result (Keeps S.facts self.old self.new) }
-        ensures refusals { IfErr result (AreUnready S.facts (turned_all direction changes.now) self.old self.new) }
+        ensures ok { OnOk result (AreApplied S.facts (directed_all direction changes.now) self.old self.new) }
+        ensures err { OnErr result (KeepsBlocks S.facts self.old self.new) }
+        ensures refusals { IfErr result
+            (CantPrepareAll S.facts (directed_all direction changes.now) self.old self.new) }
     {
         self.cache.mark()?;
         match self.turn_all(changes, direction) {
@@ -490,16 +493,17 @@ impl<S: Store> FileBlocks<S> {
     // Carries changes out in a direction one after another, the last one first, until one is refused.
     fn turn_all(&mut self, changes: &[Change], direction: Direction) -> Result<(), Fault>
         // Asked of the caller.
-        requires listed { AllListed (turned_all direction changes.now) self.old.document }
+        requires listed { CanApplyAllByHandle (directed_all direction changes.now) self.old.document }
         requires unlocked { locked_count self.old.resident ≡ 0 }
         // What is done.
-        ensures ok { OnOk result (MakesAll S.facts (turned_all direction changes.now) self.old self.new) }
-        ensures passes { Passes S.facts self.old.disk self.new.disk }
+        ensures ok { OnOk result (AreApplied S.facts (directed_all direction changes.now) self.old self.new) }
+        ensures passes { KeepsCommitted S.facts self.old.disk self.new.disk }
         // What stays.
         ensures frames { self.new.frames ≡ self.old.frames }
         ensures locks { KeepsLocks self.old.resident self.new.resident }
         // Refusals.
-        ensures refusals { IfErr result (AreUnready S.facts (turned_all direction changes.now) self.old self.new) }
+        ensures refusals { IfErr result
+            (CantPrepareAll S.facts (directed_all direction changes.now) self.old self.new) }
     {
         self.validity();
         for change in changes.iter().rev() {
@@ -510,9 +514,9 @@ impl<S: Store> FileBlocks<S> {
 
     // So it does, in one word.
     fn turn(&mut self, change: &Change, direction: Direction) -> Result<(), Fault>
-        requires listed { Listed (turned direction change.now) self.old.document }
-        requires unlocked { AreUnlocked (turned direction change.now) self.old.resident }
-        ensures { Turns S.facts (turned direction change.now) self.old self.new result }
+        requires listed { CanApplyByHandle (directed direction change.now) self.old.document }
+        requires unlocked { AreUnlocked (directed direction change.now) self.old.resident }
+        ensures { Turns S.facts (directed direction change.now) self.old self.new result }
     {
         match change {
             Change::BlocksIn(members) => match direction {
@@ -537,7 +541,7 @@ impl<S: Store> FileBlocks<S> {
 
     // Puts each of these blocks under its handle. Memory, File.
     fn put_in(&mut self, members: &Members) -> Result<(), Fault>
-        requires { AreFree self.old.document (handles_of (saved_blocks members.now.list.items)) }
+        requires { AreFree self.old.document (handles_of (imaged_blocks members.now.list.items)) }
         ensures { Turns S.facts (Change.BlocksIn members.now) self.old self.new result }
     {
         self.cache.validity();
@@ -546,9 +550,9 @@ impl<S: Store> FileBlocks<S> {
 
     // Takes each of these blocks out. It isn't refused.
     fn take_out(&mut self, members: &Members) -> Result<(), Fault>
-        requires leave { CanLeave self.old.document (handles_of (saved_blocks members.now.list.items)) }
+        requires leave { CanRemoveByHandle self.old.document (handles_of (imaged_blocks members.now.list.items)) }
         requires unlocked { All
-            (λ h. locks_of self.old.resident h ≡ 0) (handles_of (saved_blocks members.now.list.items)) }
+            (λ h. locks_of self.old.resident h ≡ 0) (handles_of (imaged_blocks members.now.list.items)) }
         ensures { Turns S.facts (Change.BlocksOut members.now) self.old self.new result }
     {
         self.take_all(members);
@@ -556,12 +560,12 @@ impl<S: Store> FileBlocks<S> {
     }
 
     fn take_all(&mut self, members: &Members)
-        requires leave { CanLeave self.old.document (handles_of (saved_blocks members.now.list.items)) }
+        requires leave { CanRemoveByHandle self.old.document (handles_of (imaged_blocks members.now.list.items)) }
         requires unlocked { All
-            (λ h. locks_of self.old.resident h ≡ 0) (handles_of (saved_blocks members.now.list.items)) }
+            (λ h. locks_of self.old.resident h ≡ 0) (handles_of (imaged_blocks members.now.list.items)) }
         ensures disk { self.new.disk ≡ self.old.disk }
         ensures document { self.new.document
-            ≡ without_blocks self.old.document (handles_of (saved_blocks members.now.list.items)) }
+            ≡ without_blocks self.old.document (handles_of (imaged_blocks members.now.list.items)) }
         ensures frames { self.new.frames ≡ self.old.frames }
         ensures locks { KeepsLocks self.old.resident self.new.resident }
     {
@@ -590,7 +594,7 @@ impl<S: Store> FileBlocks<S> {
         direction: Direction,
     ) -> Result<(), Fault>
         requires { is_live self.old.document handle.0 ≡ true }
-        ensures { Turns S.facts (Change.Part handle (turned_part direction part.now)) self.old self.new result }
+        ensures { Turns S.facts (Change.Part handle (directed_part direction part.now)) self.old self.new result }
     {
         self.ready_part(handle, part, direction)?;
         self.carry_out_part(handle, part, direction);
@@ -607,17 +611,17 @@ impl<S: Store> FileBlocks<S> {
         // Asked of the caller.
         requires { is_live self.old.document handle.0 ≡ true }
         // What stays.
-        ensures keeps { Keeps S.facts self.old self.new }
+        ensures keeps { KeepsBlocks S.facts self.old self.new }
         // What is done.
         ensures loaded { OnOk result (is_loaded self.new handle.0 ≡ true) }
         ensures takes { OnOk result
-            (Takes (turned_part direction part.now) (block_at self.new.document handle.0).body) }
+            (AllowsPart (directed_part direction part.now) (block_at self.new.document handle.0).body) }
         // Refusals.
         ensures err { IfErr result
-            (IsUnready S.facts (Change.Part handle (turned_part direction part.now)) self.old self.new) }
+            (CantPrepare S.facts (Change.Part handle (directed_part direction part.now)) self.old self.new) }
         // When the answer is known beforehand.
         ensures sure { is_loaded self.old handle.0 ≡ true
-            → Takes (turned_part direction part.now) (block_at self.old.document handle.0).body
+            → AllowsPart (directed_part direction part.now) (block_at self.old.document handle.0).body
             → IsOk result × (self.new.disk ≡ self.old.disk) × (self.new.document ≡ self.old.document) }
         ensures shut { is_shut_out self.old handle.0 ≡ true → (result ≡ Err Fault.CacheFull) × (self.new ≡ self.old) }
     {
@@ -632,9 +636,9 @@ impl<S: Store> FileBlocks<S> {
     // Changes the body of a block in memory in place.
     fn carry_out_part(&mut self, handle: VmHandle, part: &PartChange, direction: Direction)
         requires loaded { is_loaded self.old handle.0 ≡ true }
-        requires takes { Takes (turned_part direction part.now) (block_at self.old.document handle.0).body }
+        requires takes { AllowsPart (directed_part direction part.now) (block_at self.old.document handle.0).body }
         ensures { self.new
-            ≡ record self.old { document = part_made handle.0 (turned_part direction part.now) self.old.document } }
+            ≡ record self.old { document = after_part handle.0 (directed_part direction part.now) self.old.document } }
     {
         if self.is_heap(handle) {
             carry_out_heap(self.cache.heap_mut(handle), part, direction);
@@ -653,7 +657,7 @@ impl<S: Store> FileBlocks<S> {
         requires { is_live self.old.document handle.0 ≡ true }
         ensures { Turns S.facts (Change.Attributes handle old new) self.old self.new result }
     {
-        let given = fitted(self.is_heap(handle), new);
+        let given = attributes_for_kind(self.is_heap(handle), new);
         self.cache.set_attributes(handle, given);
         Ok(())
     }
@@ -669,8 +673,8 @@ impl<S: Store> FileBlocks<S> {
 }
 
 // Attributes as a block of a kind has them.
-fn fitted(is_heap: bool, attributes: Attributes) -> Attributes
-    ensures { result ≡ fitted is_heap attributes }
+fn attributes_for_kind(is_heap: bool, attributes: Attributes) -> Attributes
+    ensures { result ≡ attributes_for_kind is_heap attributes }
 {
     if is_heap {
         attributes

@@ -1,9 +1,9 @@
 //! Blocks that come in or go together.
 ghost use Rattle.std.specs.Prelude.{◌≡◌, ◌≤◌, ◌∷◌, [], IfOk, length};
 ghost use Rattle.geos_model.specs.Document.{most_blocks};
-ghost use Rattle.vm_file.specs.Members.{saved_block, saved_blocks};
+ghost use Rattle.vm_file.specs.Members.{imaged_block, imaged_blocks};
 
-use crate::{Member, SavedBlock};
+use crate::{BlockImage, Member};
 use geos_model::VmHandle;
 use std::alloc::{AllocError, Global};
 
@@ -22,8 +22,8 @@ impl Members {
     ghost use Rattle.geos_model.specs.Cost.{images_length};
 
     /// One block alone.
-    pub fn one(alloc: Global, handle: VmHandle, block: SavedBlock) -> Result<Members, AllocError>
-        ensures { IfOk result (λ members. saved_blocks members.list.items ≡ (handle.0, saved_block block) ∷ []) }
+    pub fn one(alloc: Global, handle: VmHandle, block: BlockImage) -> Result<Members, AllocError>
+        ensures { IfOk result (λ members. imaged_blocks members.list.items ≡ (handle.0, imaged_block block) ∷ []) }
     {
         let mut list = Vec::new(alloc);
         list.push(Member { handle, block })?;
@@ -40,7 +40,7 @@ impl Members {
 
     /// How many bytes their images have.
     pub(crate) fn weight(&self) -> u64
-        ensures { result ≡ images_length (saved_blocks self.now.list.items) }
+        ensures { result ≡ images_length (imaged_blocks self.now.list.items) }
     {
         let mut total = 0;
         for member in &self.list {

@@ -3,10 +3,10 @@ ghost use Rattle.std.specs.Prelude.{◌≡◌, ◌+◌, ◌≤◌, ◌↔◌, �
 ghost use Rattle.std.specs.FinMap.{get, insert, contains_key};
 ghost use Rattle.geos_model.specs.Heap.{chunk_bytes, fits_with, is_chunk_handle, is_heap_map};
 ghost use Rattle.geos_model.specs.declared.command.Body.TheVariants as bodies;
-ghost use Rattle.block_cache.specs.Bodies.{body_of};
+ghost use Rattle.block_cache.specs.Bodies.{body_value};
 ghost use Rattle.vm_blocks.specs.Allowing.{AllowsRaw, AllowsChunk, AllowsNewChunk};
-ghost use Rattle.vm_blocks.specs.Changes.{bytes_of, turned_part};
-ghost use Rattle.vm_blocks.specs.Parts.{Takes, RawTakes, HeapTakes, body_made};
+ghost use Rattle.vm_blocks.specs.Changes.{content_bytes, directed_part};
+ghost use Rattle.vm_blocks.specs.Parts.{AllowsPart, RawAllowsPart, HeapAllowsPart, body_after_part};
 
 use crate::{BlockBody, Content, Direction, PartChange};
 use chunk_edits::{apply, apply_back, apply_raw, apply_raw_back};
@@ -16,7 +16,7 @@ use raw_region::{RawBody, SIZE};
 
 /// Whether a body takes a change of a part of it: it is of the kind, and has the range, the room and the chunk.
 pub(crate) fn can_take(body: &BlockBody, change: &PartChange, direction: Direction) -> bool
-    ensures { IsTrue result ↔ Takes (turned_part direction change.now) (body_of body.now) }
+    ensures { IsTrue result ↔ AllowsPart (directed_part direction change.now) (body_value body.now) }
 {
     match body {
         BlockBody::Raw(body) => raw_can_take(body, change, direction),
@@ -26,7 +26,7 @@ pub(crate) fn can_take(body: &BlockBody, change: &PartChange, direction: Directi
 
 /// Of a raw body.
 fn raw_can_take(body: &RawBody, change: &PartChange, direction: Direction) -> bool
-    ensures { IsTrue result ↔ RawTakes (turned_part direction change.now) body.now }
+    ensures { IsTrue result ↔ RawAllowsPart (directed_part direction change.now) body.now }
 {
     match change {
         PartChange::Raw(splice) => {
@@ -42,7 +42,7 @@ fn raw_can_take(body: &RawBody, change: &PartChange, direction: Direction) -> bo
 
 /// Of a heap.
 fn heap_can_take(heap: &Heap, change: &PartChange, direction: Direction) -> bool
-    ensures { IsTrue result ↔ HeapTakes (turned_part direction change.now) heap.now.chunks }
+    ensures { IsTrue result ↔ HeapAllowsPart (directed_part direction change.now) heap.now.chunks }
 {
     match change {
         PartChange::Chunk(chunk, splice) => {
@@ -106,7 +106,7 @@ fn has_room(heap: &Heap, chunk: ChunkHandle, rest: usize, new: usize) -> bool
 
 /// Whether a heap takes a new chunk of this content: its handle can be one and is free, and there is room.
 fn allows_new(heap: &Heap, chunk: ChunkHandle, content: &Content) -> bool
-    ensures { IsTrue result ↔ AllowsNewChunk heap.now.chunks chunk.0 (bytes_of content.now) }
+    ensures { IsTrue result ↔ AllowsNewChunk heap.now.chunks chunk.0 (content_bytes content.now) }
 {
     if !is_handle(chunk) || heap.chunk(chunk).is_some() {
         return false;
@@ -137,8 +137,8 @@ fn is_handle(chunk: ChunkHandle) -> bool
 
 /// Carries a change of a part of a raw body out in place.
 pub(crate) fn carry_out_raw(body: &mut RawBody, change: &PartChange, direction: Direction)
-    requires { RawTakes (turned_part direction change.now) body.old }
-    ensures { bodies.Raw body.new ≡ body_made (turned_part direction change.now) (bodies.Raw body.old) }
+    requires { RawAllowsPart (directed_part direction change.now) body.old }
+    ensures { bodies.Raw body.new ≡ body_after_part (directed_part direction change.now) (bodies.Raw body.old) }
 {
     match change {
         PartChange::Raw(splice) => match direction {
@@ -153,8 +153,9 @@ pub(crate) fn carry_out_raw(body: &mut RawBody, change: &PartChange, direction: 
 
 /// So of a heap.
 pub(crate) fn carry_out_heap(heap: &mut Heap, change: &PartChange, direction: Direction)
-    requires { HeapTakes (turned_part direction change.now) heap.old.chunks }
-    ensures { bodies.Heap heap.new.chunks ≡ body_made (turned_part direction change.now) (bodies.Heap heap.old.chunks) }
+    requires { HeapAllowsPart (directed_part direction change.now) heap.old.chunks }
+    ensures { bodies.Heap heap.new.chunks ≡ body_after_part (directed_part direction change.now)
+        (bodies.Heap heap.old.chunks) }
 {
     match change {
         PartChange::Chunk(chunk, splice) => match direction {
@@ -175,8 +176,8 @@ pub(crate) fn carry_out_heap(heap: &mut Heap, change: &PartChange, direction: Di
 
 /// A new chunk of this content, under a free handle.
 fn bring_in(heap: &mut Heap, chunk: ChunkHandle, content: &Content)
-    requires { AllowsNewChunk heap.old.chunks chunk.0 (bytes_of content.now) }
-    ensures { heap.new.chunks ≡ insert heap.old.chunks chunk.0 (bytes_of content.now) }
+    requires { AllowsNewChunk heap.old.chunks chunk.0 (content_bytes content.now) }
+    ensures { heap.new.chunks ≡ insert heap.old.chunks chunk.0 (content_bytes content.now) }
 {
     match content {
         Content::Bytes(bytes) => fill_chunk(heap, chunk, bytes.as_slice()),

@@ -1,21 +1,22 @@
 //! A block with its body, as it is now.
 ghost use Rattle.std.specs.Prelude.{◌≡◌, IfOk};
-ghost use Rattle.block_cache.specs.Bodies.{body_of};
+ghost use Rattle.block_cache.specs.Bodies.{body_value};
 ghost use Rattle.geos_model.specs.Document.{IsTyped, is_heap_body};
-ghost use Rattle.vm_file.specs.Members.{saved_block};
+ghost use Rattle.vm_file.specs.Members.{imaged_block};
 
-use crate::{BlockBody, SavedBlock};
+use crate::{BlockBody, BlockImage};
 use geos_model::Attributes;
 use std::alloc::{AllocError, Global};
 
 /// A block with this body, as it is now. Only a heap has a type.
-pub fn saved_block(
+pub fn imaged_block(
     alloc: Global,
     attributes: Attributes,
     body: &BlockBody,
-) -> Result<SavedBlock, AllocError>
-    requires { IsTyped (is_heap_body (body_of body.now)) attributes }
-    ensures { IfOk result (λ saved. saved_block saved ≡ record { attributes = attributes; body = body_of body.now }) }
+) -> Result<BlockImage, AllocError>
+    requires { IsTyped (is_heap_body (body_value body.now)) attributes }
+    ensures { IfOk result
+        (λ saved. imaged_block saved ≡ record { attributes = attributes; body = body_value body.now }) }
 {
-    Ok(SavedBlock::new(attributes, body.image(alloc)?))
+    Ok(BlockImage::new(attributes, body.image(alloc)?))
 }

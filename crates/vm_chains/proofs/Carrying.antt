@@ -6,7 +6,7 @@ use Rattle.std.proofs.lemmas.List.Elements.{All-map, Contains-get_or}
 use Rattle.std.proofs.lemmas.List.Folds.{list_any_at}
 use Rattle.std.specs.List.{Contains, list_any}
 use Rattle.std.specs.FinMap.{get}
-use Rattle.geos_model.specs.Chain.{blocks_of, chain, chain_blocks, free_conditions, free_handles, new_handles}
+use Rattle.geos_model.specs.Chain.{chain_blocks_of, chain, chain_blocks, free_conditions, free_handles, new_handles}
 use Rattle.geos_model.specs.ElementArray.{all_distinct}
 use Rattle.geos_model.specs.Document.{Block, Document, block_at, handles_of, is_live}
 use Rattle.geos_model.specs.Refusal.{Conditions, first_refusal}
@@ -16,15 +16,15 @@ use Rattle.geos_model.proofs.Refusals.{none_applies, or_none}
 use Rattle.geos_model.proofs.Chains.{chain-members}
 use Rattle.geos_model.proofs.ChainCopies.{new-new}
 use Rattle.geos_model.proofs.ChainEdits.{blocks_of-handles}
-use Rattle.vm_file.specs.Members.{saved_block, saved_blocks}
-use Rattle.vm_blocks.specs.Changes.{AreFree, CanAllGo, CanGo}
+use Rattle.vm_file.specs.Members.{imaged_block, imaged_blocks}
+use Rattle.vm_blocks.specs.Changes.{AreFree, CanRemoveAll, CanRemove}
 use Rattle.vm_blocks.specs.declared.member.Members.{Members}
 use Rattle.geos_model.specs.declared.handle.VmHandle.{VmHandle}
 use Rattle.vm_chains.specs.Numbers.{numbers}
-use Rattle.vm_chains.specs.Answers.{Answers}
-use Rattle.vm_blocks.specs.Preparing.{CanLeave}
+use Rattle.vm_chains.specs.Answers.{AnswersChain}
+use Rattle.vm_blocks.specs.Preparing.{CanRemoveByHandle}
 use Rattle.vm_chains.specs.Walking.{AreBlocks, BeginsWith}
-use Rattle.vm_file.specs.Disk.{Drifts}
+use Rattle.vm_file.specs.Disk.{SameUnlessCorrupt}
 
 none_there : (o : Option Block) → is_some o ≡ false → o ≡ None
 none_there None no_ = refl
@@ -49,7 +49,7 @@ new_free d n enough =
     }
 
 -- The blocks of a chain can go, where none of them is the map block.
-blocks_go : (d : Document) (h : ℕ) → first_refusal (free_conditions d h) ≡ None → CanAllGo d (blocks_of d (chain_blocks d h))
+blocks_go : (d : Document) (h : ℕ) → first_refusal (free_conditions d h) ≡ None → CanRemoveAll d (chain_blocks_of d (chain_blocks d h))
 blocks_go d h none =
     let cs : Conditions = free_conditions d h in
     let hs : List ℕ = chain_blocks d h in
@@ -57,55 +57,55 @@ blocks_go d h none =
     let no_map = (or_none (none_applies cs none IsMap refl)).0 in
     let other : (x : ℕ) → Contains hs x → d.map_block ≢ x = λ x there same. true≢false (sym (list_any_at (λ y. y == d.map_block) hs there.0 x there.1 (ap (λ (y : ℕ). y == d.map_block) there.2 ∙ eq-eqb x d.map_block (sym same))) ∙ no_map) in
     record {
-      go = All-map (λ p. CanGo d p.0 p.1) (λ x. (x, block_at d x)) hs (λ i x within. let there = Contains-get_or hs i x within in record { stands = some_there (get d.blocks (get_or hs i x)) _ (are.live (get_or hs i x) there); other = other (get_or hs i x) there });
+      go = All-map (λ p. CanRemove d p.0 p.1) (λ x. (x, block_at d x)) hs (λ i x within. let there = Contains-get_or hs i x within in record { stands = some_there (get d.blocks (get_or hs i x)) _ (are.live (get_or hs i x) there); other = other (get_or hs i x) there });
       distinct = subst (λ (xs : List ℕ). all_distinct xs ≡ true) (sym (blocks_of-handles d hs)) are.once;
     }
 
 -- What is free or can go is known by handle, so that it stays.
 
-free_stays : (honest : Bool) (d now : Document) (hs : List ℕ) → Drifts honest d now → AreFree d hs → AreFree now hs
-free_stays honest d now hs drifts are = record {
-  free = λ i x within. let was = are.free i x within in record { handle = was.handle; free = none_there (get now.blocks (get_or hs i x)) (drifts.live (get_or hs i x) ∙ ap (λ (o : Option Block). is_some o) was.free) };
+free_stays : (honest : Bool) (d now : Document) (hs : List ℕ) → SameUnlessCorrupt honest d now → AreFree d hs → AreFree now hs
+free_stays honest d now hs unless_corrupt are = record {
+  free = λ i x within. let was = are.free i x within in record { handle = was.handle; free = none_there (get now.blocks (get_or hs i x)) (unless_corrupt.live (get_or hs i x) ∙ ap (λ (o : Option Block). is_some o) was.free) };
   distinct = are.distinct;
 }
 
-leaving : (d : Document) (hs : List VmHandle) → AreBlocks d hs → list_any (λ h. h.0 == d.map_block) hs ≡ false → CanLeave d (numbers hs)
+leaving : (d : Document) (hs : List VmHandle) → AreBlocks d hs → list_any (λ h. h.0 == d.map_block) hs ≡ false → CanRemoveByHandle d (numbers hs)
 leaving d hs are other = record {
   live = All-map (λ h. is_live d h ≡ true) (λ (h : VmHandle). h.0) hs are.live;
   distinct = are.distinct;
   others = All-map (λ h. d.map_block ≢ h) (λ (h : VmHandle). h.0) hs (λ i h within same. true≢false (sym (list_any_at (λ (x : VmHandle). x.0 == d.map_block) hs i h within (eq-eqb (get_or hs i h).0 d.map_block (sym same))) ∙ other));
 }
 
-leaving_stays : (honest : Bool) (d now : Document) (hs : List ℕ) → Drifts honest d now → CanLeave d hs → CanLeave now hs
-leaving_stays honest d now hs drifts are = record {
-  live = λ i h within. drifts.live (get_or hs i h) ∙ are.live i h within;
+leaving_stays : (honest : Bool) (d now : Document) (hs : List ℕ) → SameUnlessCorrupt honest d now → CanRemoveByHandle d hs → CanRemoveByHandle now hs
+leaving_stays honest d now hs unless_corrupt are = record {
+  live = λ i h within. unless_corrupt.live (get_or hs i h) ∙ are.live i h within;
   distinct = are.distinct;
-  others = λ i h within same. are.others i h within (sym drifts.map_block ∙ same);
+  others = λ i h within same. are.others i h within (sym unless_corrupt.map_block ∙ same);
 }
 
 -- So plans apply.
 
-pub copy_applies : (honest : Bool) (d now : Document) (n : ℕ) (new : List VmHandle) (result : Result Members Fault) → Drifts honest d now → numbers new ≡ new_handles d n → n ≤ length new
-    → IfOk result (λ plan. handles_of (saved_blocks plan.list.items) ≡ numbers new) → IfOk result (λ plan. AreFree now (handles_of (saved_blocks plan.list.items)))
-copy_applies honest d now n new (Err fault) drifts is enough handles = tt
-copy_applies honest d now n new (Ok plan) drifts is enough handles =
+pub copy_applies : (honest : Bool) (d now : Document) (n : ℕ) (new : List VmHandle) (result : Result Members Fault) → SameUnlessCorrupt honest d now → numbers new ≡ new_handles d n → n ≤ length new
+    → IfOk result (λ plan. handles_of (imaged_blocks plan.list.items) ≡ numbers new) → IfOk result (λ plan. AreFree now (handles_of (imaged_blocks plan.list.items)))
+copy_applies honest d now n new (Err fault) unless_corrupt is enough handles = tt
+copy_applies honest d now n new (Ok plan) unless_corrupt is enough handles =
     let many : length (new_handles d n) ≡ length new = ap length (sym is) ∙ length-map new (λ h. h.0) in
-    subst (AreFree now) (sym (handles ∙ is)) (free_stays honest d now (new_handles d n) drifts (new_free d n (omega (arith, many, enough))))
+    subst (AreFree now) (sym (handles ∙ is)) (free_stays honest d now (new_handles d n) unless_corrupt (new_free d n (omega (arith, many, enough))))
 
 pub copy_some : (root : ℕ) (hs new : List VmHandle) (result : Result Members Fault) → BeginsWith root (numbers hs) → length hs ≤ length new
-    → IfOk result (λ plan. handles_of (saved_blocks plan.list.items) ≡ numbers new) → IfOk result (λ plan. 0 < length plan.list.items)
+    → IfOk result (λ plan. handles_of (imaged_blocks plan.list.items) ≡ numbers new) → IfOk result (λ plan. 0 < length plan.list.items)
 copy_some root hs new (Err fault) begins enough handles = tt
 copy_some root hs new (Ok plan) begins enough handles =
     let met : suc (length begins.0) ≡ length hs = sym (ap length begins.1) ∙ length-map hs (λ h. h.0) in
     let many : length plan.list.items ≡ length new =
-    sym (length-map plan.list.items (λ m. (m.handle.0, saved_block m.block))) ∙ sym (length-map (saved_blocks plan.list.items) (λ p. p.0)) ∙ ap length handles ∙ length-map new (λ h. h.0) in
+    sym (length-map plan.list.items (λ m. (m.handle.0, imaged_block m.block))) ∙ sym (length-map (imaged_blocks plan.list.items) (λ p. p.0)) ∙ ap length handles ∙ length-map new (λ h. h.0) in
     omega (arith, met, many, enough)
 
-pub free_leaves : (honest : Bool) (d now : Document) (hs : List VmHandle) (result : Result Members Fault) → Drifts honest d now → AreBlocks d hs → list_any (λ h. h.0 == d.map_block) hs ≡ false
-    → IfOk result (λ plan. handles_of (saved_blocks plan.list.items) ≡ numbers hs) → IfOk result (λ plan. CanLeave now (handles_of (saved_blocks plan.list.items)))
-free_leaves honest d now hs (Err fault) drifts are other handles = tt
-free_leaves honest d now hs (Ok plan) drifts are other handles = subst (CanLeave now) (sym handles) (leaving_stays honest d now (numbers hs) drifts (leaving d hs are other))
+pub free_leaves : (honest : Bool) (d now : Document) (hs : List VmHandle) (result : Result Members Fault) → SameUnlessCorrupt honest d now → AreBlocks d hs → list_any (λ h. h.0 == d.map_block) hs ≡ false
+    → IfOk result (λ plan. handles_of (imaged_blocks plan.list.items) ≡ numbers hs) → IfOk result (λ plan. CanRemoveByHandle now (handles_of (imaged_blocks plan.list.items)))
+free_leaves honest d now hs (Err fault) unless_corrupt are other handles = tt
+free_leaves honest d now hs (Ok plan) unless_corrupt are other handles = subst (CanRemoveByHandle now) (sym handles) (leaving_stays honest d now (numbers hs) unless_corrupt (leaving d hs are other))
 
-pub free_applies : (lacks : Fault → Type 0) (d : Document) (h : ℕ) (result : Result Members Fault) → Answers lacks (free_conditions d h) (λ plan. saved_blocks plan.list.items ≡ blocks_of d (chain_blocks d h)) result → IfOk result (λ plan. CanAllGo d (saved_blocks plan.list.items))
-free_applies lacks d h (Ok plan) is = subst (CanAllGo d) (sym is.1) (blocks_go d h is.0)
+pub free_applies : (lacks : Fault → Type 0) (d : Document) (h : ℕ) (result : Result Members Fault) → AnswersChain lacks (free_conditions d h) (λ plan. imaged_blocks plan.list.items ≡ chain_blocks_of d (chain_blocks d h)) result → IfOk result (λ plan. CanRemoveAll d (imaged_blocks plan.list.items))
+free_applies lacks d h (Ok plan) is = subst (CanRemoveAll d) (sym is.1) (blocks_go d h is.0)
 free_applies lacks d h (Err fault) is = tt

@@ -13,7 +13,7 @@ use Rattle.geos_model.specs.ElementArray.{all_distinct}
 use Rattle.geos_model.specs.declared.handle.VmHandle.{VmHandle}
 use Rattle.geos_model.specs.declared.block.Attributes.{Attributes}
 use Rattle.vm_chains.specs.Numbers.{numbers}
-use Rattle.vm_chains.specs.Walking.{AreMembers}
+use Rattle.vm_chains.specs.Walking.{CanBeMembers}
 use Rattle.vm_chains.proofs.WalkLemmas.{blocks_from-nil, blocks_from-member, blocks_from-other, blocks_from-full}
 
 -- distinct blocks of a chain, at most so many
@@ -58,7 +58,7 @@ pub blocks_are : (d : Document) (root : ℕ) (hs : List ℕ) → chain d root �
 blocks_are d root hs e = ap (λ (o : Option (List ℕ)). unwrap_or o []) e
 
 -- The same of the handles of a walk.
-pub are_members : (d : Document) (root : ℕ) (hs : List VmHandle) → chain d root ≡ Some (numbers hs) → AreMembers d hs
+pub are_members : (d : Document) (root : ℕ) (hs : List VmHandle) → chain d root ≡ Some (numbers hs) → CanBeMembers d hs
 are_members d root hs is =
     let all = chain_members d root (numbers hs) is in
     λ i h within. subst (λ (n : ℕ). is_member d n ≡ true) (get_or-map (λ (h : VmHandle). h.0) hs i h h.0 within) (all.0.members i h.0 (omega (arith, length-map hs (λ (h : VmHandle). h.0))))

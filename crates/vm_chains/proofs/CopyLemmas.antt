@@ -6,7 +6,7 @@ use Rattle.std.specs.List.{zip, filter, range_with_len}
 use Rattle.geos_model.specs.Chain.{free_handles, name_of, relinked_block}
 use Rattle.geos_model.specs.Document.{Block, Document, block_at, is_live, most_blocks, vm_handles}
 use Rattle.geos_model.specs.declared.handle.VmHandle.{VmHandle}
-use Rattle.vm_file.specs.Members.{saved_block, saved_blocks}
+use Rattle.vm_file.specs.Members.{imaged_block, imaged_blocks}
 use Rattle.vm_chains.specs.Numbers.{numbers}
 use Rattle.vm_file.specs.declared.member.Member.{Member}
 
@@ -19,13 +19,13 @@ module _ (d : Document) (hs new : List VmHandle) where
   copies_next i h n within there = λ j. copies_from d hs new (drop_more hs i h within j) (drop_more new i n there j)
 
   -- one more block is planned
-  pub copies_more : (plan : List Member) (m : Member) (i : ℕ) (h n : VmHandle) (all : List (ℕ × Block)) → i < length hs → i < length new → m.handle ≡ get_or new i n → saved_block m.block ≡ relinked_block (name_of (zip (numbers hs) (numbers new))) (block_at d (get_or hs i h).0) → saved_blocks plan ++ copies_from d hs new (drop i hs) (drop i new) ≡ all → saved_blocks (plan ++ m ∷ []) ++ copies_from d hs new (drop (i + 1) hs) (drop (i + 1) new) ≡ all
+  pub copies_more : (plan : List Member) (m : Member) (i : ℕ) (h n : VmHandle) (all : List (ℕ × Block)) → i < length hs → i < length new → m.handle ≡ get_or new i n → imaged_block m.block ≡ relinked_block (name_of (zip (numbers hs) (numbers new))) (block_at d (get_or hs i h).0) → imaged_blocks plan ++ copies_from d hs new (drop i hs) (drop i new) ≡ all → imaged_blocks (plan ++ m ∷ []) ++ copies_from d hs new (drop (i + 1) hs) (drop (i + 1) new) ≡ all
   copies_more plan m i h n all within there handle block so_far =
       let rest = copies_from d hs new (drop (i + 1) hs) (drop (i + 1) new) in
-      ap (λ (xs : List (ℕ × Block)). xs ++ rest) (map-append (λ (x : Member). (x.handle.0, saved_block x.block)) plan (m ∷ []))
-      ∙ append_assoc (saved_blocks plan) ((m.handle.0, saved_block m.block) ∷ []) rest
-      ∙ (λ j. saved_blocks plan ++ ((handle j).0, block j) ∷ rest)
-      ∙ ap (λ (xs : List (ℕ × Block)). saved_blocks plan ++ xs) (sym (copies_next i h n within there)) ∙ so_far
+      ap (λ (xs : List (ℕ × Block)). xs ++ rest) (map-append (λ (x : Member). (x.handle.0, imaged_block x.block)) plan (m ∷ []))
+      ∙ append_assoc (imaged_blocks plan) ((m.handle.0, imaged_block m.block) ∷ []) rest
+      ∙ (λ j. imaged_blocks plan ++ ((handle j).0, block j) ∷ rest)
+      ∙ ap (λ (xs : List (ℕ × Block)). imaged_blocks plan ++ xs) (sym (copies_next i h n within there)) ∙ so_far
 
 -- Free handles, looked for one by one.
 

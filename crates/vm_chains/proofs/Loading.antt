@@ -13,8 +13,8 @@ use Rattle.geos_model.specs.declared.fault.Fault.TheVariants.{Damaged, NoBlock}
 use Rattle.geos_model.specs.declared.handle.VmHandle.{VmHandle}
 use Rattle.geos_model.specs.declared.block.Attributes.{Attributes}
 use Rattle.block_cache.specs.State.{CacheState}
-use Rattle.vm_blocks.specs.Keeping.{Keeps, IsSteady, Lacks, LacksFrame, is_full}
-use Rattle.vm_blocks.proofs.KeepingLaws.{keeps-drifts, keeps-full, keeps-same, keeps-was_steady, lacks-damaged, open-shut}
+use Rattle.vm_blocks.specs.Keeping.{KeepsBlocks, IsHonest, IsEnvironmentFault, IsCacheFull, is_full}
+use Rattle.vm_blocks.proofs.KeepingLaws.{keeps-unless_corrupt, keeps-full, keeps-same, keeps-was_steady, lacks-damaged, open-shut}
 use Rattle.vm_chains.specs.Walking.{AreBlocks}
 
 -- the fault that `?` hands on
@@ -52,11 +52,11 @@ block_read d h attributes body is read = by_block (get d.blocks h) is read
     by_block None same there = absurd (cc there)
     by_block (Some b) same there = let has : body ≡ b.body = cc there in λ i. record { attributes = same i; body = has i }
 
-module _ {S : Type 0} (facts : S → StoreFacts) (a b : CacheState S) (keeps : Keeps facts a b) where
+module _ {S : Type 0} (facts : S → StoreFacts) (a b : CacheState S) (keeps : KeepsBlocks facts a b) where
   -- What is known by handle stays.
 
   pub still_live : (h : ℕ) → is_live a.document h ≡ true → is_live b.document h ≡ true
-  still_live h live = (keeps-drifts facts a b keeps).live h ∙ live
+  still_live h live = (keeps-unless_corrupt facts a b keeps).live h ∙ live
 
   pub still_room : is_full a ≡ false → is_full b ≡ false
   still_room room = keeps-full facts a b keeps ∙ room
@@ -71,23 +71,23 @@ module _ {S : Type 0} (facts : S → StoreFacts) (a b : CacheState S) (keeps : K
 
   -- What is known of bodies stays over a steady store.
 
-  pub still : (P : Document → Type 0) → (IsSteady facts a.disk.store → P a.document) → IsSteady facts a.disk.store → P b.document
+  pub still : (P : Document → Type 0) → (IsHonest facts a.disk.store → P a.document) → IsHonest facts a.disk.store → P b.document
   still P was steady = subst P (sym (keeps-same facts a b keeps steady)) (was steady)
 
-  pub still_then : (P : Document → Type 0) → (IsSteady facts a.disk.store → P a.document) → IsSteady facts b.disk.store → P b.document
+  pub still_then : (P : Document → Type 0) → (IsHonest facts a.disk.store → P a.document) → IsHonest facts b.disk.store → P b.document
   still_then P was steady = still P was (keeps-was_steady facts a b keeps steady)
 
   -- a live block for which there is room is loaded, or what a load needs is lacking
   pub load_lacks : (h : ℕ) (fault : Fault) → is_full a ≡ false → is_live a.document h ≡ true
-      → Lacks facts a.disk.store b.disk.store fault ⊎ (((fault ≡ NoBlock) × (is_live b.document h ≡ false)) ⊎ LacksFrame a h fault) → Lacks facts a.disk.store b.disk.store fault
-  load_lacks h fault room live refused = elim refused as (λ _. Lacks facts a.disk.store b.disk.store fault) [
+      → IsEnvironmentFault facts a.disk.store b.disk.store fault ⊎ (((fault ≡ NoBlock) × (is_live b.document h ≡ false)) ⊎ IsCacheFull a h fault) → IsEnvironmentFault facts a.disk.store b.disk.store fault
+  load_lacks h fault room live refused = elim refused as (λ _. IsEnvironmentFault facts a.disk.store b.disk.store fault) [
     | inl lacks ↦ lacks
-    | inr other ↦ elim other as (λ _. Lacks facts a.disk.store b.disk.store fault) [
+    | inr other ↦ elim other as (λ _. IsEnvironmentFault facts a.disk.store b.disk.store fault) [
       | inl none ↦ absurd (true≢false (sym (still_live h live) ∙ none.1))
       | inr full ↦ absurd (true≢false (sym full.1 ∙ open-shut a h room))
     ]
   ]
 
-  -- a block that isn't what it was comes from a store that isn't steady
-  pub other_now : (test : Document → Bool) → (IsSteady facts a.disk.store → test a.document ≡ true) → test b.document ≡ false → Lacks facts a.disk.store b.disk.store Damaged
+  -- a block that isn't what it was comes from a store that isn't honest
+  pub other_now : (test : Document → Bool) → (IsHonest facts a.disk.store → test a.document ≡ true) → test b.document ≡ false → IsEnvironmentFault facts a.disk.store b.disk.store Damaged
   other_now test was is = lacks-damaged facts a.disk.store b.disk.store (λ steady. true≢false (sym (still (λ d. test d ≡ true) was steady) ∙ is))

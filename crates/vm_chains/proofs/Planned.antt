@@ -1,28 +1,28 @@
 -- Plans to which one more block is added.
 use Rattle.std.proofs.Common.{◌≡◌, ◌+◌, ◌<◌, ℕ, List, [], ◌∷◌, ◌++◌, length, take, get_or, sym, ap, ◌∙◌}
 use Rattle.std.proofs.lemmas.List.{map-append, take_more}
-use Rattle.geos_model.specs.Chain.{blocks_of}
+use Rattle.geos_model.specs.Chain.{chain_blocks_of}
 use Rattle.geos_model.specs.Document.{Block, Document, block_at, handles_of}
 use Rattle.geos_model.specs.declared.handle.VmHandle.{VmHandle}
-use Rattle.vm_file.specs.Members.{saved_block, saved_blocks}
+use Rattle.vm_file.specs.Members.{imaged_block, imaged_blocks}
 use Rattle.vm_file.specs.declared.member.Member.{Member}
 use Rattle.vm_chains.specs.Numbers.{numbers}
 
 module _ (plan : List Member) (m : Member) (i : ℕ) (hs : List VmHandle) (h : VmHandle) (within : i < length hs) (handle : m.handle ≡ get_or hs i h) where
-  one_more : saved_blocks (plan ++ m ∷ []) ≡ saved_blocks plan ++ (m.handle.0, saved_block m.block) ∷ []
-  one_more = map-append (λ (x : Member). (x.handle.0, saved_block x.block)) plan (m ∷ [])
+  one_more : imaged_blocks (plan ++ m ∷ []) ≡ imaged_blocks plan ++ (m.handle.0, imaged_block m.block) ∷ []
+  one_more = map-append (λ (x : Member). (x.handle.0, imaged_block x.block)) plan (m ∷ [])
 
   numbers_more : numbers (take (i + 1) hs) ≡ numbers (take i hs) ++ (get_or hs i h).0 ∷ []
   numbers_more = ap numbers (take_more hs i h within) ∙ map-append (λ (x : VmHandle). x.0) (take i hs) (get_or hs i h ∷ [])
 
   -- the handles of the plan are those so far
-  pub handles_more : handles_of (saved_blocks plan) ≡ numbers (take i hs) → handles_of (saved_blocks (plan ++ m ∷ [])) ≡ numbers (take (i + 1) hs)
+  pub handles_more : handles_of (imaged_blocks plan) ≡ numbers (take i hs) → handles_of (imaged_blocks (plan ++ m ∷ [])) ≡ numbers (take (i + 1) hs)
   handles_more so_far =
-      ap (λ (ps : List (ℕ × Block)). handles_of ps) one_more ∙ map-append (λ (p : ℕ × Block). p.0) (saved_blocks plan) ((m.handle.0, saved_block m.block) ∷ [])
+      ap (λ (ps : List (ℕ × Block)). handles_of ps) one_more ∙ map-append (λ (p : ℕ × Block). p.0) (imaged_blocks plan) ((m.handle.0, imaged_block m.block) ∷ [])
       ∙ (λ j. so_far j ++ (handle j).0 ∷ []) ∙ sym numbers_more
 
   -- its blocks are those so far, as they are
-  pub saved_more : (d : Document) → saved_block m.block ≡ block_at d (get_or hs i h).0 → saved_blocks plan ≡ blocks_of d (numbers (take i hs)) → saved_blocks (plan ++ m ∷ []) ≡ blocks_of d (numbers (take (i + 1) hs))
+  pub saved_more : (d : Document) → imaged_block m.block ≡ block_at d (get_or hs i h).0 → imaged_blocks plan ≡ chain_blocks_of d (numbers (take i hs)) → imaged_blocks (plan ++ m ∷ []) ≡ chain_blocks_of d (numbers (take (i + 1) hs))
   saved_more d block so_far =
       one_more ∙ (λ j. so_far j ++ ((handle j).0, block j) ∷ [])
-      ∙ sym (ap (λ (hs : List ℕ). blocks_of d hs) numbers_more ∙ map-append (λ (x : ℕ). (x, block_at d x)) (numbers (take i hs)) ((get_or hs i h).0 ∷ []))
+      ∙ sym (ap (λ (hs : List ℕ). chain_blocks_of d hs) numbers_more ∙ map-append (λ (x : ℕ). (x, block_at d x)) (numbers (take i hs)) ((get_or hs i h).0 ∷ []))

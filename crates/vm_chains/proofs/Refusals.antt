@@ -7,8 +7,8 @@ use Rattle.geos_model.specs.Document.{Document, is_live, is_raw}
 use Rattle.geos_model.specs.Refusal.{Conditions, first_refusal}
 use Rattle.geos_model.specs.declared.fault.Fault.{Fault}
 use Rattle.geos_model.specs.declared.fault.Fault.TheVariants.{NoBlock, WrongKind, BadChain, IsMap, NoHandles}
-use Rattle.vm_chains.specs.Answers.{Answers, Refuses}
-use Rattle.vm_blocks.specs.Kinds.{IsOfOther}
+use Rattle.vm_chains.specs.Answers.{AnswersChain, RefusesChain}
+use Rattle.vm_blocks.specs.Kinds.{IsWrongBlock}
 use Rattle.vm_chains.specs.Walking.{Stops}
 use Rattle.vm_chains.proofs.WalkLemmas.{and_false, raw_live}
 
@@ -60,7 +60,7 @@ before_copy true true true few fault e = e
 before_copy true true false few fault e = absurd (cc e)
 
 -- what is answered where nothing refuses but what is lacking
-pub answers : {A : Type 0} (lacks : Fault → Type 0) (conditions : Conditions) (P Q : A → Type 0) (result : Result A Fault) → first_refusal conditions ≡ None → IfOk result P → IfErr result lacks → ((a : A) → P a → Q a) → Answers lacks conditions Q result
+pub answers : {A : Type 0} (lacks : Fault → Type 0) (conditions : Conditions) (P Q : A → Type 0) (result : Result A Fault) → first_refusal conditions ≡ None → IfOk result P → IfErr result lacks → ((a : A) → P a → Q a) → AnswersChain lacks conditions Q result
 answers lacks conditions P Q (Ok a) none is refused turn = (none, turn a is)
 answers lacks conditions P Q (Err fault) none is refused turn = inl refused
 
@@ -76,22 +76,22 @@ module _ (d : Document) (h : ℕ) where
       ∙ for_copy (is_live d h) (is_raw d h) (is_none (chain d h)) few none
 
   module _ (lacks : Fault → Type 0) where
-    pub free_refused : (fault : Fault) → Refuses lacks (on_chain d h) fault → Refuses lacks (free_conditions d h) fault
+    pub free_refused : (fault : Fault) → RefusesChain lacks (on_chain d h) fault → RefusesChain lacks (free_conditions d h) fault
     free_refused fault (inl lack) = inl lack
     free_refused fault (inr first) = inr (before_map (is_live d h) (is_raw d h) (is_none (chain d h)) _ fault first)
 
-    pub copy_refused : (fault : Fault) → Refuses lacks (on_chain d h) fault → Refuses lacks (copy_conditions d h) fault
+    pub copy_refused : (fault : Fault) → RefusesChain lacks (on_chain d h) fault → RefusesChain lacks (copy_conditions d h) fault
     copy_refused fault (inl lack) = inl lack
     copy_refused fault (inr first) = inr (before_copy (is_live d h) (is_raw d h) (is_none (chain d h)) _ fault first)
 
     -- the root is refused
-    pub root_refused : (fault : Fault) → lacks fault ⊎ IsOfOther is_raw d h fault → Refuses lacks (on_chain d h) fault
+    pub root_refused : (fault : Fault) → lacks fault ⊎ IsWrongBlock is_raw d h fault → RefusesChain lacks (on_chain d h) fault
     root_refused fault (inl lack) = inl lack
     root_refused fault (inr (inl dead)) = inr (of_one (is_live d h) (is_raw d h) (is_none (chain d h)) ∙ cond-false _ _ _ dead.1 ∙ ap (λ (f : Fault). Some f) (sym dead.0))
     root_refused fault (inr (inr heap)) = inr (of_one (is_live d h) (is_raw d h) (is_none (chain d h)) ∙ cond-true _ _ _ heap.1 ∙ cond-false _ _ _ heap.2 ∙ ap (λ (f : Fault). Some f) (sym heap.0))
 
     -- its chain is walked
-    pub walked : {A : Type 0} (P : A → Type 0) (result : Result A Fault) → is_raw d h ≡ true → ((a : A) → P a → is_none (chain d h) ≡ false) → MatchResult result P (Stops lacks (chain d h ≡ None)) → Answers lacks (on_chain d h) P result
+    pub walked : {A : Type 0} (P : A → Type 0) (result : Result A Fault) → is_raw d h ≡ true → ((a : A) → P a → is_none (chain d h) ≡ false) → MatchResult result P (Stops lacks (chain d h ≡ None)) → AnswersChain lacks (on_chain d h) P result
     walked P (Ok a) raw some is = (of_one (is_live d h) (is_raw d h) (is_none (chain d h)) ∙ cond-true _ _ _ (raw_live d h raw) ∙ cond-true _ _ _ raw ∙ cond-false _ _ _ (some a is), is)
     walked P (Err fault) raw some (inl lack) = inl lack
     walked P (Err fault) raw some (inr bad) = inr (of_one (is_live d h) (is_raw d h) (is_none (chain d h)) ∙ cond-true _ _ _ (raw_live d h raw) ∙ cond-true _ _ _ raw ∙ cond-true _ _ _ (ap (λ (o : Option (List ℕ)). is_none o) bad.1) ∙ ap (λ (f : Fault). Some f) (sym bad.0))
@@ -110,7 +110,7 @@ module _ (d : Document) (f s : ℕ) where
   two_heap live heap = two ∙ cond-true _ _ _ live ∙ cond-false _ _ _ heap
 
   -- one of the roots is refused
-  pub two_refused : (fault : Fault) → (is_live d f && is_live d s) ≡ true → IsOfOther is_raw d f fault ⊎ IsOfOther is_raw d s fault → first_refusal (on_chains d f s) ≡ Some fault
+  pub two_refused : (fault : Fault) → (is_live d f && is_live d s) ≡ true → IsWrongBlock is_raw d f fault ⊎ IsWrongBlock is_raw d s fault → first_refusal (on_chains d f s) ≡ Some fault
   two_refused fault live (inl (inl dead)) = absurd (true≢false (sym (and_parts (is_live d f) (is_live d s) live).0 ∙ dead.1))
   two_refused fault live (inl (inr heap)) = two_heap live (ap (λ (b : Bool). b && is_raw d s) heap.2) ∙ ap (λ (x : Fault). Some x) (sym heap.0)
   two_refused fault live (inr (inl dead)) = absurd (true≢false (sym (and_parts (is_live d f) (is_live d s) live).1 ∙ dead.1))
@@ -127,7 +127,7 @@ module _ (d : Document) (f s : ℕ) where
   or_right_true false b e = e
 
   -- one is broken
-  pub two_stop : (lacks : Fault → Type 0) (fault : Fault) → is_raw d f ≡ true → is_raw d s ≡ true → Stops lacks ((chain d f ≡ None) ⊎ (chain d s ≡ None)) fault → Refuses lacks (on_chains d f s) fault
+  pub two_stop : (lacks : Fault → Type 0) (fault : Fault) → is_raw d f ≡ true → is_raw d s ≡ true → Stops lacks ((chain d f ≡ None) ⊎ (chain d s ≡ None)) fault → RefusesChain lacks (on_chains d f s) fault
   two_stop lacks fault first second (inl lack) = inl lack
   two_stop lacks fault first second (inr bad) = inr (two_raw first second ∙ cond-true _ _ _ (broken bad.1) ∙ ap (λ (x : Fault). Some x) (sym bad.0))
     where

@@ -12,7 +12,7 @@ use Rattle.geos_model.specs.Document.{Block, Document, is_heap_body, is_live, is
 use Rattle.geos_model.specs.ElementArray.{all_distinct}
 use Rattle.geos_model.specs.declared.handle.VmHandle.{VmHandle}
 use Rattle.vm_chains.specs.Numbers.{numbers}
-use Rattle.vm_chains.specs.Walking.{AreBlocks, BeginsWith, GoesOn, IsWalk}
+use Rattle.vm_chains.specs.Walking.{AreBlocks, BeginsWith, GoesOn, IsChainWalk}
 
 -- What the definition says of the next block that is pending.
 
@@ -87,33 +87,33 @@ before met None h = refl
 before met (Some hs) h = ap (λ (x : List ℕ). Some x) (sym (append_assoc met (h ∷ []) hs))
 
 -- so it is of what is the same
-pub same_walk : (d : Document) (root n m : ℕ) (met ps qs : List ℕ) → IsWalk d root n met ps → n ≡ m → ps ≡ qs → IsWalk d root m met qs
-same_walk d root n m met ps qs w e p = subst (λ (k : ℕ). IsWalk d root k met qs) e (subst (λ (x : List ℕ). IsWalk d root n met x) p w)
+pub same_walk : (d : Document) (root n m : ℕ) (met ps qs : List ℕ) → IsChainWalk d root n met ps → n ≡ m → ps ≡ qs → IsChainWalk d root m met qs
+same_walk d root n m met ps qs w e p = subst (λ (k : ℕ). IsChainWalk d root k met qs) e (subst (λ (x : List ℕ). IsChainWalk d root n met x) p w)
 
 module _ (d : Document) (root n : ℕ) (met : List ℕ) where
   -- nothing is pending
-  pub walk_ends : IsWalk d root n met [] → chain d root ≡ Some met
+  pub walk_ends : IsChainWalk d root n met [] → chain d root ≡ Some met
   walk_ends w =
       chain_is d root (Some (met ++ [])) (w.rest ∙ ap (λ (o : Option (List ℕ)). option_map (λ hs. met ++ hs) o) (blocks_from-nil n d))
       ∙ ap if_distinct (append-nil met) ∙ cond-true (all_distinct met) _ _ w.distinct
 
   module _ (h : ℕ) (hs : List ℕ) where
     -- the next block is one of a chain, and wasn't met
-    pub walk_goes_on : IsWalk d root (suc n) met (h ∷ hs) → is_member d h ≡ true → list_any (λ x. x == h) met ≡ false → IsWalk d root n (met ++ h ∷ []) (links (raw_bytes_of d h) ++ hs)
+    pub walk_goes_on : IsChainWalk d root (suc n) met (h ∷ hs) → is_member d h ≡ true → list_any (λ x. x == h) met ≡ false → IsChainWalk d root n (met ++ h ∷ []) (links (raw_bytes_of d h) ++ hs)
     walk_goes_on w member new = record {
       rest = w.rest ∙ ap (λ (o : Option (List ℕ)). option_map (λ hs. met ++ hs) o) (blocks_from-member n d h hs member) ∙ before met (blocks_from n d (links (raw_bytes_of d h) ++ hs)) h;
       distinct = distinct_push met h w.distinct new;
     }
 
-    none_there : IsWalk d root n met (h ∷ hs) → blocks_from n d (h ∷ hs) ≡ None → chain d root ≡ None
+    none_there : IsChainWalk d root n met (h ∷ hs) → blocks_from n d (h ∷ hs) ≡ None → chain d root ≡ None
     none_there w none = chain_is d root None (w.rest ∙ ap (λ (o : Option (List ℕ)). option_map (λ hs. met ++ hs) o) none)
 
     -- it is none of a chain
-    pub walk_breaks : IsWalk d root n met (h ∷ hs) → is_member d h ≡ false → chain d root ≡ None
+    pub walk_breaks : IsChainWalk d root n met (h ∷ hs) → is_member d h ≡ false → chain d root ≡ None
     walk_breaks w other = none_there w (blocks_from-other n d h hs other)
 
 -- The next block is followed, and then those are pending to which it links.
-pub walk_follows : (d now : Document) (root n h : ℕ) (met pending hs new : List ℕ) → IsWalk d root n met pending → 1 ≤ n → pending ≡ h ∷ hs → now ≡ d → GoesOn now h hs new → list_any (λ x. x == h) met ≡ false → IsWalk d root (n - 1) (met ++ h ∷ []) new
+pub walk_follows : (d now : Document) (root n h : ℕ) (met pending hs new : List ℕ) → IsChainWalk d root n met pending → 1 ≤ n → pending ≡ h ∷ hs → now ≡ d → GoesOn now h hs new → list_any (λ x. x == h) met ≡ false → IsChainWalk d root (n - 1) (met ++ h ∷ []) new
 walk_follows d now root n h met pending hs new w left next same followed other =
     let on : GoesOn d h hs new = subst (λ (x : Document). GoesOn x h hs new) same followed in
     let from = same_walk d root n (suc (n - 1)) met pending (h ∷ hs) w (omega (arith, left)) next in
@@ -124,14 +124,14 @@ again : (met : List ℕ) (h : ℕ) (o : Option (List ℕ)) → list_any (λ x. x
 again met h None twice = refl
 again met h (Some hs) twice = cond-false (all_distinct (met ++ h ∷ hs)) _ _ (not_distinct met h hs twice)
 
-pub walk_turns : (d : Document) (root n : ℕ) (met : List ℕ) (h : ℕ) (hs : List ℕ) → IsWalk d root (suc n) met (h ∷ hs) → list_any (λ x. x == h) met ≡ true → chain d root ≡ None
+pub walk_turns : (d : Document) (root n : ℕ) (met : List ℕ) (h : ℕ) (hs : List ℕ) → IsChainWalk d root (suc n) met (h ∷ hs) → list_any (λ x. x == h) met ≡ true → chain d root ≡ None
 walk_turns d root n met h hs w twice = elim (cases_Bool (is_member d h)) [
   | inl member ↦ chain_is d root _ (w.rest ∙ ap (λ (o : Option (List ℕ)). option_map (λ hs. met ++ hs) o) (blocks_from-member n d h hs member)) ∙ again met h _ twice
   | inr other ↦ walk_breaks d root (suc n) met h hs w other
 ]
 
 -- more are pending than may be met
-pub walk_is_full : (d : Document) (root n : ℕ) (met hs : List ℕ) → IsWalk d root n met hs → n < length hs → chain d root ≡ None
+pub walk_is_full : (d : Document) (root n : ℕ) (met hs : List ℕ) → IsChainWalk d root n met hs → n < length hs → chain d root ≡ None
 walk_is_full d root n met hs w more = chain_is d root None (w.rest ∙ ap (λ (o : Option (List ℕ)). option_map (λ xs. met ++ xs) o) (blocks_from-more n d hs more))
 
 -- A block of a chain is live.
@@ -161,8 +161,8 @@ none_before : (o : Option (List ℕ)) → o ≡ option_map (λ hs. [] ++ hs) o
 none_before None = refl
 none_before (Some hs) = refl
 
-pub walk_begins : (d : Document) (root : ℕ) (met pending : List ℕ) → met ≡ [] → pending ≡ root ∷ [] → IsWalk d root most_blocks met pending
-walk_begins d root met pending none one = subst (λ (ps : List ℕ). IsWalk d root most_blocks met ps) (sym one) (subst (λ (hs : List ℕ). IsWalk d root most_blocks hs (root ∷ [])) (sym none) (record {
+pub walk_begins : (d : Document) (root : ℕ) (met pending : List ℕ) → met ≡ [] → pending ≡ root ∷ [] → IsChainWalk d root most_blocks met pending
+walk_begins d root met pending none one = subst (λ (ps : List ℕ). IsChainWalk d root most_blocks met ps) (sym one) (subst (λ (hs : List ℕ). IsChainWalk d root most_blocks hs (root ∷ [])) (sym none) (record {
   rest = none_before (blocks_from most_blocks d (root ∷ []));
   distinct = refl;
 }))

@@ -8,33 +8,33 @@ use Rattle.geos_model.specs.Refusal.{Conditions, first_refusal}
 use Rattle.geos_model.specs.declared.fault.Fault.{Fault}
 use Rattle.geos_model.specs.declared.handle.VmHandle.{VmHandle}
 use Rattle.block_cache.specs.State.{CacheState}
-use Rattle.vm_blocks.specs.Keeping.{Keeps, IsSteady, Lacks}
+use Rattle.vm_blocks.specs.Keeping.{KeepsBlocks, IsHonest, IsEnvironmentFault}
 use Rattle.vm_blocks.proofs.KeepingLaws.{keeps-same, keeps-steady, keeps-was_steady, lacks-later}
-use Rattle.vm_chains.specs.Answers.{Answers}
+use Rattle.vm_chains.specs.Answers.{AnswersChain}
 use Rattle.vm_chains.specs.Numbers.{numbers}
-use Rattle.vm_chains.specs.Walking.{AreMembers}
+use Rattle.vm_chains.specs.Walking.{CanBeMembers}
 use Rattle.vm_chains.proofs.ChainLemmas.{blocks_are}
 use Rattle.vm_chains.proofs.Refusals.{answers}
 
-module _ {S : Type 0} (facts : S → StoreFacts) (a b e : CacheState S) (walks : Keeps facts a b) (reads : Keeps facts b e) where
+module _ {S : Type 0} (facts : S → StoreFacts) (a b e : CacheState S) (walks : KeepsBlocks facts a b) (reads : KeepsBlocks facts b e) where
   -- a refusal of what is read
-  pub refused_on : {A : Type 0} (other : Fault → Type 0) (result : Result A Fault) → IfErr result (Lacks facts b.disk.store e.disk.store) → IfErr result (λ fault. Lacks facts a.disk.store e.disk.store fault ⊎ other fault)
-  refused_on other result refused = IfErr-weaker result (Lacks facts b.disk.store e.disk.store) (λ fault. Lacks facts a.disk.store e.disk.store fault ⊎ other fault) (λ fault lacks. inl (lacks-later facts a b e.disk.store fault walks lacks)) refused
+  pub refused_on : {A : Type 0} (other : Fault → Type 0) (result : Result A Fault) → IfErr result (IsEnvironmentFault facts b.disk.store e.disk.store) → IfErr result (λ fault. IsEnvironmentFault facts a.disk.store e.disk.store fault ⊎ other fault)
+  refused_on other result refused = IfErr-weaker result (IsEnvironmentFault facts b.disk.store e.disk.store) (λ fault. IsEnvironmentFault facts a.disk.store e.disk.store fault ⊎ other fault) (λ fault lacks. inl (lacks-later facts a b e.disk.store fault walks lacks)) refused
 
   module _ (root : ℕ) (handles now : List VmHandle) (lent : now ≡ handles) where
-    pub members_on : (IsSteady facts a.disk.store → AreMembers b.document handles) → IsSteady facts b.disk.store → AreMembers b.document now
-    members_on members steady = subst (AreMembers b.document) (sym lent) (members (keeps-was_steady facts a b walks steady))
+    pub members_on : (IsHonest facts a.disk.store → CanBeMembers b.document handles) → IsHonest facts b.disk.store → CanBeMembers b.document now
+    members_on members steady = subst (CanBeMembers b.document) (sym lent) (members (keeps-was_steady facts a b walks steady))
 
     -- what is read of the blocks of the chain is answered, where nothing refuses it
     pub read_on : {A : Type 0} (conditions : Document → Conditions) (P : Document → List ℕ → A → Type 0) (result : Result A Fault)
-        → (IsSteady facts a.disk.store → first_refusal (conditions b.document) ≡ None) → (IsSteady facts a.disk.store → chain b.document root ≡ Some (numbers handles))
-        → (IsSteady facts b.disk.store → IfOk result (P e.document (numbers now))) → IfErr result (Lacks facts b.disk.store e.disk.store)
-        → IsSteady facts a.disk.store → Answers (Lacks facts a.disk.store e.disk.store) (conditions e.document) (P e.document (chain_blocks e.document root)) result
+        → (IsHonest facts a.disk.store → first_refusal (conditions b.document) ≡ None) → (IsHonest facts a.disk.store → chain b.document root ≡ Some (numbers handles))
+        → (IsHonest facts b.disk.store → IfOk result (P e.document (numbers now))) → IfErr result (IsEnvironmentFault facts b.disk.store e.disk.store)
+        → IsHonest facts a.disk.store → AnswersChain (IsEnvironmentFault facts a.disk.store e.disk.store) (conditions e.document) (P e.document (chain_blocks e.document root)) result
     read_on conditions P result none walked is refused steady =
         let steady_then = keeps-steady facts a b walks steady in
         let same = keeps-same facts b e reads steady_then in
         let all : numbers now ≡ chain_blocks e.document root = ap numbers lent ∙ sym (blocks_are e.document root (numbers handles) (ap (λ (x : Document). chain x root) same ∙ walked steady)) in
-        answers (Lacks facts a.disk.store e.disk.store) (conditions e.document) (P e.document (numbers now)) (P e.document (chain_blocks e.document root)) result
+        answers (IsEnvironmentFault facts a.disk.store e.disk.store) (conditions e.document) (P e.document (numbers now)) (P e.document (chain_blocks e.document root)) result
         (subst (λ (d : Document). first_refusal (conditions d) ≡ None) (sym same) (none steady)) (is steady_then)
-        (IfErr-weaker result (Lacks facts b.disk.store e.disk.store) (Lacks facts a.disk.store e.disk.store) (λ fault lacks. lacks-later facts a b e.disk.store fault walks lacks) refused)
+        (IfErr-weaker result (IsEnvironmentFault facts b.disk.store e.disk.store) (IsEnvironmentFault facts a.disk.store e.disk.store) (λ fault lacks. lacks-later facts a b e.disk.store fault walks lacks) refused)
         (λ x p. subst (λ (hs : List ℕ). P e.document hs x) all p)

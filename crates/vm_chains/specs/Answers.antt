@@ -4,19 +4,19 @@ use Rattle.geos_model.specs.Document.{Document, is_raw}
 use Rattle.geos_model.specs.Refusal.{Conditions, first_refusal}
 use Rattle.geos_model.specs.declared.fault.Fault.{Fault}
 use Rattle.geos_model.specs.declared.fault.Fault.TheVariants.{BadChain}
-use Rattle.vm_blocks.specs.Kinds.{IsOfOther}
+use Rattle.vm_blocks.specs.Kinds.{IsWrongBlock}
 
 -- what no rule of the document decides, or the first refusal
-abbrev pub Refuses : (Fault → Type 0) → Conditions → Fault → Type 0
-Refuses lacks conditions fault = lacks fault ⊎ (first_refusal conditions ≡ Some fault)
+abbrev pub RefusesChain : (Fault → Type 0) → Conditions → Fault → Type 0
+RefusesChain lacks conditions fault = lacks fault ⊎ (first_refusal conditions ≡ Some fault)
 
 -- It is refused so, or nothing refuses it and this holds of what it gives.
-abbrev pub Answers : {A : Type 0} → (Fault → Type 0) → Conditions → (A → Type 0) → Result A Fault → Type 0
-Answers lacks conditions P result = MatchResult result (λ a. (first_refusal conditions ≡ None) × P a) (Refuses lacks conditions)
+abbrev pub AnswersChain : {A : Type 0} → (Fault → Type 0) → Conditions → (A → Type 0) → Result A Fault → Type 0
+AnswersChain lacks conditions P result = MatchResult result (λ a. (first_refusal conditions ≡ None) × P a) (RefusesChain lacks conditions)
 
 -- why a root of one of two chains is refused
-abbrev pub IsOfEither : Document → ℕ → ℕ → Fault → Type 0
-IsOfEither d first second fault = IsOfOther is_raw d first fault ⊎ IsOfOther is_raw d second fault
+abbrev pub IsWrongRoot : Document → ℕ → ℕ → Fault → Type 0
+IsWrongRoot d first second fault = IsWrongBlock is_raw d first fault ⊎ IsWrongBlock is_raw d second fault
 
 -- A refusal of any call on a chain, whose root may be refused so, without a look into any block.
 abbrev pub IsChainFault : (Fault → Type 0) → Fault → Type 0

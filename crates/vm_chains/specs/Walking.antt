@@ -25,7 +25,7 @@ pub record AreMarked (hs : List ℕ) (marks : List Bool) : Type 0 where
   pub marked : (h : ℕ) → get_or marks h false ≡ list_any (λ x. x == h) hs
 
 -- Blocks are met, each once, and the chain has them and then at most so many of those that are pending.
-pub record IsWalk (d : Document) (root n : ℕ) (met pending : List ℕ) : Type 0 where
+pub record IsChainWalk (d : Document) (root n : ℕ) (met pending : List ℕ) : Type 0 where
   pub rest : blocks_from most_blocks d (root ∷ []) ≡ option_map (λ hs. met ++ hs) (blocks_from n d pending)
   pub distinct : all_distinct met ≡ true
 
@@ -41,5 +41,5 @@ pub record AreBlocks (d : Document) (hs : List VmHandle) : Type 0 where
   pub few : length hs ≤ most_blocks
 
 -- blocks that a chain can have
-abbrev pub AreMembers : Document → List VmHandle → Type 0
-AreMembers d hs = All (λ h. is_member d h.0 ≡ true) hs
+abbrev pub CanBeMembers : Document → List VmHandle → Type 0
+CanBeMembers d hs = All (λ h. is_member d h.0 ≡ true) hs

@@ -5,14 +5,14 @@ ghost use Rattle.geos_model.specs.Bytes.{same_bytes};
 ghost use Rattle.geos_model.specs.Chain.{chain_blocks, on_chains, same_shape};
 ghost use Rattle.geos_model.specs.Document.{is_raw, is_vm_handle, most_blocks};
 ghost use Rattle.geos_model.specs.Refusal.{first_refusal};
-ghost use Rattle.vm_blocks.specs.Keeping.{Keeps, IsSteady, Lacks, is_full};
-ghost use Rattle.vm_chains.specs.Answers.{Answers, IsOfEither, IsWalkRefusal};
+ghost use Rattle.vm_blocks.specs.Keeping.{KeepsBlocks, IsHonest, IsEnvironmentFault, is_full};
+ghost use Rattle.vm_chains.specs.Answers.{AnswersChain, IsWrongRoot, IsWalkRefusal};
 ghost use Rattle.vm_chains.specs.Naming.{name_in, place_in};
 ghost use Rattle.vm_chains.specs.Numbers.{numbers};
-ghost use Rattle.vm_chains.specs.Walking.{AreBlocks, AreMembers};
+ghost use Rattle.vm_chains.specs.Walking.{AreBlocks, CanBeMembers};
 
-use crate::names::Names;
 use crate::reading::relinked_at;
+use crate::renaming::Renaming;
 use crate::walking::{test_root, walk_from};
 use geos_model::{Fault, VmHandle};
 use std::alloc::{AllocError, Global};
@@ -27,14 +27,15 @@ pub fn equal<S: Store>(
     second: VmHandle,
 ) -> Result<bool, Fault>
     requires room { is_full blocks.old ≡ false }
-    ensures keeps { Keeps S.facts blocks.old blocks.new }
-    ensures value { IsSteady S.facts blocks.old.disk.store
-        → Answers (Lacks S.facts blocks.old.disk.store blocks.new.disk.store)
+    ensures keeps { KeepsBlocks S.facts blocks.old blocks.new }
+    ensures value { IsHonest S.facts blocks.old.disk.store
+        → AnswersChain (IsEnvironmentFault S.facts blocks.old.disk.store blocks.new.disk.store)
         (on_chains blocks.new.document first.0 second.0)
         (λ same. same ≡ same_shape blocks.new.document (chain_blocks blocks.new.document first.0)
         (chain_blocks blocks.new.document second.0)) result }
-    ensures refusals { IfErr result (IsWalkRefusal (Lacks S.facts blocks.old.disk.store blocks.new.disk.store)
-        (IsOfEither blocks.old.document first.0 second.0)) }
+    ensures refusals { IfErr result
+        (IsWalkRefusal (IsEnvironmentFault S.facts blocks.old.disk.store blocks.new.disk.store)
+        (IsWrongRoot blocks.old.document first.0 second.0)) }
 {
     test_roots(blocks, first, second)?;
     let first = walk_from(alloc, blocks, first)?;
@@ -51,7 +52,7 @@ pub fn test_roots<S: Store>(
     ensures value { MatchResult result
         (λ _. (is_raw blocks.now.document first.0 ≡ true) × (is_raw blocks.now.document second.0 ≡ true))
         (λ fault. first_refusal (on_chains blocks.now.document first.0 second.0) ≡ Some fault) }
-    ensures refusals { IfErr result (IsOfEither blocks.now.document first.0 second.0) }
+    ensures refusals { IfErr result (IsWrongRoot blocks.now.document first.0 second.0) }
 {
     if !blocks.is_live(first) || !blocks.is_live(second) {
         return Err(Fault::NoBlock);
@@ -71,15 +72,15 @@ fn same_shape<S: Store>(
     requires room { is_full blocks.old ≡ false }
     requires first { AreBlocks blocks.old.document first.now }
     requires second { AreBlocks blocks.old.document second.now }
-    requires members { IsSteady S.facts blocks.old.disk.store
-        → AreMembers blocks.old.document first.now × AreMembers blocks.old.document second.now }
+    requires members { IsHonest S.facts blocks.old.disk.store
+        → CanBeMembers blocks.old.document first.now × CanBeMembers blocks.old.document second.now }
     // What stays.
-    ensures keeps { Keeps S.facts blocks.old blocks.new }
+    ensures keeps { KeepsBlocks S.facts blocks.old blocks.new }
     // What is answered.
-    ensures value { IsSteady S.facts blocks.old.disk.store
+    ensures value { IsHonest S.facts blocks.old.disk.store
         → IfOk result (λ same. same ≡ same_shape blocks.new.document (numbers first.now) (numbers second.now)) }
     // Refusals.
-    ensures refusals { IfErr result (Lacks S.facts blocks.old.disk.store blocks.new.disk.store) }
+    ensures refusals { IfErr result (IsEnvironmentFault S.facts blocks.old.disk.store blocks.new.disk.store) }
 {
     if first.len() != second.len() {
         return Ok(false);
@@ -104,7 +105,7 @@ fn are_same(first: &[u8], second: &[u8]) -> bool
 }
 
 /// The place of each of these handles among them, from 1 on.
-fn places(alloc: Global, handles: &[VmHandle]) -> Result<Names, AllocError>
+fn places(alloc: Global, handles: &[VmHandle]) -> Result<Renaming, AllocError>
     requires handles { All (λ h. is_vm_handle h.0 ≡ true) handles.now }
     requires few { length handles.now ≤ most_blocks }
     ensures { IfOk result (λ names. (h : ℕ) → name_in names h ≡ place_in (numbers handles.now) h) }
@@ -113,5 +114,5 @@ fn places(alloc: Global, handles: &[VmHandle]) -> Result<Names, AllocError>
     for i in 0..handles.len() {
         places.push(VmHandle(i as u16 + 1))?;
     }
-    Names::new(alloc, handles, &places)
+    Renaming::new(alloc, handles, &places)
 }

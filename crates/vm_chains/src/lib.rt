@@ -7,10 +7,10 @@ mod comparing;
 mod links;
 mod measuring;
 mod met;
-mod names;
 mod pending;
 mod planning;
 mod reading;
+mod renaming;
 mod walking;
 
 pub use comparing::{equal, test_roots};

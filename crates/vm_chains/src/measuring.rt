@@ -1,12 +1,12 @@
 //! How many bytes the blocks of a chain have.
 ghost use Rattle.std.specs.Prelude.{◌≡◌, false, IfOk, IfErr};
-ghost use Rattle.geos_model.specs.Chain.{bytes_in, chain_blocks, on_chain};
+ghost use Rattle.geos_model.specs.Chain.{chain_bytes, chain_blocks, on_chain};
 ghost use Rattle.geos_model.specs.Document.{is_raw};
-ghost use Rattle.vm_blocks.specs.Keeping.{Keeps, IsSteady, Lacks, is_full};
-ghost use Rattle.vm_blocks.specs.Kinds.{IsOfOther};
-ghost use Rattle.vm_chains.specs.Answers.{Answers, IsWalkRefusal};
+ghost use Rattle.vm_blocks.specs.Keeping.{KeepsBlocks, IsHonest, IsEnvironmentFault, is_full};
+ghost use Rattle.vm_blocks.specs.Kinds.{IsWrongBlock};
+ghost use Rattle.vm_chains.specs.Answers.{AnswersChain, IsWalkRefusal};
 ghost use Rattle.vm_chains.specs.Numbers.{numbers};
-ghost use Rattle.vm_chains.specs.Walking.{AreBlocks, AreMembers};
+ghost use Rattle.vm_chains.specs.Walking.{AreBlocks, CanBeMembers};
 
 use crate::reading::len_at;
 use crate::walk;
@@ -22,12 +22,14 @@ pub fn size<S: Store>(
     root: VmHandle,
 ) -> Result<u32, Fault>
     requires room { is_full blocks.old ≡ false }
-    ensures keeps { Keeps S.facts blocks.old blocks.new }
-    ensures value { IsSteady S.facts blocks.old.disk.store
-        → Answers (Lacks S.facts blocks.old.disk.store blocks.new.disk.store) (on_chain blocks.new.document root.0)
-        (λ n. n ≡ bytes_in blocks.new.document (chain_blocks blocks.new.document root.0)) result }
-    ensures refusals { IfErr result (IsWalkRefusal (Lacks S.facts blocks.old.disk.store blocks.new.disk.store)
-        (IsOfOther is_raw blocks.old.document root.0)) }
+    ensures keeps { KeepsBlocks S.facts blocks.old blocks.new }
+    ensures value { IsHonest S.facts blocks.old.disk.store
+        → AnswersChain (IsEnvironmentFault S.facts blocks.old.disk.store blocks.new.disk.store)
+        (on_chain blocks.new.document root.0)
+        (λ n. n ≡ chain_bytes blocks.new.document (chain_blocks blocks.new.document root.0)) result }
+    ensures refusals { IfErr result
+        (IsWalkRefusal (IsEnvironmentFault S.facts blocks.old.disk.store blocks.new.disk.store)
+        (IsWrongBlock is_raw blocks.old.document root.0)) }
 {
     let handles = walk(alloc, blocks, root)?;
     total_len(blocks, &handles)
@@ -37,11 +39,11 @@ pub fn size<S: Store>(
 fn total_len<S: Store>(blocks: &mut FileBlocks<S>, handles: &[VmHandle]) -> Result<u32, Fault>
     requires room { is_full blocks.old ≡ false }
     requires live { AreBlocks blocks.old.document handles.now }
-    requires members { IsSteady S.facts blocks.old.disk.store → AreMembers blocks.old.document handles.now }
-    ensures keeps { Keeps S.facts blocks.old blocks.new }
-    ensures value { IsSteady S.facts blocks.old.disk.store
-        → IfOk result (λ n. n ≡ bytes_in blocks.new.document (numbers handles.now)) }
-    ensures refusals { IfErr result (Lacks S.facts blocks.old.disk.store blocks.new.disk.store) }
+    requires members { IsHonest S.facts blocks.old.disk.store → CanBeMembers blocks.old.document handles.now }
+    ensures keeps { KeepsBlocks S.facts blocks.old blocks.new }
+    ensures value { IsHonest S.facts blocks.old.disk.store
+        → IfOk result (λ n. n ≡ chain_bytes blocks.new.document (numbers handles.now)) }
+    ensures refusals { IfErr result (IsEnvironmentFault S.facts blocks.old.disk.store blocks.new.disk.store) }
 {
     let mut total = 0;
     for handle in handles {

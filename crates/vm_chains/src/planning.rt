@@ -1,25 +1,25 @@
 //! The blocks of a copy of a chain, and the blocks that the freeing of one takes.
 ghost use Rattle.std.specs.Prelude.{◌≡◌, ◌⊎◌, ◌==◌, ◌<◌, false, IfOk, IfErr, length};
 ghost use Rattle.std.specs.List.{list_any};
-ghost use Rattle.geos_model.specs.Chain.{blocks_of, chain_blocks, copies_of, copy_conditions, free_conditions, new_handles, renamed_blocks};
+ghost use Rattle.geos_model.specs.Chain.{chain_blocks_of, chain_blocks, copies_of, copy_conditions, free_conditions, new_handles, renamed_blocks};
 ghost use Rattle.geos_model.specs.Document.{handles_of, is_raw};
 ghost use Rattle.geos_model.specs.declared.fault.Fault.TheVariants.{NoHandles, IsMap};
-ghost use Rattle.vm_blocks.specs.Changes.{Applies};
-ghost use Rattle.vm_blocks.specs.Keeping.{Keeps, IsSteady, Lacks, is_full};
-ghost use Rattle.vm_blocks.specs.Kinds.{IsOfOther};
-ghost use Rattle.vm_file.specs.Members.{saved_blocks};
-ghost use Rattle.vm_blocks.specs.Preparing.{CanLeave};
+ghost use Rattle.vm_blocks.specs.Changes.{CanApply};
+ghost use Rattle.vm_blocks.specs.Keeping.{KeepsBlocks, IsHonest, IsEnvironmentFault, is_full};
+ghost use Rattle.vm_blocks.specs.Kinds.{IsWrongBlock};
+ghost use Rattle.vm_file.specs.Members.{imaged_blocks};
+ghost use Rattle.vm_blocks.specs.Preparing.{CanRemoveByHandle};
 ghost use Rattle.vm_blocks.specs.declared.change.Change.TheVariants as changes;
-ghost use Rattle.vm_chains.specs.Answers.{Answers, IsChainFault};
+ghost use Rattle.vm_chains.specs.Answers.{AnswersChain, IsChainFault};
 ghost use Rattle.vm_chains.specs.Numbers.{numbers};
-ghost use Rattle.vm_chains.specs.Walking.{AreBlocks, AreMembers};
+ghost use Rattle.vm_chains.specs.Walking.{AreBlocks, CanBeMembers};
 
-use crate::names::Names;
 use crate::reading::{relinked_at, saved_at};
+use crate::renaming::Renaming;
 use crate::walk;
 use geos_model::{Fault, VmHandle};
 use std::alloc::{AllocError, Global};
-use vm_blocks::{FileBlocks, MOST_BLOCKS, Member, Members, SavedBlock};
+use vm_blocks::{BlockImage, FileBlocks, MOST_BLOCKS, Member, Members};
 use vm_store::Store;
 
 /// The blocks of a copy of a chain, under handles that are free. They link to one another as those of the chain do.
@@ -29,16 +29,17 @@ pub fn copy_plan<S: Store>(
     root: VmHandle,
 ) -> Result<Members, Fault>
     requires room { is_full blocks.old ≡ false }
-    ensures keeps { Keeps S.facts blocks.old blocks.new }
-    ensures value { IsSteady S.facts blocks.old.disk.store
-        → Answers (Lacks S.facts blocks.old.disk.store blocks.new.disk.store)
+    ensures keeps { KeepsBlocks S.facts blocks.old blocks.new }
+    ensures value { IsHonest S.facts blocks.old.disk.store
+        → AnswersChain (IsEnvironmentFault S.facts blocks.old.disk.store blocks.new.disk.store)
         (copy_conditions blocks.new.document root.0)
-        (λ plan. saved_blocks plan.list.items
+        (λ plan. imaged_blocks plan.list.items
         ≡ copies_of blocks.new.document (chain_blocks blocks.new.document root.0)) result }
-    ensures applies { IfOk result (λ plan. Applies (changes.BlocksIn plan) blocks.new.document) }
+    ensures applies { IfOk result (λ plan. CanApply (changes.BlocksIn plan) blocks.new.document) }
     ensures some { IfOk result (λ plan. 0 < length plan.list.items) }
-    ensures refusals { IfErr result (λ fault. Lacks S.facts blocks.old.disk.store blocks.new.disk.store fault
-        ⊎ IsChainFault (IsOfOther is_raw blocks.old.document root.0) fault ⊎ (fault ≡ NoHandles)) }
+    ensures refusals { IfErr result
+        (λ fault. IsEnvironmentFault S.facts blocks.old.disk.store blocks.new.disk.store fault
+        ⊎ IsChainFault (IsWrongBlock is_raw blocks.old.document root.0) fault ⊎ (fault ≡ NoHandles)) }
 {
     let handles = walk(alloc, blocks, root)?;
     let new = free_handles(alloc, blocks, handles.len())?;
@@ -55,17 +56,19 @@ pub fn free_plan<S: Store>(
     root: VmHandle,
 ) -> Result<Members, Fault>
     requires room { is_full blocks.old ≡ false }
-    ensures keeps { Keeps S.facts blocks.old blocks.new }
-    ensures value { IsSteady S.facts blocks.old.disk.store
-        → Answers (Lacks S.facts blocks.old.disk.store blocks.new.disk.store)
+    ensures keeps { KeepsBlocks S.facts blocks.old blocks.new }
+    ensures value { IsHonest S.facts blocks.old.disk.store
+        → AnswersChain (IsEnvironmentFault S.facts blocks.old.disk.store blocks.new.disk.store)
         (free_conditions blocks.new.document root.0)
-        (λ plan. saved_blocks plan.list.items
-        ≡ blocks_of blocks.new.document (chain_blocks blocks.new.document root.0)) result }
-    ensures applies { IsSteady S.facts blocks.old.disk.store
-        → IfOk result (λ plan. Applies (changes.BlocksOut plan) blocks.new.document) }
-    ensures handles { IfOk result (λ plan. CanLeave blocks.new.document (handles_of (saved_blocks plan.list.items))) }
-    ensures refusals { IfErr result (λ fault. Lacks S.facts blocks.old.disk.store blocks.new.disk.store fault
-        ⊎ IsChainFault (IsOfOther is_raw blocks.old.document root.0) fault ⊎ (fault ≡ IsMap)) }
+        (λ plan. imaged_blocks plan.list.items
+        ≡ chain_blocks_of blocks.new.document (chain_blocks blocks.new.document root.0)) result }
+    ensures applies { IsHonest S.facts blocks.old.disk.store
+        → IfOk result (λ plan. CanApply (changes.BlocksOut plan) blocks.new.document) }
+    ensures handles { IfOk result
+        (λ plan. CanRemoveByHandle blocks.new.document (handles_of (imaged_blocks plan.list.items))) }
+    ensures refusals { IfErr result
+        (λ fault. IsEnvironmentFault S.facts blocks.old.disk.store blocks.new.disk.store fault
+        ⊎ IsChainFault (IsWrongBlock is_raw blocks.old.document root.0) fault ⊎ (fault ≡ IsMap)) }
 {
     let handles = walk(alloc, blocks, root)?;
     if contains(&handles, blocks.map_block()) {
@@ -89,11 +92,12 @@ fn saved<S: Store>(
 ) -> Result<Members, Fault>
     requires room { is_full blocks.old ≡ false }
     requires live { AreBlocks blocks.old.document handles.now }
-    ensures keeps { Keeps S.facts blocks.old blocks.new }
-    ensures value { IsSteady S.facts blocks.old.disk.store
-        → IfOk result (λ plan. saved_blocks plan.list.items ≡ blocks_of blocks.new.document (numbers handles.now)) }
-    ensures handles { IfOk result (λ plan. handles_of (saved_blocks plan.list.items) ≡ numbers handles.now) }
-    ensures refusals { IfErr result (Lacks S.facts blocks.old.disk.store blocks.new.disk.store) }
+    ensures keeps { KeepsBlocks S.facts blocks.old blocks.new }
+    ensures value { IsHonest S.facts blocks.old.disk.store
+        → IfOk result (λ plan. imaged_blocks plan.list.items ≡ chain_blocks_of blocks.new.document
+        (numbers handles.now)) }
+    ensures handles { IfOk result (λ plan. handles_of (imaged_blocks plan.list.items) ≡ numbers handles.now) }
+    ensures refusals { IfErr result (IsEnvironmentFault S.facts blocks.old.disk.store blocks.new.disk.store) }
 {
     let mut plan = Vec::new(alloc);
     for handle in handles {
@@ -137,22 +141,22 @@ fn copies<S: Store>(
     // Asked of the caller.
     requires room { is_full blocks.old ≡ false }
     requires live { AreBlocks blocks.old.document handles.now }
-    requires members { IsSteady S.facts blocks.old.disk.store → AreMembers blocks.old.document handles.now }
+    requires members { IsHonest S.facts blocks.old.disk.store → CanBeMembers blocks.old.document handles.now }
     requires new { length handles.now ≡ length new.now }
     // What stays.
-    ensures keeps { Keeps S.facts blocks.old blocks.new }
+    ensures keeps { KeepsBlocks S.facts blocks.old blocks.new }
     // What is answered.
-    ensures value { IsSteady S.facts blocks.old.disk.store → IfOk result (λ plan. saved_blocks plan.list.items
+    ensures value { IsHonest S.facts blocks.old.disk.store → IfOk result (λ plan. imaged_blocks plan.list.items
         ≡ renamed_blocks blocks.new.document (numbers handles.now) (numbers new.now)) }
-    ensures handles { IfOk result (λ plan. handles_of (saved_blocks plan.list.items) ≡ numbers new.now) }
+    ensures handles { IfOk result (λ plan. handles_of (imaged_blocks plan.list.items) ≡ numbers new.now) }
     // Refusals.
-    ensures refusals { IfErr result (Lacks S.facts blocks.old.disk.store blocks.new.disk.store) }
+    ensures refusals { IfErr result (IsEnvironmentFault S.facts blocks.old.disk.store blocks.new.disk.store) }
 {
-    let names = Names::new(alloc, handles, new)?;
+    let names = Renaming::new(alloc, handles, new)?;
     let mut plan = Vec::new(alloc);
     for i in 0..handles.len() {
         let bytes = relinked_at(alloc, blocks, handles[i], &names)?;
-        let block = SavedBlock::raw(blocks.attributes(handles[i]), bytes)?;
+        let block = BlockImage::raw(blocks.attributes(handles[i]), bytes)?;
         plan.push(Member {
             handle: new[i],
             block,

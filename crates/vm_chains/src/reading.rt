@@ -3,29 +3,29 @@ ghost use Rattle.std.specs.Prelude.{◌≡◌, ◌≤◌, true, false, IfOk, Mat
 ghost use Rattle.geos_model.specs.Chain.{is_member, relinked};
 ghost use Rattle.geos_model.specs.Document.{block_at, is_heap, is_live, is_raw, raw_bytes_of};
 ghost use Rattle.geos_model.specs.Heap.{capacity};
-ghost use Rattle.vm_blocks.specs.Keeping.{Keeps, IsSteady, Lacks, is_full};
-ghost use Rattle.vm_file.specs.Members.{saved_block};
+ghost use Rattle.vm_blocks.specs.Keeping.{KeepsBlocks, IsHonest, IsEnvironmentFault, is_full};
+ghost use Rattle.vm_file.specs.Members.{imaged_block};
 ghost use Rattle.vm_chains.specs.Naming.{name_in};
 
 use crate::links::links_of;
-use crate::names::{Names, relinked};
+use crate::renaming::{Renaming, relinked};
 use geos_model::{Fault, VmHandle};
 use std::alloc::Global;
-use vm_blocks::{BlockBody, FileBlocks, SavedBlock, saved_block};
+use vm_blocks::{BlockBody, BlockImage, FileBlocks, imaged_block};
 use vm_store::Store;
 
-// The block is loaded again, since blocks that were met later may have taken its place. Only a store that isn't steady gives another
+// The block is loaded again, since blocks that were met later may have taken its place. Only a store that isn't honest gives another
 // body then: where no chain can have that, it is Damaged.
 
 /// How many bytes it has.
 pub(crate) fn len_at<S: Store>(blocks: &mut FileBlocks<S>, handle: VmHandle) -> Result<usize, Fault>
     requires room { is_full blocks.old ≡ false }
     requires live { is_live blocks.old.document handle.0 ≡ true }
-    requires raw { IsSteady S.facts blocks.old.disk.store → is_raw blocks.old.document handle.0 ≡ true }
-    ensures keeps { Keeps S.facts blocks.old blocks.new }
+    requires raw { IsHonest S.facts blocks.old.disk.store → is_raw blocks.old.document handle.0 ≡ true }
+    ensures keeps { KeepsBlocks S.facts blocks.old blocks.new }
     ensures value { MatchResult result
         (λ n. n ≡ length (raw_bytes_of blocks.new.document handle.0))
-        (Lacks S.facts blocks.old.disk.store blocks.new.disk.store) }
+        (IsEnvironmentFault S.facts blocks.old.disk.store blocks.new.disk.store) }
     ensures small { IfOk result (λ n. n ≤ capacity) }
 {
     blocks.load(handle)?;
@@ -40,18 +40,18 @@ pub(crate) fn relinked_at<S: Store>(
     alloc: Global,
     blocks: &mut FileBlocks<S>,
     handle: VmHandle,
-    names: &Names,
+    names: &Renaming,
 ) -> Result<Vec<u8>, Fault>
     // Asked of the caller.
     requires room { is_full blocks.old ≡ false }
     requires live { is_live blocks.old.document handle.0 ≡ true }
-    requires member { IsSteady S.facts blocks.old.disk.store → is_member blocks.old.document handle.0 ≡ true }
+    requires member { IsHonest S.facts blocks.old.disk.store → is_member blocks.old.document handle.0 ≡ true }
     // What stays.
-    ensures keeps { Keeps S.facts blocks.old blocks.new }
+    ensures keeps { KeepsBlocks S.facts blocks.old blocks.new }
     // What is answered.
     ensures value { MatchResult result
         (λ bytes. bytes.items ≡ relinked (name_in names.now) (raw_bytes_of blocks.new.document handle.0))
-        (Lacks S.facts blocks.old.disk.store blocks.new.disk.store) }
+        (IsEnvironmentFault S.facts blocks.old.disk.store blocks.new.disk.store) }
     ensures small { IfOk result (λ bytes. length bytes.items ≤ capacity) }
     ensures raw { IfOk result (λ _. is_heap blocks.new.document handle.0 ≡ false) }
 {
@@ -70,15 +70,15 @@ pub(crate) fn saved_at<S: Store>(
     alloc: Global,
     blocks: &mut FileBlocks<S>,
     handle: VmHandle,
-) -> Result<SavedBlock, Fault>
+) -> Result<BlockImage, Fault>
     requires room { is_full blocks.old ≡ false }
     requires live { is_live blocks.old.document handle.0 ≡ true }
-    ensures keeps { Keeps S.facts blocks.old blocks.new }
+    ensures keeps { KeepsBlocks S.facts blocks.old blocks.new }
     ensures value { MatchResult result
-        (λ saved. saved_block saved ≡ block_at blocks.new.document handle.0)
-        (Lacks S.facts blocks.old.disk.store blocks.new.disk.store) }
+        (λ saved. imaged_block saved ≡ block_at blocks.new.document handle.0)
+        (IsEnvironmentFault S.facts blocks.old.disk.store blocks.new.disk.store) }
 {
     blocks.load(handle)?;
     let attributes = blocks.attributes(handle);
-    Ok(saved_block(alloc, attributes, blocks.body(handle))?)
+    Ok(imaged_block(alloc, attributes, blocks.body(handle))?)
 }

@@ -3,11 +3,11 @@ ghost use Rattle.std.specs.Prelude.{◌≡◌, ◌⊎◌, None, Some, true, fals
 ghost use Rattle.geos_model.specs.Chain.{chain, is_member, on_chain};
 ghost use Rattle.geos_model.specs.Document.{is_raw};
 ghost use Rattle.geos_model.specs.declared.fault.Fault.TheVariants.{BadChain};
-ghost use Rattle.vm_blocks.specs.Keeping.{Keeps, IsSteady, Lacks, is_full};
-ghost use Rattle.vm_blocks.specs.Kinds.{IsOfOther};
-ghost use Rattle.vm_chains.specs.Answers.{Answers, IsWalkRefusal};
+ghost use Rattle.vm_blocks.specs.Keeping.{KeepsBlocks, IsHonest, IsEnvironmentFault, is_full};
+ghost use Rattle.vm_blocks.specs.Kinds.{IsWrongBlock};
+ghost use Rattle.vm_chains.specs.Answers.{AnswersChain, IsWalkRefusal};
 ghost use Rattle.vm_chains.specs.Numbers.{numbers};
-ghost use Rattle.vm_chains.specs.Walking.{AreBlocks, AreMembers, BeginsWith, GoesOn, Stops};
+ghost use Rattle.vm_chains.specs.Walking.{AreBlocks, CanBeMembers, BeginsWith, GoesOn, Stops};
 
 use crate::links::{links_of, push_links};
 use crate::met::Met;
@@ -26,18 +26,20 @@ pub fn walk<S: Store>(
     // Asked of the caller.
     requires room { is_full blocks.old ≡ false }
     // What stays.
-    ensures keeps { Keeps S.facts blocks.old blocks.new }
+    ensures keeps { KeepsBlocks S.facts blocks.old blocks.new }
     // What is answered.
-    ensures value { IsSteady S.facts blocks.old.disk.store
-        → Answers (Lacks S.facts blocks.old.disk.store blocks.new.disk.store) (on_chain blocks.new.document root.0)
+    ensures value { IsHonest S.facts blocks.old.disk.store
+        → AnswersChain (IsEnvironmentFault S.facts blocks.old.disk.store blocks.new.disk.store)
+        (on_chain blocks.new.document root.0)
         (λ handles. chain blocks.new.document root.0 ≡ Some (numbers handles.items)) result }
     ensures root { IfOk result (λ handles. BeginsWith root.0 (numbers handles.items)) }
     ensures live { IfOk result (λ handles. AreBlocks blocks.new.document handles.items) }
-    ensures members { IsSteady S.facts blocks.old.disk.store
-        → IfOk result (λ handles. AreMembers blocks.new.document handles.items) }
+    ensures members { IsHonest S.facts blocks.old.disk.store
+        → IfOk result (λ handles. CanBeMembers blocks.new.document handles.items) }
     // Refusals.
-    ensures refusals { IfErr result (IsWalkRefusal (Lacks S.facts blocks.old.disk.store blocks.new.disk.store)
-        (IsOfOther is_raw blocks.old.document root.0)) }
+    ensures refusals { IfErr result
+        (IsWalkRefusal (IsEnvironmentFault S.facts blocks.old.disk.store blocks.new.disk.store)
+        (IsWrongBlock is_raw blocks.old.document root.0)) }
 {
     test_root(blocks, root)?;
     walk_from(alloc, blocks, root)
@@ -47,7 +49,7 @@ pub fn walk<S: Store>(
 pub fn test_root<S: Store>(blocks: &FileBlocks<S>, root: VmHandle) -> Result<(), Fault>
     ensures { MatchResult result
         (λ _. is_raw blocks.now.document root.0 ≡ true)
-        (IsOfOther is_raw blocks.now.document root.0) }
+        (IsWrongBlock is_raw blocks.now.document root.0) }
 {
     if !blocks.is_live(root) {
         return Err(Fault::NoBlock);
@@ -67,18 +69,19 @@ pub(crate) fn walk_from<S: Store>(
     // Asked of the caller.
     requires room { is_full blocks.old ≡ false }
     // What stays.
-    ensures keeps { Keeps S.facts blocks.old blocks.new }
+    ensures keeps { KeepsBlocks S.facts blocks.old blocks.new }
     // What is answered.
-    ensures value { IsSteady S.facts blocks.old.disk.store → MatchResult result
+    ensures value { IsHonest S.facts blocks.old.disk.store → MatchResult result
         (λ handles. chain blocks.new.document root.0 ≡ Some (numbers handles.items))
-        (Stops (Lacks S.facts blocks.old.disk.store blocks.new.disk.store) (chain blocks.new.document root.0 ≡ None)) }
+        (Stops (IsEnvironmentFault S.facts blocks.old.disk.store blocks.new.disk.store)
+        (chain blocks.new.document root.0 ≡ None)) }
     ensures root { IfOk result (λ handles. BeginsWith root.0 (numbers handles.items)) }
     ensures live { IfOk result (λ handles. AreBlocks blocks.new.document handles.items) }
-    ensures members { IsSteady S.facts blocks.old.disk.store
-        → IfOk result (λ handles. AreMembers blocks.new.document handles.items) }
+    ensures members { IsHonest S.facts blocks.old.disk.store
+        → IfOk result (λ handles. CanBeMembers blocks.new.document handles.items) }
     // Refusals.
     ensures refusals { IfErr result
-        (λ fault. Lacks S.facts blocks.old.disk.store blocks.new.disk.store fault ⊎ (fault ≡ BadChain)) }
+        (λ fault. IsEnvironmentFault S.facts blocks.old.disk.store blocks.new.disk.store fault ⊎ (fault ≡ BadChain)) }
 {
     blocks.validity();
     let mut met = Met::new(alloc)?;
@@ -108,10 +111,10 @@ fn follow<S: Store>(
     pending: &mut Pending,
 ) -> Result<(), Fault>
     requires room { is_full blocks.old ≡ false }
-    ensures keeps { Keeps S.facts blocks.old blocks.new }
+    ensures keeps { KeepsBlocks S.facts blocks.old blocks.new }
     ensures value { MatchResult result
         (λ _. GoesOn blocks.new.document handle.0 pending.old pending.new)
-        (Stops (Lacks S.facts blocks.old.disk.store blocks.new.disk.store)
+        (Stops (IsEnvironmentFault S.facts blocks.old.disk.store blocks.new.disk.store)
         (is_member blocks.new.document handle.0 ≡ false)) }
 {
     if !blocks.is_live(handle) {

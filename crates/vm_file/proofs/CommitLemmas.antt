@@ -9,11 +9,11 @@ use Rattle.geos_model.specs.declared.fault.Fault.{Fault}
 use Rattle.geos_model.specs.declared.file.Extent.{Extent}
 use Rattle.geos_model.proofs.Table.{table_map}
 use Rattle.vm_file.specs.Ranges.{IsPlaced, KeepsAll, end_of}
-use Rattle.vm_file.specs.Slots.{turned, FailedEarly, Failed, Outcome, Leaves, Outlives, AreKept, block_extents, stored_extents, pair_extents, prepared_extents, marked_extents}
+use Rattle.vm_file.specs.Slots.{switched, FailedEarly, Failed, Outcome, CrashLeavesSlots, Outlives, AreExtentsPlaced, block_extents, stored_extents, pair_extents, prepared_extents, marked_extents}
 use Rattle.vm_file.specs.Documents.{Documents, document_in, documents_in, attempted_in, AreImaged, AreStored, IsPreparedStored}
-use Rattle.vm_file.specs.Disk.{readable, StandsForOne, Crash, MarkDrifts, IsTried, AddsNothing, Commits}
+use Rattle.vm_file.specs.Disk.{recoverable, StandsForOne, Crash, MarkSameUnlessCorrupt, IsInDoubt, LeavesNoTrace, MayCommit}
 use Rattle.vm_file.specs.Sound.{AreTables, IsFormed, IsWhole, IsSound, disk_of}
-use Rattle.vm_file.specs.declared.table.Table.{Table}
+use Rattle.vm_file.specs.declared.table.BlockTable.{BlockTable}
 use Rattle.vm_file.specs.declared.table.Pair.{Pair}
 use Rattle.vm_file.specs.declared.slot.SpareSlot.{SpareSlot}
 use Rattle.vm_file.specs.declared.slot.SpareSlot.TheVariants.{Shut, Prepared}
@@ -27,7 +27,7 @@ use Rattle.vm_file.proofs.StandsLemmas.{outcome_stands, sound_readable, sound_se
 use Rattle.vm_file.proofs.TableLemmas.{blocks_same, images_same}
 
 -- What a file has, whatever a crash may leave of it.
-pub record HasAll (file : List ℕ) (live : Table) (slots : Slots) : Type 0 where
+pub record HasAll (file : List ℕ) (live : BlockTable) (slots : Slots) : Type 0 where
   pub images : AreImaged file live.places.items
   pub within : All (λ e. end_of e ≤ length file) (block_extents live.places.items)
   pub committed : AreStored slots.version file slots.committed
@@ -35,12 +35,12 @@ pub record HasAll (file : List ℕ) (live : Table) (slots : Slots) : Type 0 wher
   pub marked : IfSome slots.marked (λ t. AreImaged file t.places.items)
   pub marked_within : All (λ e. end_of e ≤ length file) (marked_extents slots.marked)
 
-pub whole_has : (store : StoreFacts) (live : Table) (slots : Slots) → IsWhole store live slots → HasAll store.content live slots
+pub whole_has : (store : StoreFacts) (live : BlockTable) (slots : Slots) → IsWhole store live slots → HasAll store.content live slots
 whole_has store live slots whole = record { images = whole.images; within = whole.within; committed = whole.committed; prepared = whole.prepared; marked = whole.marked; marked_within = whole.marked_within }
 
 -- The file is whole again, and so are its documents, after calls that keep the bytes.
-module _ (file : List ℕ) (b : StoreFacts) (live : Table) (slots : Slots) (now : b.may_leave b.content) (has : HasAll file live slots) (keeps : KeepsAll (block_extents live.places.items) file b.content)
-    (keeps_marked : KeepsAll (marked_extents slots.marked) file b.content) (leaves : Leaves b slots file) where
+module _ (file : List ℕ) (b : StoreFacts) (live : BlockTable) (slots : Slots) (now : b.may_leave b.content) (has : HasAll file live slots) (keeps : KeepsAll (block_extents live.places.items) file b.content)
+    (keeps_marked : KeepsAll (marked_extents slots.marked) file b.content) (leaves : CrashLeavesSlots b slots file) where
   kept : KeepsAll (pair_extents slots.committed) file b.content × KeepsAll (prepared_extents slots.spare) file b.content
   kept = outcome_keeps slots file b.content (leaves b.content now)
 
@@ -69,7 +69,7 @@ module _ (file : List ℕ) (b : StoreFacts) (live : Table) (slots : Slots) (now 
 -- A commit of a pair that lies in the file.
 module _ (file : List ℕ) (slots : Slots) (pair : Pair) (was_readable : AreReadable slots file) (range : slots.sequence + 1 < 2 ^ 64) (tables : AreTables pair) (placed : All IsPlaced (pair_extents pair)) (stored : AreStored 2 file pair) where
   -- with another slot that doesn't count
-  readable_with : (spare : SpareSlot) → AreKept (record slots { spare = spare }) → IsPreparedReadable file slots.sequence spare → AreReadable (record slots { spare = spare }) file
+  readable_with : (spare : SpareSlot) → AreExtentsPlaced (record slots { spare = spare }) → IsPreparedReadable file slots.sequence spare → AreReadable (record slots { spare = spare }) file
   readable_with spare kept prepared = record {
     versioned = was_readable.versioned;
     some = was_readable.some;
@@ -129,7 +129,7 @@ module _ (file : List ℕ) (slots : Slots) (pair : Pair) (was_readable : AreRead
 
 -- The slots after a commit.
 
-failed_has : (file : List ℕ) (live : Table) (slots now : Slots) (pair : Pair) → Failed slots pair now → HasAll file live slots → AreStored 2 file pair → HasAll file live now
+failed_has : (file : List ℕ) (live : BlockTable) (slots now : Slots) (pair : Pair) → Failed slots pair now → HasAll file live slots → AreStored 2 file pair → HasAll file live now
 failed_has file live slots now pair failed has stored =
     let P : Slots → Type 0 = λ s. HasAll file live s in
     elim failed as (λ _. P now) [
@@ -138,17 +138,17 @@ failed_has file live slots now pair failed has stored =
       | inr is_prepared ↦ subst P (sym is_prepared) (record { images = has.images; within = has.within; committed = has.committed; prepared = stored; marked = has.marked; marked_within = has.marked_within })
     ]
 
-failed_formed : (live : Table) (slots now : Slots) (pair : Pair) → Failed slots pair now → IsFormed live slots → AreTables pair → All IsPlaced (pair_extents pair) → slots.sequence + 1 < 2 ^ 64 → IsFormed live now
+failed_formed : (live : BlockTable) (slots now : Slots) (pair : Pair) → Failed slots pair now → IsFormed live slots → AreTables pair → All IsPlaced (pair_extents pair) → slots.sequence + 1 < 2 ^ 64 → IsFormed live now
 failed_formed live slots now pair failed formed tables placed range =
     let P : Slots → Type 0 = λ s. IsFormed live s in
     let kept = failed_kept slots now pair failed formed.kept placed in
     elim failed as (λ _. P now) [
       | inl (inl same) ↦ subst P (sym same) formed
-      | inl (inr shut) ↦ subst P (sym shut) (record { table = formed.table; placed = formed.placed; committed = formed.committed; prepared = tt; marked = formed.marked; kept = subst AreKept shut kept; version = formed.version; numbered = formed.numbered; in_range = formed.in_range })
-      | inr is_prepared ↦ subst P (sym is_prepared) (record { table = formed.table; placed = formed.placed; committed = formed.committed; prepared = (tables, range); marked = formed.marked; kept = subst AreKept is_prepared kept; version = formed.version; numbered = formed.numbered; in_range = formed.in_range })
+      | inl (inr shut) ↦ subst P (sym shut) (record { table = formed.table; placed = formed.placed; committed = formed.committed; prepared = tt; marked = formed.marked; kept = subst AreExtentsPlaced shut kept; version = formed.version; numbered = formed.numbered; in_range = formed.in_range })
+      | inr is_prepared ↦ subst P (sym is_prepared) (record { table = formed.table; placed = formed.placed; committed = formed.committed; prepared = (tables, range); marked = formed.marked; kept = subst AreExtentsPlaced is_prepared kept; version = formed.version; numbered = formed.numbered; in_range = formed.in_range })
     ]
 
-turned_formed : (live : Table) (slots : Slots) (pair : Pair) → IsFormed live slots → AreTables pair → All IsPlaced (pair_extents pair) → slots.sequence + 1 < 2 ^ 64 → IsFormed live (turned slots pair)
+turned_formed : (live : BlockTable) (slots : Slots) (pair : Pair) → IsFormed live slots → AreTables pair → All IsPlaced (pair_extents pair) → slots.sequence + 1 < 2 ^ 64 → IsFormed live (switched slots pair)
 turned_formed live slots pair formed tables placed range = record {
   table = formed.table;
   placed = formed.placed;
@@ -162,7 +162,7 @@ turned_formed live slots pair formed tables placed range = record {
 }
 
 -- A commit, acknowledged or not: what is known of the file before, and what the steps of the commit leave.
-pub record IsCommit {S : Type 0} (facts : S → StoreFacts) (a b : S) (live : Table) (slots now : Slots) (pair : Pair) : Type 1 where
+pub record IsCommit {S : Type 0} (facts : S → StoreFacts) (a b : S) (live : BlockTable) (slots now : Slots) (pair : Pair) : Type 1 where
   pub formed : IsFormed live slots
   pub range : slots.sequence + 1 < 2 ^ 64
   pub tables : AreTables pair
@@ -173,19 +173,19 @@ pub record IsCommit {S : Type 0} (facts : S → StoreFacts) (a b : S) (live : Ta
   pub failures : (facts a).failures ≤ (facts b).failures
   pub now_there : IsTrue (facts b).honest → (facts b).may_leave (facts b).content
   pub elsewhere : IsTrue (facts a).honest → Torn 0 1024 (facts a).content (facts b).content
-  pub crash : IsTrue (facts a).honest → Leaves (facts a) slots (facts a).content → KeepsAll (pair_extents pair) (facts a).content (facts a).content → Outlives (facts a) (facts b) (facts a).content (λ s. Failed slots pair s)
-  pub leaves : IsTrue (facts a).honest → Leaves (facts a) slots (facts a).content → KeepsAll (pair_extents pair) (facts a).content (facts a).content → Leaves (facts b) now (facts a).content
+  pub crash : IsTrue (facts a).honest → CrashLeavesSlots (facts a) slots (facts a).content → KeepsAll (pair_extents pair) (facts a).content (facts a).content → Outlives (facts a) (facts b) (facts a).content (λ s. Failed slots pair s)
+  pub leaves : IsTrue (facts a).honest → CrashLeavesSlots (facts a) slots (facts a).content → KeepsAll (pair_extents pair) (facts a).content (facts a).content → CrashLeavesSlots (facts b) now (facts a).content
 
 -- The pair is prepared, or a crash left nothing of it.
 abbrev pub FailsEarly : Slots → Pair → Slots → StoreFacts → StoreFacts → Type 0
 FailsEarly old pair new a b =
-    (new ≡ record old { spare = Prepared pair }) ⊎ ((file : List ℕ) → IsTrue a.honest → Leaves a old file → Outlives a b file (λ s. FailedEarly old s))
+    (new ≡ record old { spare = Prepared pair }) ⊎ ((file : List ℕ) → IsTrue a.honest → CrashLeavesSlots a old file → Outlives a b file (λ s. FailedEarly old s))
 
 pub counts_rise : {T E : Type 0} (r : Result T E) (a b : StoreFacts) → Counts r a b → a.failures ≤ b.failures
 counts_rise (Ok x) a b same = omega (arith, same)
 counts_rise (Err x) a b more = omega (arith, more)
 
-module _ {S : Type 0} (facts : S → StoreFacts) (a b : S) (live : Table) (slots now : Slots) (pair : Pair) (call : IsCommit facts a b live slots now pair) where
+module _ {S : Type 0} (facts : S → StoreFacts) (a b : S) (live : BlockTable) (slots now : Slots) (pair : Pair) (call : IsCommit facts a b live slots now pair) where
   pair_there : IsTrue (facts a).honest → KeepsAll (pair_extents pair) (facts a).content (facts a).content
   pair_there so =
       let updated = stored_within 2 (facts a).content pair.updated (call.stored so).updated in
@@ -201,18 +201,18 @@ module _ {S : Type 0} (facts : S → StoreFacts) (a b : S) (live : Table) (slots
   live_kept : IsTrue (facts a).honest → KeepsAll (block_extents live.places.items) (facts a).content (facts b).content
   live_kept so = still_kept (block_extents live.places.items) call.formed.placed so (call.whole so).within
 
-  left : IsTrue (facts a).honest → Leaves (facts b) now (facts a).content
+  left : IsTrue (facts a).honest → CrashLeavesSlots (facts b) now (facts a).content
   left so = call.leaves so (call.whole so).leaves (pair_there so)
 
   then_honest : IsTrue (facts b).honest → IsTrue (facts a).honest
   then_honest so = subst IsTrue call.honest so
 
-  pub call_crash : IsTrue (facts a).honest → Crash (facts a) (facts b) (documents_in (facts a).content pair ∷ readable (disk_of facts a slots))
+  pub call_crash : IsTrue (facts a).honest → Crash (facts a) (facts b) (documents_in (facts a).content pair ∷ recoverable (disk_of facts a slots))
   call_crash so =
       let was = call.whole so in
       commit_crash (facts a).content slots pair (sound_readable (facts a) live slots call.formed was) call.range call.tables call.placed (call.stored so) (facts a) (facts b) (call.crash so was.leaves (pair_there so))
 
-  commit_early : IsTrue (facts a).honest → Outlives (facts a) (facts b) (facts a).content (λ s. FailedEarly slots s) → Crash (facts a) (facts b) (readable (disk_of facts a slots))
+  commit_early : IsTrue (facts a).honest → Outlives (facts a) (facts b) (facts a).content (λ s. FailedEarly slots s) → Crash (facts a) (facts b) (recoverable (disk_of facts a slots))
   commit_early so outlives =
       let was = call.whole so in
       early_crash (facts a).content slots pair (sound_readable (facts a) live slots call.formed was) call.range call.tables call.placed (call.stored so) (facts a) (facts b) outlives
@@ -234,10 +234,10 @@ module _ {S : Type 0} (facts : S → StoreFacts) (a b : S) (live : Table) (slots
     commit_attempted : IsTrue (facts a).honest → attempted_in (facts b).content now.spare ≡ attempted_in (facts a).content now.spare
     commit_attempted so = (attempted_now (facts a).content (facts b) live now (call.now_there (subst IsTrue (sym call.honest) so)) (has so) (live_kept so) (marked_kept so) (left so)).1
 
-    commit_marked : now.marked ≡ slots.marked → MarkDrifts (facts a).honest (option_map (document_in (facts a).content) slots.marked) (option_map (document_in (facts b).content) now.marked)
+    commit_marked : now.marked ≡ slots.marked → MarkSameUnlessCorrupt (facts a).honest (option_map (document_in (facts a).content) slots.marked) (option_map (document_in (facts b).content) now.marked)
     commit_marked same =
         let honest = (facts a).honest in
-        subst (λ m. MarkDrifts honest (option_map (document_in (facts a).content) m) (option_map (document_in (facts b).content) now.marked)) same
+        subst (λ m. MarkSameUnlessCorrupt honest (option_map (document_in (facts a).content) m) (option_map (document_in (facts b).content) now.marked)) same
         (marked_drifts honest (facts a).content (facts b).content now.marked (λ so. (has so).marked_within) marked_kept)
 
     pub commit_live : IsTrue (facts a).honest → document_in (facts b).content live ≡ document_in (facts a).content live
@@ -278,28 +278,28 @@ module _ {S : Type 0} (facts : S → StoreFacts) (a b : S) (live : Table) (slots
         record { versioned = now_formed.version; some = now_formed.numbered; in_range = now_formed.in_range; placed = now_formed.kept; tables = now_formed.committed; committed = has.committed; prepared = prepared_readable (facts a).content now.sequence now.spare now_formed.prepared has.prepared }
 
     -- the pair is prepared, and one gate away
-    prepared_tried : IsTrue (facts a).honest → now ≡ record slots { spare = Prepared pair } → IsTried facts (documents_in (facts a).content pair) (disk_of facts b now)
+    prepared_tried : IsTrue (facts a).honest → now ≡ record slots { spare = Prepared pair } → IsInDoubt facts (documents_in (facts a).content pair) (disk_of facts b now)
     unfolding now_formed has_all
     prepared_tried so is_prepared =
         let attempts : Slots → List Documents = λ s. attempted_in (facts a).content s.spare in
         record {
-          attempted = commit_attempted now_formed has_all so ∙ ap attempts is_prepared;
+          in_doubt = commit_attempted now_formed has_all so ∙ ap attempts is_prepared;
           gate = attempted_away (facts b) now (facts a).content (documents_in (facts a).content pair) (ap attempts is_prepared) (readable_now so) (left so);
         }
 
     -- the pair is prepared, or nothing of it can be read
-    added : FailsEarly slots pair now (facts a) (facts b) → IsTrue (facts a).honest → IsTried facts (documents_in (facts a).content pair) (disk_of facts b now) ⊎ AddsNothing facts (disk_of facts a slots) (disk_of facts b now)
+    added : FailsEarly slots pair now (facts a) (facts b) → IsTrue (facts a).honest → IsInDoubt facts (documents_in (facts a).content pair) (disk_of facts b now) ⊎ LeavesNoTrace facts (disk_of facts a slots) (disk_of facts b now)
     unfolding now_formed has_all
     added early so =
         let attempts : Slots → List Documents = λ s. attempted_in (facts a).content s.spare in
         let same = commit_attempted now_formed has_all so in
-        elim failed as (λ _. IsTried facts (documents_in (facts a).content pair) (disk_of facts b now) ⊎ AddsNothing facts (disk_of facts a slots) (disk_of facts b now)) [
+        elim failed as (λ _. IsInDoubt facts (documents_in (facts a).content pair) (disk_of facts b now) ⊎ LeavesNoTrace facts (disk_of facts a slots) (disk_of facts b now)) [
           | inr is_prepared ↦ inl (prepared_tried so is_prepared)
-          | inl before ↦ elim early as (λ _. IsTried facts (documents_in (facts a).content pair) (disk_of facts b now) ⊎ AddsNothing facts (disk_of facts a slots) (disk_of facts b now)) [
+          | inl before ↦ elim early as (λ _. IsInDoubt facts (documents_in (facts a).content pair) (disk_of facts b now) ⊎ LeavesNoTrace facts (disk_of facts a slots) (disk_of facts b now)) [
             | inl is_prepared ↦ inl (prepared_tried so is_prepared)
             | inr outlives ↦ inr (record {
               crash = commit_early so (outlives (facts a).content so (call.whole so).leaves);
-              attempted = elim before as (λ _. (attempted_in (facts b).content now.spare ≡ attempted_in (facts a).content slots.spare) ⊎ (attempted_in (facts b).content now.spare ≡ [])) [
+              in_doubt = elim before as (λ _. (attempted_in (facts b).content now.spare ≡ attempted_in (facts a).content slots.spare) ⊎ (attempted_in (facts b).content now.spare ≡ [])) [
                 | inl still ↦ inl (same ∙ ap attempts still)
                 | inr shut ↦ inr (same ∙ ap attempts shut)
               ];
@@ -307,13 +307,13 @@ module _ {S : Type 0} (facts : S → StoreFacts) (a b : S) (live : Table) (slots
           ]
         ]
 
-    pub err_commits : FailsEarly slots pair now (facts a) (facts b) → (fault : Fault) → Commits facts (documents_in (facts a).content pair) (disk_of facts a slots) (disk_of facts b now) (Err fault)
+    pub err_commits : FailsEarly slots pair now (facts a) (facts b) → (fault : Fault) → MayCommit facts (documents_in (facts a).content pair) (disk_of facts a slots) (disk_of facts b now) (Err fault)
     unfolding now_formed has_all same_pair added same_number same_mark
     err_commits early fault = record {
       honest = call.honest;
       failures = call.failures;
       crash = call_crash;
-      settled = sound_settled facts b live now err_sound;
+      crash_consistent = sound_settled facts b live now err_sound;
       ok = tt;
       numbered = tt;
       still_numbered = λ so was none. sound_numbered facts b live now err_sound (subst IsTrue (sym call.honest) so) none;
@@ -326,7 +326,7 @@ module _ {S : Type 0} (facts : S → StoreFacts) (a b : S) (live : Table) (slots
     }
 
   -- one that was
-  module _ (is : now ≡ turned slots pair) where
+  module _ (is : now ≡ switched slots pair) where
     turned_is : IsFormed live now
     turned_is = subst (λ s. IsFormed live s) (sym is) (turned_formed live slots pair call.formed call.tables call.placed call.range)
 
@@ -341,13 +341,13 @@ module _ {S : Type 0} (facts : S → StoreFacts) (a b : S) (live : Table) (slots
     unfolding turned_is turned_has
     ok_live = commit_live turned_is turned_has
 
-    pub ok_commits : Commits facts (documents_in (facts a).content pair) (disk_of facts a slots) (disk_of facts b now) (Ok tt)
+    pub ok_commits : MayCommit facts (documents_in (facts a).content pair) (disk_of facts a slots) (disk_of facts b now) (Ok tt)
     unfolding turned_is turned_has
     ok_commits = record {
       honest = call.honest;
       failures = call.failures;
       crash = call_crash;
-      settled = sound_settled facts b live now ok_sound;
+      crash_consistent = sound_settled facts b live now ok_sound;
       ok = λ so. (commit_committed turned_is turned_has so ∙ ap (λ (s : Slots). documents_in (facts a).content s.committed) is, commit_attempted turned_is turned_has so ∙ ap (λ (s : Slots). attempted_in (facts a).content s.spare) is);
       numbered = λ so. sound_numbered facts b live now ok_sound (subst IsTrue (sym call.honest) so) (ap (λ (s : Slots). attempted_in (facts b).content s.spare) is);
       still_numbered = tt;

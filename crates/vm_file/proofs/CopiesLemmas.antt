@@ -7,11 +7,11 @@ use Rattle.geos_model.specs.File.{Directory, directory_of}
 use Rattle.vm_file.specs.Ranges.{IsPlaced}
 use Rattle.vm_file.specs.Slots.{block_extents, stored_extents, pair_extents}
 use Rattle.vm_file.specs.Documents.{blocks_in, document_in, documents_in, entries_of, AreImaged, IsStored, AreStored}
-use Rattle.vm_file.specs.Sound.{ArePlaces, IsTable, AreTables, IsSound}
-use Rattle.vm_file.specs.Disk.{Drifts}
+use Rattle.vm_file.specs.Sound.{ArePlaces, IsBlockTable, AreTables, IsSound}
+use Rattle.vm_file.specs.Disk.{SameUnlessCorrupt}
 use Rattle.vm_file.specs.Copies.{IsCopy, IsStoredCopy}
 use Rattle.vm_file.specs.declared.table.Place.{Place}
-use Rattle.vm_file.specs.declared.table.Table.{Table}
+use Rattle.vm_file.specs.declared.table.BlockTable.{BlockTable}
 use Rattle.vm_file.specs.declared.table.DocumentRef.{DocumentRef}
 use Rattle.vm_file.specs.declared.table.Pair.{Pair}
 use Rattle.vm_file.specs.declared.slot.Slots.{Slots}
@@ -21,13 +21,13 @@ use Rattle.vm_file.proofs.SoundLemmas.{EndsIn, sound_live, sound_marked, kept_pa
 use Rattle.vm_file.proofs.TableLemmas.{shown, places_drift}
 
 -- a property of the map block and the places
-copied : (P : ℕ → List (Option Place) → Type 0) (copy table : Table) → IsCopy copy table → P table.map_block table.places.items → P copy.map_block copy.places.items
+copied : (P : ℕ → List (Option Place) → Type 0) (copy table : BlockTable) → IsCopy copy table → P table.map_block table.places.items → P copy.map_block copy.places.items
 copied P copy table is p = subst (λ m. P m copy.places.items) (sym is.map_block) (subst (P table.map_block) (sym is.places) p)
 
-pub copy_document : (file : List ℕ) (copy table : Table) → IsCopy copy table → document_in file copy ≡ document_in file table
+pub copy_document : (file : List ℕ) (copy table : BlockTable) → IsCopy copy table → document_in file copy ≡ document_in file table
 copy_document file copy table is = ap₂ (shown file) is.places is.map_block
 
-pub copy_formed : (copy table : Table) → IsCopy copy table → IsTable table → IsTable copy
+pub copy_formed : (copy table : BlockTable) → IsCopy copy table → IsBlockTable table → IsBlockTable copy
 copy_formed copy table is was = record {
   size = (let long = ap length is.places in let few = was.size in omega (arith, long, few));
   places = subst ArePlaces (sym is.places) was.places;
@@ -52,7 +52,7 @@ module _ (file : List ℕ) (pair : Pair) (updated saved : DocumentRef) (first : 
   pub pair_documents : documents_in file pair ≡ (document_in file updated.table, document_in file saved.table)
   pair_documents = λ i. (copy_document file pair.updated.table updated.table first.table i, copy_document file pair.saved.table saved.table second.table i)
 
-  pub pair_tables : IsTable updated.table → IsTable saved.table → AreTables pair
+  pub pair_tables : IsBlockTable updated.table → IsBlockTable saved.table → AreTables pair
   pair_tables u s = record { updated = copy_formed pair.updated.table updated.table first.table u; saved = copy_formed pair.saved.table saved.table second.table s }
 
   pub pair_placed : All IsPlaced (stored_extents updated) → All IsPlaced (stored_extents saved) → All IsPlaced (pair_extents pair)
@@ -62,7 +62,7 @@ module _ (file : List ℕ) (pair : Pair) (updated saved : DocumentRef) (first : 
   pair_stored version u s = record { updated = copy_document_ref version file pair.updated updated first u; saved = copy_document_ref version file pair.saved saved second s }
 
 -- the saved document, as the live one
-pub sound_saved : (store : StoreFacts) (live copy : Table) (slots : Slots) → IsCopy copy slots.committed.saved.table → IsSound store live slots → IsSound store copy slots
+pub sound_saved : (store : StoreFacts) (live copy : BlockTable) (slots : Slots) → IsCopy copy slots.committed.saved.table → IsSound store live slots → IsSound store copy slots
 sound_saved store live copy slots is sound =
     let saved = slots.committed.saved in
     let placed = all_right IsPlaced (stored_extents slots.committed.updated) (stored_extents saved) (kept_pair IsPlaced slots sound.formed.kept) in
@@ -71,23 +71,23 @@ sound_saved store live copy slots is sound =
     (λ so. subst (λ ps. All (EndsIn store.content) (block_extents ps)) (sym is.places) (stored_within slots.version store.content saved (sound.whole so).committed.saved).1)
 
 -- and the live one marked
-pub sound_copied : (store : StoreFacts) (live copy : Table) (slots : Slots) → IsCopy copy live → IsSound store live slots → IsSound store live (record slots { marked = Some copy })
+pub sound_copied : (store : StoreFacts) (live copy : BlockTable) (slots : Slots) → IsCopy copy live → IsSound store live slots → IsSound store live (record slots { marked = Some copy })
 sound_copied store live copy slots is sound =
     sound_marked store live slots (Some copy) sound (copy_formed copy live is sound.formed.table) (subst (λ ps. All IsPlaced (block_extents ps)) (sym is.places) sound.formed.placed)
     (λ so. subst (AreImaged store.content) (sym is.places) (sound.whole so).images) (λ so. subst (λ ps. All (EndsIn store.content) (block_extents ps)) (sym is.places) (sound.whole so).within)
 
 -- a copy of what was copied
-pub copies_alike : (copy other table : Table) → IsCopy copy table → IsCopy other table → IsCopy copy other
+pub copies_alike : (copy other table : BlockTable) → IsCopy copy table → IsCopy other table → IsCopy copy other
 copies_alike copy other table is same = record { map_block = is.map_block ∙ sym same.map_block; places = is.places ∙ sym same.places }
 
-pub copy_itself : (table : Table) → IsCopy table table
+pub copy_itself : (table : BlockTable) → IsCopy table table
 copy_itself table = record { map_block = refl; places = refl }
 
 -- the document of a table, or of its copy, in another file
-pub copy_drifts : (honest : Bool) (file c : List ℕ) (copy table : Table) → IsCopy copy table → (IsTrue honest → document_in c copy ≡ document_in file table) → Drifts honest (document_in file table) (document_in c copy)
+pub copy_drifts : (honest : Bool) (file c : List ℕ) (copy table : BlockTable) → IsCopy copy table → (IsTrue honest → document_in c copy ≡ document_in file table) → SameUnlessCorrupt honest (document_in file table) (document_in c copy)
 copy_drifts honest file c copy table is same =
     let nothing : IsTrue false → blocks_in c table.places.items ≡ blocks_in file table.places.items = λ no. absurd (cc no) in
-    let drift = subst (λ d. Drifts false (document_in file table) d) (sym (copy_document c copy table is)) (places_drift false file c table.places.items table.map_block nothing) in
+    let drift = subst (λ d. SameUnlessCorrupt false (document_in file table) d) (sym (copy_document c copy table is)) (places_drift false file c table.places.items table.map_block nothing) in
     record { live = drift.live; attributes = drift.attributes; kinds = drift.kinds; map_block = drift.map_block; same = same }
 
 -- The saved document beside one that is to be committed: a copy of that one, or of the one that was saved.
@@ -96,7 +96,7 @@ pub beside_alike : (saves : Bool) (copy pending committed : DocumentRef) → IsS
 beside_alike true copy pending committed is = inr is
 beside_alike false copy pending committed is = inl is
 
-pub beside_document : (file : List ℕ) (saves : Bool) (copy pending committed : DocumentRef) (live : Table) → IsStoredCopy copy (if saves then pending else committed) → IsCopy pending.table live
+pub beside_document : (file : List ℕ) (saves : Bool) (copy pending committed : DocumentRef) (live : BlockTable) → IsStoredCopy copy (if saves then pending else committed) → IsCopy pending.table live
     → document_in file copy.table ≡ (if saves then document_in file live else document_in file committed.table)
 beside_document file true copy pending committed live is table = copy_document file copy.table pending.table is.table ∙ copy_document file pending.table live table
 beside_document file false copy pending committed live is table = copy_document file copy.table committed.table is.table

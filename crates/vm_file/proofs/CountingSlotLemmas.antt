@@ -10,14 +10,14 @@ use Rattle.byteorder.specs.Numbers.{little_number-reads_back}
 use Rattle.vm_store.specs.Facts.{byte, Holds}
 use Rattle.geos_model.specs.Bytes.{same_bytes}
 use Rattle.geos_model.specs.Words.{word_at, quad_word_at}
-use Rattle.geos_model.specs.File.{extent_text, slot_of, slot_mark, slot_read, if_open, open_slot, counting_slot, pair_of_counting, stands}
+use Rattle.geos_model.specs.File.{extent_text, slot_of, slot_mark, slot_fields, if_open, open_slot, counting_slot, pair_of_counting, stands}
 use Rattle.geos_model.specs.declared.fault.Fault.{Fault}
 use Rattle.geos_model.specs.declared.file.Slot.{Slot}
 use Rattle.geos_model.proofs.Arrays.{same_bytes-is}
 use Rattle.geos_model.proofs.Files.{some_if, get_or_same}
 use Rattle.geos_model.proofs.Numbers.{number_law}
 use Rattle.vm_file.specs.Ranges.{end_of}
-use Rattle.vm_file.specs.Slots.{gate_text, pair_extents, Leads, IsUnmarked, IsOlder, IsBeside}
+use Rattle.vm_file.specs.Slots.{gate_text, pair_extents, LeadsTo, IsUnmarked, IsOlder, IsBeside}
 use Rattle.vm_file.specs.Opened.{IsRawSlot, IsActiveSlot, Beaten}
 use Rattle.vm_file.specs.declared.slot.RawSlot.{RawSlot}
 use Rattle.vm_file.specs.declared.table.Pair.{Pair}
@@ -48,7 +48,7 @@ module _ (file : List ℕ) (page : ℕ) where
   -- what is known of a slot that is open
   pub record IsOpened (s : Slot) : Type 0 where
     pub marked : take 4 (take 32 (drop (512 * page) file)) ≡ slot_mark
-    pub read : s ≡ slot_read (take 32 (drop (512 * page) file))
+    pub read : s ≡ slot_fields (take 32 (drop (512 * page) file))
     pub gate : slice_index (take 32 (drop (512 * page) file)) 4 ≡ 1
 
 pub is_opened : (file : List ℕ) (page : ℕ) (s : Slot) → open_slot file page ≡ Some s → IsOpened file page s
@@ -56,7 +56,7 @@ is_opened file page s e =
     let bytes = take 32 (drop (512 * page) file) in
     elim (cases_Bool (same_bytes (take 4 bytes) slot_mark)) as (λ _. IsOpened file page s) [
       | inl marked ↦
-          let here = some_if (slice_index bytes 4 == 1) (slot_read bytes) s (sym (ap (option_and_then if_open) (cond-true _ _ _ marked)) ∙ e) in
+          let here = some_if (slice_index bytes 4 == 1) (slot_fields bytes) s (sym (ap (option_and_then if_open) (cond-true _ _ _ marked)) ∙ e) in
           record { marked = same_bytes-is (take 4 bytes) slot_mark marked; read = sym here.1; gate = eqb-true (slice_index bytes 4) 1 here.0 }
       | inr other ↦ (let none : None ≡ Some s = sym (ap (option_and_then if_open) (cond-false _ _ _ other)) ∙ e in absurd (cc none))
     ]
@@ -130,7 +130,7 @@ pub record IsGood (s : Slot) (pair : Pair) : Type 0 where
   pub saved : pair.saved.directory ≡ s.saved
 
 pub slot_leads : (file : List ℕ) (page : ℕ) (s : Slot) (pair : Pair) → 512 * page + 32 ≤ length file → ((i : ℕ) → i < 32 → byte file (512 * page + i) < 256) → open_slot file page ≡ Some s → IsGood s pair
-    → All (λ e. end_of e ≤ length file) (pair_extents pair) → (byte file (512 * page + 4) ≡ 1) × Leads page s.version s.sequence pair file file
+    → All (λ e. end_of e ≤ length file) (pair_extents pair) → (byte file (512 * page + 4) ≡ 1) × LeadsTo page s.version s.sequence pair file file
 unfolding gate_text
 slot_leads file page s pair within small was good inside =
     let n : ℕ = 512 * page in
@@ -182,8 +182,8 @@ stale_beside file page n raw is beaten gate =
     let opened : slice_index bytes 4 ≡ 1 = same 4 (omega arith) ∙ sym is.gate ∙ gate in
     elim (cases_Bool (same_bytes (take 4 bytes) slot_mark)) as (λ _. IsUnmarked page file ⊎ IsOlder page n file) [
       | inl marked ↦
-          let there : open_slot file page ≡ Some (slot_read bytes) = ap (option_and_then if_open) (cond-true _ _ _ marked) ∙ cond-true _ _ _ (eq-eqb (slice_index bytes 4) 1 opened) in
-          inr (record { number = quad_word_at bytes 8; lower = lower_than (open_slot file page) (slot_read bytes) n there beaten; there = field_held file at 8 8 is.within (omega arith) is.bytes })
+          let there : open_slot file page ≡ Some (slot_fields bytes) = ap (option_and_then if_open) (cond-true _ _ _ marked) ∙ cond-true _ _ _ (eq-eqb (slice_index bytes 4) 1 opened) in
+          inr (record { number = quad_word_at bytes 8; lower = lower_than (open_slot file page) (slot_fields bytes) n there beaten; there = field_held file at 8 8 is.within (omega arith) is.bytes })
       | inr other ↦ inl (record {
         bytes = take 4 bytes;
         size = four;

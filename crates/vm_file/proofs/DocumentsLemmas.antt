@@ -8,7 +8,7 @@ use Rattle.geos_model.specs.declared.file.Entry.{Entry}
 use Rattle.geos_model.proofs.Files.{is_entry-parts, is_directory-parts, directory_in-some}
 use Rattle.geos_model.proofs.FileDocuments.{directory_of-some, directory_of-kept, directory_of-newer, is_in_file-parts}
 use Rattle.geos_model.proofs.Table.{table_map}
-use Rattle.vm_file.specs.Ranges.{Keeps, KeepsAll, end_of}
+use Rattle.vm_file.specs.Ranges.{KeepsExtent, KeepsAll, end_of}
 use Rattle.vm_file.specs.Slots.{block_extents, stored_extents, pair_extents, prepared_extents}
 use Rattle.vm_file.specs.Documents.{Documents, document_in, documents_in, attempted_in, entries_of, directory_of_table, IsStored, AreStored, IsPreparedStored}
 use Rattle.vm_file.specs.declared.table.Place.{Place}
@@ -55,8 +55,8 @@ stored_again version file c s stored keeps =
 
 pub pair_again : (version : ℕ) (file c : List ℕ) (pair : Pair) → AreStored version file pair → KeepsAll (pair_extents pair) file c → AreStored version c pair × (documents_in c pair ≡ documents_in file pair)
 pair_again version file c pair stored keeps =
-    let updated = stored_again version file c pair.updated stored.updated (all_left (Keeps file c) (stored_extents pair.updated) (stored_extents pair.saved) keeps) in
-    let saved = stored_again version file c pair.saved stored.saved (all_right (Keeps file c) (stored_extents pair.updated) (stored_extents pair.saved) keeps) in
+    let updated = stored_again version file c pair.updated stored.updated (all_left (KeepsExtent file c) (stored_extents pair.updated) (stored_extents pair.saved) keeps) in
+    let saved = stored_again version file c pair.saved stored.saved (all_right (KeepsExtent file c) (stored_extents pair.updated) (stored_extents pair.saved) keeps) in
     (record { updated = updated.0; saved = saved.0 }, λ i. (updated.1 i, saved.1 i))
 
 pub prepared_again : (file c : List ℕ) (spare : SpareSlot) → IsPreparedStored file spare → KeepsAll (prepared_extents spare) file c → IsPreparedStored c spare × (attempted_in c spare ≡ attempted_in file spare)

@@ -8,7 +8,7 @@ use Rattle.geos_model.specs.declared.file.Extent.{Extent}
 use Rattle.vm_space.specs.Placing.{IsLength}
 use Rattle.vm_space.specs.Space.{Space, AreTaken}
 use Rattle.vm_space.proofs.SpaceLemmas.{taken-permuted}
-use Rattle.vm_file.specs.FreeSpace.{IsKnown, Takes}
+use Rattle.vm_file.specs.FreeSpace.{IsSpaceOf, MarksTaken}
 use Rattle.vm_file.specs.Ranges.{IsPlaced}
 use Rattle.vm_file.specs.Slots.{block_extents}
 use Rattle.vm_file.specs.declared.table.Place.{Place}
@@ -48,18 +48,18 @@ same_extents (x ∷ xs) (suc at) place new is same = one_block x (set xs at (Som
 
 -- What is known.
 
-pub known-permuted : (xs ys : List Extent) (space : Option Space) → IsPermutation xs ys → IsKnown xs space → IsKnown ys space
+pub known-permuted : (xs ys : List Extent) (space : Option Space) → IsPermutation xs ys → IsSpaceOf xs space → IsSpaceOf ys space
 known-permuted xs ys None same known = tt
 known-permuted xs ys (Some s) same known = taken-permuted xs ys s same known
 
 -- and so there is one whose rest is this
-pub known_rest : (xs rest : List Extent) (space : Option Space) → IsKnown (xs ++ rest) space → IfSome space (λ s. (more : List Extent) × AreTaken (xs ++ more) s)
+pub known_rest : (xs rest : List Extent) (space : Option Space) → IsSpaceOf (xs ++ rest) space → IfSome space (λ s. (more : List Extent) × AreTaken (xs ++ more) s)
 known_rest xs rest None known = tt
 known_rest xs rest (Some s) known = (rest, known)
 
 -- One of the extents that were taken for blocks goes into the table, and what was there is to be given back.
-pub known-put : (places : List (Option Place)) (at : ℕ) (e : Extent) (p : Place) (extents kept : List Extent) (space : Option Space) → at < length places → p.extent ≡ e → IsKnown ((e ∷ extents) ++ (block_extents places ++ kept)) space
-    → IsKnown (block_extents (get_or places at None ∷ []) ++ (extents ++ (block_extents (set places at (Some p)) ++ kept))) space
+pub known-put : (places : List (Option Place)) (at : ℕ) (e : Extent) (p : Place) (extents kept : List Extent) (space : Option Space) → at < length places → p.extent ≡ e → IsSpaceOf ((e ∷ extents) ++ (block_extents places ++ kept)) space
+    → IsSpaceOf (block_extents (get_or places at None ∷ []) ++ (extents ++ (block_extents (set places at (Some p)) ++ kept))) space
 known-put places at e p extents kept space l is known =
     let gone : List Extent = block_extents (get_or places at None ∷ []) in
     let old : List Extent = block_extents places in
@@ -74,7 +74,7 @@ known-put places at e p extents kept space l is known =
     (swapped extents gone (now ++ kept)))) known
 
 -- A block is taken out.
-pub known-removed : (places : List (Option Place)) (at : ℕ) (kept : List Extent) (space : Option Space) → at < length places → IsKnown (block_extents places ++ kept) space → IsKnown (block_extents (get_or places at None ∷ []) ++ (block_extents (set places at None) ++ kept)) space
+pub known-removed : (places : List (Option Place)) (at : ℕ) (kept : List Extent) (space : Option Space) → at < length places → IsSpaceOf (block_extents places ++ kept) space → IsSpaceOf (block_extents (get_or places at None ∷ []) ++ (block_extents (set places at None) ++ kept)) space
 known-removed places at kept space l known =
     let gone : List Extent = block_extents (get_or places at None ∷ []) in
     let now : List Extent = block_extents (set places at None) in
@@ -82,23 +82,23 @@ known-removed places at kept space l known =
 
 -- More is taken.
 
-pub takes-none : (space : Space) → Takes [] space space
+pub takes-none : (space : Space) → MarksTaken [] space space
 takes-none space = record { count = omega arith; taken = λ taken are. are }
 
-pub takes-one : (xs : List Extent) (e : Extent) (a b c : Space) → Takes xs a b → c.count ≡ b.count + 1 → ((taken : List Extent) → AreTaken taken b → AreTaken (e ∷ taken) c) → Takes (xs ++ e ∷ []) a c
+pub takes-one : (xs : List Extent) (e : Extent) (a b c : Space) → MarksTaken xs a b → c.count ≡ b.count + 1 → ((taken : List Extent) → AreTaken taken b → AreTaken (e ∷ taken) c) → MarksTaken (xs ++ e ∷ []) a c
 takes-one xs e a b c first count held = record {
   count = (let long = length-append xs (e ∷ []) in let was = first.count in omega (arith, long, was, count));
   taken = λ taken are.
       subst (λ l. AreTaken l c) (sym (append_assoc xs (e ∷ []) taken)) (taken-permuted (e ∷ (xs ++ taken)) (xs ++ e ∷ taken) c (IsPermutation-sym (xs ++ e ∷ taken) (e ∷ (xs ++ taken)) (IsPermutation-middle xs e taken)) (held (xs ++ taken) (first.taken taken are)));
 }
 
-pub takes-first : (xs : List Extent) (e : Extent) (a b c : Space) → Takes xs a b → c.count ≡ b.count + 1 → ((taken : List Extent) → AreTaken taken b → AreTaken (e ∷ taken) c) → Takes (e ∷ xs) a c
+pub takes-first : (xs : List Extent) (e : Extent) (a b c : Space) → MarksTaken xs a b → c.count ≡ b.count + 1 → ((taken : List Extent) → AreTaken taken b → AreTaken (e ∷ taken) c) → MarksTaken (e ∷ xs) a c
 takes-first xs e a b c first count held = record {
   count = (let was = first.count in omega (arith, was, count));
   taken = λ taken are. held (xs ++ taken) (first.taken taken are);
 }
 
-pub takes-both : (xs ys : List Extent) (a b c : Space) → Takes ys a b → Takes xs b c → Takes (xs ++ ys) a c
+pub takes-both : (xs ys : List Extent) (a b c : Space) → MarksTaken ys a b → MarksTaken xs b c → MarksTaken (xs ++ ys) a c
 takes-both xs ys a b c first second = record {
   count = (let long = length-append xs ys in let one = first.count in let two = second.count in omega (arith, long, one, two));
   taken = λ taken are. subst (λ l. AreTaken l c) (sym (append_assoc xs ys taken)) (second.taken (ys ++ taken) (first.taken taken are));

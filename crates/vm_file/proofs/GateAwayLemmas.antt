@@ -3,7 +3,7 @@ use Rattle.std.proofs.Common.{◌≡◌, ◌≢◌, ℕ, ◌+◌, ◌*◌, List,
 use Rattle.vm_store.specs.Facts.{StoreFacts, byte}
 use Rattle.vm_store.specs.Bytes.{puts-put, torn-put}
 use Rattle.vm_file.specs.Ranges.{IsPlaced}
-use Rattle.vm_file.specs.Slots.{prepared_extents, spare_of, Leads, IsBeside, Outcome, Leaves}
+use Rattle.vm_file.specs.Slots.{prepared_extents, spare_of, LeadsTo, IsBeside, Outcome, CrashLeavesSlots}
 use Rattle.vm_file.specs.Documents.{Documents, documents_in, attempted_in}
 use Rattle.vm_file.specs.Disk.{with_gate_open, IsOneGateAway}
 use Rattle.vm_file.specs.declared.table.Pair.{Pair}
@@ -45,12 +45,12 @@ module _ (slots : Slots) (pair : Pair) (file : List ℕ) (is : slots.spare ≡ P
         let here : 512 * spare_of slots + 4 ≡ 512 * spare_of slots + 4 + 0 = omega arith in
         ap (byte opened) here ∙ (puts-put (512 * spare_of slots + 4) (1 ∷ []) c).each 0 (omega arith)
 
-    leads : Leads (spare_of slots) 2 (slots.sequence + 1) pair file opened
+    leads : LeadsTo (spare_of slots) 2 (slots.sequence + 1) pair file opened
     unfolding opened outcome
     leads = subst (λ o. IsBeside o (spare_of slots) slots.sequence file opened) is outcome.beside
 
   -- one gate away
-  pub held_away : (store : StoreFacts) → Leaves store slots file → IsOneGateAway store (slots.sequence + 1) (documents_in file pair)
+  pub held_away : (store : StoreFacts) → CrashLeavesSlots store slots file → IsOneGateAway store (slots.sequence + 1) (documents_in file pair)
   unfolding opened outcome gate leads fits held fits_prepared
   held_away store leaves = record {
     slot = spare_of slots;
@@ -65,7 +65,7 @@ module _ (slots : Slots) (pair : Pair) (file : List ℕ) (is : slots.spare ≡ P
         prepared_numbered slots.second slots.version slots.sequence slots.committed pair file (opened c was) fits fits_prepared now.gate now.counts (gate c was) (leads c was);
   }
 
-away_of : (spare : SpareSlot) (store : StoreFacts) (slots : Slots) (file : List ℕ) (d : Documents) → slots.spare ≡ spare → attempted_in file spare ≡ d ∷ [] → AreReadable slots file → Leaves store slots file → IsOneGateAway store (slots.sequence + 1) d
+away_of : (spare : SpareSlot) (store : StoreFacts) (slots : Slots) (file : List ℕ) (d : Documents) → slots.spare ≡ spare → attempted_in file spare ≡ d ∷ [] → AreReadable slots file → CrashLeavesSlots store slots file → IsOneGateAway store (slots.sequence + 1) d
 away_of Shut store slots file d is one are leaves = absurd (cc one)
 away_of Stale store slots file d is one are leaves = absurd (cc one)
 away_of (Prepared pair) store slots file d is one are leaves =
@@ -73,5 +73,5 @@ away_of (Prepared pair) store slots file d is one are leaves =
     subst (IsOneGateAway store (slots.sequence + 1)) same (held_away slots pair file is are store leaves)
 
 -- the pair of a commit that failed in its last step
-pub attempted_away : (store : StoreFacts) (slots : Slots) (file : List ℕ) (d : Documents) → attempted_in file slots.spare ≡ d ∷ [] → AreReadable slots file → Leaves store slots file → IsOneGateAway store (slots.sequence + 1) d
+pub attempted_away : (store : StoreFacts) (slots : Slots) (file : List ℕ) (d : Documents) → attempted_in file slots.spare ≡ d ∷ [] → AreReadable slots file → CrashLeavesSlots store slots file → IsOneGateAway store (slots.sequence + 1) d
 attempted_away store slots file d one are leaves = away_of slots.spare store slots file d refl one are leaves

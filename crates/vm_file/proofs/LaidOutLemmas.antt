@@ -9,16 +9,16 @@ use Rattle.vm_store.specs.Laws.{Holds-Puts}
 use Rattle.geos_model.specs.Document.{Block, most_blocks, is_heap, is_heap_body, is_live, attributes_of, no_attributes, FitAttributes}
 use Rattle.geos_model.proofs.Table.{table_map}
 use Rattle.geos_model.specs.Image.{body_of, body_read}
-use Rattle.geos_model.specs.File.{bytes_in, pages_of, directory_text, last_page}
+use Rattle.geos_model.specs.File.{bytes_in, pages_of, directory_text, page_limit}
 use Rattle.geos_model.proofs.Files.{length-directory}
 use Rattle.geos_model.specs.declared.file.Extent.{Extent}
 use Rattle.vm_file.specs.Ranges.{IsPlaced, end_of, KeepsAll}
 use Rattle.vm_file.specs.Slots.{block_extents}
 use Rattle.vm_file.specs.Documents.{block_in, blocks_in, of_kind, document_in, entries_of, directory_of_table, IsImaged, AreImaged}
-use Rattle.vm_file.specs.Disk.{Drifts}
-use Rattle.vm_file.specs.Sound.{IsPlace, ArePlaces, IsTable}
-use Rattle.vm_file.specs.Making.{moved_to, pages_taken, laid_out, page_behind, IsWritten, IsCopied, AreCopied, IsFounding}
-use Rattle.vm_file.specs.declared.table.Table.{Table}
+use Rattle.vm_file.specs.Disk.{SameUnlessCorrupt}
+use Rattle.vm_file.specs.Sound.{IsPlace, ArePlaces, IsBlockTable}
+use Rattle.vm_file.specs.Making.{moved_to, pages_taken, laid_out, page_behind, IsImageCopied, IsBlockCopied, AreCopied, IsFounding}
+use Rattle.vm_file.specs.declared.table.BlockTable.{BlockTable}
 use Rattle.vm_file.proofs.MakingLemmas.{AreLying}
 use Rattle.vm_file.specs.declared.table.Place.{Place}
 use Rattle.vm_file.proofs.TableLemmas.{EachPlace, shown, not_live, live_is, get_none, heap_is, attributes_is, extents_of, places_of, blocks_same, images_same}
@@ -64,7 +64,7 @@ module _ (source old c d : List ℕ) (honest : Type 0) (ps : List (Option Place)
   abbrev page : ℕ
   page = page_behind 2 ps
 
-  module _ (place : Place) (written : IsWritten page place honest source c d) where
+  module _ (place : Place) (written : IsImageCopied page place honest source c d) where
     within : All (λ e. end_of e ≤ length c) (block_extents ls)
     within = extents_of (λ e. end_of e ≤ length c) ls was.within
 
@@ -127,7 +127,7 @@ module _ (source old c d : List ℕ) (honest : Type 0) (ps : List (Option Place)
       } in
       subst (AreCopied honest source (ps ++ None ∷ []) old) (sym same) made
 
-  pub copied_more : (o : Option Place) → IsCopied page o honest source c d → AreCopied honest source (ps ++ o ∷ []) old d
+  pub copied_more : (o : Option Place) → IsBlockCopied page o honest source c d → AreCopied honest source (ps ++ o ∷ []) old d
   copied_more None same = copied_none same
   copied_more (Some place) written = copied_some place written
 
@@ -163,7 +163,7 @@ behind_more places i page taken inside placed same was =
     }
 
 -- of a source that rested since
-pub copied_as : (p q : ℕ) (o : Option Place) (H K : Type 0) (a b c d : List ℕ) → p ≡ q → (K → H) → (K → a ≡ b) → IsCopied p o H a c d → IsCopied q o K b c d
+pub copied_as : (p q : ℕ) (o : Option Place) (H K : Type 0) (a b c d : List ℕ) → p ≡ q → (K → H) → (K → a ≡ b) → IsBlockCopied p o H a c d → IsBlockCopied q o K b c d
 copied_as p q None H K a b c d is from same copied = copied
 copied_as p q (Some place) H K a b c d is from same copied = record {
   image = copied.image;
@@ -192,11 +192,11 @@ behind_high page (o ∷ ps) placed =
     let few = pages_few o (All-head P o ps placed) in
     omega (arith, few, behind_high (page + pages_taken o) ps (All-tail P o ps placed))
 
-one_laid : (page last : ℕ) (o : Option Place) → 2 ≤ page → page + pages_taken o ≤ last → last ≤ last_page → IfSome o (λ p. IsPlaced p.extent) → IfSome (moved_to page o) (λ p. IsPlaced p.extent)
+one_laid : (page last : ℕ) (o : Option Place) → 2 ≤ page → page + pages_taken o ≤ last → last ≤ page_limit → IfSome o (λ p. IsPlaced p.extent) → IfSome (moved_to page o) (λ p. IsPlaced p.extent)
 one_laid page last None low l high placed = tt
 one_laid page last (Some place) low l high placed = record { behind = low; within = omega (arith, l, high); some = placed.some; short = placed.short }
 
-laid_placed : (page last : ℕ) (ps : List (Option Place)) → 2 ≤ page → page_behind page ps ≤ last → last ≤ last_page → EachPlace (λ p. IsPlaced p.extent) ps → EachPlace (λ p. IsPlaced p.extent) (laid_out page ps)
+laid_placed : (page last : ℕ) (ps : List (Option Place)) → 2 ≤ page → page_behind page ps ≤ last → last ≤ page_limit → EachPlace (λ p. IsPlaced p.extent) ps → EachPlace (λ p. IsPlaced p.extent) (laid_out page ps)
 laid_placed page last [] low l high placed = All-nil (λ o. IfSome o (λ p. IsPlaced p.extent))
 laid_placed page last (o ∷ ps) low l high placed =
     let P : Option Place → Type 0 = λ o. IfSome o (λ p. IsPlaced p.extent) in
@@ -214,7 +214,7 @@ laid_can page (o ∷ ps) are =
     let P : Option Place → Type 0 = λ o. IfSome o IsPlace in
     All-cons P (moved_to page o) (laid_out (page + pages_taken o) ps) (one_can page o (All-head P o ps are)) (laid_can (page + pages_taken o) ps (All-tail P o ps are))
 
-laid_table : (live new : Table) → IsTable live → new.map_block ≡ live.map_block → new.places.items ≡ laid_out 2 live.places.items → IsTable new
+laid_table : (live new : BlockTable) → IsBlockTable live → new.map_block ≡ live.map_block → new.places.items ≡ laid_out 2 live.places.items → IsBlockTable new
 laid_table live new is map_block places =
     let m = live.map_block in
     let P : List (Option Place) → Type 0 = λ ps. (m ≡ 0) ⊎ ((1 ≤ m) × (is_some (get_or ps (m - 1) None) ≡ true)) in
@@ -229,7 +229,7 @@ laid_table live new is map_block places =
       map_block = subst Q (sym map_block) (subst P (sym places) there);
     }
 
-pub plan_founding : (live new : Table) (directory : Extent) (text : List ℕ) → IsTable live → All IsPlaced (block_extents live.places.items) → new.map_block ≡ live.map_block → new.places.items ≡ laid_out 2 live.places.items
+pub plan_founding : (live new : BlockTable) (directory : Extent) (text : List ℕ) → IsBlockTable live → All IsPlaced (block_extents live.places.items) → new.map_block ≡ live.map_block → new.places.items ≡ laid_out 2 live.places.items
     → directory.page ≡ page_behind 2 live.places.items → directory.length ≡ length text → text ≡ directory_text (directory_of_table 2 new) → All (λ e. FitAttributes e.attributes) (entries_of 1 new.places.items) → IsFounding directory text new
 plan_founding live new directory text is placed map_block places page size text_is attributes =
     let ps = live.places.items in
@@ -253,7 +253,7 @@ plan_founding live new directory text is placed map_block places page size text_
     }
 
 -- the images of a table that were copied lie there
-pub copied_lying : (honest : Type 0) (source old file : List ℕ) (ps : List (Option Place)) (new : Table) → old ≡ [] → new.places.items ≡ laid_out 2 ps → AreCopied honest source ps old file → AreLying new file
+pub copied_lying : (honest : Type 0) (source old file : List ℕ) (ps : List (Option Place)) (new : BlockTable) → old ≡ [] → new.places.items ≡ laid_out 2 ps → AreCopied honest source ps old file → AreLying new file
 copied_lying honest source old file ps new none places copied = record {
   images = subst (AreImaged file) (sym places) copied.images;
   within = subst (λ qs. All (λ e. end_of e ≤ length file) (block_extents qs)) (sym places) (extents_of (λ e. end_of e ≤ length file) (laid_out 2 ps) copied.within);
@@ -287,12 +287,12 @@ module _ (file c : List ℕ) (ps : List (Option Place)) (m : ℕ) where
   kinds_laid zero = ap (λ o. option_map_or (λ (b : Block). is_heap_body b.body) o false) (get_none c (laid_out 2 ps) m ∙ sym (get_none file ps m))
   kinds_laid (suc n) = heap_is c (laid_out 2 ps) m (suc n) (omega arith) ∙ laid_kind 2 (suc n - 1) ps ∙ sym (heap_is file ps m (suc n) (omega arith))
 
-  pub laid_drifts : (live new : Table) → live.places.items ≡ ps → live.map_block ≡ m → new.places.items ≡ laid_out 2 ps → new.map_block ≡ m → Drifts false (document_in file live) (document_in c new)
+  pub laid_drifts : (live new : BlockTable) → live.places.items ≡ ps → live.map_block ≡ m → new.places.items ≡ laid_out 2 ps → new.map_block ≡ m → SameUnlessCorrupt false (document_in file live) (document_in c new)
   laid_drifts live new from from_map places map_block =
       let old_is : shown file ps m ≡ document_in file live = λ i. record { blocks = table_map 1 1 (blocks_in file ((sym from) i)); map_block = (sym from_map) i } in
       let new_is : shown c (laid_out 2 ps) m ≡ document_in c new = λ i. record { blocks = table_map 1 1 (blocks_in c ((sym places) i)); map_block = (sym map_block) i } in
-      subst (λ d. Drifts false d (document_in c new)) old_is (subst (λ d. Drifts false (shown file ps m) d) new_is
+      subst (λ d. SameUnlessCorrupt false d (document_in c new)) old_is (subst (λ d. SameUnlessCorrupt false (shown file ps m) d) new_is
       (record { live = live_laid; attributes = attributes_laid; kinds = kinds_laid; map_block = refl; same = λ so. absurd (cc so) }))
 
-pub laid_same : (file c : List ℕ) (live new : Table) → new.map_block ≡ live.map_block → blocks_in c new.places.items ≡ blocks_in file live.places.items → document_in c new ≡ document_in file live
+pub laid_same : (file c : List ℕ) (live new : BlockTable) → new.map_block ≡ live.map_block → blocks_in c new.places.items ≡ blocks_in file live.places.items → document_in c new ≡ document_in file live
 laid_same file c live new map_block blocks = λ i. record { blocks = table_map 1 1 (blocks i); map_block = map_block i }

@@ -11,12 +11,12 @@ use Rattle.geos_model.proofs.Table.{table_entries, table_map}
 use Rattle.geos_model.specs.File.{slot_mark, directory_of, directory_text, open_slot}
 use Rattle.geos_model.specs.declared.file.Extent.{Extent}
 use Rattle.vm_file.specs.Ranges.{IsPlaced, start_of, end_of, KeepsAll, IsOut, IsClear}
-use Rattle.vm_file.specs.Slots.{gate_text, block_extents, stored_extents, pair_extents, prepared_extents, IsBeside, Leads, Outcome}
+use Rattle.vm_file.specs.Slots.{gate_text, block_extents, stored_extents, pair_extents, prepared_extents, IsBeside, LeadsTo, Outcome}
 use Rattle.vm_file.specs.Documents.{blocks_in, document_in, attempted_in, entries_of, directory_of_table, IsImaged, AreImaged, IsStored, AreStored, IsPreparedStored}
-use Rattle.vm_file.specs.Sound.{IsPlace, ArePlaces, IsTable, IsPreparedFormed, IsFormed, IsWhole, IsSound}
-use Rattle.vm_file.specs.Making.{first_directory, no_blocks, first_slot, IsLaid, IsLiveStored, IsFirst, IsFounding, IsOne, first_open}
+use Rattle.vm_file.specs.Sound.{IsPlace, ArePlaces, IsBlockTable, IsPreparedFormed, IsFormed, IsWhole, IsSound}
+use Rattle.vm_file.specs.Making.{first_directory, no_blocks, first_slot, IsLaid, IsLiveStored, IsNewSlots, IsFounding, IsOne, first_open}
 use Rattle.vm_file.specs.declared.table.Place.{Place}
-use Rattle.vm_file.specs.declared.table.Table.{Table}
+use Rattle.vm_file.specs.declared.table.BlockTable.{BlockTable}
 use Rattle.vm_file.specs.declared.table.DocumentRef.{DocumentRef}
 use Rattle.vm_file.specs.declared.slot.SpareSlot.{SpareSlot}
 use Rattle.vm_file.specs.declared.slot.Slots.{Slots}
@@ -70,7 +70,7 @@ slots_laid directory text a b c d behind directory_put first second =
 
 -- Copies of a table.
 
-copy_table : (directory : Extent) (live : Table) (s : DocumentRef) → IsLiveStored directory live s → IsTable live → IsTable s.table
+copy_table : (directory : Extent) (live : BlockTable) (s : DocumentRef) → IsLiveStored directory live s → IsBlockTable live → IsBlockTable s.table
 copy_table directory live s copy is =
     let m = live.map_block in
     let P : List (Option Place) → Type 0 = λ ps. (m ≡ 0) ⊎ ((1 ≤ m) × (is_some (get_or ps (m - 1) None) ≡ true)) in
@@ -81,10 +81,10 @@ copy_table directory live s copy is =
       map_block = subst Q (sym copy.map_block) (subst P (sym copy.places) is.map_block);
     }
 
-copy_extents : (directory : Extent) (live : Table) (s : DocumentRef) → IsLiveStored directory live s → stored_extents s ≡ directory ∷ block_extents live.places.items
+copy_extents : (directory : Extent) (live : BlockTable) (s : DocumentRef) → IsLiveStored directory live s → stored_extents s ≡ directory ∷ block_extents live.places.items
 copy_extents directory live s copy = λ i. copy.directory_is i ∷ block_extents (copy.places i)
 
-copy_document_ref : (file : List ℕ) (directory : Extent) (live : Table) (s : DocumentRef) → IsLiveStored directory live s → IsStored 2 file (record { directory = directory; table = live }) → IsStored 2 file s
+copy_document_ref : (file : List ℕ) (directory : Extent) (live : BlockTable) (s : DocumentRef) → IsLiveStored directory live s → IsStored 2 file (record { directory = directory; table = live }) → IsStored 2 file s
 copy_document_ref file directory live s copy is =
     let same : directory_of_table is.version s.table ≡ directory_of_table is.version live = λ i. record { version = is.version; map_block = copy.map_block i; entries = entries_of 1 (copy.places i) } in
     record {
@@ -94,12 +94,12 @@ copy_document_ref file directory live s copy is =
     }
 
 -- The images that a file is made of lie there.
-pub record AreLying (live : Table) (file : List ℕ) : Type 0 where
+pub record AreLying (live : BlockTable) (file : List ℕ) : Type 0 where
   pub images : AreImaged file live.places.items
   pub within : All (λ e. end_of e ≤ length file) (block_extents live.places.items)
   pub beside : byte file 516 ≢ 1
 
-module _ (directory : Extent) (text : List ℕ) (live : Table) (slots : Slots) (first : IsFirst directory live slots) (founding : IsFounding directory text live) where
+module _ (directory : Extent) (text : List ℕ) (live : BlockTable) (slots : Slots) (first : IsNewSlots directory live slots) (founding : IsFounding directory text live) where
   abbrev es : List Extent
   es = block_extents live.places.items
 
@@ -117,7 +117,7 @@ module _ (directory : Extent) (text : List ℕ) (live : Table) (slots : Slots) (
     placed = founding.placed;
     committed = record { updated = copy_table directory live slots.committed.updated first.updated founding.table; saved = copy_table directory live slots.committed.saved first.saved founding.table };
     prepared = subst (IsPreparedFormed slots.sequence) (sym first.spare) tt;
-    marked = nothing_marked IsTable slots.marked first.unmarked;
+    marked = nothing_marked IsBlockTable slots.marked first.unmarked;
     kept = kept_all IsPlaced slots (all_pair IsPlaced founding.directory_placed founding.placed) (subst (λ o. All IsPlaced (prepared_extents o)) (sym first.spare) (All-nil IsPlaced)) (nothing_kept IsPlaced slots.marked first.unmarked);
     version = inr first.version;
     numbered = omega (arith, first.sequence);
@@ -151,7 +151,7 @@ module _ (directory : Extent) (text : List ℕ) (live : Table) (slots : Slots) (
         (All-cons IsPlaced directory es founding.directory_placed founding.placed)
         images within founding.attributes (sym founding.size ∙ ap length founding.text_is) (subst (λ t. Holds file (start_of directory) t) founding.text_is laid.there)
 
-    leads : Leads 0 2 1 slots.committed file file
+    leads : LeadsTo 0 2 1 slots.committed file file
     leads = record {
       marked = laid.marked;
       rest = subst (λ d. Holds file 5 (gate_text 2 1 d slots.committed.saved.directory)) (sym first.updated.directory_is) (subst (λ d. Holds file 5 (gate_text 2 1 directory d)) (sym first.saved.directory_is) laid.rest);
@@ -164,12 +164,12 @@ module _ (directory : Extent) (text : List ℕ) (live : Table) (slots : Slots) (
     outcome : Outcome slots file file
     outcome =
         let P : Bool → Type 0 = λ b. byte file (512 * (if b then 1 else 0) + 4) ≡ 1 in
-        let Q : Bool → Type 0 = λ b. Leads (if b then 1 else 0) slots.version slots.sequence slots.committed file file in
+        let Q : Bool → Type 0 = λ b. LeadsTo (if b then 1 else 0) slots.version slots.sequence slots.committed file file in
         let R : Bool → Type 0 = λ b. IsBeside slots.spare (if b then 0 else 1) slots.sequence file file in
         let T : SpareSlot → Type 0 = λ o. IsBeside o 1 slots.sequence file file in
         record {
           gate = subst P (sym first.second) laid.gate_is;
-          counts = subst Q (sym first.second) (subst (λ v. Leads 0 v slots.sequence slots.committed file file) (sym first.version) (subst (λ s. Leads 0 2 s slots.committed file file) (sym first.sequence) leads));
+          counts = subst Q (sym first.second) (subst (λ v. LeadsTo 0 v slots.sequence slots.committed file file) (sym first.version) (subst (λ s. LeadsTo 0 2 s slots.committed file file) (sym first.sequence) leads));
           beside = subst R (sym first.second) (subst T (sym first.spare) shut);
         }
 
@@ -191,20 +191,20 @@ module _ (directory : Extent) (text : List ℕ) (live : Table) (slots : Slots) (
 -- A file of no block.
 
 -- a table of no block
-pub record IsEmpty (live : Table) : Type 0 where
+pub record IsEmpty (live : BlockTable) : Type 0 where
   pub map_block : live.map_block ≡ 0
   pub places : live.places.items ≡ []
 
-pub empty_shown : (file : List ℕ) (live : Table) → IsEmpty live → document_in file live ≡ empty_document
+pub empty_shown : (file : List ℕ) (live : BlockTable) → IsEmpty live → document_in file live ≡ empty_document
 unfolding table_map
 empty_shown file live is =
     let none : table_entries 1 1 (blocks_in file live.places.items) ≡ [] = ap (λ ps. table_entries 1 1 (blocks_in file ps)) is.places in
     λ i. record { blocks = from_entries (none i); map_block = is.map_block i }
 
-pub empty_listed : (live : Table) → IsEmpty live → directory_of_table 2 live ≡ no_blocks
+pub empty_listed : (live : BlockTable) → IsEmpty live → directory_of_table 2 live ≡ no_blocks
 empty_listed live is = λ i. record { version = 2; map_block = is.map_block i; entries = entries_of 1 (is.places i) }
 
-pub empty_founding : (text : List ℕ) (live : Table) → IsEmpty live → text ≡ directory_text no_blocks → IsFounding first_directory text live
+pub empty_founding : (text : List ℕ) (live : BlockTable) → IsEmpty live → text ≡ directory_text no_blocks → IsFounding first_directory text live
 empty_founding text live is text_is =
     let no_extents : block_extents live.places.items ≡ [] = ap block_extents is.places in
     let no_entries : entries_of 1 live.places.items ≡ [] = ap (entries_of 1) is.places in
@@ -223,7 +223,7 @@ empty_founding text live is text_is =
       size = ap length text_is;
     }
 
-pub empty_lying : (live : Table) → IsEmpty live → AreLying live []
+pub empty_lying : (live : BlockTable) → IsEmpty live → AreLying live []
 empty_lying live is =
     let no_extents : block_extents live.places.items ≡ [] = ap block_extents is.places in
     record {
@@ -233,14 +233,14 @@ empty_lying live is =
     }
 
 -- the live document is the updated and the saved one
-copy_shown : (file : List ℕ) (directory : Extent) (live : Table) (s : DocumentRef) → IsLiveStored directory live s → document_in file s.table ≡ document_in file live
+copy_shown : (file : List ℕ) (directory : Extent) (live : BlockTable) (s : DocumentRef) → IsLiveStored directory live s → document_in file s.table ≡ document_in file live
 copy_shown file directory live s copy = λ i. record { blocks = table_map 1 1 (blocks_in file (copy.places i)); map_block = copy.map_block i }
 
-pub first_shown : (file : List ℕ) (directory : Extent) (live : Table) (slots : Slots) → IsFirst directory live slots → IsOne file live slots
+pub first_shown : (file : List ℕ) (directory : Extent) (live : BlockTable) (slots : Slots) → IsNewSlots directory live slots → IsOne file live slots
 first_shown file directory live slots first = record {
   updated = copy_shown file directory live slots.committed.updated first.updated;
   saved = copy_shown file directory live slots.committed.saved first.saved;
-  attempted = ap (attempted_in file) first.spare;
+  in_doubt = ap (attempted_in file) first.spare;
   unmarked = first.unmarked;
   version = first.version;
   sequence = first.sequence;
@@ -253,7 +253,7 @@ no_bytes (x ∷ c) size = absurd (omega (arith, size))
 
 -- The slots of a file of no block.
 
-module _ (store : StoreFacts) (live : Table) (slots : Slots) (sound : IsSound store live slots) (first : IsFirst first_directory live slots) (so : IsTrue store.honest) (now : store.may_leave store.content) where
+module _ (store : StoreFacts) (live : BlockTable) (slots : Slots) (sound : IsSound store live slots) (first : IsNewSlots first_directory live slots) (so : IsTrue store.honest) (now : store.may_leave store.content) where
   made_outcome : Outcome slots store.content store.content
   made_outcome = (sound.whole so).leaves store.content now
 
@@ -264,7 +264,7 @@ module _ (store : StoreFacts) (live : Table) (slots : Slots) (sound : IsSound st
       let pair = slots.committed in
       let fits = fits_pair slots.version slots.sequence pair sound.formed.version sound.formed.numbered sound.formed.in_range sound.formed.committed (kept_pair IsPlaced slots sound.formed.kept) in
       let gate = subst (λ b. byte c (512 * (if b then 1 else 0) + 4) ≡ 1) first.second made_outcome.gate in
-      let leads = subst (λ b. Leads (if b then 1 else 0) slots.version slots.sequence pair c c) first.second made_outcome.counts in
+      let leads = subst (λ b. LeadsTo (if b then 1 else 0) slots.version slots.sequence pair c c) first.second made_outcome.counts in
       let same : slot_value slots.version slots.sequence pair ≡ first_open = λ i. record { gate = 1; version = first.version i; reserved = 0; sequence = first.sequence i; working = first.updated.directory_is i; saved = first.saved.directory_is i } in
       lead_open 0 slots.version slots.sequence pair c c fits gate leads ∙ ap (λ s. Some s) same
 

@@ -1,11 +1,11 @@
 -- The directory in an extent of a file that was read.
 use Rattle.std.proofs.Common.{◌≡◌, ℕ, ◌*◌, true, List, length, drop, Option, None, Some, sym, ap, ap₂, subst, ◌∙◌, arith, length-take, length-drop, ◌⊎◌, zero, suc, ◌+◌, ◌-◌, ◌<◌, ◌≤◌, [], ◌∷◌, ◌++◌, set, get_or, take, Err, is_some, All, refl, inl, inr, ltb-true, length-set, eqb-true}
 use Rattle.std.proofs.lemmas.Bool.{cond-true, and_parts, cases_Bool, cases_lt}
-use Rattle.geos_model.specs.File.{Directory, bytes_in, is_in_file, is_directory, directory_in, directory_of, document_at, document_of, both, is_rising, is_entry, is_map_block, blocks_of, block_of, prepended, longest_image}
+use Rattle.geos_model.specs.File.{Directory, bytes_in, is_in_file, is_directory, directory_in, directory_of, document_at, document_of, both, is_rising, is_entry, is_map_block, blocks_of_entries, block_of, prepended, longest_image}
 use Rattle.geos_model.specs.declared.file.Extent.{Extent}
 use Rattle.geos_model.proofs.Files.{length-directory, directory_in-some}
 use Rattle.geos_model.proofs.FileDocuments.{directory_of-some, is_in_file-parts}
-use Rattle.vm_file.specs.Opened.{IsDirectoryPlace, IsRead}
+use Rattle.vm_file.specs.Opened.{IsDirectoryPlace, IsReadDocument}
 use Rattle.vm_file.proofs.ImageLemmas.{none_if}
 use Rattle.std.specs.Prelude.{IfSome, ◌==◌, nat_lt}
 use Rattle.std.specs.Option.{option_map, option_and_then}
@@ -186,9 +186,9 @@ none_prepended : (b : Option (ℕ × Block)) → prepended b None ≡ None
 none_prepended None = refl
 none_prepended (Some b) = refl
 
-pub no_blocks : (file : List ℕ) (es : List Entry) (i : ℕ) (d : Entry) → i < length es → block_of file (get_or es i d) ≡ None → blocks_of file es ≡ None
+pub no_blocks : (file : List ℕ) (es : List Entry) (i : ℕ) (d : Entry) → i < length es → block_of file (get_or es i d) ≡ None → blocks_of_entries file es ≡ None
 no_blocks file [] i d inside none = absurd (omega arith)
-no_blocks file (e ∷ es) zero d inside none = ap (λ b. prepended b (blocks_of file es)) none
+no_blocks file (e ∷ es) zero d inside none = ap (λ b. prepended b (blocks_of_entries file es)) none
 no_blocks file (e ∷ es) (suc i) d inside none = ap (prepended (block_of file e)) (no_blocks file es i d (omega arith) none) ∙ none_prepended (block_of file e)
 
 -- The table of a directory.
@@ -238,12 +238,12 @@ pub images_short : (file_version n : ℕ) (d : Directory) → is_directory file_
 images_short file_version n d good = each_entry (λ e. e.extent.length ≤ longest_image) file_version n d.version d.entries (files.is_directory-parts file_version n d good).entries (λ e is. is.short)
 
 pub read_formed : (version n : ℕ) (d : Directory) (s : DocumentRef) → is_directory version n d ≡ true → IsDirectoryPlace version n s.directory → entries_of 1 s.table.places.items ≡ d.entries
-    → ArePlaces s.table.places.items → length s.table.places.items ≤ most_blocks → s.table.map_block ≡ d.map_block → IsRead n s
+    → ArePlaces s.table.places.items → length s.table.places.items ≤ most_blocks → s.table.map_block ≡ d.map_block → IsReadDocument n s
 read_formed version n d s good place entries are long map =
     let ps = s.table.places.items in
     let parts = files.is_directory-parts version n d good in
     let there = is_in_file-parts version n s.directory place.in_file in
-    let reach = files.last_page_of-most version in
+    let reach = files.page_limit_of-most version in
     let all : list_all (is_entry version n d.version) (entries_of 1 ps) ≡ true = ap (list_all (is_entry version n d.version)) entries ∙ parts.entries in
     let placed = entries_extents IsPlaced 1 ps (each_entry (λ e. IsPlaced e.extent) version n d.version (entries_of 1 ps) all (entry_placed version n d.version)) in
     let inside = entries_extents (λ e. end_of e ≤ n) 1 ps (each_entry (λ e. end_of e.extent ≤ n) version n d.version (entries_of 1 ps) all (λ e is. is.within)) in
@@ -262,7 +262,7 @@ unfolding made
 read_directory d s entries map = ap₂ (made d.version) (sym map) (sym entries)
 
 -- a document of which an image is wrong
-pub no_document : (version : ℕ) (file : List ℕ) (e : Extent) (d : Directory) → directory_of version file e ≡ Some d → blocks_of file d.entries ≡ None → document_at version file e ≡ None
+pub no_document : (version : ℕ) (file : List ℕ) (e : Extent) (d : Directory) → directory_of version file e ≡ Some d → blocks_of_entries file d.entries ≡ None → document_at version file e ≡ None
 no_document version file e d is none = ap (option_and_then (document_of file)) is ∙ ap (option_map (λ blocks. let made : Document = record { blocks = from_entries blocks; map_block = d.map_block } in made)) none
 
 -- one of which the directory is wrong

@@ -12,10 +12,10 @@ use Rattle.geos_model.proofs.FileStands.{stands-from}
 use Rattle.vm_file.specs.Ranges.{IsPlaced, end_of}
 use Rattle.vm_file.specs.Slots.{block_extents, stored_extents, pair_extents, prepared_extents, Outcome}
 use Rattle.vm_file.specs.Documents.{AreImaged, AreStored, IsPreparedStored, document_in, sequence_of}
-use Rattle.vm_file.specs.Sound.{ArePlaces, IsTable, IsPreparedFormed, IsSound}
-use Rattle.vm_file.specs.Opened.{Looks, AreRead, IsActiveSlot, IsReadSlots, IsReadWhole}
+use Rattle.vm_file.specs.Sound.{ArePlaces, IsBlockTable, IsPreparedFormed, IsSound}
+use Rattle.vm_file.specs.Opened.{OnlyReadsStore, AreReadDocuments, IsActiveSlot, IsReadSlots, IsReadWhole}
 use Rattle.vm_file.specs.declared.slot.ActiveSlot.{ActiveSlot}
-use Rattle.vm_file.specs.declared.table.Table.{Table}
+use Rattle.vm_file.specs.declared.table.BlockTable.{BlockTable}
 use Rattle.vm_file.specs.declared.table.Pair.{Pair}
 use Rattle.vm_file.specs.declared.slot.Slots.{Slots}
 use Rattle.vm_file.specs.declared.slot.SpareSlot.{SpareSlot}
@@ -28,7 +28,7 @@ use Rattle.vm_file.proofs.CountingSlotLemmas.{slot_leads}
 
 -- From any store.
 
-pub slots_formed : (n version sequence : ℕ) (second : Bool) (pair : Pair) (spare : SpareSlot) → AreRead n pair → (version ≡ 1) ⊎ (version ≡ 2) → 1 ≤ sequence → sequence < 2 ^ 64 → (spare ≡ Shut) ⊎ (spare ≡ Stale)
+pub slots_formed : (n version sequence : ℕ) (second : Bool) (pair : Pair) (spare : SpareSlot) → AreReadDocuments n pair → (version ≡ 1) ⊎ (version ≡ 2) → 1 ≤ sequence → sequence < 2 ^ 64 → (spare ≡ Shut) ⊎ (spare ≡ Stale)
     → IsReadSlots (record { second = second; version = version; sequence = sequence; committed = pair; spare = spare; marked = None })
 slots_formed n version sequence second pair spare are versioned some range alone = record {
   committed = record { updated = are.updated.table; saved = are.saved.table };
@@ -52,7 +52,7 @@ pub record IsChecked (s : Slot) : Type 0 where
   pub reserved : s.reserved ≡ 0
   pub some : 1 ≤ s.sequence
 
-pub slots_whole : (file : List ℕ) (n : ℕ) (active : ActiveSlot) (pair : Pair) → n ≡ length file → IsActiveSlot file active → IsChecked active.slot → AreRead n pair → AreStored active.slot.version file pair
+pub slots_whole : (file : List ℕ) (n : ℕ) (active : ActiveSlot) (pair : Pair) → n ≡ length file → IsActiveSlot file active → IsChecked active.slot → AreReadDocuments n pair → AreStored active.slot.version file pair
     → pair.updated.directory ≡ active.slot.working → pair.saved.directory ≡ active.slot.saved
     → IsReadWhole file (record { second = active.second; version = active.slot.version; sequence = active.slot.sequence; committed = pair; spare = active.spare; marked = None })
 slots_whole file n active pair size is good are stored working saved =
@@ -106,7 +106,7 @@ nothing_stored file spare (inl shut) = subst (IsPreparedStored file) (sym shut) 
 nothing_stored file spare (inr stale) = subst (IsPreparedStored file) (sym stale) tt
 
 -- a copy of a table
-pub table_copied : (old new : Table) → new.map_block ≡ old.map_block → new.places.items ≡ old.places.items → IsTable old → IsTable new
+pub table_copied : (old new : BlockTable) → new.map_block ≡ old.map_block → new.places.items ≡ old.places.items → IsBlockTable old → IsBlockTable new
 table_copied old new map items is = record {
   size = (let long = ap length items in let was = is.size in omega (arith, long, was));
   places = subst ArePlaces (sym items) is.places;
@@ -114,7 +114,7 @@ table_copied old new map items is = record {
       (subst (λ ps. (old.map_block ≡ 0) ⊎ ((1 ≤ old.map_block) × (is_some (get_or ps (old.map_block - 1) None) ≡ true))) (sym items) is.map_block);
 }
 
-pub opened_sound : (old new : StoreFacts) (live : Table) (slots : Slots) → Looks old new → IsReadSlots slots → (IsTrue old.honest → IsReadWhole old.content slots) → (IsTrue new.honest → IsDurable new)
+pub opened_sound : (old new : StoreFacts) (live : BlockTable) (slots : Slots) → OnlyReadsStore old new → IsReadSlots slots → (IsTrue old.honest → IsReadWhole old.content slots) → (IsTrue new.honest → IsDurable new)
     → live.map_block ≡ slots.committed.updated.table.map_block → live.places.items ≡ slots.committed.updated.table.places.items → IsSound new live slots
 opened_sound old new live slots looks formed whole durable map items =
     let updated = slots.committed.updated in
@@ -125,7 +125,7 @@ opened_sound old new live slots looks formed whole durable map items =
         placed = subst (λ ps. All IsPlaced (block_extents ps)) (sym items) (λ k d within. first (suc k) d (omega (arith, within)));
         committed = formed.committed;
         prepared = nothing_formed slots.sequence slots.spare formed.spare;
-        marked = nothing_marked IsTable slots.marked formed.unmarked;
+        marked = nothing_marked IsBlockTable slots.marked formed.unmarked;
         kept = kept_all IsPlaced slots formed.placed (no_extents slots.spare formed.spare) (nothing_kept IsPlaced slots.marked formed.unmarked);
         version = formed.version;
         numbered = formed.numbered;

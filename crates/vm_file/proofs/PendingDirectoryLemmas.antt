@@ -10,14 +10,14 @@ use Rattle.geos_model.specs.declared.file.Extent.{Extent}
 use Rattle.geos_model.proofs.Table.{table_map}
 use Rattle.geos_model.specs.File.{longest_directory}
 use Rattle.vm_file.specs.Ranges.{IsPlaced, KeepsAll, start_of, end_of, IsOut, IsClear}
-use Rattle.vm_file.specs.Slots.{Leaves, Outlives, block_extents, stored_extents, pair_extents, marked_extents, kept_extents}
+use Rattle.vm_file.specs.Slots.{CrashLeavesSlots, Outlives, block_extents, stored_extents, pair_extents, marked_extents, referenced_extents}
 use Rattle.vm_file.specs.Documents.{document_in, documents_in, AreImaged, IsStored, AreStored}
-use Rattle.vm_file.specs.Disk.{Passes}
-use Rattle.vm_file.specs.Sound.{IsTable, AreTables, IsFormed, IsSound, disk_of}
+use Rattle.vm_file.specs.Disk.{KeepsCommitted}
+use Rattle.vm_file.specs.Sound.{IsBlockTable, AreTables, IsFormed, IsSound, disk_of}
 use Rattle.vm_file.specs.Copies.{IsStoredCopy}
 use Rattle.vm_file.specs.PendingDirectories.{IsPendingDirectory}
 use Rattle.vm_file.specs.declared.directory.PendingDirectory.{PendingDirectory}
-use Rattle.vm_file.specs.declared.table.Table.{Table}
+use Rattle.vm_file.specs.declared.table.BlockTable.{BlockTable}
 use Rattle.vm_file.specs.declared.table.DocumentRef.{DocumentRef}
 use Rattle.vm_file.specs.declared.slot.Slots.{Slots}
 use Rattle.vm_file.proofs.WritingLemmas.{call_passes, call_sound}
@@ -32,19 +32,19 @@ pub clear_parts : (at n : ℕ) (xs ys : List Extent) → IsClear at n (xs ++ ys)
 clear_parts at n xs ys clear = (all_left (λ e. IsOut at n (start_of e) (end_of e)) xs ys clear, all_right (λ e. IsOut at n (start_of e) (end_of e)) xs ys clear)
 
 -- what is known of the file before, and what the write leaves
-pub record IsWriting {S : Type 0} (facts : S → StoreFacts) (a b : S) (live : Table) (slots : Slots) (pending : PendingDirectory) : Type 1 where
+pub record IsWriting {S : Type 0} (facts : S → StoreFacts) (a b : S) (live : BlockTable) (slots : Slots) (pending : PendingDirectory) : Type 1 where
   pub sound : IsSound (facts a) live slots
   pub is_pending : IsPendingDirectory live slots pending
   pub honest : (facts b).honest ≡ (facts a).honest
   pub failures : (facts a).failures ≤ (facts b).failures
   pub now : IsTrue (facts b).honest → (facts b).may_leave (facts b).content
   pub elsewhere : IsTrue (facts a).honest → Torn (start_of pending.document.directory) pending.document.directory.length (facts a).content (facts b).content
-  pub crash : IsTrue (facts a).honest → Leaves (facts a) slots (facts a).content → Outlives (facts a) (facts b) (facts a).content (λ s. s ≡ slots)
-  pub leaves : IsTrue (facts a).honest → Leaves (facts a) slots (facts a).content → Leaves (facts b) slots (facts a).content
+  pub crash : IsTrue (facts a).honest → CrashLeavesSlots (facts a) slots (facts a).content → Outlives (facts a) (facts b) (facts a).content (λ s. s ≡ slots)
+  pub leaves : IsTrue (facts a).honest → CrashLeavesSlots (facts a) slots (facts a).content → CrashLeavesSlots (facts b) slots (facts a).content
 
-module _ {S : Type 0} (facts : S → StoreFacts) (a b : S) (live : Table) (slots : Slots) (pending : PendingDirectory) (call : IsWriting facts a b live slots pending) where
-  clear : IsClear (start_of pending.document.directory) pending.document.directory.length (block_extents live.places.items) × IsClear (start_of pending.document.directory) pending.document.directory.length (kept_extents slots)
-  clear = clear_parts (start_of pending.document.directory) pending.document.directory.length (block_extents live.places.items) (kept_extents slots) call.is_pending.clear
+module _ {S : Type 0} (facts : S → StoreFacts) (a b : S) (live : BlockTable) (slots : Slots) (pending : PendingDirectory) (call : IsWriting facts a b live slots pending) where
+  clear : IsClear (start_of pending.document.directory) pending.document.directory.length (block_extents live.places.items) × IsClear (start_of pending.document.directory) pending.document.directory.length (referenced_extents slots)
+  clear = clear_parts (start_of pending.document.directory) pending.document.directory.length (block_extents live.places.items) (referenced_extents slots) call.is_pending.clear
 
   -- extents on which it doesn't lie
   keeps : (es : List Extent) → IsClear (start_of pending.document.directory) pending.document.directory.length es → (so : IsTrue (facts a).honest) → All (λ e. end_of e ≤ length (facts a).content) es → KeepsAll es (facts a).content (facts b).content
@@ -62,7 +62,7 @@ module _ {S : Type 0} (facts : S → StoreFacts) (a b : S) (live : Table) (slots
   live_within : IsTrue (facts a).honest → All (λ e. end_of e ≤ length (facts b).content) (block_extents live.places.items)
   live_within so = keeps_within (block_extents live.places.items) (facts a).content (facts b).content (live_keeps so)
 
-  pub write_passes : Passes facts (disk_of facts a slots) (disk_of facts b slots)
+  pub write_passes : KeepsCommitted facts (disk_of facts a slots) (disk_of facts b slots)
   write_passes = call_passes facts a b live slots call.sound call.honest call.now (λ so. call.leaves so (call.sound.whole so).leaves) marked_keeps call.failures (λ so. call.crash so (call.sound.whole so).leaves)
 
   pub write_sound : IsSound (facts b) live slots
@@ -82,7 +82,7 @@ module _ {S : Type 0} (facts : S → StoreFacts) (a b : S) (live : Table) (slots
 
 -- The pair of the document as it is now, and of a saved one: the one that is committed, or the same.
 
-module _ (live : Table) (slots : Slots) (pending : PendingDirectory) (saved : DocumentRef) (formed : IsFormed live slots) (is_pending : IsPendingDirectory live slots pending) (alike : IsStoredCopy saved slots.committed.saved ⊎ IsStoredCopy saved pending.document) where
+module _ (live : BlockTable) (slots : Slots) (pending : PendingDirectory) (saved : DocumentRef) (formed : IsFormed live slots) (is_pending : IsPendingDirectory live slots pending) (alike : IsStoredCopy saved slots.committed.saved ⊎ IsStoredCopy saved pending.document) where
   pending_placed : All IsPlaced (stored_extents pending.document)
   pending_placed = All-cons IsPlaced pending.document.directory (block_extents pending.document.table.places.items) is_pending.placed (subst (λ ps. All IsPlaced (block_extents ps)) (sym is_pending.table.places) formed.placed)
 
@@ -98,7 +98,7 @@ module _ (live : Table) (slots : Slots) (pending : PendingDirectory) (saved : Do
   pub both_tables : AreTables (record { updated = pending.document; saved = saved })
   both_tables = record {
     updated = copy_formed pending.document.table live is_pending.table formed.table;
-    saved = elim alike as (λ _. IsTable saved.table) [
+    saved = elim alike as (λ _. IsBlockTable saved.table) [
       | inl committed ↦ copy_formed saved.table slots.committed.saved.table committed.table formed.committed.saved
       | inr same ↦ copy_formed saved.table pending.document.table same.table (copy_formed pending.document.table live is_pending.table formed.table)
     ];
@@ -127,9 +127,9 @@ module _ (live : Table) (slots : Slots) (pending : PendingDirectory) (saved : Do
 
 -- A place for a directory.
 
-pub taken_placed : (live : Table) (slots : Slots) (taken : List Extent) → IsFormed live slots → IsPermutation (block_extents live.places.items ++ kept_extents slots) taken → All IsPlaced taken
+pub taken_placed : (live : BlockTable) (slots : Slots) (taken : List Extent) → IsFormed live slots → IsPermutation (block_extents live.places.items ++ referenced_extents slots) taken → All IsPlaced taken
 taken_placed live slots taken formed all =
-    All-permutation IsPlaced (block_extents live.places.items ++ kept_extents slots) taken all (All-append IsPlaced (block_extents live.places.items) (kept_extents slots) formed.placed formed.kept)
+    All-permutation IsPlaced (block_extents live.places.items ++ referenced_extents slots) taken all (All-append IsPlaced (block_extents live.places.items) (referenced_extents slots) formed.placed formed.kept)
 
 pub are_extents : (taken : List Extent) → All IsPlaced taken → AreExtents taken
 are_extents taken placed k d inside = let one = placed k d inside in let short = one.short in (one.behind, (one.some, omega (arith, short)))

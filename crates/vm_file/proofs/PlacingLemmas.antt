@@ -14,7 +14,7 @@ use Rattle.vm_space.specs.Space.{Space, AreTaken}
 use Rattle.vm_space.proofs.SpaceLemmas.{taken-permuted}
 use Rattle.vm_file.specs.Ranges.{start_of, end_of, IsPlaced, IsOut, IsClear}
 use Rattle.vm_file.specs.Slots.{block_extents}
-use Rattle.vm_file.specs.FreeSpace.{Takes}
+use Rattle.vm_file.specs.FreeSpace.{MarksTaken}
 use Rattle.vm_file.specs.Writing.{AreFor}
 use Rattle.vm_file.proofs.FreeSpaceLemmas.{takes-one}
 use Rattle.vm_file.specs.declared.table.Place.{Place}
@@ -141,9 +141,9 @@ blocks_fewer places i place inside is =
     omega (arith, whole, both, one, long)
 
 -- an extent more is taken, or none
-pub takes_some : (places : List (Option Place)) (i : ℕ) (place : Place) (a b c : Space) → i < length places → get_or places i None ≡ Some place → Takes (block_extents (take i places)) a b → c.count ≡ b.count + 1 → ((taken : List Extent) → AreTaken taken b → AreTaken (place.extent ∷ taken) c)
-    → Takes (block_extents (take (i + 1) places)) a c
-takes_some places i place a b c inside is before count held = subst (λ l. Takes l a c) (sym (blocks_more places i (Some place) inside is)) (takes-one (block_extents (take i places)) place.extent a b c before count held)
+pub takes_some : (places : List (Option Place)) (i : ℕ) (place : Place) (a b c : Space) → i < length places → get_or places i None ≡ Some place → MarksTaken (block_extents (take i places)) a b → c.count ≡ b.count + 1 → ((taken : List Extent) → AreTaken taken b → AreTaken (place.extent ∷ taken) c)
+    → MarksTaken (block_extents (take (i + 1) places)) a c
+takes_some places i place a b c inside is before count held = subst (λ l. MarksTaken l a c) (sym (blocks_more places i (Some place) inside is)) (takes-one (block_extents (take i places)) place.extent a b c before count held)
 
-pub takes_no_more : (places : List (Option Place)) (i : ℕ) (a b : Space) → i < length places → get_or places i None ≡ None → Takes (block_extents (take i places)) a b → Takes (block_extents (take (i + 1) places)) a b
-takes_no_more places i a b inside is before = subst (λ l. Takes l a b) (sym (blocks_more places i None inside is ∙ append-nil (block_extents (take i places)))) before
+pub takes_no_more : (places : List (Option Place)) (i : ℕ) (a b : Space) → i < length places → get_or places i None ≡ None → MarksTaken (block_extents (take i places)) a b → MarksTaken (block_extents (take (i + 1) places)) a b
+takes_no_more places i a b inside is before = subst (λ l. MarksTaken l a b) (sym (blocks_more places i None inside is ∙ append-nil (block_extents (take i places)))) before

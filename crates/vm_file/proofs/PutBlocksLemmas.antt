@@ -11,16 +11,16 @@ use Rattle.geos_model.specs.declared.handle.VmHandle.{VmHandle}
 use Rattle.geos_model.proofs.Files.{body_of-image}
 use Rattle.geos_model.proofs.Images.{body_read-body}
 use Rattle.geos_model.proofs.Tables.{slot_at}
-use Rattle.vm_file.specs.Ranges.{IsPlaced, Keeps, KeepsAll}
-use Rattle.vm_file.specs.Slots.{block_extents, stored_extents, pair_extents, prepared_extents, marked_extents, kept_extents, Leaves}
+use Rattle.vm_file.specs.Ranges.{IsPlaced, KeepsExtent, KeepsAll}
+use Rattle.vm_file.specs.Slots.{block_extents, stored_extents, pair_extents, prepared_extents, marked_extents, referenced_extents, CrashLeavesSlots}
 use Rattle.vm_file.specs.Documents.{IsImaged, AreImaged}
 use Rattle.vm_file.specs.Calls.{IsPut, put_all, remove_all}
-use Rattle.vm_file.specs.Disk.{Drifts, Passes}
-use Rattle.vm_file.specs.Sound.{IsPlace, IsTable, AreTables, IsPreparedFormed, IsFormed, IsSound, disk_of}
+use Rattle.vm_file.specs.Disk.{SameUnlessCorrupt, KeepsCommitted}
+use Rattle.vm_file.specs.Sound.{IsPlace, IsBlockTable, AreTables, IsPreparedFormed, IsFormed, IsSound, disk_of}
 use Rattle.vm_file.specs.Writing.{AreFor, AreWritten, IsSpared, placed_at, with_places, without_places}
 use Rattle.vm_file.specs.declared.member.Member.{Member}
 use Rattle.vm_file.specs.declared.table.Place.{Place}
-use Rattle.vm_file.specs.declared.table.Table.{Table}
+use Rattle.vm_file.specs.declared.table.BlockTable.{BlockTable}
 use Rattle.vm_file.specs.declared.table.DocumentRef.{DocumentRef}
 use Rattle.vm_file.specs.declared.table.Pair.{Pair}
 use Rattle.vm_file.specs.declared.slot.SpareSlot.{SpareSlot}
@@ -31,12 +31,12 @@ use Rattle.vm_file.proofs.TableChangeLemmas.{drifts_put_all, drifts_remove_all, 
 use Rattle.vm_file.proofs.ImageLemmas.{image_length}
 use Rattle.vm_file.proofs.RangesLemmas.{all_left, all_right, keeps_within, bytes_held}
 use Rattle.vm_file.proofs.SoundLemmas.{EndsIn}
-use Rattle.vm_file.proofs.PassingLemmas.{Drifts-trans}
+use Rattle.vm_file.proofs.PassingLemmas.{SameUnlessCorrupt-trans}
 use Rattle.vm_file.proofs.TableLemmas.{EachPlace, shown, places_drift, blocks_same, images_same, extents_of, places_of, length-block_extents, items_kept}
 
 -- There are not too many extents: those of the blocks of six documents, and four directories.
 
-stored_few : (s : DocumentRef) → IsTable s.table → length (stored_extents s) ≤ most_blocks + 1
+stored_few : (s : DocumentRef) → IsBlockTable s.table → length (stored_extents s) ≤ most_blocks + 1
 stored_few s table = let few = length-block_extents s.table.places.items in let size = table.size in omega (arith, few, size)
 
 pair_few : (pair : Pair) → AreTables pair → length (pair_extents pair) ≤ 2 * most_blocks + 2
@@ -51,11 +51,11 @@ prepared_few sequence Shut formed = omega arith
 prepared_few sequence Stale formed = omega arith
 prepared_few sequence (Prepared pair) formed = pair_few pair formed.0
 
-marked_few : (marked : Option Table) → IfSome marked IsTable → length (marked_extents marked) ≤ most_blocks
+marked_few : (marked : Option BlockTable) → IfSome marked IsBlockTable → length (marked_extents marked) ≤ most_blocks
 marked_few None formed = omega arith
 marked_few (Some table) formed = let few = length-block_extents table.places.items in let size = formed.size in omega (arith, few, size)
 
-pub few_extents : (live : Table) (slots : Slots) → IsFormed live slots → length (block_extents live.places.items ++ kept_extents slots) ≤ 6 * most_blocks + 4
+pub few_extents : (live : BlockTable) (slots : Slots) → IsFormed live slots → length (block_extents live.places.items ++ referenced_extents slots) ≤ 6 * most_blocks + 4
 few_extents live slots formed =
     let mine = length-block_extents live.places.items in
     let size = formed.table.size in
@@ -64,7 +64,7 @@ few_extents live slots formed =
     let marked = marked_few slots.marked formed.marked in
     let rest = length-append (prepared_extents slots.spare) (marked_extents slots.marked) in
     let kept = length-append (pair_extents slots.committed) (prepared_extents slots.spare ++ marked_extents slots.marked) in
-    let all = length-append (block_extents live.places.items) (kept_extents slots) in
+    let all = length-append (block_extents live.places.items) (referenced_extents slots) in
     omega (arith, mine, size, pair, prepared, marked, rest, kept, all)
 
 -- the place of a block that is put can be
@@ -77,20 +77,20 @@ written_imaged file p e is =
     let read = ap body_read is ∙ body_read-body p.block.image p.block.valid in
     record { image = ap body_of is ∙ body_of-image p.block.image p.block.valid ∙ ap Some (sym read); kind = ap is_heap_body (sym read) }
 
-module _ {S : Type 0} (facts : S → StoreFacts) (a b : S) (live : Table) (slots : Slots) (sound : IsSound (facts a) live slots) (honest : (facts b).honest ≡ (facts a).honest)
+module _ {S : Type 0} (facts : S → StoreFacts) (a b : S) (live : BlockTable) (slots : Slots) (sound : IsSound (facts a) live slots) (honest : (facts b).honest ≡ (facts a).honest)
     (now : IsTrue (facts b).honest → (facts b).may_leave (facts b).content)
     (spared : IsTrue (facts a).honest → IsSpared (block_extents live.places.items ++ marked_extents slots.marked) slots (facts a) (facts b)) where
-  leaves : IsTrue (facts a).honest → Leaves (facts b) slots (facts a).content
+  leaves : IsTrue (facts a).honest → CrashLeavesSlots (facts b) slots (facts a).content
   leaves so = (spared so).leaves (facts a).content (sound.whole so).leaves
 
   both : IsTrue (facts a).honest → KeepsAll (block_extents live.places.items ++ marked_extents slots.marked) (facts a).content (facts b).content
   both so = (spared so).keeps (All-append (EndsIn (facts a).content) (block_extents live.places.items) (marked_extents slots.marked) (sound.whole so).within (sound.whole so).marked_within)
 
   kept : IsTrue (facts a).honest → KeepsAll (block_extents live.places.items) (facts a).content (facts b).content
-  kept so = all_left (Keeps (facts a).content (facts b).content) (block_extents live.places.items) (marked_extents slots.marked) (both so)
+  kept so = all_left (KeepsExtent (facts a).content (facts b).content) (block_extents live.places.items) (marked_extents slots.marked) (both so)
 
   marked : IsTrue (facts a).honest → KeepsAll (marked_extents slots.marked) (facts a).content (facts b).content
-  marked so = all_right (Keeps (facts a).content (facts b).content) (block_extents live.places.items) (marked_extents slots.marked) (both so)
+  marked so = all_right (KeepsExtent (facts a).content (facts b).content) (block_extents live.places.items) (marked_extents slots.marked) (both so)
 
   images : IsTrue (facts a).honest → AreImaged (facts b).content live.places.items
   images so = images_same (facts a).content (facts b).content live.places.items (sound.whole so).within (kept so) (sound.whole so).images
@@ -98,10 +98,10 @@ module _ {S : Type 0} (facts : S → StoreFacts) (a b : S) (live : Table) (slots
   within : IsTrue (facts a).honest → All (EndsIn (facts b).content) (block_extents live.places.items)
   within so = keeps_within (block_extents live.places.items) (facts a).content (facts b).content (kept so)
 
-  pub spared_passes : (facts a).failures ≤ (facts b).failures → Passes facts (disk_of facts a slots) (disk_of facts b slots)
+  pub spared_passes : (facts a).failures ≤ (facts b).failures → KeepsCommitted facts (disk_of facts a slots) (disk_of facts b slots)
   spared_passes failures = call_passes facts a b live slots sound honest now leaves marked failures (λ so. (spared so).crash (facts a).content (sound.whole so).leaves)
 
-  pub spared_drifts : Drifts (facts a).honest (shown (facts a).content live.places.items live.map_block) (shown (facts b).content live.places.items live.map_block)
+  pub spared_drifts : SameUnlessCorrupt (facts a).honest (shown (facts a).content live.places.items live.map_block) (shown (facts b).content live.places.items live.map_block)
   spared_drifts = places_drift (facts a).honest (facts a).content (facts b).content live.places.items live.map_block (λ so. blocks_same (facts a).content (facts b).content live.places.items (sound.whole so).within (kept so))
 
   -- where the table stays
@@ -109,30 +109,30 @@ module _ {S : Type 0} (facts : S → StoreFacts) (a b : S) (live : Table) (slots
   spared_sound = call_sound facts a b live slots sound honest now leaves marked live sound.formed (λ so. (images so, within so))
 
   -- where the images were written, and the table is changed
-  module _ (puts : List Member) (extents : List Extent) (removals : List VmHandle) (new : Table) (are : All IsPut puts) (taken : List Extent) (found : AreFor taken puts (length puts) extents)
+  module _ (puts : List Member) (extents : List Extent) (removals : List VmHandle) (new : BlockTable) (are : All IsPut puts) (taken : List Extent) (found : AreFor taken puts (length puts) extents)
       (written : IsTrue (facts a).honest → AreWritten (length puts) puts extents (facts b).content) (same : new.map_block ≡ live.map_block)
       (room : All (λ p. p.handle.0 ≤ length live.places.items) puts)
       (is : new.places.items ≡ without_places removals (with_places puts extents live.places.items)) where
     bytes : (so : IsTrue (facts a).honest) (k : ℕ) (p : Member) (e : Extent) → k < length puts → bytes_in (facts b).content (get_or extents k e) ≡ image (get_or puts k p).block.image
     bytes so k p e low = bytes_held (facts b).content (image (get_or puts k p).block.image) (get_or extents k e) (sym (found.sizes k e p low)) (written so k e p low)
 
-    pub put_drifts : Drifts (facts a).honest (remove_all removals (put_all puts (shown (facts a).content live.places.items live.map_block))) (shown (facts b).content new.places.items new.map_block)
+    pub put_drifts : SameUnlessCorrupt (facts a).honest (remove_all removals (put_all puts (shown (facts a).content live.places.items live.map_block))) (shown (facts b).content new.places.items new.map_block)
     put_drifts =
         let honestly = (facts a).honest in
         let file = (facts b).content in
         let places = live.places.items in
         let filled = with_places puts extents places in
-        let P : Document → Type 0 = Drifts honestly (remove_all removals (put_all puts (shown (facts a).content places live.map_block))) in
+        let P : Document → Type 0 = SameUnlessCorrupt honestly (remove_all removals (put_all puts (shown (facts a).content places live.map_block))) in
         let made : shown file new.places.items new.map_block ≡ remove_all removals (shown file filled live.map_block) =
         ap (λ m. shown file new.places.items m) same ∙ ap (λ ps. shown file ps live.map_block) is ∙ shown_without_all file removals filled live.map_block in
-        subst P (sym made) (drifts_remove_all honestly removals _ _ (Drifts-trans honestly _ _ _ (drifts_put_all honestly puts _ _ spared_drifts)
+        subst P (sym made) (drifts_remove_all honestly removals _ _ (SameUnlessCorrupt-trans honestly _ _ _ (drifts_put_all honestly puts _ _ spared_drifts)
         (filled_drifts honestly file puts extents places live.map_block room are found.count (λ k p e low so. bytes so k p e low))))
 
     module _ (stays : All (λ h. h.0 ≢ live.map_block) removals) where
       each_new : (P : Place → Type 0) → ((k : ℕ) (p : Member) (e : Extent) → k < length puts → P (placed_at (get_or puts k p) (get_or extents k e))) → EachPlace P live.places.items → EachPlace P new.places.items
       each_new P one each = subst (EachPlace P) (sym is) (each_without P removals (with_places puts extents live.places.items) (each_with P puts extents live.places.items one each))
 
-      new_table : IsTable new
+      new_table : IsBlockTable new
       new_table = record {
         size = (let long = ap length is ∙ length-without_places removals (with_places puts extents live.places.items) ∙ length-with_places puts extents live.places.items in let was = sound.formed.table.size in omega (arith, long, was));
         places = each_new IsPlace (λ k p e low. written_place (get_or puts k p) (get_or extents k e) (found.sizes k e p low)) sound.formed.table.places;

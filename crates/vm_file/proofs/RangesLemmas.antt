@@ -4,7 +4,7 @@ use Rattle.std.proofs.lemmas.Grind.{same_number_lists}
 use Rattle.std.proofs.lemmas.List.{length-append, get_or-append-add, get_or_append_left, get_or-drop, get_or-take}
 use Rattle.std.proofs.lemmas.List.Elements.{All-nil, All-cons, All-head, All-tail}
 use Rattle.vm_store.specs.Facts.{byte, Torn, Holds}
-use Rattle.vm_file.specs.Ranges.{start_of, end_of, IsPlaced, Keeps, KeepsAll, IsOut, IsClear}
+use Rattle.vm_file.specs.Ranges.{start_of, end_of, IsPlaced, KeepsExtent, KeepsAll, IsOut, IsClear}
 use Rattle.geos_model.specs.File.{bytes_in}
 use Rattle.geos_model.specs.declared.file.Extent.{Extent}
 
@@ -29,7 +29,7 @@ torn_holds at n from to bytes c d short out torn was = record {
   each = λ i inside. torn_byte at n from to (from + i) c d out torn (omega arith) (omega arith) (omega (arith, was.within)) ∙ was.each i inside;
 }
 
-pub torn_same : (at n : ℕ) (e : Extent) (file c d : List ℕ) → IsOut at n (start_of e) (end_of e) → Torn at n c d → Keeps file c e → Keeps file d e
+pub torn_same : (at n : ℕ) (e : Extent) (file c d : List ℕ) → IsOut at n (start_of e) (end_of e) → Torn at n c d → KeepsExtent file c e → KeepsExtent file d e
 torn_same at n e file c d out torn was = record {
   within = omega (arith, was.within, torn.no_shorter);
   bytes = λ i low high. torn_byte at n (start_of e) (end_of e) i c d out torn low high (omega (arith, high, was.within)) ∙ was.bytes i low high;

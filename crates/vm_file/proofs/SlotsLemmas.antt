@@ -4,10 +4,10 @@ use Rattle.std.specs.Prelude.{if◌then◌else◌}
 use Rattle.std.proofs.lemmas.List.Elements.{All-nil}
 use Rattle.byteorder.specs.Endian.{little_bytes}
 use Rattle.byteorder.specs.Numbers.{length-bytes_low_first}
-use Rattle.vm_store.specs.Facts.{byte, Torn, Holds, StoreFacts, IsDurable, Rests}
+use Rattle.vm_store.specs.Facts.{byte, Torn, Holds, StoreFacts, IsDurable, IsUnchanged}
 use Rattle.geos_model.specs.File.{slot_mark, extent_text}
-use Rattle.vm_file.specs.Ranges.{start_of, end_of, IsPlaced, Keeps, KeepsAll, IsOut, IsClear}
-use Rattle.vm_file.specs.Slots.{pair_extents, prepared_extents, kept_extents, counting_of, spare_of, turned, Failed, gate_text, behind_gate, Leads, IsUnmarked, IsOlder, IsBeside, Outcome, AreKept, IsBesideOut, Spares, FailedEarly, Leaves, Outlives}
+use Rattle.vm_file.specs.Ranges.{start_of, end_of, IsPlaced, KeepsExtent, KeepsAll, IsOut, IsClear}
+use Rattle.vm_file.specs.Slots.{pair_extents, prepared_extents, referenced_extents, counting_of, spare_of, switched, Failed, gate_text, behind_gate, LeadsTo, IsUnmarked, IsOlder, IsBeside, Outcome, AreExtentsPlaced, IsBesideOut, Spares, FailedEarly, CrashLeavesSlots, Outlives}
 use Rattle.vm_file.specs.declared.table.Pair.{Pair}
 use Rattle.vm_file.specs.declared.slot.SpareSlot.{SpareSlot}
 use Rattle.vm_file.specs.declared.slot.SpareSlot.TheVariants.{Shut, Stale, Prepared}
@@ -23,26 +23,26 @@ one_each slots = elim slots.second as (λ b. (if b then 1 else 0) + (if b then 0
 -- The extents of the slots.
 
 -- when the other one is shut, or leads to a pair that can be
-pub shut_kept : (slots : Slots) → AreKept slots → AreKept (record slots { spare = Shut })
+pub shut_kept : (slots : Slots) → AreExtentsPlaced slots → AreExtentsPlaced (record slots { spare = Shut })
 shut_kept slots kept = kept_all IsPlaced (record slots { spare = Shut }) (kept_pair IsPlaced slots kept) (All-nil IsPlaced) (kept_marked IsPlaced slots kept)
 
-pub with_pair_kept : (slots : Slots) (pair : Pair) → AreKept slots → All IsPlaced (pair_extents pair) → AreKept (record slots { spare = Prepared pair })
+pub with_pair_kept : (slots : Slots) (pair : Pair) → AreExtentsPlaced slots → All IsPlaced (pair_extents pair) → AreExtentsPlaced (record slots { spare = Prepared pair })
 with_pair_kept slots pair kept placed = kept_all IsPlaced (record slots { spare = Prepared pair }) (kept_pair IsPlaced slots kept) placed (kept_marked IsPlaced slots kept)
 
 -- when it counts
-pub turned_kept : (slots : Slots) (pair : Pair) → AreKept slots → All IsPlaced (pair_extents pair) → AreKept (turned slots pair)
-turned_kept slots pair kept placed = kept_all IsPlaced (turned slots pair) placed (All-nil IsPlaced) (kept_marked IsPlaced slots kept)
+pub turned_kept : (slots : Slots) (pair : Pair) → AreExtentsPlaced slots → All IsPlaced (pair_extents pair) → AreExtentsPlaced (switched slots pair)
+turned_kept slots pair kept placed = kept_all IsPlaced (switched slots pair) placed (All-nil IsPlaced) (kept_marked IsPlaced slots kept)
 
 -- and after a commit that failed
-pub failed_kept : (old new : Slots) (pair : Pair) → Failed old pair new → AreKept old → All IsPlaced (pair_extents pair) → AreKept new
-failed_kept old new pair failed kept placed = elim failed as (λ _. AreKept new) [
-  | inl (inl same) ↦ subst AreKept (sym same) kept
-  | inl (inr shut) ↦ subst AreKept (sym shut) (shut_kept old kept)
-  | inr held ↦ subst AreKept (sym held) (with_pair_kept old pair kept placed)
+pub failed_kept : (old new : Slots) (pair : Pair) → Failed old pair new → AreExtentsPlaced old → All IsPlaced (pair_extents pair) → AreExtentsPlaced new
+failed_kept old new pair failed kept placed = elim failed as (λ _. AreExtentsPlaced new) [
+  | inl (inl same) ↦ subst AreExtentsPlaced (sym same) kept
+  | inl (inr shut) ↦ subst AreExtentsPlaced (sym shut) (shut_kept old kept)
+  | inr held ↦ subst AreExtentsPlaced (sym held) (with_pair_kept old pair kept placed)
 ]
 
 -- a file that keeps what the slots stand on has both slots
-pub outcome_long : (slots : Slots) (file c : List ℕ) → AreKept slots → Outcome slots file c → 1024 ≤ length c
+pub outcome_long : (slots : Slots) (file c : List ℕ) → AreExtentsPlaced slots → Outcome slots file c → 1024 ≤ length c
 outcome_long slots file c kept was =
     let directory = slots.committed.updated.directory in
     let placed = (kept 0 directory (omega arith)).behind in
@@ -56,7 +56,7 @@ long_text version sequence updated saved = refl
 -- Torn bytes.
 
 leads_torn : (at n slot version sequence : ℕ) (pair : Pair) (file c d : List ℕ) → IsOut at n (512 * slot) (512 * slot + 4) → IsOut at n (512 * slot + 5) (512 * slot + 32) → IsClear at n (pair_extents pair)
-    → Torn at n c d → Leads slot version sequence pair file c → Leads slot version sequence pair file d
+    → Torn at n c d → LeadsTo slot version sequence pair file c → LeadsTo slot version sequence pair file d
 leads_torn at n slot version sequence pair file c d front behind clear torn was = record {
   marked = torn_holds at n (512 * slot) (512 * slot + 4) slot_mark c d (omega arith) front torn was.marked;
   rest = torn_holds at n (512 * slot + 5) (512 * slot + 32) (behind_gate version sequence pair) c d (omega (arith, long_text version sequence pair.updated.directory pair.saved.directory)) behind torn was.rest;
@@ -75,7 +75,7 @@ beside_torn Stale at n slot sequence file c d long out torn was = stale_torn at 
 beside_torn (Prepared pair) at n slot sequence file c d long out torn was = leads_torn at n slot 2 (sequence + 1) pair file c d out.0 out.1 out.2 torn was
 
 -- what is torn apart from all that the slots stand on
-pub outcome_torn : (at n : ℕ) (slots : Slots) (file c d : List ℕ) → AreKept slots → Spares at n slots → Torn at n c d → Outcome slots file c → Outcome slots file d
+pub outcome_torn : (at n : ℕ) (slots : Slots) (file c d : List ℕ) → AreExtentsPlaced slots → Spares at n slots → Torn at n c d → Outcome slots file c → Outcome slots file d
 outcome_torn at n slots file c d kept spares torn was =
     let slot = counting_of slots in
     let each = one_each slots in
@@ -96,7 +96,7 @@ clear_beside Shut slot at n low high clear = inl (omega arith)
 clear_beside Stale slot at n low high clear = (inl (omega arith), inl (omega arith))
 clear_beside (Prepared pair) slot at n low high clear = (inl (omega arith), inl (omega arith), clear)
 
-pub spares_clear : (at n : ℕ) (slots : Slots) → 1024 ≤ at → IsClear at n (kept_extents slots) → Spares at n slots
+pub spares_clear : (at n : ℕ) (slots : Slots) → 1024 ≤ at → IsClear at n (referenced_extents slots) → Spares at n slots
 spares_clear at n slots high clear =
     let each = one_each slots in
     let P : Extent → Type 0 = λ e. IsOut at n (start_of e) (end_of e) in
@@ -110,7 +110,7 @@ spares_clear at n slots high clear =
 other_slot_out : (slots : Slots) (i n : ℕ) → i + n ≤ 32 → IsOut (512 * spare_of slots + i) n (512 * counting_of slots) (512 * counting_of slots + 32)
 other_slot_out slots i n low = elim slots.second as (λ b. IsOut (512 * (if b then 0 else 1) + i) n (512 * (if b then 1 else 0)) (512 * (if b then 1 else 0) + 32)) [ true ↦ inr (omega arith) | false ↦ inl (omega arith) ]
 
-spares_in_other : (slots : Slots) (i n : ℕ) → i + n ≤ 32 → AreKept slots → IsBesideOut slots.spare (spare_of slots) (512 * spare_of slots + i) n → Spares (512 * spare_of slots + i) n slots
+spares_in_other : (slots : Slots) (i n : ℕ) → i + n ≤ 32 → AreExtentsPlaced slots → IsBesideOut slots.spare (spare_of slots) (512 * spare_of slots + i) n → Spares (512 * spare_of slots + i) n slots
 spares_in_other slots i n low kept beside =
     let each = one_each slots in
     record {
@@ -125,16 +125,16 @@ gate_beside Stale slot low isnt placed = (inl (omega arith), inr (omega arith))
 gate_beside (Prepared pair) slot low isnt placed = (inl (omega arith), inr (omega arith), clear_of_slots (512 * slot + 4) 1 (pair_extents pair) (omega arith) placed)
 
 -- the gate of the other slot, where it isn't known to be shut
-pub spares_gate : (slots : Slots) → AreKept slots → slots.spare ≢ Shut → Spares (512 * spare_of slots + 4) 1 slots
+pub spares_gate : (slots : Slots) → AreExtentsPlaced slots → slots.spare ≢ Shut → Spares (512 * spare_of slots + 4) 1 slots
 spares_gate slots kept isnt =
     let each = one_each slots in
     spares_in_other slots 4 1 (omega arith) kept (gate_beside slots.spare (spare_of slots) (omega arith) isnt (kept_prepared IsPlaced slots kept))
 
 -- its mark and what is behind its gate, where it is
-pub spares_mark : (slots : Slots) → AreKept slots → slots.spare ≡ Shut → Spares (512 * spare_of slots + 0) 4 slots
+pub spares_mark : (slots : Slots) → AreExtentsPlaced slots → slots.spare ≡ Shut → Spares (512 * spare_of slots + 0) 4 slots
 spares_mark slots kept shut = spares_in_other slots 0 4 (omega arith) kept (subst (λ o. IsBesideOut o (spare_of slots) (512 * spare_of slots + 0) 4) (sym shut) (inr (omega arith)))
 
-pub spares_behind : (slots : Slots) → AreKept slots → slots.spare ≡ Shut → Spares (512 * spare_of slots + 5) 27 slots
+pub spares_behind : (slots : Slots) → AreExtentsPlaced slots → slots.spare ≡ Shut → Spares (512 * spare_of slots + 5) 27 slots
 spares_behind slots kept shut = spares_in_other slots 5 27 (omega arith) kept (subst (λ o. IsBesideOut o (spare_of slots) (512 * spare_of slots + 5) 27) (sym shut) (inl (omega arith)))
 
 -- From one state to the next.
@@ -142,13 +142,13 @@ spares_behind slots kept shut = spares_in_other slots 5 27 (omega arith) kept (s
 pub outcome_shut : (slots : Slots) (file c : List ℕ) → byte c (512 * spare_of slots + 4) ≡ 0 → Outcome slots file c → Outcome (record slots { spare = Shut }) file c
 outcome_shut slots file c shut was = record { gate = was.gate; counts = was.counts; beside = λ is. omega (arith, shut, is) }
 
-pub outcome_held : (slots : Slots) (pair : Pair) (file c : List ℕ) → Leads (spare_of slots) 2 (slots.sequence + 1) pair file c → Outcome slots file c → Outcome (record slots { spare = Prepared pair }) file c
+pub outcome_held : (slots : Slots) (pair : Pair) (file c : List ℕ) → LeadsTo (spare_of slots) 2 (slots.sequence + 1) pair file c → Outcome slots file c → Outcome (record slots { spare = Prepared pair }) file c
 outcome_held slots pair file c leads was = record { gate = was.gate; counts = was.counts; beside = leads }
 
-not_other : (slots : Slots) (pair : Pair) → counting_of (turned slots pair) ≡ spare_of slots
+not_other : (slots : Slots) (pair : Pair) → counting_of (switched slots pair) ≡ spare_of slots
 not_other slots pair = elim slots.second as (λ b. (if not b then 1 else 0) ≡ (if b then 0 else 1)) [ true ↦ refl | false ↦ refl ]
 
-not_slot : (slots : Slots) (pair : Pair) → spare_of (turned slots pair) ≡ counting_of slots
+not_slot : (slots : Slots) (pair : Pair) → spare_of (switched slots pair) ≡ counting_of slots
 not_slot slots pair = elim slots.second as (λ b. (if not b then 0 else 1) ≡ (if b then 1 else 0)) [ true ↦ refl | false ↦ refl ]
 
 -- a slot's number stands behind its gate
@@ -159,19 +159,19 @@ numbered slot version sequence updated saved c holds =
     let place : 512 * slot + 5 + 3 ≡ 512 * slot + 8 = omega arith in
     subst P place (holds_part c (512 * slot + 5) (version ∷ 0 ∷ 0 ∷ []) (little_bytes 8 sequence) (extent_text updated ++ extent_text saved) holds)
 
-pub outcome_turned : (slots : Slots) (pair : Pair) (file c : List ℕ) → byte c (512 * spare_of slots + 4) ≡ 1 → Outcome (record slots { spare = Prepared pair }) file c → Outcome (turned slots pair) file c
+pub outcome_turned : (slots : Slots) (pair : Pair) (file c : List ℕ) → byte c (512 * spare_of slots + 4) ≡ 1 → Outcome (record slots { spare = Prepared pair }) file c → Outcome (switched slots pair) file c
 outcome_turned slots pair file c gate was =
     let directories = slots.committed in
     let older : IsOlder (counting_of slots) (slots.sequence + 1) c = record { number = slots.sequence; lower = omega arith; there = numbered (counting_of slots) slots.version slots.sequence directories.updated.directory directories.saved.directory c was.counts.rest } in
     record {
       gate = ap (λ s. byte c (512 * s + 4)) (not_other slots pair) ∙ gate;
-      counts = subst (λ s. Leads s 2 (slots.sequence + 1) pair file c) (sym (not_other slots pair)) was.beside;
+      counts = subst (λ s. LeadsTo s 2 (slots.sequence + 1) pair file c) (sym (not_other slots pair)) was.beside;
       beside = inr (subst (λ s. IsOlder s (slots.sequence + 1) c) (sym (not_slot slots pair)) older);
     }
 
 -- In another file that has the same bytes.
 
-same_leads : (slot version sequence : ℕ) (pair : Pair) (file now c : List ℕ) → (KeepsAll (pair_extents pair) file c → KeepsAll (pair_extents pair) now c) → Leads slot version sequence pair file c → Leads slot version sequence pair now c
+same_leads : (slot version sequence : ℕ) (pair : Pair) (file now c : List ℕ) → (KeepsAll (pair_extents pair) file c → KeepsAll (pair_extents pair) now c) → LeadsTo slot version sequence pair file c → LeadsTo slot version sequence pair now c
 same_leads slot version sequence pair file now c same was = record { marked = was.marked; rest = was.rest; kept = same was.kept }
 
 module _ (file now c : List ℕ) (same : (es : List Extent) → KeepsAll es file now → KeepsAll es file c → KeepsAll es now c) where
@@ -189,8 +189,8 @@ outcome_rebased slots file now c here was = record {
 }
 
 beside_keeps : (spare : SpareSlot) (slot sequence : ℕ) (file c : List ℕ) → IsBeside spare slot sequence file c → KeepsAll (prepared_extents spare) file c
-beside_keeps Shut slot sequence file c was = All-nil (Keeps file c)
-beside_keeps Stale slot sequence file c was = All-nil (Keeps file c)
+beside_keeps Shut slot sequence file c was = All-nil (KeepsExtent file c)
+beside_keeps Stale slot sequence file c was = All-nil (KeepsExtent file c)
 beside_keeps (Prepared pair) slot sequence file c was = was.kept
 
 -- all that the slots stand on is in what a crash left
@@ -220,23 +220,23 @@ Outlives-more a b file Is More more p = record {
 
 -- Calls that write nothing, as reads and syncs.
 
-pub rests_leaves : (slots : Slots) (file : List ℕ) (a b : StoreFacts) → Rests a b → Leaves a slots file → Leaves b slots file
-rests_leaves slots file a b rests leaves c left = leaves c (rests.crash c left)
+pub rests_leaves : (slots : Slots) (file : List ℕ) (a b : StoreFacts) → IsUnchanged a b → CrashLeavesSlots a slots file → CrashLeavesSlots b slots file
+rests_leaves slots file a b unchanged leaves c left = leaves c (unchanged.crash c left)
 
-pub rests_outlives : (slots : Slots) (file : List ℕ) (a b : StoreFacts) → Rests a b → Leaves a slots file → Outlives a b file (λ s. s ≡ slots)
-rests_outlives slots file a b rests leaves = record {
-  later = rests.time.later;
-  each = λ t c le left. elim (rests.time.nothing_else t c le left) as (λ _. a.left_since t c ⊎ ((s : Slots) × (s ≡ slots) × Outcome s file c)) [ inl before ↦ inl before | inr now ↦ inr (slots, refl, leaves c (rests.crash c now)) ];
+pub rests_outlives : (slots : Slots) (file : List ℕ) (a b : StoreFacts) → IsUnchanged a b → CrashLeavesSlots a slots file → Outlives a b file (λ s. s ≡ slots)
+rests_outlives slots file a b unchanged leaves = record {
+  later = unchanged.time.later;
+  each = λ t c le left. elim (unchanged.time.nothing_else t c le left) as (λ _. a.left_since t c ⊎ ((s : Slots) × (s ≡ slots) × Outcome s file c)) [ inl before ↦ inl before | inr now ↦ inr (slots, refl, leaves c (unchanged.crash c now)) ];
 }
 
 -- Calls that write one range, on which the slots don't stand.
 
-pub spared_leaves : (at n : ℕ) (slots : Slots) (file : List ℕ) (a b : StoreFacts) → AreKept slots → Spares at n slots → Tears at n a b → Leaves a slots file → Leaves b slots file
+pub spared_leaves : (at n : ℕ) (slots : Slots) (file : List ℕ) (a b : StoreFacts) → AreExtentsPlaced slots → Spares at n slots → Tears at n a b → CrashLeavesSlots a slots file → CrashLeavesSlots b slots file
 spared_leaves at n slots file a b kept spares tears leaves c left =
     let from = tears.crash c left in
     outcome_torn at n slots file from.0 c kept spares from.2 (leaves from.0 from.1)
 
-pub spared_outlives : (at n : ℕ) (slots : Slots) (file : List ℕ) (a b : StoreFacts) → AreKept slots → Spares at n slots → Tears at n a b → Leaves a slots file → Outlives a b file (λ s. s ≡ slots)
+pub spared_outlives : (at n : ℕ) (slots : Slots) (file : List ℕ) (a b : StoreFacts) → AreExtentsPlaced slots → Spares at n slots → Tears at n a b → CrashLeavesSlots a slots file → Outlives a b file (λ s. s ≡ slots)
 spared_outlives at n slots file a b kept spares tears leaves = record {
   later = tears.later;
   each = λ t c le left. elim (tears.since t c le left) as (λ _. a.left_since t c ⊎ ((s : Slots) × (s ≡ slots) × Outcome s file c)) [
@@ -253,29 +253,29 @@ durable_byte a at x durable holds c left =
     let here : at ≡ at + 0 = omega arith in
     ap (λ f. byte f at) (durable c left) ∙ ap (byte a.content) here ∙ holds.each 0 (omega arith)
 
-pub shut_leaves : (slots : Slots) (file : List ℕ) (a : StoreFacts) → IsDurable a → Holds a.content (512 * spare_of slots + 4) (0 ∷ []) → Leaves a slots file → Leaves a (record slots { spare = Shut }) file
+pub shut_leaves : (slots : Slots) (file : List ℕ) (a : StoreFacts) → IsDurable a → Holds a.content (512 * spare_of slots + 4) (0 ∷ []) → CrashLeavesSlots a slots file → CrashLeavesSlots a (record slots { spare = Shut }) file
 shut_leaves slots file a durable holds leaves c left = outcome_shut slots file c (durable_byte a (512 * spare_of slots + 4) 0 durable holds c left) (leaves c left)
 
-pub turned_leaves : (slots : Slots) (pair : Pair) (file : List ℕ) (a : StoreFacts) → IsDurable a → Holds a.content (512 * spare_of slots + 4) (1 ∷ []) → Leaves a (record slots { spare = Prepared pair }) file → Leaves a (turned slots pair) file
+pub turned_leaves : (slots : Slots) (pair : Pair) (file : List ℕ) (a : StoreFacts) → IsDurable a → Holds a.content (512 * spare_of slots + 4) (1 ∷ []) → CrashLeavesSlots a (record slots { spare = Prepared pair }) file → CrashLeavesSlots a (switched slots pair) file
 turned_leaves slots pair file a durable holds leaves c left = outcome_turned slots pair file c (durable_byte a (512 * spare_of slots + 4) 1 durable holds c left) (leaves c left)
 
 -- the other slot is whole but for its gate
 pub prepared_leaves : (slots : Slots) (pair : Pair) (file : List ℕ) (a : StoreFacts) → IsDurable a → Holds a.content (512 * spare_of slots) slot_mark → Holds a.content (512 * spare_of slots + 5) (behind_gate 2 (slots.sequence + 1) pair)
-    → KeepsAll (pair_extents pair) file a.content → Leaves a slots file → Leaves a (record slots { spare = Prepared pair }) file
+    → KeepsAll (pair_extents pair) file a.content → CrashLeavesSlots a slots file → CrashLeavesSlots a (record slots { spare = Prepared pair }) file
 prepared_leaves slots pair file a durable marked rest kept leaves c left =
-    let there : Leads (spare_of slots) 2 (slots.sequence + 1) pair file a.content = record { marked = marked; rest = rest; kept = kept } in
-    outcome_held slots pair file c (subst (λ f. Leads (spare_of slots) 2 (slots.sequence + 1) pair file f) (sym (durable c left)) there) (leaves c left)
+    let there : LeadsTo (spare_of slots) 2 (slots.sequence + 1) pair file a.content = record { marked = marked; rest = rest; kept = kept } in
+    outcome_held slots pair file c (subst (λ f. LeadsTo (spare_of slots) 2 (slots.sequence + 1) pair file f) (sym (durable c left)) there) (leaves c left)
 
 -- the bytes may be taken from the content
-pub leaves_rebased : (slots : Slots) (file : List ℕ) (a : StoreFacts) → a.may_leave a.content → Leaves a slots file → Leaves a slots a.content
+pub leaves_rebased : (slots : Slots) (file : List ℕ) (a : StoreFacts) → a.may_leave a.content → CrashLeavesSlots a slots file → CrashLeavesSlots a slots a.content
 leaves_rebased slots file a now leaves c left = outcome_rebased slots file a.content c (leaves a.content now) (leaves c left)
 
 -- The steps of a commit, at the places where they write.
 
-module _ (slots : Slots) (file : List ℕ) (a b : StoreFacts) (at : ℕ) (kept : AreKept slots) (leaves : Leaves a slots file) where
+module _ (slots : Slots) (file : List ℕ) (a b : StoreFacts) (at : ℕ) (kept : AreExtentsPlaced slots) (leaves : CrashLeavesSlots a slots file) where
   -- the gate of the other slot
   module _ (is : at ≡ 512 * spare_of slots + 4) (isnt : slots.spare ≢ Shut) (tears : Tears at 1 a b) where
-    pub gate_leaves : Leaves b slots file
+    pub gate_leaves : CrashLeavesSlots b slots file
     gate_leaves = spared_leaves at 1 slots file a b kept (subst (λ n. Spares n 1 slots) (sym is) (spares_gate slots kept isnt)) tears leaves
 
     pub gate_outlives : Outlives a b file (λ s. s ≡ slots)
@@ -286,7 +286,7 @@ module _ (slots : Slots) (file : List ℕ) (a b : StoreFacts) (at : ℕ) (kept :
     mark_spared : Spares at 4 slots
     mark_spared = let place : 512 * spare_of slots + 0 ≡ at = omega (arith, is) in subst (λ n. Spares n 4 slots) place (spares_mark slots kept shut)
 
-    pub mark_leaves : Leaves b slots file
+    pub mark_leaves : CrashLeavesSlots b slots file
     mark_leaves = spared_leaves at 4 slots file a b kept mark_spared tears leaves
 
     pub mark_outlives : Outlives a b file (λ s. s ≡ slots)
@@ -297,18 +297,18 @@ module _ (slots : Slots) (file : List ℕ) (a b : StoreFacts) (at : ℕ) (kept :
     behind_spared : Spares at n slots
     behind_spared = subst (λ m. Spares at m slots) (sym long) (subst (λ m. Spares m 27 slots) (sym is) (spares_behind slots kept shut))
 
-    pub behind_leaves : Leaves b slots file
+    pub behind_leaves : CrashLeavesSlots b slots file
     behind_leaves = spared_leaves at n slots file a b kept behind_spared tears leaves
 
     pub behind_outlives : Outlives a b file (λ s. s ≡ slots)
     behind_outlives = spared_outlives at n slots file a b kept behind_spared tears leaves
 
   -- an extent on which nothing stands
-  module _ (e : Extent) (n : ℕ) (is : at ≡ start_of e) (long : n ≡ e.length) (behind : 2 ≤ e.page) (clear : IsClear (start_of e) e.length (kept_extents slots)) (tears : Tears at n a b) where
+  module _ (e : Extent) (n : ℕ) (is : at ≡ start_of e) (long : n ≡ e.length) (behind : 2 ≤ e.page) (clear : IsClear (start_of e) e.length (referenced_extents slots)) (tears : Tears at n a b) where
     extent_spared : Spares at n slots
     extent_spared = subst (λ m. Spares at m slots) (sym long) (subst (λ m. Spares m e.length slots) (sym is) (spares_clear (start_of e) e.length slots (omega arith) clear))
 
-    pub extent_leaves : Leaves b slots file
+    pub extent_leaves : CrashLeavesSlots b slots file
     extent_leaves = spared_leaves at n slots file a b kept extent_spared tears leaves
 
     pub extent_outlives : Outlives a b file (λ s. s ≡ slots)

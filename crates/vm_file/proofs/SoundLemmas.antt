@@ -5,61 +5,61 @@ use Rattle.std.specs.Option.{option_map}
 use Rattle.std.proofs.lemmas.List.Elements.{All-nil, All-append}
 use Rattle.geos_model.specs.declared.file.Extent.{Extent}
 use Rattle.vm_file.specs.Ranges.{KeepsAll, end_of, IsPlaced}
-use Rattle.vm_file.specs.Slots.{pair_extents, prepared_extents, marked_extents, kept_extents, block_extents, Outcome}
+use Rattle.vm_file.specs.Slots.{pair_extents, prepared_extents, marked_extents, referenced_extents, block_extents, Outcome}
 use Rattle.vm_file.specs.Documents.{document_in, AreImaged, IsImaged, AreStored, IsPreparedStored}
-use Rattle.vm_file.specs.Disk.{MarkDrifts}
-use Rattle.vm_file.specs.declared.table.Table.{Table}
+use Rattle.vm_file.specs.Disk.{MarkSameUnlessCorrupt}
+use Rattle.vm_file.specs.declared.table.BlockTable.{BlockTable}
 use Rattle.vm_file.specs.declared.slot.Slots.{Slots}
 use Rattle.vm_file.proofs.RangesLemmas.{all_left, all_right}
 use Rattle.vm_file.proofs.TableLemmas.{blocks_same, images_same, places_drift, Lies, each_at, each_set, extents_of, places_of, full_set}
-use Rattle.vm_store.specs.Facts.{StoreFacts, Rests}
+use Rattle.vm_store.specs.Facts.{StoreFacts, IsUnchanged}
 use Rattle.geos_model.specs.Document.{IsTyped}
 use Rattle.geos_model.proofs.Tables.{slot_at}
 use Rattle.geos_model.specs.declared.block.Attributes.{Attributes}
-use Rattle.vm_file.specs.Sound.{IsPlace, ArePlaces, IsTable, IsSound, IsSoundFile}
-use Rattle.vm_file.specs.Opened.{Looks}
+use Rattle.vm_file.specs.Sound.{IsPlace, ArePlaces, IsBlockTable, IsSound, IsSoundFile}
+use Rattle.vm_file.specs.Opened.{OnlyReadsStore}
 use Rattle.vm_file.specs.declared.listing.Bounds.{Bounds}
 use Rattle.vm_space.specs.Space.{Space}
 use Rattle.vm_file.specs.declared.table.Place.{Place}
 
 -- The parts of it.
 module _ (P : Extent → Type 0) (slots : Slots) where
-  pub kept_pair : All P (kept_extents slots) → All P (pair_extents slots.committed)
+  pub kept_pair : All P (referenced_extents slots) → All P (pair_extents slots.committed)
   kept_pair all = all_left P (pair_extents slots.committed) (prepared_extents slots.spare ++ marked_extents slots.marked) all
 
-  kept_rest : All P (kept_extents slots) → All P (prepared_extents slots.spare ++ marked_extents slots.marked)
+  kept_rest : All P (referenced_extents slots) → All P (prepared_extents slots.spare ++ marked_extents slots.marked)
   kept_rest all = all_right P (pair_extents slots.committed) (prepared_extents slots.spare ++ marked_extents slots.marked) all
 
-  pub kept_prepared : All P (kept_extents slots) → All P (prepared_extents slots.spare)
+  pub kept_prepared : All P (referenced_extents slots) → All P (prepared_extents slots.spare)
   kept_prepared all = all_left P (prepared_extents slots.spare) (marked_extents slots.marked) (kept_rest all)
 
-  pub kept_marked : All P (kept_extents slots) → All P (marked_extents slots.marked)
+  pub kept_marked : All P (referenced_extents slots) → All P (marked_extents slots.marked)
   kept_marked all = all_right P (prepared_extents slots.spare) (marked_extents slots.marked) (kept_rest all)
 
-  pub kept_all : All P (pair_extents slots.committed) → All P (prepared_extents slots.spare) → All P (marked_extents slots.marked) → All P (kept_extents slots)
+  pub kept_all : All P (pair_extents slots.committed) → All P (prepared_extents slots.spare) → All P (marked_extents slots.marked) → All P (referenced_extents slots)
   kept_all pair held marked = All-append P (pair_extents slots.committed) (prepared_extents slots.spare ++ marked_extents slots.marked) pair (All-append P (prepared_extents slots.spare) (marked_extents slots.marked) held marked)
 
   -- and with the live document
-  pub live_and_marked : (live : List Extent) → All P (live ++ kept_extents slots) → All P (live ++ marked_extents slots.marked)
-  live_and_marked live all = All-append P live (marked_extents slots.marked) (all_left P live (kept_extents slots) all) (kept_marked (all_right P live (kept_extents slots) all))
+  pub live_and_marked : (live : List Extent) → All P (live ++ referenced_extents slots) → All P (live ++ marked_extents slots.marked)
+  live_and_marked live all = All-append P live (marked_extents slots.marked) (all_left P live (referenced_extents slots) all) (kept_marked (all_right P live (referenced_extents slots) all))
 
 -- Where none is marked.
 
-pub nothing_kept : (P : Extent → Type 0) (marked : Option Table) → marked ≡ None → All P (marked_extents marked)
+pub nothing_kept : (P : Extent → Type 0) (marked : Option BlockTable) → marked ≡ None → All P (marked_extents marked)
 nothing_kept P marked none = subst (λ m. All P (marked_extents m)) (sym none) (All-nil P)
 
-pub nothing_marked : (P : Table → Type 0) (marked : Option Table) → marked ≡ None → IfSome marked P
+pub nothing_marked : (P : BlockTable → Type 0) (marked : Option BlockTable) → marked ≡ None → IfSome marked P
 nothing_marked P marked none = subst (λ m. IfSome m P) (sym none) tt
 
 -- In another file that has its bytes.
 
-pub marked_imaged : (file c : List ℕ) (marked : Option Table) → All (λ e. end_of e ≤ length file) (marked_extents marked) → KeepsAll (marked_extents marked) file c → IfSome marked (λ t. AreImaged file t.places.items)
+pub marked_imaged : (file c : List ℕ) (marked : Option BlockTable) → All (λ e. end_of e ≤ length file) (marked_extents marked) → KeepsAll (marked_extents marked) file c → IfSome marked (λ t. AreImaged file t.places.items)
     → IfSome marked (λ t. AreImaged c t.places.items)
 marked_imaged file c None within keeps was = tt
 marked_imaged file c (Some t) within keeps was = images_same file c t.places.items within keeps was
 
-pub marked_drifts : (honest : Bool) (file c : List ℕ) (marked : Option Table) → (IsTrue honest → All (λ e. end_of e ≤ length file) (marked_extents marked)) → (IsTrue honest → KeepsAll (marked_extents marked) file c)
-    → MarkDrifts honest (option_map (document_in file) marked) (option_map (document_in c) marked)
+pub marked_drifts : (honest : Bool) (file c : List ℕ) (marked : Option BlockTable) → (IsTrue honest → All (λ e. end_of e ≤ length file) (marked_extents marked)) → (IsTrue honest → KeepsAll (marked_extents marked) file c)
+    → MarkSameUnlessCorrupt honest (option_map (document_in file) marked) (option_map (document_in c) marked)
 marked_drifts honest file c None within keeps = refl
 marked_drifts honest file c (Some t) within keeps = (document_in c t, refl, places_drift honest file c t.places.items t.map_block (λ so. blocks_same file c t.places.items (within so) (keeps so)))
 
@@ -70,13 +70,13 @@ abbrev pub EndsIn : List ℕ → Extent → Type 0
 EndsIn file e = end_of e ≤ length file
 
 -- calls that only read
-pub sound_rested : (a b : StoreFacts) (live : Table) (slots : Slots) → IsSound a live slots → b.honest ≡ a.honest → (IsTrue a.honest → Rests a b) → IsSound b live slots
-sound_rested a b live slots sound honest rests = record {
+pub sound_rested : (a b : StoreFacts) (live : BlockTable) (slots : Slots) → IsSound a live slots → b.honest ≡ a.honest → (IsTrue a.honest → IsUnchanged a b) → IsSound b live slots
+sound_rested a b live slots sound honest unchanged = record {
   formed = sound.formed;
   whole = λ so.
       let before : IsTrue a.honest = subst IsTrue honest so in
       let was = sound.whole before in
-      let is : a.content ≡ b.content = sym (rests before).content in
+      let is : a.content ≡ b.content = sym (unchanged before).content in
       record {
         images = subst (λ f. AreImaged f live.places.items) is was.images;
         within = subst (λ f. All (EndsIn f) (block_extents live.places.items)) is was.within;
@@ -84,15 +84,15 @@ sound_rested a b live slots sound honest rests = record {
         prepared = subst (λ f. IsPreparedStored f slots.spare) is was.prepared;
         marked = subst (λ f. IfSome slots.marked (λ t. AreImaged f t.places.items)) is was.marked;
         marked_within = subst (λ f. All (EndsIn f) (marked_extents slots.marked)) is was.marked_within;
-        leaves = λ c left. subst (λ f. Outcome slots f c) is (was.leaves c ((rests before).crash c left));
+        leaves = λ c left. subst (λ f. Outcome slots f c) is (was.leaves c ((unchanged before).crash c left));
       };
 }
 
-pub file_rested : (a b : StoreFacts) (live : Table) (slots : Slots) (space : Option Space) (bounds : Bounds) → IsSoundFile a live slots space bounds → Looks a b → IsSoundFile b live slots space bounds
-file_rested a b live slots space bounds was looks = record { sound = sound_rested a b live slots was.sound looks.honest looks.rests; bounded = was.bounded; known = was.known }
+pub file_rested : (a b : StoreFacts) (live : BlockTable) (slots : Slots) (space : Option Space) (bounds : Bounds) → IsSoundFile a live slots space bounds → OnlyReadsStore a b → IsSoundFile b live slots space bounds
+file_rested a b live slots space bounds was looks = record { sound = sound_rested a b live slots was.sound looks.honest looks.unchanged; bounded = was.bounded; known = was.known }
 
 -- another live table
-pub sound_live : (store : StoreFacts) (live new : Table) (slots : Slots) → IsSound store live slots → IsTable new → All IsPlaced (block_extents new.places.items) → (IsTrue store.honest → AreImaged store.content new.places.items)
+pub sound_live : (store : StoreFacts) (live new : BlockTable) (slots : Slots) → IsSound store live slots → IsBlockTable new → All IsPlaced (block_extents new.places.items) → (IsTrue store.honest → AreImaged store.content new.places.items)
     → (IsTrue store.honest → All (EndsIn store.content) (block_extents new.places.items)) → IsSound store new slots
 sound_live store live new slots sound table placed images within = record {
   formed = record { table = table; placed = placed; committed = sound.formed.committed; prepared = sound.formed.prepared; marked = sound.formed.marked; kept = sound.formed.kept; version = sound.formed.version; numbered = sound.formed.numbered; in_range = sound.formed.in_range };
@@ -100,7 +100,7 @@ sound_live store live new slots sound table placed images within = record {
 }
 
 -- another mark, or none
-pub sound_marked : (store : StoreFacts) (live : Table) (slots : Slots) (marked : Option Table) → IsSound store live slots → IfSome marked IsTable → All IsPlaced (marked_extents marked)
+pub sound_marked : (store : StoreFacts) (live : BlockTable) (slots : Slots) (marked : Option BlockTable) → IsSound store live slots → IfSome marked IsBlockTable → All IsPlaced (marked_extents marked)
     → (IsTrue store.honest → IfSome marked (λ t. AreImaged store.content t.places.items)) → (IsTrue store.honest → All (EndsIn store.content) (marked_extents marked)) → IsSound store live (record slots { marked = marked })
 sound_marked store live slots marked sound tables placed images within =
     let formed = sound.formed in
@@ -129,18 +129,18 @@ sound_marked store live slots marked sound tables placed images within =
           };
     }
 
-pub sound_unmarked : (store : StoreFacts) (live : Table) (slots : Slots) → IsSound store live slots → IsSound store live (record slots { marked = None })
+pub sound_unmarked : (store : StoreFacts) (live : BlockTable) (slots : Slots) → IsSound store live slots → IsSound store live (record slots { marked = None })
 sound_unmarked store live slots sound = sound_marked store live slots None sound tt (All-nil IsPlaced) (λ so. tt) (λ so. All-nil (EndsIn store.content))
 
 -- the marked document as the live one
-pub sound_back : (store : StoreFacts) (live back : Table) (slots : Slots) → slots.marked ≡ Some back → IsSound store live slots → IsSound store back (record slots { marked = None })
+pub sound_back : (store : StoreFacts) (live back : BlockTable) (slots : Slots) → slots.marked ≡ Some back → IsSound store live slots → IsSound store back (record slots { marked = None })
 sound_back store live back slots is sound =
     let placed = kept_marked IsPlaced slots sound.formed.kept in
-    sound_unmarked store back slots (sound_live store live back slots sound (subst (λ m. IfSome m IsTable) is sound.formed.marked) (subst (λ m. All IsPlaced (marked_extents m)) is placed)
+    sound_unmarked store back slots (sound_live store live back slots sound (subst (λ m. IfSome m IsBlockTable) is sound.formed.marked) (subst (λ m. All IsPlaced (marked_extents m)) is placed)
     (λ so. subst (λ m. IfSome m (λ t. AreImaged store.content t.places.items)) is (sound.whole so).marked) (λ so. subst (λ m. All (EndsIn store.content) (marked_extents m)) is (sound.whole so).marked_within))
 
 -- one place has another block
-pub table_set : (live new : Table) (i : ℕ) (place : Place) → IsTable live → IsPlace place → new.map_block ≡ live.map_block → new.places.items ≡ set live.places.items i (Some place) → IsTable new
+pub table_set : (live new : BlockTable) (i : ℕ) (place : Place) → IsBlockTable live → IsPlace place → new.map_block ≡ live.map_block → new.places.items ≡ set live.places.items i (Some place) → IsBlockTable new
 table_set live new i place was one map_block is = record {
   size = (let long = ap length is ∙ length-set live.places.items i (Some place) in let few = was.size in omega (arith, long, few));
   places = subst ArePlaces (sym is) (each_set IsPlace live.places.items i (Some place) one was.places);
@@ -151,7 +151,7 @@ table_set live new i place was one map_block is = record {
 }
 
 -- a block has other attributes, which its kind can have
-pub sound_attributes : (store : StoreFacts) (live new : Table) (slots : Slots) (h : ℕ) (attributes : Attributes) (place : Place) → IsSound store live slots → slot_at live.places.items (h - 1) ≡ Some place → IsTyped place.is_heap attributes → new.map_block ≡ live.map_block
+pub sound_attributes : (store : StoreFacts) (live new : BlockTable) (slots : Slots) (h : ℕ) (attributes : Attributes) (place : Place) → IsSound store live slots → slot_at live.places.items (h - 1) ≡ Some place → IsTyped place.is_heap attributes → new.map_block ≡ live.map_block
     → new.places.items ≡ set live.places.items (h - 1) (Some (record place { attributes = attributes })) → IsSound store new slots
 sound_attributes store live new slots h attributes place sound at typed map_block is =
     let i = h - 1 in
@@ -168,9 +168,9 @@ sound_attributes store live new slots h attributes place sound at typed map_bloc
     (λ so. kept (EndsIn store.content) (sound.whole so).within)
 
 -- another map block
-pub sound_map : (store : StoreFacts) (live new : Table) (slots : Slots) → IsSound store live slots → new.places.items ≡ live.places.items → (new.map_block ≡ 0) ⊎ (Lies live.places.items new.map_block) → IsSound store new slots
+pub sound_map : (store : StoreFacts) (live new : BlockTable) (slots : Slots) → IsSound store live slots → new.places.items ≡ live.places.items → (new.map_block ≡ 0) ⊎ (Lies live.places.items new.map_block) → IsSound store new slots
 sound_map store live new slots sound is map_block =
-    let P : Table → Type 0 = λ t. t.places.items ≡ live.places.items in
+    let P : BlockTable → Type 0 = λ t. t.places.items ≡ live.places.items in
     sound_live store live new slots sound
     (record {
       size = (let long = ap length is in let few = sound.formed.table.size in omega (arith, long, few));

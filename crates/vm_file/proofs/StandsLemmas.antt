@@ -14,22 +14,22 @@ use Rattle.vm_store.specs.Facts.{StoreFacts, byte, IsTimely}
 use Rattle.geos_model.specs.Bytes.{same_bytes}
 use Rattle.geos_model.specs.Document.{Block, IsTyped, is_heap_body}
 use Rattle.geos_model.specs.Image.{body_of, body_read}
-use Rattle.geos_model.specs.File.{stands, open_slot, if_open, slot_text, slot_mark, slot_read, counting_slot, document_at, document_of, blocks_of, bytes_in, prepended}
+use Rattle.geos_model.specs.File.{stands, open_slot, if_open, slot_text, slot_mark, slot_fields, counting_slot, document_at, document_of, blocks_of_entries, bytes_in, prepended}
 use Rattle.geos_model.specs.declared.file.Extent.{Extent}
 use Rattle.geos_model.specs.declared.file.Entry.{Entry}
 use Rattle.geos_model.specs.declared.file.Slot.{Slot}
 use Rattle.geos_model.proofs.Table.{table_entries, table_map}
 use Rattle.geos_model.proofs.FileDocuments.{block_of-is, document_at-kept}
 use Rattle.geos_model.proofs.FileStands.{stands-from, counts-first, counts-second, counts-first_newer, counts-second_newer, open_slot-text, open_slot-shut, slot_bytes}
-use Rattle.vm_file.specs.Ranges.{IsPlaced, Keeps, KeepsAll}
-use Rattle.vm_file.specs.Slots.{gate_text, behind_gate, Leads, IsBeside, IsUnmarked, IsOlder, Outcome, block_extents, stored_extents, pair_extents, prepared_extents, AreKept}
+use Rattle.vm_file.specs.Ranges.{IsPlaced, KeepsExtent, KeepsAll}
+use Rattle.vm_file.specs.Slots.{gate_text, behind_gate, LeadsTo, IsBeside, IsUnmarked, IsOlder, Outcome, block_extents, stored_extents, pair_extents, prepared_extents, AreExtentsPlaced}
 use Rattle.vm_file.specs.Documents.{blocks_in, document_in, documents_in, attempted_in, entries_of, directory_of_table, IsImaged, AreImaged, IsStored, AreStored, IsPreparedStored, sequence_of, sequence_in, version_of, version_in}
-use Rattle.vm_file.specs.Disk.{StandsForOne, IsSettled, Numbered}
+use Rattle.vm_file.specs.Disk.{StandsForOne, IsCrashConsistent, HasSequence}
 use Rattle.vm_file.specs.Opened.{Beaten}
 use Rattle.vm_file.proofs.ImageLemmas.{of_kind-same}
-use Rattle.vm_file.specs.Sound.{IsPlace, ArePlaces, IsTable, AreTables, IsFormed, IsPreparedFormed, IsWhole, IsSound, disk_of}
+use Rattle.vm_file.specs.Sound.{IsPlace, ArePlaces, IsBlockTable, AreTables, IsFormed, IsPreparedFormed, IsWhole, IsSound, disk_of}
 use Rattle.vm_file.specs.declared.table.Place.{Place}
-use Rattle.vm_file.specs.declared.table.Table.{Table}
+use Rattle.vm_file.specs.declared.table.BlockTable.{BlockTable}
 use Rattle.vm_file.specs.declared.table.DocumentRef.{DocumentRef}
 use Rattle.vm_file.specs.declared.table.Pair.{Pair}
 use Rattle.vm_file.specs.declared.slot.SpareSlot.{SpareSlot}
@@ -45,7 +45,7 @@ abbrev numbered : ℕ → Block → ℕ × Block
 numbered h b = (h, b)
 
 -- the blocks of a table, each with its handle
-pub table_blocks : (file : List ℕ) (h : ℕ) (places : List (Option Place)) → ArePlaces places → AreImaged file places → blocks_of file (entries_of h places) ≡ Some (table_entries 1 h (blocks_in file places))
+pub table_blocks : (file : List ℕ) (h : ℕ) (places : List (Option Place)) → ArePlaces places → AreImaged file places → blocks_of_entries file (entries_of h places) ≡ Some (table_entries 1 h (blocks_in file places))
 table_blocks file h [] good are = refl
 table_blocks file h (None ∷ places) good are = table_blocks file (h + 1) places (λ i d within. good (suc i) d (omega arith)) (λ i d within. are (suc i) d (omega arith))
 table_blocks file h (Some place ∷ places) good are =
@@ -60,7 +60,7 @@ table_blocks file h (Some place ∷ places) good are =
     ap₂ prepended (block_of-is file entry body image (λ raw. typed (kind ∙ raw)) ∙ ap (λ b. Some (numbered h (record { attributes = place.attributes; body = b }))) (sym (of_kind-same place.is_heap body kind))) more
 
 -- the directory's document
-pub stored_document : (version : ℕ) (file : List ℕ) (s : DocumentRef) → IsTable s.table → IsStored version file s → document_at version file s.directory ≡ Some (document_in file s.table)
+pub stored_document : (version : ℕ) (file : List ℕ) (s : DocumentRef) → IsBlockTable s.table → IsStored version file s → document_at version file s.directory ≡ Some (document_in file s.table)
 unfolding table_map
 stored_document version file s table stored =
     ap (option_and_then (document_of file)) stored.directory
@@ -68,14 +68,14 @@ stored_document version file s table stored =
 
 -- Files in which the bytes are the same.
 
-pub keeps_entries : (file c : List ℕ) (h : ℕ) (places : List (Option Place)) → KeepsAll (block_extents places) file c → All (λ entry. Keeps file c entry.extent) (entries_of h places)
+pub keeps_entries : (file c : List ℕ) (h : ℕ) (places : List (Option Place)) → KeepsAll (block_extents places) file c → All (λ entry. KeepsExtent file c entry.extent) (entries_of h places)
 keeps_entries file c h [] keeps k d within = absurd (omega arith)
 keeps_entries file c h (None ∷ places) keeps k d within = keeps_entries file c (h + 1) places keeps k d within
 keeps_entries file c h (Some place ∷ places) keeps zero d within = keeps 0 place.extent (omega arith)
 keeps_entries file c h (Some place ∷ places) keeps (suc k) d within = keeps_entries file c (h + 1) places (λ i x inside. keeps (suc i) x (omega arith)) k d (omega arith)
 
 -- a document whose bytes are kept
-pub stored_kept : (version : ℕ) (file c : List ℕ) (s : DocumentRef) → IsTable s.table → IsStored version file s → KeepsAll (stored_extents s) file c → document_at version c s.directory ≡ Some (document_in file s.table)
+pub stored_kept : (version : ℕ) (file c : List ℕ) (s : DocumentRef) → IsBlockTable s.table → IsStored version file s → KeepsAll (stored_extents s) file c → document_at version c s.directory ≡ Some (document_in file s.table)
 stored_kept version file c s table stored keeps =
     document_at-kept version file c s.directory (directory_of_table stored.version s.table) stored.directory (keeps 0 s.directory (omega arith)) (keeps_entries file c 1 s.table.places.items (λ i x inside. keeps (suc i) x (omega arith)))
     ∙ stored_document version file s table stored
@@ -92,7 +92,7 @@ slot_size : (c : List ℕ) (slot : ℕ) → 512 * slot + 32 ≤ length c → len
 slot_size c slot within = omega (arith, length-take 32 (drop (512 * slot) c), length-drop (512 * slot) c, within)
 
 -- a slot that is open has its text
-pub slot_written : (slot version sequence : ℕ) (pair : Pair) (file c : List ℕ) → byte c (512 * slot + 4) ≡ 1 → Leads slot version sequence pair file c → slot_bytes c slot ≡ slot_text (slot_value version sequence pair)
+pub slot_written : (slot version sequence : ℕ) (pair : Pair) (file c : List ℕ) → byte c (512 * slot + 4) ≡ 1 → LeadsTo slot version sequence pair file c → slot_bytes c slot ≡ slot_text (slot_value version sequence pair)
 unfolding gate_text
 slot_written slot version sequence pair file c gate leads =
     let rest = behind_gate version sequence pair in
@@ -129,7 +129,7 @@ fits_version : (version : ℕ) → (version ≡ 1) ⊎ (version ≡ 2) → versi
 fits_version version (inl one) = omega (arith, one)
 fits_version version (inr two) = omega (arith, two)
 
-pub lead_open : (slot version sequence : ℕ) (pair : Pair) (file c : List ℕ) → FitsPair version sequence pair → byte c (512 * slot + 4) ≡ 1 → Leads slot version sequence pair file c → open_slot c slot ≡ Some (slot_value version sequence pair)
+pub lead_open : (slot version sequence : ℕ) (pair : Pair) (file c : List ℕ) → FitsPair version sequence pair → byte c (512 * slot + 4) ≡ 1 → LeadsTo slot version sequence pair file c → open_slot c slot ≡ Some (slot_value version sequence pair)
 lead_open slot version sequence pair file c fits gate leads =
     open_slot-text c slot (slot_value version sequence pair) (slot_written slot version sequence pair file c gate leads) (record {
       gate = omega arith;
@@ -173,7 +173,7 @@ older_beaten slot sequence c range within was =
     let number : quad_word_at bytes 8 ≡ was.number = ap (little_number 8) (sym (take-append-drop 8 (drop 8 bytes)) ∙ ap (λ l. l ++ drop 8 (drop 8 bytes)) is) ∙ little_number-reads_back 8 was.number (drop 8 (drop 8 bytes)) (omega (arith, was.lower, range)) in
     elim (cases_Bool (same_bytes (take 4 bytes) slot_mark)) as (λ _. Beaten (open_slot c slot) sequence) [
       | inl marked ↦ elim (cases_Bool (slice_index bytes 4 == 1)) as (λ _. Beaten (open_slot c slot) sequence) [
-        | inl gate ↦ inr (slot_read bytes, ap (option_and_then if_open) (cond-true _ _ _ marked) ∙ cond-true _ _ _ gate, omega (arith, number, was.lower))
+        | inl gate ↦ inr (slot_fields bytes, ap (option_and_then if_open) (cond-true _ _ _ marked) ∙ cond-true _ _ _ gate, omega (arith, number, was.lower))
         | inr shut ↦ inl (ap (option_and_then if_open) (cond-true _ _ _ marked) ∙ cond-false _ _ _ shut)
       ]
       | inr other ↦ inl (ap (option_and_then if_open) (cond-false _ _ _ other))
@@ -212,9 +212,9 @@ fits_pair version sequence pair versioned some range tables placed = record {
 
 -- the file stands for what its slot leads to, where it beats the other one
 pub lead_stands : (version sequence : ℕ) (pair : Pair) (file c : List ℕ) (second : Bool) → FitsPair version sequence pair → AreStored version file pair → byte c (512 * (if second then 1 else 0) + 4) ≡ 1
-    → Leads (if second then 1 else 0) version sequence pair file c → Beaten (open_slot c (if second then 0 else 1)) sequence → stands c ≡ Ok (documents_in file pair)
+    → LeadsTo (if second then 1 else 0) version sequence pair file c → Beaten (open_slot c (if second then 0 else 1)) sequence → stands c ≡ Ok (documents_in file pair)
 lead_stands version sequence pair file c second fits stored gate leads beaten =
-    stands_for version sequence pair file c fits stored (all_left (Keeps file c) (stored_extents pair.updated) (stored_extents pair.saved) leads.kept) (all_right (Keeps file c) (stored_extents pair.updated) (stored_extents pair.saved) leads.kept)
+    stands_for version sequence pair file c fits stored (all_left (KeepsExtent file c) (stored_extents pair.updated) (stored_extents pair.saved) leads.kept) (all_right (KeepsExtent file c) (stored_extents pair.updated) (stored_extents pair.saved) leads.kept)
     (counts c second (slot_value version sequence pair) (lead_open (if second then 1 else 0) version sequence pair file c fits gate leads) beaten)
 
 -- a file of 1,024 bytes has both slots
@@ -222,9 +222,9 @@ both_within : (c : List ℕ) (second : Bool) → 1024 ≤ length c → 512 * (if
 both_within c true long = omega (arith, long)
 both_within c false long = omega (arith, long)
 
-pub long_enough : (version sequence : ℕ) (pair : Pair) (slot : ℕ) (file c : List ℕ) → FitsPair version sequence pair → Leads slot version sequence pair file c → 1024 ≤ length c
+pub long_enough : (version sequence : ℕ) (pair : Pair) (slot : ℕ) (file c : List ℕ) → FitsPair version sequence pair → LeadsTo slot version sequence pair file c → 1024 ≤ length c
 long_enough version sequence pair slot file c fits leads =
-    let first = all_left (Keeps file c) (stored_extents pair.updated) (stored_extents pair.saved) leads.kept 0 pair.updated.directory (omega arith) in
+    let first = all_left (KeepsExtent file c) (stored_extents pair.updated) (stored_extents pair.saved) leads.kept 0 pair.updated.directory (omega arith) in
     omega (arith, first.within, fits.updated.behind)
 
 -- what is known of what a commit that failed in its last step wrote
@@ -238,7 +238,7 @@ pub record AreReadable (slots : Slots) (file : List ℕ) : Type 0 where
   pub versioned : (slots.version ≡ 1) ⊎ (slots.version ≡ 2)
   pub some : 1 ≤ slots.sequence
   pub in_range : slots.sequence < 2 ^ 64
-  pub placed : AreKept slots
+  pub placed : AreExtentsPlaced slots
   pub tables : AreTables slots.committed
   pub committed : AreStored slots.version file slots.committed
   pub prepared : IsPreparedReadable file slots.sequence slots.spare
@@ -248,7 +248,7 @@ stale_beaten second sequence c range long (inl unmarked) = inl (unmarked_shut (i
 stale_beaten second sequence c range long (inr older) = older_beaten (if second then 0 else 1) sequence c range (both_within c second long) older
 
 pub prepared_beats : (second : Bool) (version sequence : ℕ) (committed held : Pair) (file c : List ℕ) → FitsPair version sequence committed → FitsPair 2 (sequence + 1) held → AreStored 2 file held → byte c (512 * (if second then 1 else 0) + 4) ≡ 1
-    → Leads (if second then 1 else 0) version sequence committed file c → byte c (512 * (if second then 0 else 1) + 4) ≡ 1 → Leads (if second then 0 else 1) 2 (sequence + 1) held file c → stands c ≡ Ok (documents_in file held)
+    → LeadsTo (if second then 1 else 0) version sequence committed file c → byte c (512 * (if second then 0 else 1) + 4) ≡ 1 → LeadsTo (if second then 0 else 1) 2 (sequence + 1) held file c → stands c ≡ Ok (documents_in file held)
 prepared_beats true version sequence committed held file c fits fits_prepared stored gate leads prepared_gate prepared_leads =
     lead_stands 2 (sequence + 1) held file c false fits_prepared stored prepared_gate prepared_leads (inr (slot_value version sequence committed, lead_open 1 version sequence committed file c fits gate leads, omega arith))
 prepared_beats false version sequence committed held file c fits fits_prepared stored gate leads prepared_gate prepared_leads =
@@ -256,14 +256,14 @@ prepared_beats false version sequence committed held file c fits fits_prepared s
 
 -- so that its number counts
 pub prepared_numbered : (second : Bool) (version sequence : ℕ) (committed held : Pair) (file c : List ℕ) → FitsPair version sequence committed → FitsPair 2 (sequence + 1) held → byte c (512 * (if second then 1 else 0) + 4) ≡ 1
-    → Leads (if second then 1 else 0) version sequence committed file c → byte c (512 * (if second then 0 else 1) + 4) ≡ 1 → Leads (if second then 0 else 1) 2 (sequence + 1) held file c → sequence_in c ≡ Some (sequence + 1)
+    → LeadsTo (if second then 1 else 0) version sequence committed file c → byte c (512 * (if second then 0 else 1) + 4) ≡ 1 → LeadsTo (if second then 0 else 1) 2 (sequence + 1) held file c → sequence_in c ≡ Some (sequence + 1)
 prepared_numbered true version sequence committed held file c fits fits_prepared gate leads prepared_gate prepared_leads =
     ap sequence_of (counts c false (slot_value 2 (sequence + 1) held) (lead_open 0 2 (sequence + 1) held file c fits_prepared prepared_gate prepared_leads) (inr (slot_value version sequence committed, lead_open 1 version sequence committed file c fits gate leads, omega arith)))
 prepared_numbered false version sequence committed held file c fits fits_prepared gate leads prepared_gate prepared_leads =
     ap sequence_of (counts c true (slot_value 2 (sequence + 1) held) (lead_open 1 2 (sequence + 1) held file c fits_prepared prepared_gate prepared_leads) (inr (slot_value version sequence committed, lead_open 0 version sequence committed file c fits gate leads, omega arith)))
 
 one_stands : (spare : SpareSlot) (second : Bool) (version sequence : ℕ) (committed : Pair) (file c : List ℕ) → FitsPair version sequence committed → AreStored version file committed → All IsPlaced (prepared_extents spare) → IsPreparedReadable file sequence spare
-    → byte c (512 * (if second then 1 else 0) + 4) ≡ 1 → Leads (if second then 1 else 0) version sequence committed file c → IsBeside spare (if second then 0 else 1) sequence file c → StandsForOne (documents_in file committed ∷ attempted_in file spare) c
+    → byte c (512 * (if second then 1 else 0) + 4) ≡ 1 → LeadsTo (if second then 1 else 0) version sequence committed file c → IsBeside spare (if second then 0 else 1) sequence file c → StandsForOne (documents_in file committed ∷ attempted_in file spare) c
 one_stands Shut second version sequence committed file c fits stored placed held gate leads beside =
     inl (lead_stands version sequence committed file c second fits stored gate leads (inl (open_slot-shut c (if second then 0 else 1) beside)))
 one_stands Stale second version sequence committed file c fits stored placed held gate leads beside =
@@ -287,7 +287,7 @@ prepared_readable file sequence Stale formed stored = tt
 prepared_readable file sequence (Prepared pair) formed stored = (stored, formed)
 
 -- of a sound file
-pub sound_readable : (store : StoreFacts) (live : Table) (slots : Slots) → IsFormed live slots → IsWhole store live slots → AreReadable slots store.content
+pub sound_readable : (store : StoreFacts) (live : BlockTable) (slots : Slots) → IsFormed live slots → IsWhole store live slots → AreReadable slots store.content
 sound_readable store live slots formed whole = record {
   versioned = formed.version;
   some = formed.numbered;
@@ -299,14 +299,14 @@ sound_readable store live slots formed whole = record {
 }
 
 -- what a crash now leaves stands for what may be read
-pub sound_settled : {S : Type 0} (facts : S → StoreFacts) (store : S) (live : Table) (slots : Slots) → IsSound (facts store) live slots → IsSettled facts (disk_of facts store slots)
+pub sound_settled : {S : Type 0} (facts : S → StoreFacts) (store : S) (live : BlockTable) (slots : Slots) → IsSound (facts store) live slots → IsCrashConsistent facts (disk_of facts store slots)
 sound_settled facts store live slots sound honest c left =
     let whole = sound.whole honest in
     outcome_stands slots (facts store).content c (sound_readable (facts store) live slots sound.formed whole) (whole.leaves c left)
 
 -- The slot that counts, where no commit failed in its last step, and its number and version.
 
-counted_one : (spare : SpareSlot) (second : Bool) (version sequence : ℕ) (committed : Pair) (file c : List ℕ) → FitsPair version sequence committed → attempted_in file spare ≡ [] → byte c (512 * (if second then 1 else 0) + 4) ≡ 1 → Leads (if second then 1 else 0) version sequence committed file c
+counted_one : (spare : SpareSlot) (second : Bool) (version sequence : ℕ) (committed : Pair) (file c : List ℕ) → FitsPair version sequence committed → attempted_in file spare ≡ [] → byte c (512 * (if second then 1 else 0) + 4) ≡ 1 → LeadsTo (if second then 1 else 0) version sequence committed file c
     → IsBeside spare (if second then 0 else 1) sequence file c → counting_slot (open_slot c 0) (open_slot c 1) ≡ Ok (slot_value version sequence committed)
 counted_one Shut second version sequence committed file c fits none gate leads beside =
     counts c second (slot_value version sequence committed) (lead_open (if second then 1 else 0) version sequence committed file c fits gate leads) (inl (open_slot-shut c (if second then 0 else 1) beside))
@@ -323,13 +323,13 @@ outcome_counted slots file c are none was =
 pub outcome_numbered : (slots : Slots) (file c : List ℕ) → AreReadable slots file → attempted_in file slots.spare ≡ [] → Outcome slots file c → sequence_in c ≡ Some slots.sequence
 outcome_numbered slots file c are none was = ap sequence_of (outcome_counted slots file c are none was)
 
-pub sound_numbered : {S : Type 0} (facts : S → StoreFacts) (store : S) (live : Table) (slots : Slots) → IsSound (facts store) live slots → IsTrue (facts store).honest → attempted_in (facts store).content slots.spare ≡ [] → Numbered (facts store) slots.sequence
+pub sound_numbered : {S : Type 0} (facts : S → StoreFacts) (store : S) (live : BlockTable) (slots : Slots) → IsSound (facts store) live slots → IsTrue (facts store).honest → attempted_in (facts store).content slots.spare ≡ [] → HasSequence (facts store) slots.sequence
 sound_numbered facts store live slots sound honest none c left =
     let whole = sound.whole honest in
     outcome_numbered slots (facts store).content c (sound_readable (facts store) live slots sound.formed whole) none (whole.leaves c left)
 
 -- of what an honest store has now
-pub sound_versioned : {S : Type 0} (facts : S → StoreFacts) (store : S) (live : Table) (slots : Slots) → (IsTrue (facts store).honest → IsTimely (facts store)) → IsSound (facts store) live slots
+pub sound_versioned : {S : Type 0} (facts : S → StoreFacts) (store : S) (live : BlockTable) (slots : Slots) → (IsTrue (facts store).honest → IsTimely (facts store)) → IsSound (facts store) live slots
     → attempted_in (facts store).content slots.spare ≡ [] → slots.version ≡ 2 → IsTrue (facts store).honest → version_in (facts store).content ≡ Some 2
 sound_versioned facts store live slots timely sound none two honest =
     let whole = sound.whole honest in
@@ -337,6 +337,6 @@ sound_versioned facts store live slots timely sound none two honest =
     ap version_of (outcome_counted slots content content (sound_readable (facts store) live slots sound.formed whole) none (whole.leaves content (timely honest).now)) ∙ ap Some two
 
 -- after a commit that was acknowledged
-pub turned_versioned : {S : Type 0} (facts : S → StoreFacts) (store : S) (live : Table) (slots : Slots) → (IsTrue (facts store).honest → IsTimely (facts store)) → IsSound (facts store) live slots
+pub turned_versioned : {S : Type 0} (facts : S → StoreFacts) (store : S) (live : BlockTable) (slots : Slots) → (IsTrue (facts store).honest → IsTimely (facts store)) → IsSound (facts store) live slots
     → (slots.version ≡ 2) × (slots.spare ≡ Stale) → IsTrue (facts store).honest → version_in (facts store).content ≡ Some 2
 turned_versioned facts store live slots timely sound turned = sound_versioned facts store live slots timely sound (ap (attempted_in (facts store).content) turned.1) turned.0

@@ -14,15 +14,15 @@ use Rattle.geos_model.specs.declared.handle.VmHandle.{VmHandle}
 use Rattle.geos_model.proofs.Images.{body_read-body}
 use Rattle.geos_model.proofs.Tables.{slot_at, slot_at_past}
 use Rattle.vm_file.specs.Calls.{IsPut, put_all, remove_all}
-use Rattle.vm_file.specs.Members.{saved_block}
-use Rattle.vm_file.specs.Disk.{Drifts, FileState}
+use Rattle.vm_file.specs.Members.{imaged_block}
+use Rattle.vm_file.specs.Disk.{SameUnlessCorrupt, FileState}
 use Rattle.geos_model.specs.declared.command.Body.{Body}
 use Rattle.vm_file.specs.Documents.{block_in, of_kind, blocks_in, document_in, IsImaged}
 use Rattle.vm_file.specs.Writing.{placed_at, with_places, without_place, without_places, IsGrown}
 use Rattle.vm_file.specs.declared.member.Member.{Member}
 use Rattle.vm_file.specs.declared.table.Place.{Place}
 use Rattle.vm_file.proofs.ImageLemmas.{of_kind-kind, of_kind-same}
-use Rattle.vm_file.proofs.PassingLemmas.{Drifts-trans, Drifts-refl}
+use Rattle.vm_file.proofs.PassingLemmas.{SameUnlessCorrupt-trans, SameUnlessCorrupt-refl}
 use Rattle.vm_file.proofs.TableLemmas.{EachPlace, shown, shown_put, shown_removed, get_none, get_at, each_set, full_set, handle_within}
 use Rattle.std.specs.Prelude.{max, replicate}
 use Rattle.vm_store.specs.Facts.{StoreFacts}
@@ -30,10 +30,10 @@ use Rattle.geos_model.proofs.Table.{table_entries, table_map}
 use Rattle.vm_file.specs.Ranges.{IsPlaced}
 use Rattle.vm_file.specs.Slots.{block_extents}
 use Rattle.vm_file.specs.Listing.{AreBounds}
-use Rattle.vm_file.specs.Sound.{IsPlace, IsTable, IsSound, disk_of}
+use Rattle.vm_file.specs.Sound.{IsPlace, IsBlockTable, IsSound, disk_of}
 use Rattle.vm_file.specs.declared.listing.Bounds.{Bounds}
 use Rattle.vm_file.specs.declared.slot.Slots.{Slots}
-use Rattle.vm_file.specs.declared.table.Table.{Table}
+use Rattle.vm_file.specs.declared.table.BlockTable.{BlockTable}
 use Rattle.vm_file.proofs.SoundLemmas.{EndsIn, sound_live}
 
 -- Documents that differ in their bytes alone, after the same change.
@@ -69,33 +69,33 @@ module _ (d : Document) (h : ℕ) where
       ap (λ o. option_map_or (λ (x : Block). is_heap_body x.body) o false) (get-remove nat_cmp_total d.blocks h q ∙ ap (λ t. cond t None (get d.blocks q)) (unsigned_tied q h))
       ∙ elim (q == h) as (λ t. option_map_or (λ (x : Block). is_heap_body x.body) (cond t None (get d.blocks q)) false ≡ cond t false (option_map_or (λ (x : Block). is_heap_body x.body) (get d.blocks q) false)) [ true ↦ refl | false ↦ refl ]
 
-drifts_with : (honest : Bool) (a b : Document) (h : ℕ) (x y : Block) → Drifts honest a b → y.attributes ≡ x.attributes → is_heap_body y.body ≡ is_heap_body x.body → (IsTrue honest → y ≡ x) → Drifts honest (with_block a h x) (with_block b h y)
-drifts_with honest a b h x y drifts same kind is = record {
-  live = λ q. live_with b h y q ∙ ap (cond (q == h) true) (drifts.live q) ∙ sym (live_with a h x q);
-  attributes = λ q. attributes_with b h y q ∙ ap₂ (cond (q == h)) same (drifts.attributes q) ∙ sym (attributes_with a h x q);
-  kinds = λ q. heap_with b h y q ∙ ap₂ (cond (q == h)) kind (drifts.kinds q) ∙ sym (heap_with a h x q);
-  map_block = drifts.map_block;
-  same = λ so. ap₂ (λ d z. with_block d h z) (drifts.same so) (is so);
+drifts_with : (honest : Bool) (a b : Document) (h : ℕ) (x y : Block) → SameUnlessCorrupt honest a b → y.attributes ≡ x.attributes → is_heap_body y.body ≡ is_heap_body x.body → (IsTrue honest → y ≡ x) → SameUnlessCorrupt honest (with_block a h x) (with_block b h y)
+drifts_with honest a b h x y unless_corrupt same kind is = record {
+  live = λ q. live_with b h y q ∙ ap (cond (q == h) true) (unless_corrupt.live q) ∙ sym (live_with a h x q);
+  attributes = λ q. attributes_with b h y q ∙ ap₂ (cond (q == h)) same (unless_corrupt.attributes q) ∙ sym (attributes_with a h x q);
+  kinds = λ q. heap_with b h y q ∙ ap₂ (cond (q == h)) kind (unless_corrupt.kinds q) ∙ sym (heap_with a h x q);
+  map_block = unless_corrupt.map_block;
+  same = λ so. ap₂ (λ d z. with_block d h z) (unless_corrupt.same so) (is so);
 }
 
-drifts_without : (honest : Bool) (a b : Document) (h : ℕ) → Drifts honest a b → Drifts honest (without_block a h) (without_block b h)
-drifts_without honest a b h drifts = record {
-  live = λ q. live_without b h q ∙ ap (cond (q == h) false) (drifts.live q) ∙ sym (live_without a h q);
-  attributes = λ q. attributes_without b h q ∙ ap (cond (q == h) no_attributes) (drifts.attributes q) ∙ sym (attributes_without a h q);
-  kinds = λ q. heap_without b h q ∙ ap (cond (q == h) false) (drifts.kinds q) ∙ sym (heap_without a h q);
-  map_block = drifts.map_block;
-  same = λ so. ap (λ d. without_block d h) (drifts.same so);
+drifts_without : (honest : Bool) (a b : Document) (h : ℕ) → SameUnlessCorrupt honest a b → SameUnlessCorrupt honest (without_block a h) (without_block b h)
+drifts_without honest a b h unless_corrupt = record {
+  live = λ q. live_without b h q ∙ ap (cond (q == h) false) (unless_corrupt.live q) ∙ sym (live_without a h q);
+  attributes = λ q. attributes_without b h q ∙ ap (cond (q == h) no_attributes) (unless_corrupt.attributes q) ∙ sym (attributes_without a h q);
+  kinds = λ q. heap_without b h q ∙ ap (cond (q == h) false) (unless_corrupt.kinds q) ∙ sym (heap_without a h q);
+  map_block = unless_corrupt.map_block;
+  same = λ so. ap (λ d. without_block d h) (unless_corrupt.same so);
 }
 
-pub drifts_put_all : (honest : Bool) (puts : List Member) (a b : Document) → Drifts honest a b → Drifts honest (put_all puts a) (put_all puts b)
-drifts_put_all honest [] a b drifts = drifts
-drifts_put_all honest (p ∷ puts) a b drifts =
-    let block = saved_block p.block in
-    drifts_put_all honest puts (with_block a p.handle.0 block) (with_block b p.handle.0 block) (drifts_with honest a b p.handle.0 block block drifts refl refl (λ so. refl))
+pub drifts_put_all : (honest : Bool) (puts : List Member) (a b : Document) → SameUnlessCorrupt honest a b → SameUnlessCorrupt honest (put_all puts a) (put_all puts b)
+drifts_put_all honest [] a b unless_corrupt = unless_corrupt
+drifts_put_all honest (p ∷ puts) a b unless_corrupt =
+    let block = imaged_block p.block in
+    drifts_put_all honest puts (with_block a p.handle.0 block) (with_block b p.handle.0 block) (drifts_with honest a b p.handle.0 block block unless_corrupt refl refl (λ so. refl))
 
-pub drifts_remove_all : (honest : Bool) (handles : List VmHandle) (a b : Document) → Drifts honest a b → Drifts honest (remove_all handles a) (remove_all handles b)
-drifts_remove_all honest [] a b drifts = drifts
-drifts_remove_all honest (h ∷ handles) a b drifts = drifts_remove_all honest handles (without_block a h.0) (without_block b h.0) (drifts_without honest a b h.0 drifts)
+pub drifts_remove_all : (honest : Bool) (handles : List VmHandle) (a b : Document) → SameUnlessCorrupt honest a b → SameUnlessCorrupt honest (remove_all handles a) (remove_all handles b)
+drifts_remove_all honest [] a b unless_corrupt = unless_corrupt
+drifts_remove_all honest (h ∷ handles) a b unless_corrupt = drifts_remove_all honest handles (without_block a h.0) (without_block b h.0) (drifts_without honest a b h.0 unless_corrupt)
 
 -- Blocks that come in.
 
@@ -117,8 +117,8 @@ full_with (p ∷ puts) (e ∷ extents) places k full = full_with puts extents (s
 
 pub filled_drifts : (honest : Bool) (file : List ℕ) (puts : List Member) (extents : List Extent) (places : List (Option Place)) (map_block : ℕ) → All (λ p. p.handle.0 ≤ length places) puts → All IsPut puts → length extents ≡ length puts
     → ((k : ℕ) (p : Member) (e : Extent) → k < length puts → IsTrue honest → bytes_in file (get_or extents k e) ≡ image (get_or puts k p).block.image)
-    → Drifts honest (put_all puts (shown file places map_block)) (shown file (with_places puts extents places) map_block)
-filled_drifts honest file [] extents places map_block room are long images = Drifts-refl honest (shown file places map_block)
+    → SameUnlessCorrupt honest (put_all puts (shown file places map_block)) (shown file (with_places puts extents places) map_block)
+filled_drifts honest file [] extents places map_block room are long images = SameUnlessCorrupt-refl honest (shown file places map_block)
 filled_drifts honest file (p ∷ puts) [] places map_block room are long images = absurd (omega arith)
 filled_drifts honest file (p ∷ puts) (e ∷ extents) places map_block room are long images =
     let put : IsPut p = are 0 p (omega arith) in
@@ -126,7 +126,7 @@ filled_drifts honest file (p ∷ puts) (e ∷ extents) places map_block room are
     let h = p.handle.0 in
     let last : h ≤ length places = room 0 p (omega arith) in
     let one = placed_at p e in
-    let block = saved_block p.block in
+    let block = imaged_block p.block in
     let body = p.block.image in
     let d = shown file places map_block in
     let next = set places (h - 1) (Some one) in
@@ -135,9 +135,9 @@ filled_drifts honest file (p ∷ puts) (e ∷ extents) places map_block room are
     ap (λ b. record { attributes = p.block.attributes; body = of_kind one.is_heap b }) (ap body_read (images 0 p e (omega arith) so) ∙ body_read-body body p.block.valid)
     ∙ ap (λ b. record { attributes = p.block.attributes; body = b }) (of_kind-same one.is_heap body refl) in
     let kind_here : (b : Body) → is_heap_body (of_kind one.is_heap b) ≡ one.is_heap = of_kind-kind one.is_heap in
-    let first : Drifts honest (with_block d h block) (shown file next map_block) =
-    subst (Drifts honest (with_block d h block)) (sym made) (drifts_with honest d d h block (block_in file one) (Drifts-refl honest d) refl (kind_here (body_read (bytes_in file e))) there) in
-    Drifts-trans honest _ _ _ (drifts_put_all honest puts (with_block d h block) (shown file next map_block) first)
+    let first : SameUnlessCorrupt honest (with_block d h block) (shown file next map_block) =
+    subst (SameUnlessCorrupt honest (with_block d h block)) (sym made) (drifts_with honest d d h block (block_in file one) (SameUnlessCorrupt-refl honest d) refl (kind_here (body_read (bytes_in file e))) there) in
+    SameUnlessCorrupt-trans honest _ _ _ (drifts_put_all honest puts (with_block d h block) (shown file next map_block) first)
     (filled_drifts honest file puts extents next map_block (λ k q low. let more = room (suc k) q (omega arith) in let same = length-set places (h - 1) (Some one) in omega (arith, more, same)) (λ k q low. are (suc k) q (omega arith)) (omega (arith, long)) (λ k q x low so. images (suc k) q x (omega arith) so))
 
 -- Blocks that go.
@@ -256,7 +256,7 @@ module _ (old new : List (Option Place)) (grown : IsGrown old new) where
   }
 
 -- with the same map block
-pub grown_table : (live new : Table) → IsGrown live.places.items new.places.items → length new.places.items ≤ most_blocks → new.map_block ≡ live.map_block → IsTable live → IsTable new
+pub grown_table : (live new : BlockTable) → IsGrown live.places.items new.places.items → length new.places.items ≤ most_blocks → new.map_block ≡ live.map_block → IsBlockTable live → IsBlockTable new
 grown_table live new grown few same is = record {
   size = few;
   places = grown_each live.places.items new.places.items grown IsPlace is.places;
@@ -269,25 +269,25 @@ grown_table live new grown few same is = record {
   ];
 }
 
-pub grown_sound : (store : StoreFacts) (live new : Table) (slots : Slots) → IsGrown live.places.items new.places.items → length new.places.items ≤ most_blocks → new.map_block ≡ live.map_block → IsSound store live slots → IsSound store new slots
+pub grown_sound : (store : StoreFacts) (live new : BlockTable) (slots : Slots) → IsGrown live.places.items new.places.items → length new.places.items ≤ most_blocks → new.map_block ≡ live.map_block → IsSound store live slots → IsSound store new slots
 grown_sound store live new slots grown few same sound =
     let extents = grown_extents live.places.items new.places.items grown in
     sound_live store live new slots sound (grown_table live new grown few same sound.formed.table) (subst (All IsPlaced) (sym extents) sound.formed.placed)
     (λ so. grown_each live.places.items new.places.items grown (IsImaged store.content) (sound.whole so).images)
     (λ so. subst (All (EndsIn store.content)) (sym extents) (sound.whole so).within)
 
-pub grown_document : (file : List ℕ) (live new : Table) → IsGrown live.places.items new.places.items → new.map_block ≡ live.map_block → document_in file new ≡ document_in file live
+pub grown_document : (file : List ℕ) (live new : BlockTable) → IsGrown live.places.items new.places.items → new.map_block ≡ live.map_block → document_in file new ≡ document_in file live
 grown_document file live new grown same = ap (shown file new.places.items) same ∙ grown_shown live.places.items new.places.items grown file live.map_block
 
 -- where it is made as long as this
-pub roomy_sound : (store : StoreFacts) (live new : Table) (slots : Slots) (end : ℕ) → IsGrown live.places.items new.places.items → length new.places.items ≡ max (length live.places.items) end → end ≤ most_blocks → new.map_block ≡ live.map_block
+pub roomy_sound : (store : StoreFacts) (live new : BlockTable) (slots : Slots) (end : ℕ) → IsGrown live.places.items new.places.items → length new.places.items ≡ max (length live.places.items) end → end ≤ most_blocks → new.map_block ≡ live.map_block
     → IsSound store live slots → IsSound store new slots
 roomy_sound store live new slots end grown size few same sound =
     let was = sound.formed.table.size in
     grown_sound store live new slots grown (omega (arith, size, few, was)) same sound
 
 -- callers see no difference
-pub grown_view : {S : Type 0} (facts : S → StoreFacts) (store : S) (live new : Table) (slots : Slots) (state : FileState S) → IsGrown live.places.items new.places.items → new.map_block ≡ live.map_block
+pub grown_view : {S : Type 0} (facts : S → StoreFacts) (store : S) (live new : BlockTable) (slots : Slots) (state : FileState S) → IsGrown live.places.items new.places.items → new.map_block ≡ live.map_block
     → record { disk = disk_of facts store slots; document = document_in (facts store).content live } ≡ state → record { disk = disk_of facts store slots; document = document_in (facts store).content new } ≡ state
 grown_view {S} facts store live new slots state grown same is =
     let made : Document → FileState S = λ d. record { disk = disk_of facts store slots; document = d } in

@@ -15,9 +15,9 @@ use Rattle.geos_model.specs.Document.{most_blocks, FitAttributes}
 use Rattle.vm_file.specs.Ranges.{IsPlaced, start_of, end_of}
 use Rattle.vm_file.specs.Slots.{block_extents, stored_extents}
 use Rattle.vm_file.specs.Documents.{entries_of, directory_of_table, AreImaged, IsStored}
-use Rattle.vm_file.specs.Sound.{IsPlace, ArePlaces, IsTable}
+use Rattle.vm_file.specs.Sound.{IsPlace, ArePlaces, IsBlockTable}
 use Rattle.vm_file.specs.declared.table.Place.{Place}
-use Rattle.vm_file.specs.declared.table.Table.{Table}
+use Rattle.vm_file.specs.declared.table.BlockTable.{BlockTable}
 use Rattle.vm_file.specs.declared.table.DocumentRef.{DocumentRef}
 use Rattle.vm_file.proofs.RangesLemmas.{bytes_held}
 
@@ -55,7 +55,7 @@ listed h m (suc k) (Some place ∷ places) is some =
     let more = listed (h + 1) m k places (omega (arith, is)) some in
     elim (h == m) as (λ b. (b || list_any (λ e. e.handle.0 == m) (entries_of (h + 1) places)) ≡ true) [ true ↦ refl | false ↦ more ]
 
-map_listed : (table : Table) → IsTable table → is_map_block table.map_block (entries_of 1 table.places.items) ≡ true
+map_listed : (table : BlockTable) → IsBlockTable table → is_map_block table.map_block (entries_of 1 table.places.items) ≡ true
 map_listed table is = elim is.map_block as (λ _. is_map_block table.map_block (entries_of 1 table.places.items) ≡ true) [
   | inl none ↦ ap (λ b. b || list_any (λ e. e.handle.0 == table.map_block) (entries_of 1 table.places.items)) (eq-eqb table.map_block 0 none)
   | inr some ↦
@@ -64,7 +64,7 @@ map_listed table is = elim is.map_block as (λ _. is_map_block table.map_block (
 ]
 
 -- A directory of version 2 whose text stands in a file of that version is that of its table.
-pub directory_written : (file : List ℕ) (s : DocumentRef) → IsTable s.table → All IsPlaced (stored_extents s) → AreImaged file s.table.places.items → All (λ e. end_of e ≤ length file) (block_extents s.table.places.items)
+pub directory_written : (file : List ℕ) (s : DocumentRef) → IsBlockTable s.table → All IsPlaced (stored_extents s) → AreImaged file s.table.places.items → All (λ e. end_of e ≤ length file) (block_extents s.table.places.items)
     → All (λ e. FitAttributes e.attributes) (entries_of 1 s.table.places.items) → s.directory.length ≡ length (directory_text (directory_of_table 2 s.table)) → Holds file (start_of s.directory) (directory_text (directory_of_table 2 s.table)) → IsStored 2 file s
 directory_written file s is placed imaged within attributes size holds =
     let d = directory_of_table 2 s.table in

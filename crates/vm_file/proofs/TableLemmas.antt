@@ -19,11 +19,11 @@ use Rattle.vm_file.specs.Slots.{block_extents}
 use Rattle.vm_file.specs.Documents.{block_in, blocks_in, of_kind, IsImaged, AreImaged, document_in}
 use Rattle.vm_file.proofs.ImageLemmas.{of_kind-kind, of_kind-same}
 use Rattle.vm_file.specs.Listing.{IsPlaceOf}
-use Rattle.vm_file.specs.Disk.{Drifts, IsListed}
+use Rattle.vm_file.specs.Disk.{SameUnlessCorrupt, IsFileDocument}
 use Rattle.vm_file.specs.declared.table.Place.{Place}
 use Rattle.geos_model.proofs.Files.{body_of-some}
-use Rattle.vm_file.specs.Sound.{IsPlace, IsTable}
-use Rattle.vm_file.specs.declared.table.Table.{Table}
+use Rattle.vm_file.specs.Sound.{IsPlace, IsBlockTable}
+use Rattle.vm_file.specs.declared.table.BlockTable.{BlockTable}
 
 -- the document of places, with a map block
 abbrev pub shown : List ℕ → List (Option Place) → ℕ → Document
@@ -135,7 +135,7 @@ drifts_kinds : (file c : List ℕ) (places : List (Option Place)) (map_block h :
 drifts_kinds file c places map_block zero = ap (λ o. option_map_or (λ (b : Block). is_heap_body b.body) o false) (get_none c places map_block ∙ sym (get_none file places map_block))
 drifts_kinds file c places map_block (suc n) = heap_is c places map_block (suc n) (omega arith) ∙ sym (heap_is file places map_block (suc n) (omega arith))
 
-pub places_drift : (honest : Bool) (file c : List ℕ) (places : List (Option Place)) (map_block : ℕ) → (IsTrue honest → blocks_in c places ≡ blocks_in file places) → Drifts honest (shown file places map_block) (shown c places map_block)
+pub places_drift : (honest : Bool) (file c : List ℕ) (places : List (Option Place)) (map_block : ℕ) → (IsTrue honest → blocks_in c places ≡ blocks_in file places) → SameUnlessCorrupt honest (shown file places map_block) (shown c places map_block)
 places_drift honest file c places map_block same = record {
   live = λ h. drifts_live file c places map_block h;
   attributes = λ h. drifts_attributes file c places map_block h;
@@ -269,7 +269,7 @@ items_kept n ws xs is same = ap (λ l. take n (ws ++ l)) (drop_all (length ws) x
 
 -- What always holds of the document of a table.
 
-module _ (honest : Bool) (file : List ℕ) (table : Table) (is : IsTable table) (images : IsTrue honest → AreImaged file table.places.items) where
+module _ (honest : Bool) (file : List ℕ) (table : BlockTable) (is : IsBlockTable table) (images : IsTrue honest → AreImaged file table.places.items) where
   listed_handle : (h : ℕ) → is_live (document_in file table) h ≡ true → is_vm_handle h ≡ true
   listed_handle h live =
       let there = lies file table.places.items table.map_block h live in
@@ -296,7 +296,7 @@ module _ (honest : Bool) (file : List ℕ) (table : Table) (is : IsTable table) 
       ap (λ a. a.heap_type) (attributes_is file places table.map_block (suc n) (omega arith))
       ∙ typed_at (suc n - 1) (slot_at places (suc n - 1)) refl (sym (heap_is file places table.map_block (suc n) (omega arith)) ∙ raw)
 
-  pub listed : IsListed honest (document_in file table)
+  pub listed : IsFileDocument honest (document_in file table)
   listed = record {
     handles = listed_handle;
     map_block = elim is.map_block as (λ _. (table.map_block ≡ 0) ⊎ (is_live (document_in file table) table.map_block ≡ true)) [

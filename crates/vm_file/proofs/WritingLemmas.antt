@@ -6,16 +6,16 @@ use Rattle.vm_store.specs.Facts.{StoreFacts, Torn, Holds}
 use Rattle.geos_model.specs.Image.{image}
 use Rattle.geos_model.specs.declared.file.Extent.{Extent}
 use Rattle.vm_file.specs.Ranges.{start_of, end_of, IsOut, KeepsAll}
-use Rattle.vm_file.specs.Slots.{Leaves, Outlives, block_extents, pair_extents, prepared_extents, kept_extents, marked_extents, Outcome}
+use Rattle.vm_file.specs.Slots.{CrashLeavesSlots, Outlives, block_extents, pair_extents, prepared_extents, referenced_extents, marked_extents, Outcome}
 use Rattle.vm_file.specs.Writing.{AreFor, Fills, AreWritten, IsSpared}
 use Rattle.vm_file.specs.declared.member.Member.{Member}
 use Rattle.vm_file.specs.declared.slot.Slots.{Slots}
 use Rattle.vm_file.proofs.RangesLemmas.{keeps_itself, torn_same, torn_holds, keeps_within}
 use Rattle.vm_file.proofs.SlotsLemmas.{Outlives-refl, Outlives-trans, outcome_keeps, leaves_rebased}
 use Rattle.vm_file.specs.Documents.{Documents, documents_in, attempted_in, AreImaged, AreStored, IsPreparedStored}
-use Rattle.vm_file.specs.Disk.{readable, StandsForOne, Passes}
+use Rattle.vm_file.specs.Disk.{recoverable, StandsForOne, KeepsCommitted}
 use Rattle.vm_file.specs.Sound.{IsFormed, IsSound, disk_of}
-use Rattle.vm_file.specs.declared.table.Table.{Table}
+use Rattle.vm_file.specs.declared.table.BlockTable.{BlockTable}
 use Rattle.vm_file.proofs.DocumentsLemmas.{pair_again, prepared_again}
 use Rattle.vm_file.proofs.GateAwayLemmas.{attempted_away}
 use Rattle.vm_file.proofs.SoundLemmas.{EndsIn, marked_imaged, marked_drifts, live_and_marked}
@@ -38,7 +38,7 @@ Writes-none slots extents puts a = record {
 
 -- A step: one of the extents is written.
 module _ (slots : Slots) (extents : List Extent) (puts : List Member) (old mid new : StoreFacts) (i : ℕ) (e : Extent) (inside : i < length extents) (is : e ≡ get_or extents i e) (torn : Torn (start_of e) e.length mid.content new.content) where
-  pub fills_more : ((file : List ℕ) → Leaves mid slots file → Leaves new slots file) → ((file : List ℕ) → Leaves mid slots file → Outlives mid new file (λ s. s ≡ slots)) → Fills slots extents old mid → Fills slots extents old new
+  pub fills_more : ((file : List ℕ) → CrashLeavesSlots mid slots file → CrashLeavesSlots new slots file) → ((file : List ℕ) → CrashLeavesSlots mid slots file → Outlives mid new file (λ s. s ≡ slots)) → Fills slots extents old mid → Fills slots extents old new
   fills_more leaves crash was = record {
     keeps = λ x aside within.
         let out = aside i e inside in
@@ -82,20 +82,20 @@ spared_by slots kept extents puts n old new are fills = record {
 }
 
 -- the live table's images and the marked ones, where what is written is apart from them and from all that the slots stand on
-pub spared_images : (slots : Slots) (live : List Extent) (puts : List Member) (images : List Extent) (a b : StoreFacts) → AreFor (live ++ kept_extents slots) puts (length puts) images
+pub spared_images : (slots : Slots) (live : List Extent) (puts : List Member) (images : List Extent) (a b : StoreFacts) → AreFor (live ++ referenced_extents slots) puts (length puts) images
     → Fills slots images a b → IsSpared (live ++ marked_extents slots.marked) slots a b
 spared_images slots live puts images a b found fills =
     spared_by slots (live ++ marked_extents slots.marked) images puts (length puts) a b
-    (for_fewer (live ++ kept_extents slots) (live ++ marked_extents slots.marked) puts (length puts) images (λ P all. live_and_marked P slots live all) found) fills
+    (for_fewer (live ++ referenced_extents slots) (live ++ marked_extents slots.marked) puts (length puts) images (λ P all. live_and_marked P slots live all) found) fills
 
 pub spared_same : (kept : List Extent) (slots : Slots) (a : StoreFacts) → IsSpared kept slots a a
 spared_same kept slots a = record { keeps = λ within. keeps_itself kept a.content within; leaves = λ file was. was; crash = λ file was. Outlives-refl a file (λ s. s ≡ slots) }
 
 -- Calls that write nothing that the slots stand on: what they stand for is carried on to the store as it is then.
 
-module _ {S : Type 0} (facts : S → StoreFacts) (a b : S) (live : Table) (slots : Slots) (sound : IsSound (facts a) live slots) (honest : (facts b).honest ≡ (facts a).honest)
+module _ {S : Type 0} (facts : S → StoreFacts) (a b : S) (live : BlockTable) (slots : Slots) (sound : IsSound (facts a) live slots) (honest : (facts b).honest ≡ (facts a).honest)
     (now : IsTrue (facts b).honest → (facts b).may_leave (facts b).content)
-    (leaves : IsTrue (facts a).honest → Leaves (facts b) slots (facts a).content)
+    (leaves : IsTrue (facts a).honest → CrashLeavesSlots (facts b) slots (facts a).content)
     (marked : IsTrue (facts a).honest → KeepsAll (marked_extents slots.marked) (facts a).content (facts b).content) where
   kept : IsTrue (facts a).honest → KeepsAll (pair_extents slots.committed) (facts a).content (facts b).content × KeepsAll (prepared_extents slots.spare) (facts a).content (facts b).content
   kept so = outcome_keeps slots (facts a).content (facts b).content (leaves so (facts b).content (now (subst IsTrue (sym honest) so)))
@@ -103,33 +103,33 @@ module _ {S : Type 0} (facts : S → StoreFacts) (a b : S) (live : Table) (slots
   committed : IsTrue (facts a).honest → AreStored slots.version (facts b).content slots.committed × (documents_in (facts b).content slots.committed ≡ documents_in (facts a).content slots.committed)
   committed so = pair_again slots.version (facts a).content (facts b).content slots.committed (sound.whole so).committed (kept so).0
 
-  attempted : IsTrue (facts a).honest → IsPreparedStored (facts b).content slots.spare × (attempted_in (facts b).content slots.spare ≡ attempted_in (facts a).content slots.spare)
-  attempted so = prepared_again (facts a).content (facts b).content slots.spare (sound.whole so).prepared (kept so).1
+  in_doubt : IsTrue (facts a).honest → IsPreparedStored (facts b).content slots.spare × (attempted_in (facts b).content slots.spare ≡ attempted_in (facts a).content slots.spare)
+  in_doubt so = prepared_again (facts a).content (facts b).content slots.spare (sound.whole so).prepared (kept so).1
 
-  pub call_passes : (facts a).failures ≤ (facts b).failures → (IsTrue (facts a).honest → Outlives (facts a) (facts b) (facts a).content (λ s. s ≡ slots)) → Passes facts (disk_of facts a slots) (disk_of facts b slots)
+  pub call_passes : (facts a).failures ≤ (facts b).failures → (IsTrue (facts a).honest → Outlives (facts a) (facts b) (facts a).content (λ s. s ≡ slots)) → KeepsCommitted facts (disk_of facts a slots) (disk_of facts b slots)
   call_passes failures outlives = record {
     honest = honest;
     failures = failures;
     updated = λ so. ap (λ (d : Documents). d.0) (committed so).1;
     saved = λ so. ap (λ (d : Documents). d.1) (committed so).1;
-    attempted = λ so. (attempted so).1;
+    in_doubt = λ so. (in_doubt so).1;
     tried = λ so pair was. record {
-      attempted = (attempted so).1 ∙ was.attempted;
-      gate = attempted_away (facts b) slots (facts a).content pair was.attempted (sound_readable (facts a) live slots sound.formed (sound.whole so)) (leaves so);
+      in_doubt = (in_doubt so).1 ∙ was.in_doubt;
+      gate = attempted_away (facts b) slots (facts a).content pair was.in_doubt (sound_readable (facts a) live slots sound.formed (sound.whole so)) (leaves so);
     };
     sequence = refl;
     marked = marked_drifts (facts a).honest (facts a).content (facts b).content slots.marked (λ so. (sound.whole so).marked_within) marked;
     numbered = λ so none is c left. outcome_numbered slots (facts a).content c (sound_readable (facts a) live slots sound.formed (sound.whole so)) none (leaves so c left);
     crash = λ so. record {
       later = (outlives so).later;
-      each = λ t c le left. elim ((outlives so).each t c le left) as (λ _. (facts a).left_since t c ⊎ StandsForOne (readable (disk_of facts a slots)) c) [
+      each = λ t c le left. elim ((outlives so).each t c le left) as (λ _. (facts a).left_since t c ⊎ StandsForOne (recoverable (disk_of facts a slots)) c) [
         | inl earlier ↦ inl earlier
         | inr one ↦ inr (outcome_stands slots (facts a).content c (sound_readable (facts a) live slots sound.formed (sound.whole so)) (subst (λ s. Outcome s (facts a).content c) one.1 one.2))
       ];
     };
   }
 
-  pub call_sound : (new : Table) → IsFormed new slots → (IsTrue (facts a).honest → AreImaged (facts b).content new.places.items × All (EndsIn (facts b).content) (block_extents new.places.items)) → IsSound (facts b) new slots
+  pub call_sound : (new : BlockTable) → IsFormed new slots → (IsTrue (facts a).honest → AreImaged (facts b).content new.places.items × All (EndsIn (facts b).content) (block_extents new.places.items)) → IsSound (facts b) new slots
   call_sound new formed images = record {
     formed = formed;
     whole = λ so.
@@ -138,7 +138,7 @@ module _ {S : Type 0} (facts : S → StoreFacts) (a b : S) (live : Table) (slots
           images = (images was).0;
           within = (images was).1;
           committed = (committed was).0;
-          prepared = (attempted was).0;
+          prepared = (in_doubt was).0;
           marked = marked_imaged (facts a).content (facts b).content slots.marked (sound.whole was).marked_within (marked was) (sound.whole was).marked;
           marked_within = keeps_within (marked_extents slots.marked) (facts a).content (facts b).content (marked was);
           leaves = leaves_rebased slots (facts a).content (facts b) (now so) (leaves was);

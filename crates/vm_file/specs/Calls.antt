@@ -6,7 +6,7 @@ use Rattle.geos_model.specs.declared.fault.Fault.{Fault}
 use Rattle.geos_model.specs.declared.fault.Fault.TheVariants.{Memory, File, Damaged, NotDocument, Worn}
 use Rattle.geos_model.specs.declared.handle.VmHandle.{VmHandle}
 use Rattle.geos_model.specs.File.{longest_image}
-use Rattle.vm_file.specs.Members.{saved_blocks}
+use Rattle.vm_file.specs.Members.{imaged_blocks}
 use Rattle.vm_file.specs.declared.member.Member.{Member}
 
 -- a block that can be put: its handle can be
@@ -15,7 +15,7 @@ IsPut m = is_vm_handle m.handle.0 ≡ true
 
 -- the document with these blocks, and without those
 abbrev pub put_all : List Member → Document → Document
-put_all ms d = with_blocks d (saved_blocks ms)
+put_all ms d = with_blocks d (imaged_blocks ms)
 
 abbrev pub remove_all : List VmHandle → Document → Document
 remove_all [] d = d
@@ -27,12 +27,12 @@ IsImageLength n = (1 ≤ n) × (n ≤ longest_image)
 
 -- Refusals that no rule of the document decides.
 
--- want of memory, or a store that failed
-abbrev pub IsSupply : Fault → Type 0
-IsSupply fault = (fault ≡ Memory) ⊎ (fault ≡ File)
+-- lack of memory, or a store that failed
+abbrev pub IsResourceFault : Fault → Type 0
+IsResourceFault fault = (fault ≡ Memory) ⊎ (fault ≡ File)
 
 abbrev pub IsCommitRefusal : Fault → Type 0
-IsCommitRefusal fault = IsSupply fault ⊎ (fault ≡ Worn)
+IsCommitRefusal fault = IsResourceFault fault ⊎ (fault ≡ Worn)
 
 abbrev pub IsOpenRefusal : Fault → Type 0
-IsOpenRefusal fault = IsSupply fault ⊎ ((fault ≡ Damaged) ⊎ (fault ≡ NotDocument))
+IsOpenRefusal fault = IsResourceFault fault ⊎ ((fault ≡ Damaged) ⊎ (fault ≡ NotDocument))

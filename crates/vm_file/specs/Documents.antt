@@ -12,7 +12,7 @@ use Rattle.geos_model.specs.declared.file.Slot.{Slot}
 use Rattle.geos_model.specs.declared.file.Entry.{Entry}
 use Rattle.geos_model.proofs.Table.{table_map}
 use Rattle.vm_file.specs.declared.table.Place.{Place}
-use Rattle.vm_file.specs.declared.table.Table.{Table}
+use Rattle.vm_file.specs.declared.table.BlockTable.{BlockTable}
 use Rattle.vm_file.specs.declared.table.DocumentRef.{DocumentRef}
 use Rattle.vm_file.specs.declared.table.Pair.{Pair}
 use Rattle.vm_file.specs.declared.slot.SpareSlot.{SpareSlot}
@@ -37,7 +37,7 @@ abbrev pub blocks_in : List ℕ → List (Option Place) → List (Option Block)
 blocks_in file places = map (option_map (block_in file)) places
 
 -- the document of a table
-abbrev pub document_in : List ℕ → Table → Document
+abbrev pub document_in : List ℕ → BlockTable → Document
 document_in file table = record { blocks = table_map 1 1 (blocks_in file table.places.items); map_block = table.map_block }
 
 abbrev pub documents_in : List ℕ → Pair → Documents
@@ -56,7 +56,7 @@ entries_of h (None ∷ places) = entries_of (h + 1) places
 entries_of h (Some place ∷ places) = record { handle = record { 0 = h }; attributes = place.attributes; extent = place.extent } ∷ entries_of (h + 1) places
 
 -- its directory, in a version
-abbrev pub directory_of_table : ℕ → Table → Directory
+abbrev pub directory_of_table : ℕ → BlockTable → Directory
 directory_of_table version table = record { version = version; map_block = table.map_block; entries = entries_of 1 table.places.items }
 
 -- the place has the image of a body of its kind

@@ -8,10 +8,10 @@ use Rattle.geos_model.specs.Document.{FitAttributes}
 use Rattle.vm_file.specs.Ranges.{IsPlaced, start_of, end_of, IsClear}
 use Rattle.vm_file.specs.Slots.{gate_text, block_extents}
 use Rattle.vm_file.specs.Documents.{blocks_in, document_in, attempted_in, entries_of, directory_of_table, AreImaged}
-use Rattle.vm_file.specs.Sound.{IsTable}
+use Rattle.vm_file.specs.Sound.{IsBlockTable}
 use Rattle.vm_file.specs.Opened.{IsImageOf}
 use Rattle.vm_file.specs.declared.table.Place.{Place}
-use Rattle.vm_file.specs.declared.table.Table.{Table}
+use Rattle.vm_file.specs.declared.table.BlockTable.{BlockTable}
 use Rattle.vm_file.specs.declared.table.DocumentRef.{DocumentRef}
 use Rattle.vm_file.specs.declared.slot.Slots.{Slots}
 use Rattle.vm_file.specs.declared.slot.SpareSlot.TheVariants.{Shut}
@@ -32,13 +32,13 @@ pub record IsLaid (gate : ℕ) (directory : Extent) (text old new : List ℕ) : 
   pub size : length new ≡ max (length old) (start_of directory + length text)
 
 -- the same document, with a directory
-pub record IsLiveStored (directory : Extent) (live : Table) (s : DocumentRef) : Type 0 where
+pub record IsLiveStored (directory : Extent) (live : BlockTable) (s : DocumentRef) : Type 0 where
   pub directory_is : s.directory ≡ directory
   pub map_block : s.table.map_block ≡ live.map_block
   pub places : s.table.places.items ≡ live.places.items
 
 -- the slots of a file that was just made: updated and saved is the live document
-pub record IsFirst (directory : Extent) (live : Table) (slots : Slots) : Type 0 where
+pub record IsNewSlots (directory : Extent) (live : BlockTable) (slots : Slots) : Type 0 where
   pub second : slots.second ≡ false
   pub version : slots.version ≡ 2
   pub sequence : slots.sequence ≡ 1
@@ -48,17 +48,17 @@ pub record IsFirst (directory : Extent) (live : Table) (slots : Slots) : Type 0 
   pub unmarked : slots.marked ≡ None
 
 -- so that the live document is the updated and the saved one
-pub record IsOne (file : List ℕ) (live : Table) (slots : Slots) : Type 0 where
+pub record IsOne (file : List ℕ) (live : BlockTable) (slots : Slots) : Type 0 where
   pub updated : document_in file slots.committed.updated.table ≡ document_in file live
   pub saved : document_in file slots.committed.saved.table ≡ document_in file live
-  pub attempted : attempted_in file slots.spare ≡ []
+  pub in_doubt : attempted_in file slots.spare ≡ []
   pub unmarked : slots.marked ≡ None
   pub version : slots.version ≡ 2
   pub sequence : slots.sequence ≡ 1
 
 -- what is known of a table whose directory is written
-pub record IsFounding (directory : Extent) (text : List ℕ) (live : Table) : Type 0 where
-  pub table : IsTable live
+pub record IsFounding (directory : Extent) (text : List ℕ) (live : BlockTable) : Type 0 where
+  pub table : IsBlockTable live
   pub placed : All IsPlaced (block_extents live.places.items)
   pub directory_placed : IsPlaced directory
   pub clear : IsClear (start_of directory) directory.length (block_extents live.places.items)
@@ -115,16 +115,16 @@ page_behind page [] = page
 page_behind page (o ∷ os) = page_behind (page + pages_taken o) os
 
 -- An image of the place's kind is put at a page; it is the one that an honest source has.
-pub record IsWritten (page : ℕ) (place : Place) (honest : Type 0) (source old new : List ℕ) : Type 0 where
+pub record IsImageCopied (page : ℕ) (place : Place) (honest : Type 0) (source old new : List ℕ) : Type 0 where
   pub image : List ℕ
   pub is_image : IsImageOf place.is_heap image
   pub size : length image ≡ place.extent.length
   pub put : Puts (512 * page) image old new
   pub same : honest → image ≡ bytes_in source place.extent
 
-abbrev pub IsCopied : ℕ → Option Place → Type 0 → List ℕ → List ℕ → List ℕ → Type 0
-IsCopied page None honest source old new = new ≡ old
-IsCopied page (Some place) honest source old new = IsWritten page place honest source old new
+abbrev pub IsBlockCopied : ℕ → Option Place → Type 0 → List ℕ → List ℕ → List ℕ → Type 0
+IsBlockCopied page None honest source old new = new ≡ old
+IsBlockCopied page (Some place) honest source old new = IsImageCopied page place honest source old new
 
 -- The images of these places lie one behind the other, and nothing else is changed in the slots.
 pub record AreCopied (honest : Type 0) (source : List ℕ) (places : List (Option Place)) (old new : List ℕ) : Type 0 where

@@ -1,6 +1,6 @@
 -- What the reading of a file finds in it.
 use Rattle.std.specs.Prelude.{◌≡◌, ◌⊎◌, ℕ, ◌+◌, ◌*◌, ◌<◌, ◌≤◌, ◌^◌, Bool, true, IsTrue, List, All, Option, None, Some, Ok, length, take, drop, if◌then◌else◌}
-use Rattle.vm_store.specs.Facts.{StoreFacts, byte, Rests}
+use Rattle.vm_store.specs.Facts.{StoreFacts, byte, IsUnchanged}
 use Rattle.geos_model.specs.Document.{is_heap_body}
 use Rattle.geos_model.specs.Image.{body_of, body_read}
 use Rattle.geos_model.specs.File.{slot_of, open_slot, counting_slot, stands, longest_directory, is_in_file}
@@ -11,8 +11,8 @@ use Rattle.geos_model.specs.declared.file.Slot.{Slot}
 use Rattle.vm_file.specs.Ranges.{IsPlaced, end_of}
 use Rattle.vm_file.specs.Slots.{stored_extents, pair_extents, IsBeside, Outcome}
 use Rattle.vm_file.specs.Documents.{AreStored, documents_in, sequence_in}
-use Rattle.vm_file.specs.Sound.{IsTable, AreTables}
-use Rattle.vm_file.specs.Calls.{IsSupply}
+use Rattle.vm_file.specs.Sound.{IsBlockTable, AreTables}
+use Rattle.vm_file.specs.Calls.{IsResourceFault}
 use Rattle.vm_file.specs.declared.table.DocumentRef.{DocumentRef}
 use Rattle.vm_file.specs.declared.table.Pair.{Pair}
 use Rattle.vm_file.specs.declared.slot.SpareSlot.TheVariants.{Shut, Stale}
@@ -21,14 +21,14 @@ use Rattle.vm_file.specs.declared.slot.RawSlot.{RawSlot}
 use Rattle.vm_file.specs.declared.slot.ActiveSlot.{ActiveSlot}
 
 -- calls that only read
-pub record Looks (old new : StoreFacts) : Type 0 where
+pub record OnlyReadsStore (old new : StoreFacts) : Type 0 where
   pub honest : new.honest ≡ old.honest
   pub failures : old.failures ≤ new.failures
-  pub rests : IsTrue old.honest → Rests old new
+  pub unchanged : IsTrue old.honest → IsUnchanged old new
 
--- want of memory, a store that failed, or a file that is wrong
+-- lack of memory, a store that failed, or a file that is wrong
 abbrev pub IsReadRefusal : Fault → Type 0
-IsReadRefusal fault = IsSupply fault ⊎ (fault ≡ Damaged)
+IsReadRefusal fault = IsResourceFault fault ⊎ (fault ≡ Damaged)
 
 -- the bytes are the image of a body of this kind
 pub record IsImageOf (is_heap : Bool) (bytes : List ℕ) : Type 0 where
@@ -42,14 +42,14 @@ pub record IsDirectoryPlace (version n : ℕ) (e : Extent) : Type 0 where
   pub short : e.length ≤ longest_directory
 
 -- a document that was read from a file of n bytes
-pub record IsRead (n : ℕ) (s : DocumentRef) : Type 0 where
-  pub table : IsTable s.table
+pub record IsReadDocument (n : ℕ) (s : DocumentRef) : Type 0 where
+  pub table : IsBlockTable s.table
   pub placed : All IsPlaced (stored_extents s)
   pub within : All (λ e. end_of e ≤ n) (stored_extents s)
 
-pub record AreRead (n : ℕ) (pair : Pair) : Type 0 where
-  pub updated : IsRead n pair.updated
-  pub saved : IsRead n pair.saved
+pub record AreReadDocuments (n : ℕ) (pair : Pair) : Type 0 where
+  pub updated : IsReadDocument n pair.updated
+  pub saved : IsReadDocument n pair.saved
 
 -- the slot at a page, with its gate
 pub record IsRawSlot (file : List ℕ) (page : ℕ) (raw : RawSlot) : Type 0 where

@@ -3,18 +3,18 @@ use Rattle.std.specs.Prelude.{◌≡◌, ◌++◌, All, length}
 use Rattle.geos_model.specs.File.{directory_text}
 use Rattle.geos_model.specs.Document.{FitAttributes}
 use Rattle.vm_file.specs.Ranges.{start_of, IsPlaced, IsClear}
-use Rattle.vm_file.specs.Slots.{block_extents, kept_extents}
+use Rattle.vm_file.specs.Slots.{block_extents, referenced_extents}
 use Rattle.vm_file.specs.Documents.{entries_of, directory_of_table}
 use Rattle.vm_file.specs.Copies.{IsCopy}
 use Rattle.vm_file.specs.declared.directory.PendingDirectory.{PendingDirectory}
-use Rattle.vm_file.specs.declared.table.Table.{Table}
+use Rattle.vm_file.specs.declared.table.BlockTable.{BlockTable}
 use Rattle.vm_file.specs.declared.slot.Slots.{Slots}
 
 -- The directory of the live table in version 2, with its text and a place on which nothing lies that stays.
-pub record IsPendingDirectory (live : Table) (slots : Slots) (pending : PendingDirectory) : Type 0 where
+pub record IsPendingDirectory (live : BlockTable) (slots : Slots) (pending : PendingDirectory) : Type 0 where
   pub table : IsCopy pending.document.table live
   pub text : pending.text.items ≡ directory_text (directory_of_table 2 pending.document.table)
   pub size : pending.document.directory.length ≡ length pending.text.items
   pub placed : IsPlaced pending.document.directory
-  pub clear : IsClear (start_of pending.document.directory) pending.document.directory.length (block_extents live.places.items ++ kept_extents slots)
+  pub clear : IsClear (start_of pending.document.directory) pending.document.directory.length (block_extents live.places.items ++ referenced_extents slots)
   pub attributes : All (λ e. FitAttributes e.attributes) (entries_of 1 pending.document.table.places.items)

@@ -1,8 +1,8 @@
 -- Ranges of a file: the bytes of extents, and what a write leaves of them.
 use Rattle.std.specs.Prelude.{◌⊎◌, ℕ, ◌+◌, ◌*◌, ◌≤◌, List, All}
-use Rattle.geos_model.specs.File.{end_page, last_page, longest_directory}
+use Rattle.geos_model.specs.File.{end_page, page_limit, longest_directory}
 use Rattle.geos_model.specs.declared.file.Extent.{Extent}
-pub use Rattle.geos_model.specs.FileLaws.{Keeps}
+pub use Rattle.geos_model.specs.FileLaws.{KeepsExtent}
 
 -- where an extent begins; pages have 512 bytes
 abbrev pub start_of : Extent → ℕ
@@ -15,13 +15,13 @@ end_of e = start_of e + e.length
 -- an extent that can be: behind the slots, below the last page, of as many bytes as a directory has; an image has fewer
 pub record IsPlaced (e : Extent) : Type 0 where
   pub behind : 2 ≤ e.page
-  pub within : end_page e ≤ last_page
+  pub within : end_page e ≤ page_limit
   pub some : 1 ≤ e.length
   pub short : e.length ≤ longest_directory
 
 -- the bytes of each of these extents stay
 abbrev pub KeepsAll : List Extent → List ℕ → List ℕ → Type 0
-KeepsAll extents file c = All (Keeps file c) extents
+KeepsAll extents file c = All (KeepsExtent file c) extents
 
 -- n bytes at a place are apart from those that begin and end there
 abbrev pub IsOut : ℕ → ℕ → ℕ → ℕ → Type 0

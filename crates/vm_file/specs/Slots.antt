@@ -6,7 +6,7 @@ use Rattle.geos_model.specs.declared.file.Extent.{Extent}
 use Rattle.geos_model.specs.File.{slot_mark, extent_text}
 use Rattle.vm_file.specs.Ranges.{IsPlaced, KeepsAll, IsOut, IsClear}
 use Rattle.vm_file.specs.declared.table.Place.{Place}
-use Rattle.vm_file.specs.declared.table.Table.{Table}
+use Rattle.vm_file.specs.declared.table.BlockTable.{BlockTable}
 use Rattle.vm_file.specs.declared.table.DocumentRef.{DocumentRef}
 use Rattle.vm_file.specs.declared.table.Pair.{Pair}
 use Rattle.vm_file.specs.declared.slot.SpareSlot.{SpareSlot}
@@ -32,13 +32,13 @@ prepared_extents Shut = []
 prepared_extents Stale = []
 prepared_extents (Prepared pair) = pair_extents pair
 
-abbrev pub marked_extents : Option Table → List Extent
+abbrev pub marked_extents : Option BlockTable → List Extent
 marked_extents None = []
 marked_extents (Some table) = block_extents table.places.items
 
 -- all that the slots stand on, and the marked document
-abbrev pub kept_extents : Slots → List Extent
-kept_extents slots = pair_extents slots.committed ++ (prepared_extents slots.spare ++ marked_extents slots.marked)
+abbrev pub referenced_extents : Slots → List Extent
+referenced_extents slots = pair_extents slots.committed ++ (prepared_extents slots.spare ++ marked_extents slots.marked)
 
 -- The slots.
 
@@ -51,8 +51,8 @@ abbrev pub spare_of : Slots → ℕ
 spare_of slots = if slots.second then 0 else 1
 
 -- the slots when what the other one leads to counts: a commit is of version 2
-abbrev pub turned : Slots → Pair → Slots
-turned slots pair = record { second = not slots.second; version = 2; sequence = slots.sequence + 1; committed = pair; spare = Stale; marked = slots.marked }
+abbrev pub switched : Slots → Pair → Slots
+switched slots pair = record { second = not slots.second; version = 2; sequence = slots.sequence + 1; committed = pair; spare = Stale; marked = slots.marked }
 
 -- what a commit that failed before its last step may leave of the slots
 abbrev pub FailedEarly : Slots → Slots → Type 0
@@ -70,7 +70,7 @@ abbrev pub behind_gate : ℕ → ℕ → Pair → List ℕ
 behind_gate version sequence pair = gate_text version sequence pair.updated.directory pair.saved.directory
 
 -- Whatever its gate, the slot has this version and this number and leads to this pair, whose bytes are those of the file.
-pub record Leads (slot version sequence : ℕ) (pair : Pair) (file c : List ℕ) : Type 0 where
+pub record LeadsTo (slot version sequence : ℕ) (pair : Pair) (file c : List ℕ) : Type 0 where
   pub marked : Holds c (512 * slot) slot_mark
   pub rest : Holds c (512 * slot + 5) (behind_gate version sequence pair)
   pub kept : KeepsAll (pair_extents pair) file c
@@ -92,17 +92,17 @@ pub record IsOlder (slot sequence : ℕ) (c : List ℕ) : Type 0 where
 abbrev pub IsBeside : SpareSlot → ℕ → ℕ → List ℕ → List ℕ → Type 0
 IsBeside Shut slot sequence file c = byte c (512 * slot + 4) ≢ 1
 IsBeside Stale slot sequence file c = IsUnmarked slot c ⊎ IsOlder slot sequence c
-IsBeside (Prepared pair) slot sequence file c = Leads slot 2 (sequence + 1) pair file c
+IsBeside (Prepared pair) slot sequence file c = LeadsTo slot 2 (sequence + 1) pair file c
 
 -- What a crash left: the slot that counts is open and whole, and the other is as it is known to be.
 pub record Outcome (slots : Slots) (file c : List ℕ) : Type 0 where
   pub gate : byte c (512 * counting_of slots + 4) ≡ 1
-  pub counts : Leads (counting_of slots) slots.version slots.sequence slots.committed file c
+  pub counts : LeadsTo (counting_of slots) slots.version slots.sequence slots.committed file c
   pub beside : IsBeside slots.spare (spare_of slots) slots.sequence file c
 
 -- a crash now leaves such a file
-abbrev pub Leaves : StoreFacts → Slots → List ℕ → Type 0
-Leaves store slots file = (c : List ℕ) → store.may_leave c → Outcome slots file c
+abbrev pub CrashLeavesSlots : StoreFacts → Slots → List ℕ → Type 0
+CrashLeavesSlots store slots file = (c : List ℕ) → store.may_leave c → Outcome slots file c
 
 -- What a crash since some time left is what one before these calls might have left, or such a file.
 pub record Outlives (old new : StoreFacts) (file : List ℕ) (Is : Slots → Type 0) : Type 0 where
@@ -110,8 +110,8 @@ pub record Outlives (old new : StoreFacts) (file : List ℕ) (Is : Slots → Typ
   pub each : (t : ℕ) (c : List ℕ) → t ≤ old.moment → new.left_since t c → old.left_since t c ⊎ ((slots : Slots) × Is slots × Outcome slots file c)
 
 -- all of that can be
-abbrev pub AreKept : Slots → Type 0
-AreKept slots = All IsPlaced (kept_extents slots)
+abbrev pub AreExtentsPlaced : Slots → Type 0
+AreExtentsPlaced slots = All IsPlaced (referenced_extents slots)
 
 -- A write there changes nothing on which the other slot stands.
 abbrev pub IsBesideOut : SpareSlot → ℕ → ℕ → ℕ → Type 0

@@ -5,14 +5,14 @@ use Rattle.vm_store.specs.Facts.{StoreFacts}
 use Rattle.geos_model.specs.Document.{most_blocks, IsTyped}
 use Rattle.geos_model.specs.File.{longest_image}
 use Rattle.vm_file.specs.Ranges.{IsPlaced, end_of}
-use Rattle.vm_file.specs.Slots.{block_extents, kept_extents, marked_extents, AreKept, Leaves}
+use Rattle.vm_file.specs.Slots.{block_extents, referenced_extents, marked_extents, AreExtentsPlaced, CrashLeavesSlots}
 use Rattle.vm_file.specs.Documents.{document_in, attempted_in, AreImaged, AreStored, IsPreparedStored}
 use Rattle.vm_file.specs.Disk.{Disk}
-use Rattle.vm_file.specs.FreeSpace.{IsKnown}
+use Rattle.vm_file.specs.FreeSpace.{IsSpaceOf}
 use Rattle.vm_file.specs.Listing.{AreBounds}
 use Rattle.vm_space.specs.Space.{Space}
 use Rattle.vm_file.specs.declared.table.Place.{Place}
-use Rattle.vm_file.specs.declared.table.Table.{Table}
+use Rattle.vm_file.specs.declared.table.BlockTable.{BlockTable}
 use Rattle.vm_file.specs.declared.listing.Bounds.{Bounds}
 use Rattle.vm_file.specs.declared.table.Pair.{Pair}
 use Rattle.vm_file.specs.declared.slot.SpareSlot.{SpareSlot}
@@ -28,15 +28,15 @@ abbrev pub ArePlaces : List (Option Place) → Type 0
 ArePlaces places = All (λ place. IfSome place IsPlace) places
 
 -- A table that can be: places for the handles up to some number, past which none is live, and the map block none or live.
-pub record IsTable (table : Table) : Type 0 where
+pub record IsBlockTable (table : BlockTable) : Type 0 where
   pub size : length table.places.items ≤ most_blocks
   pub places : ArePlaces table.places.items
   pub map_block : (table.map_block ≡ 0) ⊎ ((1 ≤ table.map_block) × (is_some (get_or table.places.items (table.map_block - 1) None) ≡ true))
 
 -- so are the tables of a pair
 pub record AreTables (pair : Pair) : Type 0 where
-  pub updated : IsTable pair.updated.table
-  pub saved : IsTable pair.saved.table
+  pub updated : IsBlockTable pair.updated.table
+  pub saved : IsBlockTable pair.saved.table
 
 -- and those of a commit that failed in its last step, whose number is the next
 abbrev pub IsPreparedFormed : ℕ → SpareSlot → Type 0
@@ -45,36 +45,36 @@ IsPreparedFormed sequence Stale = Unit {0}
 IsPreparedFormed sequence (Prepared pair) = AreTables pair × (sequence + 1 < 2 ^ 64)
 
 -- over any store
-pub record IsFormed (live : Table) (slots : Slots) : Type 0 where
-  pub table : IsTable live
+pub record IsFormed (live : BlockTable) (slots : Slots) : Type 0 where
+  pub table : IsBlockTable live
   pub placed : All IsPlaced (block_extents live.places.items)
   pub committed : AreTables slots.committed
   pub prepared : IsPreparedFormed slots.sequence slots.spare
-  pub marked : IfSome slots.marked IsTable
-  pub kept : AreKept slots
+  pub marked : IfSome slots.marked IsBlockTable
+  pub kept : AreExtentsPlaced slots
   pub version : (slots.version ≡ 1) ⊎ (slots.version ≡ 2)
   pub numbered : 1 ≤ slots.sequence
   pub in_range : slots.sequence < 2 ^ 64
 
 -- over an honest one
-pub record IsWhole (store : StoreFacts) (live : Table) (slots : Slots) : Type 0 where
+pub record IsWhole (store : StoreFacts) (live : BlockTable) (slots : Slots) : Type 0 where
   pub images : AreImaged store.content live.places.items
   pub within : All (λ e. end_of e ≤ length store.content) (block_extents live.places.items)
   pub committed : AreStored slots.version store.content slots.committed
   pub prepared : IsPreparedStored store.content slots.spare
   pub marked : IfSome slots.marked (λ table. AreImaged store.content table.places.items)
   pub marked_within : All (λ e. end_of e ≤ length store.content) (marked_extents slots.marked)
-  pub leaves : Leaves store slots store.content
+  pub leaves : CrashLeavesSlots store slots store.content
 
-pub record IsSound (store : StoreFacts) (live : Table) (slots : Slots) : Type 0 where
+pub record IsSound (store : StoreFacts) (live : BlockTable) (slots : Slots) : Type 0 where
   pub formed : IsFormed live slots
   pub whole : IsTrue store.honest → IsWhole store live slots
 
 -- with the free space: taken is all that lies in the file and stays; and with bounds of the live table
-pub record IsSoundFile (store : StoreFacts) (live : Table) (slots : Slots) (space : Option Space) (bounds : Bounds) : Type 0 where
+pub record IsSoundFile (store : StoreFacts) (live : BlockTable) (slots : Slots) (space : Option Space) (bounds : Bounds) : Type 0 where
   pub sound : IsSound store live slots
   pub bounded : AreBounds live.places.items bounds
-  pub known : IsKnown (block_extents live.places.items ++ kept_extents slots) space
+  pub known : IsSpaceOf (block_extents live.places.items ++ referenced_extents slots) space
 
 -- what callers see of it
 abbrev pub disk_of : {S : Type 0} → (S → StoreFacts) → S → Slots → Disk S
@@ -84,7 +84,7 @@ disk_of facts store slots =
       store = store;
       updated = document_in file slots.committed.updated.table;
       saved = document_in file slots.committed.saved.table;
-      attempted = attempted_in file slots.spare;
+      in_doubt = attempted_in file slots.spare;
       sequence = slots.sequence;
       marked = option_map (document_in file) slots.marked;
     }

@@ -4,8 +4,8 @@ use Rattle.vm_store.specs.Facts.{StoreFacts, Holds}
 use Rattle.geos_model.specs.Document.{is_heap_body}
 use Rattle.geos_model.specs.Image.{image}
 use Rattle.geos_model.specs.declared.file.Extent.{Extent}
-use Rattle.vm_file.specs.Ranges.{start_of, end_of, IsPlaced, Keeps, KeepsAll, IsOut, IsClear}
-use Rattle.vm_file.specs.Slots.{Leaves, Outlives}
+use Rattle.vm_file.specs.Ranges.{start_of, end_of, IsPlaced, KeepsExtent, KeepsAll, IsOut, IsClear}
+use Rattle.vm_file.specs.Slots.{CrashLeavesSlots, Outlives}
 use Rattle.geos_model.specs.declared.handle.VmHandle.{VmHandle}
 use Rattle.vm_file.specs.declared.member.Member.{Member}
 use Rattle.vm_file.specs.declared.table.Place.{Place}
@@ -25,9 +25,9 @@ IsAside extents e = All (λ x. IsOut (start_of x) x.length (start_of e) (end_of 
 
 -- calls that write into these extents alone, on which the slots don't stand
 pub record Fills (slots : Slots) (extents : List Extent) (old new : StoreFacts) : Type 0 where
-  pub keeps : (e : Extent) → IsAside extents e → end_of e ≤ length old.content → Keeps old.content new.content e
-  pub leaves : (file : List ℕ) → Leaves old slots file → Leaves new slots file
-  pub crash : (file : List ℕ) → Leaves old slots file → Outlives old new file (λ s. s ≡ slots)
+  pub keeps : (e : Extent) → IsAside extents e → end_of e ≤ length old.content → KeepsExtent old.content new.content e
+  pub leaves : (file : List ℕ) → CrashLeavesSlots old slots file → CrashLeavesSlots new slots file
+  pub crash : (file : List ℕ) → CrashLeavesSlots old slots file → Outlives old new file (λ s. s ≡ slots)
 
 -- the first n images stand in their extents
 abbrev pub AreWritten : ℕ → List Member → List Extent → List ℕ → Type 0
@@ -36,8 +36,8 @@ AreWritten n puts extents file = (k : ℕ) (e : Extent) (p : Member) → k < n �
 -- calls that keep these extents, and all that the slots stand on
 pub record IsSpared (extents : List Extent) (slots : Slots) (old new : StoreFacts) : Type 0 where
   pub keeps : All (λ e. end_of e ≤ length old.content) extents → KeepsAll extents old.content new.content
-  pub leaves : (file : List ℕ) → Leaves old slots file → Leaves new slots file
-  pub crash : (file : List ℕ) → Leaves old slots file → Outlives old new file (λ s. s ≡ slots)
+  pub leaves : (file : List ℕ) → CrashLeavesSlots old slots file → CrashLeavesSlots new slots file
+  pub crash : (file : List ℕ) → CrashLeavesSlots old slots file → Outlives old new file (λ s. s ≡ slots)
 
 -- Changes of a table.
 

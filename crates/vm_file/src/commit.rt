@@ -1,20 +1,20 @@
 //! Commits: the steps through the slots, and what they make of the documents.
 ghost use Rattle.std.specs.Prelude.{if◌then◌else◌, IfOk, ◌≡◌, ◌⊎◌, ◌+◌, ◌*◌, ◌<◌, ℕ, List, All, IsTrue, OnOk, OnErr, MatchResult, length, IfErr, IsErrOf};
-ghost use Rattle.vm_store.specs.Facts.{raised, IsDurable, Torn, Holds, Counts, Raised};
+ghost use Rattle.vm_store.specs.Facts.{raised, IsDurable, Torn, Holds, Counts, FailedSince};
 ghost use Rattle.geos_model.specs.File.{slot_mark};
 ghost use Rattle.vm_file.specs.Ranges.{IsPlaced, KeepsAll};
 ghost use Rattle.vm_file.specs.Calls.{last_sequence};
 ghost use Rattle.vm_file.specs.Sound.{AreTables, IsFormed, IsWhole, IsSound, disk_of};
 ghost use Rattle.vm_file.specs.Documents.{document_in, documents_in, AreStored};
 ghost use Rattle.vm_store.specs.Laws.{Tears};
-ghost use Rattle.vm_file.specs.Slots.{behind_gate, pair_extents, spare_of, turned, AreKept, Leaves, Outlives, FailedEarly, Failed};
-ghost use Rattle.vm_file.specs.Disk.{Commits};
+ghost use Rattle.vm_file.specs.Slots.{behind_gate, pair_extents, spare_of, switched, AreExtentsPlaced, CrashLeavesSlots, Outlives, FailedEarly, Failed};
+ghost use Rattle.vm_file.specs.Disk.{MayCommit};
 ghost use Rattle.vm_file.specs.PendingDirectories.{IsPendingDirectory};
 ghost use Rattle.vm_file.specs.Copies.{IsStoredCopy};
 
 use crate::directory::{PendingDirectory, write_pending};
 use crate::slot::{Slots, SpareSlot, behind_gate_bytes, is_shut, spare_gate, spare_slot};
-use crate::table::{DocumentRef, Pair, Table, copy_document_ref};
+use crate::table::{BlockTable, DocumentRef, Pair, copy_document_ref};
 use geos_model::{Fault, VERSION};
 use std::alloc::{AllocError, Global};
 use vm_space::SLOT_MARK;
@@ -37,7 +37,7 @@ fn write_through<S: Store>(store: &mut S, at: u64, bytes: &[u8]) -> Result<(), S
 // written, since it could be torn open.
 fn shut_gate<S: Store>(store: &mut S, slots: &mut Slots) -> Result<(), StoreFault>
     // Asked of the caller.
-    requires kept { AreKept slots.old }
+    requires kept { AreExtentsPlaced slots.old }
     // The store.
     ensures honest { (S.facts store.new).honest ≡ (S.facts store.old).honest }
     ensures failures { MatchResult result (λ _. (S.facts store.new).failures ≡ (S.facts store.old).failures)
@@ -48,10 +48,12 @@ fn shut_gate<S: Store>(store: &mut S, slots: &mut Slots) -> Result<(), StoreFaul
     // Crashes.
     ensures elsewhere { IsTrue (S.facts store.old).honest
         → Torn 0 1024 (S.facts store.old).content (S.facts store.new).content }
-    ensures crash { (file : List ℕ) → IsTrue (S.facts store.old).honest → Leaves (S.facts store.old) slots.old file
+    ensures crash { (file : List ℕ) → IsTrue (S.facts store.old).honest
+        → CrashLeavesSlots (S.facts store.old) slots.old file
         → Outlives (S.facts store.old) (S.facts store.new) file (λ s. s ≡ slots.old) }
-    ensures leaves { (file : List ℕ) → IsTrue (S.facts store.old).honest → Leaves (S.facts store.old) slots.old file
-        → Leaves (S.facts store.new) slots.new file }
+    ensures leaves { (file : List ℕ) → IsTrue (S.facts store.old).honest
+        → CrashLeavesSlots (S.facts store.old) slots.old file
+        → CrashLeavesSlots (S.facts store.new) slots.new file }
 {
     if is_shut(&slots.spare) {
         return Ok(());
@@ -66,17 +68,19 @@ fn fill_slot<S: Store>(store: &mut S, slots: &Slots, pair: &Pair) -> Result<(), 
     // Asked of the caller.
     requires shut { slots.now.spare ≡ SpareSlot.Shut }
     requires sequence { slots.now.sequence < last_sequence }
-    requires kept { AreKept slots.now }
+    requires kept { AreExtentsPlaced slots.now }
     // The store.
     ensures honest { (S.facts store.new).honest ≡ (S.facts store.old).honest }
     ensures failures { Counts result (S.facts store.old) (S.facts store.new) }
     // Crashes.
     ensures elsewhere { IsTrue (S.facts store.old).honest
         → Torn 0 1024 (S.facts store.old).content (S.facts store.new).content }
-    ensures crash { (file : List ℕ) → IsTrue (S.facts store.old).honest → Leaves (S.facts store.old) slots.now file
+    ensures crash { (file : List ℕ) → IsTrue (S.facts store.old).honest
+        → CrashLeavesSlots (S.facts store.old) slots.now file
         → Outlives (S.facts store.old) (S.facts store.new) file (λ s. s ≡ slots.now) }
-    ensures leaves { (file : List ℕ) → IsTrue (S.facts store.old).honest → Leaves (S.facts store.old) slots.now file
-        → Leaves (S.facts store.new) slots.now file }
+    ensures leaves { (file : List ℕ) → IsTrue (S.facts store.old).honest
+        → CrashLeavesSlots (S.facts store.old) slots.now file
+        → CrashLeavesSlots (S.facts store.new) slots.now file }
     // What stands in the slot.
     ensures marked { OnOk result (IsTrue (S.facts store.old).honest
         → Holds (S.facts store.new).content (512 * spare_of slots.now) slot_mark) }
@@ -98,24 +102,24 @@ fn fill_slot<S: Store>(store: &mut S, slots: &Slots, pair: &Pair) -> Result<(), 
 fn open_gate<S: Store>(store: &mut S, slots: &mut Slots, pair: Pair) -> Result<(), StoreFault>
     // Asked of the caller.
     requires sequence { slots.old.sequence < last_sequence }
-    requires kept { AreKept slots.old }
+    requires kept { AreExtentsPlaced slots.old }
     requires placed { All IsPlaced (pair_extents pair) }
     // The store.
     ensures honest { (S.facts store.new).honest ≡ (S.facts store.old).honest }
     ensures failures { Counts result (S.facts store.old) (S.facts store.new) }
     // What is known of the slots.
-    ensures ok { OnOk result (slots.new ≡ turned slots.old pair) }
+    ensures ok { OnOk result (slots.new ≡ switched slots.old pair) }
     ensures err { OnErr result (slots.new ≡ record slots.old { spare = SpareSlot.Prepared pair }) }
     // Crashes.
     ensures elsewhere { IsTrue (S.facts store.old).honest
         → Torn 0 1024 (S.facts store.old).content (S.facts store.new).content }
     ensures crash { (file : List ℕ) → IsTrue (S.facts store.old).honest
-        → Leaves (S.facts store.old) (record slots.old { spare = SpareSlot.Prepared pair }) file
+        → CrashLeavesSlots (S.facts store.old) (record slots.old { spare = SpareSlot.Prepared pair }) file
         → Outlives (S.facts store.old) (S.facts store.new) file
         (λ s. s ≡ record slots.old { spare = SpareSlot.Prepared pair }) }
     ensures leaves { (file : List ℕ) → IsTrue (S.facts store.old).honest
-        → Leaves (S.facts store.old) (record slots.old { spare = SpareSlot.Prepared pair }) file
-        → Leaves (S.facts store.new) slots.new file }
+        → CrashLeavesSlots (S.facts store.old) (record slots.old { spare = SpareSlot.Prepared pair }) file
+        → CrashLeavesSlots (S.facts store.new) slots.new file }
 {
     match write_through(store, spare_gate(slots), &[1]) {
         Ok(()) => {
@@ -139,28 +143,30 @@ fn open_gate<S: Store>(store: &mut S, slots: &mut Slots, pair: Pair) -> Result<(
 fn commit_slots<S: Store>(store: &mut S, slots: &mut Slots, pair: Pair) -> Result<(), StoreFault>
     // Asked of the caller.
     requires sequence { slots.old.sequence < last_sequence }
-    requires kept { AreKept slots.old }
+    requires kept { AreExtentsPlaced slots.old }
     requires placed { All IsPlaced (pair_extents pair) }
     // The store.
     ensures honest { (S.facts store.new).honest ≡ (S.facts store.old).honest }
     ensures failures { Counts result (S.facts store.old) (S.facts store.new) }
     // What is known of the slots.
-    ensures ok { OnOk result (slots.new ≡ turned slots.old pair) }
+    ensures ok { OnOk result (slots.new ≡ switched slots.old pair) }
     ensures err { OnErr result (Failed slots.old pair slots.new) }
     // where `slots` doesn't hold the pair, a crash found nothing of it
     ensures early { OnErr result ((slots.new ≡ record slots.old { spare = SpareSlot.Prepared pair })
-        ⊎ ((file : List ℕ) → IsTrue (S.facts store.old).honest → Leaves (S.facts store.old) slots.old file
+        ⊎ ((file : List ℕ) → IsTrue (S.facts store.old).honest → CrashLeavesSlots (S.facts store.old) slots.old file
         → Outlives (S.facts store.old) (S.facts store.new) file (λ s. FailedEarly slots.old s))) }
     // Crashes.
     ensures elsewhere { IsTrue (S.facts store.old).honest
         → Torn 0 1024 (S.facts store.old).content (S.facts store.new).content }
     // `file` is a content that has the bytes of all extents: that at the call, or an earlier one
-    ensures crash { (file : List ℕ) → IsTrue (S.facts store.old).honest → Leaves (S.facts store.old) slots.old file
+    ensures crash { (file : List ℕ) → IsTrue (S.facts store.old).honest
+        → CrashLeavesSlots (S.facts store.old) slots.old file
         → KeepsAll (pair_extents pair) file (S.facts store.old).content
         → Outlives (S.facts store.old) (S.facts store.new) file (λ s. Failed slots.old pair s) }
-    ensures leaves { (file : List ℕ) → IsTrue (S.facts store.old).honest → Leaves (S.facts store.old) slots.old file
+    ensures leaves { (file : List ℕ) → IsTrue (S.facts store.old).honest
+        → CrashLeavesSlots (S.facts store.old) slots.old file
         → KeepsAll (pair_extents pair) file (S.facts store.old).content
-        → Leaves (S.facts store.new) slots.new file }
+        → CrashLeavesSlots (S.facts store.new) slots.new file }
 {
     shut_gate(store, slots)?;
     fill_slot(store, slots, &pair)?;
@@ -172,7 +178,7 @@ pub fn commit_pair<S: Store>(
     store: &mut S,
     slots: &mut Slots,
     pair: Pair,
-    live: &Table,
+    live: &BlockTable,
 ) -> Result<(), Fault>
     // Asked of the caller.
     requires formed { IsFormed live.now slots.old }
@@ -182,7 +188,7 @@ pub fn commit_pair<S: Store>(
     requires whole { IsTrue (S.facts store.old).honest → IsWhole (S.facts store.old) live.now slots.old }
     requires stored { IsTrue (S.facts store.old).honest → AreStored 2 (S.facts store.old).content pair }
     // The commit.
-    ensures commits { Commits S.facts (documents_in (S.facts store.old).content pair)
+    ensures commits { MayCommit S.facts (documents_in (S.facts store.old).content pair)
         (disk_of S.facts store.old slots.old) (disk_of S.facts store.new slots.new) result }
     ensures sound { IsSound (S.facts store.new) live.now slots.new }
     ensures live { IsTrue (S.facts store.old).honest
@@ -191,7 +197,7 @@ pub fn commit_pair<S: Store>(
     ensures committed { OnOk result (slots.new.committed ≡ pair) }
     ensures turned { OnOk result ((slots.new.version ≡ 2) × (slots.new.spare ≡ SpareSlot.Stale)) }
     // Refusals.
-    ensures file { IsErrOf result Fault.File → Raised (S.facts store.old) (S.facts store.new) }
+    ensures file { IsErrOf result Fault.File → FailedSince (S.facts store.old) (S.facts store.new) }
     ensures refusals { IfErr result (λ fault. fault ≡ Fault.File) }
 {
     let _ = live;
@@ -222,7 +228,7 @@ pub fn saved_beside(
 pub fn commit_pending<S: Store>(
     store: &mut S,
     slots: &mut Slots,
-    live: &Table,
+    live: &BlockTable,
     pending: PendingDirectory,
     saved: DocumentRef,
 ) -> Result<(), Fault>
@@ -232,7 +238,7 @@ pub fn commit_pending<S: Store>(
     requires pending { IsPendingDirectory live.now slots.old pending }
     requires saved { IsStoredCopy saved slots.old.committed.saved ⊎ IsStoredCopy saved pending.document }
     // The commit.
-    ensures commits { Commits S.facts
+    ensures commits { MayCommit S.facts
         (document_in (S.facts store.old).content live.now, document_in (S.facts store.old).content saved.table)
         (disk_of S.facts store.old slots.old) (disk_of S.facts store.new slots.new) result }
     ensures sound { IsSound (S.facts store.new) live.now slots.new }
@@ -241,7 +247,7 @@ pub fn commit_pending<S: Store>(
     // Where it is acknowledged.
     ensures turned { OnOk result ((slots.new.version ≡ 2) × (slots.new.spare ≡ SpareSlot.Stale)) }
     // Refusals.
-    ensures file { IsErrOf result Fault.File → Raised (S.facts store.old) (S.facts store.new) }
+    ensures file { IsErrOf result Fault.File → FailedSince (S.facts store.old) (S.facts store.new) }
     ensures refusals { IfErr result (λ fault. fault ≡ Fault.File) }
 {
     write_pending(store, slots, live, &pending)?;

@@ -1,20 +1,20 @@
 //! The copying of a document into another store.
 ghost use Rattle.std.specs.Prelude.{◌≡◌, ◌⊎◌, ◌≤◌, ◌+◌, ◌*◌, [], All, IsTrue, OnOk, IfOk, IfErr, IfSome, IsErrOf, length};
-ghost use Rattle.vm_store.specs.Facts.{Holds, Raised};
+ghost use Rattle.vm_store.specs.Facts.{Holds, FailedSince};
 ghost use Rattle.geos_model.specs.Document.{most_blocks};
 ghost use Rattle.geos_model.specs.File.{bytes_in};
 ghost use Rattle.vm_file.specs.Ranges.{IsPlaced, start_of};
 ghost use Rattle.vm_file.specs.Slots.{block_extents};
 ghost use Rattle.vm_file.specs.Documents.{blocks_in, IsImaged, AreImaged};
-ghost use Rattle.vm_file.specs.Sound.{IsTable, IsSound};
-ghost use Rattle.vm_file.specs.Opened.{Looks, IsReadRefusal, IsImageOf};
-ghost use Rattle.vm_file.specs.Making.{moved_to, pages_taken, laid_out, page_behind, IsCopied, AreCopied, IsFirst, IsFounding, IsOne};
+ghost use Rattle.vm_file.specs.Sound.{IsBlockTable, IsSound};
+ghost use Rattle.vm_file.specs.Opened.{OnlyReadsStore, IsReadRefusal, IsImageOf};
+ghost use Rattle.vm_file.specs.Making.{moved_to, pages_taken, laid_out, page_behind, IsBlockCopied, AreCopied, IsNewSlots, IsFounding, IsOne};
 
 use crate::directory::entries_of;
 use crate::extent::read_extent;
 use crate::kind::image_kind;
 use crate::making::{NewFile, empty, first_slots, initialize};
-use crate::table::{Place, Table};
+use crate::table::{BlockTable, Place};
 use geos_model::{Extent, Fault, PAGE, VmHandle};
 use std::alloc::{AllocError, Global};
 use vm_space::write_dir;
@@ -79,7 +79,7 @@ fn place_anew(alloc: Global, places: &[Option<Place>]) -> Result<PackedPlaces, A
 /// The image at a place, of the kind that the place has. Damaged where it is none; Memory, File.
 fn read_image<S: Store>(alloc: Global, store: &mut S, place: Place) -> Result<Vec<u8>, Fault>
     // The store.
-    ensures looks { Looks (S.facts store.old) (S.facts store.new) }
+    ensures looks { OnlyReadsStore (S.facts store.old) (S.facts store.new) }
     // The image.
     ensures size { IfOk result (λ image. length image.items ≡ place.extent.length) }
     ensures image { IfOk result (λ image. IsImageOf place.is_heap image.items) }
@@ -88,7 +88,7 @@ fn read_image<S: Store>(alloc: Global, store: &mut S, place: Place) -> Result<Ve
     // Refusals.
     ensures damaged { IsErrOf result Fault.Damaged → IsTrue (S.facts store.old).honest
         → IsImaged (S.facts store.old).content place → ⊥ }
-    ensures file { IsErrOf result Fault.File → Raised (S.facts store.old) (S.facts store.new) }
+    ensures file { IsErrOf result Fault.File → FailedSince (S.facts store.old) (S.facts store.new) }
     ensures refusals { IfErr result IsReadRefusal }
 {
     let image = read_extent(alloc, store, place.extent)?;
@@ -107,18 +107,18 @@ fn copy_image<S: Store>(
     page: u32,
 ) -> Result<(), Fault>
     // The stores.
-    ensures looks { Looks (S.facts source.old) (S.facts source.new) }
+    ensures looks { OnlyReadsStore (S.facts source.old) (S.facts source.new) }
     ensures honest { (S.facts target.new).honest ≡ (S.facts target.old).honest }
     ensures failures { (S.facts target.old).failures ≤ (S.facts target.new).failures }
     // The copy.
     ensures copied { OnOk result (IsTrue (S.facts target.old).honest
-        → IsCopied page place (IsTrue (S.facts source.old).honest) (S.facts source.old).content
+        → IsBlockCopied page place (IsTrue (S.facts source.old).honest) (S.facts source.old).content
         (S.facts target.old).content (S.facts target.new).content) }
     // Refusals.
     ensures damaged { IsErrOf result Fault.Damaged → IsTrue (S.facts source.old).honest
         → IfSome place (IsImaged (S.facts source.old).content) → ⊥ }
-    ensures file { IsErrOf result Fault.File → Raised (S.facts source.old) (S.facts source.new)
-        ⊎ Raised (S.facts target.old) (S.facts target.new) }
+    ensures file { IsErrOf result Fault.File → FailedSince (S.facts source.old) (S.facts source.new)
+        ⊎ FailedSince (S.facts target.old) (S.facts target.new) }
     ensures refusals { IfErr result IsReadRefusal }
 {
     let Some(place) = place else {
@@ -142,7 +142,7 @@ fn copy_images<S: Store>(
     requires few { length places.now ≤ most_blocks }
     requires placed { All IsPlaced (block_extents places.now) }
     // The stores.
-    ensures looks { Looks (S.facts source.old) (S.facts source.new) }
+    ensures looks { OnlyReadsStore (S.facts source.old) (S.facts source.new) }
     ensures honest { (S.facts target.new).honest ≡ (S.facts target.old).honest }
     ensures failures { (S.facts target.old).failures ≤ (S.facts target.new).failures }
     // The copies.
@@ -152,8 +152,8 @@ fn copy_images<S: Store>(
     // Refusals.
     ensures damaged { IsErrOf result Fault.Damaged → IsTrue (S.facts source.old).honest
         → AreImaged (S.facts source.old).content places.now → ⊥ }
-    ensures file { IsErrOf result Fault.File → Raised (S.facts source.old) (S.facts source.new)
-        ⊎ Raised (S.facts target.old) (S.facts target.new) }
+    ensures file { IsErrOf result Fault.File → FailedSince (S.facts source.old) (S.facts source.new)
+        ⊎ FailedSince (S.facts target.old) (S.facts target.new) }
     ensures refusals { IfErr result IsReadRefusal }
 {
     let mut page = FIRST_PAGE;
@@ -173,13 +173,13 @@ struct CopyPlan {
 }
 
 /// Places a document in a file of its own, its directory behind the images. It takes all the memory that the file needs.
-fn plan_copy(alloc: Global, live: &Table) -> Result<CopyPlan, AllocError>
-    requires table { IsTable live.now }
+fn plan_copy(alloc: Global, live: &BlockTable) -> Result<CopyPlan, AllocError>
+    requires table { IsBlockTable live.now }
     requires placed { All IsPlaced (block_extents live.now.places.items) }
     ensures map_block { IfOk result (λ plan. plan.made.live.map_block ≡ live.now.map_block) }
     ensures places { IfOk result (λ plan. plan.made.live.places.items ≡ laid_out 2 live.now.places.items) }
     ensures founding { IfOk result (λ plan. IsFounding plan.directory plan.text.items plan.made.live) }
-    ensures first { IfOk result (λ plan. IsFirst plan.directory plan.made.live plan.made.slots) }
+    ensures first { IfOk result (λ plan. IsNewSlots plan.directory plan.made.live plan.made.slots) }
 {
     let placed = place_anew(alloc, &live.places)?;
     let entries = entries_of(alloc, &placed.places)?;
@@ -188,7 +188,7 @@ fn plan_copy(alloc: Global, live: &Table) -> Result<CopyPlan, AllocError>
         page: placed.end,
         length: text.len() as u32,
     };
-    let table = Table {
+    let table = BlockTable {
         map_block: live.map_block,
         places: placed.places,
     };
@@ -204,14 +204,14 @@ fn plan_copy(alloc: Global, live: &Table) -> Result<CopyPlan, AllocError>
 pub fn copy_document<S: Store>(
     alloc: Global,
     source: &mut S,
-    live: &Table,
+    live: &BlockTable,
     target: &mut S,
 ) -> Result<NewFile, Fault>
     // Asked of the caller.
-    requires table { IsTable live.now }
+    requires table { IsBlockTable live.now }
     requires placed { All IsPlaced (block_extents live.now.places.items) }
     // The stores.
-    ensures looks { Looks (S.facts source.old) (S.facts source.new) }
+    ensures looks { OnlyReadsStore (S.facts source.old) (S.facts source.new) }
     ensures honest { (S.facts target.new).honest ≡ (S.facts target.old).honest }
     ensures failures { (S.facts target.old).failures ≤ (S.facts target.new).failures }
     // The new file.
@@ -225,8 +225,8 @@ pub fn copy_document<S: Store>(
     // Refusals.
     ensures damaged { IsErrOf result Fault.Damaged → IsTrue (S.facts source.old).honest
         → AreImaged (S.facts source.old).content live.now.places.items → ⊥ }
-    ensures file { IsErrOf result Fault.File → Raised (S.facts source.old) (S.facts source.new)
-        ⊎ Raised (S.facts target.old) (S.facts target.new) }
+    ensures file { IsErrOf result Fault.File → FailedSince (S.facts source.old) (S.facts source.new)
+        ⊎ FailedSince (S.facts target.old) (S.facts target.new) }
     ensures refusals { IfErr result IsReadRefusal }
 {
     let plan = plan_copy(alloc, live)?;

@@ -1,22 +1,22 @@
 //! Directories: read, made of the live table, and written where nothing lies that stays.
 ghost use Rattle.std.specs.Prelude.{◌≡◌, ◌↔◌, ◌<◌, ◌≤◌, All, IsTrue, OnOk, IfOk, IfErr, IsErrOf, Some, None, Ok, Err, length, true, ◌++◌};
-ghost use Rattle.vm_store.specs.Facts.{Raised};
+ghost use Rattle.vm_store.specs.Facts.{FailedSince};
 ghost use Rattle.geos_model.specs.Document.{FitAttributes, most_blocks};
 ghost use Rattle.geos_model.specs.File.{directory_of, is_directory, longest_directory};
 ghost use Rattle.vm_space.specs.Listed.{shown};
 ghost use Rattle.vm_file.specs.Ranges.{start_of, IsPlaced, IsClear};
 ghost use Rattle.vm_file.specs.Sound.{IsSound, IsFormed, disk_of};
 ghost use Rattle.vm_file.specs.Documents.{entries_of, IsStored, document_in};
-ghost use Rattle.vm_file.specs.Opened.{Looks, IsReadRefusal, IsDirectoryPlace};
-ghost use Rattle.vm_file.specs.Slots.{block_extents, kept_extents};
-ghost use Rattle.vm_file.specs.Disk.{Passes};
+ghost use Rattle.vm_file.specs.Opened.{OnlyReadsStore, IsReadRefusal, IsDirectoryPlace};
+ghost use Rattle.vm_file.specs.Slots.{block_extents, referenced_extents};
+ghost use Rattle.vm_file.specs.Disk.{KeepsCommitted};
 ghost use Rattle.vm_file.specs.PendingDirectories.{IsPendingDirectory};
-ghost use Rattle.vm_file.specs.FreeSpace.{IsKnown};
+ghost use Rattle.vm_file.specs.FreeSpace.{IsSpaceOf};
 
 use crate::extent::{read_extent, write_extent};
 use crate::placing::known_space;
 use crate::slot::Slots;
-use crate::table::{DocumentRef, Place, Table, copy_table};
+use crate::table::{BlockTable, DocumentRef, Place, copy_table};
 use geos_model::{Attributes, Entry, Extent, Fault, VmHandle};
 use std::alloc::{AllocError, Global};
 use vm_space::{Directory, FreeSpace, LONGEST_DIRECTORY, is_in_file, read_dir, write_dir};
@@ -45,7 +45,7 @@ pub fn read_directory<S: Store>(
     // Asked of the caller.
     requires { IsTrue (S.facts store.old).honest → file_length ≡ length (S.facts store.old).content }
     // The store.
-    ensures looks { Looks (S.facts store.old) (S.facts store.new) }
+    ensures looks { OnlyReadsStore (S.facts store.old) (S.facts store.new) }
     // The directory.
     ensures formed { IfOk result (λ d. is_directory version file_length (shown d) ≡ true) }
     ensures place { IfOk result (λ d. IsDirectoryPlace version file_length extent) }
@@ -54,7 +54,7 @@ pub fn read_directory<S: Store>(
     // Refusals.
     ensures damaged { IsErrOf result Fault.Damaged → IsTrue (S.facts store.old).honest
         → directory_of version (S.facts store.old).content extent ≡ None }
-    ensures file { IsErrOf result Fault.File → Raised (S.facts store.old) (S.facts store.new) }
+    ensures file { IsErrOf result Fault.File → FailedSince (S.facts store.old) (S.facts store.new) }
     ensures refusals { IfErr result IsReadRefusal }
 {
     if !can_have_directory(extent, version, file_length) {
@@ -100,7 +100,7 @@ pub struct PendingDirectory {
 // A place for a directory of so many bytes. The free space isn't needed any more: the commit changes what is taken.
 fn place_directory(
     alloc: Global,
-    live: &Table,
+    live: &BlockTable,
     slots: &Slots,
     space: Option<FreeSpace>,
     len: u32,
@@ -109,13 +109,13 @@ fn place_directory(
     requires formed { IsFormed live.now slots.now }
     requires some { 1 ≤ len }
     requires short { len ≤ longest_directory }
-    requires known { IsKnown (block_extents live.now.places.items ++ kept_extents slots.now) space }
+    requires known { IsSpaceOf (block_extents live.now.places.items ++ referenced_extents slots.now) space }
     // The place.
     ensures size { IfOk result (λ extent. extent.length ≡ len) }
     ensures placed { IfOk result IsPlaced }
     ensures clear { IfOk result
         (λ extent. IsClear (start_of extent) extent.length
-        (block_extents live.now.places.items ++ kept_extents slots.now)) }
+        (block_extents live.now.places.items ++ referenced_extents slots.now)) }
 {
     let mut space = known_space(alloc, &live.places, slots, space)?;
     space.take(len)
@@ -124,12 +124,12 @@ fn place_directory(
 /// The directory of the live table. It takes all the memory that writing it needs.
 pub fn pending_directory_of(
     alloc: Global,
-    live: &Table,
+    live: &BlockTable,
     slots: &Slots,
     space: Option<FreeSpace>,
 ) -> Result<PendingDirectory, AllocError>
     requires formed { IsFormed live.now slots.now }
-    requires known { IsKnown (block_extents live.now.places.items ++ kept_extents slots.now) space }
+    requires known { IsSpaceOf (block_extents live.now.places.items ++ referenced_extents slots.now) space }
     ensures { IfOk result (λ pending. IsPendingDirectory live.now slots.now pending) }
 {
     let entries = entries_of(alloc, &live.places)?;
@@ -146,14 +146,15 @@ pub fn pending_directory_of(
 pub fn write_pending<S: Store>(
     store: &mut S,
     slots: &Slots,
-    live: &Table,
+    live: &BlockTable,
     pending: &PendingDirectory,
 ) -> Result<(), Fault>
     // Asked of the caller.
     requires sound { IsSound (S.facts store.old) live.now slots.now }
     requires pending { IsPendingDirectory live.now slots.now pending.now }
     // The file.
-    ensures passes { Passes S.facts (disk_of S.facts store.old slots.now) (disk_of S.facts store.new slots.now) }
+    ensures passes { KeepsCommitted S.facts (disk_of S.facts store.old slots.now)
+        (disk_of S.facts store.new slots.now) }
     ensures sound { IsSound (S.facts store.new) live.now slots.now }
     ensures same { IsTrue (S.facts store.old).honest
         → document_in (S.facts store.new).content live.now ≡ document_in (S.facts store.old).content live.now }
@@ -161,7 +162,7 @@ pub fn write_pending<S: Store>(
     ensures written { OnOk result (IsTrue (S.facts store.old).honest
         → IsStored 2 (S.facts store.new).content pending.now.document) }
     // Refusals.
-    ensures file { IsErrOf result Fault.File → Raised (S.facts store.old) (S.facts store.new) }
+    ensures file { IsErrOf result Fault.File → FailedSince (S.facts store.old) (S.facts store.new) }
     ensures refusals { IfErr result (λ fault. fault ≡ Fault.File) }
 {
     let _ = live;

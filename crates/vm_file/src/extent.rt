@@ -1,9 +1,9 @@
 //! Reading and writing the bytes of an extent.
 ghost use Rattle.std.specs.Prelude.{◌≡◌, ◌<◌, ◌≤◌, ℕ, List, IsTrue, OnOk, IfOk, IfErr, IsErrOf, Ok, Err, length, ◌*◌};
-ghost use Rattle.vm_store.specs.Facts.{Holds, Raised, Rests, Torn, Counts};
+ghost use Rattle.vm_store.specs.Facts.{Holds, FailedSince, IsUnchanged, Torn, Counts};
 ghost use Rattle.vm_file.specs.Ranges.{start_of, IsClear};
-ghost use Rattle.vm_file.specs.Calls.{IsSupply};
-ghost use Rattle.vm_file.specs.Slots.{kept_extents, AreKept, Leaves, Outlives};
+ghost use Rattle.vm_file.specs.Calls.{IsResourceFault};
+ghost use Rattle.vm_file.specs.Slots.{referenced_extents, AreExtentsPlaced, CrashLeavesSlots, Outlives};
 
 use crate::slot::Slots;
 use geos_model::{Extent, Fault, PAGE};
@@ -22,14 +22,14 @@ pub fn read_extent<S: Store>(alloc: Global, store: &mut S, extent: Extent) -> Re
     // The store.
     ensures honest { (S.facts store.new).honest ≡ (S.facts store.old).honest }
     ensures failures { (S.facts store.old).failures ≤ (S.facts store.new).failures }
-    ensures rests { IsTrue (S.facts store.old).honest → Rests (S.facts store.old) (S.facts store.new) }
+    ensures unchanged { IsTrue (S.facts store.old).honest → IsUnchanged (S.facts store.old) (S.facts store.new) }
     // The bytes.
     ensures size { IfOk result (λ bytes. length bytes.items ≡ extent.length) }
     ensures bytes { IfOk result (λ bytes. IsTrue (S.facts store.old).honest
         → Holds (S.facts store.old).content (start_of extent) bytes.items) }
     // Refusals.
-    ensures file { IsErrOf result Fault.File → Raised (S.facts store.old) (S.facts store.new) }
-    ensures refusals { IfErr result IsSupply }
+    ensures file { IsErrOf result Fault.File → FailedSince (S.facts store.old) (S.facts store.new) }
+    ensures refusals { IfErr result IsResourceFault }
 {
     let mut bytes = vec![in alloc; 0; extent.length as usize]?;
     match store.read_at(start_of(extent), &mut bytes) {
@@ -50,18 +50,20 @@ pub fn write_extent<S: Store>(
     requires size { length bytes.now ≡ extent.length }
     requires some { 1 ≤ extent.length }
     requires behind { 2 ≤ extent.page }
-    requires clear { IsClear (start_of extent) extent.length (kept_extents slots.now) }
-    requires kept { AreKept slots.now }
+    requires clear { IsClear (start_of extent) extent.length (referenced_extents slots.now) }
+    requires kept { AreExtentsPlaced slots.now }
     // The store.
     ensures honest { (S.facts store.new).honest ≡ (S.facts store.old).honest }
     ensures failures { Counts result (S.facts store.old) (S.facts store.new) }
     // Crashes.
     ensures elsewhere { IsTrue (S.facts store.old).honest
         → Torn (start_of extent) extent.length (S.facts store.old).content (S.facts store.new).content }
-    ensures crash { (file : List ℕ) → IsTrue (S.facts store.old).honest → Leaves (S.facts store.old) slots.now file
+    ensures crash { (file : List ℕ) → IsTrue (S.facts store.old).honest
+        → CrashLeavesSlots (S.facts store.old) slots.now file
         → Outlives (S.facts store.old) (S.facts store.new) file (λ s. s ≡ slots.now) }
-    ensures leaves { (file : List ℕ) → IsTrue (S.facts store.old).honest → Leaves (S.facts store.old) slots.now file
-        → Leaves (S.facts store.new) slots.now file }
+    ensures leaves { (file : List ℕ) → IsTrue (S.facts store.old).honest
+        → CrashLeavesSlots (S.facts store.old) slots.now file
+        → CrashLeavesSlots (S.facts store.new) slots.now file }
     // The bytes.
     ensures written { OnOk result (IsTrue (S.facts store.old).honest
         → Holds (S.facts store.new).content (start_of extent) bytes.now) }

@@ -2,16 +2,16 @@
 ghost use Rattle.std.specs.Prelude.{if◌then◌else◌, ◌≡◌, ◌≢◌, ◌⊎◌, ◌↔◌, ◌≤◌, ◌<◌, ◌+◌, ℕ, List, [], ◌∷◌, All, IsTrue, IfOk, IfErr, IfSome, OnOk, OnErr, IsErrOf, IsOk, MatchResult, Ok, Err, None, Some, true, false, is_some, length, map};
 ghost use Rattle.std.specs.Option.{option_map};
 ghost use Rattle.std.specs.FinMap.{get, keys};
-ghost use Rattle.vm_store.specs.Facts.{Raised, Rests};
+ghost use Rattle.vm_store.specs.Facts.{FailedSince, IsUnchanged};
 ghost use Rattle.geos_model.specs.Document.{empty_document, is_live, is_vm_handle, next_handle, most_blocks, attributes_of, with_attributes, block_at, is_heap, IsTyped};
 ghost use Rattle.geos_model.specs.Image.{image};
 ghost use Rattle.geos_model.specs.Reply.{found};
 ghost use Rattle.geos_model.specs.File.{bytes_in, directory_text, open_slot, stands};
-ghost use Rattle.vm_file.specs.Disk.{FileState, ContentStands, Drifts, Passes, IsSettled, Numbered, unmarked};
-ghost use Rattle.vm_file.specs.Effects.{IsFile, IsNewFile, Follows, OnlyReads, KeepsFile, IsCommit, Fails, NoFault, IsWorn};
+ghost use Rattle.vm_file.specs.Disk.{FileState, ContentStands, SameUnlessCorrupt, KeepsCommitted, IsCrashConsistent, HasSequence, unmarked};
+ghost use Rattle.vm_file.specs.Effects.{IsFile, IsNewFile, SameStore, OnlyReads, LeavesDocument, IsCommit, Fails, NoFault, IsWorn};
 ghost use Rattle.vm_file.specs.Documents.{sequence_in, version_in};
 ghost use Rattle.vm_file.specs.Making.{first_directory, first_file, first_open, no_blocks};
-ghost use Rattle.vm_file.specs.Calls.{IsPut, put_all, remove_all, IsImageLength, IsSupply, IsOpenRefusal, last_sequence};
+ghost use Rattle.vm_file.specs.Calls.{IsPut, put_all, remove_all, IsImageLength, IsResourceFault, IsOpenRefusal, last_sequence};
 
 use crate::commit::{commit_pair, commit_pending, saved_beside};
 use crate::copying::copy_document;
@@ -22,7 +22,7 @@ use crate::member::Member;
 use crate::opening::open_slots;
 use crate::slot::Slots;
 use crate::table::{
-    Place, Table, both_of, change_places, copy_table, make_room, place_in, read_block,
+    BlockTable, Place, both_of, change_places, copy_table, make_room, place_in, read_block,
     set_attributes,
 };
 use crate::writing::write_puts;
@@ -39,7 +39,7 @@ use vm_store::Store;
 pub struct VmFile<S: Store> {
     alloc: Global,
     store: S,
-    live: Table,
+    live: BlockTable,
     slots: Slots,
     // What is free around all that lies in the file and stays, where it is known. The first image that is placed finds it
     // out, and a commit forgets it.
@@ -77,8 +77,8 @@ impl<S: Store> VmFile<S> {
     pub fn create(alloc: Global, store: S) -> Result<VmFile<S>, Refused<S>>
         // The store.
         ensures store { MatchResult result
-            (λ file. Follows S.facts store file.disk.store)
-            (λ refused. Follows S.facts store refused.store) }
+            (λ file. SameStore S.facts store file.disk.store)
+            (λ refused. SameStore S.facts store refused.store) }
         // The file.
         ensures made { IfOk result (λ file. (file.document ≡ empty_document)
             × IsNewFile S.facts empty_document file.disk) }
@@ -96,8 +96,8 @@ impl<S: Store> VmFile<S> {
         // Refusals.
         ensures early { IfErr result (λ refused. refused.fault ≢ Fault.File → refused.store ≡ store) }
         ensures file { IfErr result (λ refused. refused.fault ≡ Fault.File
-            → Raised (S.facts store) (S.facts refused.store)) }
-        ensures refusals { IfErr result (λ refused. IsSupply refused.fault) }
+            → FailedSince (S.facts store) (S.facts refused.store)) }
+        ensures refusals { IfErr result (λ refused. IsResourceFault refused.fault) }
     {
         let mut store = store;
         match make_empty(alloc, &mut store) {
@@ -118,27 +118,27 @@ impl<S: Store> VmFile<S> {
     pub fn open(alloc: Global, mut store: S) -> Result<VmFile<S>, Refused<S>>
         // The store.
         ensures store { MatchResult result
-            (λ file. Follows S.facts store file.disk.store)
-            (λ refused. Follows S.facts store refused.store) }
+            (λ file. SameStore S.facts store file.disk.store)
+            (λ refused. SameStore S.facts store refused.store) }
         // Nothing is written.
-        ensures rests { IsTrue (S.facts store).honest → MatchResult result
-            (λ file. Rests (S.facts store) (S.facts file.disk.store))
-            (λ refused. Rests (S.facts store) (S.facts refused.store)) }
+        ensures unchanged { IsTrue (S.facts store).honest → MatchResult result
+            (λ file. IsUnchanged (S.facts store) (S.facts file.disk.store))
+            (λ refused. IsUnchanged (S.facts store) (S.facts refused.store)) }
         // The file.
         ensures stands { IfOk result (λ file. IsTrue (S.facts store).honest
             → stands (S.facts store).content ≡ Ok (file.disk.updated, file.disk.saved)) }
-        ensures document { IfOk result (λ file. (file.document ≡ file.disk.updated) × (file.disk.attempted ≡ [])) }
+        ensures document { IfOk result (λ file. (file.document ≡ file.disk.updated) × (file.disk.in_doubt ≡ [])) }
         ensures numbered { IfOk result (λ file. IsTrue (S.facts store).honest
             → sequence_in (S.facts store).content ≡ Some file.disk.sequence) }
         ensures numbered_now { IfOk result (λ file. IsTrue (S.facts store).honest
-            → Numbered (S.facts file.disk.store) file.disk.sequence) }
-        ensures settled { IfOk result (λ file. IsSettled S.facts file.disk) }
+            → HasSequence (S.facts file.disk.store) file.disk.sequence) }
+        ensures crash_consistent { IfOk result (λ file. IsCrashConsistent S.facts file.disk) }
         ensures unmarked { IfOk result (λ file. file.disk.marked ≡ None) }
         // Refusals.
         ensures refused { IfErr result (λ refused. IsTrue (S.facts store).honest
-            → IsSupply refused.fault ⊎ (stands (S.facts store).content ≡ Err refused.fault)) }
+            → IsResourceFault refused.fault ⊎ (stands (S.facts store).content ≡ Err refused.fault)) }
         ensures file { IfErr result (λ refused. refused.fault ≡ Fault.File
-            → Raised (S.facts store) (S.facts refused.store)) }
+            → FailedSince (S.facts store) (S.facts refused.store)) }
         ensures refusals { IfErr result (λ refused. IsOpenRefusal refused.fault) }
     {
         match open_slots(alloc, &mut store) {
@@ -196,7 +196,7 @@ impl<S: Store> VmFile<S> {
     pub fn read_saved(&mut self, block: VmHandle) -> Result<Vec<u8>, Fault>
         requires { is_live self.old.disk.saved block.0 ≡ true }
         ensures reads { OnlyReads S.facts self.old self.new }
-        ensures saved { Drifts (S.facts self.old.disk.store).honest self.old.disk.saved self.new.disk.saved }
+        ensures saved { SameUnlessCorrupt (S.facts self.old.disk.store).honest self.old.disk.saved self.new.disk.saved }
         ensures image { IfOk result (λ bytes. IsTrue (S.facts self.old.disk.store).honest
             → bytes.items ≡ image (block_at self.old.disk.saved block.0).body) }
         ensures fails { Fails S.facts NoFault self.old.disk.store self.new.disk.store result }
@@ -279,8 +279,9 @@ impl<S: Store> VmFile<S> {
         requires removals { All (λ h. h.0 ≢ self.old.document.map_block) removals.now }
         // The document.
         ensures keeps { MatchResult result
-            (λ _. KeepsFile S.facts (remove_all removals.now (put_all puts.now self.old.document)) self.old self.new)
-            (λ _. KeepsFile S.facts self.old.document self.old self.new) }
+            (λ _. LeavesDocument S.facts
+            (remove_all removals.now (put_all puts.now self.old.document)) self.old self.new)
+            (λ _. LeavesDocument S.facts self.old.document self.old self.new) }
         // Refusals.
         ensures early { IfErr result (λ fault. fault ≢ Fault.File → self.new ≡ self.old) }
         ensures removals_alone { puts.now ≡ []
@@ -416,22 +417,22 @@ impl<S: Store> VmFile<S> {
         ensures reads { OnlyReads S.facts self.old self.new }
         // The target.
         ensures target { MatchResult result
-            (λ file. Follows S.facts target file.disk.store)
-            (λ refused. Follows S.facts target refused.store) }
+            (λ file. SameStore S.facts target file.disk.store)
+            (λ refused. SameStore S.facts target refused.store) }
         // The copy.
         ensures copied { IfOk result (λ file. IsTrue (S.facts self.old.disk.store).honest
             → IsTrue (S.facts target).honest → file.document ≡ self.old.document) }
-        ensures handles { IfOk result (λ file. Drifts false self.old.document file.document) }
+        ensures handles { IfOk result (λ file. SameUnlessCorrupt false self.old.document file.document) }
         ensures made { IfOk result (λ file. IsNewFile S.facts file.document file.disk) }
         ensures version { IfOk result (λ file. IsTrue (S.facts file.disk.store).honest
             → version_in (S.facts file.disk.store).content ≡ Some 2) }
         // Refusals.
         ensures file { IfErr result (λ refused. refused.fault ≡ Fault.File
-            → Raised (S.facts self.old.disk.store) (S.facts self.new.disk.store)
-            ⊎ Raised (S.facts target) (S.facts refused.store)) }
+            → FailedSince (S.facts self.old.disk.store) (S.facts self.new.disk.store)
+            ⊎ FailedSince (S.facts target) (S.facts refused.store)) }
         ensures damaged { IfErr result (λ refused. refused.fault ≡ Fault.Damaged
             → IsTrue (S.facts self.old.disk.store).honest → ⊥) }
-        ensures refusals { IfErr result (λ refused. IsSupply refused.fault ⊎ (refused.fault ≡ Fault.Damaged)) }
+        ensures refusals { IfErr result (λ refused. IsResourceFault refused.fault ⊎ (refused.fault ≡ Fault.Damaged)) }
     {
         let mut target = target;
         match copy_document(self.alloc, &mut self.store, &self.live, &mut target) {

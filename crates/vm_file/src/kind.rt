@@ -1,10 +1,10 @@
 //! Of which kind an image is: found out from its bytes, or known already.
 ghost use Rattle.std.specs.Prelude.{◌≡◌, ◌<◌, ◌==◌, ℕ, List, IsTrue, IfOk, IfErr, IfSome, IsErrOf, MatchOption, Some, None};
-ghost use Rattle.vm_store.specs.Facts.{Raised};
+ghost use Rattle.vm_store.specs.Facts.{FailedSince};
 ghost use Rattle.geos_model.specs.Image.{body_of};
 ghost use Rattle.geos_model.specs.File.{bytes_in};
 ghost use Rattle.vm_file.specs.Documents.{AreImaged};
-ghost use Rattle.vm_file.specs.Opened.{Looks, IsReadRefusal, IsImageOf};
+ghost use Rattle.vm_file.specs.Opened.{OnlyReadsStore, IsReadRefusal, IsImageOf};
 
 use crate::extent::read_extent;
 use crate::table::Place;
@@ -35,12 +35,12 @@ pub fn image_kind(bytes: &[u8]) -> Option<bool>
 
 /// Whether the image in an extent is that of a heap. Damaged, Memory, File.
 pub fn read_kind<S: Store>(alloc: Global, store: &mut S, extent: Extent) -> Result<bool, Fault>
-    ensures looks { Looks (S.facts store.old) (S.facts store.new) }
+    ensures looks { OnlyReadsStore (S.facts store.old) (S.facts store.new) }
     ensures imaged { IfOk result (λ is_heap. IsTrue (S.facts store.old).honest
         → IsImageOf is_heap (bytes_in (S.facts store.old).content extent)) }
     ensures damaged { IsErrOf result Fault.Damaged → IsTrue (S.facts store.old).honest
         → body_of (bytes_in (S.facts store.old).content extent) ≡ None }
-    ensures file { IsErrOf result Fault.File → Raised (S.facts store.old) (S.facts store.new) }
+    ensures file { IsErrOf result Fault.File → FailedSince (S.facts store.old) (S.facts store.new) }
     ensures refusals { IfErr result IsReadRefusal }
 {
     let bytes = read_extent(alloc, store, extent)?;

@@ -1,7 +1,7 @@
 //! Laws of what callers see, for the layers above.
 ghost use Rattle.std.specs.Prelude.{◌≡◌, [], IsTrue};
 ghost use Rattle.vm_file.specs.Crashes.{CrashLaw};
-ghost use Rattle.vm_file.specs.Disk.{Disk, IsSettled, ContentStands};
+ghost use Rattle.vm_file.specs.Disk.{Disk, IsCrashConsistent, ContentStands};
 ghost use Rattle.vm_file.specs.Making.{FirstFileLaw};
 ghost use Rattle.vm_file.specs.Passing.{PassingLaw};
 
@@ -22,7 +22,8 @@ pub fn passing_law<S: Store>()
 /// What an honest store has now stands for the updated and the saved document of the last acknowledged commit, where no pair of
 /// a commit that failed may be read.
 pub fn content_law<S: Store>()
-    ensures { (disk : Disk S) → IsSettled S.facts disk → (IsTrue (S.facts disk.store).honest → disk.attempted ≡ [])
+    ensures { (disk : Disk S) → IsCrashConsistent S.facts disk
+        → (IsTrue (S.facts disk.store).honest → disk.in_doubt ≡ [])
         → ContentStands S.facts disk }
 {}
 

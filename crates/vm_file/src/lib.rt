@@ -21,5 +21,5 @@ mod writing;
 pub use file::{Refused, VmFile};
 pub use image::Image;
 pub use law::{content_law, crash_law, first_file_law, passing_law};
-pub use member::{Member, SavedBlock};
+pub use member::{BlockImage, Member};
 pub use table::Place;

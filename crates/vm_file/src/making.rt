@@ -1,14 +1,14 @@
 //! The making of a file.
 ghost use Rattle.std.specs.Prelude.{◌≡◌, ◌≢◌, ◌≤◌, ℕ, List, [], ◌∷◌, IsTrue, OnOk, IfOk, IfErr, IsErrOf, length};
 ghost use Rattle.geos_model.specs.File.{slot_mark};
-ghost use Rattle.vm_store.specs.Facts.{IsDurable, Puts, Counts, Raised};
-ghost use Rattle.vm_file.specs.Calls.{IsSupply};
-ghost use Rattle.vm_file.specs.Making.{first_directory, first_slot, first_file, IsLaid, IsFirst};
+ghost use Rattle.vm_store.specs.Facts.{IsDurable, Puts, Counts, FailedSince};
+ghost use Rattle.vm_file.specs.Calls.{IsResourceFault};
+ghost use Rattle.vm_file.specs.Making.{first_directory, first_slot, first_file, IsLaid, IsNewSlots};
 ghost use Rattle.vm_file.specs.Sound.{IsSound};
 
 use crate::extent::start_of;
 use crate::slot::{Slots, SpareSlot, slot_bytes};
-use crate::table::{DocumentRef, Pair, Table, copy_table};
+use crate::table::{BlockTable, DocumentRef, Pair, copy_table};
 use geos_model::{Extent, Fault, PAGE, VERSION, VmHandle};
 use std::alloc::{AllocError, Global};
 use vm_space::{SLOT_MARK, write_dir};
@@ -17,25 +17,29 @@ use vm_store::{Store, StoreFault};
 /// What is known in memory of a file that was made.
 #[derive(Drop)]
 pub struct NewFile {
-    pub live: Table,
+    pub live: BlockTable,
     pub slots: Slots,
 }
 
 /// A table of no block. It takes no memory.
-fn empty_table(alloc: Global) -> Table
+fn empty_table(alloc: Global) -> BlockTable
     ensures map_block { result.map_block ≡ 0 }
     ensures places { result.places.items ≡ [] }
 {
-    Table {
+    BlockTable {
         map_block: 0,
         places: Vec::new(alloc),
     }
 }
 
 /// The slots of a file whose document is updated and saved, under the number 1.
-pub fn first_slots(alloc: Global, live: Table, directory: Extent) -> Result<NewFile, AllocError>
+pub fn first_slots(
+    alloc: Global,
+    live: BlockTable,
+    directory: Extent,
+) -> Result<NewFile, AllocError>
     ensures live { IfOk result (λ made. made.live ≡ live) }
-    ensures first { IfOk result (λ made. IsFirst directory live made.slots) }
+    ensures first { IfOk result (λ made. IsNewSlots directory live made.slots) }
 {
     let updated = copy_table(alloc, &live)?;
     let saved = copy_table(alloc, &live)?;
@@ -128,7 +132,7 @@ pub fn empty<S: Store>(store: &mut S) -> Result<(), Fault>
     ensures honest { (S.facts store.new).honest ≡ (S.facts store.old).honest }
     ensures failures { (S.facts store.old).failures ≤ (S.facts store.new).failures }
     ensures empty { OnOk result (IsTrue (S.facts store.old).honest → (S.facts store.new).content ≡ []) }
-    ensures file { IsErrOf result Fault.File → Raised (S.facts store.old) (S.facts store.new) }
+    ensures file { IsErrOf result Fault.File → FailedSince (S.facts store.old) (S.facts store.new) }
     ensures refusals { IfErr result (λ fault. fault ≡ Fault.File) }
 {
     match store.set_len(0) {
@@ -146,13 +150,13 @@ pub fn make_empty<S: Store>(alloc: Global, store: &mut S) -> Result<NewFile, Fau
     ensures sound { IfOk result (λ made. IsSound (S.facts store.new) made.live made.slots) }
     ensures map_block { IfOk result (λ made. made.live.map_block ≡ 0) }
     ensures places { IfOk result (λ made. made.live.places.items ≡ []) }
-    ensures first { IfOk result (λ made. IsFirst first_directory made.live made.slots) }
+    ensures first { IfOk result (λ made. IsNewSlots first_directory made.live made.slots) }
     ensures bytes { IfOk result (λ made. IsTrue (S.facts store.old).honest → (S.facts store.new).content ≡ first_file) }
     ensures size { IfOk result (λ made. IsTrue (S.facts store.old).honest → length (S.facts store.new).content ≡ 1040) }
     // Refusals.
     ensures early { IfErr result (λ fault. fault ≢ Fault.File → store.new ≡ store.old) }
-    ensures file { IsErrOf result Fault.File → Raised (S.facts store.old) (S.facts store.new) }
-    ensures refusals { IfErr result IsSupply }
+    ensures file { IsErrOf result Fault.File → FailedSince (S.facts store.old) (S.facts store.new) }
+    ensures refusals { IfErr result IsResourceFault }
 {
     let directory = Extent {
         page: 2,

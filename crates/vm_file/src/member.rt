@@ -12,7 +12,7 @@ use std::alloc::{AllocError, Global};
 
 /// A block as it was, one that a document can have, with its body as a file keeps it.
 #[derive(Drop)]
-pub struct SavedBlock {
+pub struct BlockImage {
     pub attributes: Attributes,
     pub image: Image,
     // The law of changes has it from here, since there a number has no range.
@@ -21,16 +21,16 @@ pub struct SavedBlock {
     ghost typed: { IsTyped (is_heap_body image) attributes },
 }
 
-impl SavedBlock {
-    ghost use Rattle.vm_file.specs.Members.{saved_block};
+impl BlockImage {
+    ghost use Rattle.vm_file.specs.Members.{imaged_block};
 
     /// A block with this body. Only a heap has a type.
-    pub fn new(attributes: Attributes, image: Image) -> SavedBlock
+    pub fn new(attributes: Attributes, image: Image) -> BlockImage
         requires { IsTyped (is_heap_body image) attributes }
-        ensures { saved_block result ≡ record { attributes = attributes; body = image } }
+        ensures { imaged_block result ≡ record { attributes = attributes; body = image } }
     {
         image.validity();
-        SavedBlock { attributes, image }
+        BlockImage { attributes, image }
     }
 
     /// A raw block of so many zeros. It has no type.
@@ -38,36 +38,36 @@ impl SavedBlock {
         alloc: Global,
         attributes: Attributes,
         size: usize,
-    ) -> Result<SavedBlock, AllocError>
+    ) -> Result<BlockImage, AllocError>
         requires size { size ≤ capacity }
         requires typed { attributes.heap_type ≡ 0 }
         ensures { IfOk result
-            (λ saved. saved_block saved ≡ record { attributes = attributes; body = bodies.Raw (replicate size 0) }) }
+            (λ saved. imaged_block saved ≡ record { attributes = attributes; body = bodies.Raw (replicate size 0) }) }
     {
-        Ok(SavedBlock::new(attributes, Image::zeros(alloc, size)?))
+        Ok(BlockImage::new(attributes, Image::zeros(alloc, size)?))
     }
 
     /// A raw block of these bytes. It has no type.
-    pub fn raw(attributes: Attributes, bytes: Vec<u8>) -> Result<SavedBlock, AllocError>
+    pub fn raw(attributes: Attributes, bytes: Vec<u8>) -> Result<BlockImage, AllocError>
         requires size { length bytes.items ≤ capacity }
         requires typed { attributes.heap_type ≡ 0 }
         ensures { IfOk result
-            (λ saved. saved_block saved ≡ record { attributes = attributes; body = bodies.Raw bytes.items }) }
+            (λ saved. imaged_block saved ≡ record { attributes = attributes; body = bodies.Raw bytes.items }) }
     {
-        Ok(SavedBlock::new(attributes, Image::from_raw(bytes)?))
+        Ok(BlockImage::new(attributes, Image::from_raw(bytes)?))
     }
 
     /// A block with an empty heap.
-    pub fn empty_heap(alloc: Global, attributes: Attributes) -> Result<SavedBlock, AllocError>
+    pub fn empty_heap(alloc: Global, attributes: Attributes) -> Result<BlockImage, AllocError>
         ensures { IfOk result
-            (λ saved. saved_block saved ≡ record { attributes = attributes; body = bodies.Heap empty }) }
+            (λ saved. imaged_block saved ≡ record { attributes = attributes; body = bodies.Heap empty }) }
     {
-        Ok(SavedBlock::new(attributes, Image::empty_heap(alloc)?))
+        Ok(BlockImage::new(attributes, Image::empty_heap(alloc)?))
     }
 
     /// How many bytes it holds: those of the image.
     pub fn byte_count(&self) -> usize
-        ensures value { result ≡ length (image (saved_block self.now).body) }
+        ensures value { result ≡ length (image (imaged_block self.now).body) }
         ensures small { result ≤ capacity + 1 }
     {
         self.image.as_slice().len()
@@ -78,5 +78,5 @@ impl SavedBlock {
 #[derive(Drop)]
 pub struct Member {
     pub handle: VmHandle,
-    pub block: SavedBlock,
+    pub block: BlockImage,
 }

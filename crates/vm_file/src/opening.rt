@@ -1,17 +1,17 @@
 //! The opening of a file that a crash may have left. Nothing is written.
 ghost use Rattle.std.specs.Prelude.{◌≡◌, ◌⊎◌, ◌<◌, ◌≤◌, ◌==◌, ℕ, All, IsTrue, OnOk, IfOk, IfErr, IsErrOf, Some, None, Ok, Err, length, get_or, true};
-ghost use Rattle.vm_store.specs.Facts.{IsDurable, Raised};
+ghost use Rattle.vm_store.specs.Facts.{IsDurable, FailedSince};
 ghost use Rattle.geos_model.specs.Document.{IsTyped};
-ghost use Rattle.geos_model.specs.File.{is_rising, block_of, blocks_of, document_at, both, stands, longest_image};
+ghost use Rattle.geos_model.specs.File.{is_rising, block_of, blocks_of_entries, document_at, both, stands, longest_image};
 ghost use Rattle.vm_file.specs.Sound.{ArePlaces, IsSound};
-ghost use Rattle.vm_file.specs.Calls.{IsSupply, IsOpenRefusal};
+ghost use Rattle.vm_file.specs.Calls.{IsResourceFault, IsOpenRefusal};
 ghost use Rattle.vm_file.specs.Documents.{documents_in, sequence_in, entries_of, IsImaged, AreImaged, IsStored, AreStored};
-ghost use Rattle.vm_file.specs.Opened.{Looks, IsReadRefusal, IsRead, AreRead, IsReadSlots, IsReadWhole};
+ghost use Rattle.vm_file.specs.Opened.{OnlyReadsStore, IsReadRefusal, IsReadDocument, AreReadDocuments, IsReadSlots, IsReadWhole};
 
 use crate::directory::read_directory;
 use crate::kind::{known_kind, read_kind};
 use crate::slot::{Slots, SpareSlot, check_slot, find_slot};
-use crate::table::{DocumentRef, Pair, Place, Table, copy_table};
+use crate::table::{BlockTable, DocumentRef, Pair, Place, copy_table};
 use geos_model::{Entry, Extent, Fault, Slot};
 use std::alloc::{AllocError, Global};
 use vm_space::MOST_ENTRIES;
@@ -27,7 +27,7 @@ fn read_place<S: Store>(
     // Asked of the caller.
     requires { IsTrue (S.facts store.old).honest → AreImaged (S.facts store.old).content known.now }
     // The store.
-    ensures looks { Looks (S.facts store.old) (S.facts store.new) }
+    ensures looks { OnlyReadsStore (S.facts store.old) (S.facts store.new) }
     // The place.
     ensures place { IfOk result (λ place. (place.attributes ≡ entry.attributes) × (place.extent ≡ entry.extent)) }
     ensures typed { IfOk result (λ place. IsTyped place.is_heap place.attributes) }
@@ -36,7 +36,7 @@ fn read_place<S: Store>(
     // Refusals.
     ensures damaged { IsErrOf result Fault.Damaged → IsTrue (S.facts store.old).honest
         → block_of (S.facts store.old).content entry ≡ None }
-    ensures file { IsErrOf result Fault.File → Raised (S.facts store.old) (S.facts store.new) }
+    ensures file { IsErrOf result Fault.File → FailedSince (S.facts store.old) (S.facts store.new) }
     ensures refusals { IfErr result IsReadRefusal }
 {
     let index = usize::from(entry.handle.0).saturating_sub(1);
@@ -88,7 +88,7 @@ fn read_places<S: Store>(
     requires short { All (λ e. e.extent.length ≤ longest_image) entries.now }
     requires known { IsTrue (S.facts store.old).honest → AreImaged (S.facts store.old).content known.now }
     // The store.
-    ensures looks { Looks (S.facts store.old) (S.facts store.new) }
+    ensures looks { OnlyReadsStore (S.facts store.old) (S.facts store.new) }
     // The places.
     ensures size { IfOk result (λ places. length places.items ≤ MOST_ENTRIES) }
     ensures entries { IfOk result (λ places. entries_of 1 places.items ≡ entries.now) }
@@ -97,8 +97,8 @@ fn read_places<S: Store>(
         → AreImaged (S.facts store.old).content places.items) }
     // Refusals.
     ensures damaged { IsErrOf result Fault.Damaged → IsTrue (S.facts store.old).honest
-        → blocks_of (S.facts store.old).content entries.now ≡ None }
-    ensures file { IsErrOf result Fault.File → Raised (S.facts store.old) (S.facts store.new) }
+        → blocks_of_entries (S.facts store.old).content entries.now ≡ None }
+    ensures file { IsErrOf result Fault.File → FailedSince (S.facts store.old) (S.facts store.new) }
     ensures refusals { IfErr result IsReadRefusal }
 {
     let mut places = no_places(alloc, places_needed(entries))?;
@@ -122,23 +122,23 @@ fn read_document<S: Store>(
     requires length { IsTrue (S.facts store.old).honest → file_length ≡ length (S.facts store.old).content }
     requires known { IsTrue (S.facts store.old).honest → AreImaged (S.facts store.old).content known.now }
     // The store.
-    ensures looks { Looks (S.facts store.old) (S.facts store.new) }
+    ensures looks { OnlyReadsStore (S.facts store.old) (S.facts store.new) }
     // The document.
     ensures directory { IfOk result (λ stored. stored.directory ≡ extent) }
-    ensures formed { IfOk result (λ stored. IsRead file_length stored) }
+    ensures formed { IfOk result (λ stored. IsReadDocument file_length stored) }
     ensures stored { IfOk result (λ stored. IsTrue (S.facts store.old).honest
         → IsStored version (S.facts store.old).content stored) }
     // Refusals.
     ensures damaged { IsErrOf result Fault.Damaged → IsTrue (S.facts store.old).honest
         → document_at version (S.facts store.old).content extent ≡ None }
-    ensures file { IsErrOf result Fault.File → Raised (S.facts store.old) (S.facts store.new) }
+    ensures file { IsErrOf result Fault.File → FailedSince (S.facts store.old) (S.facts store.new) }
     ensures refusals { IfErr result IsReadRefusal }
 {
     let directory = read_directory(alloc, store, version, file_length, extent)?;
     let places = read_places(alloc, store, &directory.entries, known)?;
     Ok(DocumentRef {
         directory: extent,
-        table: Table {
+        table: BlockTable {
             map_block: directory.map_block.0,
             places,
         },
@@ -156,19 +156,19 @@ fn read_saved<S: Store>(
 ) -> Result<DocumentRef, Fault>
     // Asked of the caller.
     requires length { IsTrue (S.facts store.old).honest → file_length ≡ length (S.facts store.old).content }
-    requires formed { IsRead file_length updated.now }
+    requires formed { IsReadDocument file_length updated.now }
     requires stored { IsTrue (S.facts store.old).honest → IsStored version (S.facts store.old).content updated.now }
     // The store.
-    ensures looks { Looks (S.facts store.old) (S.facts store.new) }
+    ensures looks { OnlyReadsStore (S.facts store.old) (S.facts store.new) }
     // The document.
     ensures directory { IfOk result (λ stored. stored.directory ≡ extent) }
-    ensures formed { IfOk result (λ stored. IsRead file_length stored) }
+    ensures formed { IfOk result (λ stored. IsReadDocument file_length stored) }
     ensures stored { IfOk result (λ stored. IsTrue (S.facts store.old).honest
         → IsStored version (S.facts store.old).content stored) }
     // Refusals.
     ensures damaged { IsErrOf result Fault.Damaged → IsTrue (S.facts store.old).honest
         → document_at version (S.facts store.old).content extent ≡ None }
-    ensures file { IsErrOf result Fault.File → Raised (S.facts store.old) (S.facts store.new) }
+    ensures file { IsErrOf result Fault.File → FailedSince (S.facts store.old) (S.facts store.new) }
     ensures refusals { IfErr result IsReadRefusal }
 {
     if updated.directory == extent {
@@ -198,11 +198,11 @@ fn read_pair<S: Store>(
     // Asked of the caller.
     requires { IsTrue (S.facts store.old).honest → file_length ≡ length (S.facts store.old).content }
     // The store.
-    ensures looks { Looks (S.facts store.old) (S.facts store.new) }
+    ensures looks { OnlyReadsStore (S.facts store.old) (S.facts store.new) }
     // The documents.
     ensures directories { IfOk result (λ pair. (pair.updated.directory ≡ slot.working)
         × (pair.saved.directory ≡ slot.saved)) }
-    ensures formed { IfOk result (λ pair. AreRead file_length pair) }
+    ensures formed { IfOk result (λ pair. AreReadDocuments file_length pair) }
     ensures stored { IfOk result (λ pair. IsTrue (S.facts store.old).honest
         → AreStored slot.version (S.facts store.old).content pair) }
     // Refusals.
@@ -210,7 +210,7 @@ fn read_pair<S: Store>(
         → both (document_at slot.version (S.facts store.old).content slot.working)
         (document_at slot.version (S.facts store.old).content slot.saved)
         ≡ Err Fault.Damaged }
-    ensures file { IsErrOf result Fault.File → Raised (S.facts store.old) (S.facts store.new) }
+    ensures file { IsErrOf result Fault.File → FailedSince (S.facts store.old) (S.facts store.new) }
     ensures refusals { IfErr result IsReadRefusal }
 {
     let version = slot.version;
@@ -221,9 +221,9 @@ fn read_pair<S: Store>(
 
 /// How many bytes there are. File.
 fn read_length<S: Store>(store: &mut S) -> Result<u64, Fault>
-    ensures looks { Looks (S.facts store.old) (S.facts store.new) }
+    ensures looks { OnlyReadsStore (S.facts store.old) (S.facts store.new) }
     ensures length { IfOk result (λ n. IsTrue (S.facts store.old).honest → n ≡ length (S.facts store.old).content) }
-    ensures file { IsErrOf result Fault.File → Raised (S.facts store.old) (S.facts store.new) }
+    ensures file { IsErrOf result Fault.File → FailedSince (S.facts store.old) (S.facts store.new) }
     ensures refusals { IfErr result (λ fault. fault ≡ Fault.File) }
 {
     match store.len() {
@@ -234,13 +234,13 @@ fn read_length<S: Store>(store: &mut S) -> Result<u64, Fault>
 
 /// Reads what the store has. NotDocument, Damaged, Memory, File.
 fn read_slots<S: Store>(alloc: Global, store: &mut S) -> Result<Slots, Fault>
-    ensures looks { Looks (S.facts store.old) (S.facts store.new) }
+    ensures looks { OnlyReadsStore (S.facts store.old) (S.facts store.new) }
     ensures formed { IfOk result (λ slots. IsReadSlots slots) }
     ensures whole { IfOk result (λ slots. IsTrue (S.facts store.old).honest
         → IsReadWhole (S.facts store.old).content slots) }
     ensures refused { IfErr result (λ fault. IsTrue (S.facts store.old).honest
-        → IsSupply fault ⊎ (stands (S.facts store.old).content ≡ Err fault)) }
-    ensures file { IsErrOf result Fault.File → Raised (S.facts store.old) (S.facts store.new) }
+        → IsResourceFault fault ⊎ (stands (S.facts store.old).content ≡ Err fault)) }
+    ensures file { IsErrOf result Fault.File → FailedSince (S.facts store.old) (S.facts store.new) }
     ensures refusals { IfErr result IsOpenRefusal }
 {
     let file_length = read_length(store)?;
@@ -260,9 +260,9 @@ fn read_slots<S: Store>(alloc: Global, store: &mut S) -> Result<Slots, Fault>
 
 /// Syncs the store. File.
 fn sync<S: Store>(store: &mut S) -> Result<(), Fault>
-    ensures looks { Looks (S.facts store.old) (S.facts store.new) }
+    ensures looks { OnlyReadsStore (S.facts store.old) (S.facts store.new) }
     ensures durable { OnOk result (IsTrue (S.facts store.new).honest → IsDurable (S.facts store.new)) }
-    ensures file { IsErrOf result Fault.File → Raised (S.facts store.old) (S.facts store.new) }
+    ensures file { IsErrOf result Fault.File → FailedSince (S.facts store.old) (S.facts store.new) }
     ensures refusals { IfErr result (λ fault. fault ≡ Fault.File) }
 {
     match store.sync() {
@@ -272,9 +272,9 @@ fn sync<S: Store>(store: &mut S) -> Result<(), Fault>
 }
 
 /// Reads what the store has, and syncs it: what was read is on the disk from then on. NotDocument, Damaged, Memory, File.
-pub fn open_slots<S: Store>(alloc: Global, store: &mut S) -> Result<(Slots, Table), Fault>
+pub fn open_slots<S: Store>(alloc: Global, store: &mut S) -> Result<(Slots, BlockTable), Fault>
     // The store.
-    ensures looks { Looks (S.facts store.old) (S.facts store.new) }
+    ensures looks { OnlyReadsStore (S.facts store.old) (S.facts store.new) }
     // What is read.
     ensures sound { IfOk result (λ p. IsSound (S.facts store.new) p.1 p.0) }
     ensures live { IfOk result (λ p. (p.1.map_block ≡ p.0.committed.updated.table.map_block)
@@ -287,8 +287,8 @@ pub fn open_slots<S: Store>(alloc: Global, store: &mut S) -> Result<(Slots, Tabl
         → sequence_in (S.facts store.old).content ≡ Some p.0.sequence) }
     // Refusals.
     ensures refused { IfErr result (λ fault. IsTrue (S.facts store.old).honest
-        → IsSupply fault ⊎ (stands (S.facts store.old).content ≡ Err fault)) }
-    ensures file { IsErrOf result Fault.File → Raised (S.facts store.old) (S.facts store.new) }
+        → IsResourceFault fault ⊎ (stands (S.facts store.old).content ≡ Err fault)) }
+    ensures file { IsErrOf result Fault.File → FailedSince (S.facts store.old) (S.facts store.new) }
     ensures refusals { IfErr result IsOpenRefusal }
 {
     let slots = read_slots(alloc, store)?;

@@ -3,13 +3,13 @@ ghost use Rattle.std.specs.Prelude.{◌≡◌, ◌++◌, ◌+◌, ◌≤◌, Lis
 ghost use Rattle.geos_model.specs.declared.file.Extent.{Extent};
 ghost use Rattle.vm_space.specs.Space.{AreTaken};
 ghost use Rattle.vm_file.specs.Ranges.{IsPlaced};
-ghost use Rattle.vm_file.specs.Slots.{block_extents, stored_extents, pair_extents, prepared_extents, marked_extents, kept_extents};
-ghost use Rattle.vm_file.specs.FreeSpace.{IsKnown, Takes};
+ghost use Rattle.vm_file.specs.Slots.{block_extents, stored_extents, pair_extents, prepared_extents, marked_extents, referenced_extents};
+ghost use Rattle.vm_file.specs.FreeSpace.{IsSpaceOf, MarksTaken};
 ghost use Rattle.vm_file.specs.Writing.{AreFor};
 
 use crate::member::Member;
 use crate::slot::{Slots, SpareSlot};
-use crate::table::{DocumentRef, Pair, Place, Table};
+use crate::table::{BlockTable, DocumentRef, Pair, Place};
 use geos_model::Extent;
 use std::alloc::{AllocError, Global};
 use vm_space::{FreeSpace, MOST_EXTENTS};
@@ -17,7 +17,7 @@ use vm_space::{FreeSpace, MOST_EXTENTS};
 fn hold_blocks(space: &mut FreeSpace, places: &[Option<Place>]) -> Result<(), AllocError>
     requires few { space.old.count + length (block_extents places.now) ≤ MOST_EXTENTS }
     requires placed { All IsPlaced (block_extents places.now) }
-    ensures { OnOk result (Takes (block_extents places.now) space.old space.new) }
+    ensures { OnOk result (MarksTaken (block_extents places.now) space.old space.new) }
 {
     for place in places {
         if let Some(place) = place {
@@ -30,7 +30,7 @@ fn hold_blocks(space: &mut FreeSpace, places: &[Option<Place>]) -> Result<(), Al
 fn hold_document(space: &mut FreeSpace, stored: &DocumentRef) -> Result<(), AllocError>
     requires few { space.old.count + length (stored_extents stored.now) ≤ MOST_EXTENTS }
     requires placed { All IsPlaced (stored_extents stored.now) }
-    ensures { OnOk result (Takes (stored_extents stored.now) space.old space.new) }
+    ensures { OnOk result (MarksTaken (stored_extents stored.now) space.old space.new) }
 {
     hold_blocks(space, &stored.table.places)?;
     space.hold(stored.directory)
@@ -39,7 +39,7 @@ fn hold_document(space: &mut FreeSpace, stored: &DocumentRef) -> Result<(), Allo
 fn hold_pair(space: &mut FreeSpace, pair: &Pair) -> Result<(), AllocError>
     requires few { space.old.count + length (pair_extents pair.now) ≤ MOST_EXTENTS }
     requires placed { All IsPlaced (pair_extents pair.now) }
-    ensures { OnOk result (Takes (pair_extents pair.now) space.old space.new) }
+    ensures { OnOk result (MarksTaken (pair_extents pair.now) space.old space.new) }
 {
     hold_document(space, &pair.saved)?;
     hold_document(space, &pair.updated)
@@ -48,7 +48,7 @@ fn hold_pair(space: &mut FreeSpace, pair: &Pair) -> Result<(), AllocError>
 fn hold_spare(space: &mut FreeSpace, spare: &SpareSlot) -> Result<(), AllocError>
     requires few { space.old.count + length (prepared_extents spare.now) ≤ MOST_EXTENTS }
     requires placed { All IsPlaced (prepared_extents spare.now) }
-    ensures { OnOk result (Takes (prepared_extents spare.now) space.old space.new) }
+    ensures { OnOk result (MarksTaken (prepared_extents spare.now) space.old space.new) }
 {
     match spare {
         SpareSlot::Prepared(pair) => hold_pair(space, pair),
@@ -56,10 +56,10 @@ fn hold_spare(space: &mut FreeSpace, spare: &SpareSlot) -> Result<(), AllocError
     }
 }
 
-fn hold_marked(space: &mut FreeSpace, marked: &Option<Table>) -> Result<(), AllocError>
+fn hold_marked(space: &mut FreeSpace, marked: &Option<BlockTable>) -> Result<(), AllocError>
     requires few { space.old.count + length (marked_extents marked.now) ≤ MOST_EXTENTS }
     requires placed { All IsPlaced (marked_extents marked.now) }
-    ensures { OnOk result (Takes (marked_extents marked.now) space.old space.new) }
+    ensures { OnOk result (MarksTaken (marked_extents marked.now) space.old space.new) }
 {
     match marked {
         Some(table) => hold_blocks(space, &table.places),
@@ -68,9 +68,9 @@ fn hold_marked(space: &mut FreeSpace, marked: &Option<Table>) -> Result<(), Allo
 }
 
 fn hold_kept(space: &mut FreeSpace, slots: &Slots) -> Result<(), AllocError>
-    requires few { space.old.count + length (kept_extents slots.now) ≤ MOST_EXTENTS }
-    requires placed { All IsPlaced (kept_extents slots.now) }
-    ensures { OnOk result (Takes (kept_extents slots.now) space.old space.new) }
+    requires few { space.old.count + length (referenced_extents slots.now) ≤ MOST_EXTENTS }
+    requires placed { All IsPlaced (referenced_extents slots.now) }
+    ensures { OnOk result (MarksTaken (referenced_extents slots.now) space.old space.new) }
 {
     hold_marked(space, &slots.marked)?;
     hold_spare(space, &slots.spare)?;
@@ -83,10 +83,10 @@ fn space_around(
     live: &[Option<Place>],
     slots: &Slots,
 ) -> Result<FreeSpace, AllocError>
-    requires few { length (block_extents live.now ++ kept_extents slots.now) ≤ MOST_EXTENTS }
+    requires few { length (block_extents live.now ++ referenced_extents slots.now) ≤ MOST_EXTENTS }
     requires live { All IsPlaced (block_extents live.now) }
-    requires kept { All IsPlaced (kept_extents slots.now) }
-    ensures { IfOk result (AreTaken (block_extents live.now ++ kept_extents slots.now)) }
+    requires kept { All IsPlaced (referenced_extents slots.now) }
+    ensures { IfOk result (AreTaken (block_extents live.now ++ referenced_extents slots.now)) }
 {
     let mut space = FreeSpace::new(alloc);
     hold_kept(&mut space, slots)?;
@@ -101,11 +101,11 @@ pub fn known_space(
     slots: &Slots,
     space: Option<FreeSpace>,
 ) -> Result<FreeSpace, AllocError>
-    requires few { length (block_extents live.now ++ kept_extents slots.now) ≤ MOST_EXTENTS }
+    requires few { length (block_extents live.now ++ referenced_extents slots.now) ≤ MOST_EXTENTS }
     requires live { All IsPlaced (block_extents live.now) }
-    requires kept { All IsPlaced (kept_extents slots.now) }
-    requires known { IsKnown (block_extents live.now ++ kept_extents slots.now) space }
-    ensures { IfOk result (AreTaken (block_extents live.now ++ kept_extents slots.now)) }
+    requires kept { All IsPlaced (referenced_extents slots.now) }
+    requires known { IsSpaceOf (block_extents live.now ++ referenced_extents slots.now) space }
+    ensures { IfOk result (AreTaken (block_extents live.now ++ referenced_extents slots.now)) }
 {
     match space {
         Some(space) => Ok(space),

@@ -1,14 +1,14 @@
 //! The two slots: what is known of them in memory, the bytes of one, and which one of a file counts.
 ghost use Rattle.std.specs.Prelude.{◌≡◌, ◌⊎◌, ◌++◌, ◌+◌, ◌*◌, ◌<◌, ◌≤◌, ◌↔◌, ℕ, List, ◌∷◌, IsTrue, OnOk, MatchResult, length, ◌^◌, ◌==◌, IfOk, IfErr, IsErrOf, Some, None, Ok, Err, slice_index, true, if◌then◌else◌};
 ghost use Rattle.std.specs.Option.{option_and_then};
-ghost use Rattle.vm_store.specs.Facts.{Raised};
+ghost use Rattle.vm_store.specs.Facts.{FailedSince};
 ghost use Rattle.geos_model.specs.File.{slot_mark, if_open, counting_slot, pair_of, stands};
-ghost use Rattle.vm_file.specs.Calls.{IsSupply, IsOpenRefusal};
-ghost use Rattle.vm_file.specs.Opened.{Looks, IsRawSlot, IsActiveSlot, Beaten};
+ghost use Rattle.vm_file.specs.Calls.{IsResourceFault, IsOpenRefusal};
+ghost use Rattle.vm_file.specs.Opened.{OnlyReadsStore, IsRawSlot, IsActiveSlot, Beaten};
 ghost use Rattle.vm_file.specs.Slots.{gate_text, spare_of};
 ghost use Rattle.geos_model.specs.declared.file.Slot as model;
 
-use crate::table::{Pair, Table};
+use crate::table::{BlockTable, Pair};
 use geos_model::{Extent, Fault, PAGE, Slot, VERSION};
 use vm_space::{SLOT_LENGTH, read_slot, write_slot};
 use vm_store::Store;
@@ -36,7 +36,7 @@ pub struct Slots {
     pub committed: Pair,
     pub spare: SpareSlot,
     /// A document whose images stay in the file beside what the slots lead to, so that it can be brought back.
-    pub marked: Option<Table>,
+    pub marked: Option<BlockTable>,
 }
 
 /// Where the other slot lies.
@@ -100,10 +100,10 @@ fn are_bytes(bytes: &[u8])
 /// Reads the slot of a page, 0 or 1. File.
 fn read_raw_slot<S: Store>(store: &mut S, page: u64) -> Result<RawSlot, Fault>
     requires { page ≤ 1 }
-    ensures looks { Looks (S.facts store.old) (S.facts store.new) }
+    ensures looks { OnlyReadsStore (S.facts store.old) (S.facts store.new) }
     ensures raw { IfOk result (λ raw. IsTrue (S.facts store.old).honest
         → IsRawSlot (S.facts store.old).content page raw) }
-    ensures file { IsErrOf result Fault.File → Raised (S.facts store.old) (S.facts store.new) }
+    ensures file { IsErrOf result Fault.File → FailedSince (S.facts store.old) (S.facts store.new) }
     ensures refusals { IfErr result (λ fault. fault ≡ Fault.File) }
 {
     let mut bytes = [0; SLOT_LENGTH];
@@ -193,15 +193,15 @@ pub fn find_slot<S: Store>(store: &mut S, file_length: u64) -> Result<ActiveSlot
     // Asked of the caller.
     requires { IsTrue (S.facts store.old).honest → file_length ≡ length (S.facts store.old).content }
     // The store.
-    ensures looks { Looks (S.facts store.old) (S.facts store.new) }
+    ensures looks { OnlyReadsStore (S.facts store.old) (S.facts store.new) }
     // The slot.
     ensures active { IfOk result (λ active. IsTrue (S.facts store.old).honest
         → IsActiveSlot (S.facts store.old).content active) }
     ensures alone { IfOk result (λ active. (active.spare ≡ SpareSlot.Shut) ⊎ (active.spare ≡ SpareSlot.Stale)) }
     // Refusals.
     ensures refused { IfErr result (λ fault. IsTrue (S.facts store.old).honest
-        → IsSupply fault ⊎ (stands (S.facts store.old).content ≡ Err fault)) }
-    ensures file { IsErrOf result Fault.File → Raised (S.facts store.old) (S.facts store.new) }
+        → IsResourceFault fault ⊎ (stands (S.facts store.old).content ≡ Err fault)) }
+    ensures file { IsErrOf result Fault.File → FailedSince (S.facts store.old) (S.facts store.new) }
     ensures refusals { IfErr result IsOpenRefusal }
 {
     if file_length < 2 * u64::from(PAGE) {

@@ -1,16 +1,16 @@
 //! The blocks of a document and where their images lie in the file; copies of that.
 ghost use Rattle.std.specs.Prelude.{IsTrue, IfErr, IsErrOf, true, ◌≡◌, ◌≤◌, ◌-◌, ◌++◌, ◌∷◌, [], List, All, IfSome, IsOk, OnOk, OnErr, None, Some, get_or, length, max, slice_set, IfOk};
-ghost use Rattle.vm_store.specs.Facts.{Raised};
+ghost use Rattle.vm_store.specs.Facts.{FailedSince};
 ghost use Rattle.geos_model.specs.Document.{is_live, block_at};
 ghost use Rattle.geos_model.specs.Image.{image};
 ghost use Rattle.vm_file.specs.Ranges.{IsPlaced};
 ghost use Rattle.vm_file.specs.Documents.{document_in, AreImaged};
 ghost use Rattle.vm_file.specs.Sound.{ArePlaces};
-ghost use Rattle.vm_file.specs.Opened.{Looks};
+ghost use Rattle.vm_file.specs.Opened.{OnlyReadsStore};
 ghost use Rattle.vm_file.specs.Listing.{IsPlaceOf};
-ghost use Rattle.vm_file.specs.Calls.{IsPut, IsImageLength, IsSupply};
-ghost use Rattle.vm_file.specs.Slots.{block_extents, kept_extents};
-ghost use Rattle.vm_file.specs.FreeSpace.{IsKnown};
+ghost use Rattle.vm_file.specs.Calls.{IsPut, IsImageLength, IsResourceFault};
+ghost use Rattle.vm_file.specs.Slots.{block_extents, referenced_extents};
+ghost use Rattle.vm_file.specs.FreeSpace.{IsSpaceOf};
 ghost use Rattle.vm_file.specs.Copies.{IsCopy, IsStoredCopy};
 ghost use Rattle.vm_file.specs.declared.table.Place.{Place};
 ghost use Rattle.geos_model.specs.declared.file.Extent.{Extent};
@@ -38,7 +38,7 @@ pub struct Place {
 /// A document in the file. The block under the handle h is at h - 1, if it is live. There are places up to the highest handle that
 /// was live since the table was made or read, and none past it.
 #[derive(Drop)]
-pub struct Table {
+pub struct BlockTable {
     /// The handle of the map block, 0 if there is none.
     pub map_block: u16,
     pub places: Vec<Option<Place>>,
@@ -48,7 +48,7 @@ pub struct Table {
 #[derive(Drop)]
 pub struct DocumentRef {
     pub directory: Extent,
-    pub table: Table,
+    pub table: BlockTable,
 }
 
 /// What a slot leads to: the updated and the saved document.
@@ -58,11 +58,11 @@ pub struct Pair {
     pub saved: DocumentRef,
 }
 
-pub fn copy_table(alloc: Global, table: &Table) -> Result<Table, AllocError>
+pub fn copy_table(alloc: Global, table: &BlockTable) -> Result<BlockTable, AllocError>
     ensures { IfOk result (λ copy. IsCopy copy table.now) }
 {
     let places = table.places.to_vec(alloc)?;
-    Ok(Table {
+    Ok(BlockTable {
         map_block: table.map_block,
         places,
     })
@@ -103,7 +103,7 @@ fn place_of(places: &[Option<Place>], block: VmHandle) -> Option<Place>
 }
 
 /// The place of a handle in a table, `None` where no block is live under it.
-pub fn place_in(table: &Table, block: VmHandle) -> Option<Place>
+pub fn place_in(table: &BlockTable, block: VmHandle) -> Option<Place>
     ensures { IsPlaceOf table.now.places.items block.0 result }
 {
     place_of(&table.places, block)
@@ -113,18 +113,18 @@ pub fn place_in(table: &Table, block: VmHandle) -> Option<Place>
 pub fn read_block<S: Store>(
     alloc: Global,
     store: &mut S,
-    table: &Table,
+    table: &BlockTable,
     block: VmHandle,
 ) -> Result<Vec<u8>, Fault>
     requires live { is_live (document_in (S.facts store.old).content table.now) block.0 ≡ true }
     requires images { IsTrue (S.facts store.old).honest → AreImaged (S.facts store.old).content table.now.places.items }
-    ensures looks { Looks (S.facts store.old) (S.facts store.new) }
+    ensures looks { OnlyReadsStore (S.facts store.old) (S.facts store.new) }
     ensures image { IfOk result (λ bytes. IsTrue (S.facts store.old).honest
         → bytes.items ≡ image (block_at (document_in (S.facts store.old).content table.now) block.0).body) }
     ensures size { IfOk result (λ bytes. All IsPlaced (block_extents table.now.places.items)
         → ArePlaces table.now.places.items → IsImageLength (length bytes.items)) }
-    ensures file { IsErrOf result Fault.File → Raised (S.facts store.old) (S.facts store.new) }
-    ensures refusals { IfErr result IsSupply }
+    ensures file { IsErrOf result Fault.File → FailedSince (S.facts store.old) (S.facts store.new) }
+    ensures refusals { IfErr result IsResourceFault }
 {
     match place_in(table, block) {
         Some(place) => read_extent(alloc, store, place.extent),
@@ -172,7 +172,8 @@ fn placed_at(put: &Member, extent: Extent) -> Place
 // Where a block lay is free again.
 fn give_back(space: &mut Option<FreeSpace>, place: Option<Place>)
     requires { IfSome space.old (λ s. (rest : List Extent) × AreTaken (block_extents (place ∷ []) ++ rest) s) }
-    ensures { (rest : List Extent) → IsKnown (block_extents (place ∷ []) ++ rest) space.old → IsKnown rest space.new }
+    ensures { (rest : List Extent) → IsSpaceOf (block_extents (place ∷ []) ++ rest) space.old
+        → IsSpaceOf rest space.new }
 {
     if let Some(space) = space {
         if let Some(place) = place {
@@ -193,9 +194,9 @@ fn put_places(
     requires puts { All IsPut puts.now }
     requires room { All (λ p. p.handle.0 ≤ length places.old) puts.now }
     requires extents { length extents.now ≡ length puts.now }
-    requires known { IsKnown (extents.now ++ (block_extents places.old ++ kept_extents slots.now)) space.old }
+    requires known { IsSpaceOf (extents.now ++ (block_extents places.old ++ referenced_extents slots.now)) space.old }
     ensures places { places.new ≡ with_places puts.now extents.now places.old }
-    ensures known { IsKnown (block_extents places.new ++ kept_extents slots.now) space.new }
+    ensures known { IsSpaceOf (block_extents places.new ++ referenced_extents slots.now) space.new }
 {
     let _ = slots;
     for (i, put) in puts.iter().enumerate() {
@@ -212,9 +213,9 @@ fn remove_place(
     slots: &Slots,
     space: &mut Option<FreeSpace>,
 )
-    requires { IsKnown (block_extents places.old ++ kept_extents slots.now) space.old }
+    requires { IsSpaceOf (block_extents places.old ++ referenced_extents slots.now) space.old }
     ensures places { places.new ≡ without_place block.0 places.old }
-    ensures known { IsKnown (block_extents places.new ++ kept_extents slots.now) space.new }
+    ensures known { IsSpaceOf (block_extents places.new ++ referenced_extents slots.now) space.new }
 {
     let _ = slots;
     if block.0 != 0 && usize::from(block.0) <= places.len() {
@@ -232,9 +233,9 @@ fn remove_places(
     slots: &Slots,
     space: &mut Option<FreeSpace>,
 )
-    requires { IsKnown (block_extents places.old ++ kept_extents slots.now) space.old }
+    requires { IsSpaceOf (block_extents places.old ++ referenced_extents slots.now) space.old }
     ensures places { places.new ≡ without_places removals.now places.old }
-    ensures known { IsKnown (block_extents places.new ++ kept_extents slots.now) space.new }
+    ensures known { IsSpaceOf (block_extents places.new ++ referenced_extents slots.now) space.new }
 {
     for block in removals {
         remove_place(places, *block, slots, space);
@@ -253,9 +254,9 @@ pub fn change_places(
     requires puts { All IsPut puts.now }
     requires room { All (λ p. p.handle.0 ≤ length places.old) puts.now }
     requires extents { length extents.now ≡ length puts.now }
-    requires known { IsKnown (extents.now ++ (block_extents places.old ++ kept_extents slots.now)) space.old }
+    requires known { IsSpaceOf (extents.now ++ (block_extents places.old ++ referenced_extents slots.now)) space.old }
     ensures places { places.new ≡ without_places removals.now (with_places puts.now extents.now places.old) }
-    ensures known { IsKnown (block_extents places.new ++ kept_extents slots.now) space.new }
+    ensures known { IsSpaceOf (block_extents places.new ++ referenced_extents slots.now) space.new }
 {
     put_places(places, puts, extents, slots, space);
     remove_places(places, removals, slots, space);

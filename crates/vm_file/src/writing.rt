@@ -1,10 +1,10 @@
 //! Images that come into the file.
 ghost use Rattle.std.specs.Prelude.{◌≡◌, ◌≢◌, ◌++◌, ◌+◌, ◌≤◌, [], All, IsTrue, IsOk, IfOk, IfErr, IsErrOf, OnOk, OnErr, length};
-ghost use Rattle.vm_store.specs.Facts.{Raised};
+ghost use Rattle.vm_store.specs.Facts.{FailedSince};
 ghost use Rattle.vm_file.specs.Ranges.{IsPlaced};
-ghost use Rattle.vm_file.specs.Slots.{block_extents, kept_extents, marked_extents, AreKept};
-ghost use Rattle.vm_file.specs.Calls.{IsSupply};
-ghost use Rattle.vm_file.specs.FreeSpace.{IsKnown};
+ghost use Rattle.vm_file.specs.Slots.{block_extents, referenced_extents, marked_extents, AreExtentsPlaced};
+ghost use Rattle.vm_file.specs.Calls.{IsResourceFault};
+ghost use Rattle.vm_file.specs.FreeSpace.{IsSpaceOf};
 ghost use Rattle.vm_file.specs.Writing.{AreFor, Fills, AreWritten, IsSpared};
 
 use crate::extent::write_extent;
@@ -25,8 +25,8 @@ pub fn write_images<S: Store>(
     puts: &[Member],
 ) -> Result<(), StoreFault>
     // Asked of the caller.
-    requires kept { AreKept slots.now }
-    requires extents { AreFor (kept_extents slots.now) puts.now (length puts.now) extents.now }
+    requires kept { AreExtentsPlaced slots.now }
+    requires extents { AreFor (referenced_extents slots.now) puts.now (length puts.now) extents.now }
     // The store.
     ensures honest { (S.facts store.new).honest ≡ (S.facts store.old).honest }
     ensures failures { (S.facts store.old).failures ≤ (S.facts store.new).failures }
@@ -36,7 +36,7 @@ pub fn write_images<S: Store>(
     ensures written { OnOk result (IsTrue (S.facts store.old).honest
         → AreWritten (length puts.now) puts.now extents.now (S.facts store.new).content) }
     // Refusals.
-    ensures file { OnErr result (Raised (S.facts store.old) (S.facts store.new)) }
+    ensures file { OnErr result (FailedSince (S.facts store.old) (S.facts store.new)) }
 {
     for (i, put) in puts.iter().enumerate() {
         write_extent(store, slots, extents[i], put.block.image.as_slice())?;
@@ -64,9 +64,9 @@ pub fn write_puts<S: Store>(
 ) -> Result<Written, Fault>
     // Asked of the caller.
     requires live { All IsPlaced (block_extents live.now) }
-    requires kept { AreKept slots.now }
-    requires few { length (block_extents live.now ++ kept_extents slots.now) + length puts.now ≤ MOST_EXTENTS }
-    requires known { IsKnown (block_extents live.now ++ kept_extents slots.now) space }
+    requires kept { AreExtentsPlaced slots.now }
+    requires few { length (block_extents live.now ++ referenced_extents slots.now) + length puts.now ≤ MOST_EXTENTS }
+    requires known { IsSpaceOf (block_extents live.now ++ referenced_extents slots.now) space }
     // The store.
     ensures honest { (S.facts store.new).honest ≡ (S.facts store.old).honest }
     ensures failures { (S.facts store.old).failures ≤ (S.facts store.new).failures }
@@ -75,18 +75,18 @@ pub fn write_puts<S: Store>(
         (S.facts store.new) }
     // The images.
     ensures found { IfOk result
-        (λ written. AreFor (block_extents live.now ++ kept_extents slots.now) puts.now (length puts.now)
+        (λ written. AreFor (block_extents live.now ++ referenced_extents slots.now) puts.now (length puts.now)
         written.extents.items) }
     ensures written { IfOk result (λ written. IsTrue (S.facts store.old).honest
         → AreWritten (length puts.now) puts.now written.extents.items (S.facts store.new).content) }
     ensures known { IfOk result
-        (λ written. IsKnown (written.extents.items ++ (block_extents live.now ++ kept_extents slots.now))
+        (λ written. IsSpaceOf (written.extents.items ++ (block_extents live.now ++ referenced_extents slots.now))
         written.space) }
     // Refusals.
     ensures early { IfErr result (λ fault. fault ≢ Fault.File → store.new ≡ store.old) }
     ensures nothing { puts.now ≡ [] → IsOk result × (store.new ≡ store.old) }
-    ensures file { IsErrOf result Fault.File → Raised (S.facts store.old) (S.facts store.new) }
-    ensures refusals { IfErr result IsSupply }
+    ensures file { IsErrOf result Fault.File → FailedSince (S.facts store.old) (S.facts store.new) }
+    ensures refusals { IfErr result IsResourceFault }
 {
     if puts.is_empty() {
         let extents = Vec::new(alloc);

@@ -14,7 +14,7 @@ use Rattle.geos_model.specs.File.{Directory, header_text, entry_text, directory_
 use Rattle.geos_model.specs.declared.file.Entry.{Entry}
 use Rattle.geos_model.proofs.Arrays.{same_bytes-is, same_bytes-refl}
 use Rattle.geos_model.proofs.Files.{no_entry, length-entry, drop-entries, is_directory-parts, is_directory-from, length-directory, some_if}
-use Rattle.vm_space.specs.Listed.{version_read, HasHeader, IsNext, entries_read, are_entries}
+use Rattle.vm_space.specs.Listed.{version_read, HasHeader, IsNextEntry, entries_read, are_entries}
 
 -- one entry more
 pub text-more : (version : ℕ) (before : List ℕ) (es : List Entry) (i : ℕ) (d : Entry) → i < length es → (before ++ flat_map (entry_text version) (take i es)) ++ entry_text version (get_or es i d) ≡ before ++ flat_map (entry_text version) (take (i + 1) es)
@@ -82,11 +82,11 @@ pub entry_between : (version : ℕ) (bytes : List ℕ) (i : ℕ) → version ≡
 entry_between version bytes i is = ap₂ entry_read is (between bytes (16 + 16 * i)) ∙ entry_read-take (version_read bytes) (drop (16 + 16 * i) bytes)
 
 -- the same said of equals
-pub next_same : {file_version n last v w : ℕ} {t u : List ℕ} {e x : Entry} → v ≡ w → t ≡ u → e ≡ x → IsNext file_version n v last t e → IsNext file_version n w last u x
+pub next_same : {file_version n last v w : ℕ} {t u : List ℕ} {e x : Entry} → v ≡ w → t ≡ u → e ≡ x → IsNextEntry file_version n v last t e → IsNextEntry file_version n w last u x
 next_same {file_version} {n} {last} {v} {w} {t} {u} {e} {x} versions texts entries next =
-    subst (λ (y : Entry). IsNext file_version n w last u y) entries (subst (λ (s : List ℕ). IsNext file_version n w last s e) texts (subst (λ k. IsNext file_version n k last t e) versions next))
+    subst (λ (y : Entry). IsNextEntry file_version n w last u y) entries (subst (λ (s : List ℕ). IsNextEntry file_version n w last s e) texts (subst (λ k. IsNextEntry file_version n k last t e) versions next))
 
-pub read-more : (file_version n : ℕ) (bytes : List ℕ) (i : ℕ) (es : List Entry) (last : ℕ) → AreRead file_version n bytes i es last → IsNext file_version n (version_read bytes) last (text_at bytes i) (entry_at bytes i)
+pub read-more : (file_version n : ℕ) (bytes : List ℕ) (i : ℕ) (es : List Entry) (last : ℕ) → AreRead file_version n bytes i es last → IsNextEntry file_version n (version_read bytes) last (text_at bytes i) (entry_at bytes i)
     → AreRead file_version n bytes (i + 1) (es ++ entry_at bytes i ∷ []) (entry_at bytes i).handle.0
 read-more file_version n bytes i es last read next_is =
     let x : Entry = entry_at bytes i in
@@ -125,7 +125,7 @@ split file_version n bytes i es last read l =
 
 -- where one isn't good, they aren't all
 pub read-bad : (file_version n : ℕ) (bytes : List ℕ) (i : ℕ) (es : List Entry) (last : ℕ) → AreRead file_version n bytes i es last → i < word_at bytes 6
-    → (IsNext file_version n (version_read bytes) last (text_at bytes i) (entry_at bytes i) → ⊥) → are_entries file_version n bytes ≡ false
+    → (IsNextEntry file_version n (version_read bytes) last (text_at bytes i) (entry_at bytes i) → ⊥) → are_entries file_version n bytes ≡ false
 read-bad file_version n bytes i es last read l bad =
     let all : List Entry = entries_read bytes in
     let x : Entry = entry_at bytes i in

@@ -2,7 +2,7 @@
 use Rattle.std.proofs.Common.{◌≡◌, ℕ, ◌+◌, ◌<◌, ◌≤◌, true, false, cond, List, length, get_or, set, sym, ap, ◌∙◌, arith, leb, ltb, inl, inr, ◌⊎◌, zero, suc, ◌*◌, ◌-◌, max, min, [], ◌∷◌, replicate, count_by, refl, subst}
 use Rattle.std.proofs.lemmas.Bool.{cases_lt, cases_eq, cases_Bool, le-leb, lt-ltb, leb-true, ltb-true, and_parts, and_from, false≢true}
 use Rattle.std.proofs.lemmas.List.{get_or-set_same, get_or-set_other, length-set, get_or-replicate, length-replicate}
-use Rattle.vm_space.specs.Space.{is_within, AreRaised, IsRun, Space, is_on, AreTaken, IsFirstRun, IsHint, IsSound}
+use Rattle.vm_space.specs.Space.{is_within, AreRaised, IsRun, Space, is_on, AreTaken, IsFirstRun, IsHint, IsSpaceSound}
 use Rattle.std.specs.List.Sorted.{IsPermutation}
 use Rattle.std.proofs.lemmas.List.Sorted.{sum_by-IsPermutation, length_permutation, All-permutation}
 use Rattle.std.proofs.lemmas.List.Sums.{count_by-le-length}
@@ -270,7 +270,7 @@ raised_from start end behind old roomy view new same is at raised page = (let to
 pub lowered_from : (start end behind : ℕ) (old view new : List ℕ) → view ≡ old → behind ≡ end → AreRaised start behind new view → AreRaised start end new old
 lowered_from start end behind old view new is at raised page = subst (λ b. get_or old page 0 ≡ once start b page + get_or new page 0) at (sym (ap (λ xs. get_or xs page 0) is) ∙ raised page)
 
-pub sound-more : (old new hints : List ℕ) (count : ℕ) (e : Extent) → IsSound old hints count → 2 ≤ e.page → IsLength e.length → AreRaised e.page (end_page e) old new → IsSound new hints (count + 1)
+pub sound-more : (old new hints : List ℕ) (count : ℕ) (e : Extent) → IsSpaceSound old hints count → 2 ≤ e.page → IsLength e.length → AreRaised e.page (end_page e) old new → IsSpaceSound new hints (count + 1)
 sound-more old new hints count e sound behind is_length raised = record {
   taken = e ∷ sound.taken;
   are = taken-more sound.taken e old new count behind is_length sound.are raised;
@@ -284,7 +284,7 @@ first_near page first is = elim (cases_lt 2 first) [
   | inr low ↦ inl (omega (arith, is, low))
 ]
 
-pub sound-less : (old new hints lowered : List ℕ) (count first : ℕ) (e : Extent) (rest : List Extent) → IsSound old hints count → AreTaken (e ∷ rest) (record { counts = old; count = count }) → AreRaised e.page (end_page e) new old → first ≡ max (e.page - 256) 2 → length lowered ≡ 258 → ((n : ℕ) → get_or lowered n 0 ≡ min (get_or hints n 0) first) → IsSound new lowered (count - 1)
+pub sound-less : (old new hints lowered : List ℕ) (count first : ℕ) (e : Extent) (rest : List Extent) → IsSpaceSound old hints count → AreTaken (e ∷ rest) (record { counts = old; count = count }) → AreRaised e.page (end_page e) new old → first ≡ max (e.page - 256) 2 → length lowered ≡ 258 → ((n : ℕ) → get_or lowered n 0 ≡ min (get_or hints n 0) first) → IsSpaceSound new lowered (count - 1)
 sound-less old new hints lowered count first e rest sound are raised is long lower = record {
   taken = rest;
   are = taken-less rest e old new count (count - 1) are raised (let some = are.count in omega (arith, some));
@@ -293,7 +293,7 @@ sound-less old new hints lowered count first e rest sound are raised is long low
 }
 
 -- a hint that was found
-pub sound-hinted : (old new hints : List ℕ) (start end from pages page count : ℕ) → IsSound new hints count → AreRaised start end old new → IsHint old pages from → IsFirstRun old from pages page → pages < 258 → IsSound new (set hints pages page) count
+pub sound-hinted : (old new hints : List ℕ) (start end from pages page count : ℕ) → IsSpaceSound new hints count → AreRaised start end old new → IsHint old pages from → IsFirstRun old from pages page → pages < 258 → IsSpaceSound new (set hints pages page) count
 sound-hinted old new hints start end from pages page count sound raised hint is l = record {
   taken = sound.taken;
   are = sound.are;
@@ -314,7 +314,7 @@ sound-hinted old new hints start end from pages page count sound raised hint is 
     }
 
 -- At first nothing is taken.
-pub sound-none : IsSound [] (replicate 258 2) 0
+pub sound-none : IsSpaceSound [] (replicate 258 2) 0
 sound-none = record {
   taken = [];
   are = record { extents = λ k d l. absurd (omega (arith, l)); count = refl; pages = λ page. refl };
@@ -330,7 +330,7 @@ taken-raised taken e old new count more before behind page = behind.pages page �
 pub found_from : (counts view hints : List ℕ) (len pages page : ℕ) → view ≡ counts → pages ≡ pages_of len → IsFirstRun view (get_or hints pages 0) pages page → IsFirstRun counts (get_or hints (pages_of len) 0) (pages_of len) page
 found_from counts view hints len pages page is many found = subst (λ xs. IsFirstRun xs (get_or hints (pages_of len) 0) (pages_of len) page) is (subst (λ n. IsFirstRun view (get_or hints n 0) n page) many found)
 
-pub hint_for : (counts hints : List ℕ) (count len : ℕ) → IsSound counts hints count → IsLength len → IsHint counts (pages_of len) (get_or hints (pages_of len) 0)
+pub hint_for : (counts hints : List ℕ) (count len : ℕ) → IsSpaceSound counts hints count → IsLength len → IsHint counts (pages_of len) (get_or hints (pages_of len) 0)
 hint_for counts hints count len sound is_length = (let wanted = pages_few len is_length in sound.hint (pages_of len) (omega (arith, wanted)))
 
 -- Where no page is free that wasn't, the hints stay.
@@ -349,7 +349,7 @@ hint-kept start end n hint old new raised held is = record {
     still : (k : ℕ) → get_or new k 0 ≡ 0 → (start ≤ k → k < end → ⊥) → get_or old k 0 ≡ 0
     still k none out = (let same = raised k in let no_more = once_no start end k out in omega (arith, none, same, no_more))
 
-pub sound-fewer : (old new hints : List ℕ) (count : ℕ) (e : Extent) (rest : List Extent) → IsSound old hints count → AreTaken (e ∷ rest) (record { counts = old; count = count }) → AreRaised e.page (end_page e) new old → ((page : ℕ) → e.page ≤ page → page < end_page e → 1 ≤ get_or new page 0) → IsSound new hints (count - 1)
+pub sound-fewer : (old new hints : List ℕ) (count : ℕ) (e : Extent) (rest : List Extent) → IsSpaceSound old hints count → AreTaken (e ∷ rest) (record { counts = old; count = count }) → AreRaised e.page (end_page e) new old → ((page : ℕ) → e.page ≤ page → page < end_page e → 1 ≤ get_or new page 0) → IsSpaceSound new hints (count - 1)
 sound-fewer old new hints count e rest sound are raised held = record {
   taken = rest;
   are = taken-less rest e old new count (count - 1) are raised (let some = are.count in omega (arith, some));

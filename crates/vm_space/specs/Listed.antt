@@ -34,7 +34,7 @@ are_entries file_version n bytes =
     is_rising 0 es && list_all (is_entry file_version n version) es && same_bytes (flat_map (entry_text version) es) (drop 16 bytes)
 
 -- An entry with this text can stand in a directory of a version, in a file of a version and of n bytes, behind one with the handle `last`.
-pub record IsNext (file_version n version last : ℕ) (text : List ℕ) (e : Entry) : Type 0 where
+pub record IsNextEntry (file_version n version last : ℕ) (text : List ℕ) (e : Entry) : Type 0 where
   pub above : last < e.handle.0
   pub stands : is_entry file_version n version e ≡ true
   pub text_is : text ≡ entry_text version e

@@ -1,7 +1,7 @@
 -- Which free extent is taken: the first that is long enough.
 use Rattle.std.specs.Prelude.{◌≡◌, ◌⊎◌, ◌<◌, ◌≤◌, ℕ, List, All, IsSortedByKey}
 use Rattle.std.specs.Ordering.{nat_cmp}
-use Rattle.geos_model.specs.File.{end_page, last_page}
+use Rattle.geos_model.specs.File.{end_page, page_limit}
 use Rattle.geos_model.specs.declared.file.Extent.{Extent}
 
 -- one ends before the other begins
@@ -18,7 +18,7 @@ pub record IsFirstFit (taken : List Extent) (n : ℕ) (result : Extent) : Type 0
   pub behind_slots : 2 ≤ result.page
   pub free : IsFree taken result.page n
   pub first : (page : ℕ) → 2 ≤ page → page < result.page → IsFree taken page n → ⊥
-  pub in_reach : end_page result ≤ last_page
+  pub in_reach : end_page result ≤ page_limit
 
 -- so many bytes can be placed: they take 1 to 257 pages, as many as the longest directory
 abbrev pub IsLength : ℕ → Type 0

@@ -45,7 +45,7 @@ pub record IsHint (counts : List ℕ) (n hint : ℕ) : Type 0 where
   pub none : (q : ℕ) → 2 ≤ q → q < hint → IsRun counts n q → ⊥
 
 -- Some extents are the ones that are taken, and there is a hint for each number of pages.
-pub record IsSound (counts hints : List ℕ) (count : ℕ) : Type 0 where
+pub record IsSpaceSound (counts hints : List ℕ) (count : ℕ) : Type 0 where
   pub taken : List Extent
   pub are : AreTaken taken (record { counts = counts; count = count })
   pub hint_count : length hints ≡ 258

@@ -28,13 +28,13 @@ pub struct FreeSpace {
 }
 
 impl Model for FreeSpace {
-    ghost use Rattle.vm_space.specs.Space.{Space, IsSound};
+    ghost use Rattle.vm_space.specs.Space.{Space, IsSpaceSound};
 
     ghost Value = { Space };
 
     ghost view = { λ f. record { counts = f.counts.items; count = f.count } };
 
-    ghost invariant = { λ f. IsSound f.counts.items f.hints f.count };
+    ghost invariant = { λ f. IsSpaceSound f.counts.items f.hints f.count };
 }
 
 impl FreeSpace {

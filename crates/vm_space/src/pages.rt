@@ -1,9 +1,9 @@
 //! Extents counted in pages.
 ghost use Rattle.std.specs.Prelude.{◌≡◌, ◌^◌, ◌<◌};
 ghost use Rattle.geos_model.specs.File as file;
-ghost use Rattle.geos_model.specs.File.{pages_of, end_page, last_page_of};
+ghost use Rattle.geos_model.specs.File.{pages_of, end_page, page_limit_of};
 
-use geos_model::{Extent, LAST_PAGE, LAST_PAGE_OF_VERSION_1, PAGE};
+use geos_model::{Extent, PAGE, PAGE_LIMIT, PAGE_LIMIT_OF_VERSION_1};
 
 // The first page behind the slots.
 pub(crate) const FIRST_PAGE: u32 = 2;
@@ -29,13 +29,13 @@ pub(crate) fn page_behind(extent: Extent) -> u64
 }
 
 // The first page that can't be used in a file of this version.
-fn last_page(version: u8) -> u32
-    ensures { result ≡ last_page_of version }
+fn page_limit(version: u8) -> u32
+    ensures { result ≡ page_limit_of version }
 {
     if version == 1 {
-        LAST_PAGE_OF_VERSION_1
+        PAGE_LIMIT_OF_VERSION_1
     } else {
-        LAST_PAGE
+        PAGE_LIMIT
     }
 }
 
@@ -47,5 +47,5 @@ pub fn is_in_file(extent: Extent, file_length: u64, version: u8) -> bool
     let start = u64::from(PAGE) * u64::from(extent.page);
     extent.page >= FIRST_PAGE
         && start + u64::from(extent.length) <= file_length
-        && page_behind(extent) <= u64::from(last_page(version))
+        && page_behind(extent) <= u64::from(page_limit(version))
 }

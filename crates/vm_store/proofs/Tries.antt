@@ -2,17 +2,17 @@
 use Rattle.std.proofs.Common.{◌≡◌, ℕ, ◌+◌, ◌-◌, ◌<◌, ◌≤◌, List, ◌∷◌, length, take, drop, length-take, length-drop, IsTrue, Result, Err, arith, refl, sym, ap, ◌∙◌, subst, inl, inr}
 use Rattle.std.proofs.lemmas.Bool.{cases_lt}
 use Rattle.std.proofs.lemmas.List.{get_or-take, get_or-drop, get_or_past}
-use Rattle.vm_store.specs.Facts.{StoreFacts, byte, IsTimely, Elapses, Rests, Writes, Torn}
+use Rattle.vm_store.specs.Facts.{StoreFacts, byte, IsTimely, Elapses, IsUnchanged, Writes, Torn}
 use Rattle.vm_store.specs.Laws.{Torn-refl, Torn-trans, Torn-within}
-use Rattle.vm_store.specs.System.{FileFacts, Tells, Idles, Begins, WritesTo, WritesPart, IsInterruptedOften}
+use Rattle.vm_store.specs.System.{FileFacts, CountsFailure, Idles, WritesFirst, WritesTo, WritesPart, IsInterruptedOften}
 use Rattle.vm_store.specs.declared.system.SystemFault.{SystemFault}
 use Rattle.vm_store.specs.declared.system.SystemFault.TheVariants.{Interrupted}
 
 -- Two calls.
 
 -- a call after one that changes nothing
-pub Elapses-Rests : (a b c : StoreFacts) → IsTimely a → Rests a b → Elapses b c → Elapses a c
-Elapses-Rests a b c timely r e = record {
+pub Elapses-IsUnchanged : (a b c : StoreFacts) → IsTimely a → IsUnchanged a b → Elapses b c → Elapses a c
+Elapses-IsUnchanged a b c timely r e = record {
   later = omega (arith, r.time.later, e.later);
   nothing_else = λ t f le left. elim (e.nothing_else t f (omega (arith, r.time.later)) left) [
     | inl before ↦ elim (r.time.nothing_else t f le before) [ inl first ↦ inl first | inr now ↦ inl (timely.counts_now t f le (r.crash f now)) ]
@@ -21,19 +21,19 @@ Elapses-Rests a b c timely r e = record {
   keeps = λ t f le left. e.keeps t f (omega (arith, r.time.later)) (r.time.keeps t f le left);
 }
 
-pub Rests-trans : (a b c : StoreFacts) → IsTimely a → Rests a b → Rests b c → Rests a c
-Rests-trans a b c timely r s = record {
+pub IsUnchanged-trans : (a b c : StoreFacts) → IsTimely a → IsUnchanged a b → IsUnchanged b c → IsUnchanged a c
+IsUnchanged-trans a b c timely r s = record {
   content = s.content ∙ r.content;
   crash = λ f left. r.crash f (s.crash f left);
-  time = Elapses-Rests a b c timely r s.time;
+  time = Elapses-IsUnchanged a b c timely r s.time;
 }
 
-pub Writes-Rests : (at n : ℕ) (a b c : StoreFacts) → IsTimely a → Rests a b → Writes at n b c → Writes at n a c
-Writes-Rests at n a b c timely r w = record {
+pub Writes-IsUnchanged : (at n : ℕ) (a b c : StoreFacts) → IsTimely a → IsUnchanged a b → Writes at n b c → Writes at n a c
+Writes-IsUnchanged at n a b c timely r w = record {
   torn = let T : List ℕ → Type 0 = λ l. Torn at n l c.content in subst T r.content w.torn;
   no_longer = let e : length b.content ≡ length a.content = ap (λ (l : List ℕ). length l) r.content in omega (arith, e, w.no_longer);
   crash = λ f left. let d = w.crash f left in (d.0, r.crash d.0 d.1, d.2);
-  time = Elapses-Rests a b c timely r w.time;
+  time = Elapses-IsUnchanged a b c timely r w.time;
 }
 
 -- Tries.
@@ -49,8 +49,8 @@ pub record IsTrying (tried : ℕ) (old new : FileFacts) : Type 0 where
 pub still : (a b : FileFacts) → b.store.honest ≡ a.store.honest → IsTrue a.store.honest → IsTrue b.store.honest
 still a b same honest = cc
 
-Rests-refl : (a : StoreFacts) → Rests a a
-Rests-refl a = record {
+IsUnchanged-refl : (a : StoreFacts) → IsUnchanged a a
+IsUnchanged-refl a = record {
   content = refl;
   crash = λ c left. left;
   time = record { later = omega arith; nothing_else = λ t c le left. inl left; keeps = λ t c le left. left };
@@ -59,13 +59,13 @@ Rests-refl a = record {
 pub starts : (a : FileFacts) → IsTrying 0 a a
 starts a = record {
   honest = refl;
-  idles = λ honest. record { rests = Rests-refl a.store; syncs = refl };
+  idles = λ honest. record { unchanged = IsUnchanged-refl a.store; syncs = refl };
   failures = λ honest. refl;
   interruptions = λ honest. omega arith;
 }
 
 pub Idles-trans : (a b c : FileFacts) → IsTimely a.store → Idles a b → Idles b c → Idles a c
-Idles-trans a b c timely p q = record { rests = Rests-trans a.store b.store c.store timely p.rests q.rests; syncs = q.syncs ∙ p.syncs }
+Idles-trans a b c timely p q = record { unchanged = IsUnchanged-trans a.store b.store c.store timely p.unchanged q.unchanged; syncs = q.syncs ∙ p.syncs }
 
 -- Reading on.
 
@@ -86,13 +86,13 @@ pub record IsWriting (at tried done : ℕ) (bytes : List ℕ) (old new : FileFac
   pub room : done ≤ length bytes
   pub honest : new.store.honest ≡ old.store.honest
   pub writes : IsTrue old.store.honest → WritesTo at (length bytes) old new
-  pub begins : IsTrue old.store.honest → Begins at done bytes old.store.content new.store.content
+  pub begins : IsTrue old.store.honest → WritesFirst at done bytes old.store.content new.store.content
   pub failures : IsTrue old.store.honest → new.store.failures ≡ old.store.failures
   pub interruptions : IsTrue old.store.honest → old.interruptions + tried ≤ new.interruptions + done
 
 pub WritesTo-refl : (at n : ℕ) (a : FileFacts) → WritesTo at n a a
 WritesTo-refl at n a = record {
-  writes = record { torn = Torn-refl at n a.store.content; no_longer = omega arith; crash = λ c left. (c, left, Torn-refl at n c); time = (Rests-refl a.store).time };
+  writes = record { torn = Torn-refl at n a.store.content; no_longer = omega arith; crash = λ c left. (c, left, Torn-refl at n c); time = (IsUnchanged-refl a.store).time };
   widens = λ c left. left;
   syncs = refl;
 }
@@ -133,11 +133,11 @@ IsRest-slice done bytes le = record {
   ];
 }
 
-pub Begins-refl : (at : ℕ) (bytes c : List ℕ) → Begins at 0 bytes c c
-Begins-refl at bytes c = record { below = λ i low. refl; each = λ i low. let no : ⊥ = omega arith in absurd no; above = λ i high. refl; reaches = λ some. let no : ⊥ = omega arith in absurd no; no_shorter = omega arith; no_longer = omega arith }
+pub WritesFirst-refl : (at : ℕ) (bytes c : List ℕ) → WritesFirst at 0 bytes c c
+WritesFirst-refl at bytes c = record { below = λ i low. refl; each = λ i low. let no : ⊥ = omega arith in absurd no; above = λ i high. refl; reaches = λ some. let no : ⊥ = omega arith in absurd no; no_shorter = omega arith; no_longer = omega arith }
 
-pub Begins-more : (at done k : ℕ) (bytes rest a b c : List ℕ) → IsRest done bytes rest → k ≤ length rest → Begins at done bytes a b → Begins (at + done) k rest b c → Begins at (done + k) bytes a c
-Begins-more at done k bytes rest a b c is fits p q = record {
+pub WritesFirst-more : (at done k : ℕ) (bytes rest a b c : List ℕ) → IsRest done bytes rest → k ≤ length rest → WritesFirst at done bytes a b → WritesFirst (at + done) k rest b c → WritesFirst at (done + k) bytes a c
+WritesFirst-more at done k bytes rest a b c is fits p q = record {
   below = λ i low. q.below i (omega arith) ∙ p.below i low;
   each = λ i low. elim (cases_lt i done) [
     | inl first ↦ q.below (at + i) (omega arith) ∙ p.each i first
@@ -165,7 +165,7 @@ writes_on at tried done bytes rest a b c is w call honest =
 -- a write of the rest wrote k bytes, or none and was interrupted
 pub record Carries (at k : ℕ) (rest : List ℕ) (old new : FileFacts) : Type 0 where
   pub writes : WritesTo at (length rest) old new
-  pub begins : Begins at k rest old.store.content new.store.content
+  pub begins : WritesFirst at k rest old.store.content new.store.content
   pub failures : new.store.failures ≡ old.store.failures
   pub interruptions : old.interruptions + 1 ≤ new.interruptions + k
 
@@ -174,17 +174,17 @@ carried at tried done k bytes rest a b c is fits w same call = record {
   room = omega (arith, is.size);
   honest = same ∙ w.honest;
   writes = λ honest. writes_on at tried done bytes rest a b c is w (λ h. (call h).writes) honest;
-  begins = λ honest. Begins-more at done k bytes rest a.store.content b.store.content c.store.content is fits (w.begins honest) ((call (still a b w.honest honest)).begins);
+  begins = λ honest. WritesFirst-more at done k bytes rest a.store.content b.store.content c.store.content is fits (w.begins honest) ((call (still a b w.honest honest)).begins);
   failures = λ honest. (call (still a b w.honest honest)).failures ∙ w.failures honest;
   interruptions = λ honest. omega (arith, (call (still a b w.honest honest)).interruptions, w.interruptions honest);
 }
 
 -- of a write that was interrupted
 
-pub told_interrupted : (fault : SystemFault) (old new : FileFacts) → fault ≡ Interrupted → Tells {T = ℕ} (Err fault) old new → Tells {T = ℕ} (Err Interrupted) old new
-told_interrupted fault old new is told = let P : SystemFault → Type 0 = λ f. Tells {T = ℕ} (Err f) old new in subst P is told
+pub told_interrupted : (fault : SystemFault) (old new : FileFacts) → fault ≡ Interrupted → CountsFailure {T = ℕ} (Err fault) old new → CountsFailure {T = ℕ} (Err Interrupted) old new
+told_interrupted fault old new is told = let P : SystemFault → Type 0 = λ f. CountsFailure {T = ℕ} (Err f) old new in subst P is told
 
-pub part_interrupted : (fault : SystemFault) (at : ℕ) (bytes old new : List ℕ) → fault ≡ Interrupted → WritesPart at bytes (Err fault) old new → Begins at 0 bytes old new
+pub part_interrupted : (fault : SystemFault) (at : ℕ) (bytes old new : List ℕ) → fault ≡ Interrupted → WritesPart at bytes (Err fault) old new → WritesFirst at 0 bytes old new
 part_interrupted fault at bytes old new is part = let P : SystemFault → Type 0 = λ f. WritesPart at bytes (Err f) old new in subst P is part
 
 -- Calls of a system.

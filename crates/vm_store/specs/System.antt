@@ -1,6 +1,6 @@
 -- What is known of a file of a system, and what its calls do.
 use Rattle.std.specs.Prelude.{◌≡◌, ◌⊎◌, ℕ, ◌+◌, ◌-◌, ◌^◌, ◌<◌, ◌≤◌, max, Bool, true, false, List, [], ◌∷◌, length, Result, Ok, Err}
-use Rattle.vm_store.specs.Facts.{StoreFacts, byte, Raised, Rests, Writes}
+use Rattle.vm_store.specs.Facts.{StoreFacts, byte, FailedSince, IsUnchanged, Writes}
 use Rattle.vm_store.specs.declared.system.SystemFault.{SystemFault}
 use Rattle.vm_store.specs.declared.system.SystemFault.TheVariants.{Interrupted, Failed}
 
@@ -16,10 +16,10 @@ pub record FileFacts : Type 1 where
 -- Calls.
 
 -- a call that fails is counted, as one that failed or as one that was interrupted
-abbrev pub Tells : {T : Type 0} → Result T SystemFault → FileFacts → FileFacts → Type 0
-Tells (Ok v) old new = (new.store.failures ≡ old.store.failures) × (new.interruptions ≡ old.interruptions)
-Tells (Err Interrupted) old new = (new.store.failures ≡ old.store.failures) × (new.interruptions ≡ old.interruptions + 1)
-Tells (Err Failed) old new = Raised old.store new.store × (new.interruptions ≡ old.interruptions)
+abbrev pub CountsFailure : {T : Type 0} → Result T SystemFault → FileFacts → FileFacts → Type 0
+CountsFailure (Ok v) old new = (new.store.failures ≡ old.store.failures) × (new.interruptions ≡ old.interruptions)
+CountsFailure (Err Interrupted) old new = (new.store.failures ≡ old.store.failures) × (new.interruptions ≡ old.interruptions + 1)
+CountsFailure (Err Failed) old new = FailedSince old.store new.store × (new.interruptions ≡ old.interruptions)
 
 -- a call that was interrupted
 abbrev pub IsInterrupted : {T : Type 0} → Result T SystemFault → Type 0
@@ -35,7 +35,7 @@ HasFailed (Err Failed) = Unit {0}
 
 -- a call that changes nothing
 pub record Idles (old new : FileFacts) : Type 0 where
-  pub rests : Rests old.store new.store
+  pub unchanged : IsUnchanged old.store new.store
   pub syncs : new.has_failed_sync ≡ old.has_failed_sync
 
 -- The first k bytes of the buffer are those at `at`. There are none where none were wanted, or the file ends there.
@@ -46,7 +46,7 @@ pub record Reads (file : List ℕ) (at k : ℕ) (buffer : List ℕ) : Type 0 whe
 
 -- The first k of the bytes stand at `at`, and any in the others' range. If some do, or the file gets longer, a gap before them is zeros;
 -- nothing else changes.
-pub record Begins (at k : ℕ) (bytes old new : List ℕ) : Type 0 where
+pub record WritesFirst (at k : ℕ) (bytes old new : List ℕ) : Type 0 where
   pub below : (i : ℕ) → i < at → byte new i ≡ byte old i
   pub each : (i : ℕ) → i < k → byte new (at + i) ≡ byte bytes i
   pub above : (i : ℕ) → at + length bytes ≤ i → byte new i ≡ byte old i
@@ -64,12 +64,12 @@ pub record WritesTo (at n : ℕ) (old new : FileFacts) : Type 0 where
 -- some of the bytes were written, where there are any
 pub record WritesSome (at k : ℕ) (bytes old new : List ℕ) : Type 0 where
   pub some : 0 < length bytes → 0 < k
-  pub begins : Begins at k bytes old new
+  pub begins : WritesFirst at k bytes old new
 
 -- a write of bytes that succeeds writes some; one that is interrupted may have left any bytes in their range
 abbrev pub WritesPart : ℕ → List ℕ → Result ℕ SystemFault → List ℕ → List ℕ → Type 0
 WritesPart at bytes (Ok k) old new = WritesSome at k bytes old new
-WritesPart at bytes (Err Interrupted) old new = Begins at 0 bytes old new
+WritesPart at bytes (Err Interrupted) old new = WritesFirst at 0 bytes old new
 WritesPart at bytes (Err Failed) old new = Unit {0}
 
 -- Systems.
@@ -95,7 +95,7 @@ pub record IsInterruptedOften {S T : Type 0} (call : S → Result T SystemFault 
   pub count : length states ≡ n
 
 -- a call was made again as often as it was interrupted, and then had this result
-pub record Makes {S T : Type 0} (call : S → Result T SystemFault → S → Type 0)
+pub record Retries {S T : Type 0} (call : S → Result T SystemFault → S → Type 0)
     (old : S) (result : Result T SystemFault) (new : S) : Type 0 where
   pub tries : ℕ
   pub last : S
@@ -104,19 +104,19 @@ pub record Makes {S T : Type 0} (call : S → Result T SystemFault → S → Typ
 
 -- a call was given up, since it failed, or was interrupted 2^64 - 1 times
 abbrev pub GivesUpOn : {S T : Type 0} → (S → Result T SystemFault → S → Type 0) → S → S → Type 0
-GivesUpOn call old new = Makes call old (Err Failed) new ⊎ IsInterruptedOften call old (2 ^ 64 - 1) new
+GivesUpOn call old new = Retries call old (Err Failed) new ⊎ IsInterruptedOften call old (2 ^ 64 - 1) new
 
 -- the name of a file that may have been made is synced
 abbrev pub SyncsName : {S H F : Type 0} → SystemCalls S H F → List ℕ → Bool → S → S → Type 0
-SyncsName calls path true old new = Makes (λ s. calls.syncs_folder s path) old (Ok tt) new
+SyncsName calls path true old new = Retries (λ s. calls.syncs_folder s path) old (Ok tt) new
 SyncsName calls path false old new = new ≡ old
 
 -- the file was opened at this path, then its name was synced if it was to be made, and then it was locked, and no other call was made
-pub record IsReady {S H F : Type 0} (calls : SystemCalls S H F) (path : List ℕ) (make : Bool) (old : S) (file : F) (new : S) : Type 0 where
+pub record IsOpenedAndLocked {S H F : Type 0} (calls : SystemCalls S H F) (path : List ℕ) (make : Bool) (old : S) (file : F) (new : S) : Type 0 where
   pub handle : H
   pub opened : S
   pub named : S
-  pub opens : Makes (λ s. calls.opens s path make) old (Ok handle) opened
+  pub opens : Retries (λ s. calls.opens s path make) old (Ok handle) opened
   pub syncs : SyncsName calls path make opened named
   pub locks : calls.locks named handle (Ok file) new
 
@@ -124,7 +124,7 @@ pub record IsReady {S H F : Type 0} (calls : SystemCalls S H F) (path : List ℕ
 abbrev pub IsNotNamed : {S H F : Type 0} → SystemCalls S H F → List ℕ → Bool → S → S → Type 0
 IsNotNamed {S} {H} calls path make old new =
     GivesUpOn (λ s. calls.opens s path make) old new
-    ⊎ ((handle : H) × (opened : S) × Makes (λ s. calls.opens s path make) old (Ok handle) opened × (make ≡ true)
+    ⊎ ((handle : H) × (opened : S) × Retries (λ s. calls.opens s path make) old (Ok handle) opened × (make ≡ true)
     × GivesUpOn (λ s. calls.syncs_folder s path) opened new)
 
 -- it was opened, and named if it was to be made, and couldn't be locked
@@ -132,11 +132,11 @@ pub record IsInUse {S H F : Type 0} (calls : SystemCalls S H F) (path : List ℕ
   pub handle : H
   pub opened : S
   pub named : S
-  pub opens : Makes (λ s. calls.opens s path make) old (Ok handle) opened
+  pub opens : Retries (λ s. calls.opens s path make) old (Ok handle) opened
   pub syncs : SyncsName calls path make opened named
   pub fault : SystemFault
   pub locks : calls.locks named handle (Err fault) new
 
 -- why a file isn't opened
-abbrev pub IsNotReady : {S H F : Type 0} → SystemCalls S H F → List ℕ → Bool → S → S → Type 0
-IsNotReady calls path make old new = IsNotNamed calls path make old new ⊎ IsInUse calls path make old new
+abbrev pub IsNotOpenedOrLocked : {S H F : Type 0} → SystemCalls S H F → List ℕ → Bool → S → S → Type 0
+IsNotOpenedOrLocked calls path make old new = IsNotNamed calls path make old new ⊎ IsInUse calls path make old new

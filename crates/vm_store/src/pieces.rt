@@ -1,8 +1,8 @@
 //! A file in memory whose calls are cut short and interrupted, which shows that what is promised of a file can be met.
 ghost use Rattle.std.specs.Prelude.{◌≡◌, ◌+◌, ◌<◌, ◌≤◌, List, Some, false, not, IsTrue, length, OnOk, IfOk};
-ghost use Rattle.vm_store.specs.Facts.{raised, IsDurable, Rests, Writes, Elapses, Sizes};
+ghost use Rattle.vm_store.specs.Facts.{raised, IsDurable, IsUnchanged, Writes, Elapses, Sizes};
 ghost use Rattle.vm_store.specs.History.{fresh};
-ghost use Rattle.vm_store.specs.System.{Tells, IsInterrupted, HasFailed, Idles, Reads, WritesTo, WritesPart};
+ghost use Rattle.vm_store.specs.System.{CountsFailure, IsInterrupted, HasFailed, Idles, Reads, WritesTo, WritesPart};
 ghost use Rattle.vm_store.specs.Pieces.{pieces_facts, pieces_timely};
 
 use crate::{MemStore, Store, System, SystemFault, SystemFile};

@@ -1,7 +1,7 @@
 //! The calls of a system that a store on a file of it makes, and what is promised of them.
 ghost use Rattle.std.specs.Prelude.{◌≡◌, ◌≤◌, false, IsTrue, length, OnOk, IfOk};
-ghost use Rattle.vm_store.specs.Facts.{StoreFacts, IsTimely, IsDurable, Rests, Writes, Elapses, Sizes};
-ghost use Rattle.vm_store.specs.System.{FileFacts, SystemCalls, Tells, IsInterrupted, HasFailed, Idles, Reads, WritesTo, WritesPart};
+ghost use Rattle.vm_store.specs.Facts.{StoreFacts, IsTimely, IsDurable, IsUnchanged, Writes, Elapses, Sizes};
+ghost use Rattle.vm_store.specs.System.{FileFacts, SystemCalls, CountsFailure, IsInterrupted, HasFailed, Idles, Reads, WritesTo, WritesPart};
 
 /// A call of a system that did not succeed.
 #[derive(Clone, Copy, Debug, PartialEq, Eq)]
@@ -24,7 +24,7 @@ pub trait SystemFile: Drop {
     /// How many bytes there are.
     fn len(&mut self) -> Result<u64, SystemFault>
         ensures honest { (facts self.new).store.honest ≡ (facts self.old).store.honest }
-        ensures told { IsTrue (facts self.old).store.honest → Tells result (facts self.old) (facts self.new) }
+        ensures told { IsTrue (facts self.old).store.honest → CountsFailure result (facts self.old) (facts self.new) }
         ensures idles { IsTrue (facts self.old).store.honest → Idles (facts self.old) (facts self.new) }
         ensures len { IfOk result
             (λ n. IsTrue (facts self.old).store.honest → n ≡ length (facts self.old).store.content) };
@@ -33,7 +33,7 @@ pub trait SystemFile: Drop {
     /// end or past it.
     fn read_at(&mut self, at: u64, buffer: &mut [u8]) -> Result<usize, SystemFault>
         ensures honest { (facts self.new).store.honest ≡ (facts self.old).store.honest }
-        ensures told { IsTrue (facts self.old).store.honest → Tells result (facts self.old) (facts self.new) }
+        ensures told { IsTrue (facts self.old).store.honest → CountsFailure result (facts self.old) (facts self.new) }
         ensures idles { IsTrue (facts self.old).store.honest → Idles (facts self.old) (facts self.new) }
         ensures room { IfOk result (λ k. k ≤ length buffer.old) }
         ensures read { IfOk result
@@ -43,7 +43,7 @@ pub trait SystemFile: Drop {
     /// any.
     fn write_at(&mut self, at: u64, bytes: &[u8]) -> Result<usize, SystemFault>
         ensures honest { (facts self.new).store.honest ≡ (facts self.old).store.honest }
-        ensures told { IsTrue (facts self.old).store.honest → Tells result (facts self.old) (facts self.new) }
+        ensures told { IsTrue (facts self.old).store.honest → CountsFailure result (facts self.old) (facts self.new) }
         ensures writes { IsTrue (facts self.old).store.honest
             → WritesTo at (length bytes.now) (facts self.old) (facts self.new) }
         ensures room { IfOk result (λ k. k ≤ length bytes.now) }
@@ -55,7 +55,7 @@ pub trait SystemFile: Drop {
     fn set_len(&mut self, n: u64) -> Result<(), SystemFault>
         // As of each call.
         ensures honest { (facts self.new).store.honest ≡ (facts self.old).store.honest }
-        ensures told { IsTrue (facts self.old).store.honest → Tells result (facts self.old) (facts self.new) }
+        ensures told { IsTrue (facts self.old).store.honest → CountsFailure result (facts self.old) (facts self.new) }
         ensures syncs { IsTrue (facts self.old).store.honest
             → (facts self.new).has_failed_sync ≡ (facts self.old).has_failed_sync }
         ensures time { IsTrue (facts self.old).store.honest → Elapses (facts self.old).store (facts self.new).store }
@@ -66,14 +66,15 @@ pub trait SystemFile: Drop {
             → Writes n 0 (facts self.old).store (facts self.new).store }
         // Refusals.
         ensures interrupted { IsInterrupted result → IsTrue (facts self.old).store.honest
-            → Rests (facts self.old).store (facts self.new).store };
+            → IsUnchanged (facts self.old).store (facts self.new).store };
 
     /// After a sync that succeeds a crash leaves the content, until the next write or `set_len`; but not if an earlier sync of the
     /// file has failed: the system may have dropped what it could not write then, and tells so only once.
     fn sync(&mut self) -> Result<(), SystemFault>
         ensures honest { (facts self.new).store.honest ≡ (facts self.old).store.honest }
-        ensures told { IsTrue (facts self.old).store.honest → Tells result (facts self.old) (facts self.new) }
-        ensures rests { IsTrue (facts self.old).store.honest → Rests (facts self.old).store (facts self.new).store }
+        ensures told { IsTrue (facts self.old).store.honest → CountsFailure result (facts self.old) (facts self.new) }
+        ensures unchanged { IsTrue (facts self.old).store.honest
+            → IsUnchanged (facts self.old).store (facts self.new).store }
         ensures syncs { (HasFailed result → ⊥) → IsTrue (facts self.old).store.honest
             → (facts self.new).has_failed_sync ≡ (facts self.old).has_failed_sync }
         ensures durable { OnOk result (IsTrue (facts self.old).store.honest → (facts self.old).has_failed_sync ≡ false

@@ -3,7 +3,7 @@ ghost use Rattle.std.specs.Prelude.{◌≡◌, ◌⊎◌, ◌≤◌, ◌↔◌, 
 ghost use Rattle.std.specs.List.{list_any};
 ghost use Rattle.geos_model.specs.File.{directory_text, directory_in, header_text, entry_text, entry_read, is_entry, is_map_block, is_version_in, greatest_handle};
 ghost use Rattle.geos_model.specs.declared.fault.Fault.TheVariants.{Memory, Damaged};
-ghost use Rattle.vm_space.specs.Listed.{shown, HasHeader, IsNext, entries_read, are_entries};
+ghost use Rattle.vm_space.specs.Listed.{shown, HasHeader, IsNextEntry, entries_read, are_entries};
 
 use crate::format::extent::{read_extent, write_extent};
 use crate::pages::is_in_file;
@@ -92,7 +92,7 @@ fn entry_bytes(version: u16, entry: &Entry) -> [u8; ENTRY_LENGTH]
 }
 
 /// Reads a directory in a file of `file_length` bytes and of the version `file_version`, that of its slot. `Damaged` is
-/// the answer to bytes that aren't the text of one, `Memory` to want of memory.
+/// the answer to bytes that aren't the text of one, `Memory` to lack of memory.
 pub fn read_dir(
     alloc: Global,
     bytes: &[u8],
@@ -194,7 +194,7 @@ fn is_next(
     file_length: u64,
     file_version: u8,
 ) -> bool
-    ensures { IsTrue result ↔ IsNext file_version file_length version last text.now entry.now }
+    ensures { IsTrue result ↔ IsNextEntry file_version file_length version last text.now entry.now }
 {
     last < entry.handle.0
         && is_entry_in(*entry, version, file_length, file_version)

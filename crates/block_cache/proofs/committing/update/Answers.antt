@@ -4,7 +4,7 @@ use Rattle.std.proofs.lemmas.Result.{err_from_is_err_and}
 use Rattle.vm_file.specs.Effects.{IsCommit, IsWorn}
 use Rattle.vm_file.proofs.EffectsLemmas.{Fails-after, Fails-as}
 use Rattle.vm_file.proofs.ResultLemmas.{any_way}
-use Rattle.block_cache.specs.Frames.{overlay, covered}
+use Rattle.block_cache.specs.Frames.{overlay, with_frames}
 use Rattle.block_cache.proofs.Commits.{kept_after, committed_under}
 use Rattle.block_cache.proofs.Overlay.{clean_overlay}
 use Rattle.block_cache.proofs.committing.update.Goals as goal
@@ -13,7 +13,7 @@ pub returns-in_err-begin-clause-commit : goal.returns-in_err-begin-clause-commit
 returns-in_err-begin-clause-commit g c =
     let p = err_from_is_err_and c.from_residual.result c.from_residual.ensures.1 in
     let a = c.args.file.now in let es = c.args.frames.now.entries in
-    subst (λ r. IsCommit g.S.Store.facts (overlay es a.document, a.disk.saved) (overlay es a.document) (covered a es) (covered c.begin.new.file c.begin.new.frames.entries) r) (sym (p.1 ∙ ap Err p.2))
+    subst (λ r. IsCommit g.S.Store.facts (overlay es a.document, a.disk.saved) (overlay es a.document) (with_frames a es) (with_frames c.begin.new.file c.begin.new.frames.entries) r) (sym (p.1 ∙ ap Err p.2))
     (c.in_err-begin.ensures.err _ _)
 
 pub returns-clause-commit : goal.returns-clause-commit
@@ -23,7 +23,7 @@ returns-clause-commit g c =
     let es = c.args.frames.now.entries in let fs = c.begin.new.frames.entries in
     let moves = c.begin.ensures.moves in
     let document : IsTrue (facts a.disk.store).honest → b.document ≡ overlay es a.document =
-    λ so. sym (clean_overlay (facts b.disk.store).honest fs b.document (subst IsTrue (sym moves.passes.honest) so) moves.kept c.in_ok-begin.ensures.ok.1.each) ∙ moves.drifts.same so in
+    λ so. sym (clean_overlay (facts b.disk.store).honest fs b.document (subst IsTrue (sym moves.passes.honest) so) moves.kept c.in_ok-begin.ensures.ok.1.each) ∙ moves.unless_corrupt.same so in
     committed_under facts g.met.S.Store.timely a b c.commit_update.new.self es fs (overlay es a.document, a.disk.saved) (b.document, b.disk.saved) c.commit_update.result moves
     (λ so i. (document so i, moves.passes.saved so i)) c.in_ok-begin.ensures.ok.0 c.commit_update.ensures.commit
 

@@ -4,7 +4,7 @@ use Rattle.std.proofs.lemmas.Result.{err_from_is_err_and}
 use Rattle.lru.specs.LruCache.{LruCache}
 use Rattle.vm_file.specs.Effects.{NoFault}
 use Rattle.vm_file.proofs.EffectsLemmas.{Fails-as}
-use Rattle.block_cache.specs.Frames.{Moves}
+use Rattle.block_cache.specs.Frames.{KeepsOverlay}
 use Rattle.block_cache.specs.declared.frame.Frame.{Frame}
 use Rattle.block_cache.proofs.Overlay.{bare_kept, bare}
 use Rattle.block_cache.proofs.Steps.{moves_frames, moves_both}
@@ -25,5 +25,5 @@ returns-clause-moves g c =
     let honest = (facts b.disk.store).honest in
     let moves = c.flush.ensures.moves in
     let clean = c.in_ok-flush.ensures.clean.each in
-    subst (λ (x : LruCache ℕ Frame). Moves facts a es b x.entries) (sym c.clear.ensures)
+    subst (λ (x : LruCache ℕ Frame). KeepsOverlay facts a es b x.entries) (sym c.clear.ensures)
     (moves_both facts a es b fs b [] moves (moves_frames facts b fs [] (bare_kept honest b.document) (bare honest fs b.document moves.kept clean)))

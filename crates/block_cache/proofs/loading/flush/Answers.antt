@@ -10,7 +10,7 @@ loop-block-preserved g c =
     let l = c.loop-block in
     let b = c.write_back.new in (
       moves_both g.S.Store.facts c.args.file.now c.args.frames.now.entries l.file l.frames.entries b.file b.frames.entries l.invariant.0 c.write_back.ensures.moves,
-      c.write_back.ensures.seats ∙ l.invariant.1,
+      c.write_back.ensures.residents ∙ l.invariant.1,
       c.write_back.ensures.cap ∙ l.invariant.2,
     )
 

@@ -1,7 +1,7 @@
 use Rattle.std.proofs.Common.{◌≡◌, refl, sym, ap, ◌∙◌, inr}
 use Rattle.std.specs.FinMap.{get}
 use Rattle.geos_model.specs.Document.{block_at, is_heap, is_heap_body}
-use Rattle.block_cache.specs.Bodies.{body_of}
+use Rattle.block_cache.specs.Bodies.{body_value}
 use Rattle.block_cache.proofs.Loaded.{body_is, no_image, unread, kinds_differ}
 use Rattle.block_cache.proofs.Overlay.{heap_body}
 use Rattle.block_cache.proofs.loading.read_body.Goals as goal
@@ -10,13 +10,13 @@ pub returns-then-is_heap-clause-same : goal.returns-then-is_heap-clause-same
 returns-then-is_heap-clause-same g c = λ so.
     let d = c.args.file.now.document in
     let h = c.args.block.0 in
-    body_is (body_of c.in-Some.body) (block_at d h).body c.deref.result.now c.in-Some.ensures (c.deref.ensures.value ∙ c.in_ok-image.ensures.image so) (c.validity.ensures.document.bodies so h c.requires.live)
+    body_is (body_value c.in-Some.body) (block_at d h).body c.deref.result.now c.in-Some.ensures (c.deref.ensures.value ∙ c.in_ok-image.ensures.image so) (c.validity.ensures.document.bodies so h c.requires.live)
 
 pub returns-in-Some-clause-fails : goal.returns-in-Some-clause-fails
 returns-in-Some-clause-fails g c =
     let d = c.args.file.now.document in
     let h = c.args.block.0 in
-    let body = body_of c.in-Some.body in
+    let body = body_value c.in-Some.body in
     unread g.S.Store.facts _ _ _ _ refl (inr refl) (λ _ so.
     let same : (block_at d h).body ≡ body = body_is body (block_at d h).body c.deref.result.now c.in-Some.ensures (c.deref.ensures.value ∙ c.in_ok-image.ensures.image so) (c.validity.ensures.document.bodies so h c.requires.live) in
     let kind : c.unwrap-is_heap.result.is_heap ≡ is_heap d h = rw c.unwrap-is_heap.ensures at c.entry.ensures.kind in

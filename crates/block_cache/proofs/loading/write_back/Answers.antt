@@ -1,12 +1,12 @@
 use Rattle.std.proofs.Common.{◌≡◌, ◌<◌, ℕ, List, [], ◌∷◌, false, cond, Some, nat_eq, refl, ap, sym, subst, ◌∙◌, eq-eqb}
 use Rattle.std.specs.Option.{option_map, option_map_or}
 use Rattle.geos_model.specs.Document.{is_heap_body, with_body}
-use Rattle.vm_file.specs.Disk.{Drifts}
+use Rattle.vm_file.specs.Disk.{SameUnlessCorrupt}
 use Rattle.vm_file.specs.Calls.{put_all}
 use Rattle.std.specs.Map.{set_value}
 use Rattle.lru.specs.LruCache.{LruCache}
-use Rattle.block_cache.specs.Bodies.{body_of}
-use Rattle.block_cache.specs.Frames.{held, seats, with_frame, some_changed}
+use Rattle.block_cache.specs.Bodies.{body_value}
+use Rattle.block_cache.specs.Frames.{frame_of, residents, with_frame, some_changed}
 use Rattle.block_cache.specs.declared.body.BlockBody.{BlockBody}
 use Rattle.block_cache.specs.declared.frame.Frame.{Frame}
 use Rattle.block_cache.proofs.Seats.{seats_kept, fewer_changed}
@@ -18,7 +18,7 @@ pub put_of-requires : goal.put_of-requires
 put_of-requires g c =
     let b = c.in-Some.ensures in
     let kept = c.requires.kept.each c.args.block.0 b.frame b.here in
-    record { live = kept.live; kind = ap (λ (x : BlockBody). is_heap_body (body_of x)) (sym b.same) ∙ kept.kind }
+    record { live = kept.live; kind = ap (λ (x : BlockBody). is_heap_body (body_value x)) (sym b.same) ∙ kept.kind }
 
 pub returns-in_err-put_of-in-Some-clause-moves : goal.returns-in_err-put_of-in-Some-clause-moves
 returns-in_err-put_of-in-Some-clause-moves g c = moves_none g.S.Store.facts c.args.file.now c.args.frames.now.entries c.requires.kept
@@ -31,9 +31,9 @@ returns-in_err-put_blocks-in-Some-clause-moves g c =
     let keeps = c.in_err-put_blocks-in-Some.ensures.keeps in
     moves_drift g.S.Store.facts c.args.file.now c.put_blocks.new.self c.args.frames.now.entries c.requires.kept keeps.passes keeps.document
 
-now_held : (es : List (ℕ × Frame)) (h : ℕ) (f : Frame) (c : LruCache ℕ Frame) (cap : ℕ) → held es h ≡ Some f → c ≡ record { entries = with_frame es h (λ f. record f { changed = false }); cap = cap }
-    → (q : ℕ) → held c.entries q ≡ cond (nat_eq h q) (Some (record f { changed = false })) (held es q)
-now_held es h f c cap here is q = ap (λ (x : LruCache ℕ Frame). held x.entries q) is ∙ held-with_frame es h (λ f. record f { changed = false }) q ∙ ap (λ o. cond (nat_eq h q) (option_map (λ (f : Frame). record f { changed = false }) o) (held es q)) here
+now_held : (es : List (ℕ × Frame)) (h : ℕ) (f : Frame) (c : LruCache ℕ Frame) (cap : ℕ) → frame_of es h ≡ Some f → c ≡ record { entries = with_frame es h (λ f. record f { changed = false }); cap = cap }
+    → (q : ℕ) → frame_of c.entries q ≡ cond (nat_eq h q) (Some (record f { changed = false })) (frame_of es q)
+now_held es h f c cap here is q = ap (λ (x : LruCache ℕ Frame). frame_of x.entries q) is ∙ held-with_frame es h (λ f. record f { changed = false }) q ∙ ap (λ o. cond (nat_eq h q) (option_map (λ (f : Frame). record f { changed = false }) o) (frame_of es q)) here
 
 pub returns-in_ok-put_blocks-in-Some-clause-moves : goal.returns-in_ok-put_blocks-in-Some-clause-moves
 returns-in_ok-put_blocks-in-Some-clause-moves g c =
@@ -45,23 +45,23 @@ returns-in_ok-put_blocks-in-Some-clause-moves g c =
     let b = c.in-Some.ensures in
     let e = c.put_blocks.new.self.document in
     let f = b.frame in
-    let put : put_all (c.in_ok-put_of-in-Some.field-0 ∷ []) d ≡ with_body d h (body_of f.body) = c.in_ok-put_of-in-Some.ensures.is ∙ ap (λ x. with_body d h (body_of x)) (sym b.same) in
-    let drifts : Drifts honest (with_body d h (body_of f.body)) e = subst (λ x. Drifts honest x e) put c.in_ok-put_blocks-in-Some.ensures.keeps.document in
+    let put : put_all (c.in_ok-put_of-in-Some.field-0 ∷ []) d ≡ with_body d h (body_value f.body) = c.in_ok-put_of-in-Some.ensures.is ∙ ap (λ x. with_body d h (body_value x)) (sym b.same) in
+    let unless_corrupt : SameUnlessCorrupt honest (with_body d h (body_value f.body)) e = subst (λ x. SameUnlessCorrupt honest x e) put c.in_ok-put_blocks-in-Some.ensures.keeps.document in
     let now = now_held es h f c.mark.new.frames c.args.frames.now.cap b.here c.mark.ensures in
     record {
       passes = c.in_ok-put_blocks-in-Some.ensures.keeps.passes;
-      drifts = written honest es d h f (record f { changed = false }) c.mark.new.frames.entries e c.requires.kept b.here refl refl now drifts;
-      kept = kept_passes facts c.args.file.now c.put_blocks.new.self c.mark.new.frames.entries c.in_ok-put_blocks-in-Some.ensures.keeps.passes (written_kept honest es d h f (record f { changed = false }) c.mark.new.frames.entries e c.requires.kept b.here refl refl now drifts);
+      unless_corrupt = written honest es d h f (record f { changed = false }) c.mark.new.frames.entries e c.requires.kept b.here refl refl now unless_corrupt;
+      kept = kept_passes facts c.args.file.now c.put_blocks.new.self c.mark.new.frames.entries c.in_ok-put_blocks-in-Some.ensures.keeps.passes (written_kept honest es d h f (record f { changed = false }) c.mark.new.frames.entries e c.requires.kept b.here refl refl now unless_corrupt);
     }
 
-pub returns-in_ok-put_blocks-in-Some-clause-seats : goal.returns-in_ok-put_blocks-in-Some-clause-seats
-returns-in_ok-put_blocks-in-Some-clause-seats g c =
+pub returns-in_ok-put_blocks-in-Some-clause-residents : goal.returns-in_ok-put_blocks-in-Some-clause-residents
+returns-in_ok-put_blocks-in-Some-clause-residents g c =
     let es = c.args.frames.now.entries in
     let h = c.args.block.0 in
     let b = c.in-Some.ensures in
     let f = b.frame in
     let at : with_frame es h (λ f. record f { changed = false }) ≡ set_value (nat_eq h) es (record f { changed = false }) = ap (λ o. option_map_or (λ (f : Frame). set_value (nat_eq h) es (record f { changed = false })) o es) b.here in
-    ap (λ (x : LruCache ℕ Frame). seats x.entries) c.mark.ensures ∙ ap seats at ∙ seats_kept h es f (record f { changed = false }) b.here refl
+    ap (λ (x : LruCache ℕ Frame). residents x.entries) c.mark.ensures ∙ ap residents at ∙ seats_kept h es f (record f { changed = false }) b.here refl
 
 pub returns-in_ok-put_blocks-in-Some-clause-clean : goal.returns-in_ok-put_blocks-in-Some-clause-clean
 returns-in_ok-put_blocks-in-Some-clause-clean g c =
@@ -70,7 +70,7 @@ returns-in_ok-put_blocks-in-Some-clause-clean g c =
     let b = c.in-Some.ensures in
     let f = b.frame in
     let now = now_held es h f c.mark.new.frames c.args.frames.now.cap b.here c.mark.ensures in
-    ap (λ o. option_map_or (λ (f : Frame). f.changed) o false) (now h ∙ ap (λ t. cond t (Some (record f { changed = false })) (held es h)) (eq-eqb h h refl))
+    ap (λ o. option_map_or (λ (f : Frame). f.changed) o false) (now h ∙ ap (λ t. cond t (Some (record f { changed = false })) (frame_of es h)) (eq-eqb h h refl))
 
 pub returns-in_ok-put_blocks-in-Some-clause-fewer : goal.returns-in_ok-put_blocks-in-Some-clause-fewer
 returns-in_ok-put_blocks-in-Some-clause-fewer g c changed =

@@ -4,8 +4,8 @@ use Rattle.std.specs.Option.{option_map, IfSome}
 use Rattle.std.specs.FinMap.{get}
 use Rattle.geos_model.specs.Document.{is_valid_body, is_vm_handle, most_blocks}
 use Rattle.lru.specs.LruCache.{LruCache}
-use Rattle.block_cache.specs.Bodies.{body_of}
-use Rattle.block_cache.specs.Frames.{held, seats, overlay, with_frame, AreKept}
+use Rattle.block_cache.specs.Bodies.{body_value}
+use Rattle.block_cache.specs.Frames.{frame_of, residents, overlay, with_frame, AreFramesOf}
 use Rattle.block_cache.specs.declared.frame.Frame.{Frame}
 use Rattle.block_cache.proofs.Overlay.{block_by, overlay_valid, overlay_with_frame, kept_with_frame, held-with_frame}
 use Rattle.block_cache.proofs.Seats.{seats_same}
@@ -26,19 +26,19 @@ loop-block-preserved c =
     let is = c.mark_one.ensures.entries in
     record {
       shown = λ d. ap (λ (x : LruCache ℕ Frame). overlay x.entries d) is ∙ overlay_with_frame es b marked (λ f. refl) d ∙ l.invariant.shown d;
-      kept = λ honest d kept. subst (λ (x : LruCache ℕ Frame). AreKept honest d x.entries) (sym is) (kept_with_frame es b marked (λ f. refl) honest d (λ f is few. few) (λ f wrong. absurd (cc wrong)) (l.invariant.kept honest d kept));
+      kept = λ honest d kept. subst (λ (x : LruCache ℕ Frame). AreFramesOf honest d x.entries) (sym is) (kept_with_frame es b marked (λ f. refl) honest d (λ f is few. few) (λ f wrong. absurd (cc wrong)) (l.invariant.kept honest d kept));
       marked = λ q f low at.
-          let now : held (with_frame es b marked) q ≡ Some f = sym (ap (λ (x : LruCache ℕ Frame). held x.entries q) is) ∙ at in
+          let now : frame_of (with_frame es b marked) q ≡ Some f = sym (ap (λ (x : LruCache ℕ Frame). frame_of x.entries q) is) ∙ at in
           elim (cases_eq q b) as (λ _. f.changed ≡ true) [
-            | inl here ↦ is_marked (held es b) f (sym (ap (λ t. cond t (option_map marked (held es b)) (held es q)) (eq-eqb b q (sym here))) ∙ sym (held-with_frame es b marked q) ∙ now)
-            | inr other ↦ l.invariant.marked q f (omega (arith, low, other)) (sym (ap (λ t. cond t (option_map marked (held es b)) (held es q)) (ne_eqb b q (λ is. other (sym is)))) ∙ sym (held-with_frame es b marked q) ∙ now)
+            | inl here ↦ is_marked (frame_of es b) f (sym (ap (λ t. cond t (option_map marked (frame_of es b)) (frame_of es q)) (eq-eqb b q (sym here))) ∙ sym (held-with_frame es b marked q) ∙ now)
+            | inr other ↦ l.invariant.marked q f (omega (arith, low, other)) (sym (ap (λ t. cond t (option_map marked (frame_of es b)) (frame_of es q)) (ne_eqb b q (λ is. other (sym is)))) ∙ sym (held-with_frame es b marked q) ∙ now)
           ];
-      valid = λ q f low at. elim (cases_eq q b) as (λ _. is_valid_body (body_of f.body) ≡ true) [
-        | inl here ↦ subst (λ o. IfSome o (λ (g : Frame). is_valid_body (body_of g.body) ≡ true)) (ap (held c.mark_one.new.frames.entries) (sym here) ∙ at) c.mark_one.ensures.valid
-        | inr other ↦ l.invariant.valid q f (omega (arith, low, other)) (sym (ap (λ t. cond t (option_map marked (held es b)) (held es q)) (ne_eqb b q (λ is. other (sym is)))) ∙ sym (held-with_frame es b marked q)
-            ∙ sym (ap (λ (x : LruCache ℕ Frame). held x.entries q) is) ∙ at)
+      valid = λ q f low at. elim (cases_eq q b) as (λ _. is_valid_body (body_value f.body) ≡ true) [
+        | inl here ↦ subst (λ o. IfSome o (λ (g : Frame). is_valid_body (body_value g.body) ≡ true)) (ap (frame_of c.mark_one.new.frames.entries) (sym here) ∙ at) c.mark_one.ensures.valid
+        | inr other ↦ l.invariant.valid q f (omega (arith, low, other)) (sym (ap (λ t. cond t (option_map marked (frame_of es b)) (frame_of es q)) (ne_eqb b q (λ is. other (sym is)))) ∙ sym (held-with_frame es b marked q)
+            ∙ sym (ap (λ (x : LruCache ℕ Frame). frame_of x.entries q) is) ∙ at)
       ];
-      seats_kept = ap (λ (x : LruCache ℕ Frame). seats x.entries) is ∙ seats_same b es marked (λ f. refl) ∙ l.invariant.seats_kept;
+      seats_kept = ap (λ (x : LruCache ℕ Frame). residents x.entries) is ∙ seats_same b es marked (λ f. refl) ∙ l.invariant.seats_kept;
       cap = ap (λ (x : LruCache ℕ Frame). x.cap) is ∙ l.invariant.cap;
     }
 

@@ -1,5 +1,5 @@
 use Rattle.std.proofs.Common.{◌∷◌, [], List, refl}
-use Rattle.vm_blocks.specs.Changes.{turned, turned_all}
+use Rattle.vm_blocks.specs.Changes.{directed, directed_all}
 use Rattle.vm_blocks.specs.declared.change.Change.{Change}
 use Rattle.vm_blocks.proofs.ChangingAll.{all_unmarked}
 use Rattle.call_tests.proofs.Parts.{IsPartOf, parts_listed, turned_part_of}
@@ -18,10 +18,10 @@ change_all-requires-clause-listed g c =
     let p2 : IsPartOf d c2 = record { handle = record { 0 = 2 }; part = c.in_ok-chunk_in-2.ensures.0; is = c.in_ok-chunk_in-2.ensures.1; live = live.second refl } in
     let p3 : IsPartOf d c3 = record { handle = record { 0 = 3 }; part = c.in_ok-chunk_in-3.ensures.0; is = c.in_ok-chunk_in-3.ensures.1; live = live.third refl } in
     let p4 : IsPartOf d c4 = record { handle = record { 0 = 4 }; part = c.in_ok-chunk_in-4.ensures.0; is = c.in_ok-chunk_in-4.ensures.1; live = live.fourth refl } in
-    parts_listed d (turned way c4 ∷ turned way c3 ∷ turned way c2 ∷ turned way c1 ∷ [])
+    parts_listed d (directed way c4 ∷ directed way c3 ∷ directed way c2 ∷ directed way c1 ∷ [])
     (turned_part_of way d c4 p4, (turned_part_of way d c3 p3, (turned_part_of way d c2 p2, (turned_part_of way d c1 p1, tt))))
 
 pub returns : goal.returns
 returns g c =
     let changes : List Change = c.in_ok-chunk_in.field-0 ∷ c.in_ok-chunk_in-2.field-0 ∷ c.in_ok-chunk_in-3.field-0 ∷ c.in_ok-chunk_in-4.field-0 ∷ [] in
-    all_unmarked g.S.Store.facts (turned_all c.args.direction changes) c.change_all.result c.args.blocks.now c.change_all.new.self c.change_all.ensures.ok c.change_all.ensures.err c.requires
+    all_unmarked g.S.Store.facts (directed_all c.args.direction changes) c.change_all.result c.args.blocks.now c.change_all.new.self c.change_all.ensures.ok c.change_all.ensures.err c.requires

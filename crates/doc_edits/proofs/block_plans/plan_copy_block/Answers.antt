@@ -1,5 +1,5 @@
 use Rattle.std.proofs.Common.{◌∷◌, [], ap, ◌∙◌, sym, inr}
-use Rattle.block_cache.specs.Bodies.{body_of}
+use Rattle.block_cache.specs.Bodies.{body_value}
 use Rattle.geos_model.specs.Document.{Block}
 use Rattle.vm_blocks.proofs.KeepingLaws.{loaded-live}
 use Rattle.vm_blocks.proofs.KindLemmas.{typed_there}
@@ -17,9 +17,9 @@ returns-in-None g c =
 pub returns : goal.returns
 returns g c =
     let d = c.args.blocks.now.document in let h = c.args.from in let new = c.in-Some.handle in
-    copy_planned d h c.attributes.result (body_of c.body.result.now) c.attributes.ensures.value c.body.ensures c.in_ok-made.made new (sym c.in-Some.ensures.value)
+    copy_planned d h c.attributes.result (body_value c.body.result.now) c.attributes.ensures.value c.body.ensures c.in_ok-made.made new (sym c.in-Some.ensures.value)
     (record { handle = c.in-Some.ensures.within; free = c.in-Some.ensures.free })
     (c.in_ok-made.ensures ∙ ap (λ (b : Block). (new.0, b) ∷ []) c.in_ok-copy.ensures)
 
-pub saved_block-requires : goal.saved_block-requires
-saved_block-requires g c = typed_there c.args.blocks.now.document c.args.from.0 (body_of c.body.result.now) c.attributes.result c.body.ensures c.attributes.ensures.typed
+pub imaged_block-requires : goal.imaged_block-requires
+imaged_block-requires g c = typed_there c.args.blocks.now.document c.args.from.0 (body_value c.body.result.now) c.attributes.result c.body.ensures c.attributes.ensures.typed

@@ -39,4 +39,4 @@ returns-clause-planned g c = λ steady.
     (ap (λ (m : Member). m.handle.0) read ∙ first_copy d c.args.root copies first some planned.0 planned.1)
 
 pub returns-clause-ready : goal.returns-clause-ready
-returns-clause-ready g c = record { listed = c.in_ok-copies.ensures.applies; takes = tt; at_hand = tt }
+returns-clause-ready g c = record { listed = c.in_ok-copies.ensures.applies; takes = tt; in_memory = tt }

@@ -31,4 +31,4 @@ returns-clause-planned g c = λ steady.
     free_planned c.free_plan.new.blocks.document c.args.root c.in_ok-chain.chain planned.0 planned.1 (c.in_ok-chain.ensures.applies steady)
 
 pub returns-clause-ready : goal.returns-clause-ready
-returns-clause-ready g c = record { listed = c.in_ok-chain.ensures.handles; takes = tt; at_hand = tt }
+returns-clause-ready g c = record { listed = c.in_ok-chain.ensures.handles; takes = tt; in_memory = tt }

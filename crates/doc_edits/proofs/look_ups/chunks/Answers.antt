@@ -5,7 +5,7 @@ use Rattle.geos_model.specs.declared.command.Command.TheVariants as commands
 use Rattle.geos_model.specs.declared.fault.Fault.{Fault}
 use Rattle.geos_model.specs.declared.fault.Fault.TheVariants.{Memory}
 use Rattle.geos_model.specs.declared.handle.VmHandle.{VmHandle}
-use Rattle.vm_blocks.specs.Keeping.{Lacks, is_shut_out}
+use Rattle.vm_blocks.specs.Keeping.{IsEnvironmentFault, is_shut_out}
 use Rattle.vm_blocks.proofs.KeepingLaws.{lacks-memory}
 use Rattle.doc_edits.specs.LookUps.{makes_list}
 use Rattle.doc_edits.proofs.LookUps.{answered_with_room, lacked, load_missed, load_rests, load_room, load_seen, refused_as}
@@ -21,11 +21,11 @@ returns-in_err-load_heap g c =
     load_missed g.S.Store.facts is_heap c.args.blocks.now c.load_heap.new.self b.0 c.load_heap.result e.keeps e.early e.shut e.already (commands.Chunks b) (looks b) refl
     _ c.from_residual.result c.in_err-load_heap.field-0.0 c.in_err-load_heap.was c.from_residual.ensures.1 c.in_err-load_heap.ensures.err
 
--- memory is wanting for the list
+-- memory runs out for the list
 pub returns-in_err-handles : goal.returns-in_err-handles
 returns-in_err-handles g c =
     let a = c.args.blocks.now in let loaded = c.load_heap.new.self in let b = c.args.block in let e = c.load_heap.ensures in
-    let lacks = Lacks g.S.Store.facts a.disk.store loaded.disk.store in
+    let lacks = IsEnvironmentFault g.S.Store.facts a.disk.store loaded.disk.store in
     let lacks_list = λ (fault : Fault). (fault ≡ Memory) × (makes_list (commands.Chunks b) ≡ true) in
     let room : is_shut_out a b.0 ≡ false = load_room g.S.Store.facts is_heap a loaded b.0 c.load_heap.result e.keeps e.early e.shut e.already (commands.Chunks b) (looks b) refl tt c.in_ok-load_heap.was in
     record {

@@ -2,9 +2,9 @@ use Rattle.std.proofs.Common.{◌≡◌, true, false, IfErr, inr, sym, ◌∙◌
 use Rattle.std.proofs.lemmas.Bool.{true≢false}
 use Rattle.geos_model.specs.Document.{Document}
 use Rattle.geos_model.specs.Machine.{edit_needs}
-use Rattle.vm_blocks.specs.Keeping.{Lacks}
+use Rattle.vm_blocks.specs.Keeping.{IsEnvironmentFault}
 use Rattle.vm_blocks.proofs.KeepingLaws.{lacks-memory}
-use Rattle.doc_edits.specs.Planning.{RefusesAtHand}
+use Rattle.doc_edits.specs.Planning.{RefusesInMemory}
 use Rattle.doc_edits.specs.Room.{has_no_room}
 use Rattle.doc_edits.proofs.Planned.{ready, refused_so}
 use Rattle.doc_edits.proofs.Refusals.{accepted_so, carried, carried_so, may_lack}
@@ -30,16 +30,16 @@ returns-clause-shut g c = λ out. absurd (true≢false (sym out ∙ c.in_ok-load
 pub returns-clause-planned : goal.returns-clause-planned
 returns-clause-planned g c =
     let a = c.args.blocks.now in let loaded = c.load_scope.new.blocks in
-    may_lack (Lacks g.S.Store.facts a.disk.store loaded.disk.store) (has_no_room a (edit_needs c.args.edit.now)) c.args.edit.now loaded.document _ c.plan_loaded.result c.in_ok-load_scope.ensures.brought.room (lacks-memory g.S.Store.facts a.disk.store loaded.disk.store) c.plan_loaded.ensures.planned
+    may_lack (IsEnvironmentFault g.S.Store.facts a.disk.store loaded.disk.store) (has_no_room a (edit_needs c.args.edit.now)) c.args.edit.now loaded.document _ c.plan_loaded.result c.in_ok-load_scope.ensures.brought.room (lacks-memory g.S.Store.facts a.disk.store loaded.disk.store) c.plan_loaded.ensures.planned
 
 pub returns-clause-ready : goal.returns-clause-ready
 returns-clause-ready g c =
     let loaded = c.load_scope.new.blocks in
-    ready loaded c.args.edit.now (RefusesAtHand c.args.edit.now loaded.document) c.plan_loaded.result c.plan_loaded.ensures.planned c.in_ok-load_scope.ensures.ok
+    ready loaded c.args.edit.now (RefusesInMemory c.args.edit.now loaded.document) c.plan_loaded.result c.plan_loaded.ensures.planned c.in_ok-load_scope.ensures.ok
 
 pub returns-clause-plain : goal.returns-clause-plain
 returns-clause-plain g c = λ plain.
-    ((c.in_ok-load_scope.ensures.plain plain).1, refused_so c.plan_loaded.result _ (RefusesAtHand c.args.edit.now c.load_scope.new.blocks.document) c.plan_loaded.ensures.planned)
+    ((c.in_ok-load_scope.ensures.plain plain).1, refused_so c.plan_loaded.result _ (RefusesInMemory c.args.edit.now c.load_scope.new.blocks.document) c.plan_loaded.ensures.planned)
 
 pub returns-in_err-load_scope-clause-already : goal.returns-in_err-load_scope-clause-already
 returns-in_err-load_scope-clause-already g c = λ nothing.
@@ -49,4 +49,4 @@ returns-in_err-load_scope-clause-already g c = λ nothing.
 pub returns-clause-already : goal.returns-clause-already
 returns-clause-already g c = λ nothing.
     let w = c.in_ok-load_scope.ensures.brought.already nothing in
-    (w.0, w.1, subst (λ (d : Document). IfErr c.plan_loaded.result (RefusesAtHand c.args.edit.now d)) w.1 (refused_so c.plan_loaded.result _ (RefusesAtHand c.args.edit.now c.load_scope.new.blocks.document) c.plan_loaded.ensures.planned))
+    (w.0, w.1, subst (λ (d : Document). IfErr c.plan_loaded.result (RefusesInMemory c.args.edit.now d)) w.1 (refused_so c.plan_loaded.result _ (RefusesInMemory c.args.edit.now c.load_scope.new.blocks.document) c.plan_loaded.ensures.planned))

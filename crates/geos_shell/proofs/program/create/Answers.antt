@@ -12,8 +12,8 @@ returns-in-Ok-create-clause-ok g c =
         failures = file.follows.failures;
         exact = made.exact;
         machine = λ target. rw c.from.ensures at (made.machine target);
-        attempted = file.new_file.attempted;
+        in_doubt = file.new_file.in_doubt;
         numbered = λ so. file.new_file.numbered (subst IsTrue (sym file.follows.honest) so);
-        settled = file.new_file.settled;
+        crash_consistent = file.new_file.crash_consistent;
       });
     }

@@ -9,7 +9,7 @@ returns-in-Ok-open_target-clause-ok g c =
     let frames : c.in-Ok.session.frames ≡ c.args.options.cache = cc (opened.new.1, c.from.ensures) in
     record {
       target_is = c.in-Ok-open_target.ensures.ok;
-      session_is = rw c.requires.old (is_opened g.F.Opened.Store.facts c.args.options.cache c.args.store c.in-Ok.session found.follows.honest found.follows.failures found.rests found.documents found.now opened.exact (rw c.from.ensures at opened.machine) frames found.sequence found.numbered found.settled);
+      session_is = rw c.requires.old (is_opened g.F.Opened.Store.facts c.args.options.cache c.args.store c.in-Ok.session found.follows.honest found.follows.failures found.unchanged found.documents found.now opened.exact (rw c.from.ensures at opened.machine) frames found.sequence found.numbered found.crash_consistent);
     }
 
 -- The target can't be opened, and the document's store is closed.
@@ -24,7 +24,7 @@ returns-in-Err-open_target-clause-err g c =
       untouched = λ is. let no : true ≡ false = sym is ∙ c.requires.old in absurd (cc no);
       was_opened = λ is. (
         c.in-Ok.session,
-        is_opened g.F.Opened.Store.facts c.args.options.cache c.args.store c.in-Ok.session found.follows.honest found.follows.failures found.rests found.documents found.now opened.exact (rw c.from.ensures at opened.machine) frames found.sequence found.numbered found.settled,
+        is_opened g.F.Opened.Store.facts c.args.options.cache c.args.store c.in-Ok.session found.follows.honest found.follows.failures found.unchanged found.documents found.now opened.exact (rw c.from.ensures at opened.machine) frames found.sequence found.numbered found.crash_consistent,
         c.close-in-Err-open_target.ensures,
       );
       closes = c.close-in-Err-open_target-2.ensures;

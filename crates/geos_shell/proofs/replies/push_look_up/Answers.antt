@@ -1,6 +1,6 @@
 use Rattle.std.proofs.Common.{ap, rules}
 use Rattle.geos_model.specs.Reply.{AreEqual, BytesAre, NumberIs, blocks_are, chunks_are, info_is, reply_of}
-use Rattle.undo_log.specs.Records.{machine_of}
+use Rattle.undo_log.specs.Sessions.{machine_of}
 use Rattle.geos_shell.proofs.LookUps.{find_step, map_block_step, undos_step, redos_step}
 use Rattle.undo_log.proofs.Keeping.{kept_passes}
 use Rattle.geos_shell.proofs.Replying.{told_at_rest, told_mapped, told_mapped_at_rest}

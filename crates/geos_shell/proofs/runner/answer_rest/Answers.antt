@@ -1,6 +1,6 @@
 use Rattle.std.proofs.Common.{inl, inr, refl}
 use Rattle.std.proofs.lemmas.Result.{err_from_is_err_and}
-use Rattle.geos_shell.specs.Holdings.{held}
+use Rattle.geos_shell.specs.Holdings.{holding}
 use Rattle.geos_shell.specs.Progress.{moment}
 use Rattle.geos_shell.proofs.Runs.{Unsent-end}
 use Rattle.geos_shell.proofs.runner.answer_rest.Goals as goal
@@ -17,7 +17,7 @@ returns-in-Err-clause-err g c =
 -- The writer failed.
 pub returns-in_err-send-clause-err : goal.returns-in_err-send-clause-err
 returns-in_err-send-clause-err g c =
-    let old = moment (held c.args.session.now c.args.target.now c.args.former.now) c.args.answering.now in
-    let new = moment (held c.end-ended.new.session c.end-ended.new.target c.end-ended.new.former) c.end-ended.new.self in
+    let old = moment (holding c.args.session.now c.args.target.now c.args.former.now) c.args.answering.now in
+    let new = moment (holding c.end-ended.new.session c.end-ended.new.target c.end-ended.new.former) c.end-ended.new.self in
     let p = err_from_is_err_and c.from_residual.result c.from_residual.ensures.1 in
     rw (p.1, p.2, c.in_err-send.ensures.err) (inl (refl, Unsent-end g.S.Store.facts old new c.end-ended.result c.end-ended.ensures.ok c.end-ended.ensures.err))

@@ -1,14 +1,14 @@
 use Rattle.std.proofs.Common.{◌<◌, length, take, arith, length-take}
 use Rattle.std.proofs.KnownBytes.{Keeps-refl}
 use Rattle.std.proofs.lemmas.Result.{IfErr-weaker, err_from_is_err_and, on_ok_weaker}
-use Rattle.geos_shell.specs.Holdings.{held}
+use Rattle.geos_shell.specs.Holdings.{holding}
 use Rattle.geos_shell.proofs.Runs.{Ran-none, Ran-kept, Ran-piece, AnswersFinished-now, AnswersSome-piece, AnswersSome-rest, AnswersUnsent-behind, AnswersAll-end, EndsBy-or}
 use Rattle.geos_shell.proofs.runner.run_in_reads.Goals as goal
 use Rattle.geos_shell.proofs.runner.run_in_reads.Goals.{in-Interrupted, in-Bytes+in_ok-answer_piece-in-Bytes}
 
 pub loop-init : goal.loop-init
 loop-init g c = λ exact.
-    Ran-none g.S.Store.facts _ _ (held c.args.session.now c.args.target.now c.args.former.now) (record { begun = c.new.result; replies = c.new-2.result }) exact c.new.ensures.items c.new-2.ensures.items
+    Ran-none g.S.Store.facts _ _ (holding c.args.session.now c.args.target.now c.args.former.now) (record { begun = c.new.result; replies = c.new-2.result }) exact c.new.ensures.items c.new-2.ensures.items
 
 -- The reader failed.
 pub returns-in_err-read_piece-clause-err : goal.returns-in_err-read_piece-clause-err
@@ -32,7 +32,7 @@ returns-in-End-clause-err g c =
     let to = g.R.Read.remaining c.read_piece.new.reader in
     let after = g.W.Write.contents c.answer_rest.new.writer in
     let gives = rw c.in-End.is at c.in_ok-read_piece.ensures.ok in
-    let new = held c.answer_rest.new.session c.answer_rest.new.target c.answer_rest.new.former in
+    let new = holding c.answer_rest.new.session c.answer_rest.new.target c.answer_rest.new.former in
     IfErr-weaker c.answer_rest.result _ _ (λ fault stops exact.
     EndsBy-or fault g.S.Store.facts _ _ to _ after new (AnswersUnsent-behind (c.loop.invariant exact) to _ new gives.0) (AnswersSome-rest (c.loop.invariant exact) to after new gives.0) stops) c.answer_rest.ensures.err
 
@@ -46,7 +46,7 @@ returns-in_err-answer_piece-in-Bytes-clause-err g c =
     let count = c.in-Bytes.count in
     let gives = rw c.in-Bytes.is at c.in_ok-read_piece.ensures.ok in
     let some : 0 < length (take count piece) = omega (arith, length-take count piece, gives.0, gives.1) in
-    let new = held c.answer_piece.new.session c.answer_piece.new.target c.answer_piece.new.former in
+    let new = holding c.answer_piece.new.session c.answer_piece.new.target c.answer_piece.new.former in
     let r = c.from_residual-in_err-answer_piece-in-Bytes in
     let p = err_from_is_err_and r.result r.ensures.1 in
     rw (p.1, p.2) (λ exact.

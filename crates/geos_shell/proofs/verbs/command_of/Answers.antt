@@ -1,5 +1,5 @@
 use Rattle.std.proofs.Common.{◌∙◌, sym, subst}
-use Rattle.geos_shell.specs.Reading.{Reads, command_has_bytes}
+use Rattle.geos_shell.specs.Reading.{ReadsAs, command_has_bytes}
 use Rattle.geos_shell.proofs.Rows.{last_rows}
 use Rattle.geos_shell.proofs.verbs.command_of.Goals as goal
 
@@ -7,4 +7,4 @@ use Rattle.geos_shell.proofs.verbs.command_of.Goals as goal
 pub returns : goal.returns
 returns c =
     let others = c.in_default.ensures ∙ c.in_default-chunk_edit.ensures ∙ c.in_default-slot_edit.ensures ∙ c.in_default-session_command.ensures ∙ c.in_default-look_up.ensures in
-    subst (λ o. Reads command_has_bytes o c.unwrap_or.result) (sym others) (last_rows c.args.name.now _ c.chain_or_lock.result _ c.chain_or_lock.ensures c.unwrap_or.ensures)
+    subst (λ o. ReadsAs command_has_bytes o c.unwrap_or.result) (sym others) (last_rows c.args.name.now _ c.chain_or_lock.result _ c.chain_or_lock.ensures c.unwrap_or.ensures)

@@ -5,7 +5,7 @@ use Rattle.geos_model.specs.Refusal.{first_refusal}
 use Rattle.geos_model.specs.declared.fault.Fault.TheVariants.{CacheFull}
 use Rattle.std.specs.Prelude.{OnErr}
 use Rattle.std.proofs.lemmas.Result.{err_from_is_err_and}
-use Rattle.vm_blocks.specs.Keeping.{Keeps}
+use Rattle.vm_blocks.specs.Keeping.{KeepsBlocks}
 use Rattle.vm_blocks.proofs.KeepingLaws.{honest-steady, keeps-locks, keeps-trans}
 use Rattle.undo_log.proofs.Edited.{carried_fault, made_at_rest, made_of_plan, never_refused, reads_chain, unlocked_change, unready_lacks}
 use Rattle.undo_log.proofs.making.make.Goals as goal
@@ -18,25 +18,25 @@ returns-in_err-change-clause-rules g c = λ so.
 pub returns-in_err-change-2-clause-err : goal.returns-in_err-change-2-clause-err
 returns-in_err-change-2-clause-err g c =
     let p = err_from_is_err_and c.from_residual-in_err-change-2.result c.from_residual-in_err-change-2.ensures.1 in
-    subst (λ r. OnErr r (Keeps g.S.Store.facts c.args.blocks.now c.change.new.self)) (sym p.1) (keeps-trans g.S.Store.facts c.args.blocks.now c.plan.new.blocks c.change.new.self c.plan.ensures.keeps c.in_err-change-2.ensures.err)
+    subst (λ r. OnErr r (KeepsBlocks g.S.Store.facts c.args.blocks.now c.change.new.self)) (sym p.1) (keeps-trans g.S.Store.facts c.args.blocks.now c.plan.new.blocks c.change.new.self c.plan.ensures.keeps c.in_err-change-2.ensures.err)
 
 pub returns-in_err-change-2-clause-refusals : goal.returns-in_err-change-2-clause-refusals
 returns-in_err-change-2-clause-refusals g c =
     let p = err_from_is_err_and c.from_residual-in_err-change-2.result c.from_residual-in_err-change-2.ensures.1 in
     rw (p.1, p.2) (inl (inl (unready_lacks g.S.Store.facts c.args.blocks.now c.plan.new.blocks c.plan.ensures.keeps c.in_ok-change.change c.change.new.self c.in_err-change-2.field-0.0
-    c.in_ok-change.ensures.ready.takes c.in_ok-change.ensures.ready.at_hand c.validity.ensures.few c.in_err-change-2.ensures.refusals)))
+    c.in_ok-change.ensures.ready.takes c.in_ok-change.ensures.ready.in_memory c.validity.ensures.few c.in_err-change-2.ensures.refusals)))
 
 pub returns-in_err-change-2-clause-rules : goal.returns-in_err-change-2-clause-rules
 returns-in_err-change-2-clause-rules g c = λ so.
     let p = err_from_is_err_and c.from_residual-in_err-change-2.result c.from_residual-in_err-change-2.ensures.1 in
     rw (p.1, p.2) (inl (unready_lacks g.S.Store.facts c.args.blocks.now c.plan.new.blocks c.plan.ensures.keeps c.in_ok-change.change c.change.new.self c.in_err-change-2.field-0.0
-    c.in_ok-change.ensures.ready.takes c.in_ok-change.ensures.ready.at_hand c.validity.ensures.few c.in_err-change-2.ensures.refusals))
+    c.in_ok-change.ensures.ready.takes c.in_ok-change.ensures.ready.in_memory c.validity.ensures.few c.in_err-change-2.ensures.refusals))
 
 pub returns-in_err-change-clause-already : goal.returns-in_err-change-clause-already
 returns-in_err-change-clause-already g c = λ other nothing.
-    let rests = c.in_err-change.ensures.already nothing in
+    let unchanged = c.in_err-change.ensures.already nothing in
     let p = err_from_is_err_and c.from_residual.result c.from_residual.ensures.1 in
-    (rests.0, rw (p.1, p.2) (rests.1, rests.2))
+    (unchanged.0, rw (p.1, p.2) (unchanged.1, unchanged.2))
 
 pub returns-in_err-change-2-clause-already : goal.returns-in_err-change-2-clause-already
 returns-in_err-change-2-clause-already g c = λ other nothing.
@@ -45,9 +45,9 @@ returns-in_err-change-2-clause-already g c = λ other nothing.
 pub returns-clause-already : goal.returns-clause-already
 returns-clause-already g c = λ other nothing.
     let plan = c.in_ok-change.ensures in let a = c.args.blocks.now in
-    let rests = plan.already nothing in
+    let unchanged = plan.already nothing in
     let planned = plan.planned (λ chain. absurd (reads_chain a c.args.edit.now (conditions c.args.edit.now a.document) nothing chain)) in
-    made_at_rest g.S.Store.facts a c.plan.new.blocks c.plan.ensures.keeps c.args.edit.now c.in_ok-change.change c.in_ok-change.done c.change.new.self c.change.result rests.0 rests.1 other plan.ready planned c.change.ensures.sure
+    made_at_rest g.S.Store.facts a c.plan.new.blocks c.plan.ensures.keeps c.args.edit.now c.in_ok-change.change c.in_ok-change.done c.change.new.self c.change.result unchanged.0 unchanged.1 other plan.ready planned c.change.ensures.sure
 
 pub returns-in_err-change-clause-shut : goal.returns-in_err-change-clause-shut
 returns-in_err-change-clause-shut g c = λ out.

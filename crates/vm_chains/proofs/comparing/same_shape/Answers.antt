@@ -7,7 +7,7 @@ use Rattle.geos_model.specs.declared.fault.Fault.TheVariants.{Memory}
 use Rattle.geos_model.specs.declared.handle.VmHandle.{VmHandle}
 use Rattle.vm_blocks.proofs.KeepingLaws.{keeps-refl, keeps-same, keeps-trans, lacks-later, lacks-memory}
 use Rattle.vm_chains.specs.Naming.{name_in, place_in}
-use Rattle.vm_chains.specs.declared.names.Names.{Names}
+use Rattle.vm_chains.specs.declared.renaming.Renaming.{Renaming}
 use Rattle.vm_chains.specs.Numbers.{numbers}
 use Rattle.vm_chains.proofs.Loading.{carried_so, still_live, still_room, still_then}
 use Rattle.vm_chains.proofs.ShapeLemmas.{same_from, same_next}
@@ -17,7 +17,7 @@ abbrev no_handle : VmHandle
 no_handle = record { 0 = 0 }
 
 -- a body that was read, with places for links
-body_is : (old d : Document) (hs : List VmHandle) (h : ℕ) (names : Names) (now items : List ℕ) → now ≡ items → items ≡ relinked (name_in names) (raw_bytes_of old h) → ((k : ℕ) → name_in names k ≡ place_in (numbers hs) k) → old ≡ d → now ≡ relinked (place_in (numbers hs)) (raw_bytes_of d h)
+body_is : (old d : Document) (hs : List VmHandle) (h : ℕ) (names : Renaming) (now items : List ℕ) → now ≡ items → items ≡ relinked (name_in names) (raw_bytes_of old h) → ((k : ℕ) → name_in names k ≡ place_in (numbers hs) k) → old ≡ d → now ≡ relinked (place_in (numbers hs)) (raw_bytes_of d h)
 body_is old d hs h names now items lent read named same = lent ∙ read ∙ (λ j. relinked (λ k. named k j) (raw_bytes_of (same j) h))
 
 pub returns-then-first-second-clause-keeps : goal.returns-then-first-second-clause-keeps

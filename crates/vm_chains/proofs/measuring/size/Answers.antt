@@ -1,7 +1,7 @@
 use Rattle.std.proofs.Common.{◌≡◌, sym, subst}
-use Rattle.geos_model.specs.Chain.{bytes_in, on_chain}
+use Rattle.geos_model.specs.Chain.{chain_bytes, on_chain}
 use Rattle.geos_model.specs.Document.{is_raw}
-use Rattle.vm_blocks.specs.Kinds.{IsOfOther}
+use Rattle.vm_blocks.specs.Kinds.{IsWrongBlock}
 use Rattle.vm_blocks.proofs.KeepingLaws.{keeps-refl, keeps-trans}
 use Rattle.vm_chains.specs.Answers.{IsChainFault}
 use Rattle.vm_chains.specs.Walking.{AreBlocks}
@@ -31,9 +31,9 @@ returns-clause-keeps g c = keeps-trans g.S.Store.facts c.args.blocks.now c.walk.
 pub returns-clause-value : goal.returns-clause-value
 returns-clause-value g c =
     read_on g.S.Store.facts c.args.blocks.now c.walk.new.blocks c.total_len.new.blocks c.walk.ensures.keeps c.total_len.ensures.keeps c.args.root.0 c.in_ok-handles.handles.items c.deref.result.now c.deref.ensures.value
-    (λ d. on_chain d c.args.root.0) (λ d hs n. n ≡ bytes_in d hs) c.total_len.result
+    (λ d. on_chain d c.args.root.0) (λ d hs n. n ≡ chain_bytes d hs) c.total_len.result
     (λ steady. (c.in_ok-handles.ensures.value steady).0) (λ steady. (c.in_ok-handles.ensures.value steady).1) c.total_len.ensures.value c.total_len.ensures.refusals
 
 pub returns-clause-refusals : goal.returns-clause-refusals
 returns-clause-refusals g c =
-    refused_on g.S.Store.facts c.args.blocks.now c.walk.new.blocks c.total_len.new.blocks c.walk.ensures.keeps c.total_len.ensures.keeps (IsChainFault (IsOfOther is_raw c.args.blocks.now.document c.args.root.0)) c.total_len.result c.total_len.ensures.refusals
+    refused_on g.S.Store.facts c.args.blocks.now c.walk.new.blocks c.total_len.new.blocks c.walk.ensures.keeps c.total_len.ensures.keeps (IsChainFault (IsWrongBlock is_raw c.args.blocks.now.document c.args.root.0)) c.total_len.result c.total_len.ensures.refusals

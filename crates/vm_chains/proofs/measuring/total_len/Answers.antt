@@ -2,7 +2,7 @@ use Rattle.std.proofs.Common.{◌≡◌, ◌+◌, ◌<◌, ℕ, List, [], ◌∷
 use Rattle.std.proofs.lemmas.List.{take_all}
 use Rattle.std.proofs.lemmas.List.Sums.{sum_by-cons, sum_by_more}
 use Rattle.std.specs.List.{sum_by}
-use Rattle.geos_model.specs.Chain.{bytes_in}
+use Rattle.geos_model.specs.Chain.{chain_bytes}
 use Rattle.geos_model.specs.Document.{Document, is_raw, raw_bytes_of}
 use Rattle.geos_model.specs.declared.handle.VmHandle.{VmHandle}
 use Rattle.vm_blocks.proofs.KeepingLaws.{keeps-refl, keeps-same, keeps-trans, lacks-later}
@@ -61,4 +61,4 @@ returns-clause-value g c = λ steady.
     let a = c.args.blocks.now in let hs = c.args.handles.now in
     c.loop-handle.invariant.total steady ∙ ap (λ (xs : List VmHandle). sum_by (λ h. length (raw_bytes_of a.document h.0)) xs) (take_all c.loop-handle.handle-index hs (omega arith))
     ∙ sum_numbers (λ h. length (raw_bytes_of a.document h)) hs
-    ∙ ap (λ (d : Document). bytes_in d (numbers hs)) (sym (keeps-same g.S.Store.facts a c.loop-handle.blocks c.loop-handle.invariant.keeps steady))
+    ∙ ap (λ (d : Document). chain_bytes d (numbers hs)) (sym (keeps-same g.S.Store.facts a c.loop-handle.blocks c.loop-handle.invariant.keeps steady))

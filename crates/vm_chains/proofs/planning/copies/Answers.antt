@@ -6,7 +6,7 @@ use Rattle.geos_model.specs.Document.{Document, handles_of, raw_bytes_of, attrib
 use Rattle.geos_model.specs.declared.fault.Fault.TheVariants.{Memory}
 use Rattle.geos_model.specs.declared.handle.VmHandle.{VmHandle}
 use Rattle.vm_chains.specs.Naming.{name_in}
-use Rattle.vm_file.specs.Members.{saved_blocks}
+use Rattle.vm_file.specs.Members.{imaged_blocks}
 use Rattle.vm_chains.specs.Numbers.{numbers}
 use Rattle.vm_file.specs.declared.member.Member.{Member}
 use Rattle.vm_blocks.proofs.KeepingLaws.{keeps-refl, keeps-same, keeps-trans, lacks-later, lacks-memory}
@@ -29,8 +29,8 @@ pub loop-i-init : goal.loop-i-init
 loop-i-init g c =
     let nothing = c.new-plan.ensures.items in let hs = c.args.handles.now in let new = c.args.new.now in
     record {
-      plan = λ steady. ap (λ (ms : List Member). saved_blocks ms ++ copies_from c.args.blocks.now.document hs new hs new) nothing;
-      handles = ap (λ (ms : List Member). handles_of (saved_blocks ms)) nothing;
+      plan = λ steady. ap (λ (ms : List Member). imaged_blocks ms ++ copies_from c.args.blocks.now.document hs new hs new) nothing;
+      handles = ap (λ (ms : List Member). handles_of (imaged_blocks ms)) nothing;
       many = ap (λ (ms : List Member). length ms) nothing;
       keeps = keeps-refl g.S.Store.facts c.args.blocks.now;
     }
@@ -92,9 +92,9 @@ loop-i-preserved g c =
           let attributes_are : c.attributes.result ≡ attributes_of d h = c.attributes.ensures.value ∙ ap (λ (x : Document). attributes_of x h) same in
           let read : c.in_ok-bytes.bytes.items ≡ relinked (name_in c.in_ok-names.names) (raw_bytes_of d h) = c.in_ok-bytes.ensures.value ∙ ap (λ (x : Document). relinked (name_in c.in_ok-names.names) (raw_bytes_of x h)) same in
           let block = c.in_ok-block.ensures ∙ renamed_block d h c.attributes.result c.in_ok-bytes.bytes.items (name_in c.in_ok-names.names) (name_of (zip (numbers hs) (numbers new))) attributes_are read (c.in_ok-names.ensures {u = tt}) in
-          ap (λ (ms : List Member). saved_blocks ms ++ copies_from d hs new (drop (i + 1) hs) (drop (i + 1) new)) pushed
+          ap (λ (ms : List Member). imaged_blocks ms ++ copies_from d hs new (drop (i + 1) hs) (drop (i + 1) new)) pushed
           ∙ copies_more d hs new c.loop-i.plan.items m i no_handle no_handle _ within there refl block (c.loop-i.invariant.plan steady);
-      handles = ap (λ (ms : List Member). handles_of (saved_blocks ms)) pushed ∙ handles_more c.loop-i.plan.items m i new no_handle there refl c.loop-i.invariant.handles;
+      handles = ap (λ (ms : List Member). handles_of (imaged_blocks ms)) pushed ∙ handles_more c.loop-i.plan.items m i new no_handle there refl c.loop-i.invariant.handles;
       many = omega (arith, ap (λ (ms : List Member). length ms) pushed, length_push c.loop-i.plan.items m, c.loop-i.invariant.many);
       keeps = keeps;
     }
@@ -103,12 +103,12 @@ pub returns-clause-value : goal.returns-clause-value
 returns-clause-value g c = λ steady.
     let a = c.args.blocks.now in let d = a.document in let hs = c.args.handles.now in let new = c.args.new.now in let i = c.loop-i.i in let items = c.loop-i.plan.items in
     let past : length hs ≤ i = omega arith in let past_new : length new ≤ i = omega arith in
-    ap (λ v. saved_blocks v.items) c.new-2.ensures
-    ∙ sym (append-nil (saved_blocks items)) ∙ sym (λ j. saved_blocks items ++ copies_from d hs new (drop_all i hs past j) (drop_all i new past_new j)) ∙ c.loop-i.invariant.plan steady
+    ap (λ v. imaged_blocks v.items) c.new-2.ensures
+    ∙ sym (append-nil (imaged_blocks items)) ∙ sym (λ j. imaged_blocks items ++ copies_from d hs new (drop_all i hs past j) (drop_all i new past_new j)) ∙ c.loop-i.invariant.plan steady
     ∙ ap (λ (x : Document). renamed_blocks x (numbers hs) (numbers new)) (sym (keeps-same g.S.Store.facts a c.loop-i.blocks c.loop-i.invariant.keeps steady))
 
 pub returns-clause-handles : goal.returns-clause-handles
 returns-clause-handles g c =
     let past : length c.args.new.now ≤ c.loop-i.i = omega arith in
-    ap (λ v. handles_of (saved_blocks v.items)) c.new-2.ensures ∙ c.loop-i.invariant.handles
+    ap (λ v. handles_of (imaged_blocks v.items)) c.new-2.ensures ∙ c.loop-i.invariant.handles
     ∙ ap (λ (xs : List VmHandle). numbers xs) (take_all c.loop-i.i c.args.new.now past)

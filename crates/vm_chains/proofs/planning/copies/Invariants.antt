@@ -1,7 +1,7 @@
 use Rattle.std.proofs.Common.{◌≡◌, ◌++◌, length, drop, take}
 use Rattle.geos_model.specs.Document.{handles_of}
-use Rattle.vm_blocks.specs.Keeping.{Keeps, IsSteady}
-use Rattle.vm_file.specs.Members.{saved_blocks}
+use Rattle.vm_blocks.specs.Keeping.{KeepsBlocks, IsHonest}
+use Rattle.vm_file.specs.Members.{imaged_blocks}
 use Rattle.vm_chains.specs.Numbers.{numbers}
 use Rattle.vm_chains.proofs.CopyLemmas.{copies_from}
 use Rattle.vm_chains.proofs.planning.copies.Given as goal
@@ -9,8 +9,8 @@ use Rattle.vm_chains.proofs.planning.copies.Given as goal
 -- the plan has the blocks before this one
 abbrev pub invariant-loop-i : goal.invariant-loop-i
 invariant-loop-i g l = record {
-  plan : IsSteady g.S.Store.facts l.fn.blocks.disk.store → saved_blocks l.plan.items ++ copies_from l.fn.blocks.document l.handles l.new (drop l.i l.handles) (drop l.i l.new) ≡ copies_from l.fn.blocks.document l.handles l.new l.handles l.new;
-  handles : handles_of (saved_blocks l.plan.items) ≡ numbers (take l.i l.new);
+  plan : IsHonest g.S.Store.facts l.fn.blocks.disk.store → imaged_blocks l.plan.items ++ copies_from l.fn.blocks.document l.handles l.new (drop l.i l.handles) (drop l.i l.new) ≡ copies_from l.fn.blocks.document l.handles l.new l.handles l.new;
+  handles : handles_of (imaged_blocks l.plan.items) ≡ numbers (take l.i l.new);
   many : length l.plan.items ≡ l.i;
-  keeps : Keeps g.S.Store.facts l.fn.blocks l.blocks;
+  keeps : KeepsBlocks g.S.Store.facts l.fn.blocks l.blocks;
 }

@@ -6,10 +6,10 @@ use Rattle.geos_model.specs.Chain.{chain, chain_blocks, copies_of, copy_conditio
 use Rattle.geos_model.specs.Document.{Document, is_raw}
 use Rattle.geos_model.specs.declared.fault.Fault.TheVariants.{Memory, NoHandles}
 use Rattle.geos_model.specs.declared.handle.VmHandle.{VmHandle}
-use Rattle.vm_blocks.specs.Keeping.{Lacks}
-use Rattle.vm_blocks.specs.Kinds.{IsOfOther}
-use Rattle.vm_file.specs.Members.{saved_blocks}
-use Rattle.vm_blocks.proofs.KeepingLaws.{keeps-drifts, keeps-refl, keeps-same, keeps-trans, lacks-memory}
+use Rattle.vm_blocks.specs.Keeping.{IsEnvironmentFault}
+use Rattle.vm_blocks.specs.Kinds.{IsWrongBlock}
+use Rattle.vm_file.specs.Members.{imaged_blocks}
+use Rattle.vm_blocks.proofs.KeepingLaws.{keeps-unless_corrupt, keeps-refl, keeps-same, keeps-trans, lacks-memory}
 use Rattle.vm_chains.specs.Answers.{IsChainFault}
 use Rattle.vm_chains.specs.Numbers.{numbers}
 use Rattle.vm_chains.specs.Walking.{AreBlocks}
@@ -40,13 +40,13 @@ enough d root wanted hs new is found all many =
 pub returns-in_err-handles-clause-value : goal.returns-in_err-handles-clause-value
 returns-in_err-handles-clause-value g c = λ steady.
     carried c.from_residual.result c.in_err-handles.field-0.0 _ _ c.from_residual.ensures.1
-    (copy_refused c.walk.new.blocks.document c.args.root.0 (Lacks g.S.Store.facts c.args.blocks.now.disk.store c.walk.new.blocks.disk.store) c.in_err-handles.field-0.0 (c.in_err-handles.ensures.value steady))
+    (copy_refused c.walk.new.blocks.document c.args.root.0 (IsEnvironmentFault g.S.Store.facts c.args.blocks.now.disk.store c.walk.new.blocks.disk.store) c.in_err-handles.field-0.0 (c.in_err-handles.ensures.value steady))
 
 pub returns-in_err-handles-clause-refusals : goal.returns-in_err-handles-clause-refusals
 returns-in_err-handles-clause-refusals g c =
     let fault = c.in_err-handles.field-0.0 in
     carried_so c.from_residual.result fault _ c.from_residual.ensures.1
-    (elim c.in_err-handles.ensures.refusals as (λ _. Lacks g.S.Store.facts c.args.blocks.now.disk.store c.walk.new.blocks.disk.store fault ⊎ IsChainFault (IsOfOther is_raw c.args.blocks.now.document c.args.root.0) fault ⊎ (fault ≡ NoHandles)) [
+    (elim c.in_err-handles.ensures.refusals as (λ _. IsEnvironmentFault g.S.Store.facts c.args.blocks.now.disk.store c.walk.new.blocks.disk.store fault ⊎ IsChainFault (IsWrongBlock is_raw c.args.blocks.now.document c.args.root.0) fault ⊎ (fault ≡ NoHandles)) [
       | inl lacks ↦ inl lacks
       | inr of_chain ↦ inr (inl of_chain)
     ])
@@ -78,10 +78,10 @@ returns-clause-value g c =
     let many : length hs ≤ length new = omega (arith, wanted, c.in_ok-new.new.ok.0) in
     let here : c.len.result ≡ length (numbers c.deref.result.now) = wanted ∙ sym (ap (λ (xs : List VmHandle). length (numbers xs)) c.deref.ensures.value ∙ length-map hs (λ h. h.0)) in
     read_on g.S.Store.facts c.args.blocks.now b e c.walk.ensures.keeps c.copies.ensures.keeps root hs c.deref.result.now c.deref.ensures.value
-    (λ d. copy_conditions d root) (λ d xs plan. saved_blocks plan.list.items ≡ copies_of d xs) c.copies.result
+    (λ d. copy_conditions d root) (λ d xs plan. imaged_blocks plan.list.items ≡ copies_of d xs) c.copies.result
     (λ steady. by_handles b.document root false (enough b.document root c.len.result hs new (c.in_ok-handles.ensures.value steady).1 c.in_ok-new.ensures wanted many) (c.in_ok-handles.ensures.value steady).0)
     (λ steady. (c.in_ok-handles.ensures.value steady).1)
-    (λ steady. IfOk-weaker c.copies.result (λ plan. saved_blocks plan.list.items ≡ renamed_blocks e.document (numbers c.deref.result.now) (numbers c.deref-2.result.now)) (λ plan. saved_blocks plan.list.items ≡ copies_of e.document (numbers c.deref.result.now))
+    (λ steady. IfOk-weaker c.copies.result (λ plan. imaged_blocks plan.list.items ≡ renamed_blocks e.document (numbers c.deref.result.now) (numbers c.deref-2.result.now)) (λ plan. imaged_blocks plan.list.items ≡ copies_of e.document (numbers c.deref.result.now))
     (λ plan is. is ∙ ap (λ (xs : List ℕ). renamed_blocks e.document (numbers c.deref.result.now) xs)
     (ap numbers c.deref-2.ensures.value ∙ c.in_ok-new.ensures ∙ (λ j. let back = sym (keeps-same g.S.Store.facts b e c.copies.ensures.keeps steady) in new_handles (back j) (here j))))
     (c.copies.ensures.value steady))
@@ -92,7 +92,7 @@ returns-clause-applies g c =
     let b = c.walk.new.blocks in let e = c.copies.new.blocks in let new = c.deref-2.result.now in
     let found : numbers new ≡ new_handles b.document c.len.result = ap numbers c.deref-2.ensures.value ∙ c.in_ok-new.ensures in
     let many : c.len.result ≤ length new = omega (arith, c.len.ensures, c.in_ok-new.new.ok.0, ap (λ (xs : List VmHandle). length xs) c.deref-2.ensures.value) in
-    copy_applies (g.S.Store.facts b.disk.store).honest b.document e.document c.len.result new c.copies.result (keeps-drifts g.S.Store.facts b e c.copies.ensures.keeps) found many c.copies.ensures.handles
+    copy_applies (g.S.Store.facts b.disk.store).honest b.document e.document c.len.result new c.copies.result (keeps-unless_corrupt g.S.Store.facts b e c.copies.ensures.keeps) found many c.copies.ensures.handles
 
 pub returns-clause-some : goal.returns-clause-some
 returns-clause-some g c =
@@ -102,4 +102,4 @@ returns-clause-some g c =
 
 pub returns-clause-refusals : goal.returns-clause-refusals
 returns-clause-refusals g c =
-    refused_on g.S.Store.facts c.args.blocks.now c.walk.new.blocks c.copies.new.blocks c.walk.ensures.keeps c.copies.ensures.keeps (λ fault. IsChainFault (IsOfOther is_raw c.args.blocks.now.document c.args.root.0) fault ⊎ (fault ≡ NoHandles)) c.copies.result c.copies.ensures.refusals
+    refused_on g.S.Store.facts c.args.blocks.now c.walk.new.blocks c.copies.new.blocks c.walk.ensures.keeps c.copies.ensures.keeps (λ fault. IsChainFault (IsWrongBlock is_raw c.args.blocks.now.document c.args.root.0) fault ⊎ (fault ≡ NoHandles)) c.copies.result c.copies.ensures.refusals

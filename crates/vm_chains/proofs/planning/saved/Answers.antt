@@ -1,10 +1,10 @@
 use Rattle.std.proofs.Common.{◌≡◌, ◌<◌, ◌≤◌, ◌++◌, ◌∷◌, [], List, length, get_or, refl, sym, ap, ◌∙◌, arith}
 use Rattle.std.proofs.lemmas.List.{length_push, take_all}
-use Rattle.geos_model.specs.Chain.{blocks_of}
+use Rattle.geos_model.specs.Chain.{chain_blocks_of}
 use Rattle.geos_model.specs.Document.{Document, block_at, handles_of}
 use Rattle.geos_model.specs.declared.fault.Fault.TheVariants.{Memory}
 use Rattle.geos_model.specs.declared.handle.VmHandle.{VmHandle}
-use Rattle.vm_file.specs.Members.{saved_blocks}
+use Rattle.vm_file.specs.Members.{imaged_blocks}
 use Rattle.vm_file.specs.declared.member.Member.{Member}
 use Rattle.vm_blocks.proofs.KeepingLaws.{keeps-refl, keeps-same, keeps-trans, lacks-later, lacks-memory}
 use Rattle.vm_chains.specs.Numbers.{numbers}
@@ -19,8 +19,8 @@ pub loop-handle-init : goal.loop-handle-init
 loop-handle-init g c =
     let nothing = c.new-plan.ensures.items in
     record {
-      plan = λ steady. ap (λ (ms : List Member). saved_blocks ms) nothing;
-      handles = ap (λ (ms : List Member). handles_of (saved_blocks ms)) nothing;
+      plan = λ steady. ap (λ (ms : List Member). imaged_blocks ms) nothing;
+      handles = ap (λ (ms : List Member). handles_of (imaged_blocks ms)) nothing;
       many = ap (λ (ms : List Member). length ms) nothing;
       keeps = keeps-refl g.S.Store.facts c.args.blocks.now;
     }
@@ -55,9 +55,9 @@ loop-handle-preserved g c =
     let within : i < length hs = omega arith in
     let pushed : c.push.new.self.items ≡ c.loop-handle.plan.items ++ m ∷ [] = c.in_ok-push.ensures.items in
     record {
-      plan = λ steady. ap (λ (ms : List Member). saved_blocks ms) pushed
+      plan = λ steady. ap (λ (ms : List Member). imaged_blocks ms) pushed
           ∙ saved_more c.loop-handle.plan.items m i hs no_handle within refl a.document (c.in_ok-block.ensures.value ∙ ap (λ (d : Document). block_at d (get_or hs i no_handle).0) (keeps-same g.S.Store.facts a e keeps steady)) (c.loop-handle.invariant.plan steady);
-      handles = ap (λ (ms : List Member). handles_of (saved_blocks ms)) pushed ∙ handles_more c.loop-handle.plan.items m i hs no_handle within refl c.loop-handle.invariant.handles;
+      handles = ap (λ (ms : List Member). handles_of (imaged_blocks ms)) pushed ∙ handles_more c.loop-handle.plan.items m i hs no_handle within refl c.loop-handle.invariant.handles;
       many = omega (arith, ap (λ (ms : List Member). length ms) pushed, length_push c.loop-handle.plan.items m, c.loop-handle.invariant.many);
       keeps = keeps;
     }
@@ -66,12 +66,12 @@ pub returns-clause-value : goal.returns-clause-value
 returns-clause-value g c = λ steady.
     let a = c.args.blocks.now in let hs = c.args.handles.now in
     let past : length hs ≤ c.loop-handle.handle-index = omega arith in
-    ap (λ v. saved_blocks v.items) c.new.ensures ∙ c.loop-handle.invariant.plan steady
-    ∙ ap (λ (xs : List VmHandle). blocks_of a.document (numbers xs)) (take_all c.loop-handle.handle-index hs past)
-    ∙ ap (λ (d : Document). blocks_of d (numbers hs)) (sym (keeps-same g.S.Store.facts a c.loop-handle.blocks c.loop-handle.invariant.keeps steady))
+    ap (λ v. imaged_blocks v.items) c.new.ensures ∙ c.loop-handle.invariant.plan steady
+    ∙ ap (λ (xs : List VmHandle). chain_blocks_of a.document (numbers xs)) (take_all c.loop-handle.handle-index hs past)
+    ∙ ap (λ (d : Document). chain_blocks_of d (numbers hs)) (sym (keeps-same g.S.Store.facts a c.loop-handle.blocks c.loop-handle.invariant.keeps steady))
 
 pub returns-clause-handles : goal.returns-clause-handles
 returns-clause-handles g c =
     let past : length c.args.handles.now ≤ c.loop-handle.handle-index = omega arith in
-    ap (λ v. handles_of (saved_blocks v.items)) c.new.ensures ∙ c.loop-handle.invariant.handles
+    ap (λ v. handles_of (imaged_blocks v.items)) c.new.ensures ∙ c.loop-handle.invariant.handles
     ∙ ap (λ (xs : List VmHandle). numbers xs) (take_all c.loop-handle.handle-index c.args.handles.now past)

@@ -1,7 +1,7 @@
 use Rattle.std.proofs.Common.{ap}
 use Rattle.geos_model.specs.Document.{is_heap_body, is_raw}
 use Rattle.std.specs.FinMap.{get}
-use Rattle.block_cache.specs.Bodies.{body_of}
+use Rattle.block_cache.specs.Bodies.{body_value}
 use Rattle.vm_chains.proofs.Loading.{carried, heap_there, load_lacks, other_now}
 use Rattle.vm_chains.proofs.reading.len_at.Goals as goal
 
@@ -14,4 +14,4 @@ pub returns-in-Heap-clause-value : goal.returns-in-Heap-clause-value
 returns-in-Heap-clause-value g c =
     let h = c.args.handle.0 in
     other_now g.S.Store.facts c.args.blocks.now c.load.new.self c.load.ensures.keeps (λ d. is_raw d h) c.requires.raw
-    (heap_there (get c.load.new.self.document.blocks h) (body_of c.body.result.now) c.body.ensures (ap (λ b. is_heap_body (body_of b)) c.in-Heap.is))
+    (heap_there (get c.load.new.self.document.blocks h) (body_value c.body.result.now) c.body.ensures (ap (λ b. is_heap_body (body_value b)) c.in-Heap.is))

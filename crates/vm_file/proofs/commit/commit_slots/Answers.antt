@@ -1,5 +1,5 @@
 use Rattle.std.proofs.Common.{IsTrue, sym, subst, inr}
-use Rattle.vm_file.specs.Slots.{pair_extents, FailedEarly, Failed, AreKept}
+use Rattle.vm_file.specs.Slots.{pair_extents, FailedEarly, Failed, AreExtentsPlaced}
 use Rattle.vm_file.proofs.RangesLemmas.{slots_keep}
 use Rattle.vm_file.proofs.SlotsLemmas.{shut_kept, Outlives-trans, prepared_leaves, as_before, as_shut, as_early, as_prepared}
 use Rattle.vm_file.proofs.ResultLemmas.{on_err}
@@ -18,7 +18,7 @@ pub returns-in_err-shut_gate-clause-leaves : goal.returns-in_err-shut_gate-claus
 returns-in_err-shut_gate-clause-leaves g c file holds leaves keeps = c.shut_gate.ensures.leaves file holds leaves
 
 pub fill_slot-requires-clause-kept : goal.fill_slot-requires-clause-kept
-fill_slot-requires-clause-kept g c = subst AreKept (sym c.in_ok-shut_gate.ensures.ok) (shut_kept c.args.slots.now c.requires.kept)
+fill_slot-requires-clause-kept g c = subst AreExtentsPlaced (sym c.in_ok-shut_gate.ensures.ok) (shut_kept c.args.slots.now c.requires.kept)
 
 pub returns-in_err-fill_slot-clause-crash : goal.returns-in_err-fill_slot-clause-crash
 returns-in_err-fill_slot-clause-crash g c file holds leaves keeps =
@@ -43,7 +43,7 @@ returns-in_err-fill_slot-clause-leaves g c file holds leaves keeps =
     c.fill_slot.ensures.leaves file still (c.shut_gate.ensures.leaves file holds leaves)
 
 pub open_gate-requires-clause-kept : goal.open_gate-requires-clause-kept
-open_gate-requires-clause-kept g c = subst AreKept (sym c.in_ok-shut_gate.ensures.ok) (shut_kept c.args.slots.now c.requires.kept)
+open_gate-requires-clause-kept g c = subst AreExtentsPlaced (sym c.in_ok-shut_gate.ensures.ok) (shut_kept c.args.slots.now c.requires.kept)
 
 pub returns-clause-crash : goal.returns-clause-crash
 returns-clause-crash g c file holds leaves keeps =

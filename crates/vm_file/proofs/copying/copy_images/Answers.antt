@@ -1,8 +1,8 @@
 use Rattle.std.proofs.Common.{None, get_or, take, length, ◌<◌, IsTrue, sym, subst, ◌∙◌, arith}
 use Rattle.std.proofs.lemmas.List.{take_more}
-use Rattle.vm_file.specs.Making.{AreCopied, IsCopied}
+use Rattle.vm_file.specs.Making.{AreCopied, IsBlockCopied}
 use Rattle.vm_file.proofs.LaidOutLemmas.{behind_more, one_placed, pages_few, copied_more, copied_as}
-use Rattle.vm_file.proofs.LooksLemmas.{Looks-trans, still, same_bytes_then}
+use Rattle.vm_file.proofs.LooksLemmas.{OnlyReadsStore-trans, still, same_bytes_then}
 use Rattle.vm_file.proofs.copying.copy_images.Goals as goal
 
 pub overflow_add-page : goal.overflow_add-page
@@ -29,13 +29,13 @@ loop-place-preserved g c =
     let new = facts c.copy_image.new.target in
     let o = get_or places i None in
     let more = take_more places i None inside in (
-      Looks-trans source read _ (λ so. g.met.S.Store.timely c.args.source.now so) was.0 c.in_ok-copy_image.ensures.looks,
+      OnlyReadsStore-trans source read _ (λ so. g.met.S.Store.timely c.args.source.now so) was.0 c.in_ok-copy_image.ensures.looks,
       c.in_ok-copy_image.ensures.honest ∙ was.1,
       omega (arith, c.in_ok-copy_image.ensures.failures, was.2),
       behind_more places i c.loop-place.page c.page_count-page.result inside c.requires.placed c.page_count-page.ensures is,
       λ so.
           let yet = subst IsTrue (sym was.1) so in
-          let step : IsCopied c.loop-place.page o (IsTrue read.honest) read.content mid.content new.content = c.in_ok-copy_image.ensures.copied yet in
+          let step : IsBlockCopied c.loop-place.page o (IsTrue read.honest) read.content mid.content new.content = c.in_ok-copy_image.ensures.copied yet in
           subst (λ ps. AreCopied (IsTrue source.honest) source.content ps old.content new.content) (sym more)
           (copied_more source.content old.content mid.content new.content (IsTrue source.honest) (take i places) (was.4 so) o
           (copied_as _ _ o (IsTrue read.honest) (IsTrue source.honest) read.content source.content mid.content new.content is.is (still source read was.0) (same_bytes_then source read was.0) step)),

@@ -1,13 +1,13 @@
 use Rattle.std.proofs.Common.{◌≡◌, ◌≤◌, take, IsTrue}
 use Rattle.vm_file.specs.Making.{AreCopied}
-use Rattle.vm_file.specs.Opened.{Looks}
+use Rattle.vm_file.specs.Opened.{OnlyReadsStore}
 use Rattle.vm_file.proofs.LaidOutLemmas.{IsBehind}
 use Rattle.vm_file.proofs.copying.copy_images.Given as goal
 
 -- the images so far are copied
 abbrev pub invariant-loop-place : goal.invariant-loop-place
 invariant-loop-place g l =
-    Looks (g.S.Store.facts l.fn.source) (g.S.Store.facts l.source)
+    OnlyReadsStore (g.S.Store.facts l.fn.source) (g.S.Store.facts l.source)
     × ((g.S.Store.facts l.target).honest ≡ (g.S.Store.facts l.fn.target).honest)
     × ((g.S.Store.facts l.fn.target).failures ≤ (g.S.Store.facts l.target).failures)
     × IsBehind l.places l.place-index l.page

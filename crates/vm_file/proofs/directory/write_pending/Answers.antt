@@ -1,7 +1,7 @@
 use Rattle.std.proofs.Common.{subst}
 use Rattle.vm_store.specs.Facts.{Holds}
 use Rattle.vm_file.specs.Ranges.{start_of}
-use Rattle.vm_file.specs.Slots.{block_extents, kept_extents}
+use Rattle.vm_file.specs.Slots.{block_extents, referenced_extents}
 use Rattle.vm_file.proofs.CommitLemmas.{counts_rise}
 use Rattle.vm_file.proofs.PendingDirectoryLemmas.{clear_parts, IsWriting, write_passes, write_sound, write_same, write_stored}
 use Rattle.vm_file.proofs.directory.write_pending.Given.{Over}
@@ -11,7 +11,7 @@ use Rattle.vm_file.proofs.directory.write_pending.Goals as goal
 pub write_extent-requires-clause-clear : goal.write_extent-requires-clause-clear
 write_extent-requires-clause-clear g c =
     let e = c.args.pending.now.document.directory in
-    (clear_parts (start_of e) e.length (block_extents c.args.live.now.places.items) (kept_extents c.args.slots.now) c.requires.pending.clear).1
+    (clear_parts (start_of e) e.length (block_extents c.args.live.now.places.items) (referenced_extents c.args.slots.now) c.requires.pending.clear).1
 
 called : (g : Over) (c : After-write_extent g) → IsWriting g.S.Store.facts c.args.store.now c.write_extent.new.store c.args.live.now c.args.slots.now c.args.pending.now
 called g c = record {

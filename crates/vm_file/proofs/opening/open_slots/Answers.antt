@@ -1,14 +1,14 @@
-use Rattle.vm_file.proofs.LooksLemmas.{Looks-trans}
+use Rattle.vm_file.proofs.LooksLemmas.{OnlyReadsStore-trans}
 use Rattle.vm_file.proofs.OpenedLemmas.{opened_sound}
 use Rattle.vm_file.proofs.opening.open_slots.Goals as goal
 
 pub returns-in_err-sync-clause-looks : goal.returns-in_err-sync-clause-looks
-returns-in_err-sync-clause-looks g c = Looks-trans _ _ _ (λ so. g.met.S.Store.timely c.args.store.now so) c.read_slots.ensures.looks c.sync.ensures.looks
+returns-in_err-sync-clause-looks g c = OnlyReadsStore-trans _ _ _ (λ so. g.met.S.Store.timely c.args.store.now so) c.read_slots.ensures.looks c.sync.ensures.looks
 
 pub returns-clause-looks : goal.returns-clause-looks
-returns-clause-looks g c = Looks-trans _ _ _ (λ so. g.met.S.Store.timely c.args.store.now so) c.read_slots.ensures.looks c.sync.ensures.looks
+returns-clause-looks g c = OnlyReadsStore-trans _ _ _ (λ so. g.met.S.Store.timely c.args.store.now so) c.read_slots.ensures.looks c.sync.ensures.looks
 
 pub returns-clause-sound : goal.returns-clause-sound
 returns-clause-sound g c =
-    let looks = Looks-trans _ _ _ (λ so. g.met.S.Store.timely c.args.store.now so) c.read_slots.ensures.looks c.sync.ensures.looks in
+    let looks = OnlyReadsStore-trans _ _ _ (λ so. g.met.S.Store.timely c.args.store.now so) c.read_slots.ensures.looks c.sync.ensures.looks in
     opened_sound _ _ c.in_ok-live.live c.in_ok-slots.slots looks c.in_ok-slots.ensures.formed c.in_ok-slots.ensures.whole c.in_ok-sync.ensures.durable c.in_ok-live.ensures.map_block c.in_ok-live.ensures.places

@@ -4,16 +4,16 @@ use Rattle.geos_model.specs.File.{longest_image}
 use Rattle.geos_model.proofs.Files.{directory-low}
 use Rattle.vm_space.specs.Listed.{shown}
 use Rattle.vm_file.specs.Documents.{AreImaged}
-use Rattle.vm_file.proofs.LooksLemmas.{Looks-trans, held_before}
+use Rattle.vm_file.proofs.LooksLemmas.{OnlyReadsStore-trans, held_before}
 use Rattle.vm_file.proofs.OpenedDirectoryLemmas.{images_short, read_formed, read_directory}
 use Rattle.vm_file.specs.declared.table.DocumentRef.{DocumentRef}
 use Rattle.vm_file.proofs.opening.read_document.Goals as goal
 
 pub returns-in_err-places-clause-looks : goal.returns-in_err-places-clause-looks
-returns-in_err-places-clause-looks g c = Looks-trans _ _ _ (λ so. g.met.S.Store.timely c.args.store.now so) c.read_directory.ensures.looks c.read_places.ensures.looks
+returns-in_err-places-clause-looks g c = OnlyReadsStore-trans _ _ _ (λ so. g.met.S.Store.timely c.args.store.now so) c.read_directory.ensures.looks c.read_places.ensures.looks
 
 pub returns-clause-looks : goal.returns-clause-looks
-returns-clause-looks g c = Looks-trans _ _ _ (λ so. g.met.S.Store.timely c.args.store.now so) c.read_directory.ensures.looks c.read_places.ensures.looks
+returns-clause-looks g c = OnlyReadsStore-trans _ _ _ (λ so. g.met.S.Store.timely c.args.store.now so) c.read_directory.ensures.looks c.read_places.ensures.looks
 
 pub returns-clause-formed : goal.returns-clause-formed
 returns-clause-formed g c =

@@ -2,15 +2,15 @@ use Rattle.std.proofs.Common.{◌≡◌, Err, None, ap}
 use Rattle.std.proofs.lemmas.Result.{err_from_is_err_and}
 use Rattle.geos_model.specs.File.{document_at}
 use Rattle.geos_model.specs.declared.fault.Fault.TheVariants.{Damaged}
-use Rattle.vm_file.proofs.LooksLemmas.{Looks-trans, held_before}
+use Rattle.vm_file.proofs.LooksLemmas.{OnlyReadsStore-trans, held_before}
 use Rattle.vm_file.proofs.OpenedDirectoryLemmas.{no_saved}
 use Rattle.vm_file.proofs.opening.read_pair.Goals as goal
 
 pub returns-in_err-saved-clause-looks : goal.returns-in_err-saved-clause-looks
-returns-in_err-saved-clause-looks g c = Looks-trans _ _ _ (λ so. g.met.S.Store.timely c.args.store.now so) c.read_document.ensures.looks c.read_saved.ensures.looks
+returns-in_err-saved-clause-looks g c = OnlyReadsStore-trans _ _ _ (λ so. g.met.S.Store.timely c.args.store.now so) c.read_document.ensures.looks c.read_saved.ensures.looks
 
 pub returns-clause-looks : goal.returns-clause-looks
-returns-clause-looks g c = Looks-trans _ _ _ (λ so. g.met.S.Store.timely c.args.store.now so) c.read_document.ensures.looks c.read_saved.ensures.looks
+returns-clause-looks g c = OnlyReadsStore-trans _ _ _ (λ so. g.met.S.Store.timely c.args.store.now so) c.read_document.ensures.looks c.read_saved.ensures.looks
 
 pub returns-in_err-saved-clause-damaged : goal.returns-in_err-saved-clause-damaged
 returns-in_err-saved-clause-damaged g c =

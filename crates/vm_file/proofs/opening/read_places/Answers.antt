@@ -5,14 +5,14 @@ use Rattle.geos_model.specs.declared.fault.Fault.TheVariants.{Damaged}
 use Rattle.geos_model.proofs.Files.{no_entry, get_or_same}
 use Rattle.vm_file.specs.Documents.{IsImaged}
 use Rattle.vm_file.specs.Sound.{IsPlace}
-use Rattle.vm_file.proofs.LooksLemmas.{Looks-refl, Looks-trans, held_before}
+use Rattle.vm_file.proofs.LooksLemmas.{OnlyReadsStore-refl, OnlyReadsStore-trans, held_before}
 use Rattle.vm_file.proofs.OpenedDirectoryLemmas.{IsPartRead, part_start, imaged_start, part_more, imaged_more, rising_above, no_blocks}
 use Rattle.vm_file.proofs.opening.read_places.Goals as goal
 
 pub loop-entry-init : goal.loop-entry-init
 loop-entry-init g c =
     let places = c.in_ok-places.places.items in
-    (Looks-refl _, part_start c.args.entries.now places (let few = c.places_needed.ensures.few in let size = c.in_ok-places.ensures.size in omega (arith, few, size)) (λ k d within. let low = c.places_needed.ensures.enough k d within in let size = c.in_ok-places.ensures.size in omega (arith, low, size)) c.in_ok-places.ensures.none, λ so. imaged_start _ places c.in_ok-places.ensures.none)
+    (OnlyReadsStore-refl _, part_start c.args.entries.now places (let few = c.places_needed.ensures.few in let size = c.in_ok-places.ensures.size in omega (arith, few, size)) (λ k d within. let low = c.places_needed.ensures.enough k d within in let size = c.in_ok-places.ensures.size in omega (arith, low, size)) c.in_ok-places.ensures.none, λ so. imaged_start _ places c.in_ok-places.ensures.none)
 
 pub loop-entry-preserved : goal.loop-entry-preserved
 loop-entry-preserved g c =
@@ -26,7 +26,7 @@ loop-entry-preserved g c =
     let short = c.requires.short i no_entry inside in
     let can : IsPlace place = record { short = omega (arith, short, ap (λ x. x.length) like.1); typed = c.in_ok-place.ensures.typed } in
     let more = part_more 0 i es places e place c.requires.rising inside (get_or_same es i e no_entry inside) like.0 like.1 can c.loop-entry.invariant.1 in (
-      Looks-trans _ _ _ (λ so. g.met.S.Store.timely c.args.store.now so) c.loop-entry.invariant.0 c.in_ok-place.ensures.looks,
+      OnlyReadsStore-trans _ _ _ (λ so. g.met.S.Store.timely c.args.store.now so) c.loop-entry.invariant.0 c.in_ok-place.ensures.looks,
       subst (λ n. IsPartRead (i + 1) es (set places (n - 1) (Some place))) (sym c.from.ensures) more,
       λ so. imaged_more _ places (c.from.result - 1) place (held_before (λ file. IsImaged file place) _ _ c.loop-entry.invariant.0 c.in_ok-place.ensures.imaged so) (c.loop-entry.invariant.2 so),
     )

@@ -1,6 +1,6 @@
 use Rattle.std.proofs.Common.{◌+◌, take, subst, sym, arith}
 use Rattle.vm_space.specs.Space.{Space}
-use Rattle.vm_file.specs.FreeSpace.{Takes}
+use Rattle.vm_file.specs.FreeSpace.{MarksTaken}
 use Rattle.vm_file.specs.Ranges.{IsPlaced}
 use Rattle.vm_file.specs.Slots.{block_extents}
 use Rattle.vm_file.proofs.PlacingLemmas.{blocks_fewer, takes_some, takes_no_more}
@@ -26,9 +26,9 @@ pub loop-place-preserved : goal.loop-place-preserved
 loop-place-preserved c =
     elim c.match-place.branch [
       | in-Some+in_ok-hold w ↦
-          subst (λ (s : Space). Takes (block_extents (take (c.loop-place.place-index + 1) c.args.places.now)) c.args.space.now s) (sym w.space-is)
+          subst (λ (s : Space). MarksTaken (block_extents (take (c.loop-place.place-index + 1) c.args.places.now)) c.args.space.now s) (sym w.space-is)
           (takes_some c.args.places.now c.loop-place.place-index w.in-Some.place c.args.space.now c.loop-place.space w.hold.new.self c.loop-place-test.true w.in-Some.is c.loop-place.invariant w.in_ok-hold.ensures.count w.in_ok-hold.ensures.held)
       | in_default w ↦
-          subst (λ (s : Space). Takes (block_extents (take (c.loop-place.place-index + 1) c.args.places.now)) c.args.space.now s) (sym w.space-is)
+          subst (λ (s : Space). MarksTaken (block_extents (take (c.loop-place.place-index + 1) c.args.places.now)) c.args.space.now s) (sym w.space-is)
           (takes_no_more c.args.places.now c.loop-place.place-index c.args.space.now c.loop-place.space c.loop-place-test.true w.in_default.is c.loop-place.invariant)
     ]

@@ -1,6 +1,6 @@
 use Rattle.std.proofs.Common.{ap, length, All, sym, subst, arith}
 use Rattle.std.proofs.lemmas.List.Elements.{All-head, All-tail}
-use Rattle.vm_file.specs.FreeSpace.{Takes}
+use Rattle.vm_file.specs.FreeSpace.{MarksTaken}
 use Rattle.vm_file.specs.Ranges.{IsPlaced}
 use Rattle.vm_file.specs.Slots.{block_extents}
 use Rattle.vm_file.proofs.ResultLemmas.{on_ok_both}
@@ -32,5 +32,5 @@ hold-requires-clause-in_range c = placed_length c.args.stored.now.directory (All
 pub returns : goal.returns
 returns c =
     let blocks = block_extents c.args.stored.now.table.places.items in
-    let first : Takes blocks c.args.space.now c.hold_blocks.new.space = subst (λ ps. Takes (block_extents ps) c.args.space.now c.hold_blocks.new.space) c.deref.ensures.value c.in_ok-hold_blocks.ensures in
+    let first : MarksTaken blocks c.args.space.now c.hold_blocks.new.space = subst (λ ps. MarksTaken (block_extents ps) c.args.space.now c.hold_blocks.new.space) c.deref.ensures.value c.in_ok-hold_blocks.ensures in
     on_ok_both c.hold.result (λ held count. takes-first blocks c.args.stored.now.directory c.args.space.now c.hold_blocks.new.space c.hold.new.self first count held) c.hold.ensures.held c.hold.ensures.count

@@ -2,18 +2,18 @@ use Rattle.std.proofs.Common.{◌≤◌, length, sym, ap₂, ◌∙◌, arith, i
 use Rattle.std.proofs.lemmas.Result.{err_from_is_err_and}
 use Rattle.geos_model.specs.File.{counting_slot}
 use Rattle.vm_file.specs.Opened.{IsRawSlot}
-use Rattle.vm_file.proofs.LooksLemmas.{Looks-trans, held_before}
+use Rattle.vm_file.proofs.LooksLemmas.{OnlyReadsStore-trans, held_before}
 use Rattle.vm_file.proofs.CountingSlotLemmas.{no_slot, raw_slot_opened, active_slot_is}
 use Rattle.vm_file.proofs.slot.find_slot.Goals as goal
 
 pub returns-in_err-second-clause-looks : goal.returns-in_err-second-clause-looks
-returns-in_err-second-clause-looks g c = Looks-trans _ _ _ (λ so. g.met.S.Store.timely c.args.store.now so) c.read_raw_slot.ensures.looks c.read_raw_slot-2.ensures.looks
+returns-in_err-second-clause-looks g c = OnlyReadsStore-trans _ _ _ (λ so. g.met.S.Store.timely c.args.store.now so) c.read_raw_slot.ensures.looks c.read_raw_slot-2.ensures.looks
 
 pub returns-in_err-choice-clause-looks : goal.returns-in_err-choice-clause-looks
-returns-in_err-choice-clause-looks g c = Looks-trans _ _ _ (λ so. g.met.S.Store.timely c.args.store.now so) c.read_raw_slot.ensures.looks c.read_raw_slot-2.ensures.looks
+returns-in_err-choice-clause-looks g c = OnlyReadsStore-trans _ _ _ (λ so. g.met.S.Store.timely c.args.store.now so) c.read_raw_slot.ensures.looks c.read_raw_slot-2.ensures.looks
 
 pub returns-clause-looks : goal.returns-clause-looks
-returns-clause-looks g c = Looks-trans _ _ _ (λ so. g.met.S.Store.timely c.args.store.now so) c.read_raw_slot.ensures.looks c.read_raw_slot-2.ensures.looks
+returns-clause-looks g c = OnlyReadsStore-trans _ _ _ (λ so. g.met.S.Store.timely c.args.store.now so) c.read_raw_slot.ensures.looks c.read_raw_slot-2.ensures.looks
 
 pub returns-in_err-choice-clause-refused : goal.returns-in_err-choice-clause-refused
 returns-in_err-choice-clause-refused g c =

@@ -3,8 +3,8 @@ use Rattle.std.proofs.lemmas.List.{drop_more}
 use Rattle.geos_model.specs.declared.file.Extent.{Extent}
 use Rattle.geos_model.specs.Document.{no_attributes}
 use Rattle.vm_file.specs.Calls.{IsPut}
-use Rattle.vm_file.specs.FreeSpace.{IsKnown}
-use Rattle.vm_file.specs.Slots.{block_extents, kept_extents}
+use Rattle.vm_file.specs.FreeSpace.{IsSpaceOf}
+use Rattle.vm_file.specs.Slots.{block_extents, referenced_extents}
 use Rattle.vm_file.specs.declared.table.Place.{Place}
 use Rattle.vm_file.specs.Writing.{with_places}
 use Rattle.vm_file.specs.declared.member.Member.{Member}
@@ -20,14 +20,14 @@ give_back-requires c =
     let e : Extent = get_or extents i d in
     let at : ℕ = c.from-at.result - 1 in
     let p : Place = record { attributes = no_attributes; is_heap = false; extent = e } in
-    let kept : List Extent = kept_extents c.args.slots.now in
+    let kept : List Extent = referenced_extents c.args.slots.now in
     let places = c.loop-i.places in
     let put : IsPut c.index-puts-i.result = subst IsPut (sym c.index-puts-i.is) (c.requires.puts i _ c.loop-i-test.true) in
     let handle = handle_within c.index-puts-i.result.handle.0 put in
     let room : c.index-puts-i.result.handle.0 ≤ length c.args.places.now = subst (λ (x : Member). x.handle.0 ≤ length c.args.places.now) (sym c.index-puts-i.is) (c.requires.room i _ c.loop-i-test.true) in
     let within : at < length places = omega (arith, handle.0, room, c.from-at.ensures, c.loop-i.invariant.long) in
     let inside : i < length extents = omega (arith, c.requires.extents, c.loop-i-test.true) in
-    let before : IsKnown ((e ∷ drop (i + 1) extents) ++ (block_extents places ++ kept)) c.loop-i.space = subst (λ es. IsKnown (es ++ (block_extents places ++ kept)) c.loop-i.space) (drop_more extents i d inside) c.loop-i.invariant.known in
+    let before : IsSpaceOf ((e ∷ drop (i + 1) extents) ++ (block_extents places ++ kept)) c.loop-i.space = subst (λ es. IsSpaceOf (es ++ (block_extents places ++ kept)) c.loop-i.space) (drop_more extents i d inside) c.loop-i.invariant.known in
     known_rest (block_extents (get_or places at None ∷ [])) (drop (i + 1) extents ++ (block_extents (set places at (Some p)) ++ kept)) c.loop-i.space
     (known-put places at e p (drop (i + 1) extents) kept c.loop-i.space within refl before)
 
@@ -39,14 +39,14 @@ loop-i-preserved c =
     let e : Extent = get_or extents i d in
     let at : ℕ = c.from-at.result - 1 in
     let p : Place = c.placed_at.result in
-    let kept : List Extent = kept_extents c.args.slots.now in
+    let kept : List Extent = referenced_extents c.args.slots.now in
     let places = c.loop-i.places in
     let put : IsPut c.index-puts-i.result = subst IsPut (sym c.index-puts-i.is) (c.requires.puts i _ c.loop-i-test.true) in
     let handle = handle_within c.index-puts-i.result.handle.0 put in
     let room : c.index-puts-i.result.handle.0 ≤ length c.args.places.now = subst (λ (x : Member). x.handle.0 ≤ length c.args.places.now) (sym c.index-puts-i.is) (c.requires.room i _ c.loop-i-test.true) in
     let within : at < length places = omega (arith, handle.0, room, c.from-at.ensures, c.loop-i.invariant.long) in
     let inside : i < length extents = omega (arith, c.requires.extents, c.loop-i-test.true) in
-    let before : IsKnown ((e ∷ drop (i + 1) extents) ++ (block_extents places ++ kept)) c.loop-i.space = subst (λ es. IsKnown (es ++ (block_extents places ++ kept)) c.loop-i.space) (drop_more extents i d inside) c.loop-i.invariant.known in
+    let before : IsSpaceOf ((e ∷ drop (i + 1) extents) ++ (block_extents places ++ kept)) c.loop-i.space = subst (λ es. IsSpaceOf (es ++ (block_extents places ++ kept)) c.loop-i.space) (drop_more extents i d inside) c.loop-i.invariant.known in
     let puts : List Member = c.args.puts.now in
     let first : drop i puts ≡ c.index-puts-i.result ∷ drop (i + 1) puts = drop_more puts i c.index-puts-i.result c.loop-i-test.true ∙ ap (λ (x : Member). x ∷ drop (i + 1) puts) (sym c.index-puts-i.is) in
     record {

@@ -1,6 +1,6 @@
 use Rattle.std.proofs.Common.{◌≡◌, ◌++◌, drop, length}
-use Rattle.vm_file.specs.FreeSpace.{IsKnown}
-use Rattle.vm_file.specs.Slots.{block_extents, kept_extents}
+use Rattle.vm_file.specs.FreeSpace.{IsSpaceOf}
+use Rattle.vm_file.specs.Slots.{block_extents, referenced_extents}
 use Rattle.vm_file.specs.Writing.{with_places}
 use Rattle.vm_file.proofs.table.put_places.Given as goal
 
@@ -8,5 +8,5 @@ abbrev pub invariant-loop-i : goal.invariant-loop-i
 invariant-loop-i l = record {
   long : length l.places ≡ length l.fn.places;
   filled : with_places (drop l.i l.puts) (drop l.i l.extents) l.places ≡ with_places l.puts l.extents l.fn.places;
-  known : IsKnown (drop l.i l.extents ++ (block_extents l.places ++ kept_extents l.slots)) l.space;
+  known : IsSpaceOf (drop l.i l.extents ++ (block_extents l.places ++ referenced_extents l.slots)) l.space;
 }

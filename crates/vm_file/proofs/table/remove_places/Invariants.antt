@@ -1,11 +1,11 @@
 use Rattle.std.proofs.Common.{◌≡◌, ◌++◌, drop}
-use Rattle.vm_file.specs.FreeSpace.{IsKnown}
-use Rattle.vm_file.specs.Slots.{block_extents, kept_extents}
+use Rattle.vm_file.specs.FreeSpace.{IsSpaceOf}
+use Rattle.vm_file.specs.Slots.{block_extents, referenced_extents}
 use Rattle.vm_file.specs.Writing.{without_places}
 use Rattle.vm_file.proofs.table.remove_places.Given as goal
 
 abbrev pub invariant-loop-block : goal.invariant-loop-block
 invariant-loop-block l = record {
   left : without_places (drop l.block-index l.removals) l.places ≡ without_places l.removals l.fn.places;
-  known : IsKnown (block_extents l.places ++ kept_extents l.slots) l.space;
+  known : IsSpaceOf (block_extents l.places ++ referenced_extents l.slots) l.space;
 }

@@ -1,5 +1,5 @@
 use Rattle.std.proofs.Common.{◌++◌, length, sym, subst, arith}
-use Rattle.vm_file.specs.Slots.{block_extents, kept_extents}
+use Rattle.vm_file.specs.Slots.{block_extents, referenced_extents}
 use Rattle.vm_file.specs.Writing.{AreFor, Fills}
 use Rattle.vm_file.proofs.RangesLemmas.{all_right}
 use Rattle.vm_file.proofs.WritingLemmas.{for_fewer, spared_images}
@@ -11,23 +11,23 @@ place_images-requires g c = let count = c.in_ok-space.ensures.count in let few =
 pub write_images-requires-clause-extents : goal.write_images-requires-clause-extents
 write_images-requires-clause-extents g c =
     let live = block_extents c.args.live.now in
-    let kept = kept_extents c.args.slots.now in
+    let kept = referenced_extents c.args.slots.now in
     let puts = c.args.puts.now in
     subst (AreFor kept puts (length puts)) (sym c.deref.ensures.value)
     (for_fewer (live ++ kept) kept puts (length puts) c.in_ok-extents.extents.items (λ P all. all_right P live kept all) (c.in_ok-extents.ensures.found (live ++ kept) c.in_ok-space.ensures))
 
 pub returns-in-Ok-clause-spared : goal.returns-in-Ok-clause-spared
 returns-in-Ok-clause-spared g c = λ so.
-    spared_images c.args.slots.now (block_extents c.args.live.now) c.args.puts.now c.in_ok-extents.extents.items _ _ (c.in_ok-extents.ensures.found (block_extents c.args.live.now ++ kept_extents c.args.slots.now) c.in_ok-space.ensures)
+    spared_images c.args.slots.now (block_extents c.args.live.now) c.args.puts.now c.in_ok-extents.extents.items _ _ (c.in_ok-extents.ensures.found (block_extents c.args.live.now ++ referenced_extents c.args.slots.now) c.in_ok-space.ensures)
     (subst (λ es. Fills c.args.slots.now es (g.S.Store.facts c.args.store.now) (g.S.Store.facts c.write_images.new.store)) c.deref.ensures.value (c.write_images.ensures.fills so))
 
 pub returns-in-Ok-clause-found : goal.returns-in-Ok-clause-found
-returns-in-Ok-clause-found g c = c.in_ok-extents.ensures.found (block_extents c.args.live.now ++ kept_extents c.args.slots.now) c.in_ok-space.ensures
+returns-in-Ok-clause-found g c = c.in_ok-extents.ensures.found (block_extents c.args.live.now ++ referenced_extents c.args.slots.now) c.in_ok-space.ensures
 
 pub returns-in-Ok-clause-known : goal.returns-in-Ok-clause-known
-returns-in-Ok-clause-known g c = c.in_ok-extents.ensures.taken (block_extents c.args.live.now ++ kept_extents c.args.slots.now) c.in_ok-space.ensures
+returns-in-Ok-clause-known g c = c.in_ok-extents.ensures.taken (block_extents c.args.live.now ++ referenced_extents c.args.slots.now) c.in_ok-space.ensures
 
 pub returns-in-Err-clause-spared : goal.returns-in-Err-clause-spared
 returns-in-Err-clause-spared g c = λ so.
-    spared_images c.args.slots.now (block_extents c.args.live.now) c.args.puts.now c.in_ok-extents.extents.items _ _ (c.in_ok-extents.ensures.found (block_extents c.args.live.now ++ kept_extents c.args.slots.now) c.in_ok-space.ensures)
+    spared_images c.args.slots.now (block_extents c.args.live.now) c.args.puts.now c.in_ok-extents.extents.items _ _ (c.in_ok-extents.ensures.found (block_extents c.args.live.now ++ referenced_extents c.args.slots.now) c.in_ok-space.ensures)
     (subst (λ es. Fills c.args.slots.now es (g.S.Store.facts c.args.store.now) (g.S.Store.facts c.write_images.new.store)) c.deref.ensures.value (c.write_images.ensures.fills so))

@@ -2,7 +2,7 @@ use Rattle.std.proofs.Common.{◌≡◌, Some, sym, ap, subst, ◌∙◌}
 use Rattle.std.specs.Option.{option_map}
 use Rattle.std.specs.FinMap.{get}
 use Rattle.geos_model.specs.Document.{Block}
-use Rattle.block_cache.specs.Bodies.{body_of}
+use Rattle.block_cache.specs.Bodies.{body_value}
 use Rattle.block_cache.specs.State.{CacheState, is_resident}
 use Rattle.block_cache.proofs.Seats.{resident_is}
 use Rattle.block_cache.proofs.Tables.{body_under}
@@ -13,5 +13,5 @@ body_in-requires g c = sym (resident_is c.args.block.0 c.self.inside.frames.entr
 
 pub returns : goal.returns
 returns g c =
-    subst (λ (s : CacheState g.row.S.Denot). option_map (λ (b : Block). b.body) (get s.document.blocks c.args.block.0) ≡ Some (body_of c.body_in.result.now)) c.self.view_is
+    subst (λ (s : CacheState g.row.S.Denot). option_map (λ (b : Block). b.body) (get s.document.blocks c.args.block.0) ≡ Some (body_value c.body_in.result.now)) c.self.view_is
     (body_under c.self.inside.frames.entries c.self.inside.file.document c.args.block.0 c.body_in.result.now c.body_in.ensures)

@@ -1,7 +1,7 @@
 use Rattle.std.proofs.Common.{ap, subst, ◌∙◌}
 use Rattle.std.proofs.lemmas.Result.{on_err_weaker}
 use Rattle.vm_file.specs.Effects.{Fails, NoFault}
-use Rattle.block_cache.specs.State.{CacheState, Stays}
+use Rattle.block_cache.specs.State.{CacheState, KeepsDocument}
 use Rattle.block_cache.proofs.Steps.{stays_by, state}
 use Rattle.block_cache.proofs.cache.Cache.drop_frames.Goals as goal
 
@@ -9,7 +9,7 @@ pub returns-clause-stays : goal.returns-clause-stays
 returns-clause-stays g c =
     let facts = g.S.Store.facts in
     let new = c.drop_all.new in
-    subst (λ s. Stays facts s (state facts new.file new.frames.entries new.frames.cap)) c.self.view_is
+    subst (λ s. KeepsDocument facts s (state facts new.file new.frames.entries new.frames.cap)) c.self.view_is
     (stays_by facts c.self.inside.file c.self.inside.frames.entries c.self.inside.frames.cap new.file new.frames.entries new.frames.cap c.drop_all.ensures.moves c.drop_all.ensures.cap)
 
 pub returns-clause-fails : goal.returns-clause-fails

@@ -2,8 +2,8 @@ use Rattle.std.proofs.Common.{◌≡◌, Some, is_some, refl, sym, ap, ◌∙◌
 use Rattle.std.specs.Option.{option_copied_mut, option_map}
 use Rattle.std.specs.FinMap.{get}
 use Rattle.geos_model.specs.Document.{Block, is_heap, is_heap_body}
-use Rattle.block_cache.specs.Bodies.{body_of}
-use Rattle.block_cache.specs.Frames.{held}
+use Rattle.block_cache.specs.Bodies.{body_value}
+use Rattle.block_cache.specs.Frames.{frame_of}
 use Rattle.block_cache.specs.LendsFrame.{with_changed}
 use Rattle.block_cache.specs.State.{CacheState, is_resident}
 use Rattle.block_cache.specs.declared.body.BlockBody.TheVariants.{Heap}
@@ -25,7 +25,7 @@ heap_mut-requires g c =
     let es = c.self.inside.frames.entries in
     let d = c.self.inside.file.document in
     let h = c.args.block.0 in
-    let here : held es h ≡ Some c.unwrap.result.now = sym c.peek_mut.ensures.value ∙ ap option_copied_mut c.unwrap.ensures in
+    let here : frame_of es h ≡ Some c.unwrap.result.now = sym c.peek_mut.ensures.value ∙ ap option_copied_mut c.unwrap.ensures in
     (c.self.invariant.each h c.unwrap.result.now here).kind ∙ sym (overlay_kind _ es d h c.self.invariant) ∙ ap (λ s. is_heap s.document h) c.self.view_is ∙ c.requires.heap
 
 pub invariant_of-self-lent : goal.invariant_of-self-lent
@@ -33,8 +33,8 @@ invariant_of-self-lent g c =
     let es = c.self.inside.frames.entries in
     let h = c.args.block.0 in
     let f = c.unwrap.result.now in
-    let here : held es h ≡ Some f = sym c.peek_mut.ensures.value ∙ ap option_copied_mut c.unwrap.ensures in
-    λ w. kept_lent es h f here c.self.inside.file.document (with_changed f (Heap w)) _ refl refl (sym (ap (λ x. is_heap_body (body_of x)) c.heap_mut.ensures.value)) c.self.invariant
+    let here : frame_of es h ≡ Some f = sym c.peek_mut.ensures.value ∙ ap option_copied_mut c.unwrap.ensures in
+    λ w. kept_lent es h f here c.self.inside.file.document (with_changed f (Heap w)) _ refl refl (sym (ap (λ x. is_heap_body (body_value x)) c.heap_mut.ensures.value)) c.self.invariant
 
 pub returns : goal.returns
 returns g c =
@@ -43,7 +43,7 @@ returns g c =
     let cap = c.self.inside.frames.cap in
     let h = c.args.block.0 in
     let f = c.unwrap.result.now in
-    let here : held es h ≡ Some f = sym c.peek_mut.ensures.value ∙ ap option_copied_mut c.unwrap.ensures in
+    let here : frame_of es h ≡ Some f = sym c.peek_mut.ensures.value ∙ ap option_copied_mut c.unwrap.ensures in
     let content = body_under es file.document h (Heap c.heap_mut.result.now) (ap (option_map (λ (x : Frame). x.body)) here ∙ ap (λ b. Some b) c.heap_mut.ensures.value) in (
       (
         refl,

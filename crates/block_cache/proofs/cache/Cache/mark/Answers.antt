@@ -1,6 +1,6 @@
 use Rattle.std.proofs.Common.{◌≡◌, None, ap, sym, subst, ◌∙◌}
 use Rattle.vm_file.specs.Disk.{FileState}
-use Rattle.block_cache.specs.State.{CacheState, Marks, Stays}
+use Rattle.block_cache.specs.State.{CacheState, Marks, KeepsDocument}
 use Rattle.block_cache.proofs.Marking.{marks_by, on_err_always}
 use Rattle.block_cache.proofs.Steps.{stays_by, state}
 use Rattle.block_cache.proofs.cache.Cache.mark.Goals as goal
@@ -21,7 +21,7 @@ returns-in_err-flush-clause-err g c =
     let s = c.self.inside in
     let new = c.flush.new in
     on_err_always c.from_residual.result
-    (subst (λ (t : CacheState g.row.S.Denot). Stays facts t (state facts new.file new.frames.entries new.frames.cap)) c.self.view_is
+    (subst (λ (t : CacheState g.row.S.Denot). KeepsDocument facts t (state facts new.file new.frames.entries new.frames.cap)) c.self.view_is
     (stays_by facts s.file s.frames.entries s.frames.cap new.file new.frames.entries new.frames.cap c.flush.ensures.moves c.flush.ensures.cap))
 
 pub returns-in_err-mark-clause-err : goal.returns-in_err-mark-clause-err
@@ -30,6 +30,6 @@ returns-in_err-mark-clause-err g c =
     let s = c.self.inside in
     let new = c.flush.new in
     on_err_always c.from_residual-in_err-mark.result
-    (subst (λ (t : CacheState g.row.S.Denot). Stays facts t (state facts c.mark.new.self new.frames.entries new.frames.cap)) c.self.view_is
-    (subst (λ (f : FileState g.row.S.Denot). Stays facts (state facts s.file s.frames.entries s.frames.cap) (state facts f new.frames.entries new.frames.cap)) (sym c.in_err-mark.ensures.err)
+    (subst (λ (t : CacheState g.row.S.Denot). KeepsDocument facts t (state facts c.mark.new.self new.frames.entries new.frames.cap)) c.self.view_is
+    (subst (λ (f : FileState g.row.S.Denot). KeepsDocument facts (state facts s.file s.frames.entries s.frames.cap) (state facts f new.frames.entries new.frames.cap)) (sym c.in_err-mark.ensures.err)
     (stays_by facts s.file s.frames.entries s.frames.cap new.file new.frames.entries new.frames.cap c.flush.ensures.moves c.flush.ensures.cap)))

@@ -2,10 +2,10 @@ use Rattle.std.proofs.Common.{◌≢◌, ℕ, All, refl, sym, ap, subst, ◌∙�
 use Rattle.vm_file.specs.Calls.{remove_all}
 use Rattle.vm_file.specs.Disk.{FileState}
 use Rattle.lru.specs.LruCache.{LruCache}
-use Rattle.block_cache.specs.State.{CacheState, seats_without}
-use Rattle.block_cache.specs.Frames.{seats, overlay, AreKept}
+use Rattle.block_cache.specs.State.{CacheState, residents_without}
+use Rattle.block_cache.specs.Frames.{residents, overlay, AreFramesOf}
 use Rattle.block_cache.specs.declared.frame.Frame.{Frame}
-use Rattle.block_cache.proofs.Blocks.{overlay_without, kept_without, seats-without}
+use Rattle.block_cache.proofs.Blocks.{overlay_without, kept_without, residents-without}
 use Rattle.block_cache.proofs.Overlay.{overlay_map}
 use Rattle.block_cache.proofs.cache.Cache.remove_blocks.Goals as goal
 
@@ -21,8 +21,8 @@ invariant_of-self g c =
     let es = s.frames.entries in
     let handles = c.args.handles.now in
     let file = (c.put_blocks-removed.ensures.removals_alone refl).1 in
-    subst (λ (x : FileState g.row.S.Denot). AreKept (g.S.Store.facts x.disk.store).honest x.document c.drop_blocks.new.frames.entries) (sym file)
-    (subst (λ (x : LruCache ℕ Frame). AreKept (g.S.Store.facts s.file.disk.store).honest (remove_all handles s.file.document) x.entries) (sym c.drop_blocks.ensures)
+    subst (λ (x : FileState g.row.S.Denot). AreFramesOf (g.S.Store.facts x.disk.store).honest x.document c.drop_blocks.new.frames.entries) (sym file)
+    (subst (λ (x : LruCache ℕ Frame). AreFramesOf (g.S.Store.facts s.file.disk.store).honest (remove_all handles s.file.document) x.entries) (sym c.drop_blocks.ensures)
     (kept_without (g.S.Store.facts s.file.disk.store).honest handles es s.file.document c.len-count.ensures.valid.0 c.self.invariant))
 
 pub returns : goal.returns
@@ -32,7 +32,7 @@ returns g c =
     let cap = s.frames.cap in
     let handles = c.args.handles.now in
     let file = (c.put_blocks-removed.ensures.removals_alone refl).1 in
-    ap (λ (x : FileState g.row.S.Denot). record { disk = x.disk; document = overlay c.drop_blocks.new.frames.entries x.document; resident = seats c.drop_blocks.new.frames.entries; frames = c.drop_blocks.new.frames.cap }) file
-    ∙ ap (λ (x : LruCache ℕ Frame). record { disk = s.file.disk; document = overlay x.entries (remove_all handles s.file.document); resident = seats x.entries; frames = x.cap }) c.drop_blocks.ensures
-    ∙ (λ i. record { disk = s.file.disk; document = overlay_without handles es s.file.document c.len-count.ensures.valid.0 i; resident = seats-without handles es i; frames = cap })
-    ∙ ap (λ (t : CacheState g.row.S.Denot). record t { document = remove_all handles t.document; resident = seats_without handles t.resident }) c.self.view_is
+    ap (λ (x : FileState g.row.S.Denot). record { disk = x.disk; document = overlay c.drop_blocks.new.frames.entries x.document; resident = residents c.drop_blocks.new.frames.entries; frames = c.drop_blocks.new.frames.cap }) file
+    ∙ ap (λ (x : LruCache ℕ Frame). record { disk = s.file.disk; document = overlay x.entries (remove_all handles s.file.document); resident = residents x.entries; frames = x.cap }) c.drop_blocks.ensures
+    ∙ (λ i. record { disk = s.file.disk; document = overlay_without handles es s.file.document c.len-count.ensures.valid.0 i; resident = residents-without handles es i; frames = cap })
+    ∙ ap (λ (t : CacheState g.row.S.Denot). record t { document = remove_all handles t.document; resident = residents_without handles t.resident }) c.self.view_is

@@ -3,9 +3,9 @@ use Rattle.std.specs.Option.{option_map}
 use Rattle.std.specs.Map.{set_value}
 use Rattle.lru.specs.LruCache.{LruCache}
 use Rattle.block_cache.specs.State.{CacheState, locks_of, is_resident}
-use Rattle.block_cache.specs.Frames.{held, seats, overlay, AreKept}
+use Rattle.block_cache.specs.Frames.{frame_of, residents, overlay, AreFramesOf}
 use Rattle.block_cache.specs.declared.frame.Frame.{Frame}
-use Rattle.block_cache.proofs.Seats.{seats-with_frame, lookup-seats, resident_is, frame_by, locked_there, locks_some}
+use Rattle.block_cache.proofs.Seats.{residents-with_frame, lookup-residents, resident_is, frame_by, locked_there, locks_some}
 use Rattle.block_cache.proofs.Overlay.{overlay_with_frame, kept_with_frame}
 use Rattle.block_cache.proofs.cache.Cache.unlock.Goals as goal
 
@@ -13,11 +13,11 @@ pub unlock-requires : goal.unlock-requires
 unlock-requires g c =
     let es = c.self.inside.frames.entries in
     let h = c.args.block.0 in
-    let is : locks_of c.args.self.now.resident h ≡ unwrap_or (option_map (λ (f : Frame). f.locks) (held es h)) 0 = ap (λ s. locks_of s.resident h) (sym c.self.view_is) ∙ ap (λ o. unwrap_or o 0) (lookup-seats h es) in
-    locks_some (held es h) (subst (λ n. 0 < n) is c.requires)
+    let is : locks_of c.args.self.now.resident h ≡ unwrap_or (option_map (λ (f : Frame). f.locks) (frame_of es h)) 0 = ap (λ s. locks_of s.resident h) (sym c.self.view_is) ∙ ap (λ o. unwrap_or o 0) (lookup-residents h es) in
+    locks_some (frame_of es h) (subst (λ n. 0 < n) is c.requires)
 
 pub invariant_of-self : goal.invariant_of-self
-invariant_of-self g c = subst (λ (x : LruCache ℕ Frame). AreKept (g.S.Store.facts c.self.inside.file.disk.store).honest c.self.inside.file.document x.entries) (sym c.unlock.ensures)
+invariant_of-self g c = subst (λ (x : LruCache ℕ Frame). AreFramesOf (g.S.Store.facts c.self.inside.file.disk.store).honest c.self.inside.file.document x.entries) (sym c.unlock.ensures)
     (kept_with_frame c.self.inside.frames.entries c.args.block.0 (λ f. record f { locks = f.locks - 1 }) (λ f. refl) _ c.self.inside.file.document (λ f is few. omega (arith, few)) (λ f same. same) c.self.invariant)
 
 pub returns : goal.returns
@@ -25,11 +25,11 @@ returns g c =
     let s = c.self.inside in
     let es = s.frames.entries in
     let h = c.args.block.0 in
-    let there : is_some (held es h) ≡ true = sym (resident_is h es) ∙ ap (λ s. is_resident s.resident h) c.self.view_is ∙ locked_there h c.args.self.now.resident c.requires in
-    let f = frame_by (held es h) there in
+    let there : is_some (frame_of es h) ≡ true = sym (resident_is h es) ∙ ap (λ s. is_resident s.resident h) c.self.view_is ∙ locked_there h c.args.self.now.resident c.requires in
+    let f = frame_by (frame_of es h) there in
     let document : overlay c.unlock.new.frames.entries s.file.document ≡ overlay es s.file.document = ap (λ (x : LruCache ℕ Frame). overlay x.entries s.file.document) c.unlock.ensures ∙ overlay_with_frame es h (λ f. record f { locks = f.locks - 1 }) (λ f. refl) s.file.document in
-    let locks : locks_of (seats es) h ≡ f.0.locks = ap (λ o. unwrap_or o 0) (lookup-seats h es ∙ ap (option_map (λ (f : Frame). f.locks)) f.1) in
-    let resident : seats c.unlock.new.frames.entries ≡ set_value (nat_eq h) (seats es) (locks_of (seats es) h - 1) =
-    ap (λ (x : LruCache ℕ Frame). seats x.entries) c.unlock.ensures ∙ seats-with_frame h es (λ f. record f { locks = f.locks - 1 }) f.0 f.1 ∙ ap (λ n. set_value (nat_eq h) (seats es) (n - 1)) (sym locks) in
+    let locks : locks_of (residents es) h ≡ f.0.locks = ap (λ o. unwrap_or o 0) (lookup-residents h es ∙ ap (option_map (λ (f : Frame). f.locks)) f.1) in
+    let resident : residents c.unlock.new.frames.entries ≡ set_value (nat_eq h) (residents es) (locks_of (residents es) h - 1) =
+    ap (λ (x : LruCache ℕ Frame). residents x.entries) c.unlock.ensures ∙ residents-with_frame h es (λ f. record f { locks = f.locks - 1 }) f.0 f.1 ∙ ap (λ n. set_value (nat_eq h) (residents es) (n - 1)) (sym locks) in
     let cap : c.unlock.new.frames.cap ≡ s.frames.cap = ap (λ (x : LruCache ℕ Frame). x.cap) c.unlock.ensures in
     (λ i. record { disk = s.file.disk; document = document i; resident = resident i; frames = cap i }) ∙ ap (λ (t : CacheState g.row.S.Denot). record t { resident = set_value (nat_eq h) t.resident (locks_of t.resident h - 1) }) c.self.view_is

@@ -1,15 +1,15 @@
 use Rattle.std.proofs.Common.{◌≤◌, false, map, IsTrue, sym, ap, subst, ◌∙◌}
 use Rattle.geos_model.specs.Document.{IsValid, is_live}
 use Rattle.geos_model.specs.ElementArray.{all_distinct}
-use Rattle.vm_file.specs.Disk.{IsListed, IsSettled}
+use Rattle.vm_file.specs.Disk.{IsFileDocument, IsCrashConsistent}
 use Rattle.block_cache.specs.State.{CacheState, is_resident, locks_of}
 use Rattle.block_cache.proofs.Locks.{seats_apart, few_locks}
 use Rattle.block_cache.proofs.Overlay.{overlay_live, listed_under}
 use Rattle.block_cache.proofs.Seats.{frame_by, resident_is}
 use Rattle.block_cache.proofs.cache.Cache.validity.Goals as goal
 
-pub returns-clause-settled : goal.returns-clause-settled
-returns-clause-settled g c = subst (λ (s : CacheState g.row.S.Denot). IsSettled g.S.Store.facts s.disk) c.self.view_is c.validity.ensures.settled
+pub returns-clause-crash_consistent : goal.returns-clause-crash_consistent
+returns-clause-crash_consistent g c = subst (λ (s : CacheState g.row.S.Denot). IsCrashConsistent g.S.Store.facts s.disk) c.self.view_is c.validity.ensures.crash_consistent
 
 pub returns-clause-valid : goal.returns-clause-valid
 returns-clause-valid g c =
@@ -17,7 +17,7 @@ returns-clause-valid g c =
 
 pub returns-clause-listed : goal.returns-clause-listed
 returns-clause-listed g c =
-    subst (λ (s : CacheState g.row.S.Denot). IsListed false s.document) c.self.view_is
+    subst (λ (s : CacheState g.row.S.Denot). IsFileDocument false s.document) c.self.view_is
     (listed_under (g.S.Store.facts c.self.inside.file.disk.store).honest c.self.inside.frames.entries c.self.inside.file.document c.self.invariant c.validity.ensures.document)
 
 pub returns-clause-resident : goal.returns-clause-resident

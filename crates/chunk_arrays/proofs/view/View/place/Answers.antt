@@ -1,7 +1,7 @@
 use Rattle.std.proofs.Common.{◌≡◌, ◌≢◌, ◌≤◌, ◌<◌, ◌+◌, ◌*◌, ◌∙◌, sym, ap, arith, ℕ, length}
 use Rattle.std.proofs.Math.Nat.{mul-le-mul_right}
 use Rattle.geos_model.specs.Words.{word_at}
-use Rattle.chunk_arrays.specs.Reading.{place_of}
+use Rattle.chunk_arrays.specs.Reading.{element_place}
 use Rattle.chunk_arrays.proofs.CutLemmas.{word_at-lt}
 use Rattle.chunk_arrays.proofs.PartsLemmas.{length-elements_read}
 use Rattle.chunk_arrays.proofs.PlaceLemmas.{place-last, place-any, place-even}
@@ -49,7 +49,7 @@ overflow_add-result c =
     omega (arith, small, near, size, start, most)
 
 pub returns-then-i-self : goal.returns-then-i-self
-returns-then-i-self c = sym (place-last c.self.inside.bytes.now c.self.invariant.parts c.args.i (c.if-i-self.true ∙ c.self.invariant.count)) ∙ ap (λ (v : Viewed). place_of v.array c.args.i) c.self.view_is
+returns-then-i-self c = sym (place-last c.self.inside.bytes.now c.self.invariant.parts c.args.i (c.if-i-self.true ∙ c.self.invariant.count)) ∙ ap (λ (v : Viewed). element_place v.array c.args.i) c.self.view_is
 
 pub returns-then-self-eq0 : goal.returns-then-self-eq0
 returns-then-self-eq0 c =
@@ -62,7 +62,7 @@ returns-then-self-eq0 c =
     c.word.ensures.value
     ∙ ap (λ (s : ℕ). word_at c.self.inside.bytes.now (s + 2 * c.args.i)) c.self.invariant.start
     ∙ sym (place-any c.self.inside.bytes.now c.self.invariant.parts any c.args.i below)
-    ∙ ap (λ (v : Viewed). place_of v.array c.args.i) c.self.view_is
+    ∙ ap (λ (v : Viewed). element_place v.array c.args.i) c.self.view_is
 
 pub returns-else-self-eq0 : goal.returns-else-self-eq0
 returns-else-self-eq0 c =
@@ -72,4 +72,4 @@ returns-else-self-eq0 c =
     ap (λ (s : ℕ). s + c.args.i * c.self.inside.size) c.self.invariant.start
     ∙ ap (λ (s : ℕ). word_at c.self.inside.bytes.now 6 + c.args.i * s) c.self.invariant.size
     ∙ sym (place-even c.self.inside.bytes.now c.self.invariant.parts one c.args.i (omega (arith, count, least)))
-    ∙ ap (λ (v : Viewed). place_of v.array c.args.i) c.self.view_is
+    ∙ ap (λ (v : Viewed). element_place v.array c.args.i) c.self.view_is

@@ -1,6 +1,6 @@
 use Rattle.std.proofs.Common.{◌≡◌, ◌-◌, ◌∙◌, sym, ap, arith, ℕ, List, length, take, drop}
 use Rattle.geos_model.specs.Array.{Array, array_bytes}
-use Rattle.chunk_arrays.specs.Reading.{place_of}
+use Rattle.chunk_arrays.specs.Reading.{element_place}
 use Rattle.chunk_arrays.proofs.PlaceLemmas.{place-order, place-within, run-is}
 use Rattle.chunk_arrays.proofs.PartsLemmas.{bytes-read}
 use Rattle.chunk_arrays.specs.Viewed.{Viewed}
@@ -24,6 +24,6 @@ returns c =
     let bytes : List ℕ = c.self.inside.bytes.now in
     let same : bytes ≡ array_bytes a = sym (bytes-read bytes c.self.invariant.parts) ∙ ap (λ (v : Viewed). array_bytes v.array) c.self.view_is in
     ap (λ (n : ℕ). take (n - c.place-start.result) (drop c.place-start.result bytes)) c.place-end.ensures
-    ∙ ap (λ (n : ℕ). take (place_of a c.args.to - n) (drop n bytes)) c.place-start.ensures
-    ∙ ap (λ (l : List ℕ). take (place_of a c.args.to - place_of a c.args.from) (drop (place_of a c.args.from) l)) same
+    ∙ ap (λ (n : ℕ). take (element_place a c.args.to - n) (drop n bytes)) c.place-start.ensures
+    ∙ ap (λ (l : List ℕ). take (element_place a c.args.to - element_place a c.args.from) (drop (element_place a c.args.from) l)) same
     ∙ run-is a c.args.from c.args.to c.requires.order

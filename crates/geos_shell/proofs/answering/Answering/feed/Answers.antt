@@ -1,7 +1,7 @@
 use Rattle.std.proofs.Common.{◌≡◌, ◌++◌, ◌∷◌, [], ◌+◌, ◌<◌, length, take, drop, arith, sym, ap, ◌∙◌, refl}
 use Rattle.std.proofs.lemmas.List.{append_assoc, take_rest}
 use Rattle.std.proofs.lemmas.Result.{on_ok_weaker}
-use Rattle.geos_shell.specs.Holdings.{held}
+use Rattle.geos_shell.specs.Holdings.{holding}
 use Rattle.geos_shell.specs.Progress.{StopsIn, moment}
 use Rattle.geos_shell.proofs.Lines.{HasNoFeed-before, HasNoFeed-from_reads, cut_at_feed, rest_at_feed}
 use Rattle.geos_shell.proofs.Calls.{on_err_always}
@@ -18,9 +18,9 @@ returns-in_err-end_line-clause-err g c =
     let found = c.in-Some.ensures in
     let within : end < length rest = found.0.high in
     let free = HasNoFeed-before rest end (omega arith) (λ k low. found.0.before k (omega arith) low) in
-    let first = moment (held c.args.session.now c.args.target.now c.args.former.now) c.args.self.now in
-    let before = moment (held c.loop-end.session c.loop-end.target c.loop-end.former) c.loop-end.self in
-    let after = moment (held c.end_line.new.session c.end_line.new.target c.end_line.new.former) c.end_line.new.self in
+    let first = moment (holding c.args.session.now c.args.target.now c.args.former.now) c.args.self.now in
+    let before = moment (holding c.loop-end.session c.loop-end.target c.loop-end.former) c.loop-end.self in
+    let after = moment (holding c.end_line.new.session c.end_line.new.target c.end_line.new.former) c.end_line.new.self in
     let stops : StopsIn facts before rest after = rw (rest_at_feed rest end within found.1) (c.in_err-end_line.ensures.err free (drop (end + 1) rest)) in
     on_err_always c.from_residual.result (rw cut (StopsIn-trans facts first before after used rest goes stops))
 
@@ -36,9 +36,9 @@ loop-end-preserved g c =
     let line = take end rest ++ 10 ∷ [] in
     let all : c.args.piece.now ≡ (used ++ line) ++ drop (end + 1) rest =
     cut ∙ ap (λ l. used ++ l) (cut_at_feed rest end within found.1) ∙ sym (append_assoc used line (drop (end + 1) rest)) in
-    let first = moment (held c.args.session.now c.args.target.now c.args.former.now) c.args.self.now in
-    let before = moment (held c.loop-end.session c.loop-end.target c.loop-end.former) c.loop-end.self in
-    let after = moment (held c.end_line.new.session c.end_line.new.target c.end_line.new.former) c.end_line.new.self in
+    let first = moment (holding c.args.session.now c.args.target.now c.args.former.now) c.args.self.now in
+    let before = moment (holding c.loop-end.session c.loop-end.target c.loop-end.former) c.loop-end.self in
+    let after = moment (holding c.end_line.new.session c.end_line.new.target c.end_line.new.former) c.end_line.new.self in
     (used ++ line, rw (take_rest rest (end + 1)) all, GoesOver-trans g.S.Store.facts first before after used line goes (c.in_ok-end_line.ensures.ok free))
 
 -- The rest of the piece is kept.
@@ -46,8 +46,8 @@ pub returns-clause-ok : goal.returns-clause-ok
 returns-clause-ok g c =
     let (used, cut, goes) = c.loop-end.invariant in
     let rest = c.loop-end.rest.now in
-    let holding = held c.loop-end.session c.loop-end.target c.loop-end.former in
-    let first = moment (held c.args.session.now c.args.target.now c.args.former.now) c.args.self.now in
+    let holding = holding c.loop-end.session c.loop-end.target c.loop-end.former in
+    let first = moment (holding c.args.session.now c.args.target.now c.args.former.now) c.args.self.now in
     let before = moment holding c.loop-end.self in
     let after = moment holding (record c.loop-end.self { begun = c.keep.new.begun }) in
     let free = HasNoFeed-from_reads rest (λ k low. c.in_default.ensures k (omega arith) low) in
@@ -59,8 +59,8 @@ returns-clause-err g c =
     let facts = g.S.Store.facts in
     let (used, cut, goes) = c.loop-end.invariant in
     let rest = c.loop-end.rest.now in
-    let holding = held c.loop-end.session c.loop-end.target c.loop-end.former in
-    let first = moment (held c.args.session.now c.args.target.now c.args.former.now) c.args.self.now in
+    let holding = holding c.loop-end.session c.loop-end.target c.loop-end.former in
+    let first = moment (holding c.args.session.now c.args.target.now c.args.former.now) c.args.self.now in
     let before = moment holding c.loop-end.self in
     let after = moment holding (record c.loop-end.self { begun = c.keep.new.begun }) in
     on_err_always c.keep.result (rw cut (StopsIn-trans facts first before after used rest goes (StopsIn-same facts before after rest refl refl)))

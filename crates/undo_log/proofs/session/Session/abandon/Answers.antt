@@ -3,14 +3,14 @@ use Rattle.std.specs.Prelude.{IfErr}
 use Rattle.std.proofs.lemmas.Result.{err_from_is_err_and}
 use Rattle.geos_model.specs.Reply.{Accepted, reply_by}
 use Rattle.geos_model.specs.declared.command.Command.TheVariants as commands
-use Rattle.vm_file.specs.Disk.{Passes}
-use Rattle.vm_blocks.specs.Changes.{turned}
-use Rattle.vm_blocks.specs.Preparing.{AllListed, AreUnready, MakesAll}
+use Rattle.vm_file.specs.Disk.{KeepsCommitted}
+use Rattle.vm_blocks.specs.Changes.{directed}
+use Rattle.vm_blocks.specs.Preparing.{CanApplyAllByHandle, CantPrepareAll, AreApplied}
 use Rattle.vm_blocks.specs.declared.change.Change.{Change}
 use Rattle.vm_blocks.specs.declared.change.Direction.TheVariants.{Backwards}
 use Rattle.vm_blocks.proofs.KeepingLaws.{keeps-passes}
 use Rattle.undo_log.specs.Logging.{open_changes}
-use Rattle.undo_log.specs.Records.{SessionState, blocks_of, IsStep}
+use Rattle.undo_log.specs.Sessions.{SessionState, cache_of, IsStep}
 use Rattle.undo_log.specs.Turning.{IsNotAbandoned, abandon_fault}
 use Rattle.undo_log.proofs.Groups.{abandoned_invariant, group_listed}
 use Rattle.undo_log.proofs.Keeping.{Holds, keeps_refl, kept_invariant}
@@ -28,7 +28,7 @@ pub take_back-requires-clause-listed : goal.take_back-requires-clause-listed
 take_back-requires-clause-listed g c =
     let log = c.self.inside.log.lists in
     let old = session_with c.self.inside.blocks log in
-    subst (λ (cs : List Change). AllListed (map (turned Backwards) cs) c.self.inside.blocks.document) (sym c.group.ensures)
+    subst (λ (cs : List Change). CanApplyAllByHandle (map (directed Backwards) cs) c.self.inside.blocks.document) (sym c.group.ensures)
     (group_listed g.S.Store.facts c.self.inside.blocks c.self.inside.blocks log (open_changes log.group) (abandon_free old (ap abandon_fault c.self.view_is ∙ sym c.in_default.ensures.is)).0 c.self.invariant)
 
 pub invariant_of-self : goal.invariant_of-self
@@ -40,7 +40,7 @@ invariant_of-self-2 g c =
     let old = session_with c.self.inside.blocks log in
     subst (Holds c.take_back.new.blocks) (sym c.forget_group.ensures)
     (abandoned_invariant facts c.self.inside.blocks c.take_back.new.blocks log (open_changes log.group) (abandon_free old (ap abandon_fault c.self.view_is ∙ sym c.in_default.ensures.is)).0 c.validity-2.ensures
-    (subst (λ (cs : List Change). MakesAll facts (map (turned Backwards) cs) c.self.inside.blocks c.take_back.new.blocks) c.group.ensures c.in_ok-take_back.ensures.ok) c.self.invariant)
+    (subst (λ (cs : List Change). AreApplied facts (map (directed Backwards) cs) c.self.inside.blocks c.take_back.new.blocks) c.group.ensures c.in_ok-take_back.ensures.ok) c.self.invariant)
 
 pub returns-in_err-take_back-clause-step : goal.returns-in_err-take_back-clause-step
 returns-in_err-take_back-clause-step g c =
@@ -52,7 +52,7 @@ returns-in_err-take_back-clause-step g c =
     subst (λ (s : SessionState g.row.S.Denot). IsStep facts s new commands.Abandon (reply_by (λ _. Accepted) c.from_residual.result)) c.self.view_is
     (subst (λ r. IsStep facts old new commands.Abandon (reply_by (λ _. Accepted) r)) (sym (p.1 ∙ ap Err p.2))
     (abandon_refused facts old new (open_changes log.group) is_open e.field-0.0 (record { blocks = e.ensures.err; log = refl }) (some_changes (open_changes log.group) c.group.result.now c.group.ensures c.take_back.result e.field-0.0 e.was _ c.take_back.ensures.none)
-    (group_not_taken facts old new (open_changes log.group) is_open e.field-0.0 (subst (λ (cs : List Change). AreUnready facts (map (turned Backwards) cs) (blocks_of old) (blocks_of new) e.field-0.0) c.group.ensures e.ensures.refusals))))
+    (group_not_taken facts old new (open_changes log.group) is_open e.field-0.0 (subst (λ (cs : List Change). CantPrepareAll facts (map (directed Backwards) cs) (cache_of old) (cache_of new) e.field-0.0) c.group.ensures e.ensures.refusals))))
 
 pub returns-in_err-take_back-clause-refusals : goal.returns-in_err-take_back-clause-refusals
 returns-in_err-take_back-clause-refusals g c =
@@ -60,8 +60,8 @@ returns-in_err-take_back-clause-refusals g c =
     let old = session_with c.self.inside.blocks log in
     let new = session_with c.take_back.new.blocks log in
     let is_free = (ap abandon_fault c.self.view_is ∙ sym c.in_default.ensures.is) in
-    let unready : AreUnready facts (map (turned Backwards) (open_changes log.group)) (blocks_of old) (blocks_of new) e.field-0.0 =
-    subst (λ (cs : List Change). AreUnready facts (map (turned Backwards) cs) (blocks_of old) (blocks_of new) e.field-0.0) c.group.ensures e.ensures.refusals in
+    let unready : CantPrepareAll facts (map (directed Backwards) (open_changes log.group)) (cache_of old) (cache_of new) e.field-0.0 =
+    subst (λ (cs : List Change). CantPrepareAll facts (map (directed Backwards) cs) (cache_of old) (cache_of new) e.field-0.0) c.group.ensures e.ensures.refusals in
     let p = err_from_is_err_and c.from_residual.result c.from_residual.ensures.1 in
     subst (λ (s : SessionState g.row.S.Denot). IfErr c.from_residual.result (IsNotAbandoned facts s new)) c.self.view_is
     (subst (λ r. IfErr r (IsNotAbandoned facts old new)) (sym (p.1 ∙ ap Err p.2))
@@ -74,7 +74,7 @@ returns-in_err-take_back-clause-refusals g c =
 
 pub returns-in_err-take_back-clause-passes : goal.returns-in_err-take_back-clause-passes
 returns-in_err-take_back-clause-passes g c =
-    subst (λ (s : SessionState g.row.S.Denot). Passes g.S.Store.facts s.disk c.take_back.new.blocks.disk) c.self.view_is (keeps-passes g.S.Store.facts c.self.inside.blocks c.take_back.new.blocks c.in_err-take_back.ensures.err)
+    subst (λ (s : SessionState g.row.S.Denot). KeepsCommitted g.S.Store.facts s.disk c.take_back.new.blocks.disk) c.self.view_is (keeps-passes g.S.Store.facts c.self.inside.blocks c.take_back.new.blocks c.in_err-take_back.ensures.err)
 
 pub returns-clause-step : goal.returns-clause-step
 returns-clause-step g c =
@@ -84,4 +84,4 @@ returns-clause-step g c =
     let is_free = abandon_free old (ap abandon_fault c.self.view_is ∙ sym c.in_default.ensures.is) in
     subst (λ (s : SessionState g.row.S.Denot). IsStep facts s new commands.Abandon Accepted) c.self.view_is
     (abandon_taken facts old new (open_changes log.group) is_free.0 is_free.1 c.validity-2.ensures c.forget_group.ensures
-    (subst (λ (cs : List Change). MakesAll facts (map (turned Backwards) cs) c.self.inside.blocks c.take_back.new.blocks) c.group.ensures c.in_ok-take_back.ensures.ok))
+    (subst (λ (cs : List Change). AreApplied facts (map (directed Backwards) cs) c.self.inside.blocks c.take_back.new.blocks) c.group.ensures c.in_ok-take_back.ensures.ok))

@@ -1,12 +1,12 @@
 use Rattle.std.proofs.Common.{IsTrue, ap, subst, sym, ◌∙◌}
 use Rattle.geos_model.specs.Document.{empty_document}
-use Rattle.block_cache.specs.State.{CacheState, seen}
+use Rattle.block_cache.specs.State.{CacheState, as_file}
 use Rattle.vm_blocks.specs.Opening.{IsMadeIn}
 use Rattle.undo_log.proofs.Beginnings.{begun}
 use Rattle.undo_log.proofs.session.Session.create.Goals as goal
 
 pub returns-in-Ok-clause-made : goal.returns-in-Ok-clause-made
-returns-in-Ok-clause-made g c = subst (λ (b : CacheState g.row.S.Denot). IsMadeIn g.S.Store.facts c.args.store (seen b)) (sym c.start.ensures.blocks) c.in-Ok.ensures.made
+returns-in-Ok-clause-made g c = subst (λ (b : CacheState g.row.S.Denot). IsMadeIn g.S.Store.facts c.args.store (as_file b)) (sym c.start.ensures.blocks) c.in-Ok.ensures.made
 
 pub returns-in-Ok-clause-new : goal.returns-in-Ok-clause-new
 returns-in-Ok-clause-new g c = (c.start.ensures.log, ap (λ (b : CacheState g.row.S.Denot). b.frames) c.start.ensures.blocks ∙ c.in-Ok.ensures.frames)

@@ -8,17 +8,17 @@ use Rattle.geos_model.specs.Reply.{reply_by, reply_of_done}
 use Rattle.geos_model.specs.declared.command.Command.TheVariants as commands
 use Rattle.geos_model.specs.declared.command.Kind.TheVariants.{Made}
 use Rattle.geos_model.specs.declared.fault.Fault.TheVariants.{Locked, Memory}
-use Rattle.vm_file.specs.Disk.{Passes}
-use Rattle.vm_file.proofs.PassingLemmas.{Passes-refl}
-use Rattle.vm_blocks.specs.Keeping.{Lacks}
+use Rattle.vm_file.specs.Disk.{KeepsCommitted}
+use Rattle.vm_file.proofs.PassingLemmas.{KeepsCommitted-refl}
+use Rattle.vm_blocks.specs.Keeping.{IsEnvironmentFault}
 use Rattle.vm_blocks.specs.declared.change.Direction.TheVariants.{Backwards}
 use Rattle.vm_blocks.proofs.KeepingLaws.{keeps-refl, keeps-passes, lacks-memory}
-use Rattle.doc_edits.specs.Planning.{IsChainEditFault, Refuses}
+use Rattle.doc_edits.specs.Planning.{IsChainEditFault, RefusesEdit}
 use Rattle.doc_edits.specs.Room.{has_no_room, ReadsNothing}
-use Rattle.undo_log.specs.Editing.{EditsAtHand}
+use Rattle.undo_log.specs.Editing.{EditsInMemory}
 use Rattle.undo_log.specs.Locking.{IsBarred}
 use Rattle.undo_log.specs.Logging.{Log, to_redo, to_undo, with_change}
-use Rattle.undo_log.specs.Records.{SessionState, blocks_of, machine_of, AreListed, IsStep, KeepsSession, Records}
+use Rattle.undo_log.specs.Sessions.{SessionState, cache_of, machine_of, CanApplyBothByHandle, IsStep, KeepsSession, PushesEdit}
 use Rattle.undo_log.proofs.Edited.{barred_fault, barred_step, changed_listed, edit_step, edit_refused, carried_fault, made_at_hand, not_barred, refused_at_hand}
 use Rattle.undo_log.proofs.Keeping.{Holds, keeps_refl, kept_invariant, none_marked}
 use Rattle.undo_log.proofs.Listing.{drifted, edited_listed}
@@ -46,7 +46,7 @@ pub returns-then-is_barred-clause-already : goal.returns-then-is_barred-clause-a
 returns-then-is_barred-clause-already g c = λ other nothing.
     let facts = g.S.Store.facts in
     let old = session_with c.self.inside.blocks c.self.inside.log.lists in
-    subst (λ (s : SessionState g.row.S.Denot). EditsAtHand c.args.edit.now s s (Err Locked)) c.self.view_is
+    subst (λ (s : SessionState g.row.S.Denot). EditsInMemory c.args.edit.now s s (Err Locked)) c.self.view_is
     (record { disk = refl; ok = tt; err = (refl, inl (barred_fault facts old c.args.edit.now c.validity.ensures.distinct (sym c.is_barred.ensures ∙ c.if-is_barred.true))) })
 
 pub returns-then-is_barred-clause-shut : goal.returns-then-is_barred-clause-shut
@@ -75,7 +75,7 @@ returns-clause-locked g c = λ barred.
     absurd (subst (λ (s : SessionState g.row.S.Denot). ((target : Bool) → is_barred c.args.edit.now (machine_of target s) ≡ true) → ⊥) c.self.view_is
     (not_barred old c.args.edit.now c.validity.ensures.distinct (sym c.is_barred.ensures ∙ c.if-is_barred.false)) barred)
 
--- memory for the lists was wanting
+-- memory for the lists ran out
 pub returns-in_err-reserve-clause-step : goal.returns-in_err-reserve-clause-step
 returns-in_err-reserve-clause-step g c =
     let facts = g.S.Store.facts in
@@ -104,15 +104,15 @@ pub returns-in_err-reserve-clause-already : goal.returns-in_err-reserve-clause-a
 returns-in_err-reserve-clause-already g c =
     let old = session_with c.self.inside.blocks c.self.inside.log.lists in
     let new = session_with c.self.inside.blocks c.reserve.new.self.lists in
-    subst (λ (s : SessionState g.row.S.Denot). kind_of c.args.edit.now ≢ Made → ReadsNothing (blocks_of s) (edit_needs c.args.edit.now) (conditions c.args.edit.now s.document) → EditsAtHand c.args.edit.now s new c.from_residual.result) c.self.view_is
+    subst (λ (s : SessionState g.row.S.Denot). kind_of c.args.edit.now ≢ Made → ReadsNothing (cache_of s) (edit_needs c.args.edit.now) (conditions c.args.edit.now s.document) → EditsInMemory c.args.edit.now s new c.from_residual.result) c.self.view_is
     (λ other nothing. refused_at_hand c.args.edit.now old new refl Memory c.from_residual.result c.from_residual.ensures.1 refl (inr (inl refl)))
 
 pub returns-in_err-reserve-clause-shut : goal.returns-in_err-reserve-clause-shut
 returns-in_err-reserve-clause-shut g c =
     let old = session_with c.self.inside.blocks c.self.inside.log.lists in
     let new = session_with c.self.inside.blocks c.reserve.new.self.lists in
-    subst (λ (s : SessionState g.row.S.Denot). has_no_room (blocks_of s) (edit_needs c.args.edit.now) ≡ true → (new ≡ s) × IsErrAnd c.from_residual.result (λ fault. IsBarred c.args.edit.now s fault ⊎ Refuses (λ f. f ≡ Memory) true c.args.edit.now s.document fault)) c.self.view_is
-    (λ out. (same_session c.self.inside.blocks c.self.inside.blocks _ _ refl c.in_err-reserve.ensures.lists, carried_fault c.from_residual.result (λ fault. IsBarred c.args.edit.now old fault ⊎ Refuses (λ f. f ≡ Memory) true c.args.edit.now old.document fault) Memory c.from_residual.ensures.1 (inr (inl refl))))
+    subst (λ (s : SessionState g.row.S.Denot). has_no_room (cache_of s) (edit_needs c.args.edit.now) ≡ true → (new ≡ s) × IsErrAnd c.from_residual.result (λ fault. IsBarred c.args.edit.now s fault ⊎ RefusesEdit (λ f. f ≡ Memory) true c.args.edit.now s.document fault)) c.self.view_is
+    (λ out. (same_session c.self.inside.blocks c.self.inside.blocks _ _ refl c.in_err-reserve.ensures.lists, carried_fault c.from_residual.result (λ fault. IsBarred c.args.edit.now old fault ⊎ RefusesEdit (λ f. f ≡ Memory) true c.args.edit.now old.document fault) Memory c.from_residual.ensures.1 (inr (inl refl))))
 
 -- the edit is refused
 pub invariant_of-self-in_err-change : goal.invariant_of-self-in_err-change
@@ -145,32 +145,32 @@ returns-in_err-change-clause-refusals g c =
     let old = session_with c.self.inside.blocks c.self.inside.log.lists in
     let p = err_from_is_err_and c.from_residual-in_err-change.result c.from_residual-in_err-change.ensures.1 in
     subst (λ (s : SessionState g.row.S.Denot). IfErr c.from_residual-in_err-change.result (λ fault. IsBarred c.args.edit.now s fault
-    ⊎ (Refuses (Lacks facts s.disk.store new.disk.store) (has_no_room (blocks_of s) (edit_needs c.args.edit.now)) c.args.edit.now new.document fault ⊎ IsChainEditFault c.args.edit.now s.document fault))) c.self.view_is
+    ⊎ (RefusesEdit (IsEnvironmentFault facts s.disk.store new.disk.store) (has_no_room (cache_of s) (edit_needs c.args.edit.now)) c.args.edit.now new.document fault ⊎ IsChainEditFault c.args.edit.now s.document fault))) c.self.view_is
     (subst (λ r. IfErr r (λ fault. IsBarred c.args.edit.now old fault
-    ⊎ (Refuses (Lacks facts c.self.inside.blocks.disk.store new.disk.store) (has_no_room c.self.inside.blocks (edit_needs c.args.edit.now)) c.args.edit.now new.document fault ⊎ IsChainEditFault c.args.edit.now c.self.inside.blocks.document fault)))
+    ⊎ (RefusesEdit (IsEnvironmentFault facts c.self.inside.blocks.disk.store new.disk.store) (has_no_room c.self.inside.blocks (edit_needs c.args.edit.now)) c.args.edit.now new.document fault ⊎ IsChainEditFault c.args.edit.now c.self.inside.blocks.document fault)))
     (sym (p.1 ∙ ap Err p.2)) (inr c.in_err-change.ensures.refusals))
 
 pub returns-in_err-change-clause-passes : goal.returns-in_err-change-clause-passes
 returns-in_err-change-clause-passes g c =
-    subst (λ (s : SessionState g.row.S.Denot). Passes g.S.Store.facts s.disk c.make.new.blocks.disk) c.self.view_is (keeps-passes g.S.Store.facts c.self.inside.blocks c.make.new.blocks c.in_err-change.ensures.err)
+    subst (λ (s : SessionState g.row.S.Denot). KeepsCommitted g.S.Store.facts s.disk c.make.new.blocks.disk) c.self.view_is (keeps-passes g.S.Store.facts c.self.inside.blocks c.make.new.blocks c.in_err-change.ensures.err)
 
 pub returns-in_err-change-clause-already : goal.returns-in_err-change-clause-already
 returns-in_err-change-clause-already g c =
     let old = session_with c.self.inside.blocks c.self.inside.log.lists in
     let new = session_with c.make.new.blocks c.reserve.new.self.lists in
-    subst (λ (s : SessionState g.row.S.Denot). kind_of c.args.edit.now ≢ Made → ReadsNothing (blocks_of s) (edit_needs c.args.edit.now) (conditions c.args.edit.now s.document) → EditsAtHand c.args.edit.now s new c.from_residual-in_err-change.result) c.self.view_is
+    subst (λ (s : SessionState g.row.S.Denot). kind_of c.args.edit.now ≢ Made → ReadsNothing (cache_of s) (edit_needs c.args.edit.now) (conditions c.args.edit.now s.document) → EditsInMemory c.args.edit.now s new c.from_residual-in_err-change.result) c.self.view_is
     (λ other nothing.
-    let rests = c.in_err-change.ensures.already other nothing in
-    refused_at_hand c.args.edit.now old new rests.0 c.in_err-change.field-0.0 c.from_residual-in_err-change.result c.from_residual-in_err-change.ensures.1 rests.1.0 (inr rests.1.1))
+    let unchanged = c.in_err-change.ensures.already other nothing in
+    refused_at_hand c.args.edit.now old new unchanged.0 c.in_err-change.field-0.0 c.from_residual-in_err-change.result c.from_residual-in_err-change.ensures.1 unchanged.1.0 (inr unchanged.1.1))
 
 pub returns-in_err-change-clause-shut : goal.returns-in_err-change-clause-shut
 returns-in_err-change-clause-shut g c =
     let old = session_with c.self.inside.blocks c.self.inside.log.lists in
     let new = session_with c.make.new.blocks c.reserve.new.self.lists in
-    subst (λ (s : SessionState g.row.S.Denot). has_no_room (blocks_of s) (edit_needs c.args.edit.now) ≡ true → (new ≡ s) × IsErrAnd c.from_residual-in_err-change.result (λ fault. IsBarred c.args.edit.now s fault ⊎ Refuses (λ f. f ≡ Memory) true c.args.edit.now s.document fault)) c.self.view_is
+    subst (λ (s : SessionState g.row.S.Denot). has_no_room (cache_of s) (edit_needs c.args.edit.now) ≡ true → (new ≡ s) × IsErrAnd c.from_residual-in_err-change.result (λ fault. IsBarred c.args.edit.now s fault ⊎ RefusesEdit (λ f. f ≡ Memory) true c.args.edit.now s.document fault)) c.self.view_is
     (λ out.
     let kept = c.in_err-change.ensures.shut out in
-    (same_session c.self.inside.blocks c.make.new.blocks _ _ kept.0 c.in_ok-reserve.ensures.lists, carried_fault c.from_residual-in_err-change.result (λ fault. IsBarred c.args.edit.now old fault ⊎ Refuses (λ f. f ≡ Memory) true c.args.edit.now old.document fault) c.in_err-change.field-0.0 c.from_residual-in_err-change.ensures.1 (inr (inr kept.1))))
+    (same_session c.self.inside.blocks c.make.new.blocks _ _ kept.0 c.in_ok-reserve.ensures.lists, carried_fault c.from_residual-in_err-change.result (λ fault. IsBarred c.args.edit.now old fault ⊎ RefusesEdit (λ f. f ≡ Memory) true c.args.edit.now old.document fault) c.in_err-change.field-0.0 c.from_residual-in_err-change.ensures.1 (inr (inr kept.1))))
 
 -- the edit is made
 pub invariant_of-self-2 : goal.invariant_of-self-2
@@ -179,7 +179,7 @@ invariant_of-self-2 g c =
     let log = c.self.inside.log.lists in
     let honest = (facts c.self.inside.blocks.disk.store).honest in
     let is : c.add.new.self.lists ≡ with_change change log = c.add.ensures ∙ ap (λ (l : Log). with_change change l) c.in_ok-reserve.ensures.lists in (
-      subst (λ (l : Log). AreListed Backwards new.document (to_undo l) (to_redo l)) (sym is)
+      subst (λ (l : Log). CanApplyBothByHandle Backwards new.document (to_undo l) (to_redo l)) (sym is)
           (changed_listed log change new.document
           (edited_listed honest c.self.inside.blocks.document new.document change (to_undo log) (to_redo log) c.validity.ensures.listed (drifted honest _ new.document made.makes.document) made.listed c.self.invariant.0)),
       none_marked _ c.self.inside.blocks.disk.marked new.disk.marked c.self.invariant.1 made.makes.passes.marked,
@@ -198,27 +198,27 @@ pub returns-clause-ok : goal.returns-clause-ok
 returns-clause-ok g c =
     let facts = g.S.Store.facts in let change = c.in_ok-change.change in
     let new = session_with c.make.new.blocks c.add.new.self.lists in
-    subst (λ (s : SessionState g.row.S.Denot). Records facts c.args.edit.now c.in_ok-change.done s new) c.self.view_is
+    subst (λ (s : SessionState g.row.S.Denot). PushesEdit facts c.args.edit.now c.in_ok-change.done s new) c.self.view_is
     (record { change = change; made = c.in_ok-change.ensures.ok; log = c.add.ensures ∙ ap (λ (l : Log). with_change change l) c.in_ok-reserve.ensures.lists })
 
-pub returns-clause-at_hand : goal.returns-clause-at_hand
-returns-clause-at_hand g c = made_at_hand g.S.Store.facts c.in_ok-change.change (kind_of c.args.edit.now) c.make.new.blocks c.in_ok-change.ensures.ok.kind c.in_ok-change.ensures.ok.makes.at_hand
+pub returns-clause-in_memory : goal.returns-clause-in_memory
+returns-clause-in_memory g c = made_at_hand g.S.Store.facts c.in_ok-change.change (kind_of c.args.edit.now) c.make.new.blocks c.in_ok-change.ensures.ok.kind c.in_ok-change.ensures.ok.makes.in_memory
 
 pub returns-clause-passes : goal.returns-clause-passes
-returns-clause-passes g c = subst (λ (s : SessionState g.row.S.Denot). Passes g.S.Store.facts s.disk c.make.new.blocks.disk) c.self.view_is c.in_ok-change.ensures.ok.makes.passes
+returns-clause-passes g c = subst (λ (s : SessionState g.row.S.Denot). KeepsCommitted g.S.Store.facts s.disk c.make.new.blocks.disk) c.self.view_is c.in_ok-change.ensures.ok.makes.passes
 
 pub returns-clause-already : goal.returns-clause-already
 returns-clause-already g c =
     let new = session_with c.make.new.blocks c.add.new.self.lists in
-    subst (λ (s : SessionState g.row.S.Denot). kind_of c.args.edit.now ≢ Made → ReadsNothing (blocks_of s) (edit_needs c.args.edit.now) (conditions c.args.edit.now s.document) → EditsAtHand c.args.edit.now s new (Ok c.in_ok-change.done)) c.self.view_is
-    (λ other nothing. let rests = c.in_ok-change.ensures.already other nothing in record { disk = rests.0; ok = rests.1; err = tt })
+    subst (λ (s : SessionState g.row.S.Denot). kind_of c.args.edit.now ≢ Made → ReadsNothing (cache_of s) (edit_needs c.args.edit.now) (conditions c.args.edit.now s.document) → EditsInMemory c.args.edit.now s new (Ok c.in_ok-change.done)) c.self.view_is
+    (λ other nothing. let unchanged = c.in_ok-change.ensures.already other nothing in record { disk = unchanged.0; ok = unchanged.1; err = tt })
 
 pub returns-clause-shut : goal.returns-clause-shut
 returns-clause-shut g c = λ out.
-    absurd (c.in_ok-change.ensures.shut (subst (λ (s : SessionState g.row.S.Denot). has_no_room (blocks_of s) (edit_needs c.args.edit.now) ≡ true) (sym c.self.view_is) out)).1
+    absurd (c.in_ok-change.ensures.shut (subst (λ (s : SessionState g.row.S.Denot). has_no_room (cache_of s) (edit_needs c.args.edit.now) ≡ true) (sym c.self.view_is) out)).1
 
 pub returns-then-is_barred-clause-passes : goal.returns-then-is_barred-clause-passes
-returns-then-is_barred-clause-passes g c = Passes-refl g.S.Store.facts _
+returns-then-is_barred-clause-passes g c = KeepsCommitted-refl g.S.Store.facts _
 
 pub returns-in_err-reserve-clause-passes : goal.returns-in_err-reserve-clause-passes
-returns-in_err-reserve-clause-passes g c = subst (λ (s : SessionState g.row.S.Denot). Passes g.S.Store.facts s.disk c.self.inside.blocks.disk) c.self.view_is (Passes-refl g.S.Store.facts c.self.inside.blocks.disk)
+returns-in_err-reserve-clause-passes g c = subst (λ (s : SessionState g.row.S.Denot). KeepsCommitted g.S.Store.facts s.disk c.self.inside.blocks.disk) c.self.view_is (KeepsCommitted-refl g.S.Store.facts c.self.inside.blocks.disk)

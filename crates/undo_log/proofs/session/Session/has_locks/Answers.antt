@@ -1,7 +1,7 @@
 use Rattle.std.proofs.Common.{sym, ◌∙◌, subst}
 use Rattle.std.specs.Prelude.{◌≡◌}
 use Rattle.geos_model.specs.Machine as machine
-use Rattle.undo_log.specs.Records.{SessionState, has_locks, machine_of}
+use Rattle.undo_log.specs.Sessions.{SessionState, has_locks, machine_of}
 use Rattle.undo_log.proofs.LookUps.{session_with}
 use Rattle.undo_log.proofs.Locks.{has_locks-is}
 use Rattle.undo_log.proofs.session.Session.has_locks.Goals as goal

@@ -5,7 +5,7 @@ use Rattle.geos_model.specs.declared.command.Command.TheVariants as commands
 use Rattle.geos_model.specs.declared.fault.Fault.{Fault}
 use Rattle.block_cache.specs.State.{CacheState}
 use Rattle.vm_blocks.specs.Locking.{CantLock}
-use Rattle.undo_log.specs.Records.{SessionState, blocks_of, IsStep}
+use Rattle.undo_log.specs.Sessions.{SessionState, cache_of, IsStep}
 use Rattle.undo_log.proofs.Locking.{lock_invariant, lock_is}
 use Rattle.undo_log.proofs.LookUps.{session_with}
 use Rattle.undo_log.proofs.session.Session.lock.Goals as goal
@@ -22,7 +22,7 @@ pub returns-clause-early : goal.returns-clause-early
 returns-clause-early g c =
     let log = c.self.inside.log.lists in
     let new = session_with c.lock.new.self log in
-    subst (λ (s : SessionState g.row.S.Denot). (fault : Fault) → CantLock (blocks_of s) c.args.block.0 fault → (c.lock.result ≡ Err fault) × (new ≡ s)) c.self.view_is
+    subst (λ (s : SessionState g.row.S.Denot). (fault : Fault) → CantLock (cache_of s) c.args.block.0 fault → (c.lock.result ≡ Err fault) × (new ≡ s)) c.self.view_is
     (λ fault cant. let is = c.lock.ensures.early fault cant in (is.0, ap (λ (b : CacheState g.row.S.Denot). session_with b log) is.1))
 
 pub invariant_of-self : goal.invariant_of-self

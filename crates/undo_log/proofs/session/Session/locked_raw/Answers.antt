@@ -1,6 +1,6 @@
 use Rattle.std.proofs.Common.{Some, ap, ◌∙◌}
 use Rattle.geos_model.specs.declared.command.Body.TheVariants.{Raw}
-use Rattle.block_cache.specs.Bodies.{body_of}
+use Rattle.block_cache.specs.Bodies.{body_value}
 use Rattle.block_cache.specs.declared.body.BlockBody.{BlockBody}
 use Rattle.undo_log.proofs.Locking.{raw_of, none_of_raw}
 use Rattle.undo_log.proofs.session.Session.locked_raw.Goals as goal
@@ -11,4 +11,4 @@ returns-in_err-body g c = λ target. rw c.from_residual.ensures (none_of_raw c.a
 pub returns-in-Raw : goal.returns-in-Raw
 returns-in-Raw g c = λ target.
     let e = c.in_ok-body.ensures in
-    ap Some c.bytes.ensures.value ∙ raw_of c.args.self.now target c.args.block.0 e.0 (Raw c.in-Raw.body) (e.1 ∙ ap (λ (x : BlockBody). Some (body_of x)) c.in-Raw.is)
+    ap Some c.bytes.ensures.value ∙ raw_of c.args.self.now target c.args.block.0 e.0 (Raw c.in-Raw.body) (e.1 ∙ ap (λ (x : BlockBody). Some (body_value x)) c.in-Raw.is)

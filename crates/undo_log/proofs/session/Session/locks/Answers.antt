@@ -2,7 +2,7 @@ use Rattle.std.proofs.Common.{Some, false, sym, subst, ◌∙◌}
 use Rattle.geos_model.specs.Machine.{Step}
 use Rattle.geos_model.specs.Reply.{NumberIs}
 use Rattle.geos_model.specs.declared.command.Command.TheVariants as commands
-use Rattle.undo_log.specs.Records.{SessionState, machine_of}
+use Rattle.undo_log.specs.Sessions.{SessionState, machine_of}
 use Rattle.undo_log.proofs.Locking.{locks_is}
 use Rattle.undo_log.proofs.LookUps.{session_with}
 use Rattle.undo_log.proofs.session.Session.locks.Goals as goal

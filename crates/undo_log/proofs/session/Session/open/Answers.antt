@@ -1,11 +1,11 @@
 use Rattle.std.proofs.Common.{IsTrue, ap, sym, subst, ◌∙◌}
-use Rattle.block_cache.specs.State.{CacheState, seen}
+use Rattle.block_cache.specs.State.{CacheState, as_file}
 use Rattle.vm_blocks.specs.Opening.{IsOpenedFrom}
 use Rattle.undo_log.proofs.Beginnings.{opened}
 use Rattle.undo_log.proofs.session.Session.open.Goals as goal
 
 pub returns-in-Ok-clause-opened : goal.returns-in-Ok-clause-opened
-returns-in-Ok-clause-opened g c = subst (λ (b : CacheState g.row.S.Denot). IsOpenedFrom g.S.Store.facts c.args.store (seen b)) (sym c.start.ensures.blocks) c.in-Ok.ensures.opened
+returns-in-Ok-clause-opened g c = subst (λ (b : CacheState g.row.S.Denot). IsOpenedFrom g.S.Store.facts c.args.store (as_file b)) (sym c.start.ensures.blocks) c.in-Ok.ensures.opened
 
 pub returns-in-Ok-clause-new : goal.returns-in-Ok-clause-new
 returns-in-Ok-clause-new g c = (c.start.ensures.log, ap (λ (b : CacheState g.row.S.Denot). b.frames) c.start.ensures.blocks ∙ c.in-Ok.ensures.frames)
@@ -16,6 +16,6 @@ returns-in-Ok-clause-exact g c so = c.start.ensures.exact (subst IsTrue (sym c.i
 pub returns-in-Ok-clause-machine : goal.returns-in-Ok-clause-machine
 returns-in-Ok-clause-machine g c so =
     let found = c.in-Ok.ensures.opened in
-    opened (seen c.in-Ok.blocks) (g.S.Store.facts c.args.store).content c.args.frames c.start.result (ap (λ (b : CacheState g.row.S.Denot). seen b) c.start.ensures.blocks)
+    opened (as_file c.in-Ok.blocks) (g.S.Store.facts c.args.store).content c.args.frames c.start.result (ap (λ (b : CacheState g.row.S.Denot). as_file b) c.start.ensures.blocks)
     c.start.ensures.log (ap (λ (b : CacheState g.row.S.Denot). b.resident) c.start.ensures.blocks ∙ c.in-Ok.ensures.empty) (ap (λ (b : CacheState g.row.S.Denot). b.frames) c.start.ensures.blocks ∙ c.in-Ok.ensures.frames)
     (found.documents so) (found.now so).0 (found.sequence so)

@@ -7,11 +7,11 @@ use Rattle.geos_model.specs.Reply.{Accepted, Refused}
 use Rattle.geos_model.specs.declared.command.Command.TheVariants as commands
 use Rattle.geos_model.specs.declared.fault.Fault.TheVariants.{Worn}
 use Rattle.vm_file.specs.Calls.{last_sequence}
-use Rattle.block_cache.specs.State.{seen}
+use Rattle.block_cache.specs.State.{as_file}
 use Rattle.vm_blocks.specs.Committing.{IsSavedAs}
-use Rattle.undo_log.specs.Committing.{IsNotMoved}
-use Rattle.undo_log.specs.Records.{SessionState, file_of, machine_of, has_failed, IsExact}
-use Rattle.undo_log.specs.Turning.{rest_fault}
+use Rattle.undo_log.specs.Committing.{IsSaveAsRefused}
+use Rattle.undo_log.specs.Sessions.{SessionState, file_of, machine_of, failed_since, IsExact}
+use Rattle.undo_log.specs.Turning.{busy_fault}
 use Rattle.undo_log.proofs.Beginnings.{comes_back}
 use Rattle.undo_log.proofs.LookUps.{session_with}
 use Rattle.undo_log.proofs.SavingAs.{refused, accepted, held_step, not_moved, not_worn, saved_invariant, saved_or_not, worn_free}
@@ -23,15 +23,15 @@ returns-clause-ok g c =
     let new = session_with c.save_as.new.self log in
     subst (λ (s : SessionState g.row.S.Denot). IfOk c.save_as.result (λ _. IsExact facts s → IsTrue (facts c.args.target).honest
     → IsExact facts new × Step false (machine_of true s) (Some commands.SaveAs) Accepted (machine_of false new))) c.self.view_is
-    (accepted facts (session_with c.self.inside.blocks log) new (record { log = refl; frames = e.resident.1; resident = e.resident.0 }) (ap rest_fault c.self.view_is ∙ sym c.in_default.ensures.is) (λ refused. refused.fault) c.args.target _ c.save_as.result e.saved_as e.worn)
+    (accepted facts (session_with c.self.inside.blocks log) new (record { log = refl; frames = e.resident.1; resident = e.resident.0 }) (ap busy_fault c.self.view_is ∙ sym c.in_default.ensures.is) (λ refused. refused.fault) c.args.target _ c.save_as.result e.saved_as e.worn)
 
 pub returns-clause-err : goal.returns-clause-err
 returns-clause-err g c =
     let facts = g.S.Store.facts in let e = c.save_as.ensures in let log = c.self.inside.log.lists in
     let new = session_with c.save_as.new.self log in
     subst (λ (s : SessionState g.row.S.Denot). IfErr c.save_as.result (λ refused. IsExact facts s → IsExact facts new
-    × Step (has_failed (facts s.disk.store) (facts c.save_as.new.self.disk.store) || has_failed (facts c.args.target) (facts refused.store)) (machine_of true s) (Some commands.SaveAs) (Refused refused.fault) (machine_of true new))) c.self.view_is
-    (refused facts (session_with c.self.inside.blocks log) new (record { log = refl; frames = e.resident.1; resident = e.resident.0 }) (ap rest_fault c.self.view_is ∙ sym c.in_default.ensures.is) (λ refused. refused.fault) (λ refused. refused.store) c.args.target _ c.save_as.result e.saved_as e.worn)
+    × Step (failed_since (facts s.disk.store) (facts c.save_as.new.self.disk.store) || failed_since (facts c.args.target) (facts refused.store)) (machine_of true s) (Some commands.SaveAs) (Refused refused.fault) (machine_of true new))) c.self.view_is
+    (refused facts (session_with c.self.inside.blocks log) new (record { log = refl; frames = e.resident.1; resident = e.resident.0 }) (ap busy_fault c.self.view_is ∙ sym c.in_default.ensures.is) (λ refused. refused.fault) (λ refused. refused.store) c.args.target _ c.save_as.result e.saved_as e.worn)
 
 pub returns-clause-saved_as : goal.returns-clause-saved_as
 returns-clause-saved_as g c =
@@ -40,20 +40,20 @@ returns-clause-saved_as g c =
     let new = session_with c.save_as.new.self log in
     subst (λ (s : SessionState g.row.S.Denot). MatchResult c.save_as.result
     (λ store. IsSavedAs facts c.args.target store (file_of s) (file_of new))
-    (λ refused. IsNotMoved facts c.args.target refused.store s new refused.fault)) c.self.view_is
-    (saved_or_not facts (session_with c.self.inside.blocks log) new (record { log = refl; frames = e.resident.1; resident = e.resident.0 }) (ap rest_fault c.self.view_is ∙ sym c.in_default.ensures.is) (λ refused. refused.fault) (λ refused. refused.store) c.args.target c.save_as.result e.saved_as)
+    (λ refused. IsSaveAsRefused facts c.args.target refused.store s new refused.fault)) c.self.view_is
+    (saved_or_not facts (session_with c.self.inside.blocks log) new (record { log = refl; frames = e.resident.1; resident = e.resident.0 }) (ap busy_fault c.self.view_is ∙ sym c.in_default.ensures.is) (λ refused. refused.fault) (λ refused. refused.store) c.args.target c.save_as.result e.saved_as)
 
 pub returns-clause-worn : goal.returns-clause-worn
 returns-clause-worn g c =
     let e = c.save_as.ensures in let log = c.self.inside.log.lists in
-    subst (λ (s : SessionState g.row.S.Denot). IsErrAnd c.save_as.result (λ refused. refused.fault ≡ Worn) ↔ (rest_fault s ≡ None) × (s.disk.sequence ≡ last_sequence)) c.self.view_is
-    (worn_free g.S.Store.facts (session_with c.self.inside.blocks log) (session_with c.save_as.new.self log) (record { log = refl; frames = e.resident.1; resident = e.resident.0 }) (ap rest_fault c.self.view_is ∙ sym c.in_default.ensures.is) _ e.worn)
+    subst (λ (s : SessionState g.row.S.Denot). IsErrAnd c.save_as.result (λ refused. refused.fault ≡ Worn) ↔ (busy_fault s ≡ None) × (s.disk.sequence ≡ last_sequence)) c.self.view_is
+    (worn_free g.S.Store.facts (session_with c.self.inside.blocks log) (session_with c.save_as.new.self log) (record { log = refl; frames = e.resident.1; resident = e.resident.0 }) (ap busy_fault c.self.view_is ∙ sym c.in_default.ensures.is) _ e.worn)
 
 pub returns-clause-reverted : goal.returns-clause-reverted
 returns-clause-reverted g c =
     let facts = g.S.Store.facts in
     subst (λ (s : SessionState g.row.S.Denot). IfOk c.save_as.result (λ store. IsTrue (facts s.disk.store).honest → stands (facts store).content ≡ Ok (s.disk.saved, s.disk.saved))) c.self.view_is
-    (comes_back facts g.met.S.Store.timely c.args.target (seen c.self.inside.blocks) (seen c.save_as.new.self) _ c.save_as.result c.save_as.ensures.saved_as)
+    (comes_back facts g.met.S.Store.timely c.args.target (as_file c.self.inside.blocks) (as_file c.save_as.new.self) _ c.save_as.result c.save_as.ensures.saved_as)
 
 pub invariant_of-self : goal.invariant_of-self
 invariant_of-self g c =
@@ -66,8 +66,8 @@ pub returns-in-Some-clause-saved_as : goal.returns-in-Some-clause-saved_as
 returns-in-Some-clause-saved_as g c =
     let facts = g.S.Store.facts in
     let old = session_with c.self.inside.blocks c.self.inside.log.lists in
-    subst (λ (s : SessionState g.row.S.Denot). IsNotMoved facts c.args.target c.args.target s s c.in-Some.fault) c.self.view_is
-    (not_moved facts old c.in-Some.fault (ap rest_fault c.self.view_is ∙ sym c.in-Some.ensures.is) c.args.target c.validity.ensures.settled)
+    subst (λ (s : SessionState g.row.S.Denot). IsSaveAsRefused facts c.args.target c.args.target s s c.in-Some.fault) c.self.view_is
+    (not_moved facts old c.in-Some.fault (ap busy_fault c.self.view_is ∙ sym c.in-Some.ensures.is) c.args.target c.validity.ensures.crash_consistent)
 
 pub returns-in-Some-clause-worn : goal.returns-in-Some-clause-worn
 returns-in-Some-clause-worn g c = not_worn g.S.Store.facts c.args.self.now c.in-Some.fault (sym c.in-Some.ensures.is)

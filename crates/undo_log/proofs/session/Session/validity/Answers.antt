@@ -1,8 +1,8 @@
 use Rattle.std.proofs.Common.{◌≤◌, Bool, length, subst}
 use Rattle.geos_model.specs.Machine.{AreValidLocks, IsValidMachine}
-use Rattle.vm_file.specs.Disk.{IsListed, IsSettled}
+use Rattle.vm_file.specs.Disk.{IsFileDocument, IsCrashConsistent}
 use Rattle.undo_log.specs.Logging.{AreExclusive, open_changes}
-use Rattle.undo_log.specs.Records.{SessionState, machine_of, IsExact}
+use Rattle.undo_log.specs.Sessions.{SessionState, machine_of, IsExact}
 use Rattle.undo_log.proofs.Groups.{group_valid}
 use Rattle.undo_log.proofs.Locking.{locks_valid}
 use Rattle.undo_log.proofs.LookUps.{session_with}
@@ -10,10 +10,10 @@ use Rattle.undo_log.proofs.Steps.{past-valid, future-valid}
 use Rattle.undo_log.proofs.session.Session.validity.Goals as goal
 
 pub returns-clause-listed : goal.returns-clause-listed
-returns-clause-listed g c = subst (λ (s : SessionState g.row.S.Denot). IsListed (g.S.Store.facts s.disk.store).honest s.document) c.self.view_is c.validity.ensures.listed
+returns-clause-listed g c = subst (λ (s : SessionState g.row.S.Denot). IsFileDocument (g.S.Store.facts s.disk.store).honest s.document) c.self.view_is c.validity.ensures.listed
 
-pub returns-clause-settled : goal.returns-clause-settled
-returns-clause-settled g c = subst (λ (s : SessionState g.row.S.Denot). IsSettled g.S.Store.facts s.disk) c.self.view_is c.validity.ensures.settled
+pub returns-clause-crash_consistent : goal.returns-clause-crash_consistent
+returns-clause-crash_consistent g c = subst (λ (s : SessionState g.row.S.Denot). IsCrashConsistent g.S.Store.facts s.disk) c.self.view_is c.validity.ensures.crash_consistent
 
 pub returns-clause-machine : goal.returns-clause-machine
 returns-clause-machine g c =

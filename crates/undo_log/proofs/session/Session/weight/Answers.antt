@@ -1,7 +1,7 @@
 use Rattle.std.proofs.Common.{◌≡◌, ◌≤◌, ◌+◌, ◌-◌, ◌^◌, min, subst}
 use Rattle.std.specs.Option.{option_map_or}
 use Rattle.undo_log.specs.Logging.{to_redo, to_undo, total_weight}
-use Rattle.undo_log.specs.Records.{SessionState, machine_of, total_cost}
+use Rattle.undo_log.specs.Sessions.{SessionState, machine_of, total_cost}
 use Rattle.undo_log.proofs.Weights.{weight_at_most}
 use Rattle.undo_log.proofs.session.Session.weight.Goals as goal
 

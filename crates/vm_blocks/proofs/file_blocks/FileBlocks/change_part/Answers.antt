@@ -2,7 +2,7 @@ use Rattle.std.proofs.Common.{sym, ap, subst, ◌∙◌}
 use Rattle.std.specs.Prelude.{Result, Err}
 use Rattle.std.proofs.lemmas.Result.{err_from_is_err_and}
 use Rattle.geos_model.specs.declared.fault.Fault.{Fault}
-use Rattle.vm_blocks.specs.Changes.{turned_part}
+use Rattle.vm_blocks.specs.Changes.{directed_part}
 use Rattle.vm_blocks.specs.Preparing.{Turns}
 use Rattle.vm_blocks.specs.declared.change.Change.TheVariants as changes
 use Rattle.vm_blocks.proofs.Turned.{turns_ready, turns_unready}
@@ -10,7 +10,7 @@ use Rattle.vm_blocks.proofs.file_blocks.FileBlocks.change_part.Goals as goal
 
 pub returns-in_err-ready_part : goal.returns-in_err-ready_part
 returns-in_err-ready_part g c =
-    let change = changes.Part c.args.handle (turned_part c.args.direction c.args.part.now) in
+    let change = changes.Part c.args.handle (directed_part c.args.direction c.args.part.now) in
     let p = err_from_is_err_and c.from_residual.result c.from_residual.ensures.1 in
     subst (λ (r : Result (Unit {0}) Fault). Turns g.S.Store.facts change c.args.self.now c.ready_part.new.self r) (sym (p.1 ∙ ap Err p.2))
     (turns_unready g.S.Store.facts change c.args.self.now c.ready_part.new.self c.ready_part.ensures.keeps c.in_err-ready_part.field-0.0 c.in_err-ready_part.ensures.err
@@ -18,6 +18,6 @@ returns-in_err-ready_part g c =
 
 pub returns : goal.returns
 returns g c =
-    let change = changes.Part c.args.handle (turned_part c.args.direction c.args.part.now) in
+    let change = changes.Part c.args.handle (directed_part c.args.direction c.args.part.now) in
     turns_ready g.S.Store.facts change c.args.self.now c.ready_part.new.self c.ready_part.ensures.keeps c.carry_out_part.new.self c.in_ok-ready_part.ensures.loaded (λ far. cc (c.in_ok-ready_part.ensures.shut far).0)
     (λ here takes. let sure = c.in_ok-ready_part.ensures.sure here takes in (sure.1, sure.2)) c.carry_out_part.ensures

@@ -3,7 +3,7 @@ use Rattle.std.specs.Prelude.{Result, IfErr, IsOk}
 use Rattle.geos_model.specs.Document.{is_live}
 use Rattle.geos_model.specs.declared.fault.Fault.{Fault}
 use Rattle.block_cache.specs.State.{CacheState, all_locked, is_resident}
-use Rattle.vm_blocks.specs.Keeping.{Keeps, Lacks, LacksFrame}
+use Rattle.vm_blocks.specs.Keeping.{KeepsBlocks, IsEnvironmentFault, IsCacheFull}
 use Rattle.vm_blocks.proofs.KeepingLaws.{keeps-by, keeps-refl, loaded-resident, resident-open}
 use Rattle.vm_blocks.proofs.Locking.{one_of, room_by}
 use Rattle.vm_blocks.proofs.Turned.{lacks_of, loaded_there}
@@ -32,7 +32,7 @@ load-requires-clause-room g c =
 
 pub returns-clause-keeps : goal.returns-clause-keeps
 returns-clause-keeps g c =
-    subst (λ (s : CacheState g.row.S.Denot). Keeps g.S.Store.facts s c.load.new.self) c.self.view_is (keeps-by g.S.Store.facts c.self.inside.cache c.load.new.self c.load.ensures.stays c.load.ensures.locks)
+    subst (λ (s : CacheState g.row.S.Denot). KeepsBlocks g.S.Store.facts s c.load.new.self) c.self.view_is (keeps-by g.S.Store.facts c.self.inside.cache c.load.new.self c.load.ensures.stays c.load.ensures.locks)
 
 pub returns-clause-ok : goal.returns-clause-ok
 returns-clause-ok g c =
@@ -42,8 +42,8 @@ returns-clause-ok g c =
 pub returns-clause-err : goal.returns-clause-err
 returns-clause-err g c =
     let old = c.args.self.now in
-    one_of (Lacks g.S.Store.facts old.disk.store c.load.new.self.disk.store) (LacksFrame old c.args.handle.0) c.load.result
-    (subst (λ (s : CacheState g.row.S.Denot). IfErr c.load.result (Lacks g.S.Store.facts s.disk.store c.load.new.self.disk.store)) c.self.view_is
+    one_of (IsEnvironmentFault g.S.Store.facts old.disk.store c.load.new.self.disk.store) (IsCacheFull old c.args.handle.0) c.load.result
+    (subst (λ (s : CacheState g.row.S.Denot). IfErr c.load.result (IsEnvironmentFault g.S.Store.facts s.disk.store c.load.new.self.disk.store)) c.self.view_is
     (lacks_of g.S.Store.facts c.load.result c.self.inside.cache.disk.store c.load.new.self.disk.store c.load.ensures.fails))
 
 pub returns-clause-already : goal.returns-clause-already

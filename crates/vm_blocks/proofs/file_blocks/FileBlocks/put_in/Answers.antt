@@ -1,7 +1,7 @@
 use Rattle.std.proofs.Common.{◌≡◌, false, List, All, sym, subst}
 use Rattle.geos_model.specs.Document.{IsValid, handles_of}
 use Rattle.vm_file.specs.Calls.{IsPut, put_all}
-use Rattle.vm_file.specs.Members.{saved_blocks}
+use Rattle.vm_file.specs.Members.{imaged_blocks}
 use Rattle.vm_file.specs.declared.member.Member.{Member}
 use Rattle.block_cache.specs.State.{CacheState, is_resident}
 use Rattle.vm_blocks.specs.Changes.{AreFree}
@@ -19,7 +19,7 @@ put_blocks-requires-clause-puts g c =
 
 pub put_blocks-requires-clause-away : goal.put_blocks-requires-clause-away
 put_blocks-requires-clause-away g c =
-    let free = subst (λ (s : CacheState g.row.S.Denot). AreFree s.document (handles_of (saved_blocks c.args.members.now.list.items))) (sym c.self.view_is) c.requires in
+    let free = subst (λ (s : CacheState g.row.S.Denot). AreFree s.document (handles_of (imaged_blocks c.args.members.now.list.items))) (sym c.self.view_is) c.requires in
     let old = c.self.inside.cache in
     subst (All (λ (m : Member). is_resident old.resident m.handle.0 ≡ false)) (sym c.deref.ensures.value) (away g.S.Store.facts old c.args.members.now.list.items free c.validity.ensures.resident)
 
@@ -27,7 +27,7 @@ pub invariant_of-self : goal.invariant_of-self
 invariant_of-self g c =
     let ms = c.args.members.now in
     let old = c.self.inside.cache in
-    let free = subst (λ (s : CacheState g.row.S.Denot). AreFree s.document (handles_of (saved_blocks ms.list.items))) (sym c.self.view_is) c.requires in
+    let free = subst (λ (s : CacheState g.row.S.Denot). AreFree s.document (handles_of (imaged_blocks ms.list.items))) (sym c.self.view_is) c.requires in
     sound_put g.S.Store.facts old c.put_blocks.new.self (put_all c.deref.result.now old.document) c.put_blocks.result c.self.invariant
     (λ valid. subst (λ (xs : List Member). IsValid (put_all xs old.document)) (sym c.deref.ensures.value) (change_back (changes.BlocksIn ms) old.document valid free).0) c.put_blocks.ensures.keeps c.put_blocks.ensures.resident
 

@@ -1,10 +1,10 @@
 use Rattle.std.proofs.Common.{◌≡◌, Bool, arith, ap, sym, subst, ◌∙◌}
 use Rattle.geos_model.specs.Document.{is_heap, is_live, with_attributes, IsTyped}
 use Rattle.block_cache.specs.State.{CacheState}
-use Rattle.vm_blocks.specs.Changes.{fitted}
-use Rattle.vm_blocks.specs.Sound.{IsSound}
+use Rattle.vm_blocks.specs.Changes.{attributes_for_kind}
+use Rattle.vm_blocks.specs.Sound.{IsValidState}
 use Rattle.vm_blocks.specs.declared.change.Change.TheVariants as changes
-use Rattle.vm_blocks.proofs.KindLemmas.{fitted-typed}
+use Rattle.vm_blocks.proofs.KindLemmas.{attributes_for_kind-typed}
 use Rattle.vm_blocks.proofs.Sounds.{sound_attributes}
 use Rattle.vm_blocks.proofs.Turned.{same_locks, turns_exact}
 use Rattle.vm_blocks.proofs.file_blocks.FileBlocks.set_attributes.Goals as goal
@@ -12,19 +12,19 @@ use Rattle.vm_blocks.proofs.file_blocks.FileBlocks.set_attributes.Goals as goal
 pub set_attributes-requires : goal.set_attributes-requires
 set_attributes-requires g c =
     let now = is_heap c.args.self.now.document c.args.handle.0 in
-    let given : c.fitted-given.result ≡ fitted now c.args.new = c.fitted-given.ensures ∙ ap (λ (k : Bool). fitted k c.args.new) c.is_heap.ensures in
+    let given : c.attributes_for_kind-given.result ≡ attributes_for_kind now c.args.new = c.attributes_for_kind-given.ensures ∙ ap (λ (k : Bool). attributes_for_kind k c.args.new) c.is_heap.ensures in
     record {
       live = ap (λ s. is_live s.document c.args.handle.0) c.self.view_is ∙ c.requires;
-      typed = λ raw. subst (IsTyped now) (sym given) (fitted-typed now c.args.new) (sym (ap (λ s. is_heap s.document c.args.handle.0) c.self.view_is) ∙ raw);
+      typed = λ raw. subst (IsTyped now) (sym given) (attributes_for_kind-typed now c.args.new) (sym (ap (λ s. is_heap s.document c.args.handle.0) c.self.view_is) ∙ raw);
     }
 
 pub invariant_of-self : goal.invariant_of-self
 invariant_of-self g c =
     let now = is_heap c.args.self.now.document c.args.handle.0 in
-    let given : c.fitted-given.result ≡ fitted now c.args.new = c.fitted-given.ensures ∙ ap (λ (k : Bool). fitted k c.args.new) c.is_heap.ensures in
-    let typed : IsTyped (is_heap c.self.inside.cache.document c.args.handle.0) c.fitted-given.result =
-    λ raw. subst (IsTyped now) (sym given) (fitted-typed now c.args.new) (sym (ap (λ s. is_heap s.document c.args.handle.0) c.self.view_is) ∙ raw) in
-    subst (λ (s : CacheState g.row.S.Denot). IsSound g.S.Store.facts s) (sym c.set_attributes.ensures) (sound_attributes g.S.Store.facts c.self.inside.cache c.args.handle.0 c.fitted-given.result (record { user_id = omega arith; heap_type = omega arith }) typed c.self.invariant)
+    let given : c.attributes_for_kind-given.result ≡ attributes_for_kind now c.args.new = c.attributes_for_kind-given.ensures ∙ ap (λ (k : Bool). attributes_for_kind k c.args.new) c.is_heap.ensures in
+    let typed : IsTyped (is_heap c.self.inside.cache.document c.args.handle.0) c.attributes_for_kind-given.result =
+    λ raw. subst (IsTyped now) (sym given) (attributes_for_kind-typed now c.args.new) (sym (ap (λ s. is_heap s.document c.args.handle.0) c.self.view_is) ∙ raw) in
+    subst (λ (s : CacheState g.row.S.Denot). IsValidState g.S.Store.facts s) (sym c.set_attributes.ensures) (sound_attributes g.S.Store.facts c.self.inside.cache c.args.handle.0 c.attributes_for_kind-given.result (record { user_id = omega arith; heap_type = omega arith }) typed c.self.invariant)
 
 pub returns : goal.returns
 returns g c =
@@ -32,8 +32,8 @@ returns g c =
     let h = c.args.handle.0 in
     let new = c.set_attributes.new.self in
     let now = is_heap old.document h in
-    let given : c.fitted-given.result ≡ fitted now c.args.new = c.fitted-given.ensures ∙ ap (λ (k : Bool). fitted k c.args.new) c.is_heap.ensures in
-    let is : new ≡ record old { document = with_attributes old.document h (fitted now c.args.new) } =
-    c.set_attributes.ensures ∙ ap (λ (s : CacheState g.row.S.Denot). record s { document = with_attributes s.document h c.fitted-given.result }) c.self.view_is
+    let given : c.attributes_for_kind-given.result ≡ attributes_for_kind now c.args.new = c.attributes_for_kind-given.ensures ∙ ap (λ (k : Bool). attributes_for_kind k c.args.new) c.is_heap.ensures in
+    let is : new ≡ record old { document = with_attributes old.document h (attributes_for_kind now c.args.new) } =
+    c.set_attributes.ensures ∙ ap (λ (s : CacheState g.row.S.Denot). record s { document = with_attributes s.document h c.attributes_for_kind-given.result }) c.self.view_is
     ∙ ap (λ a. record old { document = with_attributes old.document h a }) given in
     turns_exact g.S.Store.facts (changes.Attributes c.args.handle c.args.old c.args.new) old new (ap (λ (s : CacheState g.row.S.Denot). s.disk) is) (ap (λ (s : CacheState g.row.S.Denot). s.document) is) (ap (λ (s : CacheState g.row.S.Denot). s.frames) is) (same_locks old.resident new.resident (ap (λ (s : CacheState g.row.S.Denot). s.resident) is)) tt (λ far. far)

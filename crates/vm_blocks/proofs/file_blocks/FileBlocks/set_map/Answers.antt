@@ -1,7 +1,7 @@
 use Rattle.std.proofs.Common.{◌≡◌, ap, sym, subst, ◌∙◌}
 use Rattle.geos_model.specs.Document.{is_live}
 use Rattle.block_cache.specs.State.{CacheState}
-use Rattle.vm_blocks.specs.Sound.{IsSound}
+use Rattle.vm_blocks.specs.Sound.{IsValidState}
 use Rattle.vm_blocks.specs.declared.change.Change.TheVariants as changes
 use Rattle.vm_blocks.proofs.Sounds.{sound_map}
 use Rattle.vm_blocks.proofs.Turned.{same_locks, turns_exact}
@@ -9,7 +9,7 @@ use Rattle.vm_blocks.proofs.file_blocks.FileBlocks.set_map.Goals as goal
 
 pub invariant_of-self : goal.invariant_of-self
 invariant_of-self g c =
-    subst (λ (s : CacheState g.row.S.Denot). IsSound g.S.Store.facts s) (sym c.set_map.ensures) (sound_map g.S.Store.facts c.self.inside.cache c.args.new.0 (λ some. ap (λ (s : CacheState g.row.S.Denot). is_live s.document c.args.new.0) c.self.view_is ∙ c.requires some) c.self.invariant)
+    subst (λ (s : CacheState g.row.S.Denot). IsValidState g.S.Store.facts s) (sym c.set_map.ensures) (sound_map g.S.Store.facts c.self.inside.cache c.args.new.0 (λ some. ap (λ (s : CacheState g.row.S.Denot). is_live s.document c.args.new.0) c.self.view_is ∙ c.requires some) c.self.invariant)
 
 pub returns : goal.returns
 returns g c =

@@ -1,11 +1,11 @@
 use Rattle.std.proofs.Common.{◌≡◌, ◌≤◌, ◌*◌, take}
 use Rattle.geos_model.specs.Cost.{images_length}
 use Rattle.geos_model.specs.File.{longest_image}
-use Rattle.vm_file.specs.Members.{saved_blocks}
+use Rattle.vm_file.specs.Members.{imaged_blocks}
 use Rattle.vm_blocks.proofs.member.Members.weight.Given as goal
 
 abbrev pub invariant-loop-member : goal.invariant-loop-member
 invariant-loop-member l = record {
-  total : l.total ≡ images_length (saved_blocks (take l.member-index l.self.list.items));
+  total : l.total ≡ images_length (imaged_blocks (take l.member-index l.self.list.items));
   small : l.total ≤ longest_image * l.member-index;
 }

@@ -4,7 +4,7 @@ use Rattle.geos_model.specs.Document.{Document}
 use Rattle.geos_model.specs.declared.fault.Fault.TheVariants.{Worn}
 use Rattle.vm_file.specs.Calls.{last_sequence}
 use Rattle.vm_file.specs.Documents.{Documents, document_in}
-use Rattle.vm_file.specs.Disk.{FileState, Commits}
+use Rattle.vm_file.specs.Disk.{FileState, MayCommit}
 use Rattle.vm_file.specs.Effects.{IsCommit}
 use Rattle.vm_file.specs.Sound.{disk_of}
 use Rattle.vm_file.proofs.CopiesLemmas.{copy_itself, copy_drifts, beside_document, beside_alike}
@@ -51,7 +51,7 @@ returns-clause-commit g c =
     let new : FileState g.row.S.Denot = record { disk = disk_of facts c.commit_pending.new.store c.commit_pending.new.slots; document = document_in b.content i.live } in
     subst (λ (f : FileState g.row.S.Denot). IsCommit facts (meant c.args.saves f) f.document f new c.commit_pending.result) c.self.view_is
     (tried facts g.met.S.Store.timely old new _ _ c.commit_pending.result
-    (subst (λ (d : Document). Commits facts (old.document, d) old.disk new.disk c.commit_pending.result) same c.commit_pending.ensures.commits)
+    (subst (λ (d : Document). MayCommit facts (old.document, d) old.disk new.disk c.commit_pending.result) same c.commit_pending.ensures.commits)
     (either_way c.commit_pending.result _ (copy_drifts a.honest a.content b.content i.live i.live (copy_itself i.live) c.commit_pending.ensures.same)) c.commit_pending.ensures.refusals c.if-self.false)
 
 pub returns-clause-version : goal.returns-clause-version

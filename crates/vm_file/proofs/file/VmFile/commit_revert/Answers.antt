@@ -4,7 +4,7 @@ use Rattle.std.proofs.lemmas.Result.{err_from_is_err_and}
 use Rattle.geos_model.specs.declared.fault.Fault.TheVariants.{Worn}
 use Rattle.vm_file.specs.Calls.{last_sequence}
 use Rattle.vm_file.specs.Copies.{IsCopy}
-use Rattle.vm_file.specs.Disk.{FileState, Commits}
+use Rattle.vm_file.specs.Disk.{FileState, MayCommit}
 use Rattle.vm_file.specs.Documents.{Documents, document_in}
 use Rattle.vm_file.specs.Listing.{AreBounds}
 use Rattle.vm_file.specs.Effects.{IsCommit}
@@ -65,7 +65,7 @@ returns-in_err-commit_pair-clause-commit g c =
     subst (λ (f : FileState g.row.S.Denot). IsCommit facts (f.disk.saved, f.disk.saved) f.disk.saved f new c.from_residual-in_err-commit_pair.result) c.self.view_is
     (subst (λ r. IsCommit facts (old.disk.saved, old.disk.saved) old.disk.saved old new r) (sym (p.1 ∙ ap Err p.2))
     (tried facts g.met.S.Store.timely old new _ _ (Err fault)
-    (subst (λ (d : Documents). Commits facts d old.disk new.disk (Err fault)) documents c.in_err-commit_pair.ensures.commits)
+    (subst (λ (d : Documents). MayCommit facts d old.disk new.disk (Err fault)) documents c.in_err-commit_pair.ensures.commits)
     (copy_drifts a.honest a.content b.content i.live i.live (copy_itself i.live) c.commit_pair.ensures.live) c.in_err-commit_pair.ensures.refusals c.if-self.false))
 
 pub invariant_of-self-2 : goal.invariant_of-self-2
@@ -92,7 +92,7 @@ returns-clause-commit g c =
     let new : FileState g.row.S.Denot = record { disk = disk_of facts c.commit_pair.new.store c.commit_pair.new.slots; document = document_in b.content copy } in
     subst (λ (f : FileState g.row.S.Denot). IsCommit facts (f.disk.saved, f.disk.saved) f.disk.saved f new (Ok tt)) c.self.view_is
     (tried facts g.met.S.Store.timely old new _ _ (Ok tt)
-    (subst (λ (d : Documents). Commits facts d old.disk new.disk (Ok tt)) documents c.in_ok-commit_pair.ensures.commits)
+    (subst (λ (d : Documents). MayCommit facts d old.disk new.disk (Ok tt)) documents c.in_ok-commit_pair.ensures.commits)
     (copy_drifts a.honest a.content b.content copy saved.table c.in_ok-live.ensures same) tt c.if-self.false)
 
 pub returns-clause-version : goal.returns-clause-version

@@ -1,7 +1,7 @@
 use Rattle.std.proofs.Common.{false, IsTrue, Some, ◌≡◌, refl, sym, subst}
 use Rattle.vm_file.specs.Documents.{document_in, version_in}
 use Rattle.std.specs.Prelude.{IfOk}
-use Rattle.vm_file.specs.Disk.{Drifts}
+use Rattle.vm_file.specs.Disk.{SameUnlessCorrupt}
 use Rattle.vm_file.specs.Effects.{IsNewFile}
 use Rattle.vm_file.proofs.EffectsLemmas.{view_reads, made_file}
 use Rattle.vm_file.proofs.LaidOutLemmas.{laid_drifts}
@@ -17,15 +17,15 @@ returns-clause-reads g c =
 pub returns-clause-handles : goal.returns-clause-handles
 returns-clause-handles g c =
     let old = c.args.self.now.document in
-    elim c.match-copy_document.branch as (λ _. IfOk c.match-copy_document.result (λ file. Drifts false old file.document)) [
-      | in-Ok w ↦ subst (λ r. IfOk r (λ file. Drifts false old file.document)) (sym w.result-is)
+    elim c.match-copy_document.branch as (λ _. IfOk c.match-copy_document.result (λ file. SameUnlessCorrupt false old file.document)) [
+      | in-Ok w ↦ subst (λ r. IfOk r (λ file. SameUnlessCorrupt false old file.document)) (sym w.result-is)
           (let i = c.self.inside in
           let new = w.in-Ok.made.live in
           let from = (g.S.Store.facts i.store).content in
           let to = (g.S.Store.facts c.copy_document.new.target).content in
-          subst (λ s. Drifts false s.document (document_in to new)) c.self.view_is
+          subst (λ s. SameUnlessCorrupt false s.document (document_in to new)) c.self.view_is
           (laid_drifts from to i.live.places.items i.live.map_block i.live new refl refl w.in-Ok.ensures.places w.in-Ok.ensures.map_block))
-      | in-Err w ↦ subst (λ r. IfOk r (λ file. Drifts false old file.document)) (sym w.result-is) tt
+      | in-Err w ↦ subst (λ r. IfOk r (λ file. SameUnlessCorrupt false old file.document)) (sym w.result-is) tt
     ]
 
 pub returns-clause-made : goal.returns-clause-made
@@ -42,6 +42,6 @@ returns-clause-version g c =
     let target = c.copy_document.new.target in
     elim c.match-copy_document.branch as (λ _. IfOk c.match-copy_document.result (λ file. IsTrue (facts file.disk.store).honest → version_in (facts file.disk.store).content ≡ Some 2)) [
       | in-Ok w ↦ subst (λ r. IfOk r (λ file. IsTrue (facts file.disk.store).honest → version_in (facts file.disk.store).content ≡ Some 2)) (sym w.result-is)
-          (sound_versioned facts target w.in-Ok.made.live w.in-Ok.made.slots (g.met.S.Store.timely target) w.in-Ok.ensures.sound w.in-Ok.ensures.one.attempted w.in-Ok.ensures.one.version)
+          (sound_versioned facts target w.in-Ok.made.live w.in-Ok.made.slots (g.met.S.Store.timely target) w.in-Ok.ensures.sound w.in-Ok.ensures.one.in_doubt w.in-Ok.ensures.one.version)
       | in-Err w ↦ subst (λ r. IfOk r (λ file. IsTrue (facts file.disk.store).honest → version_in (facts file.disk.store).content ≡ Some 2)) (sym w.result-is) tt
     ]

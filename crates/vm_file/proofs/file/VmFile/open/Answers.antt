@@ -8,10 +8,10 @@ use Rattle.vm_file.proofs.file.VmFile.open.Goals as goal
 
 pub returns-in-Ok-clause-stands : goal.returns-in-Ok-clause-stands
 returns-in-Ok-clause-stands g c so =
-    subst (λ f. stands (g.S.Store.facts c.args.store).content ≡ Ok (documents_in f c.in-Ok.slots.committed)) (sym (c.in-Ok.ensures.looks.rests so).content) (c.in-Ok.ensures.stands so)
+    subst (λ f. stands (g.S.Store.facts c.args.store).content ≡ Ok (documents_in f c.in-Ok.slots.committed)) (sym (c.in-Ok.ensures.looks.unchanged so).content) (c.in-Ok.ensures.stands so)
 
-pub returns-in-Ok-clause-settled : goal.returns-in-Ok-clause-settled
-returns-in-Ok-clause-settled g c = sound_settled g.S.Store.facts c.open_slots.new.store c.in-Ok.live c.in-Ok.slots c.in-Ok.ensures.sound
+pub returns-in-Ok-clause-crash_consistent : goal.returns-in-Ok-clause-crash_consistent
+returns-in-Ok-clause-crash_consistent g c = sound_settled g.S.Store.facts c.open_slots.new.store c.in-Ok.live c.in-Ok.slots c.in-Ok.ensures.sound
 
 none_attempted : (file : List ℕ) (spare : SpareSlot) → (spare ≡ Shut) ⊎ (spare ≡ Stale) → attempted_in file spare ≡ []
 none_attempted file spare alone = elim alone as (λ _. attempted_in file spare ≡ []) [ inl shut ↦ ap (attempted_in file) shut | inr stale ↦ ap (attempted_in file) stale ]

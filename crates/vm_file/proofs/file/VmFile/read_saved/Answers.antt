@@ -3,7 +3,7 @@ use Rattle.std.specs.Prelude.{IfOk}
 use Rattle.geos_model.specs.Document.{is_live, block_at}
 use Rattle.geos_model.specs.Image.{image}
 use Rattle.vm_file.specs.Documents.{blocks_in, document_in}
-use Rattle.vm_file.specs.Disk.{Drifts}
+use Rattle.vm_file.specs.Disk.{SameUnlessCorrupt}
 use Rattle.vm_file.proofs.TableLemmas.{places_drift}
 use Rattle.vm_file.proofs.EffectsLemmas.{view_reads}
 use Rattle.vm_file.proofs.SoundLemmas.{file_rested}
@@ -35,5 +35,5 @@ returns-clause-saved g c =
     let a = g.S.Store.facts i.store in
     let b = g.S.Store.facts c.read_block.new.store in
     let saved = i.slots.committed.saved.table in
-    subst (λ s. Drifts (g.S.Store.facts s.disk.store).honest s.disk.saved (document_in b.content saved)) c.self.view_is
-    (places_drift a.honest a.content b.content saved.places.items saved.map_block (λ so. ap (λ f. blocks_in f saved.places.items) (c.read_block.ensures.looks.rests so).content))
+    subst (λ s. SameUnlessCorrupt (g.S.Store.facts s.disk.store).honest s.disk.saved (document_in b.content saved)) c.self.view_is
+    (places_drift a.honest a.content b.content saved.places.items saved.map_block (λ so. ap (λ f. blocks_in f saved.places.items) (c.read_block.ensures.looks.unchanged so).content))

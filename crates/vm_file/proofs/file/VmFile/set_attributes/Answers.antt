@@ -2,9 +2,9 @@ use Rattle.std.proofs.Common.{◌≡◌, ◌-◌, ◌++◌, List, true, Some, is
 use Rattle.geos_model.specs.Document.{is_live, is_heap, with_attributes, IsTyped}
 use Rattle.geos_model.proofs.Tables.{slot_at}
 use Rattle.geos_model.specs.declared.file.Extent.{Extent}
-use Rattle.vm_file.specs.FreeSpace.{IsKnown}
+use Rattle.vm_file.specs.FreeSpace.{IsSpaceOf}
 use Rattle.vm_file.specs.Listing.{AreBounds}
-use Rattle.vm_file.specs.Slots.{block_extents, kept_extents}
+use Rattle.vm_file.specs.Slots.{block_extents, referenced_extents}
 use Rattle.vm_file.proofs.ListingLemmas.{bounds_set}
 use Rattle.vm_file.proofs.SoundLemmas.{sound_attributes}
 use Rattle.vm_file.proofs.FreeSpaceLemmas.{same_extents}
@@ -24,7 +24,7 @@ invariant_of-self g c =
     record {
       sound = sound_attributes (g.S.Store.facts c.self.inside.store) live _ c.self.inside.slots h c.args.attributes l.place c.self.invariant.sound l.at typed refl kept;
       bounded = subst (λ ps. AreBounds ps c.self.inside.bounds) (sym kept) (bounds_set live.places.items (h - 1) (record l.place { attributes = c.args.attributes }) c.self.inside.bounds (ap is_some l.at) c.self.invariant.bounded);
-      known = subst (λ (es : List Extent). IsKnown (es ++ kept_extents c.self.inside.slots) c.self.inside.space) (sym (ap block_extents kept ∙ same_extents live.places.items (h - 1) l.place (record l.place { attributes = c.args.attributes }) l.at refl)) c.self.invariant.known;
+      known = subst (λ (es : List Extent). IsSpaceOf (es ++ referenced_extents c.self.inside.slots) c.self.inside.space) (sym (ap block_extents kept ∙ same_extents live.places.items (h - 1) l.place (record l.place { attributes = c.args.attributes }) l.at refl)) c.self.invariant.known;
     }
 
 pub returns : goal.returns

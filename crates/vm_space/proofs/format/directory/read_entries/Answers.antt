@@ -2,7 +2,7 @@ use Rattle.std.proofs.Common.{◌≡◌, ℕ, ◌+◌, ◌*◌, List, ◌∷◌,
 use Rattle.byteorder.specs.Endian.{little_number}
 use Rattle.geos_model.specs.Words.{word_at}
 use Rattle.geos_model.specs.declared.file.Entry.{Entry}
-use Rattle.vm_space.specs.Listed.{version_read, IsNext}
+use Rattle.vm_space.specs.Listed.{version_read, IsNextEntry}
 use Rattle.vm_space.proofs.DirectoryLemmas.{AreRead, entry_at, text_at, between, entry_between, next_same, header-read, read-more, read-all, read-bad}
 use Rattle.vm_space.proofs.format.directory.read_entries.Goals as goal
 
@@ -16,7 +16,7 @@ loop-i-preserved c =
     let read = c.loop-i.invariant in
     let version : c.read_u16-version.result ≡ version_read bytes = c.read_u16-version.ensures ∙ ap (little_number 2) (header-read bytes 4) in
     let is : c.read_entry-entry.result ≡ entry_at bytes i = c.read_entry-entry.ensures ∙ entry_between c.read_u16-version.result bytes i version in
-    let next : IsNext file_version n (version_read bytes) last (text_at bytes i) (entry_at bytes i) = next_same version (between bytes (16 + 16 * i)) is (c.if-not-is_next.ensures.0 refl) in
+    let next : IsNextEntry file_version n (version_read bytes) last (text_at bytes i) (entry_at bytes i) = next_same version (between bytes (16 + 16 * i)) is (c.if-not-is_next.ensures.0 refl) in
     let more = read-more file_version n bytes i c.loop-i.entries.items last read next in
     subst (λ (es : List Entry). AreRead file_version n bytes (i + 1) es c.read_entry-entry.result.handle.0) (sym c.in_ok-push.ensures.items)
     (subst (λ (e : Entry). AreRead file_version n bytes (i + 1) (c.loop-i.entries.items ++ e ∷ []) e.handle.0) (sym is) more)

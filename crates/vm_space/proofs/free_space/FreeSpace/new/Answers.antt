@@ -1,7 +1,7 @@
 use Rattle.std.proofs.Common.{ℕ, List, [], sym, subst}
-use Rattle.vm_space.specs.Space.{IsSound}
+use Rattle.vm_space.specs.Space.{IsSpaceSound}
 use Rattle.vm_space.proofs.SpaceLemmas.{sound-none}
 use Rattle.vm_space.proofs.free_space.FreeSpace.new.Goals as goal
 
 pub invariant_of-result : goal.invariant_of-result
-invariant_of-result c = subst (λ (counts : List ℕ). IsSound counts c.first_hints.result 0) (sym c.new.ensures.items) (subst (λ (hints : List ℕ). IsSound [] hints 0) (sym c.first_hints.ensures) sound-none)
+invariant_of-result c = subst (λ (counts : List ℕ). IsSpaceSound counts c.first_hints.result 0) (sym c.new.ensures.items) (subst (λ (hints : List ℕ). IsSpaceSound [] hints 0) (sym c.first_hints.ensures) sound-none)

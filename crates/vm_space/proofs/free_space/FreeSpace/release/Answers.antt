@@ -2,7 +2,7 @@ use Rattle.std.proofs.Common.{◌≡◌, ℕ, ◌-◌, ◌<◌, ◌≤◌, max, 
 use Rattle.std.proofs.lemmas.List.{with_items_is}
 use Rattle.geos_model.specs.File.{end_page}
 use Rattle.geos_model.specs.declared.file.Extent.{Extent}
-use Rattle.vm_space.specs.Space.{Space, AreRaised, AreTaken, IsSound}
+use Rattle.vm_space.specs.Space.{Space, AreRaised, AreTaken, IsSpaceSound}
 use Rattle.vm_space.proofs.SpaceLemmas.{lowered_from, taken-less, sound-less, sound-fewer, taken_there}
 use Rattle.vm_space.proofs.free_space.FreeSpace.release.Goals.{After-count_down}
 use Rattle.vm_space.proofs.free_space.FreeSpace.release.Goals as goal
@@ -36,7 +36,7 @@ invariant_of-self c =
     let raised = lowered (goal.at.invariant_of-self c).After-count_down in
     let before : AreTaken (e ∷ c.requires.0) (record { counts = old; count = c.self.inside.count }) = subst (λ (s : Space). AreTaken (e ∷ c.requires.0) s) (sym c.self.view_is) c.requires.1 in
     let is : c.max-first.result ≡ max (e.page - 256) 2 = omega (arith, c.max-first.ensures, c.saturating_sub.ensures) in
-    subst (λ (counts : List ℕ). IsSound counts c.lower.new.hints (c.self.inside.count - 1)) (sym (with_items_is c.self.inside.counts new (c.count_down.auto.counts ∙ c.deref_mut.ensures.len)))
+    subst (λ (counts : List ℕ). IsSpaceSound counts c.lower.new.hints (c.self.inside.count - 1)) (sym (with_items_is c.self.inside.counts new (c.count_down.auto.counts ∙ c.deref_mut.ensures.len)))
     (sound-less old new c.self.inside.hints c.lower.new.hints c.self.inside.count c.max-first.result e c.requires.0 c.self.invariant before raised is (c.lower.auto.hints ∙ c.self.invariant.hint_count) c.lower.ensures)
 
 pub invariant_of-self-else-has_free : goal.invariant_of-self-else-has_free
@@ -47,10 +47,10 @@ invariant_of-self-else-has_free c =
     let items = with_items_is c.self.inside.counts new (c.count_down.auto.counts ∙ c.deref_mut.ensures.len) in
     let raised = lowered (goal.at.invariant_of-self-else-has_free c).After-count_down in
     let before : AreTaken (e ∷ c.requires.0) (record { counts = old; count = c.self.inside.count }) = subst (λ (s : Space). AreTaken (e ∷ c.requires.0) s) (sym c.self.view_is) c.requires.1 in
-    let seen : c.deref.result.now ≡ new = c.deref.ensures.value ∙ items in
+    let as_file : c.deref.result.now ≡ new = c.deref.ensures.value ∙ items in
     let held : (page : ℕ) → e.page ≤ page → page < end_page e → 1 ≤ get_or new page 0 = λ page low high.
-    subst (λ (counts : List ℕ). 1 ≤ get_or counts page 0) seen (c.has_free.ensures c.if-has_free.false page low (omega (arith, high, c.page_behind-end.ensures))) in
-    subst (λ (counts : List ℕ). IsSound counts c.self.inside.hints (c.self.inside.count - 1)) (sym items)
+    subst (λ (counts : List ℕ). 1 ≤ get_or counts page 0) as_file (c.has_free.ensures c.if-has_free.false page low (omega (arith, high, c.page_behind-end.ensures))) in
+    subst (λ (counts : List ℕ). IsSpaceSound counts c.self.inside.hints (c.self.inside.count - 1)) (sym items)
     (sound-fewer old new c.self.inside.hints c.self.inside.count e c.requires.0 c.self.invariant before raised held)
 
 pub returns-then-has_free-clause-left : goal.returns-then-has_free-clause-left

@@ -2,7 +2,7 @@ use Rattle.std.proofs.Common.{ℕ, ◌+◌, ◌*◌, ◌<◌, ◌≤◌, List, �
 use Rattle.geos_model.specs.File.{pages_of, end_page}
 use Rattle.geos_model.specs.declared.file.Extent.{Extent}
 use Rattle.vm_space.specs.declared.placing.TheConstants.{MOST_EXTENTS}
-use Rattle.vm_space.specs.Space.{Space, AreRaised, AreTaken, IsSound}
+use Rattle.vm_space.specs.Space.{Space, AreRaised, AreTaken, IsSpaceSound}
 use Rattle.vm_space.proofs.PlacingLemmas.{pages_few}
 use Rattle.vm_space.proofs.SpaceLemmas.{found_from, hint_for, run_near, run_fits, taken-raised, sound-hinted}
 use Rattle.vm_space.proofs.free_space.FreeSpace.take.Goals as goal
@@ -33,7 +33,7 @@ invariant_of-self c =
     let behind : AreTaken (e ∷ taken) (record { counts = new; count = c.self-2.inside.count }) = subst (λ (s : Space). AreTaken (e ∷ taken) s) (sym c.self-2.view_is) (c.in_ok-hold.ensures.held taken before) in
     let raised : AreRaised page (end_page e) counts new = taken-raised taken e counts new count c.self-2.inside.count c.self.invariant.are behind in
     let wanted = pages_few c.args.len c.requires.in_range in
-    subst (λ (n : ℕ). IsSound new (set c.self-2.inside.hints n page) c.self-2.inside.count) (sym c.page_count-pages.ensures)
+    subst (λ (n : ℕ). IsSpaceSound new (set c.self-2.inside.hints n page) c.self-2.inside.count) (sym c.page_count-pages.ensures)
     (sound-hinted counts new c.self-2.inside.hints page (end_page e) (get_or hints (pages_of c.args.len) 0) (pages_of c.args.len) page c.self-2.inside.count c.self-2.invariant raised hint found (omega (arith, wanted)))
 
 pub returns-clause-placed : goal.returns-clause-placed

@@ -1,5 +1,0 @@
-use Rattle.lmem_heap.proofs.StoredLemmas.{shown_holding}
-use Rattle.lmem_heap.proofs.table.Table.into_region.Goals as goal
-
-pub returns : goal.returns
-returns c = shown_holding c.self.inside.space c.args.self c.self.invariant c.self.view_is
