@@ -149,7 +149,7 @@ module _ {S : Type 0} (is_kind : Document → ℕ → Bool) (a b : CacheState S)
 
         -- one of the kind isn't refused unseen
         seen : is_kind a.document h ≡ true → (fault : Fault) → ComesBefore fault CacheFull → (fault ≡ CacheFull → ⊥) → first_refusal (conditions a.document) ≡ Some fault → ⊥
-        as_file of fault before other first =
+        seen of fault before other first =
             let same : Some fault ≡ Some CacheFull = sym (still_first CacheFull true (conditions a.document) fault before first) ∙ looks.full a.document of in
             other (cc same)
 
@@ -159,8 +159,8 @@ module _ {S : Type 0} (is_kind : Document → ℕ → Bool) (a b : CacheState S)
 
         of_kind : is_kind a.document h ≡ true → (is_loaded a h ≡ true) ⊎ IsRefusedUnseen (conditions a.document) → IsAtRest
         of_kind of (inl loaded) = let there = already loaded of in (there.1, there.2, accepted result there.0)
-        of_kind of (inr (inl dead)) = absurd (as_file of NoBlock refl (λ is. cc is) dead)
-        of_kind of (inr (inr other)) = absurd (as_file of WrongKind refl (λ is. cc is) other)
+        of_kind of (inr (inl dead)) = absurd (seen of NoBlock refl (λ is. cc is) dead)
+        of_kind of (inr (inr other)) = absurd (seen of WrongKind refl (λ is. cc is) other)
 
   module _ (lacks : Fault → Type 0) where
     pub refused_for : (fault : Fault) → result ≡ Err fault → lacks fault ⊎ (IsWrongBlock is_kind b.document h fault ⊎ IsCacheFull a h fault)

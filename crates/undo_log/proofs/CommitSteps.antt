@@ -20,7 +20,7 @@ use Rattle.vm_file.specs.Effects.{IsCommit, Fails, IsWorn}
 use Rattle.vm_file.specs.Documents.{Documents}
 use Rattle.block_cache.specs.State.{CacheState, as_file}
 use Rattle.vm_blocks.specs.declared.change.Direction.TheVariants.{Backwards}
-use Rattle.undo_log.specs.Committing.{IsHeld, IsSessionCommit}
+use Rattle.undo_log.specs.Committing.{IsBusy, IsSessionCommit}
 use Rattle.undo_log.specs.Logging.{Log, empty_log, group_of, to_redo, to_undo}
 use Rattle.undo_log.specs.Sessions.{SessionState, file_of, has_locks, locks_in, machine_of, failed_since, AreSteps, IsStep}
 use Rattle.undo_log.specs.Turning.{busy_fault}
@@ -152,7 +152,7 @@ held_first true locked fault is worn = is
 held_first false true fault is worn = is
 held_first false false fault is worn = absurd (cc is)
 
-module _ {S : Type 0} (facts : S → StoreFacts) (s : SessionState S) (fault : Fault) (held : IsHeld s fault) where
+module _ {S : Type 0} (facts : S → StoreFacts) (s : SessionState S) (fault : Fault) (held : IsBusy s fault) where
   held_step : (c : Command) → ((target : Bool) → command_conditions c (machine_of target s) ≡ on_commit (machine_of target s)) → IsStep facts s s c (Refused fault)
   held_step c are = λ exact. (
     exact,
@@ -185,7 +185,7 @@ module _ {S : Type 0} (facts : S → StoreFacts) (s : SessionState S) (fault : F
   not_file false true is file = absurd (cc (is, file))
   not_file false false is file = absurd (cc is)
 
-  pub fails_held : (IsOther : Fault → Type 0) → Fails {A = Unit {0}} facts (λ f. IsOther f ⊎ IsHeld s f) s.disk.store s.disk.store (Err fault)
+  pub fails_held : (IsOther : Fault → Type 0) → Fails {A = Unit {0}} facts (λ f. IsOther f ⊎ IsBusy s f) s.disk.store s.disk.store (Err fault)
   fails_held IsOther = record { file = λ is. absurd (not_file (is_some s.log.group) (has_locks s) held is); faults = inr (inr held) }
 
 -- Where neither is it is a commit of the file.

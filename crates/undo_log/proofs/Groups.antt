@@ -13,7 +13,7 @@ use Rattle.vm_blocks.specs.Changes.{directed}
 use Rattle.vm_blocks.specs.Preparing.{CanApplyAllByHandle, AreApplied}
 use Rattle.vm_blocks.specs.declared.change.Change.{Change}
 use Rattle.vm_blocks.specs.declared.change.Direction.TheVariants.{Forwards, Backwards}
-use Rattle.undo_log.specs.Logging.{AreExclusive, IsHead, Log, after_all, all_changes, before, changes_in, closed_with, group_of, open_changes, log_redone, steps, to_redo, to_undo, turned_over, log_undone, with_group_closed}
+use Rattle.undo_log.specs.Logging.{AreExclusive, IsHead, Log, after_all, all_changes, before, changes_in, closed_with, group_of, open_changes, newest_redone, steps, to_redo, to_undo, turned_over, newest_undone, with_group_closed}
 use Rattle.undo_log.specs.Sessions.{SessionState, machine_of, CanApplyBothByHandle, AreSteps, IsExact}
 use Rattle.undo_log.specs.Turning.{IsEntryApplied}
 use Rattle.undo_log.specs.declared.entry.LogEntry.{LogEntry}
@@ -111,18 +111,18 @@ module _ {S : Type 0} (facts : S → StoreFacts) (old new : CacheState S) (log :
     pub redo_listed : IsHead e log.redo → Holds old log → CanApplyAllByHandle (map (directed Forwards) (changes_in e)) old.document
     redo_listed first holds = entry_listed Forwards e first.others old.document (redo_known first holds).first
 
-    pub undone_invariant : IsHead e log.undo → IsEntryApplied facts Backwards e old new → Holds old log → Holds new (log_undone log)
+    pub undone_invariant : IsHead e log.undo → IsEntryApplied facts Backwards e old new → Holds old log → Holds new (newest_undone log)
     undone_invariant first makes holds =
-        let is : log_undone log ≡ log_of first.others (turned_over e ∷ log.redo) None = rw (first.are, none) refl in
+        let is : newest_undone log ≡ log_of first.others (turned_over e ∷ log.redo) None = rw (first.are, none) refl in
         let honest = (facts old.disk.store).honest in (
           subst (λ (l : Log). CanApplyBothByHandle Backwards new.document (to_undo l) (to_redo l)) (sym is)
               (moved_listed honest Backwards old.document new.document e first.others log.redo known (drifted honest _ new.document (entry_document facts Backwards e old new makes)) (undo_known first holds)),
           none_marked honest old.disk.marked new.disk.marked holds.1 (entry_passes facts Backwards e old new makes).marked,
         )
 
-    pub redone_invariant : IsHead e log.redo → IsEntryApplied facts Forwards e old new → Holds old log → Holds new (log_redone log)
+    pub redone_invariant : IsHead e log.redo → IsEntryApplied facts Forwards e old new → Holds old log → Holds new (newest_redone log)
     redone_invariant first makes holds =
-        let is : log_redone log ≡ log_of (turned_over e ∷ log.undo) first.others None = rw (first.are, none) refl in
+        let is : newest_redone log ≡ log_of (turned_over e ∷ log.undo) first.others None = rw (first.are, none) refl in
         let honest = (facts old.disk.store).honest in (
           subst (λ (l : Log). CanApplyBothByHandle Backwards new.document (to_undo l) (to_redo l)) (sym is)
               (swapped_back_listed new.document (all_changes (turned_over e ∷ log.undo)) (all_changes first.others)

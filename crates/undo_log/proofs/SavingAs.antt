@@ -18,7 +18,7 @@ use Rattle.vm_file.proofs.PassingLemmas.{MayCommit-refused, KeepsCommitted-refl}
 use Rattle.vm_file.specs.Documents.{Documents}
 use Rattle.vm_blocks.specs.Committing.{IsSavedAs, IsNotSavedAs}
 use Rattle.block_cache.specs.State.{CacheState, as_file}
-use Rattle.undo_log.specs.Committing.{IsHeld, IsSaveAsRefused}
+use Rattle.undo_log.specs.Committing.{IsBusy, IsSaveAsRefused}
 use Rattle.undo_log.specs.Logging.{Log, group_of}
 use Rattle.undo_log.specs.Sessions.{SessionState, file_of, has_locks, locks_in, machine_of, failed_since, IsExact}
 use Rattle.undo_log.specs.Turning.{busy_fault}
@@ -126,7 +126,7 @@ never_worn true locked fault is worn = absurd (cc (is, worn))
 never_worn false true fault is worn = absurd (cc (is, worn))
 never_worn false false fault is worn = absurd (cc is)
 
-module _ {S : Type 0} (facts : S → StoreFacts) (s : SessionState S) (fault : Fault) (held : IsHeld s fault) where
+module _ {S : Type 0} (facts : S → StoreFacts) (s : SessionState S) (fault : Fault) (held : IsBusy s fault) where
   pub held_step : (failed : Bool) → Step failed (machine_of true s) (Some commands.SaveAs) (Refused fault) (machine_of true s)
   held_step failed =
       let worn = s.disk.sequence == machine.last_sequence in

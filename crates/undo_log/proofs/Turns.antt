@@ -26,7 +26,7 @@ use Rattle.vm_blocks.specs.declared.change.Direction.TheVariants.{Forwards, Back
 use Rattle.vm_blocks.proofs.KeepingLaws.{honest-steady, open-shut}
 use Rattle.vm_blocks.proofs.Preparing.{applies_takes}
 use Rattle.doc_edits.specs.Planning.{kind_of_change}
-use Rattle.undo_log.specs.Logging.{AreExclusive, IsHead, Log, after_all, after_entry, all_changes, before, group_of, kind_of_entry, open_changes, log_redone, steps, to_redo, to_undo, turned_over, log_undone}
+use Rattle.undo_log.specs.Logging.{AreExclusive, IsHead, Log, after_all, after_entry, all_changes, before, group_of, kind_of_entry, open_changes, newest_redone, steps, to_redo, to_undo, turned_over, newest_undone}
 use Rattle.undo_log.specs.Sessions.{SessionState, cache_of, has_locks, machine_of, CanApplyAll, AreSteps, IsExact, IsStep, KeepsSession}
 use Rattle.undo_log.specs.Turning.{IsEntryApplied, MovesEntry, CanApplyEntry, CantApply, CantApplyEntry, CantApplyLog, IsSure, IsSureKind, abandon_fault, newest_made, busy_fault}
 use Rattle.undo_log.specs.declared.entry.LogEntry.{LogEntry}
@@ -248,10 +248,10 @@ module _ {S : Type 0} (facts : S → StoreFacts) where
 
     -- One is taken.
     module _ (e : LogEntry) (free : busy_fault old ≡ None) where
-      log_undone : (first : IsHead e old.log.undo) → log_undone old.log ≡ record { undo = first.others; redo = turned_over e ∷ old.log.redo; group = None }
+      log_undone : (first : IsHead e old.log.undo) → newest_undone old.log ≡ record { undo = first.others; redo = turned_over e ∷ old.log.redo; group = None }
       log_undone first = rw (first.are, none_open old free) refl
 
-      log_redone : (first : IsHead e old.log.redo) → log_redone old.log ≡ record { undo = turned_over e ∷ old.log.undo; redo = first.others; group = None }
+      log_redone : (first : IsHead e old.log.redo) → newest_redone old.log ≡ record { undo = turned_over e ∷ old.log.undo; redo = first.others; group = None }
       log_redone first = rw (first.are, none_open old free) refl
 
       log_was_undo : (first : IsHead e old.log.undo) → old.log ≡ record { undo = e ∷ first.others; redo = old.log.redo; group = None }
@@ -260,19 +260,19 @@ module _ {S : Type 0} (facts : S → StoreFacts) where
       log_was_redo : (first : IsHead e old.log.redo) → old.log ≡ record { undo = old.log.undo; redo = e ∷ first.others; group = None }
       log_was_redo first = λ i. record { undo = old.log.undo; redo = first.are i; group = none_open old free i }
 
-      pub undo_moves : IsHead e old.log.undo → new.log ≡ log_undone old.log → IsEntryApplied facts Backwards e (cache_of old) (cache_of new)
+      pub undo_moves : IsHead e old.log.undo → new.log ≡ newest_undone old.log → IsEntryApplied facts Backwards e (cache_of old) (cache_of new)
           → MovesEntry facts Backwards (cache_of old) (cache_of new) old.log.undo old.log.redo new.log.undo new.log.redo
       undo_moves first log makes =
           let is : new.log ≡ record { undo = first.others; redo = turned_over e ∷ old.log.redo; group = None } = log ∙ log_undone first in
           record { entry = e; makes = makes; from_was = first.are ∙ ap (λ (es : List LogEntry). e ∷ es) (sym (ap (λ (l : Log). l.undo) is)); to_is = ap (λ (l : Log). l.redo) is }
 
-      pub redo_moves : IsHead e old.log.redo → new.log ≡ log_redone old.log → IsEntryApplied facts Forwards e (cache_of old) (cache_of new)
+      pub redo_moves : IsHead e old.log.redo → new.log ≡ newest_redone old.log → IsEntryApplied facts Forwards e (cache_of old) (cache_of new)
           → MovesEntry facts Forwards (cache_of old) (cache_of new) old.log.redo old.log.undo new.log.redo new.log.undo
       redo_moves first log makes =
           let is : new.log ≡ record { undo = turned_over e ∷ old.log.undo; redo = first.others; group = None } = log ∙ log_redone first in
           record { entry = e; makes = makes; from_was = first.are ∙ ap (λ (es : List LogEntry). e ∷ es) (sym (ap (λ (l : Log). l.redo) is)); to_is = ap (λ (l : Log). l.undo) is }
 
-      pub undo_taken : IsHead e old.log.undo → new.log ≡ log_undone old.log → IsEntryApplied facts Backwards e (cache_of old) (cache_of new) → IsStep facts old new commands.Undo Accepted
+      pub undo_taken : IsHead e old.log.undo → new.log ≡ newest_undone old.log → IsEntryApplied facts Backwards e (cache_of old) (cache_of new) → IsStep facts old new commands.Undo Accepted
       undo_taken first log makes = λ exact.
           let so = exact.honest in
           let passes = entry_passes Backwards e (cache_of old) (cache_of new) makes in
@@ -294,7 +294,7 @@ module _ {S : Type 0} (facts : S → StoreFacts) where
                 (undo_moved m old.document e first.others old.log.redo (at_rest old free).1 are)),
           )
 
-      pub redo_taken : IsHead e old.log.redo → new.log ≡ log_redone old.log → IsEntryApplied facts Forwards e (cache_of old) (cache_of new) → IsStep facts old new commands.Redo Accepted
+      pub redo_taken : IsHead e old.log.redo → new.log ≡ newest_redone old.log → IsEntryApplied facts Forwards e (cache_of old) (cache_of new) → IsStep facts old new commands.Redo Accepted
       redo_taken first log makes = λ exact.
           let so = exact.honest in
           let passes = entry_passes Forwards e (cache_of old) (cache_of new) makes in

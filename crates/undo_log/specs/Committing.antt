@@ -12,8 +12,8 @@ use Rattle.undo_log.specs.Sessions.{SessionState, file_of}
 use Rattle.undo_log.specs.Turning.{busy_fault}
 
 -- What is refused while a group is open or any block is locked is so.
-abbrev pub IsHeld : {S : Type 0} → SessionState S → Fault → Type 0
-IsHeld s fault = busy_fault s ≡ Some fault
+abbrev pub IsBusy : {S : Type 0} → SessionState S → Fault → Type 0
+IsBusy s fault = busy_fault s ≡ Some fault
 
 -- A call that tries to commit a pair, with this document behind it where it does: where no group is open and no block is locked a commit of
 -- the file, and otherwise refused before all else.
@@ -22,7 +22,7 @@ pub record IsSessionCommit {S : Type 0} (facts : S → StoreFacts) (pair : Docum
   pub commits : MayCommit facts pair old.disk new.disk result
   pub passes : IfErr result (λ fault. fault ≢ File → KeepsCommitted facts old.disk new.disk)
   pub free : busy_fault old ≡ None → IsCommit facts pair d (file_of old) (file_of new) result
-  pub held : (fault : Fault) → IsHeld old fault → (result ≡ Err fault) × (new ≡ old)
+  pub held : (fault : Fault) → IsBusy old fault → (result ≡ Err fault) × (new ≡ old)
 
 -- A save-as that was refused: where no group is open and no block is locked as one of the file is.
 pub record IsSaveAsRefused {S : Type 0} (facts : S → StoreFacts) (target store : S) (old new : SessionState S) (fault : Fault) : Type 0 where

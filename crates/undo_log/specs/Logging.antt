@@ -129,15 +129,15 @@ abbrev pub undone_from : List LogEntry → Log → Log
 undone_from [] log = log
 undone_from (e ∷ es) log = record log { undo = es; redo = turned_over e ∷ log.redo }
 
-abbrev pub log_undone : Log → Log
-log_undone log = undone_from log.undo log
+abbrev pub newest_undone : Log → Log
+newest_undone log = undone_from log.undo log
 
 abbrev pub redone_from : List LogEntry → Log → Log
 redone_from [] log = log
 redone_from (e ∷ es) log = record log { undo = turned_over e ∷ log.undo; redo = es }
 
-abbrev pub log_redone : Log → Log
-log_redone log = redone_from log.redo log
+abbrev pub newest_redone : Log → Log
+newest_redone log = redone_from log.redo log
 
 -- A log, and whether there is room for one change more.
 pub record LogState : Type 0 where

@@ -1,7 +1,7 @@
 //! The log: what can be undone, what can be made again, and the group that is open.
 ghost use Rattle.std.specs.Prelude.{◌≡◌, ◌+◌, ◌-◌, ◌^◌, [], true, Some, None, OnOk, MatchOption, is_some, length, min, reverse};
 ghost use Rattle.std.specs.Option.{option_map};
-ghost use Rattle.undo_log.specs.Logging.{AreExclusive, IsHead, empty_log, open_changes, log_redone, to_redo, to_undo, total_weight, log_undone, with_change, with_group_closed};
+ghost use Rattle.undo_log.specs.Logging.{AreExclusive, IsHead, empty_log, open_changes, newest_redone, to_redo, to_undo, total_weight, newest_undone, with_change, with_group_closed};
 
 use crate::entry::{Changes, LogEntry};
 use crate::weighing::{entries_weight, total_weight};
@@ -105,7 +105,7 @@ impl UndoLog {
     /// The newest entry, if there is one, was undone: it is the next that can be made again.
     pub(crate) fn move_undone(&mut self)
         requires { self.old.lists.group ≡ None }
-        ensures { self.new.lists ≡ log_undone self.old.lists }
+        ensures { self.new.lists ≡ newest_undone self.old.lists }
     {
         if let Some(mut entry) = self.undo.pop() {
             entry.turn_over();
@@ -116,7 +116,7 @@ impl UndoLog {
     /// The next entry, if there is one, was made again: it is the newest that can be undone.
     pub(crate) fn move_redone(&mut self)
         requires { self.old.lists.group ≡ None }
-        ensures { self.new.lists ≡ log_redone self.old.lists }
+        ensures { self.new.lists ≡ newest_redone self.old.lists }
     {
         if let Some(mut entry) = self.redo.pop() {
             entry.turn_over();

@@ -29,7 +29,7 @@ ghost use Rattle.doc_edits.specs.Planning.{IsChainEditFault, RefusesEdit};
 ghost use Rattle.doc_edits.specs.Room.{has_no_room, IsChainRefusal, ReadsNothing};
 ghost use Rattle.undo_log.specs.Editing.{EditsInMemory};
 ghost use Rattle.undo_log.specs.Locking.{IsBarred};
-ghost use Rattle.undo_log.specs.Committing.{IsHeld, IsSaveAsRefused, IsSessionCommit};
+ghost use Rattle.undo_log.specs.Committing.{IsBusy, IsSaveAsRefused, IsSessionCommit};
 ghost use Rattle.undo_log.specs.Logging.{AreExclusive, empty_log, open_changes, to_redo, to_undo, total_weight, with_group_closed};
 ghost use Rattle.undo_log.specs.Sessions.{cache_of, file_of, has_locks, machine_of, failed_since, total_cost, IsExact, IsStep, KeepsSession, AnswersLookUp, PushesEdit};
 ghost use Rattle.undo_log.specs.Turning.{Abandons, IsNotAbandoned, IsRefusedUndoOrRedo, IsSure, MovesEntry, abandon_fault, newest_made, busy_fault};
@@ -149,7 +149,7 @@ impl<S: Store> Session<S> {
         ensures commit { IsSessionCommit S.facts
             (self.old.document, self.old.disk.saved) self.old.document self.old self.new result }
         ensures fails { Fails S.facts
-            (λ fault. IsWorn fault ⊎ IsHeld self.old fault) self.old.disk.store self.new.disk.store result }
+            (λ fault. IsWorn fault ⊎ IsBusy self.old fault) self.old.disk.store self.new.disk.store result }
         ensures lists { (self.new.log ≡ self.old.log) × (self.new.frames ≡ self.old.frames) }
         ensures resident { self.new.resident ≡ self.old.resident }
     {
@@ -166,7 +166,7 @@ impl<S: Store> Session<S> {
         ensures commit { IsSessionCommit S.facts
             (self.old.document, self.old.document) self.old.document self.old self.new result }
         ensures fails { Fails S.facts
-            (λ fault. IsWorn fault ⊎ IsHeld self.old fault) self.old.disk.store self.new.disk.store result }
+            (λ fault. IsWorn fault ⊎ IsBusy self.old fault) self.old.disk.store self.new.disk.store result }
         ensures lists { (self.new.log ≡ self.old.log) × (self.new.frames ≡ self.old.frames) }
         ensures resident { self.new.resident ≡ self.old.resident }
     {
@@ -185,7 +185,7 @@ impl<S: Store> Session<S> {
         ensures commit { IsSessionCommit S.facts
             (self.old.disk.saved, self.old.disk.saved) self.old.disk.saved self.old self.new result }
         ensures fails { Fails S.facts
-            (λ fault. IsWorn fault ⊎ IsHeld self.old fault) self.old.disk.store self.new.disk.store result }
+            (λ fault. IsWorn fault ⊎ IsBusy self.old fault) self.old.disk.store self.new.disk.store result }
         ensures exact { OnOk result (IsTrue (S.facts self.old.disk.store).honest → IsExact S.facts self.new) }
         ensures lists { MatchResult result
             (λ _. self.new.log ≡ empty_log)

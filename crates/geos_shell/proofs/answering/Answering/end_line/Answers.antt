@@ -44,9 +44,9 @@ returns-clause-ok g c free start read sent p =
 -- There was no memory to keep its front.
 pub returns-in_err-keep-clause-err : goal.returns-in_err-keep-clause-err
 returns-in_err-keep-clause-err g c =
-    let holding = holding c.args.session.now c.args.target.now c.args.former.now in
-    let old = moment holding c.args.self.now in
-    let new = moment holding (record c.args.self.now { begun = c.keep.new.begun }) in
+    let held = holding c.args.session.now c.args.target.now c.args.former.now in
+    let old = moment held c.args.self.now in
+    let new = moment held (record c.args.self.now { begun = c.keep.new.begun }) in
     on_err_always c.from_residual.result (λ free rest. StopsIn-same g.S.Store.facts old new _ refl refl)
 
 -- It found no memory.

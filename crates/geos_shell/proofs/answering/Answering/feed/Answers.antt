@@ -46,10 +46,10 @@ pub returns-clause-ok : goal.returns-clause-ok
 returns-clause-ok g c =
     let (used, cut, goes) = c.loop-end.invariant in
     let rest = c.loop-end.rest.now in
-    let holding = holding c.loop-end.session c.loop-end.target c.loop-end.former in
+    let held = holding c.loop-end.session c.loop-end.target c.loop-end.former in
     let first = moment (holding c.args.session.now c.args.target.now c.args.former.now) c.args.self.now in
-    let before = moment holding c.loop-end.self in
-    let after = moment holding (record c.loop-end.self { begun = c.keep.new.begun }) in
+    let before = moment held c.loop-end.self in
+    let after = moment held (record c.loop-end.self { begun = c.keep.new.begun }) in
     let free = HasNoFeed-from_reads rest (λ k low. c.in_default.ensures k (omega arith) low) in
     on_ok_weaker c.keep.result (λ stands. rw cut (GoesOver-trans g.S.Store.facts first before after used rest goes (λ start read sent p. Progress-part p rest c.keep.new.begun.items free stands))) c.keep.ensures.ok
 
@@ -59,8 +59,8 @@ returns-clause-err g c =
     let facts = g.S.Store.facts in
     let (used, cut, goes) = c.loop-end.invariant in
     let rest = c.loop-end.rest.now in
-    let holding = holding c.loop-end.session c.loop-end.target c.loop-end.former in
+    let held = holding c.loop-end.session c.loop-end.target c.loop-end.former in
     let first = moment (holding c.args.session.now c.args.target.now c.args.former.now) c.args.self.now in
-    let before = moment holding c.loop-end.self in
-    let after = moment holding (record c.loop-end.self { begun = c.keep.new.begun }) in
+    let before = moment held c.loop-end.self in
+    let after = moment held (record c.loop-end.self { begun = c.keep.new.begun }) in
     on_err_always c.keep.result (rw cut (StopsIn-trans facts first before after used rest goes (StopsIn-same facts before after rest refl refl)))
