@@ -220,68 +220,44 @@ reads old m p plain globals k d lt unique named own q parser t is =
 
 -- ---- the command line's own
 
-only_flag : (xs : List Arg) → Four xs → (j : ℕ) (e : Arg) → j < length xs → bytes_eq (slice_index_or xs j e).id.now (codes "new") ≡ true → j ≡ 0
-only_flag xs f j e lt same =
-    go j (subst (λ (l : List Arg). j < length l) f.list lt) (subst (λ (l : List Arg). bytes_eq (slice_index_or l j e).id.now (codes "new") ≡ true) f.list same)
-  where
-    go : (j : ℕ) → j < length (f.flag ∷ f.cache ∷ f.target ∷ f.file ∷ [])
-        → bytes_eq (slice_index_or (f.flag ∷ f.cache ∷ f.target ∷ f.file ∷ []) j e).id.now (codes "new") ≡ true → j ≡ 0
-    go zero lt same = refl
-    go (suc zero) lt same =
-        let id : f.cache.id.now ≡ codes "cache" = ap (λ (r : Rule). r.id) f.is_cache in
-        let bad : false ≡ true = rw id at same in
-        cc
-    go (suc (suc zero)) lt same =
-        let id : f.target.id.now ≡ codes "as" = ap (λ (r : Rule). r.id) f.is_target in
-        let bad : false ≡ true = rw id at same in
-        cc
-    go (suc (suc (suc zero))) lt same =
-        let id : f.file.id.now ≡ codes "file" = ap (λ (r : Rule). r.id) f.is_file in
-        let bad : false ≡ true = rw id at same in
-        cc
-    go (suc (suc (suc (suc j)))) lt same = absurd (omega arith)
+abbrev ids : List (List ℕ)
+ids = codes "new" ∷ codes "cache" ∷ codes "as" ∷ codes "file" ∷ []
 
-only_cache : (xs : List Arg) → Four xs → (j : ℕ) (e : Arg) → j < length xs → bytes_eq (slice_index_or xs j e).id.now (codes "cache") ≡ true → j ≡ 1
-only_cache xs f j e lt same =
-    go j (subst (λ (l : List Arg). j < length l) f.list lt) (subst (λ (l : List Arg). bytes_eq (slice_index_or l j e).id.now (codes "cache") ≡ true) f.list same)
+id_at : (xs : List Arg) → Four xs → (j : ℕ) (e : Arg) → j < length xs → (slice_index_or xs j e).id.now ≡ slice_index_or ids j []
+id_at xs f j e lt = subst (λ (l : List Arg). (slice_index_or l j e).id.now ≡ slice_index_or ids j []) (sym f.list) (go j (subst (λ (l : List Arg). j < length l) f.list lt))
   where
-    go : (j : ℕ) → j < length (f.flag ∷ f.cache ∷ f.target ∷ f.file ∷ [])
-        → bytes_eq (slice_index_or (f.flag ∷ f.cache ∷ f.target ∷ f.file ∷ []) j e).id.now (codes "cache") ≡ true → j ≡ 1
-    go zero lt same =
-        let id : f.flag.id.now ≡ codes "new" = ap (λ (r : Rule). r.id) f.is_flag in
-        let bad : false ≡ true = rw id at same in
-        cc
-    go (suc zero) lt same = refl
-    go (suc (suc zero)) lt same =
-        let id : f.target.id.now ≡ codes "as" = ap (λ (r : Rule). r.id) f.is_target in
-        let bad : false ≡ true = rw id at same in
-        cc
-    go (suc (suc (suc zero))) lt same =
-        let id : f.file.id.now ≡ codes "file" = ap (λ (r : Rule). r.id) f.is_file in
-        let bad : false ≡ true = rw id at same in
-        cc
-    go (suc (suc (suc (suc j)))) lt same = absurd (omega arith)
+    go : (j : ℕ) → j < length (f.flag ∷ f.cache ∷ f.target ∷ f.file ∷ []) → (slice_index_or (f.flag ∷ f.cache ∷ f.target ∷ f.file ∷ []) j e).id.now ≡ slice_index_or ids j []
+    go zero lt = ap (λ (r : Rule). r.id) f.is_flag
+    go (suc zero) lt = ap (λ (r : Rule). r.id) f.is_cache
+    go (suc (suc zero)) lt = ap (λ (r : Rule). r.id) f.is_target
+    go (suc (suc (suc zero))) lt = ap (λ (r : Rule). r.id) f.is_file
+    go (suc (suc (suc (suc j)))) lt = absurd (omega arith)
 
-only_file : (xs : List Arg) → Four xs → (j : ℕ) (e : Arg) → j < length xs → bytes_eq (slice_index_or xs j e).id.now (codes "file") ≡ true → j ≡ 3
-only_file xs f j e lt same =
-    go j (subst (λ (l : List Arg). j < length l) f.list lt) (subst (λ (l : List Arg). bytes_eq (slice_index_or l j e).id.now (codes "file") ≡ true) f.list same)
-  where
-    go : (j : ℕ) → j < length (f.flag ∷ f.cache ∷ f.target ∷ f.file ∷ [])
-        → bytes_eq (slice_index_or (f.flag ∷ f.cache ∷ f.target ∷ f.file ∷ []) j e).id.now (codes "file") ≡ true → j ≡ 3
-    go zero lt same =
-        let id : f.flag.id.now ≡ codes "new" = ap (λ (r : Rule). r.id) f.is_flag in
-        let bad : false ≡ true = rw id at same in
-        cc
-    go (suc zero) lt same =
-        let id : f.cache.id.now ≡ codes "cache" = ap (λ (r : Rule). r.id) f.is_cache in
-        let bad : false ≡ true = rw id at same in
-        cc
-    go (suc (suc zero)) lt same =
-        let id : f.target.id.now ≡ codes "as" = ap (λ (r : Rule). r.id) f.is_target in
-        let bad : false ≡ true = rw id at same in
-        cc
-    go (suc (suc (suc zero))) lt same = refl
-    go (suc (suc (suc (suc j)))) lt same = absurd (omega arith)
+-- only one of them has this id
+only : (xs : List Arg) → Four xs → (k : ℕ) (id : List ℕ) → ((j : ℕ) → bytes_eq (slice_index_or ids j []) id ≡ true → j ≡ k)
+    → (j : ℕ) (e : Arg) → j < length xs → bytes_eq (slice_index_or xs j e).id.now id ≡ true → j ≡ k
+only xs f k id one j e lt same = one j (subst (λ (w : List ℕ). bytes_eq w id ≡ true) (id_at xs f j e lt) same)
+
+only_flag : (j : ℕ) → bytes_eq (slice_index_or ids j []) (codes "new") ≡ true → j ≡ 0
+only_flag zero same = refl
+only_flag (suc zero) same = cc same
+only_flag (suc (suc zero)) same = cc same
+only_flag (suc (suc (suc zero))) same = cc same
+only_flag (suc (suc (suc (suc j)))) same = cc same
+
+only_cache : (j : ℕ) → bytes_eq (slice_index_or ids j []) (codes "cache") ≡ true → j ≡ 1
+only_cache zero same = cc same
+only_cache (suc zero) same = refl
+only_cache (suc (suc zero)) same = cc same
+only_cache (suc (suc (suc zero))) same = cc same
+only_cache (suc (suc (suc (suc j)))) same = cc same
+
+only_file : (j : ℕ) → bytes_eq (slice_index_or ids j []) (codes "file") ≡ true → j ≡ 3
+only_file zero same = cc same
+only_file (suc zero) same = cc same
+only_file (suc (suc zero)) same = cc same
+only_file (suc (suc (suc zero))) same = refl
+only_file (suc (suc (suc (suc j)))) same = cc same
 
 -- an id with this first byte is no empty one, nor that of a flag that building adds
 not_auto : (a : Arg) (n : ℕ) (ns : List ℕ) → a.id.now ≡ n ∷ ns → (n ≡ 104 → ⊥) → (n ≡ 118 → ⊥) → IsAuto a → ⊥
@@ -332,7 +308,7 @@ module _ (c : Command) (m : ArgMatches) (same : app_of c ≡ geosvm) (p : IsPars
       let parser : (slice_index_or (args_of c) 0 f.flag).value_parser ≡ Some parsers.Bool = ap (λ (a : Arg). a.value_parser) at ∙ ap (λ (r : Rule). r.parser) f.is_flag in
       let low : 0 < length (args_of c) = omega (arith, count) in
       let got = reads c m p is_plain no_globals 0 f.flag low
-      (λ j e lt s. only_flag (args_of c) f j e lt (subst (λ (w : List ℕ). bytes_eq (slice_index_or (args_of c) j e).id.now w ≡ true) id s))
+      (λ j e lt s. only (args_of c) f 0 (codes "new") only_flag j e lt (subst (λ (w : List ℕ). bytes_eq (slice_index_or (args_of c) j e).id.now w ≡ true) id s))
       (not_empty (slice_index_or (args_of c) 0 f.flag).id.now _ _ id)
       (own_new (slice_index_or (args_of c) 0 f.flag) id)
       parsers.Bool parser t (subst (λ (w : List ℕ). one_text (found_of m) w ≡ Some t) (sym id) is) in
@@ -346,7 +322,7 @@ module _ (c : Command) (m : ArgMatches) (same : app_of c ≡ geosvm) (p : IsPars
       let parser : (slice_index_or (args_of c) 1 f.cache).value_parser ≡ Some (parsers.Signed (pos 1) (pos 64)) = ap (λ (a : Arg). a.value_parser) at ∙ ap (λ (r : Rule). r.parser) f.is_cache in
       let low : 1 < length (args_of c) = omega (arith, count) in
       reads c m p is_plain no_globals 1 f.cache low
-      (λ j e lt s. only_cache (args_of c) f j e lt (subst (λ (w : List ℕ). bytes_eq (slice_index_or (args_of c) j e).id.now w ≡ true) id s))
+      (λ j e lt s. only (args_of c) f 1 (codes "cache") only_cache j e lt (subst (λ (w : List ℕ). bytes_eq (slice_index_or (args_of c) j e).id.now w ≡ true) id s))
       (not_empty (slice_index_or (args_of c) 1 f.cache).id.now _ _ id)
       (own_cache (slice_index_or (args_of c) 1 f.cache) id)
       (parsers.Signed (pos 1) (pos 64)) parser t (subst (λ (w : List ℕ). one_text (found_of m) w ≡ Some t) (sym id) is)
@@ -375,7 +351,7 @@ module _ (c : Command) (m : ArgMatches) (same : app_of c ≡ geosvm) (p : IsPars
       (ap (λ (a : Arg). a.action) at ∙ ap (λ (r : Rule). r.action) f.is_file)
       (ap (λ (a : Arg). a.val_delim) at ∙ delimiter f.file simple)
       (subst (λ (a : Arg). 1 ≤ least_values a) (sym at) least)
-      (λ j e lt s. only_file (args_of c) f j e lt (subst (λ (w : List ℕ). bytes_eq (slice_index_or (args_of c) j e).id.now w ≡ true) id s))
+      (λ j e lt s. only (args_of c) f 3 (codes "file") only_file j e lt (subst (λ (w : List ℕ). bytes_eq (slice_index_or (args_of c) j e).id.now w ≡ true) id s))
       (not_empty (slice_index_or (args_of c) 3 f.file).id.now _ _ id)
       (own_file (slice_index_or (args_of c) 3 f.file) id) in
       subst (λ (w : List ℕ). is_some (first_value (found_of m) w) ≡ true) id has

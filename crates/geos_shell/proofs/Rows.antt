@@ -92,8 +92,8 @@ kept_3 p q r made as_command to ws (Err fault) m same has = elim (m to) [
 ]
 
 -- behind the last row there is none
-pub last_rows : (name : List ℕ) (operands : List (List ℕ)) (found : Option (Result Command Fault)) (result : Result Command Fault) → ReadsRows (λ c. c) 61 70 name operands found
-    → result ≡ unwrap_or found (Err faults.BadCommand) → ReadsAs command_has_bytes (named_from 61 name operands) result
+pub last_rows : (name : List ℕ) (operands : List (List ℕ)) (found : Option (Result Command Fault)) (result : Result Command Fault) → ReadsRows (λ c. c) 42 70 name operands found
+    → result ≡ unwrap_or found (Err faults.BadCommand) → ReadsAs command_has_bytes (named_from 42 name operands) result
 unfolding named_from
 last_rows name operands (Some made) result reads is = rw is reads
 last_rows name operands None result none is = rw is (inl (refl, none))

@@ -1,5 +1,5 @@
 -- What a run has read and written.
-use Rattle.std.proofs.Common.{◌⊎◌, inl, inr, ◌≡◌, ℕ, ◌<◌, List, [], ◌++◌, length, length-append, Option, Result, Ok, Err, OnOk, OnErr, arith, refl, sym, ap, subst, ◌∙◌}
+use Rattle.std.proofs.Common.{◌⊎◌, inl, inr, ◌≡◌, ℕ, ◌<◌, List, [], ◌++◌, length, length-append, Option, Result, Ok, Err, OnOk, OnErr, true, false, is_ok, arith, refl, sym, ap, subst, ◌∙◌}
 use Rattle.std.proofs.lemmas.List.{append-nil}
 use Rattle.std.proofs.KnownBytes.{Appends-nil, Appends-trans, Consumes-nil, Consumes-trans, Consumes-kept}
 use Rattle.std.specs.Io.KnownBytes.{Appends, Consumes, Keeps, IsAtEnd}
@@ -11,6 +11,7 @@ use Rattle.geos_shell.specs.Progress.{AnswersPiece, AnswersRest, Ends, GoesOver,
 use Rattle.geos_shell.specs.Runs.{AnswersAll, AnswersFinished, AnswersSome, AnswersUnsent, EndsBy, StoppedWith}
 use Rattle.geos_shell.specs.declared.runner.RunFault.{RunFault}
 use Rattle.geos_shell.specs.declared.runner.RunFault.TheVariants as faults
+use Rattle.geos_shell.proofs.Calls.{was_ok, was_err}
 use Rattle.geos_shell.proofs.Steps.{Progress-none, Answered-finished, StoppedWith-now}
 
 -- the bytes that were read, the replies that were written, and what they led to
@@ -151,3 +152,33 @@ module _ {S T E : Type 0} (facts : S → StoreFacts) (old new : Moment S) where
     sent ++ new.kept.replies.items,
     subst (λ (r : List ℕ). StoppedWith facts start (lines r) (sent ++ new.kept.replies.items) new.holding) (sym (append-nil read)) (stops start read sent p).1.0,
   )
+
+module _ {S T E : Type 0} (facts : S → StoreFacts) (old new : Moment S) (done : Result T E) (before after : Option (List ℕ)) where
+  -- a piece was answered, and its replies are sent
+  pub piece_answered : (bytes : List ℕ) (left : Moment S) → left.holding ≡ new.holding → left.kept.begun ≡ new.kept.begun → OnOk done (GoesOver facts old bytes new)
+      → is_ok done ≡ true → left.kept.replies.items ≡ [] → Appends before after new.kept.replies.items → AnswersPiece facts old bytes left before after
+  piece_answered bytes left held begun goes well none appended =
+      record {
+        written = new.kept.replies.items;
+        appended = appended;
+        none_left = none;
+        goes = λ start read sent p. rw (none, append-nil (sent ++ new.kept.replies.items), held, begun) (was_ok done well goes start read sent p);
+      }
+
+  -- the last line was answered, and its reply is sent
+  pub rest_answered : OnOk done (Ends facts old new) → is_ok done ≡ true → Appends before after new.kept.replies.items → AnswersRest facts old new.holding before after
+  rest_answered ends well appended = record { written = new.kept.replies.items; appended = appended; answered = was_ok done well ends }
+
+  -- a piece or the writer stopped the run
+  pub piece_stopped : (bytes : List ℕ) (fault : RunFault) → OnOk done (GoesOver facts old bytes new) → OnErr done (StopsIn facts old bytes new)
+      → (fault ≡ faults.Write) ⊎ ((fault ≡ faults.Memory) × (is_ok done ≡ false) × Appends before after new.kept.replies.items)
+      → ((fault ≡ faults.Write) × Unsent facts old bytes new.holding) ⊎ ((fault ≡ faults.Memory) × StopsPiece facts old bytes new.holding before after)
+  piece_stopped bytes fault goes stops (inl failed) = inl (failed, Unsent-piece facts old new bytes done goes stops)
+  piece_stopped bytes fault goes stops (inr t) = inr (t.0, record { written = new.kept.replies.items; appended = t.2; stops = was_err done t.1 stops })
+
+  -- the last line or the writer stopped it
+  pub rest_stopped : (fault : RunFault) → OnOk done (Ends facts old new) → OnErr done (StopsAtEnd facts old new)
+      → (fault ≡ faults.Write) ⊎ ((fault ≡ faults.Memory) × (is_ok done ≡ false) × Appends before after new.kept.replies.items)
+      → ((fault ≡ faults.Write) × Unsent facts old [] new.holding) ⊎ ((fault ≡ faults.Memory) × StopsRest facts old new.holding before after)
+  rest_stopped fault ends stops (inl failed) = inl (failed, Unsent-end facts old new done ends stops)
+  rest_stopped fault ends stops (inr t) = inr (t.0, record { written = new.kept.replies.items; appended = t.2; stops = was_err done t.1 stops })

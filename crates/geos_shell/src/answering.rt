@@ -63,18 +63,12 @@ impl Answering {
             → StopsIn S.facts (moment (holding session.old target.old former.old) self.old)
             (tail.now ++ line_feed ∷ rest) (moment (holding session.new target.new former.new) self.new)) }
     {
+        let replies = &mut self.replies;
         if self.begun.is_empty() {
-            return answer_line(alloc, session, target, former, tail, &mut self.replies);
+            return answer_line(alloc, session, target, former, tail, replies);
         }
         keep(&mut self.begun, tail)?;
-        answer_line(
-            alloc,
-            session,
-            target,
-            former,
-            &self.begun,
-            &mut self.replies,
-        )?;
+        answer_line(alloc, session, target, former, &self.begun, replies)?;
         self.begun.clear();
         Ok(())
     }
@@ -97,14 +91,8 @@ impl Answering {
         if self.begun.is_empty() {
             return Ok(());
         }
-        answer_line(
-            alloc,
-            session,
-            target,
-            former,
-            &self.begun,
-            &mut self.replies,
-        )
+        let replies = &mut self.replies;
+        answer_line(alloc, session, target, former, &self.begun, replies)
     }
 }
 

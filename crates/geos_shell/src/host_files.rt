@@ -27,11 +27,7 @@ pub struct HostFiles<F: SystemFile, Y: System<F> + Drop> {
 
 /// What takes the places of standard streams that are closed.
 #[derive(Drop)]
-struct Guards {
-    first: File,
-    second: File,
-    third: File,
-}
+struct Guards(File, File, File);
 
 impl<F: SystemFile, Y: System<F> + Drop> HostFiles<F, Y> {
     /// The files of a system on this machine, with no stream guarded yet.
@@ -54,11 +50,7 @@ fn open_guards(rt: &HostRuntime) -> io::Result<Guards> {
     let first = File::open(rt, NULL)?;
     let second = File::open(rt, NULL)?;
     let third = File::open(rt, NULL)?;
-    Ok(Guards {
-        first,
-        second,
-        third,
-    })
+    Ok(Guards(first, second, third))
 }
 
 impl<F: SystemFile, Y: System<F> + Drop> Files for HostFiles<F, Y> {
@@ -72,16 +64,10 @@ impl<F: SystemFile, Y: System<F> + Drop> Files for HostFiles<F, Y> {
     } };
 
     fn guard_streams(&mut self) -> Result<(), StoreFault> {
-        if self.guards.is_some() {
-            return Ok(());
+        if self.guards.is_none() {
+            self.guards = Some(open_guards(&self.rt).map_err(|_| StoreFault)?);
         }
-        match open_guards(&self.rt) {
-            Ok(guards) => {
-                self.guards = Some(guards);
-                Ok(())
-            }
-            Err(_) => Err(StoreFault),
-        }
+        Ok(())
     }
 
     fn open(&mut self, name: &str, make: bool) -> Result<HostStore<F>, StoreFault> {

@@ -103,12 +103,9 @@ fn create<F: Files>(
         (told_by options.entry) store files.old begun.session begun.target files.new) }
     ensures err { IfErr result (IsGivenUp F.calls F.Opened.facts (told_by options.entry) store files.old files.new) }
 {
-    let target = match open_target(files, options) {
-        Ok(target) => target,
-        Err(_) => {
-            files.close(store);
-            return Err(Outcome::Target);
-        }
+    let Ok(target) = open_target(files, options) else {
+        files.close(store);
+        return Err(Outcome::Target);
     };
     match Session::create(alloc, store, usize::from(options.cache)) {
         Ok(session) => Ok(Begun { session, target }),
@@ -165,18 +162,11 @@ fn answer<F: Files, R: Read, W: Write>(
         mut session,
         mut target,
     } = begun;
-    let mut former = None;
-    let ended = run_in(
-        alloc,
-        &mut session,
-        &mut target,
-        &mut former,
-        reader,
-        writer,
-    );
+    let mut old = None;
+    let ended = run_in(alloc, &mut session, &mut target, &mut old, reader, writer);
     files.close(session.close());
     close_any(files, target);
-    close_any(files, former);
+    close_any(files, old);
     match ended {
         Ok(()) => Outcome::Done,
         Err(fault) => Outcome::Run(fault),

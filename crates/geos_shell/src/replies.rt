@@ -13,6 +13,16 @@ use std::alloc::{AllocError, Global};
 use undo_log::Session;
 use vm_store::Store;
 
+// Puts the reply behind `out` that the row of what is asked makes. Each row does so itself, since the session may have lent it bytes.
+macro_rules! push_reply_to {
+    ($alloc:expr, $out:expr, $asked:expr; $($row:pat => $reply:expr),*; $other:pat => $rest:expr) => {
+        match $asked {
+            $($row => push_reply($alloc, $out, $reply),)*
+            $other => $rest,
+        }
+    };
+}
+
 // Puts the reply to a look-up into a chunk behind `out`, without its line feed.
 fn push_chunk_look_up<S: Store>(
     alloc: Global,
@@ -24,78 +34,31 @@ fn push_chunk_look_up<S: Store>(
     ensures told { Told result S.facts session.old look_up.now session.new out.old.items out.new.items }
     ensures err { OnErr result (Extends out.old.items out.new.items) }
 {
-    match look_up {
-        Command::Read(block, chunk) => {
-            let reply = session.read_chunk(*block, *chunk).map(Reply::Bytes);
-            push_reply(alloc, out, reply)
-        }
-        Command::ArrayCount(block, chunk) => {
-            push_reply(
-                alloc,
-                out,
-                session
-                    .array_count(*block, *chunk)
-                    .map(|n| Reply::Number(n as u64)),
-            )
-        }
-        Command::ArrayElement(block, chunk, i) => {
-            let reply = session.array_element(*block, *chunk, *i).map(Reply::Bytes);
-            push_reply(alloc, out, reply)
-        }
-        Command::ElementReferences(block, chunk, token) => {
-            let reply = session
-                .element_refs(*block, *chunk, *token)
-                .map(|n| Reply::Number(u64::from(n)));
-            push_reply(alloc, out, reply)
-        }
-        Command::ElementBytes(block, chunk, token) => {
-            let reply = session
-                .element_bytes(*block, *chunk, *token)
-                .map(Reply::Bytes);
-            push_reply(alloc, out, reply)
-        }
-        Command::ElementsUsed(block, chunk) => {
-            push_reply(
-                alloc,
-                out,
-                session
-                    .elements_used(*block, *chunk)
-                    .map(|n| Reply::Number(n as u64)),
-            )
-        }
-        Command::TokenOfUsed(block, chunk, k) => {
-            let reply = session
-                .token_of_used(*block, *chunk, *k)
-                .map(|token| Reply::Token(token));
-            push_reply(alloc, out, reply)
-        }
-        Command::UsedOfToken(block, chunk, token) => {
-            let reply = session
-                .used_of_token(*block, *chunk, *token)
-                .map(|n| Reply::Number(n as u64));
-            push_reply(alloc, out, reply)
-        }
-        Command::NameFind(block, chunk, name) => {
-            let reply = session
-                .name_find(*block, *chunk, name)
-                .map(|token| Reply::Token(token));
-            push_reply(alloc, out, reply)
-        }
-        Command::NameReferences(block, chunk, token) => {
-            let reply = session
-                .name_refs(*block, *chunk, *token)
-                .map(|n| Reply::Number(u64::from(n)));
-            push_reply(alloc, out, reply)
-        }
-        Command::NameText(block, chunk, token) => {
-            let reply = session.name_text(*block, *chunk, *token).map(Reply::Bytes);
-            push_reply(alloc, out, reply)
-        }
-        Command::NamePart(block, chunk, token) => {
-            let reply = session.name_part(*block, *chunk, *token).map(Reply::Bytes);
-            push_reply(alloc, out, reply)
-        }
-        _ => unreachable!(),
+    push_reply_to! { alloc, out, look_up;
+        Command::Read(block, chunk) => session.read_chunk(*block, *chunk).map(Reply::Bytes),
+        Command::ArrayCount(block, chunk) =>
+            session.array_count(*block, *chunk).map(|n| Reply::Number(n as u64)),
+        Command::ArrayElement(block, chunk, i) =>
+            session.array_element(*block, *chunk, *i).map(Reply::Bytes),
+        Command::ElementReferences(block, chunk, token) =>
+            session.element_refs(*block, *chunk, *token).map(|n| Reply::Number(u64::from(n))),
+        Command::ElementBytes(block, chunk, token) =>
+            session.element_bytes(*block, *chunk, *token).map(Reply::Bytes),
+        Command::ElementsUsed(block, chunk) =>
+            session.elements_used(*block, *chunk).map(|n| Reply::Number(n as u64)),
+        Command::TokenOfUsed(block, chunk, k) =>
+            session.token_of_used(*block, *chunk, *k).map(|token| Reply::Token(token)),
+        Command::UsedOfToken(block, chunk, token) =>
+            session.used_of_token(*block, *chunk, *token).map(|n| Reply::Number(n as u64)),
+        Command::NameFind(block, chunk, name) =>
+            session.name_find(*block, *chunk, name).map(|token| Reply::Token(token)),
+        Command::NameReferences(block, chunk, token) =>
+            session.name_refs(*block, *chunk, *token).map(|n| Reply::Number(u64::from(n))),
+        Command::NameText(block, chunk, token) =>
+            session.name_text(*block, *chunk, *token).map(Reply::Bytes),
+        Command::NamePart(block, chunk, token) =>
+            session.name_part(*block, *chunk, *token).map(Reply::Bytes);
+        _ => unreachable!()
     }
 }
 
@@ -111,61 +74,23 @@ fn push_look_up<S: Store>(
     ensures stays { asks_no_body look_up.now ≡ true → session.new ≡ session.old }
     ensures err { OnErr result (Extends out.old.items out.new.items) }
 {
-    match look_up {
-        Command::Info(block) => push_reply(
-            alloc,
-            out,
-            session.info(*block).map(|info| Reply::Info(info)),
-        ),
-        Command::HeapType(block) => {
-            let reply = session
-                .heap_type(*block)
-                .map(|n| Reply::Number(u64::from(n)));
-            push_reply(alloc, out, reply)
-        }
-        Command::List => push_reply(
-            alloc,
-            out,
-            session.list().map(|blocks| Reply::Blocks(blocks)),
-        ),
-        Command::Find(user_id, start) => {
-            let found = session.find(*user_id, *start).unwrap_or(VmHandle(0));
-            push_reply(alloc, out, Ok(Reply::Block(found)))
-        }
-        Command::MapBlock => push_reply(alloc, out, Ok(Reply::Block(session.map_block()))),
-        Command::ReadRaw(block) => {
-            push_reply(alloc, out, session.read_raw(*block).map(Reply::Bytes))
-        }
-        Command::Chunks(block) => push_reply(
-            alloc,
-            out,
-            session.chunks(*block).map(|chunks| Reply::Chunks(chunks)),
-        ),
-        Command::Locks(block) => {
-            let reply = session.locks(*block).map(|n| Reply::Number(u64::from(n)));
-            push_reply(alloc, out, reply)
-        }
-        Command::Walk(root) => push_reply(
-            alloc,
-            out,
-            session.walk(*root).map(|blocks| Reply::Blocks(blocks)),
-        ),
-        Command::ChainSize(root) => push_reply(
-            alloc,
-            out,
-            session
-                .chain_size(*root)
-                .map(|n| Reply::Number(u64::from(n))),
-        ),
-        Command::ChainEqual(first, second) => {
-            let reply = session
-                .chain_equal(*first, *second)
-                .map(|equal| Reply::Equal(equal));
-            push_reply(alloc, out, reply)
-        }
-        Command::Undos => push_reply(alloc, out, Ok(Reply::Number(session.undo_count() as u64))),
-        Command::Redos => push_reply(alloc, out, Ok(Reply::Number(session.redo_count() as u64))),
-        chunk_look_up => push_chunk_look_up(alloc, session, chunk_look_up, out),
+    push_reply_to! { alloc, out, look_up;
+        Command::Info(block) => session.info(*block).map(|info| Reply::Info(info)),
+        Command::HeapType(block) => session.heap_type(*block).map(|n| Reply::Number(u64::from(n))),
+        Command::List => session.list().map(|blocks| Reply::Blocks(blocks)),
+        Command::Find(user_id, start) =>
+            Ok(Reply::Block(session.find(*user_id, *start).unwrap_or(VmHandle(0)))),
+        Command::MapBlock => Ok(Reply::Block(session.map_block())),
+        Command::ReadRaw(block) => session.read_raw(*block).map(Reply::Bytes),
+        Command::Chunks(block) => session.chunks(*block).map(|chunks| Reply::Chunks(chunks)),
+        Command::Locks(block) => session.locks(*block).map(|n| Reply::Number(u64::from(n))),
+        Command::Walk(root) => session.walk(*root).map(|blocks| Reply::Blocks(blocks)),
+        Command::ChainSize(root) => session.chain_size(*root).map(|n| Reply::Number(u64::from(n))),
+        Command::ChainEqual(first, second) =>
+            session.chain_equal(*first, *second).map(|equal| Reply::Equal(equal)),
+        Command::Undos => Ok(Reply::Number(session.undo_count() as u64)),
+        Command::Redos => Ok(Reply::Number(session.redo_count() as u64));
+        chunk_look_up => push_chunk_look_up(alloc, session, chunk_look_up, out)
     }
 }
 
@@ -231,11 +156,10 @@ fn push_response<S: Store>(
     ensures err { OnErr result (Extends out.old.items out.new.items) }
 {
     match command {
-        Command::Edit(edit) => push_reply(
-            alloc,
-            out,
-            session.edit(edit).map(|done| Reply::from(done)),
-        ),
+        Command::Edit(edit) => {
+            let reply = session.edit(edit).map(|done| Reply::from(done));
+            push_reply(alloc, out, reply)
+        }
         Command::Undo => push_accepted(alloc, out, session.undo()),
         Command::Redo => push_accepted(alloc, out, session.redo()),
         Command::Begin => push_accepted(alloc, out, session.begin()),
@@ -249,32 +173,6 @@ fn push_response<S: Store>(
         Command::Unlock(block) => push_accepted(alloc, out, session.unlock(*block)),
         Command::Dirty(block) => push_accepted(alloc, out, session.dirty(*block)),
         look_up => push_look_up(alloc, session, look_up, out),
-    }
-}
-
-// Carries out a command, and puts its reply line behind `out`. Where memory runs out, a part of the line may stand there.
-fn respond<S: Store>(
-    alloc: Global,
-    session: &mut Session<S>,
-    target: &mut Option<S>,
-    former: &mut Option<S>,
-    command: &Command,
-    out: &mut Vec<u8>,
-) -> Result<(), AllocError>
-    ensures ok { OnOk result (AreExact S.facts (holding session.old target.old former.old)
-        → Responds S.facts (holding session.old target.old former.old) (Some command.now)
-        (holding session.new target.new former.new) out.old.items out.new.items) }
-    ensures may { OnErr result (AreExact S.facts (holding session.old target.old former.old)
-        → MayServe S.facts (holding session.old target.old former.old) (Some command.now)
-        (holding session.new target.new former.new)) }
-    ensures err { OnErr result (Extends out.old.items out.new.items) }
-{
-    match command {
-        Command::Blank => Ok(()),
-        replied => {
-            push_response(alloc, session, target, former, replied, out)?;
-            Ok(out.push(b'\n')?)
-        }
     }
 }
 
@@ -296,7 +194,11 @@ fn push_answer<S: Store>(
     ensures err { OnErr result (Extends out.old.items out.new.items) }
 {
     match parse(alloc, line) {
-        Ok(command) => respond(alloc, session, target, former, &command, out),
+        Ok(Command::Blank) => Ok(()),
+        Ok(command) => {
+            push_response(alloc, session, target, former, &command, out)?;
+            Ok(out.push(b'\n')?)
+        }
         Err(Fault::BadCommand) => {
             push_reply(alloc, out, Err(Fault::BadCommand))?;
             Ok(out.push(b'\n')?)

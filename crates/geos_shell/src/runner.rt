@@ -1,14 +1,13 @@
 //! A run over a script: pieces are read, their lines answered, and the replies written.
-ghost use Rattle.std.specs.Prelude.{◌≡◌, ◌⊎◌, ◌<◌, [], IsTrue, IfOk, IfErr, OnOk, None, Option, length};
+ghost use Rattle.std.specs.Prelude.{◌≡◌, ◌⊎◌, ◌<◌, [], true, false, IfOk, IfErr, OnOk, None, Option, is_ok, length};
 ghost use Rattle.std.specs.Io.KnownBytes.{Appends, Keeps};
 ghost use Rattle.undo_log.specs.Sessions.{IsExact};
 ghost use Rattle.geos_shell.specs.Holdings.{AreExact, Holding, holding};
 ghost use Rattle.geos_shell.specs.Runs.{AnswersAll, EndsBy};
 ghost use Rattle.geos_shell.specs.Given.{Gives};
-ghost use Rattle.geos_shell.specs.Progress.{AnswersPiece, AnswersRest, StopsPiece, StopsRest, Unsent, moment};
 
 use crate::answering::Answering;
-use std::alloc::Global;
+use std::alloc::{AllocError, Global};
 use std::fmt;
 use std::io::{ErrorKind, Read, Write};
 use undo_log::Session;
@@ -71,15 +70,7 @@ pub fn run<S: Store, R: Read, W: Write>(
 {
     let mut session = session;
     let mut target = target;
-    let mut former = None;
-    run_in(
-        alloc,
-        &mut session,
-        &mut target,
-        &mut former,
-        reader,
-        writer,
-    )?;
+    run_in(alloc, &mut session, &mut target, &mut None, reader, writer)?;
     Ok(session)
 }
 
@@ -141,17 +132,13 @@ pub fn run_in_reads<S: Store, R: Read, W: Write>(
         match read_piece(reader, &mut piece)? {
             Given::Interrupted => {}
             Given::End => {
-                return answer_rest(alloc, &mut answering, session, target, former, writer);
+                let ended = answering.end(alloc, session, target, former);
+                return send(ended, &mut answering.replies, writer);
             }
-            Given::Bytes(count) => answer_piece(
-                alloc,
-                &mut answering,
-                session,
-                target,
-                former,
-                &piece[..count],
-                writer,
-            )?,
+            Given::Bytes(count) => {
+                let fed = answering.feed(alloc, session, target, former, &piece[..count]);
+                send(fed, &mut answering.replies, writer)?;
+            }
         }
     }
     Err(RunFault::Read)
@@ -182,73 +169,23 @@ fn read_piece<R: Read>(reader: &mut R, piece: &mut [u8]) -> Result<Given, RunFau
     }
 }
 
-/// Answers the lines that end in this piece, and writes the replies.
-fn answer_piece<S: Store, W: Write>(
-    alloc: Global,
-    answering: &mut Answering,
-    session: &mut Session<S>,
-    target: &mut Option<S>,
-    former: &mut Option<S>,
-    piece: &[u8],
+/// Writes the replies so far, so that they are seen before the next read, also where there was no memory to answer further.
+fn send<W: Write>(
+    answered: Result<(), AllocError>,
+    replies: &mut Vec<u8>,
     writer: &mut W,
 ) -> Result<(), RunFault>
-    ensures ok { OnOk result
-        (AnswersPiece S.facts (moment (holding session.old target.old former.old) answering.old) piece.now
-        (moment (holding session.new target.new former.new) answering.new) (W.contents writer.old)
-        (W.contents writer.new)) }
-    ensures err { IfErr result (λ fault.
-        ((fault ≡ RunFault.Write)
-        × Unsent S.facts (moment (holding session.old target.old former.old) answering.old) piece.now
-        (holding session.new target.new former.new))
-        ⊎ ((fault ≡ RunFault.Memory)
-        × StopsPiece S.facts (moment (holding session.old target.old former.old) answering.old) piece.now
-        (holding session.new target.new former.new) (W.contents writer.old) (W.contents writer.new))) }
-{
-    let fed = answering.feed(alloc, session, target, former, piece);
-    send(&mut answering.replies, writer)?;
-    match fed {
-        Ok(()) => Ok(()),
-        Err(_) => Err(RunFault::Memory),
-    }
-}
-
-/// Answers the last line if no line feed ended it, and writes its reply.
-fn answer_rest<S: Store, W: Write>(
-    alloc: Global,
-    answering: &mut Answering,
-    session: &mut Session<S>,
-    target: &mut Option<S>,
-    former: &mut Option<S>,
-    writer: &mut W,
-) -> Result<(), RunFault>
-    ensures ok { OnOk result
-        (AnswersRest S.facts (moment (holding session.old target.old former.old) answering.old)
-        (holding session.new target.new former.new) (W.contents writer.old) (W.contents writer.new)) }
-    ensures err { IfErr result (λ fault.
-        ((fault ≡ RunFault.Write)
-        × Unsent S.facts (moment (holding session.old target.old former.old) answering.old) []
-        (holding session.new target.new former.new))
-        ⊎ ((fault ≡ RunFault.Memory)
-        × StopsRest S.facts (moment (holding session.old target.old former.old) answering.old)
-        (holding session.new target.new former.new) (W.contents writer.old) (W.contents writer.new))) }
-{
-    let ended = answering.end(alloc, session, target, former);
-    send(&mut answering.replies, writer)?;
-    match ended {
-        Ok(()) => Ok(()),
-        Err(_) => Err(RunFault::Memory),
-    }
-}
-
-/// Writes the replies so far, so that they are seen before the next read.
-fn send<W: Write>(replies: &mut Vec<u8>, writer: &mut W) -> Result<(), RunFault>
-    ensures ok { OnOk result (Appends (W.contents writer.old) (W.contents writer.new) replies.old.items) }
-    ensures sent { OnOk result (replies.new.items ≡ []) }
-    ensures err { IfErr result (λ fault. fault ≡ RunFault.Write) }
+    ensures ok { OnOk result ((is_ok answered ≡ true) × (replies.new.items ≡ [])
+        × Appends (W.contents writer.old) (W.contents writer.new) replies.old.items) }
+    ensures err { IfErr result (λ fault. (fault ≡ RunFault.Write) ⊎ ((fault ≡ RunFault.Memory)
+        × (is_ok answered ≡ false) × Appends (W.contents writer.old) (W.contents writer.new) replies.old.items)) }
 {
     if writer.write_all(replies).is_err() || writer.flush().is_err() {
         return Err(RunFault::Write);
     }
     replies.clear();
-    Ok(())
+    match answered {
+        Ok(()) => Ok(()),
+        Err(_) => Err(RunFault::Memory),
+    }
 }

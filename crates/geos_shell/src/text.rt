@@ -1,7 +1,7 @@
 //! The texts of replies. Where memory runs out, a part of a text may stand behind what was there.
 #![tactic(auto, using(crate::proofs::Extending::extending), unfolding(geos_model::specs::Script::reply_text))]
 
-ghost use Rattle.std.specs.Prelude.{◌≡◌, ◌++◌, ◌∷◌, OnOk, OnErr, codes, map};
+ghost use Rattle.std.specs.Prelude.{◌≡◌, ◌++◌, OnOk, OnErr, codes, map};
 ghost use Rattle.std.specs.Fmt.{decimal};
 ghost use Rattle.hex.specs.Hex.{encode_lower};
 ghost use Rattle.geos_model.specs.Reply.{Refused, info_is, reply_by, reply_of};
@@ -81,30 +81,18 @@ fn push_chunks(out: &mut Vec<u8>, chunks: &[ChunkHandle]) -> Result<(), AllocErr
     Ok(())
 }
 
-fn push_body(
-    alloc: Global,
-    out: &mut Vec<u8>,
-    name: &[u8],
-    user_id: u16,
-    size: u32,
-) -> Result<(), AllocError>
-    ensures ok { OnOk result (out.new.items ≡ out.old.items ++ (name.now ++ decimal user_id ++ 32 ∷ decimal size)) }
-    ensures err { OnErr result (Extends out.old.items out.new.items) }
-{
-    out.extend_from_slice(name)?;
-    push_number(alloc, out, u64::from(user_id))?;
-    out.push(b' ')?;
-    push_number(alloc, out, u64::from(size))
-}
-
 fn push_info(alloc: Global, out: &mut Vec<u8>, info: Info) -> Result<(), AllocError>
     ensures ok { OnOk result (out.new.items ≡ out.old.items ++ reply_text (info_is info)) }
     ensures err { OnErr result (Extends out.old.items out.new.items) }
 {
-    match info {
-        Info::Raw(user_id, size) => push_body(alloc, out, b"raw ", user_id, size),
-        Info::Heap(user_id, size) => push_body(alloc, out, b"heap ", user_id, size),
-    }
+    let (name, user_id, size) = match info {
+        Info::Raw(user_id, size) => (b"raw ".as_slice(), user_id, size),
+        Info::Heap(user_id, size) => (b"heap ".as_slice(), user_id, size),
+    };
+    out.extend_from_slice(name)?;
+    push_number(alloc, out, u64::from(user_id))?;
+    out.push(b' ')?;
+    push_number(alloc, out, u64::from(size))
 }
 
 fn push_refusal(alloc: Global, out: &mut Vec<u8>, fault: Fault) -> Result<(), AllocError>

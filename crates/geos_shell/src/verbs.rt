@@ -15,22 +15,13 @@ use std::alloc::Global;
 pub(crate) fn command_of(alloc: Global, name: &[u8], words: &[&[u8]]) -> Result<Command, Fault>
     ensures { ReadsAs command_has_bytes (named_from 0 name.now (map (λ w. w.now) words.now)) result }
 {
-    if let Some(edit) = block_edit(alloc, name, words) {
-        return edit.map(Command::Edit);
-    }
-    if let Some(edit) = chunk_edit(alloc, name, words) {
-        return edit.map(Command::Edit);
-    }
-    if let Some(edit) = slot_edit(alloc, name, words) {
+    if let Some(edit) = edit(alloc, name, words) {
         return edit.map(Command::Edit);
     }
     if let Some(command) = session_command(name, words) {
         return command;
     }
-    if let Some(command) = look_up(alloc, name, words) {
-        return command;
-    }
-    chain_or_lock(name, words).unwrap_or(Err(Fault::BadCommand))
+    look_up(alloc, name, words).unwrap_or(Err(Fault::BadCommand))
 }
 
 /// What the row with the name makes, if there is one.
@@ -49,10 +40,10 @@ fn is(name: &[u8], text: &[u8]) -> bool
     name == text
 }
 
-/// Edits of blocks.
+/// Edits of blocks, of chunks and of arrays of each kind, and of chains.
 #[tactic(none)]
-fn block_edit(alloc: Global, name: &[u8], words: &[&[u8]]) -> Option<Result<Edit, Fault>>
-    ensures { ReadsRows commands.Edit 0 9 name.now (map (λ w. w.now) words.now) result }
+fn edit(alloc: Global, name: &[u8], words: &[&[u8]]) -> Option<Result<Edit, Fault>>
+    ensures { ReadsRows commands.Edit 0 33 name.now (map (λ w. w.now) words.now) result }
 {
     row_of! { name;
         b"newraw" => two(words, Edit::NewRaw),
@@ -64,15 +55,6 @@ fn block_edit(alloc: Global, name: &[u8], words: &[&[u8]]) -> Option<Result<Edit
         b"uid" => two(words, Edit::SetUserId),
         b"settype" => two(words, Edit::SetType),
         b"map" => one(words, Edit::SetMap),
-    }
-}
-
-/// Edits of chunks and of arrays.
-#[tactic(none)]
-fn chunk_edit(alloc: Global, name: &[u8], words: &[&[u8]]) -> Option<Result<Edit, Fault>>
-    ensures { ReadsRows commands.Edit 9 21 name.now (map (λ w. w.now) words.now) result }
-{
-    row_of! { name;
         b"alloc" => two(words, Edit::Alloc),
         b"free" => two(words, Edit::Free),
         b"resize" => three(words, Edit::Resize),
@@ -85,15 +67,6 @@ fn chunk_edit(alloc: Global, name: &[u8], words: &[&[u8]]) -> Option<Result<Edit
         b"aresize" => four(words, Edit::ResizeElement),
         b"adelete" => four(words, Edit::DeleteElements),
         b"azero" => two(words, Edit::ZeroArray),
-    }
-}
-
-/// Edits of element arrays, name arrays and chains.
-#[tactic(none)]
-fn slot_edit(alloc: Global, name: &[u8], words: &[&[u8]]) -> Option<Result<Edit, Fault>>
-    ensures { ReadsRows commands.Edit 21 33 name.now (map (λ w. w.now) words.now) result }
-{
-    row_of! { name;
         b"ecreate" => two(words, Edit::CreateElementArray),
         b"eadd" => two_and_bytes(alloc, words, Edit::AddElement),
         b"eref" => three(words, Edit::AddReference),
@@ -127,10 +100,10 @@ fn session_command(name: &[u8], words: &[&[u8]]) -> Option<Result<Command, Fault
     }
 }
 
-/// Look-ups of blocks, chunks and arrays of any kind.
+/// Look-ups of blocks, chunks, arrays of any kind and chains, and locks and counts.
 #[tactic(none)]
 fn look_up(alloc: Global, name: &[u8], words: &[&[u8]]) -> Option<Result<Command, Fault>>
-    ensures { ReadsRows (λ c. c) 42 61 name.now (map (λ w. w.now) words.now) result }
+    ensures { ReadsRows (λ c. c) 42 70 name.now (map (λ w. w.now) words.now) result }
 {
     row_of! { name;
         b"info" => one(words, Command::Info),
@@ -152,15 +125,6 @@ fn look_up(alloc: Global, name: &[u8], words: &[&[u8]]) -> Option<Result<Command
         b"ncount" => three(words, Command::NameReferences),
         b"ntext" => three(words, Command::NameText),
         b"ndata" => three(words, Command::NamePart),
-    }
-}
-
-/// Look-ups of chains, and locks and counts.
-#[tactic(none)]
-fn chain_or_lock(name: &[u8], words: &[&[u8]]) -> Option<Result<Command, Fault>>
-    ensures { ReadsRows (λ c. c) 61 70 name.now (map (λ w. w.now) words.now) result }
-{
-    row_of! { name;
         b"walk" => one(words, Command::Walk),
         b"chsize" => one(words, Command::ChainSize),
         b"chequal" => two(words, Command::ChainEqual),

@@ -61,6 +61,33 @@ returns-then-is-18 c = at_row 42 _ (codes "ntext") _ (λ c. c) _ _ c.if-is-18.en
 pub returns-then-is-19 : goal.returns-then-is-19
 returns-then-is-19 c = at_row 42 _ (codes "ndata") _ (λ c. c) _ _ c.if-is-19.ensures refl (made_3 block chunk token _ (λ c. c) (λ b c t. commands.NamePart b c t) c.args.words.now _ c.three-then-is-19.ensures (λ a b c x h. h))
 
+pub returns-then-is-20 : goal.returns-then-is-20
+returns-then-is-20 c = at_row 42 _ (codes "walk") _ (λ c. c) _ _ c.if-is-20.ensures refl (made_1 block _ (λ c. c) (λ b. commands.Walk b) c.args.words.now _ c.one-then-is-20.ensures (λ a x h. h))
+
+pub returns-then-is-21 : goal.returns-then-is-21
+returns-then-is-21 c = at_row 42 _ (codes "chsize") _ (λ c. c) _ _ c.if-is-21.ensures refl (made_1 block _ (λ c. c) (λ b. commands.ChainSize b) c.args.words.now _ c.one-then-is-21.ensures (λ a x h. h))
+
+pub returns-then-is-22 : goal.returns-then-is-22
+returns-then-is-22 c = at_row 42 _ (codes "chequal") _ (λ c. c) _ _ c.if-is-22.ensures refl (made_2 block block _ (λ c. c) (λ b other. commands.ChainEqual b other) c.args.words.now _ c.two-then-is-22.ensures (λ a b x h. h))
+
+pub returns-then-is-23 : goal.returns-then-is-23
+returns-then-is-23 c = at_row 42 _ (codes "lock") _ (λ c. c) _ _ c.if-is-23.ensures refl (made_1 block _ (λ c. c) (λ b. commands.Lock b) c.args.words.now _ c.one-then-is-23.ensures (λ a x h. h))
+
+pub returns-then-is-24 : goal.returns-then-is-24
+returns-then-is-24 c = at_row 42 _ (codes "unlock") _ (λ c. c) _ _ c.if-is-24.ensures refl (made_1 block _ (λ c. c) (λ b. commands.Unlock b) c.args.words.now _ c.one-then-is-24.ensures (λ a x h. h))
+
+pub returns-then-is-25 : goal.returns-then-is-25
+returns-then-is-25 c = at_row 42 _ (codes "dirty") _ (λ c. c) _ _ c.if-is-25.ensures refl (made_1 block _ (λ c. c) (λ b. commands.Dirty b) c.args.words.now _ c.one-then-is-25.ensures (λ a x h. h))
+
+pub returns-then-is-26 : goal.returns-then-is-26
+returns-then-is-26 c = at_row 42 _ (codes "locks") _ (λ c. c) _ _ c.if-is-26.ensures refl (made_1 block _ (λ c. c) (λ b. commands.Locks b) c.args.words.now _ c.one-then-is-26.ensures (λ a x h. h))
+
+pub returns-then-is-27 : goal.returns-then-is-27
+returns-then-is-27 c = at_row 42 _ (codes "undos") _ (λ c. c) _ _ c.if-is-27.ensures refl (made_0 _ (λ c. c) c.args.words.now _ c.none-then-is-27.ensures)
+
+pub returns-then-is-28 : goal.returns-then-is-28
+returns-then-is-28 c = at_row 42 _ (codes "redos") _ (λ c. c) _ _ c.if-is-28.ensures refl (made_0 _ (λ c. c) c.args.words.now _ c.none-then-is-28.ensures)
+
 pub returns : goal.returns
 returns c =
     passed 42 43 c.args.name.now (codes "info") _ _ refl c.if-is.ensures
@@ -82,3 +109,12 @@ returns c =
     ∙ passed 58 59 c.args.name.now (codes "ncount") _ _ refl c.if-is-17.ensures
     ∙ passed 59 60 c.args.name.now (codes "ntext") _ _ refl c.if-is-18.ensures
     ∙ passed 60 61 c.args.name.now (codes "ndata") _ _ refl c.if-is-19.ensures
+    ∙ passed 61 62 c.args.name.now (codes "walk") _ _ refl c.if-is-20.ensures
+    ∙ passed 62 63 c.args.name.now (codes "chsize") _ _ refl c.if-is-21.ensures
+    ∙ passed 63 64 c.args.name.now (codes "chequal") _ _ refl c.if-is-22.ensures
+    ∙ passed 64 65 c.args.name.now (codes "lock") _ _ refl c.if-is-23.ensures
+    ∙ passed 65 66 c.args.name.now (codes "unlock") _ _ refl c.if-is-24.ensures
+    ∙ passed 66 67 c.args.name.now (codes "dirty") _ _ refl c.if-is-25.ensures
+    ∙ passed 67 68 c.args.name.now (codes "locks") _ _ refl c.if-is-26.ensures
+    ∙ passed 68 69 c.args.name.now (codes "undos") _ _ refl c.if-is-27.ensures
+    ∙ passed 69 70 c.args.name.now (codes "redos") _ _ refl c.if-is-28.ensures
