@@ -3,11 +3,15 @@
 #![tactic(auto)]
 
 mod chunk;
+mod direction;
 mod law;
+mod patch;
 mod raw;
 mod splice;
 
 pub use chunk::{apply, apply_back, delete, insert, resize, write};
+pub use direction::Direction;
 pub use law::splice_law;
+pub use patch::{Patch, Piece, apply_patch};
 pub use raw::{apply_raw, apply_raw_back, raw_replace, raw_write};
 pub use splice::{Splice, copied};
