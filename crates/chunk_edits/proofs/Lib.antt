@@ -1,1 +1,2 @@
+pub mod PatchingLemmas
 pub mod SplicingLemmas
