@@ -1,2 +1,4 @@
+pub mod CarryingLemmas
 pub mod PatchingLemmas
+pub mod RebasingLemmas
 pub mod SplicingLemmas

@@ -1,6 +1,6 @@
 -- What a patch does to bytes, forwards and backwards.
-use Rattle.std.specs.Prelude.{◌≡◌, ◌≤◌, ◌<◌, ◌+◌, ◌-◌, ◌*◌, ◌^◌, ◌%◌, ◌++◌, ℕ, zero, suc, List, [], ◌∷◌, length, map, take, drop, max, None}
-use Rattle.std.specs.List.{All, sum_by}
+use Rattle.std.specs.Prelude.{◌≡◌, ◌<◌, ◌+◌, ◌-◌, ◌*◌, ◌^◌, ◌%◌, ◌++◌, ℕ, zero, suc, List, [], ◌∷◌, length, map, take, drop, max, None}
+use Rattle.std.specs.List.{All, splice, sum_by}
 use Rattle.geos_model.specs.Refusal.{Conditions, first_refusal}
 use Rattle.geos_model.specs.Words.{word, word_at}
 use Rattle.chunk_edits.specs.declared.direction.Direction.{Direction}
@@ -78,6 +78,14 @@ reversed_pieces ps = map reversed_piece ps
 abbrev pub directed_pieces : Direction → List Piece → List Piece
 directed_pieces Forwards ps = ps
 directed_pieces Backwards ps = reversed_pieces ps
+
+abbrev pub directed_piece : Direction → Piece → Piece
+directed_piece Forwards p = p
+directed_piece Backwards p = reversed_piece p
+
+-- bytes of which those of a piece at a place became what the piece makes of them
+abbrev pub with_piece : Piece → ℕ → List ℕ → List ℕ
+with_piece p at bytes = splice bytes at (at + taken p) (piece_after p (take (taken p) (drop at bytes)))
 
 -- From these bytes the patch leads to those, and on the way there are no more of them than before or after it.
 pub record PatchLeads (ps : List Piece) (from to : List ℕ) : Type 0 where

@@ -36,7 +36,7 @@ pub fn apply_back(heap: &mut Heap, h: ChunkHandle, splice: &Splice)
 }
 
 /// Puts bytes in the place of the `k` bytes at `at` of a chunk. As many are written over without a move of others.
-fn put(heap: &mut Heap, h: ChunkHandle, at: usize, k: usize, bytes: &[u8])
+pub(crate) fn put(heap: &mut Heap, h: ChunkHandle, at: usize, k: usize, bytes: &[u8])
     requires live { IsTrue (contains_key heap.old.chunks h.0) }
     requires within { at + k ≤ length (chunk_bytes heap.old.chunks h.0) }
     requires fits { IsTrue
@@ -147,7 +147,7 @@ pub fn resize(alloc: Global, heap: &Heap, h: ChunkHandle, n: u32) -> Result<Spli
 }
 
 /// The bytes of a live chunk.
-fn chunk_of(heap: &Heap, h: ChunkHandle) -> &[u8]
+pub(crate) fn chunk_of(heap: &Heap, h: ChunkHandle) -> &[u8]
     requires { IsTrue (contains_key heap.now.chunks h.0) }
     ensures value { result.now ≡ chunk_bytes heap.now.chunks h.0 }
     ensures valid { is_heap_map heap.now.chunks ≡ true }
