@@ -10,5 +10,5 @@ abbrev pub invariant-loop-span : goal.invariant-loop-span
 invariant-loop-span l = record {
   chunks : l.heap.chunks ≡ insert l.fn.heap.chunks l.h.0 (chunk_bytes l.heap.chunks l.h.0);
   whole : total_own (drop l.span-index l.spans) ≡ length l.row;
-  way : IsUnderWay (directed_pieces l.direction (pieces_of l.spans l.content)) (directed_pieces l.direction (pieces_of (drop l.span-index l.spans) l.row)) (chunk_bytes l.fn.heap.chunks l.h.0) (chunk_bytes l.heap.chunks l.h.0) l.at;
+  way : IsUnderWay (directed_pieces l.fn.direction (pieces_of l.spans l.content)) (directed_pieces l.fn.direction (pieces_of (drop l.span-index l.spans) l.row)) (chunk_bytes l.fn.heap.chunks l.h.0) (chunk_bytes l.heap.chunks l.h.0) l.at;
 }
