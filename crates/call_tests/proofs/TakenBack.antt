@@ -4,8 +4,7 @@ use Rattle.std.proofs.lemmas.Bool.{eqb-true, eq-eqb, and_parts}
 use Rattle.std.specs.Cmp.{nat_cmp_total, unsigned_tied}
 use Rattle.std.specs.FinMap.{get, insert, contains_key, same_map, nat_cmp-IsAntisymmetric, get-insert}
 use Rattle.geos_model.specs.Heap.{ChunkMap, chunk_bytes, fits, fits_with, is_heap_map}
-use Rattle.chunk_edits.specs.Splicing.{Leads, SpliceLaw, forwards, backwards}
-use Rattle.chunk_edits.specs.declared.splice.Splice.{Splice}
+use Rattle.chunk_edits.specs.Splicing.{Splice, Leads, SpliceLaw, forwards, backwards}
 
 get_inserted : (m : ChunkMap) (h q : ℕ) (b : List ℕ) → get (insert m h b) q ≡ cond (q == h) (Some b) (get m q)
 get_inserted m h q b = get-insert nat_cmp_total m h b q ∙ ap (λ (t : Bool). cond t (Some b) (get m q)) (unsigned_tied q h)

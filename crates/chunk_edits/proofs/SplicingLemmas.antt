@@ -1,9 +1,8 @@
 -- What stands before, in and behind a spliced part, and that a splice leads back.
-use Rattle.std.proofs.Common.{◌≡◌, ℕ, ◌+◌, ◌-◌, ◌≤◌, List, ◌++◌, length, take, drop, arith, refl, sym, ap, ◌∙◌, length-append, length-drop}
+use Rattle.std.proofs.Common.{◌≡◌, ℕ, ◌+◌, ◌-◌, ◌≤◌, List, [], ◌∷◌, ◌++◌, length, take, drop, replicate, inl, inr, arith, refl, sym, ap, ap₂, ◌∙◌, length-append, length-drop}
 use Rattle.std.proofs.lemmas.List.{take-append-drop, take_at, drop_at, drop-drop, length-take-le}
-use Rattle.std.specs.List.{splice}
-use Rattle.chunk_edits.specs.Splicing.{OccursAt, Leads, backwards}
-use Rattle.chunk_edits.specs.declared.splice.Splice.{Splice}
+use Rattle.std.specs.List.{splice, AllClonesOf}
+use Rattle.chunk_edits.specs.Splicing.{Splice, OccursAt, Leads, backwards}
 
 module _ (xs ys : List ℕ) (at end : ℕ) (within : at ≤ length xs) where
   take-splice : take at (splice xs at end ys) ≡ take at xs
@@ -48,3 +47,17 @@ leads_back s from to held leads = (
   rw (sym leads.gives) (stands-splice from s.old s.new s.at leads.stands),
   rw (sym leads.gives) (splice-back from s.old s.new s.at leads.stands),
 )
+
+-- A splice that holds the old part and the new one in a row.
+abbrev parts : ℕ → List ℕ → List ℕ → Splice
+parts at old new = record { at = at; old = old; new = new }
+
+pub parts_in_row : (at : ℕ) (old new row : List ℕ) → row ≡ old ++ new → parts at (take (length old) row) (drop (length old) row) ≡ parts at old new
+parts_in_row at old new row is =
+    ap₂ (parts at)
+    (ap (take (length old)) is ∙ take_at old new (length old) refl) (ap (drop (length old)) is ∙ drop_at old new (length old) refl)
+
+-- clones of zero are zeros
+pub cloned_zeros : (ys : List ℕ) → AllClonesOf (λ x y. y ≡ x) 0 ys → ys ≡ replicate (length ys) 0
+cloned_zeros [] all = refl
+cloned_zeros (y ∷ ys) all = ap₂ (λ (a : ℕ) (l : List ℕ). a ∷ l) (elim all.0 [ inl same ↦ same | inr same ↦ same ]) (cloned_zeros ys all.1)

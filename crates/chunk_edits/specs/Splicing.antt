@@ -4,7 +4,12 @@ use Rattle.std.specs.List.{splice}
 use Rattle.geos_model.specs.Refusal.{Conditions, first_refusal}
 use Rattle.geos_model.specs.declared.fault.Fault.{Fault}
 use Rattle.geos_model.specs.declared.fault.Fault.TheVariants.{Memory}
-use Rattle.chunk_edits.specs.declared.splice.Splice.{Splice}
+
+-- a part of some bytes, where it begins, and what takes its place
+pub record Splice : Type 0 where
+  pub at : ℕ
+  pub old : List ℕ
+  pub new : List ℕ
 
 -- the part stands at a place of these bytes
 pub record OccursAt (bytes : List ℕ) (at : ℕ) (part : List ℕ) : Type 0 where

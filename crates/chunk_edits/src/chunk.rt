@@ -4,12 +4,12 @@ ghost use Rattle.std.specs.List.{splice};
 ghost use Rattle.std.specs.FinMap.{insert, contains_key};
 ghost use Rattle.geos_model.specs.Bytes.{written, resized, inserted, deleted};
 ghost use Rattle.geos_model.specs.Cost.{difference};
-ghost use Rattle.geos_model.specs.Heap.{chunk_bytes, fits_with, is_heap_map};
+ghost use Rattle.geos_model.specs.Heap.{chunk_bytes, fits_with, is_heap_map, capacity};
 ghost use Rattle.geos_model.specs.Meaning.{past_end, no_room};
 ghost use Rattle.chunk_edits.specs.Splicing.{Builds, RefusesToBuild, forwards, backwards};
 
-use crate::splice::{Splice, copied, zeros};
-use geos_model::{Bytes, ChunkHandle, Fault};
+use crate::splice::Splice;
+use geos_model::{ChunkHandle, Fault};
 use lmem_heap::Heap;
 use std::alloc::Global;
 
@@ -20,8 +20,8 @@ pub fn apply(heap: &mut Heap, h: ChunkHandle, splice: &Splice)
     requires fits { IsTrue (fits_with heap.old.chunks h.0 (forwards splice.now (chunk_bytes heap.old.chunks h.0))) }
     ensures { heap.new.chunks ≡ insert heap.old.chunks h.0 (forwards splice.now (chunk_bytes heap.old.chunks h.0)) }
 {
-    let old = splice.old.as_slice().len();
-    put(heap, h, splice.at as usize, old, splice.new.as_slice());
+    let old = splice.old().len();
+    put(heap, h, splice.at() as usize, old, splice.new());
 }
 
 /// Puts the old part in the place of the new one, which takes `apply` back.
@@ -31,8 +31,8 @@ pub fn apply_back(heap: &mut Heap, h: ChunkHandle, splice: &Splice)
     requires fits { IsTrue (fits_with heap.old.chunks h.0 (backwards splice.now (chunk_bytes heap.old.chunks h.0))) }
     ensures { heap.new.chunks ≡ insert heap.old.chunks h.0 (backwards splice.now (chunk_bytes heap.old.chunks h.0)) }
 {
-    let new = splice.new.as_slice().len();
-    put(heap, h, splice.at as usize, new, splice.old.as_slice());
+    let new = splice.new().len();
+    put(heap, h, splice.at() as usize, new, splice.old());
 }
 
 /// Puts bytes in the place of the `k` bytes at `at` of a chunk. As many are written over without a move of others.
@@ -69,11 +69,7 @@ pub fn write(
         (λ s. IsTrue (fits_with heap.now.chunks h.0 (written (chunk_bytes heap.now.chunks h.0) at bytes.now))) }
 {
     let old = part(heap, h, at as usize, bytes.len())?;
-    Ok(Splice {
-        at,
-        old: copied(alloc, old)?,
-        new: copied(alloc, bytes)?,
-    })
+    Ok(Splice::of(alloc, at, old, bytes)?)
 }
 
 /// The splice that puts `n` zeros in before the byte at `at` of a chunk. Range where `at` is past the chunk's end, Full
@@ -97,11 +93,7 @@ pub fn insert(alloc: Global, heap: &Heap, h: ChunkHandle, at: u32, n: u32) -> Re
     if !fits_longer(heap, h, n) {
         return Err(Fault::Full);
     }
-    Ok(Splice {
-        at,
-        old: Bytes::from_vec(Vec::new(alloc)),
-        new: zeros(alloc, n as usize)?,
-    })
+    Ok(Splice::of_zeros(alloc, at, &[], n)?)
 }
 
 /// The splice that takes `n` bytes out of a chunk from `at` on. Range where they reach past the chunk's end.
@@ -115,11 +107,7 @@ pub fn delete(alloc: Global, heap: &Heap, h: ChunkHandle, at: u32, n: u32) -> Re
         (λ s. IsTrue (fits_with heap.now.chunks h.0 (deleted (chunk_bytes heap.now.chunks h.0) at n))) }
 {
     let old = part(heap, h, at as usize, n as usize)?;
-    Ok(Splice {
-        at,
-        old: copied(alloc, old)?,
-        new: Bytes::from_vec(Vec::new(alloc)),
-    })
+    Ok(Splice::of(alloc, at, old, &[])?)
 }
 
 /// The splice that cuts a chunk at its end, or adds zeros there, so that it has `n` bytes. Full where the heap has no room
@@ -138,18 +126,15 @@ pub fn resize(alloc: Global, heap: &Heap, h: ChunkHandle, n: u32) -> Result<Spli
         return Err(Fault::Full);
     }
     let bytes = chunk_of(heap, h);
-    let kept = bytes.len().min(n as usize);
-    Ok(Splice {
-        at: kept as u32,
-        old: copied(alloc, &bytes[kept..])?,
-        new: zeros(alloc, n as usize - kept)?,
-    })
+    let kept = n.min(bytes.len() as u32);
+    Ok(Splice::of_zeros(alloc, kept, &bytes[kept as usize..], n - kept)?)
 }
 
 /// The bytes of a live chunk.
 pub(crate) fn chunk_of(heap: &Heap, h: ChunkHandle) -> &[u8]
     requires { IsTrue (contains_key heap.now.chunks h.0) }
     ensures value { result.now ≡ chunk_bytes heap.now.chunks h.0 }
+    ensures short { length (chunk_bytes heap.now.chunks h.0) ≤ capacity }
     ensures valid { is_heap_map heap.now.chunks ≡ true }
 {
     match heap.chunk(h) {
@@ -176,6 +161,7 @@ fn part(heap: &Heap, h: ChunkHandle, at: usize, n: usize) -> Result<&[u8], Fault
         (λ bytes. (at + n ≤ length (chunk_bytes heap.now.chunks h.0)) ×
         (bytes.now ≡ take n (drop at (chunk_bytes heap.now.chunks h.0))))
         (λ fault. (length (chunk_bytes heap.now.chunks h.0) < at + n) × (fault ≡ Fault.Range)) }
+    ensures short { length (chunk_bytes heap.now.chunks h.0) ≤ capacity }
     ensures valid { is_heap_map heap.now.chunks ≡ true }
 {
     let bytes = chunk_of(heap, h);

@@ -6,7 +6,7 @@ ghost use Rattle.geos_model.specs.Heap.{capacity};
 ghost use Rattle.geos_model.specs.Meaning.{past_end, too_big};
 ghost use Rattle.chunk_edits.specs.Splicing.{Builds, RefusesToBuild, forwards, backwards};
 
-use crate::splice::{Splice, copied};
+use crate::splice::Splice;
 use geos_model::Fault;
 use raw_region::{RawBody, SIZE};
 use std::alloc::Global;
@@ -17,8 +17,8 @@ pub fn apply_raw(body: &mut RawBody, splice: &Splice)
     requires room { length (forwards splice.now body.old) ≤ capacity }
     ensures { body.new ≡ forwards splice.now body.old }
 {
-    let old = splice.old.as_slice().len();
-    put(body, splice.at as usize, old, splice.new.as_slice());
+    let old = splice.old().len();
+    put(body, splice.at() as usize, old, splice.new());
 }
 
 /// Puts the old part in the place of the new one, which takes `apply_raw` back.
@@ -27,8 +27,8 @@ pub fn apply_raw_back(body: &mut RawBody, splice: &Splice)
     requires room { length (backwards splice.now body.old) ≤ capacity }
     ensures { body.new ≡ backwards splice.now body.old }
 {
-    let new = splice.new.as_slice().len();
-    put(body, splice.at as usize, new, splice.old.as_slice());
+    let new = splice.new().len();
+    put(body, splice.at() as usize, new, splice.old());
 }
 
 /// Puts bytes in the place of the `k` bytes at `at`. As many are written over without a move of others.
@@ -57,11 +57,8 @@ pub fn raw_write(alloc: Global, body: &RawBody, at: u32, bytes: &[u8]) -> Result
     if all.len() < start || all.len() - start < bytes.len() {
         return Err(Fault::Range);
     }
-    Ok(Splice {
-        at,
-        old: copied(alloc, &all[start..start + bytes.len()])?,
-        new: copied(alloc, bytes)?,
-    })
+    let old = &all[start..start + bytes.len()];
+    Ok(Splice::of(alloc, at, old, bytes)?)
 }
 
 /// The splice that replaces a whole raw body. TooBig where a raw body can't have so many bytes.
@@ -73,9 +70,5 @@ pub fn raw_replace(alloc: Global, body: &RawBody, bytes: &[u8]) -> Result<Splice
     if bytes.len() > SIZE {
         return Err(Fault::TooBig);
     }
-    Ok(Splice {
-        at: 0,
-        old: copied(alloc, body.bytes())?,
-        new: copied(alloc, bytes)?,
-    })
+    Ok(Splice::of(alloc, 0, body.bytes(), bytes)?)
 }

@@ -58,7 +58,7 @@ fn size_after(bytes: &[u8], part: &PartChange) -> usize
 {
     match part {
         PartChange::Chunk(_, splice) => {
-            bytes.len() - splice.old.as_slice().len() + splice.new.as_slice().len()
+            bytes.len() - splice.old().len() + splice.new().len()
         }
         PartChange::Patch(_, patch) => patch.size_before(Direction::Backwards),
         PartChange::Raw(_) | PartChange::ChunkIn(_, _) | PartChange::ChunkOut(_, _) => {

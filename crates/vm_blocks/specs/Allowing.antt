@@ -3,8 +3,7 @@ use Rattle.std.specs.Prelude.{◌≡◌, ◌≤◌, ◌+◌, ℕ, List, IsTrue, 
 use Rattle.std.specs.FinMap.{get, contains_key}
 use Rattle.geos_model.specs.Heap.{ChunkMap, chunk_bytes, fits_with, is_chunk_handle, capacity}
 use Rattle.chunk_edits.specs.Patching.{Piece, peak, total_taken}
-use Rattle.chunk_edits.specs.Splicing.{forwards}
-use Rattle.chunk_edits.specs.declared.splice.Splice.{Splice}
+use Rattle.chunk_edits.specs.Splicing.{Splice, forwards}
 
 -- a raw body has the part that is replaced, and room for what comes
 pub record AllowsRaw (bytes : List ℕ) (s : Splice) : Type 0 where

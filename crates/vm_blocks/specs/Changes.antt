@@ -8,10 +8,9 @@ use Rattle.geos_model.specs.ElementArray.{all_distinct}
 use Rattle.geos_model.specs.Meaning.{chunk_at, with_chunk, without_chunk}
 use Rattle.geos_model.specs.declared.command.Body.TheVariants.{Raw}
 use Rattle.chunk_edits.specs.Patching.{Piece, ArePiecesOf, held, patched, peak, reversed_pieces}
-use Rattle.chunk_edits.specs.Splicing.{OccursAt, forwards}
+use Rattle.chunk_edits.specs.Splicing.{Splice, OccursAt, forwards}
 use Rattle.chunk_edits.specs.declared.direction.Direction.{Direction}
 use Rattle.chunk_edits.specs.declared.direction.Direction.TheVariants.{Forwards, Backwards}
-use Rattle.chunk_edits.specs.declared.splice.Splice.{Splice}
 use Rattle.geos_model.specs.Cost.{images_length}
 use Rattle.geos_model.specs.declared.block.Attributes.{Attributes}
 use Rattle.vm_file.specs.Members.{imaged_blocks}

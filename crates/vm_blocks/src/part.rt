@@ -31,10 +31,10 @@ fn raw_can_take(body: &RawBody, change: &PartChange, direction: Direction) -> bo
 {
     match change {
         PartChange::Raw(splice) => {
-            let (old, new) = (splice.old.as_slice(), splice.new.as_slice());
+            let (old, new) = (splice.old(), splice.new());
             match direction {
-                Direction::Forwards => raw_allows(body, splice.at, old, new),
-                Direction::Backwards => raw_allows(body, splice.at, new, old),
+                Direction::Forwards => raw_allows(body, splice.at(), old, new),
+                Direction::Backwards => raw_allows(body, splice.at(), new, old),
             }
         }
         PartChange::Chunk(_, _)
@@ -50,10 +50,10 @@ fn heap_can_take(heap: &Heap, change: &PartChange, direction: Direction) -> bool
 {
     match change {
         PartChange::Chunk(chunk, splice) => {
-            let (old, new) = (splice.old.as_slice(), splice.new.as_slice());
+            let (old, new) = (splice.old(), splice.new());
             match direction {
-                Direction::Forwards => chunk_allows(heap, *chunk, splice.at, old, new),
-                Direction::Backwards => chunk_allows(heap, *chunk, splice.at, new, old),
+                Direction::Forwards => chunk_allows(heap, *chunk, splice.at(), old, new),
+                Direction::Backwards => chunk_allows(heap, *chunk, splice.at(), new, old),
             }
         }
         PartChange::Patch(chunk, patch) => patch_allows(heap, *chunk, patch, direction),
