@@ -1,4 +1,3 @@
-use Rattle.std.proofs.Common.{◌≡◌, ◌-◌, ◌^◌, List, min, sym, ap, ◌∙◌}
 use Rattle.undo_log.specs.Logging.{open_changes}
 use Rattle.undo_log.proofs.Weights.{log_weighs}
 use Rattle.undo_log.proofs.log.UndoLog.weight.Goals as goal
