@@ -1,4 +1,4 @@
-//! Tests of calls that no script reaches: regions, heaps, splices, views of arrays, images and tables of blocks.
+//! Tests of calls that no script reaches: regions, heaps, splices, patches, views of arrays, images and tables of blocks.
 #![tactic(auto)]
 
 #[cfg(test)]
@@ -13,6 +13,8 @@ mod heaps;
 mod memory;
 #[cfg(test)]
 mod paired_calls;
+#[cfg(test)]
+mod patches;
 #[cfg(test)]
 mod places;
 #[cfg(test)]
