@@ -1,4 +1,6 @@
+pub mod DraftingLemmas
 pub mod RewritingLemmas
+pub mod TableLemmas
 pub mod ReplacingLemmas
 pub mod CutLemmas
 pub mod PartsLemmas

@@ -53,7 +53,7 @@ drop-place a i =
     ap (drop (element_place a i)) whole ∙ drop_at (front_of a ++ before) (joined (drop i a.elements)) (element_place a i) long
 
 -- from one place to another are the elements between
-place-step : (a : Array) (from to : ℕ) → from ≤ to → element_place a to ≡ element_place a from + length (joined (take (to - from) (drop from a.elements)))
+pub place-step : (a : Array) (from to : ℕ) → from ≤ to → element_place a to ≡ element_place a from + length (joined (take (to - from) (drop from a.elements)))
 place-step a from to up =
     let n : ℕ = to - from in
     let is : to ≡ from + n = omega arith in

@@ -1,15 +1,16 @@
--- Which refusal of an edit of an array is the first, and what a splice of the whole array leads to.
-use Rattle.std.proofs.Common.{◌≡◌, ℕ, ◌+◌, ◌<◌, ◌≤◌, List, [], ◌∷◌, ◌++◌, length, Some, None, Ok, Err, Result, MatchResult, Bool, inl, inr, nat_lt, true, false, refl, sym, ap, ap₂, subst, ◌∙◌, arith, lt-ltb, le-ltb, not, ◌||◌, ◌==◌, nat_le, append-nil}
+-- Which refusal of an edit of an array is the first, and what a patch of the whole array leads to.
+use Rattle.std.proofs.Common.{◌≡◌, ℕ, ◌+◌, ◌<◌, ◌≤◌, List, [], ◌∷◌, ◌++◌, length, Some, None, Ok, Err, Result, MatchResult, Bool, inl, inr, nat_lt, true, false, refl, sym, ap, ap₂, subst, ◌∙◌, arith, lt-ltb, le-ltb, not, ◌||◌, ◌==◌, nat_le}
 use Rattle.std.proofs.lemmas.Bool.{lt-leb}
-use Rattle.std.proofs.lemmas.List.{take_all, drop_all}
+use Rattle.std.proofs.lemmas.List.{drop_all}
 use Rattle.std.specs.Option.{unwrap_or, is_none}
 use Rattle.geos_model.specs.Refusal.{Conditions, first_refusal}
 use Rattle.geos_model.specs.Array.{Array, array_of, array_bytes}
 use Rattle.geos_model.specs.ArrayEdits.{too_long, array_in, new_array, with_elements, array_zeroed, on_array, insert_conditions, set_conditions, resize_conditions, delete_conditions, is_missized}
 use Rattle.geos_model.specs.declared.fault.Fault.{Fault}
 use Rattle.geos_model.specs.declared.fault.Fault.TheVariants.{Full, NotArray, NoElement, Range}
-use Rattle.chunk_edits.specs.Splicing.{Leads, Builds, RefusesToBuild}
-use Rattle.chunk_edits.specs.declared.splice.Splice.{Splice}
+use Rattle.chunk_edits.specs.Patching.{PatchLeads, BuildsPatch}
+use Rattle.chunk_edits.specs.Splicing.{RefusesToBuild}
+use Rattle.chunk_edits.specs.declared.patch.Piece.{Piece}
 use Rattle.geos_model.proofs.Arrays.{array_bytes-of}
 
 pub refused-long : (bytes : List ℕ) → 65498 < length bytes → first_refusal (too_long bytes) ≡ Some Full
@@ -17,19 +18,6 @@ refused-long bytes long = let so : nat_lt 65498 (length bytes) ≡ true = lt-ltb
 
 pub accepted-short : (bytes : List ℕ) → length bytes ≤ 65498 → first_refusal (too_long bytes) ≡ None
 accepted-short bytes short = let so : nat_lt 65498 (length bytes) ≡ false = le-ltb 65498 (length bytes) short in rw so refl
-
--- a splice of all bytes
-whole : (from to : List ℕ) → Leads (record { at = 0; old = from; new = to }) from to (length from + length to)
-whole from to = record {
-  stands = record { within = omega arith; same = take_all (length from) from (omega arith) };
-  gives = ap (λ (l : List ℕ). to ++ l) (drop_all (0 + length from) from (omega arith)) ∙ append-nil to;
-  holds = refl;
-}
-
-pub leads-whole : (old new from to : List ℕ) → old ≡ from → new ≡ to → Leads (record { at = 0; old = old; new = new }) from to (length from + length to)
-leads-whole old new from to old_is new_is =
-    subst (λ (o : List ℕ). Leads (record { at = 0; old = o; new = new }) from to (length from + length to)) (sym old_is)
-    (subst (λ (n : List ℕ). Leads (record { at = 0; old = from; new = n }) from to (length from + length to)) (sym new_is) (whole from to))
 
 -- the array in bytes that are one
 pub array_in-is : (bytes : List ℕ) (a : Array) → array_of bytes ≡ Some a → array_in bytes ≡ a
@@ -80,12 +68,12 @@ pub zero_decides : (bytes : List ℕ) (a : Array) (to : List ℕ) → array_of b
 zero_decides bytes a to is = ap (λ (x : Bool). first_refusal ((NotArray, x) ∷ too_long to)) (is_array bytes a is)
 
 -- what a rewritten array is answered by, where only its length decides
-pub handed_on : (r : Result Splice Fault) (conditions : Conditions) (from from′ to to′ : List ℕ) → first_refusal conditions ≡ first_refusal (too_long to) → from′ ≡ from → to′ ≡ to
-    → MatchResult r (λ s. Builds (too_long to′) s from′ to′ (length from′ + length to′)) (RefusesToBuild (too_long to′))
-    → MatchResult r (λ s. Builds conditions s from to (length from + length to)) (RefusesToBuild conditions)
-handed_on (Ok s) conditions from from′ to to′ decides from_is to_is built = record {
+pub handed_on : (r : Result (List Piece) Fault) (conditions : Conditions) (from from′ to to′ : List ℕ) → first_refusal conditions ≡ first_refusal (too_long to) → from′ ≡ from → to′ ≡ to
+    → MatchResult r (λ p. BuildsPatch (too_long to′) p from′ to′) (RefusesToBuild (too_long to′))
+    → MatchResult r (λ p. BuildsPatch conditions p from to) (RefusesToBuild conditions)
+handed_on (Ok p) conditions from from′ to to′ decides from_is to_is built = record {
   accepted = decides ∙ ap (λ (l : List ℕ). first_refusal (too_long l)) (sym to_is) ∙ built.accepted;
-  leads = subst (λ (l : List ℕ). Leads s l to (length l + length to)) from_is (subst (λ (l : List ℕ). Leads s from′ l (length from′ + length l)) to_is built.leads);
+  leads = subst (λ (l : List ℕ). PatchLeads p l to) from_is (subst (λ (l : List ℕ). PatchLeads p from′ l) to_is built.leads);
 }
 handed_on (Err fault) conditions from from′ to to′ decides from_is to_is refused = elim refused [
   | inl memory ↦ inl memory
@@ -106,9 +94,9 @@ module _ (bytes : List ℕ) (a : Array) (from to : ℕ) (xs ys : List (List ℕ)
   abbrev rewritten : List ℕ
   rewritten = array_bytes (with_elements a from to xs)
 
-  pub elements_handed_on : (r : Result Splice Fault) → first_refusal (own ++ too_long meant) ≡ first_refusal (too_long meant)
-      → MatchResult r (λ s. Builds (too_long rewritten) s (array_bytes a) rewritten (length (array_bytes a) + length rewritten)) (RefusesToBuild (too_long rewritten))
-      → MatchResult r (λ s. Builds (own ++ too_long meant) s bytes meant (length bytes + length meant)) (RefusesToBuild (own ++ too_long meant))
+  pub elements_handed_on : (r : Result (List Piece) Fault) → first_refusal (own ++ too_long meant) ≡ first_refusal (too_long meant)
+      → MatchResult r (λ p. BuildsPatch (too_long rewritten) p (array_bytes a) rewritten) (RefusesToBuild (too_long rewritten))
+      → MatchResult r (λ p. BuildsPatch (own ++ too_long meant) p bytes meant) (RefusesToBuild (own ++ too_long meant))
   elements_handed_on r decides =
       handed_on r (own ++ too_long meant) bytes (array_bytes a) meant rewritten decides (array_bytes-of bytes a is).1 (made bytes a from to xs ys is xs_is)
 

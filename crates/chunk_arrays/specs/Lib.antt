@@ -1,3 +1,4 @@
+pub mod Drafting
 pub mod Rewriting
 pub mod Parts
 pub mod Reading

@@ -1,7 +1,8 @@
 -- Where the elements of an array lie in its bytes.
-use Rattle.std.specs.Prelude.{ℕ, ◌+◌, ◌*◌, ◌==◌, if◌then◌else◌, length, take}
+use Rattle.std.specs.Prelude.{ℕ, List, ◌+◌, ◌*◌, ◌==◌, if◌then◌else◌, length, take}
 use Rattle.std.specs.List.{flat_map}
-use Rattle.geos_model.specs.Array.{Array, array_start}
+use Rattle.geos_model.specs.Words.{word}
+use Rattle.geos_model.specs.Array.{Array, array_start, places_from}
 
 -- where the elements begin
 abbrev pub elements_start : Array → ℕ
@@ -10,3 +11,7 @@ elements_start a = array_start a + (if a.size == 0 then 2 * length a.elements el
 -- where an element begins, or where the last one ends
 abbrev pub element_place : Array → ℕ → ℕ
 element_place a i = elements_start a + length (flat_map (λ x. x) (take i a.elements))
+
+-- where elements begin that lie one after another from a place on, as words
+abbrev pub words_from : ℕ → List (List ℕ) → List ℕ
+words_from at xs = flat_map word (places_from at xs)

@@ -1,4 +1,4 @@
-//! Edits of an array, each as a splice of all bytes of a chunk.
+//! Edits of an array, each as a patch of all bytes of a chunk.
 ghost use Rattle.std.specs.Prelude.{◌≡◌, ◌+◌, ◌++◌, None, MatchResult, length};
 ghost use Rattle.geos_model.specs.Refusal.{first_refusal};
 ghost use Rattle.geos_model.specs.Array.{array_bytes};
@@ -10,7 +10,7 @@ ghost use Rattle.chunk_arrays.specs.Replacing.{Replaces, RefusesToReplace};
 
 use crate::rewriting::{NewElement, push_header, rewrite};
 use crate::view::check;
-use chunk_edits::Splice;
+use chunk_edits::Patch;
 use geos_model::Fault;
 use std::alloc::Global;
 
@@ -38,9 +38,9 @@ pub fn create_bytes(alloc: Global, size: u32, extra: u32) -> Result<Vec<u8>, Fau
     Ok(bytes)
 }
 
-/// The splice that makes these bytes an element before element `i`. NotArray; Range where `i` is past the count, or the
+/// The patch that makes these bytes an element before element `i`. NotArray; Range where `i` is past the count, or the
 /// array has elements of another size; Full where the array would be longer than any chunk.
-pub fn insert(alloc: Global, bytes: &[u8], i: u32, element: &[u8]) -> Result<Splice, Fault>
+pub fn insert(alloc: Global, bytes: &[u8], i: u32, element: &[u8]) -> Result<Patch, Fault>
     ensures { MatchResult result
         (Replaces (insert_conditions bytes.now i element.now) bytes.now (element_inserted bytes.now i element.now))
         (RefusesToReplace (insert_conditions bytes.now i element.now) (element_inserted bytes.now i element.now)) }
@@ -53,9 +53,9 @@ pub fn insert(alloc: Global, bytes: &[u8], i: u32, element: &[u8]) -> Result<Spl
     rewrite(alloc, &view, &[], at, at, Some(whole(element)))
 }
 
-/// The splice that gives element `i` these bytes in place of its own. NotArray, NoElement; Range where the array has
+/// The patch that gives element `i` these bytes in place of its own. NotArray, NoElement; Range where the array has
 /// elements of another size; Full where the array would be longer than any chunk.
-pub fn set(alloc: Global, bytes: &[u8], i: u32, element: &[u8]) -> Result<Splice, Fault>
+pub fn set(alloc: Global, bytes: &[u8], i: u32, element: &[u8]) -> Result<Patch, Fault>
     ensures { MatchResult result
         (Replaces (set_conditions bytes.now i element.now) bytes.now (element_set bytes.now i element.now))
         (RefusesToReplace (set_conditions bytes.now i element.now) (element_set bytes.now i element.now)) }
@@ -71,9 +71,9 @@ pub fn set(alloc: Global, bytes: &[u8], i: u32, element: &[u8]) -> Result<Splice
     rewrite(alloc, &view, &[], at, at + 1, Some(whole(element)))
 }
 
-/// The splice that cuts element `i` at its end, or adds zeros there, so that it has `n` bytes. NotArray, NoElement; Range
+/// The patch that cuts element `i` at its end, or adds zeros there, so that it has `n` bytes. NotArray, NoElement; Range
 /// where the array has elements of one size; Full where the array would be longer than any chunk.
-pub fn resize(alloc: Global, bytes: &[u8], i: u32, n: u32) -> Result<Splice, Fault>
+pub fn resize(alloc: Global, bytes: &[u8], i: u32, n: u32) -> Result<Patch, Fault>
     ensures { MatchResult result
         (Replaces (resize_conditions bytes.now i) bytes.now (element_resized bytes.now i n))
         (RefusesToReplace (resize_conditions bytes.now i) (element_resized bytes.now i n)) }
@@ -90,9 +90,9 @@ pub fn resize(alloc: Global, bytes: &[u8], i: u32, n: u32) -> Result<Splice, Fau
     rewrite(alloc, &view, &[], at, at + 1, Some(new))
 }
 
-/// The splice that deletes `k` elements from element `i` on. NotArray; NoElement where there are not so many; Full where
+/// The patch that deletes `k` elements from element `i` on. NotArray; NoElement where there are not so many; Full where
 /// what is left is longer than any chunk.
-pub fn delete(alloc: Global, bytes: &[u8], i: u32, k: u32) -> Result<Splice, Fault>
+pub fn delete(alloc: Global, bytes: &[u8], i: u32, k: u32) -> Result<Patch, Fault>
     ensures { MatchResult result
         (Replaces (delete_conditions bytes.now i k) bytes.now (elements_deleted bytes.now i k))
         (RefusesToReplace (delete_conditions bytes.now i k) (elements_deleted bytes.now i k)) }
@@ -106,8 +106,8 @@ pub fn delete(alloc: Global, bytes: &[u8], i: u32, k: u32) -> Result<Splice, Fau
     rewrite(alloc, &view, &[], from, to, None)
 }
 
-/// The splice that deletes all elements. NotArray; Full where the extra bytes are longer than any chunk.
-pub fn zero(alloc: Global, bytes: &[u8]) -> Result<Splice, Fault>
+/// The patch that deletes all elements. NotArray; Full where the extra bytes are longer than any chunk.
+pub fn zero(alloc: Global, bytes: &[u8]) -> Result<Patch, Fault>
     ensures { MatchResult result
         (Replaces (on_array bytes.now) bytes.now (array_zeroed bytes.now))
         (RefusesToReplace (on_array bytes.now) (array_zeroed bytes.now)) }

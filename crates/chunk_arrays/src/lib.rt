@@ -1,7 +1,8 @@
 //! Chunk arrays: a row of elements of one size, or of any, in the bytes of a chunk. An array is read where it lies, and an
-//! edit of it is built as a splice, without a change.
+//! edit of it is built as a patch, without a change.
 #![tactic(auto)]
 
+mod draft;
 mod edits;
 mod empty;
 mod rewriting;

@@ -1,15 +1,19 @@
-//! The splice that leaves an array with other extra bytes, and with an element or none in the place of some.
-ghost use Rattle.std.specs.Prelude.{◌≡◌, ◌≤◌, ◌<◌, ◌+◌, ◌-◌, ◌*◌, ◌^◌, ◌++◌, [], true, MatchResult, IfOk, length, take, drop, min, ◌==◌, if◌then◌else◌};
+//! The patch that leaves an array with other extra bytes, and with an element or none in the place of some.
+ghost use Rattle.std.specs.Prelude.{◌≡◌, ◌≤◌, ◌<◌, ◌+◌, ◌-◌, ◌*◌, ◌^◌, ◌++◌, [], true, IsSome, MatchResult, IfOk, length, take, drop, min, ◌==◌, if◌then◌else◌};
 ghost use Rattle.std.specs.List.{splice, flat_map};
 ghost use Rattle.geos_model.specs.Words.{word};
-ghost use Rattle.geos_model.specs.Array.{array_bytes, is_even, place_table, places_from};
+ghost use Rattle.geos_model.specs.Array.{array_bytes, array_start, is_even, place_table};
 ghost use Rattle.geos_model.specs.Heap.{longest_chunk};
+ghost use Rattle.chunk_edits.specs.Patching.{held};
+ghost use Rattle.chunk_arrays.specs.Drafting.{Adds};
+ghost use Rattle.chunk_arrays.specs.Reading.{element_place, words_from};
 ghost use Rattle.chunk_arrays.specs.Rewriting.{elements_of, extra_after, rewritten};
 ghost use Rattle.chunk_arrays.specs.Replacing.{Replaces, RefusesToReplace};
 
 use crate::View;
-use chunk_edits::{Splice, copied};
-use geos_model::{Bytes, Fault, LONGEST_CHUNK};
+use crate::draft::Draft;
+use chunk_edits::Patch;
+use geos_model::{Fault, LONGEST_CHUNK};
 use std::alloc::{AllocError, Global};
 
 /// The bytes of an element that comes into an array: three parts, one after another, and so many zeros behind them.
@@ -21,8 +25,9 @@ pub struct NewElement<'a> {
     pub zeros: usize,
 }
 
-/// The splice that leaves an array with these bytes as the first of its extra bytes, of which it has as many as before, and
-/// with an element or none in the place of those from `from` to `to`. Full where its bytes would be more than any chunk has.
+/// The patch that leaves an array with these bytes as the first of its extra bytes, of which it has as many as before, and
+/// with an element or none in the place of those from `from` to `to`, of which there is one at most where one comes. Full
+/// where its bytes would be more than any chunk has. What the patch holds is in proportion to the elements that change.
 pub fn rewrite(
     alloc: Global,
     view: &View<'_>,
@@ -30,11 +35,15 @@ pub fn rewrite(
     from: usize,
     to: usize,
     new: Option<NewElement<'_>>,
-) -> Result<Splice, Fault>
+) -> Result<Patch, Fault>
+    // Which elements go.
     requires order { from ≤ to }
     requires within { to ≤ length view.now.array.elements }
+    requires one { IsSome new → to ≤ from + 1 }
+    // What comes.
     requires extra { length first.now ≤ length view.now.array.extra }
     requires even { is_even (rewritten view.now.array (extra_after view.now.array first.now) from to new) ≡ true }
+    // What the bytes become.
     ensures { MatchResult result
         (Replaces [] (array_bytes view.now.array)
         (array_bytes (rewritten view.now.array (extra_after view.now.array first.now) from to new.entry)))
@@ -45,12 +54,12 @@ pub fn rewrite(
     if len > LONGEST_CHUNK {
         return Err(Fault::Full);
     }
-    let bytes = bytes_after(alloc, view, first, from, to, new, len)?;
-    Ok(Splice {
-        at: 0,
-        old: copied(alloc, view.bytes())?,
-        new: Bytes::from_vec(bytes),
-    })
+    let mut draft = Draft::new(alloc)?;
+    draft_head(&mut draft, view, first, count_after(view, from, to, new))?;
+    draft_table(&mut draft, view, from, to, new)?;
+    draft_elements(&mut draft, alloc, view, from, to, new)?;
+    let patch = draft.finish()?;
+    Ok(patch)
 }
 
 /// How many bytes the array has then; the greatest number where they are more.
@@ -107,40 +116,150 @@ fn new_len(new: Option<NewElement<'_>>) -> usize
     }
 }
 
-/// The array's bytes then, of which there are so many.
-fn bytes_after(
-    alloc: Global,
+/// Adds what lies before the table of places: the header, with the count then, and the extra bytes, with these as the first.
+fn draft_head(
+    draft: &mut Draft,
     view: &View<'_>,
     first: &[u8],
+    count: usize,
+) -> Result<(), AllocError>
+    requires count { count < 2 ^ 16 }
+    requires extra { length first.now ≤ length view.now.array.extra }
+    requires room { draft.old.kept + array_start view.now.array < 2 ^ 32 }
+    requires little { held draft.old.patch < 2 ^ 62 }
+    ensures { IfOk result
+        (λ _. Adds draft.old draft.new (take (array_start view.now.array) (array_bytes view.now.array))
+        (word count ++ take 6 (drop 2 (array_bytes view.now.array)) ++ extra_after view.now.array first.now)) }
+{
+    let header = view.bytes();
+    let extra = view.extra();
+    let number = count as u16;
+    draft.put(&header[..2], number.to_le_bytes().as_slice())?;
+    draft.keep(&header[2..8]);
+    draft.put(&extra[..first.len()], first)?;
+    draft.keep(&extra[first.len()..]);
+    Ok(())
+}
+
+/// Adds the table of places, where sizes vary.
+fn draft_table(
+    draft: &mut Draft,
+    view: &View<'_>,
     from: usize,
     to: usize,
     new: Option<NewElement<'_>>,
-    len: usize,
-) -> Result<Vec<u8>, AllocError>
-    // Which elements go.
+) -> Result<(), AllocError>
+    // Which elements go, and what comes.
     requires order { from ≤ to }
     requires within { to ≤ length view.now.array.elements }
-    // What comes.
-    requires extra { length first.now ≤ length view.now.array.extra }
-    requires even { is_even (rewritten view.now.array (extra_after view.now.array first.now) from to new) ≡ true }
-    requires len { len ≡
-        length (array_bytes (rewritten view.now.array (extra_after view.now.array first.now) from to new)) }
-    requires fits { len ≤ longest_chunk }
-    // What the bytes become.
+    requires short { length (array_bytes (rewritten view.now.array view.now.array.extra from to new)) ≤ longest_chunk }
+    // What the draft has room for.
+    requires room { draft.old.kept + longest_chunk < 2 ^ 32 }
+    requires little { held draft.old.patch < 2 ^ 62 }
+    // What the table becomes.
     ensures { IfOk result
-        (λ out. out.items ≡
-        array_bytes (rewritten view.now.array (extra_after view.now.array first.now) from to new.entry)) }
+        (λ _. Adds draft.old draft.new (place_table (array_start view.now.array) view.now.array)
+        (place_table (array_start view.now.array) (rewritten view.now.array view.now.array.extra from to new.entry))) }
 {
-    let count = count_after(view, from, to, new);
-    let start = 8 + view.extra().len();
-    let mut out = Vec::with_capacity(alloc, len)?;
-    push_header(&mut out, count, view.element_size(), start)?;
-    push_extra(&mut out, view, first)?;
-    push_table(&mut out, start, view, from, to, new)?;
-    out.extend_from_slice(view.run(0, from))?;
-    push_new(&mut out, new)?;
-    out.extend_from_slice(view.run(to, view.count()))?;
-    Ok(out)
+    if view.element_size() != 0 {
+        return Ok(());
+    }
+    let first = view.extra().len() + 8 + 2 * count_after(view, from, to, new);
+    let place = first + view.run(0, from).len();
+    draft_places(draft, view, 0, from, first)?;
+    draft_place(draft, view.places(from, to), place, new)?;
+    draft_places(draft, view, to, view.count(), place + new_len(new))?;
+    Ok(())
+}
+
+/// Adds the places of the elements from one up to another, the first of which comes to lie at `place`.
+fn draft_places(
+    draft: &mut Draft,
+    view: &View<'_>,
+    from: usize,
+    to: usize,
+    place: usize,
+) -> Result<(), AllocError>
+    requires any { view.now.array.size ≡ 0 }
+    requires order { from ≤ to }
+    requires within { to ≤ length view.now.array.elements }
+    requires near { place < 2 ^ 16 }
+    requires room { draft.old.kept + 2 * (to - from) < 2 ^ 32 }
+    ensures { IfOk result (λ _. Adds draft.old draft.new
+        (words_from (element_place view.now.array from) (take (to - from) (drop from view.now.array.elements)))
+        (words_from place (take (to - from) (drop from view.now.array.elements)))) }
+{
+    let words = view.places(from, to);
+    let before = view.place(from);
+    if words.is_empty() || before == place {
+        draft.keep(words);
+        return Ok(());
+    }
+    draft.rebase(words, before as u16, place as u16)?;
+    Ok(())
+}
+
+/// Adds the places of the elements that go, and the place of the new element instead.
+fn draft_place(
+    draft: &mut Draft,
+    words: &[u8],
+    place: usize,
+    new: Option<NewElement<'_>>,
+) -> Result<(), AllocError>
+    requires near { place < 2 ^ 16 }
+    requires room { draft.old.kept + 2 < 2 ^ 32 }
+    requires little { held draft.old.patch + 2 < 2 ^ 63 }
+    ensures { IfOk result (λ _. Adds draft.old draft.new words.now (words_from place (elements_of new.entry))) }
+{
+    if new.is_none() {
+        return draft.put(words, &[]);
+    }
+    let number = place as u16;
+    draft.put(words, number.to_le_bytes().as_slice())
+}
+
+/// Adds the elements.
+fn draft_elements(
+    draft: &mut Draft,
+    alloc: Global,
+    view: &View<'_>,
+    from: usize,
+    to: usize,
+    new: Option<NewElement<'_>>,
+) -> Result<(), AllocError>
+    // Which elements go, and what comes.
+    requires order { from ≤ to }
+    requires within { to ≤ length view.now.array.elements }
+    requires short { length (flat_map (λ x. x) (splice view.now.array.elements from to (elements_of new))) ≤ longest_chunk }
+    // What the draft has room for.
+    requires room { draft.old.kept + longest_chunk < 2 ^ 32 }
+    requires little { held draft.old.patch < 2 ^ 62 }
+    // What the elements become.
+    ensures { IfOk result
+        (λ _. Adds draft.old draft.new (flat_map (λ x. x) view.now.array.elements)
+        (flat_map (λ x. x) (splice view.now.array.elements from to (elements_of new.entry)))) }
+{
+    draft.keep(view.run(0, from));
+    draft.put_owned(view.run(from, to), new_bytes(alloc, new)?)?;
+    draft.keep(view.run(to, view.count()));
+    Ok(())
+}
+
+/// The bytes of the new element, none where none comes.
+fn new_bytes(alloc: Global, new: Option<NewElement<'_>>) -> Result<Vec<u8>, AllocError>
+    requires { length (flat_map (λ x. x) (elements_of new)) < 2 ^ 64 }
+    ensures { IfOk result (λ bytes. bytes.items ≡ flat_map (λ x. x) (elements_of new.entry)) }
+{
+    let mut bytes = Vec::with_capacity(alloc, new_len(new))?;
+    let Some(element) = new else {
+        return Ok(bytes);
+    };
+    bytes.extend_from_slice(element.head)?;
+    bytes.extend_from_slice(element.middle)?;
+    bytes.extend_from_slice(element.tail)?;
+    let len = bytes.len() + element.zeros;
+    bytes.resize(len, 0)?;
+    Ok(bytes)
 }
 
 /// Adds the four words that an array begins with: how many elements of which size, and where the extra bytes end.
@@ -161,84 +280,6 @@ pub(crate) fn push_header(
     push_word(out, start)
 }
 
-/// Adds the extra bytes, with these as the first.
-fn push_extra(out: &mut Vec<u8>, view: &View<'_>, first: &[u8]) -> Result<(), AllocError>
-    requires { length first.now ≤ length view.now.array.extra }
-    ensures { IfOk result (λ _. out.new.items ≡ out.old.items ++ extra_after view.now.array first.now) }
-{
-    out.extend_from_slice(first)?;
-    out.extend_from_slice(&view.extra()[first.len()..])
-}
-
-/// Adds the table of places, which begins at `start`, where sizes vary.
-fn push_table(
-    out: &mut Vec<u8>,
-    start: usize,
-    view: &View<'_>,
-    from: usize,
-    to: usize,
-    new: Option<NewElement<'_>>,
-) -> Result<(), AllocError>
-    requires order { from ≤ to }
-    requires within { to ≤ length view.now.array.elements }
-    requires fits { start + length
-        (place_table start (rewritten view.now.array view.now.array.extra from to new)) + length
-        (flat_map (λ x. x) (splice view.now.array.elements from to (elements_of new))) < 2 ^ 16 }
-    ensures { IfOk result
-        (λ _. out.new.items ≡
-        out.old.items ++ place_table start (rewritten view.now.array view.now.array.extra from to new.entry)) }
-{
-    if view.element_size() != 0 {
-        return Ok(());
-    }
-    let first = start + 2 * count_after(view, from, to, new);
-    let place = push_places(out, first, view, 0, from)?;
-    let behind = push_place(out, place, new)?;
-    push_places(out, behind, view, to, view.count())?;
-    Ok(())
-}
-
-/// Adds the places of the elements from one up to another, the first of them at `place`, and says where the last one ends.
-fn push_places(
-    out: &mut Vec<u8>,
-    place: usize,
-    view: &View<'_>,
-    from: usize,
-    to: usize,
-) -> Result<usize, AllocError>
-    requires order { from ≤ to }
-    requires within { to ≤ length view.now.array.elements }
-    requires fits { place + length (flat_map (λ x. x) (take (to - from) (drop from view.now.array.elements))) < 2 ^ 16 }
-    ensures { IfOk result (λ next.
-        (out.new.items ≡
-        out.old.items ++ flat_map word (places_from place (take (to - from) (drop from view.now.array.elements))))
-        × (next ≡ place + length (flat_map (λ x. x) (take (to - from) (drop from view.now.array.elements))))) }
-{
-    let mut next = place;
-    for i in from..to {
-        push_word(out, next)?;
-        next += view.element(i).len();
-    }
-    Ok(next)
-}
-
-/// Adds the place of the new element, and says where it ends.
-fn push_place(
-    out: &mut Vec<u8>,
-    place: usize,
-    new: Option<NewElement<'_>>,
-) -> Result<usize, AllocError>
-    requires { place + length (flat_map (λ x. x) (elements_of new)) < 2 ^ 16 }
-    ensures { IfOk result (λ next.
-        (out.new.items ≡ out.old.items ++ flat_map word (places_from place (elements_of new.entry)))
-        × (next ≡ place + length (flat_map (λ x. x) (elements_of new.entry)))) }
-{
-    if new.is_some() {
-        push_word(out, place)?;
-    }
-    Ok(place + new_len(new))
-}
-
 /// Adds a number as a word.
 fn push_word(out: &mut Vec<u8>, n: usize) -> Result<(), AllocError>
     requires { n < 2 ^ 16 }
@@ -246,19 +287,4 @@ fn push_word(out: &mut Vec<u8>, n: usize) -> Result<(), AllocError>
 {
     let word = n as u16;
     out.extend_from_slice(word.to_le_bytes().as_slice())
-}
-
-/// Adds the bytes of the new element.
-fn push_new(out: &mut Vec<u8>, new: Option<NewElement<'_>>) -> Result<(), AllocError>
-    requires { length out.old.items + length (flat_map (λ x. x) (elements_of new)) < 2 ^ 64 }
-    ensures { IfOk result (λ _. out.new.items ≡ out.old.items ++ flat_map (λ x. x) (elements_of new.entry)) }
-{
-    let Some(element) = new else {
-        return Ok(());
-    };
-    out.extend_from_slice(element.head)?;
-    out.extend_from_slice(element.middle)?;
-    out.extend_from_slice(element.tail)?;
-    let len = out.len() + element.zeros;
-    out.resize(len, 0)
 }

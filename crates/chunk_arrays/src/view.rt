@@ -4,7 +4,7 @@ ghost use Rattle.std.specs.List.{flat_map};
 ghost use Rattle.geos_model.specs.Words.{word_at};
 ghost use Rattle.geos_model.specs.Array.{array_bytes, array_of, array_read, is_even};
 ghost use Rattle.chunk_arrays.specs.Parts.{AreBytes, IsPlaceTable, HasElements};
-ghost use Rattle.chunk_arrays.specs.Reading.{element_place};
+ghost use Rattle.chunk_arrays.specs.Reading.{element_place, words_from};
 
 use byteorder::{ByteOrder, LittleEndian};
 use geos_model::Fault;
@@ -163,10 +163,22 @@ impl<'a> View<'a> {
         &self.bytes[start..end]
     }
 
-    /// Where an element begins, or where the last one ends.
-    fn place(&self, i: usize) -> usize
+    /// The words of the table of places from one element up to another, where sizes vary.
+    pub(crate) fn places(&self, from: usize, to: usize) -> &'a [u8]
+        requires any { self.now.array.size ≡ 0 }
+        requires order { from ≤ to }
+        requires within { to ≤ length self.now.array.elements }
+        ensures { result.now ≡
+            words_from (element_place self.now.array from) (take (to - from) (drop from self.now.array.elements)) }
+    {
+        &self.bytes[self.start + 2 * from..self.start + 2 * to]
+    }
+
+    /// Where an element begins, or where the last one ends. A table of places gives only places that words can hold.
+    pub(crate) fn place(&self, i: usize) -> usize
         requires { i ≤ length self.now.array.elements }
-        ensures { result ≡ element_place self.now.array i }
+        ensures place { result ≡ element_place self.now.array i }
+        ensures near { self.now.array.size ≡ 0 → i < length self.now.array.elements → result < 2 ^ 16 }
     {
         if i == self.count {
             self.bytes.len()

@@ -1,9 +1,14 @@
-use Rattle.std.proofs.Common.{◌≡◌, ◌≤◌, ℕ, List, Option, length, inr, ◌∙◌, arith}
-use Rattle.geos_model.specs.Array.{Array, array_bytes}
-use Rattle.chunk_arrays.specs.Rewriting.{extra_after, rewritten}
+use Rattle.std.proofs.Common.{◌≡◌, ◌⊎◌, ◌≤◌, ◌<◌, ◌+◌, ℕ, List, [], Option, Some, None, IsSome, true, length, length-take-le, inl, inr, refl, sym, ap, subst, arith}
+use Rattle.std.specs.List.{splice}
+use Rattle.geos_model.specs.Array.{Array, array_bytes, array_start, is_even, place_table}
+use Rattle.geos_model.proofs.Arrays.{joined, length-array_bytes}
+use Rattle.chunk_edits.specs.Patching.{held, PatchLeads}
+use Rattle.chunk_edits.specs.declared.patch.Piece.{Piece}
+use Rattle.chunk_arrays.specs.Rewriting.{elements_of, extra_after, rewritten}
 use Rattle.chunk_arrays.specs.declared.rewriting.NewElement.{NewElement}
-use Rattle.chunk_arrays.proofs.RewritingLemmas.{length-extra_after, length-other_extra}
-use Rattle.chunk_arrays.proofs.ReplacingLemmas.{refused-long, accepted-short, leads-whole}
+use Rattle.chunk_arrays.proofs.RewritingLemmas.{cut, head_room, length-extra_after, length-other_extra}
+use Rattle.chunk_arrays.proofs.ReplacingLemmas.{refused-long, accepted-short}
+use Rattle.chunk_arrays.proofs.TableLemmas.{length-head_after, place_table-le, rewritten_leads}
 use Rattle.chunk_arrays.proofs.rewriting.rewrite.Goals as goal
 
 -- The new bytes are as many as with the old extra bytes.
@@ -17,17 +22,106 @@ returns-then-len-gt-LONGEST_CHUNK c =
     let same = as_long a c.args.first.now c.args.from c.args.to c.args.new c.requires.extra in
     inr (refused-long (array_bytes (rewritten a (extra_after a c.args.first.now) c.args.from c.args.to c.args.new)) (omega (arith, same)))
 
-pub bytes_after-requires-clause-len : goal.bytes_after-requires-clause-len
-bytes_after-requires-clause-len c =
-    let same = as_long c.args.view.now.array c.args.first.now c.args.from c.args.to c.args.new c.requires.extra in
-    omega (arith, same)
+-- how many elements there are then, and where the extra bytes end
+room : (a : Array) (first : List ℕ) (from to count : ℕ) (new : Option NewElement) → length first ≤ length a.extra → is_even (rewritten a (extra_after a first) from to new) ≡ true
+    → length (array_bytes (rewritten a a.extra from to new)) ≤ 65498 → count ≡ cut (length (splice a.elements from to (elements_of new)))
+    → (count ≡ length (splice a.elements from to (elements_of new))) × (count < 65536) × (array_start a + length (place_table (array_start a) (rewritten a a.extra from to new)) + length (joined (splice a.elements from to (elements_of new))) ≤ 65498)
+room a first from to count new short even fits count_is =
+    let b : Array = rewritten a (extra_after a first) from to new in
+    let same = as_long a first from to new short in
+    let r = head_room b count even (omega (arith, same, fits)) count_is in
+    let last = length-array_bytes (rewritten a a.extra from to new) in
+    (r.0, r.1, omega (arith, last, fits))
+
+-- one element at most comes, and in the place of one at most
+few_elements : (new : Option NewElement) (from to : ℕ) → (IsSome new → to ≤ from + 1) → (elements_of new ≡ []) ⊎ ((to ≤ from + 1) × (length (elements_of new) ≡ 1))
+few_elements None from to one = inl refl
+few_elements (Some element) from to one = inr (one refl, refl)
+
+pub draft_head-requires-clause-count : goal.draft_head-requires-clause-count
+draft_head-requires-clause-count c =
+    (room c.args.view.now.array c.args.first.now c.args.from c.args.to c.count_after.result c.args.new c.requires.extra c.requires.even (omega (arith, c.length_after-len.ensures, c.if-len-gt-LONGEST_CHUNK.false)) c.count_after.ensures).1
+
+pub draft_head-requires-clause-room : goal.draft_head-requires-clause-room
+draft_head-requires-clause-room c =
+    let r = room c.args.view.now.array c.args.first.now c.args.from c.args.to c.count_after.result c.args.new c.requires.extra c.requires.even (omega (arith, c.length_after-len.ensures, c.if-len-gt-LONGEST_CHUNK.false)) c.count_after.ensures in
+    let end = r.2 in
+    let none = c.in_ok-draft.ensures.1 in
+    omega (arith, end, none)
+
+pub draft_head-requires-clause-little : goal.draft_head-requires-clause-little
+draft_head-requires-clause-little c =
+    let none : held c.in_ok-draft.draft.patch ≡ held [] = ap held c.in_ok-draft.ensures.0 in
+    omega (arith, none)
+
+pub draft_table-requires-clause-short : goal.draft_table-requires-clause-short
+draft_table-requires-clause-short c = omega (arith, c.length_after-len.ensures, c.if-len-gt-LONGEST_CHUNK.false)
+
+pub draft_table-requires-clause-room : goal.draft_table-requires-clause-room
+draft_table-requires-clause-room c =
+    let a : Array = c.args.view.now.array in
+    let r = room a c.args.first.now c.args.from c.args.to c.count_after.result c.args.new c.requires.extra c.requires.even (omega (arith, c.length_after-len.ensures, c.if-len-gt-LONGEST_CHUNK.false)) c.count_after.ensures in
+    let end = r.2 in
+    let none = c.in_ok-draft.ensures.1 in
+    let kept = c.in_ok-draft_head.ensures.kept in
+    let head = length-head_after a c.count_after.result c.args.first.now c.requires.extra in
+    omega (arith, end, none, kept, head)
+
+pub draft_table-requires-clause-little : goal.draft_table-requires-clause-little
+draft_table-requires-clause-little c =
+    let a : Array = c.args.view.now.array in
+    let r = room a c.args.first.now c.args.from c.args.to c.count_after.result c.args.new c.requires.extra c.requires.even (omega (arith, c.length_after-len.ensures, c.if-len-gt-LONGEST_CHUNK.false)) c.count_after.ensures in
+    let end = r.2 in
+    let none : held c.in_ok-draft.draft.patch ≡ held [] = ap held c.in_ok-draft.ensures.0 in
+    let more = c.in_ok-draft_head.ensures.held in
+    let long = length-array_bytes a in
+    let old = length-take-le (array_start a) (array_bytes a) (omega (arith, long)) in
+    let new = length-head_after a c.count_after.result c.args.first.now c.requires.extra in
+    omega (arith, end, none, more, old, new)
+
+pub draft_elements-requires-clause-short : goal.draft_elements-requires-clause-short
+draft_elements-requires-clause-short c =
+    let r = room c.args.view.now.array c.args.first.now c.args.from c.args.to c.count_after.result c.args.new c.requires.extra c.requires.even (omega (arith, c.length_after-len.ensures, c.if-len-gt-LONGEST_CHUNK.false)) c.count_after.ensures in
+    let end = r.2 in
+    omega (arith, end)
+
+pub draft_elements-requires-clause-room : goal.draft_elements-requires-clause-room
+draft_elements-requires-clause-room c =
+    let a : Array = c.args.view.now.array in
+    let r = room a c.args.first.now c.args.from c.args.to c.count_after.result c.args.new c.requires.extra c.requires.even (omega (arith, c.length_after-len.ensures, c.if-len-gt-LONGEST_CHUNK.false)) c.count_after.ensures in
+    let end = r.2 in
+    let none = c.in_ok-draft.ensures.1 in
+    let one = c.in_ok-draft_head.ensures.kept in
+    let head = length-head_after a c.count_after.result c.args.first.now c.requires.extra in
+    let two = c.in_ok-draft_table.ensures.kept in
+    omega (arith, end, none, one, head, two)
+
+pub draft_elements-requires-clause-little : goal.draft_elements-requires-clause-little
+draft_elements-requires-clause-little c =
+    let a : Array = c.args.view.now.array in
+    let r = room a c.args.first.now c.args.from c.args.to c.count_after.result c.args.new c.requires.extra c.requires.even (omega (arith, c.length_after-len.ensures, c.if-len-gt-LONGEST_CHUNK.false)) c.count_after.ensures in
+    let end = r.2 in
+    let none : held c.in_ok-draft.draft.patch ≡ held [] = ap held c.in_ok-draft.ensures.0 in
+    let one = c.in_ok-draft_head.ensures.held in
+    let long = length-array_bytes a in
+    let old = length-take-le (array_start a) (array_bytes a) (omega (arith, long)) in
+    let new = length-head_after a c.count_after.result c.args.first.now c.requires.extra in
+    let two = c.in_ok-draft_table.ensures.held in
+    let few = c.args.view.now.few in
+    let table = place_table-le (array_start a) a in
+    omega (arith, end, none, one, old, new, two, few, table)
 
 pub returns : goal.returns
 returns c =
     let a : Array = c.args.view.now.array in
-    let same = as_long a c.args.first.now c.args.from c.args.to c.args.new c.requires.extra in
     let to : List ℕ = array_bytes (rewritten a (extra_after a c.args.first.now) c.args.from c.args.to c.args.new) in
+    let same = as_long a c.args.first.now c.args.from c.args.to c.args.new c.requires.extra in
+    let r = room a c.args.first.now c.args.from c.args.to c.count_after.result c.args.new c.requires.extra c.requires.even (omega (arith, c.length_after-len.ensures, c.if-len-gt-LONGEST_CHUNK.false)) c.count_after.ensures in
+    let leads = rewritten_leads a c.args.first.now c.args.from c.args.to c.count_after.result (elements_of c.args.new) c.requires.extra c.requires.order c.requires.within
+    (few_elements c.args.new c.args.from c.args.to c.requires.one) r.0
+    c.in_ok-draft.draft c.draft_head.new.draft c.draft_table.new.draft c.draft_elements.new.draft c.in_ok-draft.ensures.0 c.in_ok-draft.ensures.1
+    c.in_ok-draft_head.ensures c.in_ok-draft_table.ensures c.in_ok-draft_elements.ensures in
     record {
       accepted = accepted-short to (omega (arith, same));
-      leads = leads-whole _ _ (array_bytes a) to (c.in_ok-copied.ensures ∙ c.bytes.ensures) (c.from_vec.ensures ∙ c.in_ok-bytes.ensures);
+      leads = subst (λ (ps : List Piece). PatchLeads ps (array_bytes a) to) (sym c.in_ok-patch.ensures) leads;
     }

@@ -48,11 +48,11 @@ overflow_add-result c =
     let most : c.args.i * c.self.inside.size ≤ 65536 * c.self.inside.size = mul-le-mul_right c.self.inside.size (omega (arith, few)) in
     omega (arith, small, near, size, start, most)
 
-pub returns-then-i-self : goal.returns-then-i-self
-returns-then-i-self c = sym (place-last c.self.inside.bytes.now c.self.invariant.parts c.args.i (c.if-i-self.true ∙ c.self.invariant.count)) ∙ ap (λ (v : Viewed). element_place v.array c.args.i) c.self.view_is
+pub returns-then-i-self-clause-place : goal.returns-then-i-self-clause-place
+returns-then-i-self-clause-place c = sym (place-last c.self.inside.bytes.now c.self.invariant.parts c.args.i (c.if-i-self.true ∙ c.self.invariant.count)) ∙ ap (λ (v : Viewed). element_place v.array c.args.i) c.self.view_is
 
-pub returns-then-self-eq0 : goal.returns-then-self-eq0
-returns-then-self-eq0 c =
+pub returns-then-self-eq0-clause-place : goal.returns-then-self-eq0-clause-place
+returns-then-self-eq0-clause-place c =
     let any : word_at c.self.inside.bytes.now 2 ≡ 0 = sym c.self.invariant.size ∙ c.if-self-eq0.true in
     let there = c.self.invariant.count in
     let count : length c.args.self.now.array.elements ≡ word_at c.self.inside.bytes.now 0 = ap (λ (v : Viewed). length v.array.elements) (sym c.self.view_is) ∙ length-elements_read c.self.inside.bytes.now in
@@ -64,8 +64,8 @@ returns-then-self-eq0 c =
     ∙ sym (place-any c.self.inside.bytes.now c.self.invariant.parts any c.args.i below)
     ∙ ap (λ (v : Viewed). element_place v.array c.args.i) c.self.view_is
 
-pub returns-else-self-eq0 : goal.returns-else-self-eq0
-returns-else-self-eq0 c =
+pub returns-else-self-eq0-clause-place : goal.returns-else-self-eq0-clause-place
+returns-else-self-eq0-clause-place c =
     let one : word_at c.self.inside.bytes.now 2 ≢ 0 = λ e. c.if-self-eq0.false (c.self.invariant.size ∙ e) in
     let count : length c.args.self.now.array.elements ≡ word_at c.self.inside.bytes.now 0 = ap (λ (v : Viewed). length v.array.elements) (sym c.self.view_is) ∙ length-elements_read c.self.inside.bytes.now in
     let least = c.requires in
@@ -73,3 +73,10 @@ returns-else-self-eq0 c =
     ∙ ap (λ (s : ℕ). word_at c.self.inside.bytes.now 6 + c.args.i * s) c.self.invariant.size
     ∙ sym (place-even c.self.inside.bytes.now c.self.invariant.parts one c.args.i (omega (arith, count, least)))
     ∙ ap (λ (v : Viewed). element_place v.array c.args.i) c.self.view_is
+
+pub returns-then-i-self-clause-near : goal.returns-then-i-self-clause-near
+returns-then-i-self-clause-near c = λ any below.
+    let there = c.self.invariant.count in
+    let count : length c.args.self.now.array.elements ≡ word_at c.self.inside.bytes.now 0 = ap (λ (v : Viewed). length v.array.elements) (sym c.self.view_is) ∙ length-elements_read c.self.inside.bytes.now in
+    let last = c.if-i-self.true in
+    absurd (omega (arith, there, count, last, below))

@@ -23,7 +23,7 @@ returns c =
     let a : Array = c.args.self.now.array in
     let bytes : List ℕ = c.self.inside.bytes.now in
     let same : bytes ≡ array_bytes a = sym (bytes-read bytes c.self.invariant.parts) ∙ ap (λ (v : Viewed). array_bytes v.array) c.self.view_is in
-    ap (λ (n : ℕ). take (n - c.place-start.result) (drop c.place-start.result bytes)) c.place-end.ensures
-    ∙ ap (λ (n : ℕ). take (element_place a c.args.to - n) (drop n bytes)) c.place-start.ensures
+    ap (λ (n : ℕ). take (n - c.place-start.result) (drop c.place-start.result bytes)) c.place-end.ensures.place
+    ∙ ap (λ (n : ℕ). take (element_place a c.args.to - n) (drop n bytes)) c.place-start.ensures.place
     ∙ ap (λ (l : List ℕ). take (element_place a c.args.to - element_place a c.args.from) (drop (element_place a c.args.from) l)) same
     ∙ run-is a c.args.from c.args.to c.requires.order
