@@ -13,9 +13,10 @@ use Rattle.geos_model.specs.ElementEdits.{with_new, with_new_at}
 use Rattle.geos_model.specs.declared.fault.Fault.{Fault}
 use Rattle.geos_model.proofs.ArrayEdits.{even_with}
 use Rattle.geos_model.proofs.Images.{word-reads_back}
-use Rattle.chunk_edits.specs.Splicing.{Builds, RefusesToBuild, Leads}
+use Rattle.chunk_edits.specs.Patching.{BuildsPatch, PatchLeads}
+use Rattle.chunk_edits.specs.Splicing.{RefusesToBuild}
 use Rattle.chunk_arrays.specs.Rewriting.{extra_after}
-use Rattle.chunk_edits.specs.declared.splice.Splice.{Splice}
+use Rattle.chunk_edits.specs.declared.patch.Piece.{Piece}
 use Rattle.element_arrays.specs.Slotted.{Slotted, slotted_array, slotted_bytes, GivesSlots, RefusesSlots}
 use Rattle.std.specs.Result.{IsErrAnd}
 use Rattle.geos_model.specs.Refusal.{Conditions, first_refusal}
@@ -163,23 +164,23 @@ length-sized size bytes fits one = elim (cases_Bool (length bytes == size)) [
       absurd (cc))
 ]
 
--- The slots that a splice gives or refuses.
+-- The slots that a patch gives or refuses.
 
-pub gives : (s : Slotted) (new : Slots) (v w : Array) (x : Splice) → v ≡ slotted_array s → w ≡ slots_array s.more new → Builds (too_long (array_bytes w)) x (array_bytes v) (array_bytes w) (length (array_bytes v) + length (array_bytes w)) → GivesSlots s new x
+pub gives : (s : Slotted) (new : Slots) (v w : Array) (x : List Piece) → v ≡ slotted_array s → w ≡ slots_array s.more new → BuildsPatch (too_long (array_bytes w)) x (array_bytes v) (array_bytes w) → GivesSlots s new x
 unfolding slotted_bytes
 gives s new v w x old to built =
-    subst (λ a. Builds (too_long (array_bytes (slots_array s.more new))) x (array_bytes a) (array_bytes (slots_array s.more new)) (length (array_bytes a) + length (array_bytes (slots_array s.more new)))) old
-    (subst (λ b. Builds (too_long (array_bytes b)) x (array_bytes v) (array_bytes b) (length (array_bytes v) + length (array_bytes b))) to built)
+    subst (λ a. BuildsPatch (too_long (array_bytes (slots_array s.more new))) x (array_bytes a) (array_bytes (slots_array s.more new))) old
+    (subst (λ b. BuildsPatch (too_long (array_bytes b)) x (array_bytes v) (array_bytes b)) to built)
 
 pub refuses : (s : Slotted) (new : Slots) (w : Array) (fault : Fault) → w ≡ slots_array s.more new → RefusesToBuild (too_long (array_bytes w)) fault → RefusesSlots s new fault
 unfolding slotted_bytes
 refuses s new w fault to refused = subst (λ b. RefusesToBuild (too_long (array_bytes b)) fault) to refused
 
 -- what `rewrite` answers
-abbrev pub Rewrites : Array → Array → Result Splice Fault → Type 0
-Rewrites v w r = MatchResult r (λ x. Builds (too_long (array_bytes w)) x (array_bytes v) (array_bytes w) (length (array_bytes v) + length (array_bytes w))) (RefusesToBuild (too_long (array_bytes w)))
+abbrev pub Rewrites : Array → Array → Result (List Piece) Fault → Type 0
+Rewrites v w r = MatchResult r (λ x. BuildsPatch (too_long (array_bytes w)) x (array_bytes v) (array_bytes w)) (RefusesToBuild (too_long (array_bytes w)))
 
-pub answers : (s : Slotted) (new : Slots) (v w : Array) (r : Result Splice Fault) → v ≡ slotted_array s → w ≡ slots_array s.more new → Rewrites v w r → MatchResult r (GivesSlots s new) (RefusesSlots s new)
+pub answers : (s : Slotted) (new : Slots) (v w : Array) (r : Result (List Piece) Fault) → v ≡ slotted_array s → w ≡ slots_array s.more new → Rewrites v w r → MatchResult r (GivesSlots s new) (RefusesSlots s new)
 answers s new v w r old to h = MatchResult-weaker r h (λ x. gives s new v w x old to) (λ fault. refuses s new w fault to)
 
 -- a token that names the place of a slot
@@ -337,14 +338,14 @@ module _ (own few : Conditions) (from to from′ to′ : List ℕ) (decides : fi
   ]
 
   module _ (from_is : from′ ≡ from) where
-    pub replaces_for : (s : Splice) → Replaces few from′ to′ s → Replaces own from to s
-    replaces_for s made = record {
+    pub replaces_for : (p : List Piece) → Replaces few from′ to′ p → Replaces own from to p
+    replaces_for p made = record {
       accepted = decides ∙ ap (λ (l : List ℕ). first_refusal (few ++ too_long l)) (sym to_is) ∙ made.accepted;
-      leads = subst (λ (l : List ℕ). Leads s l to (length l + length to)) from_is (subst (λ (l : List ℕ). Leads s from′ l (length from′ + length l)) to_is made.leads);
+      leads = subst (λ (l : List ℕ). PatchLeads p l to) from_is (subst (λ (l : List ℕ). PatchLeads p from′ l) to_is made.leads);
     }
 
-    pub handed_on : (r : Result Splice Fault) → MatchResult r (Replaces few from′ to′) (RefusesToReplace few to′) → MatchResult r (Replaces own from to) (RefusesToReplace own to)
-    handed_on (Ok s) made = replaces_for s made
+    pub handed_on : (r : Result (List Piece) Fault) → MatchResult r (Replaces few from′ to′) (RefusesToReplace few to′) → MatchResult r (Replaces own from to) (RefusesToReplace own to)
+    handed_on (Ok p) made = replaces_for p made
     handed_on (Err fault) refused = refuses_for fault refused
 
 -- An edit of slots, and its refusals, are those of the bytes, where no other refusal applies.
@@ -352,15 +353,15 @@ module _ (own : Conditions) (s : Slotted) (slots : Slots) (from to : List ℕ) (
   pub slots_refused : (fault : Fault) → RefusesSlots s slots fault → RefusesToReplace own to fault
   slots_refused fault refused = refuses_for own [] from to (slotted_bytes s.more s.slots) (slotted_bytes s.more slots) (accepted-room own _ none) to_is fault refused
 
-  pub slots_given : (splice : Splice) → GivesSlots s slots splice → Replaces own from to splice
-  slots_given splice made = replaces_for own [] from to (slotted_bytes s.more s.slots) (slotted_bytes s.more slots) (accepted-room own _ none) to_is from_is splice made
+  pub slots_given : (patch : List Piece) → GivesSlots s slots patch → Replaces own from to patch
+  slots_given patch made = replaces_for own [] from to (slotted_bytes s.more s.slots) (slotted_bytes s.more slots) (accepted-room own _ none) to_is from_is patch made
 
-  pub slots_handed_on : (r : Result Splice Fault) → MatchResult r (GivesSlots s slots) (RefusesSlots s slots) → MatchResult r (Replaces own from to) (RefusesToReplace own to)
-  slots_handed_on (Ok splice) made = slots_given splice made
+  pub slots_handed_on : (r : Result (List Piece) Fault) → MatchResult r (GivesSlots s slots) (RefusesSlots s slots) → MatchResult r (Replaces own from to) (RefusesToReplace own to)
+  slots_handed_on (Ok patch) made = slots_given patch made
   slots_handed_on (Err fault) refused = slots_refused fault refused
 
-  -- with a token beside the splice
-  pub token_handed_on : (r : Result (Splice × Token) Fault) (token token′ : ℕ) → token′ ≡ token
+  -- with a token beside the patch
+  pub token_handed_on : (r : Result (List Piece × Token) Fault) (token token′ : ℕ) → token′ ≡ token
       → MatchResult r (λ made. GivesSlots s slots made.0 × (made.1.0 ≡ token′)) (RefusesSlots s slots)
       → MatchResult r (λ made. Replaces own from to made.0 × (made.1.0 ≡ token)) (RefusesToReplace own to)
   token_handed_on (Ok made) token token′ is h = (slots_given made.0 h.0, h.1 ∙ is)

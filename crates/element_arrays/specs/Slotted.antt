@@ -1,11 +1,12 @@
--- An array of slots as it lies in a chunk, and what a splice makes of it.
-use Rattle.std.specs.Prelude.{◌≡◌, ℕ, List, true, ◌+◌, length}
+-- An array of slots as it lies in a chunk, and what a patch makes of it.
+use Rattle.std.specs.Prelude.{◌≡◌, ℕ, List, true}
 use Rattle.geos_model.specs.Array.{Array, array_bytes}
 use Rattle.geos_model.specs.ArrayEdits.{too_long}
 use Rattle.geos_model.specs.ElementArray.{Slots, slots_array, is_sound}
 use Rattle.geos_model.specs.declared.fault.Fault.{Fault}
-use Rattle.chunk_edits.specs.Splicing.{Builds, RefusesToBuild}
-use Rattle.chunk_edits.specs.declared.splice.Splice.{Splice}
+use Rattle.chunk_edits.specs.Patching.{BuildsPatch}
+use Rattle.chunk_edits.specs.Splicing.{RefusesToBuild}
+use Rattle.chunk_edits.specs.declared.patch.Piece.{Piece}
 
 pub record Slotted : Type 0 where
   pub more : List ℕ  -- the extra bytes behind the newest free token
@@ -19,11 +20,11 @@ slotted_array s = slots_array s.more s.slots
 unfoldable pub slotted_bytes : List ℕ → Slots → List ℕ
 slotted_bytes more slots = array_bytes (slots_array more slots)
 
--- from the bytes of an array the splice leads to those with other slots, and it holds both
-abbrev pub GivesSlots : Slotted → Slots → Splice → Type 0
-GivesSlots s slots splice =
+-- from the bytes of an array the patch leads to those with other slots
+abbrev pub GivesSlots : Slotted → Slots → List Piece → Type 0
+GivesSlots s slots patch =
     let new = slotted_bytes s.more slots in
-    Builds (too_long new) splice (slotted_bytes s.more s.slots) new (length (slotted_bytes s.more s.slots) + length new)
+    BuildsPatch (too_long new) patch (slotted_bytes s.more s.slots) new
 
 -- lack of memory, or the new array would be longer than any chunk
 abbrev pub RefusesSlots : Slotted → Slots → Fault → Type 0

@@ -1,4 +1,4 @@
-//! Edits of an element array, each as a splice of all bytes of a chunk.
+//! Edits of an element array, each as a patch of all bytes of a chunk.
 ghost use Rattle.std.specs.Prelude.{◌≡◌, None, true, MatchResult};
 ghost use Rattle.geos_model.specs.Refusal.{first_refusal};
 ghost use Rattle.geos_model.specs.ElementArray.{element_bytes, element_array_of, is_sound};
@@ -11,7 +11,7 @@ ghost use Rattle.element_arrays.specs.Referencing.{element_with_reference, eleme
 use crate::SlotView;
 use crate::reading::{read, used_at};
 use chunk_arrays::{GREATEST_SIZE, empty_bytes, is_missized};
-use chunk_edits::Splice;
+use chunk_edits::Patch;
 use geos_model::{Fault, Token};
 use std::alloc::Global;
 
@@ -36,10 +36,10 @@ pub fn create_bytes(alloc: Global, size: u32) -> Result<Vec<u8>, Fault>
     Ok(empty_bytes(alloc, slot_size, &NO_TOKEN)?)
 }
 
-/// The splice that gives an equal element, the lowest of these, one more reference, or else brings a new one, and its
+/// The patch that gives an equal element, the lowest of these, one more reference, or else brings a new one, and its
 /// token. NotArray; CountFull where the equal one has as many as any can have; Range where the array has elements of another
 /// size; Full where the array would be longer than any chunk.
-pub fn add(alloc: Global, bytes: &[u8], element: &[u8]) -> Result<(Splice, Token), Fault>
+pub fn add(alloc: Global, bytes: &[u8], element: &[u8]) -> Result<(Patch, Token), Fault>
     ensures { MatchResult result
         (λ made. Replaces (add_conditions bytes.now element.now) bytes.now
         (element_added bytes.now element.now) made.0 ×
@@ -49,8 +49,8 @@ pub fn add(alloc: Global, bytes: &[u8], element: &[u8]) -> Result<(Splice, Token
     let slots = read(bytes)?;
     match slots.find(0, element) {
         Some(token) => {
-            let splice = with_reference(alloc, &slots, token)?;
-            Ok((splice, token))
+            let patch = with_reference(alloc, &slots, token)?;
+            Ok((patch, token))
         }
         None => {
             if is_missized(slots.element_size(), element) {
@@ -61,9 +61,9 @@ pub fn add(alloc: Global, bytes: &[u8], element: &[u8]) -> Result<(Splice, Token
     }
 }
 
-/// The splice that gives an element one more reference. NotArray, NoElement; CountFull where it has as many as any can have;
+/// The patch that gives an element one more reference. NotArray, NoElement; CountFull where it has as many as any can have;
 /// Full where the array is longer than any chunk.
-pub fn add_ref(alloc: Global, bytes: &[u8], token: Token) -> Result<Splice, Fault>
+pub fn add_ref(alloc: Global, bytes: &[u8], token: Token) -> Result<Patch, Fault>
     ensures { MatchResult result
         (Replaces (add_reference_conditions bytes.now token.0) bytes.now (reference_added bytes.now token.0))
         (RefusesToReplace (add_reference_conditions bytes.now token.0) (reference_added bytes.now token.0)) }
@@ -72,9 +72,9 @@ pub fn add_ref(alloc: Global, bytes: &[u8], token: Token) -> Result<Splice, Faul
     with_reference(alloc, &slots, token)
 }
 
-/// The splice that takes a reference of an element, which is freed with the last one. NotArray, NoElement; Full where the
+/// The patch that takes a reference of an element, which is freed with the last one. NotArray, NoElement; Full where the
 /// array is longer than any chunk.
-pub fn remove_ref(alloc: Global, bytes: &[u8], token: Token) -> Result<Splice, Fault>
+pub fn remove_ref(alloc: Global, bytes: &[u8], token: Token) -> Result<Patch, Fault>
     ensures { MatchResult result
         (Replaces (on_token bytes.now token.0) bytes.now (reference_removed bytes.now token.0))
         (RefusesToReplace (on_token bytes.now token.0) (reference_removed bytes.now token.0)) }
@@ -88,9 +88,9 @@ pub fn remove_ref(alloc: Global, bytes: &[u8], token: Token) -> Result<Splice, F
     }
 }
 
-/// The splice that frees an element, whatever its references. NotArray, NoElement; Full where the array is longer than any
+/// The patch that frees an element, whatever its references. NotArray, NoElement; Full where the array is longer than any
 /// chunk.
-pub fn delete(alloc: Global, bytes: &[u8], token: Token) -> Result<Splice, Fault>
+pub fn delete(alloc: Global, bytes: &[u8], token: Token) -> Result<Patch, Fault>
     ensures { MatchResult result
         (Replaces (on_token bytes.now token.0) bytes.now (element_deleted bytes.now token.0))
         (RefusesToReplace (on_token bytes.now token.0) (element_deleted bytes.now token.0)) }
@@ -100,9 +100,9 @@ pub fn delete(alloc: Global, bytes: &[u8], token: Token) -> Result<Splice, Fault
     slots.without_element(alloc, token)
 }
 
-/// The splice that gives an element other bytes; its references stay, and others may have the same bytes. NotArray,
+/// The patch that gives an element other bytes; its references stay, and others may have the same bytes. NotArray,
 /// NoElement; Range where the array has elements of another size; Full where the array would be longer than any chunk.
-pub fn change(alloc: Global, bytes: &[u8], token: Token, element: &[u8]) -> Result<Splice, Fault>
+pub fn change(alloc: Global, bytes: &[u8], token: Token, element: &[u8]) -> Result<Patch, Fault>
     ensures { MatchResult result
         (Replaces (change_conditions bytes.now token.0 element.now) bytes.now
         (element_changed bytes.now token.0 element.now))
@@ -117,9 +117,9 @@ pub fn change(alloc: Global, bytes: &[u8], token: Token, element: &[u8]) -> Resu
     slots.with_element(alloc, token, used.count, element, &[])
 }
 
-/// The splice that gives an element one more reference. NoElement; CountFull where it has as many as any can have; Full where
+/// The patch that gives an element one more reference. NoElement; CountFull where it has as many as any can have; Full where
 /// the array is longer than any chunk.
-fn with_reference(alloc: Global, slots: &SlotView<'_>, token: Token) -> Result<Splice, Fault>
+fn with_reference(alloc: Global, slots: &SlotView<'_>, token: Token) -> Result<Patch, Fault>
     ensures { MatchResult result
         (Replaces (element_reference_conditions slots.now.slots token.0) (slotted_bytes slots.now.more slots.now.slots)
         (slotted_bytes slots.now.more (element_with_reference slots.now.slots token.0)))

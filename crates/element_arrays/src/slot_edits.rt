@@ -1,4 +1,4 @@
-//! Edits of slots, of an element array or a name array, each as a splice of all bytes of a chunk.
+//! Edits of slots, of an element array or a name array, each as a patch of all bytes of a chunk.
 ghost use Rattle.std.specs.Prelude.{◌≡◌, ◌≤◌, ◌++◌, ◌∷◌, [], true, false, is_some, length, take, drop, IfOk, MatchOption, MatchResult};
 ghost use Rattle.geos_model.specs.ArrayEdits.{is_missized};
 ghost use Rattle.geos_model.specs.ElementArray.{element_at, greatest_count};
@@ -8,12 +8,12 @@ ghost use Rattle.element_arrays.specs.Slotted.{GivesSlots, RefusesSlots};
 use crate::slot_view::{FREE, SlotView};
 use byteorder::{ByteOrder, LittleEndian};
 use chunk_arrays::{NewElement, rewrite};
-use chunk_edits::Splice;
+use chunk_edits::Patch;
 use geos_model::{Fault, Token};
 use std::alloc::{AllocError, Global};
 
 impl<'a> SlotView<'a> {
-    /// The splice that gives a used element this count and these bytes, in two parts. Full where the array would be longer
+    /// The patch that gives a used element this count and these bytes, in two parts. Full where the array would be longer
     /// than any chunk.
     pub fn with_element(
         &self,
@@ -22,7 +22,7 @@ impl<'a> SlotView<'a> {
         count: u32,
         head: &[u8],
         tail: &[u8],
-    ) -> Result<Splice, Fault>
+    ) -> Result<Patch, Fault>
         requires used { is_some (element_at self.now.slots token.0) ≡ true }
         requires counted { 1 ≤ count }
         requires bounded { count ≤ greatest_count }
@@ -43,8 +43,8 @@ impl<'a> SlotView<'a> {
         rewrite(alloc, array, &[], at, at + 1, Some(element))
     }
 
-    /// The splice that frees a used element. Full where the array would still be longer than any chunk.
-    pub fn without_element(&self, alloc: Global, token: Token) -> Result<Splice, Fault>
+    /// The patch that frees a used element. Full where the array would still be longer than any chunk.
+    pub fn without_element(&self, alloc: Global, token: Token) -> Result<Patch, Fault>
         requires { is_some (element_at self.now.slots token.0) ≡ true }
         ensures { MatchResult result
             (GivesSlots self.now (without_element self.now.slots token.0))
@@ -62,14 +62,14 @@ impl<'a> SlotView<'a> {
         rewrite(alloc, array, &number, at, at + 1, Some(element))
     }
 
-    /// The splice that brings a new element of one reference and these bytes, in two parts, and its token: the newest free
+    /// The patch that brings a new element of one reference and these bytes, in two parts, and its token: the newest free
     /// one, else the next. Full where the array would be longer than any chunk.
     pub fn with_new(
         &self,
         alloc: Global,
         head: &[u8],
         tail: &[u8],
-    ) -> Result<(Splice, Token), Fault>
+    ) -> Result<(Patch, Token), Fault>
         requires { is_missized self.now.slots.size (head.now ++ tail.now) ≡ false }
         ensures { MatchResult result
             (λ made. GivesSlots self.now (with_new self.now.slots (head.now ++ tail.now)).0 made.0 ×
@@ -87,14 +87,14 @@ impl<'a> SlotView<'a> {
             None => {
                 let token = Token(self.len());
                 let at = usize::from(token.0);
-                let splice = rewrite(alloc, array, &[], at, at, Some(element))?;
-                Ok((splice, token))
+                let patch = rewrite(alloc, array, &[], at, at, Some(element))?;
+                Ok((patch, token))
             }
             Some(token) => {
                 let at = usize::from(token.0);
                 let next = first_word(array.element(at));
-                let splice = rewrite(alloc, array, next, at, at + 1, Some(element))?;
-                Ok((splice, token))
+                let patch = rewrite(alloc, array, next, at, at + 1, Some(element))?;
+                Ok((patch, token))
             }
         }
     }

@@ -21,7 +21,7 @@ use Rattle.name_arrays.proofs.NamingLemmas.{new_bytes, bytes_with, found_name}
 use Rattle.geos_model.specs.ArrayEdits.{too_long}
 use Rattle.geos_model.specs.declared.fault.Fault.{Fault}
 use Rattle.geos_model.specs.declared.handle.Token.{Token}
-use Rattle.chunk_edits.specs.declared.splice.Splice.{Splice}
+use Rattle.chunk_edits.specs.declared.patch.Piece.{Piece}
 use Rattle.chunk_arrays.specs.Replacing.{Replaces, RefusesToReplace}
 use Rattle.element_arrays.proofs.SlottedLemmas.{refuses_for, replaces_for, slots_handed_on, token_handed_on}
 
@@ -141,7 +141,7 @@ module _ (bytes : List ℕ) (s : Slotted) (size : ℕ) (read : IsRead bytes s si
           refuses_for (add_name_conditions bytes text part) (name_reference_conditions a part t) bytes (name_added bytes text part replace) (slotted_bytes s.more s.slots) (name_bytes_with_reference a part replace t)
           decides added_found
 
-      pub found_replaced : (splice : Splice) → Replaces (name_reference_conditions a part t) (slotted_bytes s.more s.slots) (name_bytes_with_reference a part replace t) splice → Replaces (add_name_conditions bytes text part) bytes (name_added bytes text part replace) splice
+      pub found_replaced : (patch : List Piece) → Replaces (name_reference_conditions a part t) (slotted_bytes s.more s.slots) (name_bytes_with_reference a part replace t) patch → Replaces (add_name_conditions bytes text part) bytes (name_added bytes text part replace) patch
       found_replaced =
           replaces_for (add_name_conditions bytes text part) (name_reference_conditions a part t) bytes (name_added bytes text part replace) (slotted_bytes s.more s.slots) (name_bytes_with_reference a part replace t)
           decides added_found read.same
@@ -164,7 +164,7 @@ module _ (bytes : List ℕ) (s : Slotted) (size : ℕ) (read : IsRead bytes s si
       pub new_refusals : (bad : Bool) → (not (is_name text) || not (length part == size)) ≡ bad → (rest : Conditions) → first_refusal (add_name_conditions bytes text part ++ rest) ≡ first_refusal ((CountFull, false) ∷ (Range, bad) ∷ rest)
       new_refusals bad bad_is = add_refusals text part false bad full_new bad_is
 
-      pub new_handed_on : (not (is_name text) || not (length part == size)) ≡ false → (r : Result (Splice × Token) Fault)
+      pub new_handed_on : (not (is_name text) || not (length part == size)) ≡ false → (r : Result (List Piece × Token) Fault)
           → MatchResult r (λ made. GivesSlots s (with_new s.slots (part ++ text)).0 made.0 × (made.1.0 ≡ (with_new s.slots (part ++ text)).1)) (RefusesSlots s (with_new s.slots (part ++ text)).0)
           → MatchResult r (λ made. Replaces (add_name_conditions bytes text part) bytes (name_added bytes text part replace) made.0 × (made.1.0 ≡ name_token_added bytes text part replace)) (RefusesToReplace (add_name_conditions bytes text part) (name_added bytes text part replace))
       new_handed_on good r =
@@ -185,7 +185,7 @@ module _ (bytes : List ℕ) (s : Slotted) (size : ℕ) (read : IsRead bytes s si
           ∙ ap (λ (b : NameArray). name_bytes (record b { names = unreferenced b.names t })) (sym names_are)
 
       module _ (used : is_some (element_at a.names t) ≡ true) (slots : Slots) (is : slots ≡ unreferenced s.slots t) where
-        pub removed_handed_on : (r : Result Splice Fault) → MatchResult r (GivesSlots s slots) (RefusesSlots s slots) → MatchResult r (Replaces (on_name_token bytes t) bytes (name_reference_removed bytes t)) (RefusesToReplace (on_name_token bytes t) (name_reference_removed bytes t))
+        pub removed_handed_on : (r : Result (List Piece) Fault) → MatchResult r (GivesSlots s slots) (RefusesSlots s slots) → MatchResult r (Replaces (on_name_token bytes t) bytes (name_reference_removed bytes t)) (RefusesToReplace (on_name_token bytes t) (name_reference_removed bytes t))
         removed_handed_on = slots_handed_on (on_name_token bytes t) s slots bytes (name_reference_removed bytes t) (past_token t used []) read.same (removed slots is)
 
       pub last_reference : count ≡ 1 → without_element s.slots t ≡ unreferenced s.slots t

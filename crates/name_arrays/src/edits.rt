@@ -1,4 +1,4 @@
-//! Edits of a name array, each as a splice of all bytes of a chunk.
+//! Edits of a name array, each as a patch of all bytes of a chunk.
 ghost use Rattle.std.specs.Prelude.{◌≡◌, None, true, is_some, MatchResult};
 ghost use Rattle.geos_model.specs.ElementArray.{element_at};
 ghost use Rattle.element_arrays.specs.Slotted.{slotted_bytes};
@@ -12,7 +12,7 @@ ghost use Rattle.chunk_arrays.specs.Replacing.{Replaces, RefusesToReplace};
 
 use crate::names::{GREATEST_PART, Names, is_name, read};
 use chunk_arrays::empty_bytes;
-use chunk_edits::Splice;
+use chunk_edits::Patch;
 use element_arrays::GREATEST_COUNT;
 use geos_model::{Fault, Token};
 use std::alloc::Global;
@@ -31,7 +31,7 @@ pub fn create_bytes(alloc: Global, part: u32) -> Result<Vec<u8>, Fault>
     Ok(empty_bytes(alloc, 0, &extra)?)
 }
 
-/// The splice that gives a name that is there, the lowest such, one more reference, and this part if `replace` says so; or
+/// The patch that gives a name that is there, the lowest such, one more reference, and this part if `replace` says so; or
 /// else brings a new one; and its token. NotArray; CountFull where the name has as many references as any can have; Range
 /// where the name has no byte or more than 256, or the part isn't as long as the array's are; Full where the array would be
 /// longer than any chunk.
@@ -41,7 +41,7 @@ pub fn add(
     name: &[u8],
     part: &[u8],
     replace: bool,
-) -> Result<(Splice, Token), Fault>
+) -> Result<(Patch, Token), Fault>
     ensures { MatchResult result
         (λ made. Replaces (add_name_conditions bytes.now name.now part.now) bytes.now
         (name_added bytes.now name.now part.now replace) made.0 ×
@@ -52,8 +52,8 @@ pub fn add(
     let names = read(bytes)?;
     match names.find(name) {
         Some(token) => {
-            let splice = with_reference(alloc, &names, token, part, replace)?;
-            Ok((splice, token))
+            let patch = with_reference(alloc, &names, token, part, replace)?;
+            Ok((patch, token))
         }
         None => {
             if !is_name(name) || part.len() != names.part {
@@ -64,10 +64,10 @@ pub fn add(
     }
 }
 
-/// The splice that gives a token another name; its part and references stay. NotArray, NoElement; NameInUse where another
+/// The patch that gives a token another name; its part and references stay. NotArray, NoElement; NameInUse where another
 /// token has the name, and this one hasn't; Range where the name has no byte or more than 256; Full where the array would be
 /// longer than any chunk.
-pub fn change_name(alloc: Global, bytes: &[u8], token: Token, name: &[u8]) -> Result<Splice, Fault>
+pub fn change_name(alloc: Global, bytes: &[u8], token: Token, name: &[u8]) -> Result<Patch, Fault>
     ensures { MatchResult result
         (Replaces (change_name_conditions bytes.now token.0 name.now) bytes.now
         (name_changed bytes.now token.0 name.now))
@@ -87,9 +87,9 @@ pub fn change_name(alloc: Global, bytes: &[u8], token: Token, name: &[u8]) -> Re
         .with_element(alloc, token, old.count, old.part, name)
 }
 
-/// The splice that takes a reference of a name, which is freed with the last one. NotArray, NoElement; Full where the array
+/// The patch that takes a reference of a name, which is freed with the last one. NotArray, NoElement; Full where the array
 /// is longer than any chunk.
-pub fn remove_ref(alloc: Global, bytes: &[u8], token: Token) -> Result<Splice, Fault>
+pub fn remove_ref(alloc: Global, bytes: &[u8], token: Token) -> Result<Patch, Fault>
     ensures { MatchResult result
         (Replaces (on_name_token bytes.now token.0) bytes.now (name_reference_removed bytes.now token.0))
         (RefusesToReplace (on_name_token bytes.now token.0) (name_reference_removed bytes.now token.0)) }
@@ -105,7 +105,7 @@ pub fn remove_ref(alloc: Global, bytes: &[u8], token: Token) -> Result<Splice, F
     }
 }
 
-/// The splice that gives a used name one more reference, and this part if `replace` says so. CountFull where the name has as
+/// The patch that gives a used name one more reference, and this part if `replace` says so. CountFull where the name has as
 /// many references as any can have; Range where the part isn't as long as the array's are; Full where the array would be
 /// longer than any chunk.
 fn with_reference(
@@ -114,7 +114,7 @@ fn with_reference(
     token: Token,
     part: &[u8],
     replace: bool,
-) -> Result<Splice, Fault>
+) -> Result<Patch, Fault>
     requires { is_some (element_at names.now.slots.slots token.0) ≡ true }
     ensures { MatchResult result
         (Replaces (name_reference_conditions (named_array names.now.slots names.now.part) part.now token.0)

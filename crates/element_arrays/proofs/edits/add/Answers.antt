@@ -10,18 +10,18 @@ pub returns-in_err-slots : goal.returns-in_err-slots
 returns-in_err-slots c =
     carried_own c.from_residual.result _ (add_conditions c.args.bytes.now c.args.element.now) _ NotArray c.in_err-slots.field-0.0 c.from_residual.ensures.1 c.in_err-slots.ensures.0 refl (rw c.in_err-slots.ensures.1 refl)
 
-pub returns-in_err-splice-in-Some : goal.returns-in_err-splice-in-Some
-returns-in_err-splice-in-Some c =
-    let fault = c.in_err-splice-in-Some.field-0.0 in
-    carried c.from_residual-in_err-splice-in-Some.result _ _ fault c.from_residual-in_err-splice-in-Some.ensures.1
-    (equal-refused c.args.bytes.now c.args.element.now c.in_ok-slots.slots c.in_ok-slots.ensures c.in-Some.token.0 (sym c.in-Some.ensures) fault c.in_err-splice-in-Some.ensures)
+pub returns-in_err-patch-in-Some : goal.returns-in_err-patch-in-Some
+returns-in_err-patch-in-Some c =
+    let fault = c.in_err-patch-in-Some.field-0.0 in
+    carried c.from_residual-in_err-patch-in-Some.result _ _ fault c.from_residual-in_err-patch-in-Some.ensures.1
+    (equal-refused c.args.bytes.now c.args.element.now c.in_ok-slots.slots c.in_ok-slots.ensures c.in-Some.token.0 (sym c.in-Some.ensures) fault c.in_err-patch-in-Some.ensures)
 
-pub returns-in_ok-splice-in-Some : goal.returns-in_ok-splice-in-Some
-returns-in_ok-splice-in-Some c =
+pub returns-in_ok-patch-in-Some : goal.returns-in_ok-patch-in-Some
+returns-in_ok-patch-in-Some c =
     let s = c.in_ok-slots.slots in
     let read = c.in_ok-slots.ensures in
     let found = sym c.in-Some.ensures in (
-      equal-replaced c.args.bytes.now c.args.element.now s read c.in-Some.token.0 found c.in_ok-splice-in-Some.splice c.in_ok-splice-in-Some.ensures,
+      equal-replaced c.args.bytes.now c.args.element.now s read c.in-Some.token.0 found c.in_ok-patch-in-Some.patch c.in_ok-patch-in-Some.ensures,
       equal-token c.args.bytes.now c.args.element.now s read c.in-Some.token.0 found,
     )
 

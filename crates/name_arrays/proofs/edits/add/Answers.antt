@@ -16,18 +16,18 @@ with_reference-requires c =
 pub with_new-requires : goal.with_new-requires
 with_new-requires c = any_size (named_array c.in_ok-names.names.slots c.in_ok-names.names.part) c.in_ok-names.names.sound _
 
-pub returns-in_err-splice-in-Some : goal.returns-in_err-splice-in-Some
-returns-in_err-splice-in-Some c =
+pub returns-in_err-patch-in-Some : goal.returns-in_err-patch-in-Some
+returns-in_err-patch-in-Some c =
     let n = c.in_ok-names.names in
-    let fault = c.in_err-splice-in-Some.field-0.0 in
-    carried c.from_residual-in_err-splice-in-Some.result _ _ fault c.from_residual-in_err-splice-in-Some.ensures.1
-    (found_refused c.args.bytes.now n.slots n.part c.in_ok-names.ensures c.args.name.now c.args.part.now c.args.replace c.in-Some.token.0 (sym c.in-Some.ensures) n.sound fault c.in_err-splice-in-Some.ensures)
+    let fault = c.in_err-patch-in-Some.field-0.0 in
+    carried c.from_residual-in_err-patch-in-Some.result _ _ fault c.from_residual-in_err-patch-in-Some.ensures.1
+    (found_refused c.args.bytes.now n.slots n.part c.in_ok-names.ensures c.args.name.now c.args.part.now c.args.replace c.in-Some.token.0 (sym c.in-Some.ensures) n.sound fault c.in_err-patch-in-Some.ensures)
 
-pub returns-in_ok-splice-in-Some : goal.returns-in_ok-splice-in-Some
-returns-in_ok-splice-in-Some c =
+pub returns-in_ok-patch-in-Some : goal.returns-in_ok-patch-in-Some
+returns-in_ok-patch-in-Some c =
     let n = c.in_ok-names.names in
     let found = sym c.in-Some.ensures in (
-      found_replaced c.args.bytes.now n.slots n.part c.in_ok-names.ensures c.args.name.now c.args.part.now c.args.replace c.in-Some.token.0 found n.sound c.in_ok-splice-in-Some.splice c.in_ok-splice-in-Some.ensures,
+      found_replaced c.args.bytes.now n.slots n.part c.in_ok-names.ensures c.args.name.now c.args.part.now c.args.replace c.in-Some.token.0 found n.sound c.in_ok-patch-in-Some.patch c.in_ok-patch-in-Some.ensures,
       token_found c.args.bytes.now n.slots n.part c.in_ok-names.ensures c.args.name.now c.args.part.now c.args.replace c.in-Some.token.0 found,
     )
 

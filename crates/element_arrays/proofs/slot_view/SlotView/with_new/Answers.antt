@@ -76,20 +76,20 @@ appended c free =
     let head = c.args.head.now in let tail = c.args.tail.now in
     put-none s.more s.slots v c.from-at.result v.extra (coming head tail) (head ++ tail) c.array-array.ensures free (c.from-at.ensures ∙ c.len.ensures) (extra-slots s.more s.slots v c.array-array.ensures) (coming_is head tail)
 
-pub returns-in_err-splice-in-None : goal.returns-in_err-splice-in-None
-returns-in_err-splice-in-None c =
+pub returns-in_err-patch-in-None : goal.returns-in_err-patch-in-None
+returns-in_err-patch-in-None c =
     let s : Slotted = c.args.self.now in
-    let fault = c.in_err-splice-in-None.field-0.0 in
+    let fault = c.in_err-patch-in-None.field-0.0 in
     carried c.from_residual.result _ _ fault c.from_residual.ensures.1
-    (refuses s (with_new s.slots (c.args.head.now ++ c.args.tail.now)).0 _ fault (appended (goal.at.returns-in_err-splice-in-None c).After-from-at c.in-None.ensures) c.in_err-splice-in-None.ensures)
+    (refuses s (with_new s.slots (c.args.head.now ++ c.args.tail.now)).0 _ fault (appended (goal.at.returns-in_err-patch-in-None c).After-from-at c.in-None.ensures) c.in_err-patch-in-None.ensures)
 
-pub returns-in_ok-splice-in-None : goal.returns-in_ok-splice-in-None
-returns-in_ok-splice-in-None c =
+pub returns-in_ok-patch-in-None : goal.returns-in_ok-patch-in-None
+returns-in_ok-patch-in-None c =
     let s : Slotted = c.args.self.now in
     let bytes = c.args.head.now ++ c.args.tail.now in (
-      gives s (with_new s.slots bytes).0 c.array-array.result.now.array _ c.in_ok-splice-in-None.splice c.array-array.ensures
-          (appended (goal.at.returns-in_ok-splice-in-None c).After-from-at c.in-None.ensures)
-          c.in_ok-splice-in-None.ensures,
+      gives s (with_new s.slots bytes).0 c.array-array.result.now.array _ c.in_ok-patch-in-None.patch c.array-array.ensures
+          (appended (goal.at.returns-in_ok-patch-in-None c).After-from-at c.in-None.ensures)
+          c.in_ok-patch-in-None.ensures,
       token-none s.slots bytes c.len.result c.in-None.ensures c.len.ensures,
     )
 
@@ -106,19 +106,19 @@ reused c =
     let first = extra_put s.more s.slots v (first_token (drop 1 s.slots.free)) c.first_word-next.result.now is (c.first_word-next.ensures ∙ next.1) in
     put-some s.more s.slots v t at (extra_after v c.first_word-next.result.now) (coming head tail) (head ++ tail) is s.sound c.in-Some.ensures c.from-at-in-Some.ensures first (coming_is head tail)
 
-pub returns-in_err-splice-in-Some : goal.returns-in_err-splice-in-Some
-returns-in_err-splice-in-Some c =
+pub returns-in_err-patch-in-Some : goal.returns-in_err-patch-in-Some
+returns-in_err-patch-in-Some c =
     let s : Slotted = c.args.self.now in
-    let fault = c.in_err-splice-in-Some.field-0.0 in
-    carried c.from_residual-in_err-splice-in-Some.result _ _ fault c.from_residual-in_err-splice-in-Some.ensures.1
-    (refuses s (with_new s.slots (c.args.head.now ++ c.args.tail.now)).0 _ fault (reused (goal.at.returns-in_err-splice-in-Some c).After-first_word-next) c.in_err-splice-in-Some.ensures)
+    let fault = c.in_err-patch-in-Some.field-0.0 in
+    carried c.from_residual-in_err-patch-in-Some.result _ _ fault c.from_residual-in_err-patch-in-Some.ensures.1
+    (refuses s (with_new s.slots (c.args.head.now ++ c.args.tail.now)).0 _ fault (reused (goal.at.returns-in_err-patch-in-Some c).After-first_word-next) c.in_err-patch-in-Some.ensures)
 
-pub returns-in_ok-splice-in-Some : goal.returns-in_ok-splice-in-Some
-returns-in_ok-splice-in-Some c =
+pub returns-in_ok-patch-in-Some : goal.returns-in_ok-patch-in-Some
+returns-in_ok-patch-in-Some c =
     let s : Slotted = c.args.self.now in
     let bytes = c.args.head.now ++ c.args.tail.now in (
-      gives s (with_new s.slots bytes).0 c.array-array.result.now.array _ c.in_ok-splice-in-Some.splice c.array-array.ensures
-          (reused (goal.at.returns-in_ok-splice-in-Some c).After-first_word-next)
-          c.in_ok-splice-in-Some.ensures,
+      gives s (with_new s.slots bytes).0 c.array-array.result.now.array _ c.in_ok-patch-in-Some.patch c.array-array.ensures
+          (reused (goal.at.returns-in_ok-patch-in-Some c).After-first_word-next)
+          c.in_ok-patch-in-Some.ensures,
       token-some s.slots bytes c.in-Some.token.0 c.in-Some.ensures,
     )
