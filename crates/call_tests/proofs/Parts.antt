@@ -6,7 +6,7 @@ use Rattle.vm_blocks.specs.Changes.{after_change, directed, directed_part}
 use Rattle.vm_blocks.specs.Preparing.{CanApplyByHandle, CanApplyAllByHandle}
 use Rattle.vm_blocks.specs.declared.change.Change.{Change}
 use Rattle.vm_blocks.specs.declared.change.Change.TheVariants as changes
-use Rattle.vm_blocks.specs.declared.change.Direction.{Direction}
+use Rattle.chunk_edits.specs.declared.direction.Direction.{Direction}
 use Rattle.vm_blocks.specs.declared.change.PartChange.{PartChange}
 use Rattle.vm_blocks.proofs.Preparing.{part_live_on, turned_of_part}
 

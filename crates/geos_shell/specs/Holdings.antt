@@ -10,7 +10,7 @@ use Rattle.vm_file.specs.Disk.{Disk, MayCommit, IsCrashConsistent, HasSequence, 
 use Rattle.vm_file.specs.Documents.{Documents}
 use Rattle.undo_log.specs.Sessions.{SessionState, IsExact, machine_of, failed_since}
 use Rattle.undo_log.specs.Turning.{IsSure, abandon_fault, busy_fault}
-use Rattle.vm_blocks.specs.declared.change.Direction.TheVariants.{Forwards, Backwards}
+use Rattle.chunk_edits.specs.declared.direction.Direction.TheVariants.{Forwards, Backwards}
 
 -- a session, the target of a save-as while one is left, and the store that a save-as went away from, where it was put aside
 pub record Holding (S : Type 0) : Type 0 where

@@ -13,8 +13,8 @@ use Rattle.geos_model.specs.declared.command.Edit.{Edit}
 use Rattle.geos_model.specs.declared.command.Command.TheVariants as commands
 use Rattle.vm_blocks.specs.Changes.{after_change, reversed}
 use Rattle.vm_blocks.specs.declared.change.Change.{Change}
-use Rattle.vm_blocks.specs.declared.change.Direction.{Direction}
-use Rattle.vm_blocks.specs.declared.change.Direction.TheVariants.{Forwards, Backwards}
+use Rattle.chunk_edits.specs.declared.direction.Direction.{Direction}
+use Rattle.chunk_edits.specs.declared.direction.Direction.TheVariants.{Forwards, Backwards}
 use Rattle.doc_edits.specs.Planning.{change_cost, Plans}
 use Rattle.undo_log.specs.Logging.{AreExclusive, Log, after_all, after_entry, all_changes, changes_cost, closed_with, entry_cost, kind_of_entry, step, steps, turned_over, with_change}
 use Rattle.undo_log.specs.Sessions.{opposite, AreSteps}

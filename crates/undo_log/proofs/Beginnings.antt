@@ -6,7 +6,7 @@ use Rattle.geos_model.specs.Document.{Document, IsValid}
 use Rattle.geos_model.specs.File.{stands}
 use Rattle.geos_model.specs.Machine.{opened_machine}
 use Rattle.vm_store.specs.Facts.{StoreFacts, IsTimely}
-use Rattle.vm_blocks.specs.declared.change.Direction.TheVariants.{Backwards, Forwards}
+use Rattle.chunk_edits.specs.declared.direction.Direction.TheVariants.{Backwards, Forwards}
 use Rattle.vm_file.specs.Documents.{Documents, sequence_in}
 use Rattle.vm_file.specs.Disk.{FileState}
 use Rattle.vm_blocks.specs.Committing.{IsSavedAs}

@@ -31,7 +31,7 @@ use Rattle.vm_blocks.specs.Keeping.{IsHonest, KeepsBlocks, IsEnvironmentFault, i
 use Rattle.vm_blocks.specs.Preparing.{AreUnlocked, AllowsChange, IsInMemory, IsShutOut, CanCarryOut, CantPrepare, IsApplied}
 use Rattle.vm_blocks.specs.declared.change.Change.{Change}
 use Rattle.vm_blocks.specs.declared.change.Change.TheVariants as changes
-use Rattle.vm_blocks.specs.declared.change.Direction.TheVariants.{Backwards}
+use Rattle.chunk_edits.specs.declared.direction.Direction.TheVariants.{Backwards}
 use Rattle.vm_blocks.proofs.KeepingLaws.{honest-steady, keeps-passes, keeps-unless_corrupt, keeps-frames, keeps-locks, lacks-damaged, lacks-later, loaded-resident, resident-open}
 use Rattle.vm_blocks.proofs.Preparing.{made_on}
 use Rattle.doc_edits.specs.Building.{is_of_chain}

@@ -12,7 +12,7 @@ use Rattle.block_cache.specs.State.{CacheState}
 use Rattle.vm_blocks.specs.Changes.{directed}
 use Rattle.vm_blocks.specs.Preparing.{CanApplyAllByHandle, AreApplied}
 use Rattle.vm_blocks.specs.declared.change.Change.{Change}
-use Rattle.vm_blocks.specs.declared.change.Direction.TheVariants.{Forwards, Backwards}
+use Rattle.chunk_edits.specs.declared.direction.Direction.TheVariants.{Forwards, Backwards}
 use Rattle.undo_log.specs.Logging.{AreExclusive, IsHead, Log, after_all, all_changes, before, changes_in, closed_with, group_of, open_changes, newest_redone, steps, to_redo, to_undo, turned_over, newest_undone, with_group_closed}
 use Rattle.undo_log.specs.Sessions.{SessionState, machine_of, CanApplyBothByHandle, AreSteps, IsExact}
 use Rattle.undo_log.specs.Turning.{IsEntryApplied}

@@ -14,7 +14,7 @@ use Rattle.vm_store.specs.Facts.{StoreFacts, FailedSince, raised}
 use Rattle.vm_file.specs.Disk.{SameUnlessCorrupt, MarkSameUnlessCorrupt, KeepsCommitted}
 use Rattle.block_cache.specs.State.{CacheState, KeepsLocks}
 use Rattle.vm_blocks.specs.Keeping.{KeepsBlocks, IsEnvironmentFault}
-use Rattle.vm_blocks.specs.declared.change.Direction.TheVariants.{Forwards, Backwards}
+use Rattle.chunk_edits.specs.declared.direction.Direction.TheVariants.{Forwards, Backwards}
 use Rattle.vm_blocks.proofs.KeepingLaws.{keeps-refl, keeps-passes, keeps-unless_corrupt, keeps-frames, keeps-locks, lacks-cases}
 use Rattle.undo_log.specs.Logging.{Log, before, group_of, steps, to_redo, to_undo}
 use Rattle.undo_log.specs.Sessions.{SessionState, cache_of, locks_in, machine_of, failed_since, CanApplyBothByHandle, AreSteps, IsExact, KeepsSession}

@@ -2,7 +2,7 @@
 use Rattle.std.proofs.Common.{◌≡◌, suc, List, [], ◌∷◌, ◌++◌, length, reverse, refl, ap, ◌∙◌}
 use Rattle.std.proofs.lemmas.List.{append_assoc, reverse-append}
 use Rattle.geos_model.specs.Document.{Document}
-use Rattle.vm_blocks.specs.declared.change.Direction.{Direction}
+use Rattle.chunk_edits.specs.declared.direction.Direction.{Direction}
 use Rattle.undo_log.specs.Logging.{after_entry, steps}
 use Rattle.undo_log.specs.declared.entry.LogEntry.{LogEntry}
 

@@ -5,8 +5,8 @@ use Rattle.geos_model.specs.Document.{Document, IsValid}
 use Rattle.geos_model.proofs.ValidSteps.{AreValid, valid-push, valid-none}
 use Rattle.vm_blocks.specs.Changes.{after_change, reversed, directed, after_directed, CanApply}
 use Rattle.vm_blocks.specs.declared.change.Change.{Change}
-use Rattle.vm_blocks.specs.declared.change.Direction.{Direction}
-use Rattle.vm_blocks.specs.declared.change.Direction.TheVariants.{Forwards, Backwards}
+use Rattle.chunk_edits.specs.declared.direction.Direction.{Direction}
+use Rattle.chunk_edits.specs.declared.direction.Direction.TheVariants.{Forwards, Backwards}
 use Rattle.vm_blocks.proofs.ChangeLaws.{change_back, flip_twice}
 use Rattle.undo_log.specs.Logging.{Log, after_all, after_entry, all_changes, before, open_changes, step, steps, to_redo, to_undo, turned_over}
 use Rattle.undo_log.specs.Sessions.{opposite, CanApplyAll, AreSteps}

@@ -21,8 +21,8 @@ use Rattle.vm_blocks.specs.Keeping.{IsEnvironmentFault, is_full}
 use Rattle.vm_blocks.specs.Preparing.{AllowAll, AreUnlocked, CantPrepareAll, IsShutOut, CantPrepare, AreApplied}
 use Rattle.vm_blocks.specs.declared.change.Change.{Change}
 use Rattle.vm_blocks.specs.declared.change.Change.TheVariants as changes
-use Rattle.vm_blocks.specs.declared.change.Direction.{Direction}
-use Rattle.vm_blocks.specs.declared.change.Direction.TheVariants.{Forwards, Backwards}
+use Rattle.chunk_edits.specs.declared.direction.Direction.{Direction}
+use Rattle.chunk_edits.specs.declared.direction.Direction.TheVariants.{Forwards, Backwards}
 use Rattle.vm_blocks.proofs.KeepingLaws.{honest-steady, open-shut}
 use Rattle.vm_blocks.proofs.Preparing.{applies_takes}
 use Rattle.doc_edits.specs.Planning.{kind_of_change}

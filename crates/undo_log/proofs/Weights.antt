@@ -13,8 +13,8 @@ use Rattle.vm_blocks.specs.declared.change.Content.{Content}
 use Rattle.vm_blocks.specs.declared.change.Content.TheVariants as contents
 use Rattle.vm_blocks.specs.declared.change.PartChange.{PartChange}
 use Rattle.vm_blocks.specs.declared.change.PartChange.TheVariants as parts
-use Rattle.vm_blocks.specs.declared.change.Direction.{Direction}
-use Rattle.vm_blocks.specs.declared.change.Direction.TheVariants.{Forwards, Backwards}
+use Rattle.chunk_edits.specs.declared.direction.Direction.{Direction}
+use Rattle.chunk_edits.specs.declared.direction.Direction.TheVariants.{Forwards, Backwards}
 use Rattle.doc_edits.specs.Planning.{part_cost, change_cost}
 use Rattle.vm_blocks.specs.Changes.{after_directed}
 use Rattle.undo_log.specs.Logging.{Log, after_all, all_changes, before, changes_cost, entry_weight, group_of, open_changes, step, steps, to_redo, to_undo, total_weight}

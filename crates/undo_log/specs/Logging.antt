@@ -8,8 +8,8 @@ use Rattle.geos_model.specs.declared.command.Kind.TheVariants.{Group}
 use Rattle.vm_blocks.specs.Changes.{after_directed, directed, weight}
 use Rattle.vm_blocks.specs.Preparing.{after_changes}
 use Rattle.vm_blocks.specs.declared.change.Change.{Change}
-use Rattle.vm_blocks.specs.declared.change.Direction.{Direction}
-use Rattle.vm_blocks.specs.declared.change.Direction.TheVariants.{Backwards}
+use Rattle.chunk_edits.specs.declared.direction.Direction.{Direction}
+use Rattle.chunk_edits.specs.declared.direction.Direction.TheVariants.{Backwards}
 use Rattle.doc_edits.specs.Planning.{kind_of_change, change_cost}
 use Rattle.undo_log.specs.declared.entry.LogEntry.{LogEntry}
 use Rattle.undo_log.specs.declared.entry.LogEntry.TheVariants as entries

@@ -17,8 +17,8 @@ use Rattle.vm_blocks.specs.Changes.{after_directed, directed, CanApply}
 use Rattle.vm_blocks.specs.Keeping.{KeepsBlocks}
 use Rattle.vm_blocks.specs.Preparing.{CanApplyAllByHandle}
 use Rattle.vm_blocks.specs.declared.change.Change.{Change}
-use Rattle.vm_blocks.specs.declared.change.Direction.{Direction}
-use Rattle.vm_blocks.specs.declared.change.Direction.TheVariants.{Forwards, Backwards}
+use Rattle.chunk_edits.specs.declared.direction.Direction.{Direction}
+use Rattle.chunk_edits.specs.declared.direction.Direction.TheVariants.{Forwards, Backwards}
 use Rattle.doc_edits.specs.LookUps.{Sees}
 use Rattle.undo_log.specs.Logging.{Log, before, group_of, steps, to_redo, to_undo, with_change}
 use Rattle.undo_log.specs.Making.{IsEditApplied}

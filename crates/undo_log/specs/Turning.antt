@@ -11,8 +11,8 @@ use Rattle.vm_blocks.specs.Changes.{directed, incoming_blocks}
 use Rattle.vm_blocks.specs.Keeping.{IsHonest, IsEnvironmentFault, is_loaded}
 use Rattle.vm_blocks.specs.Preparing.{CantPrepareAll, AllowsChange, IsInMemory, IsApplied, AreApplied}
 use Rattle.vm_blocks.specs.declared.change.Change.{Change}
-use Rattle.vm_blocks.specs.declared.change.Direction.{Direction}
-use Rattle.vm_blocks.specs.declared.change.Direction.TheVariants.{Forwards, Backwards}
+use Rattle.chunk_edits.specs.declared.direction.Direction.{Direction}
+use Rattle.chunk_edits.specs.declared.direction.Direction.TheVariants.{Forwards, Backwards}
 use Rattle.undo_log.specs.Logging.{after_entry, kind_of_entry, open_changes, turned_over}
 use Rattle.undo_log.specs.Sessions.{SessionState, cache_of, has_locks, IsExact}
 use Rattle.undo_log.specs.declared.entry.LogEntry.{LogEntry}

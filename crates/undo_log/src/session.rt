@@ -22,7 +22,7 @@ ghost use Rattle.vm_blocks.specs.Keeping.{IsHonest, IsEnvironmentFault, is_full,
 ghost use Rattle.vm_blocks.specs.Kinds.{IsWrongBlock};
 ghost use Rattle.vm_blocks.specs.Locking.{CantLock, GainsLock, HasNoLock, LosesLock};
 ghost use Rattle.vm_blocks.specs.Opening.{IsOpenedFrom, IsNotOpened, IsMadeIn, IsNotMade};
-ghost use Rattle.vm_blocks.specs.declared.change.Direction.TheVariants.{Backwards, Forwards};
+ghost use Rattle.chunk_edits.specs.declared.direction.Direction.TheVariants.{Backwards, Forwards};
 ghost use Rattle.vm_chains.specs.Answers.{IsWrongRoot};
 ghost use Rattle.doc_edits.specs.LookUps.{AfterLoan, LooksUp, answer_of};
 ghost use Rattle.doc_edits.specs.Planning.{IsChainEditFault, RefusesEdit};
@@ -64,7 +64,7 @@ impl<S: Store> Model for Session<S> {
     ghost coded = { session_code S.code };
 
     ghost use Rattle.std.specs.Prelude.{◌≡◌, None};
-    ghost use Rattle.vm_blocks.specs.declared.change.Direction.TheVariants.{Backwards};
+    ghost use Rattle.chunk_edits.specs.declared.direction.Direction.TheVariants.{Backwards};
     ghost use Rattle.undo_log.specs.Logging.{to_redo, to_undo};
     ghost use Rattle.undo_log.specs.Sessions.{CanApplyBothByHandle};
 

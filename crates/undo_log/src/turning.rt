@@ -4,7 +4,7 @@ ghost use Rattle.block_cache.specs.State.{locked_count};
 ghost use Rattle.vm_blocks.specs.Changes.{directed};
 ghost use Rattle.vm_blocks.specs.Keeping.{KeepsBlocks};
 ghost use Rattle.vm_blocks.specs.Preparing.{CanApplyAllByHandle, CantPrepareAll, AreApplied};
-ghost use Rattle.vm_blocks.specs.declared.change.Direction.TheVariants.{Backwards};
+ghost use Rattle.chunk_edits.specs.declared.direction.Direction.TheVariants.{Backwards};
 ghost use Rattle.undo_log.specs.Logging.{after_entry, changes_in};
 ghost use Rattle.undo_log.specs.Turning.{CanApplyEntry, CantApplyEntry, IsEntryApplied};
 

@@ -1,5 +1,5 @@
 -- A change of a valid document leaves a valid one, and the same change the other way round takes it back.
-use Rattle.std.proofs.Common.{◌≡◌, ◌≢◌, ◌≤◌, ◌+◌, ℕ, List, true, false, not, length, get_or, Option, Some, None, is_some, nat_cmp, refl, sym, ap, subst, ◌∙◌, arith}
+use Rattle.std.proofs.Common.{◌≡◌, ◌≢◌, ◌≤◌, ◌+◌, ℕ, List, true, false, not, length, get_or, Option, Some, None, is_some, nat_cmp, replicate, refl, sym, ap, subst, ◌∙◌, arith}
 use Rattle.std.proofs.lemmas.Bool.{and_parts, leb-true, le-leb, true≢false, not-true}
 use Rattle.std.proofs.lemmas.List.Elements.{All-map}
 use Rattle.std.specs.Option.{option_map_or}
@@ -16,8 +16,11 @@ use Rattle.geos_model.proofs.HeapTables.{live_handle}
 use Rattle.geos_model.proofs.BlockLists.{put_stands, put_valid, put_map_block}
 use Rattle.geos_model.proofs.Validity.{with_block-valid}
 use Rattle.geos_model.specs.declared.block.Attributes.{Attributes}
+use Rattle.chunk_edits.specs.Patching.{ArePiecesOf, patched, peak, reversed_pieces}
 use Rattle.chunk_edits.specs.Splicing.{OccursAt, forwards, backwards}
+use Rattle.chunk_edits.specs.declared.patch.Piece.{Piece}
 use Rattle.chunk_edits.specs.declared.splice.Splice.{Splice}
+use Rattle.chunk_edits.proofs.PatchingLemmas.{patch_leads_back, pieces_length, reversed_peak, reversed_twice}
 use Rattle.chunk_edits.proofs.SplicingLemmas.{leads_back}
 use Rattle.vm_file.specs.Members.{imaged_block, imaged_blocks}
 use Rattle.vm_file.specs.declared.member.Member.{Member}
@@ -27,8 +30,10 @@ use Rattle.vm_blocks.specs.declared.change.Content.{Content}
 use Rattle.vm_blocks.specs.declared.change.PartChange.{PartChange}
 use Rattle.vm_blocks.specs.declared.change.PartChange.TheVariants as parts
 use Rattle.vm_blocks.proofs.MapLemmas.{put_back, put_taken, taken_put}
+use Rattle.vm_blocks.proofs.PartLemmas.{patched_fits}
+use Rattle.vm_blocks.proofs.RoomLemmas.{put_again}
 use Rattle.vm_blocks.proofs.ManyBlocks.{All-from_map, taken_gone, taken_valid, in_and_out, out_and_in, out_handles}
-use Rattle.vm_blocks.specs.Changes.{content_bytes, attributes_for_kind, after_part, after_change, reversed_splice, reversed_part, reversed, IsFreeHandle, AreFree, CanRemoveAll, FitsRaw, FitsChunk, FitsNewChunk, HasChunk, HasAttributes, HasMap, CanApplyPart, CanApply, ChangeLaw, ReverseLaw}
+use Rattle.vm_blocks.specs.Changes.{content_bytes, attributes_for_kind, after_part, after_change, reversed_splice, reversed_part, reversed, IsFreeHandle, AreFree, CanRemoveAll, FitsRaw, FitsChunk, FitsPatch, FitsNewChunk, HasChunk, HasAttributes, HasMap, CanApplyPart, CanApply, ChangeLaw, ReverseLaw}
 use Rattle.vm_blocks.proofs.KindLemmas.{attributes_for_kind-same}
 
 -- A change of a document leads back.
@@ -164,6 +169,12 @@ module _ (d : Document) (b : ℕ) (u : Attributes) (m : ChunkMap) (there : get d
   chunk_fits : (c : ℕ) (s : Splice) (bytes : List ℕ) → get m c ≡ Some bytes → OccursAt bytes s.at s.old → fits_with m c (forwards s bytes) ≡ true → FitsChunk d b c s
   chunk_fits c s bytes is stands fits = record { heap = rw there refl; live = rw (there, is) refl; stands = rw (there, is) stands; fits = rw (there, is) fits }
 
+  patch_made : (c : ℕ) (ps : List Piece) (bytes : List ℕ) → get m c ≡ Some bytes → with_chunk d b c (patched ps (chunk_at d b c)) ≡ with_block d b (heap_block u (insert m c (patched ps bytes)))
+  patch_made c ps bytes is = rw (there, is) refl
+
+  patch_fits : (c : ℕ) (ps : List Piece) (bytes : List ℕ) → get m c ≡ Some bytes → ArePiecesOf ps bytes → fits_with m c (replicate (peak ps) 0) ≡ true → FitsPatch d b c ps
+  patch_fits c ps bytes is stands fits = record { heap = rw there refl; live = rw (there, is) refl; stands = rw (there, is) stands; fits = rw there fits }
+
   new_chunk_fits : (c : ℕ) (bytes : List ℕ) → is_chunk_handle c ≡ true → get m c ≡ None → fits_with m c bytes ≡ true → FitsNewChunk d b c bytes
   new_chunk_fits c bytes handle free fits = record { heap = rw there refl; handle = handle; free = rw there free; fits = rw there fits }
 
@@ -213,6 +224,38 @@ chunk_undone d b c s valid fits =
     (chunk_fits (with_block d b (heap_block u n)) b u n now c.0 (reversed_splice s) (forwards s bytes) is_now back.0 (fits_again m n c.0 (backwards s (forwards s bytes)) given heap))
     (splice_made (with_block d b (heap_block u n)) b u n now c.0 (reversed_splice s) (forwards s bytes) is_now ∙ heap_back d b u m there n _ given)
 
+-- other bytes of a chunk ask for the same room
+room_again : (m : ChunkMap) (c : ℕ) (bytes more : List ℕ) → fits_with m c more ≡ true → fits_with (insert m c bytes) c more ≡ true
+unfolding fits_with
+room_again m c bytes more room = ap fits (put_again m c bytes more) ∙ room
+
+patch_undone : (d : Document) (b : ℕ) (c : ChunkHandle) (ps : List Piece) → IsValid d → FitsPatch d b c.0 ps → PartUndone b (parts.Patch c ps) d
+patch_undone d b c ps valid fits =
+    let found = heap_at d b fits.heap in
+    let u : Attributes = found.0 in
+    let m : ChunkMap = found.1 in
+    let there : get d.blocks b ≡ Some (heap_block u m) = found.2 in
+    let heap : is_heap_map m ≡ true = (valid.blocks b (heap_block u m) there).body in
+    let live : contains_key m c.0 ≡ true = rw there at fits.live in
+    let chunk = some_bytes (get m c.0) live in
+    let bytes : List ℕ = chunk.0 in
+    let is : get m c.0 ≡ Some bytes = chunk.1 in
+    let stands : ArePiecesOf ps bytes = rw (there, is) at fits.stands in
+    let room : fits_with m c.0 (replicate (peak ps) 0) ≡ true = rw there at fits.fits in
+    let back = patch_leads_back ps bytes stands in
+    let made : List ℕ = patched ps bytes in
+    let n : ChunkMap = insert m c.0 made in
+    let is_now : get n c.0 ≡ Some made = get-put_same m c.0 made c.0 refl in
+    let given : insert n c.0 (patched (reversed_pieces ps) made) ≡ m = ap (insert n c.0) back.1 ∙ put_back m c.0 bytes made is in
+    let handle : is_chunk_handle c.0 ≡ true = live_handle m c.0 heap live in
+    let room_back : fits_with n c.0 (replicate (peak (reversed_pieces ps)) 0) ≡ true =
+    ap (λ (k : ℕ). fits_with n c.0 (replicate k 0)) (reversed_peak ps) ∙ room_again m c.0 made (replicate (peak ps) 0) room in
+    let now = heap_now d b u m there n in
+    part_undone b (parts.Patch c ps) d (with_block d b (heap_block u n)) (patch_made d b u m there c.0 ps bytes is)
+    (heap_valid d b u m there n valid (heap-insert m c.0 made heap handle (patched_fits m c.0 ps bytes heap handle (sym (pieces_length ps bytes stands)) room)))
+    (patch_fits (with_block d b (heap_block u n)) b u n now c.0 (reversed_pieces ps) made is_now back.0 room_back)
+    (patch_made (with_block d b (heap_block u n)) b u n now c.0 (reversed_pieces ps) made is_now ∙ heap_back d b u m there n _ given)
+
 chunk_in_undone : (d : Document) (b : ℕ) (c : ChunkHandle) (content : Content) → IsValid d → FitsNewChunk d b c.0 (content_bytes content) → PartUndone b (parts.ChunkIn c content) d
 chunk_in_undone d b c content valid fits =
     let found = heap_at d b fits.heap in
@@ -250,6 +293,7 @@ chunk_out_undone d b c content valid has =
 part_back : (b : ℕ) (p : PartChange) (d : Document) → IsValid d → CanApplyPart b p d → PartUndone b p d
 part_back b (parts.Raw s) d valid applies = raw_undone d b s valid applies
 part_back b (parts.Chunk c s) d valid applies = chunk_undone d b c s valid applies
+part_back b (parts.Patch c ps) d valid applies = patch_undone d b c ps valid applies
 part_back b (parts.ChunkIn c content) d valid applies = chunk_in_undone d b c content valid applies
 part_back b (parts.ChunkOut c content) d valid applies = chunk_out_undone d b c content valid applies
 
@@ -304,6 +348,7 @@ change_back (changes.Map old new) d valid applies = map_undone d old.0 new.0 val
 part_twice : (p : PartChange) → reversed_part (reversed_part p) ≡ p
 part_twice (parts.Raw s) = refl
 part_twice (parts.Chunk c s) = refl
+part_twice (parts.Patch c ps) = ap (parts.Patch c) (reversed_twice ps)
 part_twice (parts.ChunkIn c content) = refl
 part_twice (parts.ChunkOut c content) = refl
 

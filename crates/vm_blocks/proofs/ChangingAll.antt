@@ -17,7 +17,7 @@ use Rattle.vm_blocks.specs.Keeping.{KeepsBlocks, IsHonest, IsEnvironmentFault}
 use Rattle.vm_blocks.specs.Preparing.{AreUnlocked, IsShutOut, CantPrepare, IsApplied, after_changes, CanApplyAllByHandle, AllowAll, AreApplied, CantPrepareAll}
 use Rattle.vm_blocks.specs.declared.change.Change.{Change}
 use Rattle.vm_blocks.specs.declared.change.Change.TheVariants as changes
-use Rattle.vm_blocks.specs.declared.change.Direction.{Direction}
+use Rattle.chunk_edits.specs.declared.direction.Direction.{Direction}
 use Rattle.vm_blocks.proofs.KeepingLaws.{keeps-by, keeps-passes, lacks-since, none-open, shut-full, steady-honest, steady-on}
 use Rattle.vm_blocks.proofs.Preparing.{all_listed_on, made_on}
 use Rattle.vm_blocks.proofs.Turned.{lacks_of}

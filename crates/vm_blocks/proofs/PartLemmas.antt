@@ -1,19 +1,27 @@
 -- What applies to a document: a change of a part is one of a live block, whose body takes it.
-use Rattle.std.proofs.Common.{◌≡◌, ℕ, List, true, false, not, Option, Some, None, is_some, refl}
+use Rattle.std.proofs.Common.{◌≡◌, ℕ, List, true, false, not, length, replicate, Option, Some, None, is_some, refl, sym, arith}
 use Rattle.std.proofs.lemmas.Bool.{le-leb}
+use Rattle.std.proofs.lemmas.List.{length-replicate}
 use Rattle.std.specs.Option.{option_map_or}
 use Rattle.std.specs.FinMap.{get}
-use Rattle.geos_model.specs.Heap.{chunk_bytes}
+use Rattle.geos_model.specs.Heap.{ChunkMap, chunk_bytes, fits_with, is_chunk_handle, is_heap_map}
 use Rattle.geos_model.specs.Document.{Block, Document, is_heap_body, is_live, is_valid_body, with_block}
 use Rattle.geos_model.specs.declared.command.Body.{Body}
 use Rattle.geos_model.specs.declared.command.Body.TheVariants.{Raw, Heap}
 use Rattle.geos_model.proofs.HeapTables.{live_handle}
 use Rattle.geos_model.proofs.HeapEdits.{heap-insert, heap-remove}
 use Rattle.geos_model.specs.declared.block.Attributes.{Attributes}
+use Rattle.geos_model.specs.declared.handle.ChunkHandle.{ChunkHandle}
+use Rattle.chunk_edits.specs.Patching.{directed_pieces, patched, peak, total_taken}
 use Rattle.chunk_edits.specs.Splicing.{forwards}
+use Rattle.chunk_edits.specs.declared.direction.Direction.{Direction}
+use Rattle.chunk_edits.specs.declared.direction.Direction.TheVariants.{Forwards, Backwards}
+use Rattle.chunk_edits.specs.declared.patch.Piece.{Piece}
+use Rattle.chunk_edits.proofs.PatchingLemmas.{given_le_peak, patched_length_of, pieces_length, reversed_peak}
 use Rattle.vm_blocks.specs.declared.change.PartChange.{PartChange}
 use Rattle.vm_blocks.specs.declared.change.PartChange.TheVariants as parts
-use Rattle.vm_blocks.specs.Changes.{content_bytes, after_part, CanApplyPart}
+use Rattle.vm_blocks.proofs.RoomLemmas.{fits_fewer}
+use Rattle.vm_blocks.specs.Changes.{content_bytes, after_part, directed_part, CanApplyPart}
 use Rattle.vm_blocks.specs.Parts.{AllowsPart, body_after_part}
 
 -- a block of either kind is live
@@ -28,6 +36,7 @@ heap_live (Some block) heap = refl
 pub part_live : (b : ℕ) (p : PartChange) (d : Document) → CanApplyPart b p d → is_live d b ≡ true
 part_live b (parts.Raw s) d fits = raw_live (get d.blocks b) fits.raw
 part_live b (parts.Chunk c s) d fits = heap_live (get d.blocks b) fits.heap
+part_live b (parts.Patch c ps) d fits = heap_live (get d.blocks b) fits.heap
 part_live b (parts.ChunkIn c content) d fits = heap_live (get d.blocks b) fits.heap
 part_live b (parts.ChunkOut c content) d has = heap_live (get d.blocks b) has.heap
 
@@ -38,6 +47,8 @@ module _ (d : Document) (b : ℕ) (u : Attributes) where
   takes (parts.Raw s) (Heap m) is fits = let no : false ≡ true = rw is at fits.raw in cc
   takes (parts.Chunk c s) (Raw bytes) is fits = let no : false ≡ true = rw is at fits.heap in cc
   takes (parts.Chunk c s) (Heap m) is fits = record { live = rw is at fits.live; within = rw is at fits.stands.within; fits = rw is at fits.fits }
+  takes (parts.Patch c ps) (Raw bytes) is fits = let no : false ≡ true = rw is at fits.heap in cc
+  takes (parts.Patch c ps) (Heap m) is fits = record { live = rw is at fits.live; size = sym (pieces_length ps _ (rw is at fits.stands)); fits = rw is at fits.fits }
   takes (parts.ChunkIn c content) (Raw bytes) is fits = let no : false ≡ true = rw is at fits.heap in cc
   takes (parts.ChunkIn c content) (Heap m) is fits = record { handle = fits.handle; free = rw is at fits.free; fits = rw is at fits.fits }
   takes (parts.ChunkOut c content) (Raw bytes) is has = let no : false ≡ true = rw is at has.heap in cc
@@ -53,6 +64,7 @@ part_takes b p d block is applies = takes d b block.attributes p block.body is a
 pub part_is : (b : ℕ) (p : PartChange) (d : Document) (block : Block) → get d.blocks b ≡ Some block → after_part b p d ≡ option_map_or (λ x. with_block d b (record x { body = body_after_part p x.body })) (get d.blocks b) d
 part_is b (parts.Raw s) d block is = rw is refl
 part_is b (parts.Chunk c s) d block is = rw is refl
+part_is b (parts.Patch c ps) d block is = rw is refl
 part_is b (parts.ChunkIn c content) d block is = rw is refl
 part_is b (parts.ChunkOut c content) d block is = rw is refl
 
@@ -63,17 +75,38 @@ part_kind (parts.Raw s) (Raw bytes) takes = refl
 part_kind (parts.Raw s) (Heap m) takes = absurd takes
 part_kind (parts.Chunk c s) (Raw bytes) takes = absurd takes
 part_kind (parts.Chunk c s) (Heap m) takes = refl
+part_kind (parts.Patch c ps) (Raw bytes) takes = absurd takes
+part_kind (parts.Patch c ps) (Heap m) takes = refl
 part_kind (parts.ChunkIn c content) (Raw bytes) takes = absurd takes
 part_kind (parts.ChunkIn c content) (Heap m) takes = refl
 part_kind (parts.ChunkOut c content) (Raw bytes) takes = absurd takes
 part_kind (parts.ChunkOut c content) (Heap m) takes = refl
+
+-- what a patch makes of a chunk fits where there is room for as many bytes as there are on the way
+pub patched_fits : (m : ChunkMap) (c : ℕ) (ps : List Piece) (bytes : List ℕ) → is_heap_map m ≡ true → is_chunk_handle c ≡ true → total_taken ps ≡ length bytes → fits_with m c (replicate (peak ps) 0) ≡ true → fits_with m c (patched ps bytes) ≡ true
+patched_fits m c ps bytes heap handle size room =
+    fits_fewer m c (replicate (peak ps) 0) (patched ps bytes) heap handle room (omega (arith, patched_length_of ps bytes size, given_le_peak ps, length-replicate {A = ℕ} (peak ps) 0))
 
 pub part_valid : (p : PartChange) (body : Body) → is_valid_body body ≡ true → AllowsPart p body → is_valid_body (body_after_part p body) ≡ true
 part_valid (parts.Raw s) (Raw bytes) valid takes = le-leb _ _ takes.room
 part_valid (parts.Raw s) (Heap m) valid takes = absurd takes
 part_valid (parts.Chunk c s) (Raw bytes) valid takes = absurd takes
 part_valid (parts.Chunk c s) (Heap m) valid takes = heap-insert m c.0 (forwards s (chunk_bytes m c.0)) valid (live_handle m c.0 valid takes.live) takes.fits
+part_valid (parts.Patch c ps) (Raw bytes) valid takes = absurd takes
+part_valid (parts.Patch c ps) (Heap m) valid takes =
+    let handle = live_handle m c.0 valid takes.live in
+    heap-insert m c.0 (patched ps (chunk_bytes m c.0)) valid handle (patched_fits m c.0 ps (chunk_bytes m c.0) valid handle takes.size takes.fits)
 part_valid (parts.ChunkIn c content) (Raw bytes) valid takes = absurd takes
 part_valid (parts.ChunkIn c content) (Heap m) valid takes = heap-insert m c.0 (content_bytes content) valid takes.handle takes.fits
 part_valid (parts.ChunkOut c content) (Raw bytes) valid takes = absurd takes
 part_valid (parts.ChunkOut c content) (Heap m) valid takes = heap-remove m c.0 valid
+
+-- A patch in a direction is the one of the pieces in that direction.
+
+pub directed_patch : (direction : Direction) (c : ChunkHandle) (ps : List Piece) → directed_part direction (parts.Patch c ps) ≡ parts.Patch c (directed_pieces direction ps)
+directed_patch Forwards c ps = refl
+directed_patch Backwards c ps = refl
+
+pub directed_peak : (direction : Direction) (ps : List Piece) → peak (directed_pieces direction ps) ≡ peak ps
+directed_peak Forwards ps = refl
+directed_peak Backwards ps = reversed_peak ps

@@ -22,8 +22,8 @@ use Rattle.vm_blocks.specs.declared.change.Change.{Change}
 use Rattle.vm_blocks.specs.declared.change.Change.TheVariants as changes
 use Rattle.geos_model.specs.declared.handle.VmHandle.{VmHandle}
 use Rattle.geos_model.specs.declared.block.Attributes.{Attributes}
-use Rattle.vm_blocks.specs.declared.change.Direction.{Direction}
-use Rattle.vm_blocks.specs.declared.change.Direction.TheVariants.{Forwards, Backwards}
+use Rattle.chunk_edits.specs.declared.direction.Direction.{Direction}
+use Rattle.chunk_edits.specs.declared.direction.Direction.TheVariants.{Forwards, Backwards}
 use Rattle.vm_blocks.specs.declared.change.PartChange.{PartChange}
 use Rattle.vm_blocks.specs.declared.change.PartChange.TheVariants as parts
 use Rattle.vm_blocks.proofs.KeepingLaws.{keeps-unless_corrupt, keeps-frames, keeps-locks, keeps-passes, keeps-same, lacks-memory}
@@ -132,6 +132,7 @@ taken_all_alike a b (h ∷ hs) unless_corrupt = taken_all_alike (without_block a
 part_alike : (a b : Document) (h : ℕ) (p : PartChange) → Alike a b → Alike (after_part h p a) (after_part h p b)
 part_alike a b h (parts.Raw s) unless_corrupt = put_alike a b h _ _ (unless_corrupt.attributes h) refl unless_corrupt
 part_alike a b h (parts.Chunk c s) unless_corrupt = put_alike a b h _ _ (unless_corrupt.attributes h) refl unless_corrupt
+part_alike a b h (parts.Patch c ps) unless_corrupt = put_alike a b h _ _ (unless_corrupt.attributes h) refl unless_corrupt
 part_alike a b h (parts.ChunkIn c content) unless_corrupt = put_alike a b h _ _ (unless_corrupt.attributes h) refl unless_corrupt
 part_alike a b h (parts.ChunkOut c content) unless_corrupt = put_alike a b h _ _ (unless_corrupt.attributes h) refl unless_corrupt
 
@@ -199,6 +200,7 @@ takes_body d h p body is takes = subst (AllowsPart p) (body_of_option (get d.blo
 part_live_made : (h : ℕ) (p : PartChange) (d : Document) → is_live (after_part h p d) h ≡ true
 part_live_made h (parts.Raw s) d = ap is_some (get-put_same d.blocks h _ h refl)
 part_live_made h (parts.Chunk c s) d = ap is_some (get-put_same d.blocks h _ h refl)
+part_live_made h (parts.Patch c ps) d = ap is_some (get-put_same d.blocks h _ h refl)
 part_live_made h (parts.ChunkIn c content) d = ap is_some (get-put_same d.blocks h _ h refl)
 part_live_made h (parts.ChunkOut c content) d = ap is_some (get-put_same d.blocks h _ h refl)
 
@@ -212,6 +214,7 @@ put_live d h block k live = elim (cases_eq k h) as (λ _. is_live (with_block d 
 pub part_live_on : (h : ℕ) (p : PartChange) (d : Document) (k : ℕ) → is_live d k ≡ true → is_live (after_part h p d) k ≡ true
 part_live_on h (parts.Raw s) d k live = put_live d h _ k live
 part_live_on h (parts.Chunk c s) d k live = put_live d h _ k live
+part_live_on h (parts.Patch c ps) d k live = put_live d h _ k live
 part_live_on h (parts.ChunkIn c content) d k live = put_live d h _ k live
 part_live_on h (parts.ChunkOut c content) d k live = put_live d h _ k live
 

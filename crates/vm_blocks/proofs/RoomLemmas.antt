@@ -1,5 +1,5 @@
 -- Room for bytes under any handle is a matter of how many they are, and no heap has room for very many.
-use Rattle.std.proofs.Common.{◌≡◌, ℕ, ◌+◌, ◌≤◌, Ordering, Less, Equal, Greater, Bool, true, false, cond, List, [], ◌∷◌, ◌++◌, map, length, drop, Option, Some, unwrap_or, nat_le, nat_cmp, sum_by, refl, sym, ap, ◌∙◌, arith}
+use Rattle.std.proofs.Common.{◌≡◌, ℕ, ◌+◌, ◌≤◌, Ordering, Less, Equal, Greater, Bool, true, false, cond, List, [], ◌∷◌, ◌++◌, map, length, drop, Option, Some, is_some, unwrap_or, nat_le, nat_cmp, sum_by, refl, sym, ap, ◌∙◌, arith}
 use Rattle.std.proofs.lemmas.Bool.{leb-true, eq-eqb}
 use Rattle.std.proofs.lemmas.List.{append-nil, drop_all}
 use Rattle.std.proofs.lemmas.List.Sums.{sum_by-cons}
@@ -7,8 +7,9 @@ use Rattle.std.specs.Ordering.{eq_by_cmp}
 use Rattle.std.specs.Cmp.{nat_cmp_total, unsigned_tied}
 use Rattle.std.specs.List.{splice}
 use Rattle.std.specs.FinMap.{entries, get, insert, entries-insert, get-insert, same_map, nat_cmp-IsAntisymmetric, put}
-use Rattle.geos_model.specs.Heap.{ChunkMap, chunk_bytes, space_of, table_len, need, fits, fits_with, capacity}
-use Rattle.geos_model.proofs.HeapTables.{space_of_ge}
+use Rattle.geos_model.specs.Heap.{ChunkMap, chunk_bytes, space_of, table_len, need, fits, fits_with, is_chunk_handle, is_heap_map, capacity}
+use Rattle.geos_model.proofs.HeapEdits.{heap-insert}
+use Rattle.geos_model.proofs.HeapTables.{fits_with-fewer, space_of_ge}
 
 abbrev space : List (ℕ × List ℕ) → ℕ
 space es = sum_by (λ c. space_of (length c.1)) es
@@ -78,11 +79,19 @@ over : (t : Bool) (a b : List ℕ) (o : Option (List ℕ)) → cond t (Some b) (
 over true a b o = refl
 over false a b o = refl
 
-put_again : (m : ChunkMap) (h : ℕ) (a b : List ℕ) → insert (insert m h a) h b ≡ insert m h b
+pub put_again : (m : ChunkMap) (h : ℕ) (a b : List ℕ) → insert (insert m h a) h b ≡ insert m h b
 put_again m h a b =
     same_map nat_cmp_total nat_cmp-IsAntisymmetric _ _ (λ q.
     get-insert nat_cmp_total (insert m h a) h b q ∙ ap (cond (eq_by_cmp nat_cmp q h) (Some b)) (get-insert nat_cmp_total m h a q)
     ∙ over (eq_by_cmp nat_cmp q h) a b (get m q) ∙ sym (get-insert nat_cmp_total m h b q))
+
+-- fewer bytes fit where more do
+pub fits_fewer : (m : ChunkMap) (h : ℕ) (a b : List ℕ) → is_heap_map m ≡ true → is_chunk_handle h ≡ true → fits_with m h a ≡ true → length b ≤ length a → fits_with m h b ≡ true
+unfolding fits_with
+fits_fewer m h a b heap handle room fewer =
+    let put : get (insert m h a) h ≡ Some a = get-put m h a in
+    let few : length b ≤ length (chunk_bytes (insert m h a) h) = omega (arith, fewer, ap length (bytes-put m h a)) in
+    ap fits (sym (put_again m h a b)) ∙ fits_with-fewer (insert m h a) h b (heap-insert m h a heap handle room) (ap is_some put) few
 
 pub filled : (m : ChunkMap) (h : ℕ) (a b : List ℕ) → length a ≡ length b → insert (insert m h a) h (splice (chunk_bytes (insert m h a) h) 0 (0 + length b) b) ≡ insert m h b
 filled m h a b same =

@@ -1,8 +1,10 @@
 -- When a part of a body can be changed.
-use Rattle.std.specs.Prelude.{◌≡◌, ◌≤◌, ◌+◌, ℕ, List, IsTrue, None, length}
+use Rattle.std.specs.Prelude.{◌≡◌, ◌≤◌, ◌+◌, ℕ, List, IsTrue, None, length, replicate}
 use Rattle.std.specs.FinMap.{get, contains_key}
 use Rattle.geos_model.specs.Heap.{ChunkMap, chunk_bytes, fits_with, is_chunk_handle, capacity}
+use Rattle.chunk_edits.specs.Patching.{peak, total_taken}
 use Rattle.chunk_edits.specs.Splicing.{forwards}
+use Rattle.chunk_edits.specs.declared.patch.Piece.{Piece}
 use Rattle.chunk_edits.specs.declared.splice.Splice.{Splice}
 
 -- a raw body has the part that is replaced, and room for what comes
@@ -15,6 +17,12 @@ pub record AllowsChunk (m : ChunkMap) (c : ℕ) (s : Splice) : Type 0 where
   pub live : IsTrue (contains_key m c)
   pub within : s.at + length s.old ≤ length (chunk_bytes m c)
   pub fits : IsTrue (fits_with m c (forwards s (chunk_bytes m c)))
+
+-- a chunk is of as many bytes as the pieces, and its heap has room for as many as there are on the way
+pub record AllowsPatch (m : ChunkMap) (c : ℕ) (ps : List Piece) : Type 0 where
+  pub live : IsTrue (contains_key m c)
+  pub size : total_taken ps ≡ length (chunk_bytes m c)
+  pub fits : IsTrue (fits_with m c (replicate (peak ps) 0))
 
 -- there is room for a chunk of these bytes under a handle that is free
 pub record AllowsNewChunk (m : ChunkMap) (c : ℕ) (bytes : List ℕ) : Type 0 where

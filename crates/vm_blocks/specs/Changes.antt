@@ -7,7 +7,11 @@ use Rattle.geos_model.specs.Document.{Block, Document, IsValid, is_vm_handle, is
 use Rattle.geos_model.specs.ElementArray.{all_distinct}
 use Rattle.geos_model.specs.Meaning.{chunk_at, with_chunk, without_chunk}
 use Rattle.geos_model.specs.declared.command.Body.TheVariants.{Raw}
+use Rattle.chunk_edits.specs.Patching.{ArePiecesOf, held, patched, peak, reversed_pieces}
 use Rattle.chunk_edits.specs.Splicing.{OccursAt, forwards}
+use Rattle.chunk_edits.specs.declared.direction.Direction.{Direction}
+use Rattle.chunk_edits.specs.declared.direction.Direction.TheVariants.{Forwards, Backwards}
+use Rattle.chunk_edits.specs.declared.patch.Piece.{Piece}
 use Rattle.chunk_edits.specs.declared.splice.Splice.{Splice}
 use Rattle.geos_model.specs.Cost.{images_length}
 use Rattle.geos_model.specs.declared.block.Attributes.{Attributes}
@@ -18,8 +22,6 @@ use Rattle.vm_blocks.specs.declared.change.PartChange.{PartChange}
 use Rattle.vm_blocks.specs.declared.change.PartChange.TheVariants as parts
 use Rattle.vm_blocks.specs.declared.change.Content.{Content}
 use Rattle.vm_blocks.specs.declared.change.Content.TheVariants as contents
-use Rattle.vm_blocks.specs.declared.change.Direction.{Direction}
-use Rattle.vm_blocks.specs.declared.change.Direction.TheVariants.{Forwards, Backwards}
 
 -- the bytes of a chunk that comes in or goes
 abbrev pub content_bytes : Content → List ℕ
@@ -36,6 +38,7 @@ attributes_for_kind false a = record a { heap_type = 0 }
 abbrev pub after_part : ℕ → PartChange → Document → Document
 after_part b (parts.Raw s) d = with_body d b (Raw (forwards s (raw_bytes_of d b)))
 after_part b (parts.Chunk c s) d = with_chunk d b c.0 (forwards s (chunk_at d b c.0))
+after_part b (parts.Patch c ps) d = with_chunk d b c.0 (patched ps (chunk_at d b c.0))
 after_part b (parts.ChunkIn c content) d = with_chunk d b c.0 (content_bytes content)
 after_part b (parts.ChunkOut c content) d = without_chunk d b c.0
 
@@ -54,6 +57,7 @@ reversed_splice s = record { at = s.at; old = s.new; new = s.old }
 abbrev pub reversed_part : PartChange → PartChange
 reversed_part (parts.Raw s) = parts.Raw (reversed_splice s)
 reversed_part (parts.Chunk c s) = parts.Chunk c (reversed_splice s)
+reversed_part (parts.Patch c ps) = parts.Patch c (reversed_pieces ps)
 reversed_part (parts.ChunkIn c content) = parts.ChunkOut c content
 reversed_part (parts.ChunkOut c content) = parts.ChunkIn c content
 
@@ -116,6 +120,13 @@ pub record FitsChunk (d : Document) (b c : ℕ) (s : Splice) : Type 0 where
   pub stands : OccursAt (chunk_at d b c) s.at s.old
   pub fits : fits_with (chunks_of d b) c (forwards s (chunk_at d b c)) ≡ true
 
+-- the bytes of a chunk are those of the pieces, and there is room for as many as there are on the way
+pub record FitsPatch (d : Document) (b c : ℕ) (ps : List Piece) : Type 0 where
+  pub heap : is_heap d b ≡ true
+  pub live : contains_key (chunks_of d b) c ≡ true
+  pub stands : ArePiecesOf ps (chunk_at d b c)
+  pub fits : fits_with (chunks_of d b) c (replicate (peak ps) 0) ≡ true
+
 -- a handle that a chunk can have, and none has, and the heap has room for a chunk of these bytes there
 pub record FitsNewChunk (d : Document) (b c : ℕ) (bytes : List ℕ) : Type 0 where
   pub heap : is_heap d b ≡ true
@@ -143,6 +154,7 @@ pub record HasMap (d : Document) (old new : ℕ) : Type 0 where
 abbrev pub CanApplyPart : ℕ → PartChange → Document → Type 0
 CanApplyPart b (parts.Raw s) d = FitsRaw d b s
 CanApplyPart b (parts.Chunk c s) d = FitsChunk d b c.0 s
+CanApplyPart b (parts.Patch c ps) d = FitsPatch d b c.0 ps
 CanApplyPart b (parts.ChunkIn c content) d = FitsNewChunk d b c.0 (content_bytes content)
 CanApplyPart b (parts.ChunkOut c content) d = HasChunk d b c.0 (content_bytes content)
 
@@ -179,6 +191,7 @@ content_weight (contents.Zeros n) = 0
 abbrev pub part_weight : PartChange → ℕ
 part_weight (parts.Raw s) = length s.old + length s.new
 part_weight (parts.Chunk c s) = length s.old + length s.new
+part_weight (parts.Patch c ps) = held ps
 part_weight (parts.ChunkIn c content) = content_weight content
 part_weight (parts.ChunkOut c content) = content_weight content
 

@@ -9,7 +9,8 @@ mod part;
 mod saved;
 
 pub use block_cache::BlockBody;
-pub use change::{Change, Content, Direction, PartChange};
+pub use change::{Change, Content, PartChange};
+pub use chunk_edits::Direction;
 pub use file_blocks::FileBlocks;
 pub use law::{by_handle_law, change_law};
 pub use member::{MOST_BLOCKS, Members};

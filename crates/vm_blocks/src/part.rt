@@ -3,13 +3,14 @@ ghost use Rattle.std.specs.Prelude.{◌≡◌, ◌+◌, ◌≤◌, ◌↔◌, �
 ghost use Rattle.std.specs.FinMap.{get, insert, contains_key};
 ghost use Rattle.geos_model.specs.Heap.{chunk_bytes, fits_with, is_chunk_handle, is_heap_map};
 ghost use Rattle.geos_model.specs.declared.command.Body.TheVariants as bodies;
+ghost use Rattle.chunk_edits.specs.Patching.{directed_pieces};
 ghost use Rattle.block_cache.specs.Bodies.{body_value};
-ghost use Rattle.vm_blocks.specs.Allowing.{AllowsRaw, AllowsChunk, AllowsNewChunk};
+ghost use Rattle.vm_blocks.specs.Allowing.{AllowsRaw, AllowsChunk, AllowsPatch, AllowsNewChunk};
 ghost use Rattle.vm_blocks.specs.Changes.{content_bytes, directed_part};
 ghost use Rattle.vm_blocks.specs.Parts.{AllowsPart, RawAllowsPart, HeapAllowsPart, body_after_part};
 
 use crate::{BlockBody, Content, Direction, PartChange};
-use chunk_edits::{apply, apply_back, apply_raw, apply_raw_back};
+use chunk_edits::{Patch, apply, apply_back, apply_patch, apply_raw, apply_raw_back};
 use geos_model::ChunkHandle;
 use lmem_heap::Heap;
 use raw_region::{RawBody, SIZE};
@@ -36,7 +37,10 @@ fn raw_can_take(body: &RawBody, change: &PartChange, direction: Direction) -> bo
                 Direction::Backwards => raw_allows(body, splice.at, new, old),
             }
         }
-        PartChange::Chunk(_, _) | PartChange::ChunkIn(_, _) | PartChange::ChunkOut(_, _) => false,
+        PartChange::Chunk(_, _)
+        | PartChange::Patch(_, _)
+        | PartChange::ChunkIn(_, _)
+        | PartChange::ChunkOut(_, _) => false,
     }
 }
 
@@ -52,6 +56,7 @@ fn heap_can_take(heap: &Heap, change: &PartChange, direction: Direction) -> bool
                 Direction::Backwards => chunk_allows(heap, *chunk, splice.at, new, old),
             }
         }
+        PartChange::Patch(chunk, patch) => patch_allows(heap, *chunk, patch, direction),
         PartChange::ChunkIn(chunk, content) => match direction {
             Direction::Forwards => allows_new(heap, *chunk, content),
             Direction::Backwards => heap.chunk(*chunk).is_some(),
@@ -88,6 +93,18 @@ fn chunk_allows(heap: &Heap, chunk: ChunkHandle, at: u32, old: &[u8], new: &[u8]
             let size = bytes.len();
             is_within(size, at as usize, old.len())
                 && has_room(heap, chunk, size - old.len(), new.len())
+        }
+        None => false,
+    }
+}
+
+/// Whether a chunk is of as many bytes as a patch, and its heap has room for as many as there are on the way.
+fn patch_allows(heap: &Heap, chunk: ChunkHandle, patch: &Patch, direction: Direction) -> bool
+    ensures { IsTrue result ↔ AllowsPatch heap.now.chunks chunk.0 (directed_pieces direction patch.now) }
+{
+    match heap.chunk(chunk) {
+        Some(bytes) => {
+            bytes.len() == patch.size_before(direction) && has_room(heap, chunk, 0, patch.peak())
         }
         None => false,
     }
@@ -145,9 +162,10 @@ pub(crate) fn carry_out_raw(body: &mut RawBody, change: &PartChange, direction: 
             Direction::Forwards => apply_raw(body, splice),
             Direction::Backwards => apply_raw_back(body, splice),
         },
-        PartChange::Chunk(_, _) | PartChange::ChunkIn(_, _) | PartChange::ChunkOut(_, _) => {
-            unreachable!()
-        }
+        PartChange::Chunk(_, _)
+        | PartChange::Patch(_, _)
+        | PartChange::ChunkIn(_, _)
+        | PartChange::ChunkOut(_, _) => unreachable!(),
     }
 }
 
@@ -162,6 +180,7 @@ pub(crate) fn carry_out_heap(heap: &mut Heap, change: &PartChange, direction: Di
             Direction::Forwards => apply(heap, *chunk, splice),
             Direction::Backwards => apply_back(heap, *chunk, splice),
         },
+        PartChange::Patch(chunk, patch) => apply_patch(heap, *chunk, patch, direction),
         PartChange::ChunkIn(chunk, content) => match direction {
             Direction::Forwards => bring_in(heap, *chunk, content),
             Direction::Backwards => heap.free(*chunk),

@@ -7,7 +7,7 @@ use Rattle.vm_file.specs.Disk.{KeepsCommitted}
 use Rattle.vm_blocks.specs.Changes.{directed}
 use Rattle.vm_blocks.specs.Preparing.{CanApplyAllByHandle, CantPrepareAll, AreApplied}
 use Rattle.vm_blocks.specs.declared.change.Change.{Change}
-use Rattle.vm_blocks.specs.declared.change.Direction.TheVariants.{Backwards}
+use Rattle.chunk_edits.specs.declared.direction.Direction.TheVariants.{Backwards}
 use Rattle.vm_blocks.proofs.KeepingLaws.{keeps-passes}
 use Rattle.undo_log.specs.Logging.{open_changes}
 use Rattle.undo_log.specs.Sessions.{SessionState, cache_of, IsStep}

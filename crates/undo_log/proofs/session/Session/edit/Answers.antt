@@ -11,7 +11,7 @@ use Rattle.geos_model.specs.declared.fault.Fault.TheVariants.{Locked, Memory}
 use Rattle.vm_file.specs.Disk.{KeepsCommitted}
 use Rattle.vm_file.proofs.PassingLemmas.{KeepsCommitted-refl}
 use Rattle.vm_blocks.specs.Keeping.{IsEnvironmentFault}
-use Rattle.vm_blocks.specs.declared.change.Direction.TheVariants.{Backwards}
+use Rattle.chunk_edits.specs.declared.direction.Direction.TheVariants.{Backwards}
 use Rattle.vm_blocks.proofs.KeepingLaws.{keeps-refl, keeps-passes, lacks-memory}
 use Rattle.doc_edits.specs.Planning.{IsChainEditFault, RefusesEdit}
 use Rattle.doc_edits.specs.Room.{has_no_room, ReadsNothing}

@@ -1,5 +1,5 @@
 use Rattle.std.proofs.Common.{◌∙◌, sym, ap, length}
-use Rattle.vm_blocks.specs.declared.change.Direction.TheVariants.{Forwards}
+use Rattle.chunk_edits.specs.declared.direction.Direction.TheVariants.{Forwards}
 use Rattle.undo_log.specs.Sessions.{SessionState, machine_of}
 use Rattle.undo_log.proofs.Lists.{length-steps}
 use Rattle.undo_log.proofs.session.Session.redo_count.Goals as goal

@@ -4,7 +4,7 @@ use Rattle.geos_model.specs.Reply.{Accepted, reply_by}
 use Rattle.geos_model.specs.declared.command.Command.TheVariants as commands
 use Rattle.undo_log.specs.Committing.{IsSessionCommit}
 use Rattle.undo_log.specs.Logging.{Log, to_redo, to_undo}
-use Rattle.vm_blocks.specs.declared.change.Direction.TheVariants.{Backwards}
+use Rattle.chunk_edits.specs.declared.direction.Direction.TheVariants.{Backwards}
 use Rattle.undo_log.specs.Sessions.{SessionState, CanApplyBothByHandle, IsExact, IsStep}
 use Rattle.undo_log.specs.Turning.{busy_fault}
 use Rattle.undo_log.proofs.Beginnings.{begun_exact}

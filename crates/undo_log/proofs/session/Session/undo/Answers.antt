@@ -5,7 +5,7 @@ use Rattle.geos_model.specs.Reply.{Accepted, reply_by}
 use Rattle.geos_model.specs.declared.command.Command.TheVariants as commands
 use Rattle.geos_model.specs.declared.fault.Fault.TheVariants.{NothingToUndo}
 use Rattle.vm_file.specs.Disk.{KeepsCommitted}
-use Rattle.vm_blocks.specs.declared.change.Direction.TheVariants.{Backwards}
+use Rattle.chunk_edits.specs.declared.direction.Direction.TheVariants.{Backwards}
 use Rattle.vm_blocks.proofs.KeepingLaws.{keeps-passes}
 use Rattle.undo_log.specs.Sessions.{SessionState, cache_of, IsStep}
 use Rattle.undo_log.specs.Turning.{IsRefusedUndoOrRedo, IsSure, newest_made, busy_fault}
