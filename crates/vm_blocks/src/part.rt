@@ -104,7 +104,8 @@ fn patch_allows(heap: &Heap, chunk: ChunkHandle, patch: &Patch, direction: Direc
 {
     match heap.chunk(chunk) {
         Some(bytes) => {
-            bytes.len() == patch.size_before(direction) && has_room(heap, chunk, 0, patch.peak())
+            let is_sized = bytes.len() == patch.size_before(direction);
+            is_sized && has_room(heap, chunk, 0, patch.peak())
         }
         None => false,
     }

@@ -22,15 +22,15 @@ module _ (m : ChunkMap) (h : ℕ) (heap : is_heap_map m ≡ true) (live : contai
   size_cut : length (chunk_bytes m h) ≡ n → k ≡ length (chunk_bytes m h)
   size_cut is = let few = chunk_bytes_le m h heap live in omega (arith, few, is)
 
-pub returns-then-bytes-size_before : goal.returns-then-bytes-size_before
-returns-then-bytes-size_before c =
+pub returns-then-is_sized : goal.returns-then-is_sized
+returns-then-is_sized c =
     let m = c.args.heap.now.chunks in let h = c.args.chunk.0 in
     let ps = directed_pieces c.args.direction c.args.patch.now in
     let there : get m h ≡ Some c.in-Some.bytes.now = sym c.in-Some.ensures.value in
     let live : contains_key m h ≡ true = ap is_some there in
     let bytes : chunk_bytes m h ≡ c.in-Some.bytes.now = ap (λ (o : Option (List ℕ)). unwrap_or o []) there in
     let size : total_taken ps ≡ length (chunk_bytes m h) =
-    size_cut m h c.in-Some.ensures.valid live c.size_before.result (total_taken ps) c.size_before.ensures (ap length bytes ∙ c.if-bytes-size_before.true) in
+    size_cut m h c.in-Some.ensures.valid live c.size_before.result (total_taken ps) c.size_before.ensures (ap length bytes ∙ c.if-is_sized.true) in
     let room : c.has_room.result ≡ fits_with m h (replicate (peak ps) 0) =
     room_cut m h c.in-Some.ensures.valid live c.peak.result (peak c.args.patch.now) c.peak.ensures c.has_room.result c.has_room.ensures
     ∙ ap (λ (k : ℕ). fits_with m h (replicate k 0)) (sym (directed_peak c.args.direction c.args.patch.now)) in
