@@ -6,7 +6,7 @@ use Rattle.geos_model.specs.declared.command.Done.TheVariants as done
 use Rattle.geos_model.specs.declared.command.Edit.TheVariants as edits
 use Rattle.geos_model.specs.declared.handle.ChunkHandle.{ChunkHandle}
 use Rattle.geos_model.specs.declared.handle.VmHandle.{VmHandle}
-use Rattle.doc_edits.proofs.Splicing.{EditsChunk}
+use Rattle.doc_edits.proofs.ChunkParts.{EditsChunk}
 
 module _ (d : Document) (b : VmHandle) (c : ChunkHandle) where
   -- the element by the slice that code reads

@@ -1,9 +1,10 @@
 -- Plans of edits of a chunk, from what was built for them.
-use Rattle.std.proofs.Common.{◌≡◌, ◌≤◌, ℕ, List, [], ◌∷◌, ◌++◌, Bool, true, false, not, cond, Option, Some, None, MatchOption, unwrap_or, length, replicate, refl, sym, ap, subst, ◌∙◌, inl, inr, arith}
-use Rattle.std.proofs.lemmas.Bool.{cases_Bool}
+use Rattle.std.proofs.Common.{◌≡◌, ◌≤◌, ℕ, List, [], ◌∷◌, ◌++◌, Bool, true, false, not, cond, Option, Some, None, MatchOption, unwrap_or, length, max, replicate, refl, sym, ap, subst, ◌∙◌, inl, inr, arith}
+use Rattle.std.proofs.lemmas.Bool.{cases_Bool, cases_lt}
 use Rattle.std.proofs.lemmas.List.{length-replicate}
-use Rattle.geos_model.specs.Document.{Document, chunks_of}
-use Rattle.geos_model.specs.Heap.{ChunkMap, fits_with, fits_new, next_chunk}
+use Rattle.std.specs.FinMap.{contains_key}
+use Rattle.geos_model.specs.Document.{Document, chunks_of, is_heap}
+use Rattle.geos_model.specs.Heap.{ChunkMap, chunk_bytes, fits_with, fits_new, is_heap_map, next_chunk}
 use Rattle.geos_model.specs.Meaning.{chunk_at, conditions, with_chunk, new_chunk, no_place, on_chunk}
 use Rattle.geos_model.specs.Refusal.{Conditions, first_refusal}
 use Rattle.geos_model.specs.Scope.{scope_of}
@@ -17,17 +18,19 @@ use Rattle.geos_model.specs.declared.handle.ChunkHandle.{ChunkHandle}
 use Rattle.geos_model.specs.declared.handle.VmHandle.{VmHandle}
 use Rattle.geos_model.specs.declared.scope.Scope.{Scope}
 use Rattle.geos_model.specs.declared.scope.Scope.TheVariants as scopes
+use Rattle.chunk_edits.specs.Patching.{patched, peak}
 use Rattle.chunk_edits.specs.Splicing.{forwards}
-use Rattle.chunk_edits.specs.declared.splice.Splice.{Splice}
+use Rattle.geos_model.proofs.HeapTables.{fits_with-fewer, fits_with-same}
 use Rattle.lmem_heap.proofs.PlacedLemmas.{fits_new-some, fits_new-none}
 use Rattle.vm_blocks.proofs.RoomLemmas.{fits_as, fits_few}
 use Rattle.vm_blocks.specs.Allowing.{AllowsNewChunk}
-use Rattle.vm_blocks.specs.Changes.{content_bytes}
+use Rattle.vm_blocks.specs.Changes.{content_bytes, after_part, CanApplyPart, FitsChunk, FitsPatch}
 use Rattle.vm_blocks.specs.declared.change.Change.TheVariants as changes
 use Rattle.vm_blocks.specs.declared.change.Content.{Content}
+use Rattle.vm_blocks.specs.declared.change.PartChange.{PartChange}
 use Rattle.vm_blocks.specs.declared.change.PartChange.TheVariants as parts
 use Rattle.doc_edits.specs.Found.{IsHeapAt, IsChunkAt, AreLate}
-use Rattle.doc_edits.specs.Building.{chunk_in, place_of, new_in, IsAt, IsHeapFor, SplicesAt, CreatesAt, Splices, Creates, IsBuilt}
+use Rattle.doc_edits.specs.Building.{chunk_after, chunk_in, place_of, new_in, IsAt, IsHeapFor, IsOfChunk, StandsIn, IsBuilt, MakesAt, MakesPart, CreatesAt, Creates}
 use Rattle.doc_edits.specs.Planning.{Plans}
 use Rattle.doc_edits.proofs.Documents.{chunks_are, heap_there, heap_here}
 use Rattle.doc_edits.proofs.First.{FirstOfScope, scope_first}
@@ -41,6 +44,33 @@ chunk_scope _ b c is = absurd (cc is)
 place_scope : (edit : Edit) (b : VmHandle) (c : ChunkHandle) → place_of edit ≡ Some (b, c) → scope_of edit ≡ scopes.Chunk b c
 place_scope (edits.Free x y) b c is = absurd (cc is)
 place_scope edit b c is = chunk_scope (scope_of edit) b c is
+
+-- there is room for as many bytes as there are before or after, where what is there then fits
+room_between : (m : ChunkMap) (c : ℕ) (after : List ℕ) (n : ℕ) → is_heap_map m ≡ true → contains_key m c ≡ true → n ≡ max (length (chunk_bytes m c)) (length after)
+    → fits_with m c after ≡ true → fits_with m c (replicate n 0) ≡ true
+room_between m c after n valid live most fit = elim (cases_lt (length (chunk_bytes m c)) (length after)) [
+  | inl longer ↦ fits_with-same m c (replicate n 0) after valid live (length-replicate {A = ℕ} n 0 ∙ omega arith) ∙ fit
+  | inr no_longer ↦ fits_with-fewer m c (replicate n 0) valid live (omega (arith, length-replicate {A = ℕ} n 0))
+]
+
+-- A change of a part that stands in the bytes of its chunk, and leaves what fits.
+module _ (d : Document) (b c : ℕ) where
+  part_applies : is_heap d b ≡ true → contains_key (chunks_of d b) c ≡ true → is_heap_map (chunks_of d b) ≡ true
+      → (part : PartChange) → IsOfChunk part c → StandsIn part (chunk_at d b c) → fits_with (chunks_of d b) c (chunk_after part (chunk_at d b c)) ≡ true → CanApplyPart b part d
+  part_applies heap live valid (parts.Chunk h s) here stands fits = subst (λ (k : ℕ). FitsChunk d b k s) (sym here) (record { heap = heap; live = live; stands = stands; fits = fits })
+  part_applies heap live valid (parts.Patch h ps) here leads fits =
+      let room = room_between (chunks_of d b) c (patched ps (chunk_at d b c)) (peak ps) valid live leads.peak fits in
+      subst (λ (k : ℕ). FitsPatch d b k ps) (sym here) (record { heap = heap; live = live; stands = leads.stands; fits = room })
+  part_applies heap live valid (parts.Raw s) here stands fits = absurd here
+  part_applies heap live valid (parts.ChunkIn h content) here stands fits = absurd here
+  part_applies heap live valid (parts.ChunkOut h content) here stands fits = absurd here
+
+  part_makes : (part : PartChange) → IsOfChunk part c → after_part b part d ≡ with_chunk d b c (chunk_after part (chunk_at d b c))
+  part_makes (parts.Chunk h s) here = ap (λ (k : ℕ). with_chunk d b k (forwards s (chunk_at d b k))) here
+  part_makes (parts.Patch h ps) here = ap (λ (k : ℕ). with_chunk d b k (patched ps (chunk_at d b k))) here
+  part_makes (parts.Raw s) here = absurd here
+  part_makes (parts.ChunkIn h content) here = absurd here
+  part_makes (parts.ChunkOut h content) here = absurd here
 
 -- An edit of a chunk's bytes.
 module _ (edit : Edit) (d : Document) (b : VmHandle) (c : ChunkHandle) (is : place_of edit ≡ Some (b, c)) where
@@ -56,35 +86,30 @@ module _ (edit : Edit) (d : Document) (b : VmHandle) (c : ChunkHandle) (is : pla
     pub is_at : IsAt edit d m c.0 bytes
     is_at = subst (λ (o : Option (VmHandle × ChunkHandle)). MatchOption o ⊥ (λ p. IsHeapAt d p.0.0 m × (c.0 ≡ p.1.0) × IsChunkAt d p.0.0 p.1.0 bytes)) (sym is) (live, refl, there)
 
-    module _ (s : Splice) (done : Done) (built : SplicesAt edit d done s) where
-      splices : Splices edit d b c s done
-      splices = subst (λ (o : Option (VmHandle × ChunkHandle)). MatchOption o ⊥ (λ p. Splices edit d p.0 p.1 s done)) is built
+    module _ (part : PartChange) (done : Done) (made : MakesAt edit d done part) where
+      makes : MakesPart edit d b c part done
+      makes = subst (λ (o : Option (VmHandle × ChunkHandle)). MatchOption o ⊥ (λ p. MakesPart edit d p.0 p.1 part done)) is made
 
-      pub is_built : IsBuilt s bytes
-      is_built = subst (IsBuilt s) (sym there.value) (record { within = splices.stands.within; short = splices.short })
+      pub is_built : IsBuilt part bytes
+      is_built = subst (IsBuilt part) (sym there.value) makes.built
 
-      fits_same : fits_with (chunks_of d b.0) c.0 (forwards s (chunk_at d b.0 c.0)) ≡ fits_with m c.0 (forwards s bytes)
-      fits_same = ap (λ (x : ChunkMap). fits_with x c.0 (forwards s (chunk_at d b.0 c.0))) same ∙ ap (λ (x : List ℕ). fits_with m c.0 (forwards s x)) (sym there.value)
+      fits_same : fits_with (chunks_of d b.0) c.0 (chunk_after part (chunk_at d b.0 c.0)) ≡ fits_with m c.0 (chunk_after part bytes)
+      fits_same = ap (λ (x : ChunkMap). fits_with x c.0 (chunk_after part (chunk_at d b.0 c.0))) same ∙ ap (λ (x : List ℕ). fits_with m c.0 (chunk_after part x)) (sym there.value)
 
-      by_room : (fit : Bool) → fit ≡ fits_with m c.0 (forwards s bytes) → first_refusal (conditions edit d) ≡ cond fit None (Some Full)
-      by_room fit e = splices.refusal ∙ ap (λ (t : Bool). cond t None (Some Full)) (fits_same ∙ sym e)
+      by_room : (fit : Bool) → fit ≡ fits_with m c.0 (chunk_after part bytes) → first_refusal (conditions edit d) ≡ cond fit None (Some Full)
+      by_room fit e = makes.refusal ∙ ap (λ (t : Bool). cond t None (Some Full)) (fits_same ∙ sym e)
 
-      pub full : false ≡ fits_with m c.0 (forwards s bytes) → first_refusal (conditions edit d) ≡ Some Full
+      pub full : false ≡ fits_with m c.0 (chunk_after part bytes) → first_refusal (conditions edit d) ≡ Some Full
       full e = by_room false e
 
-      pub planned : true ≡ fits_with m c.0 (forwards s bytes) → Plans edit d (changes.Part b (parts.Chunk c s)) done
+      pub planned : true ≡ fits_with m c.0 (chunk_after part bytes) → Plans edit d (changes.Part b part) done
       planned e = record {
         accepted = by_room true e;
-        applies = record {
-          heap = heap_there d b.0 m live;
-          live = there.live;
-          stands = splices.stands;
-          fits = fits_same ∙ sym e;
-        };
-        document = splices.document;
-        answer = splices.answer;
-        kind = sym splices.kind;
-        cost = splices.cost;
+        applies = part_applies d b.0 c.0 (heap_there d b.0 m live) there.live there.valid part makes.chunk makes.built.stands (fits_same ∙ sym e);
+        document = part_makes d b.0 c.0 part makes.chunk ∙ makes.document;
+        answer = makes.answer;
+        kind = sym makes.kind;
+        cost = makes.cost;
       }
 
 -- Whether a new chunk finds a place.

@@ -1,7 +1,7 @@
 pub mod Order
 pub mod Refusals
 pub mod Documents
-pub mod Splicing
+pub mod ChunkParts
 pub mod ArrayEdits
 pub mod ElementEdits
 pub mod NameEdits

@@ -8,7 +8,7 @@ use Rattle.geos_model.specs.declared.command.Edit.TheVariants as edits
 use Rattle.geos_model.specs.declared.handle.ChunkHandle.{ChunkHandle}
 use Rattle.geos_model.specs.declared.handle.Token.{Token}
 use Rattle.geos_model.specs.declared.handle.VmHandle.{VmHandle}
-use Rattle.doc_edits.proofs.Splicing.{EditsChunk}
+use Rattle.doc_edits.proofs.ChunkParts.{EditsChunk}
 
 module _ (d : Document) (b : VmHandle) (c : ChunkHandle) where
   -- the name and the part by the slices that code reads, and the token

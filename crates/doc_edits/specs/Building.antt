@@ -1,5 +1,5 @@
--- What is built for an edit of a chunk: a splice of its bytes, or the bytes of a new one.
-use Rattle.std.specs.Prelude.{◌≡◌, ◌≤◌, ◌+◌, ℕ, List, Bool, true, false, Option, None, Some, MatchOption, length, if◌then◌else◌}
+-- What is built for an edit of a chunk: a change of a part of its bytes, or the bytes of a new one.
+use Rattle.std.specs.Prelude.{◌≡◌, ◌≤◌, ℕ, List, Bool, true, false, Option, None, Some, MatchOption, length, if◌then◌else◌}
 use Rattle.geos_model.specs.Refusal.{first_refusal}
 use Rattle.geos_model.specs.Heap.{ChunkMap, longest_chunk, fits_with}
 use Rattle.geos_model.specs.Document.{Document, chunks_of}
@@ -16,9 +16,12 @@ use Rattle.geos_model.specs.declared.handle.VmHandle.{VmHandle}
 use Rattle.geos_model.specs.declared.handle.ChunkHandle.{ChunkHandle}
 use Rattle.geos_model.specs.declared.scope.Scope.{Scope}
 use Rattle.geos_model.specs.declared.scope.Scope.TheVariants.{Heap, Chunk, Chain}
+use Rattle.chunk_edits.specs.Patching.{PatchLeads, patched}
 use Rattle.chunk_edits.specs.Splicing.{OccursAt, forwards}
-use Rattle.chunk_edits.specs.declared.splice.Splice.{Splice}
+use Rattle.vm_blocks.specs.declared.change.PartChange.{PartChange}
+use Rattle.vm_blocks.specs.declared.change.PartChange.TheVariants as parts
 use Rattle.doc_edits.specs.Found.{IsHeapAt, IsChunkAt}
+use Rattle.doc_edits.specs.Planning.{part_cost}
 
 -- the chunk of a part of a document, and the heap in which a chunk is made
 
@@ -34,6 +37,14 @@ heap_in scope = None
 abbrev pub place_of : Edit → Option (VmHandle × ChunkHandle)
 place_of (edits.Free b c) = None
 place_of edit = chunk_in (scope_of edit)
+
+-- whether it is of the bytes of a chunk as such, and not of an array in it
+abbrev pub is_of_bytes : Edit → Bool
+is_of_bytes (edits.Resize b c n) = true
+is_of_bytes (edits.Insert b c at n) = true
+is_of_bytes (edits.Delete b c at n) = true
+is_of_bytes (edits.Write b c at bytes) = true
+is_of_bytes edit = false
 
 -- whether it answers a token
 abbrev pub answers_token : Edit → Bool
@@ -60,15 +71,38 @@ is_chain scope = false
 abbrev pub is_of_chain : Edit → Bool
 is_of_chain edit = is_chain (scope_of edit)
 
--- The splice is what an edit comes to in a chunk: nothing but lack of room refuses it.
-pub record Splices (edit : Edit) (d : Document) (b : VmHandle) (c : ChunkHandle) (s : Splice) (done : Done) : Type 0 where
-  pub stands : OccursAt (chunk_at d b.0 c.0) s.at s.old
-  pub short : length (forwards s (chunk_at d b.0 c.0)) ≤ longest_chunk
-  pub refusal : first_refusal (conditions edit d) ≡ (if fits_with (chunks_of d b.0) c.0 (forwards s (chunk_at d b.0 c.0)) then None else Some Full)
-  pub document : with_chunk d b.0 c.0 (forwards s (chunk_at d b.0 c.0)) ≡ (effect edit d).0
+-- what a change of a part makes of the bytes of its chunk
+abbrev pub chunk_after : PartChange → List ℕ → List ℕ
+chunk_after (parts.Chunk h s) bytes = forwards s bytes
+chunk_after (parts.Patch h ps) bytes = patched ps bytes
+chunk_after part bytes = bytes
+
+-- it is one of this chunk
+abbrev pub IsOfChunk : PartChange → ℕ → Type 0
+IsOfChunk (parts.Chunk h s) c = h.0 ≡ c
+IsOfChunk (parts.Patch h ps) c = h.0 ≡ c
+IsOfChunk part c = ⊥
+
+-- it stands in these bytes; a patch asks for room for no more of them than there are before or after it
+abbrev pub StandsIn : PartChange → List ℕ → Type 0
+StandsIn (parts.Chunk h s) bytes = OccursAt bytes s.at s.old
+StandsIn (parts.Patch h ps) bytes = PatchLeads ps bytes (patched ps bytes)
+StandsIn part bytes = ⊥
+
+-- So it does, and what it makes of them is no longer than any chunk.
+pub record IsBuilt (part : PartChange) (bytes : List ℕ) : Type 0 where
+  pub stands : StandsIn part bytes
+  pub short : length (chunk_after part bytes) ≤ longest_chunk
+
+-- The part is what an edit comes to in a chunk: nothing but lack of room refuses it.
+pub record MakesPart (edit : Edit) (d : Document) (b : VmHandle) (c : ChunkHandle) (part : PartChange) (done : Done) : Type 0 where
+  pub chunk : IsOfChunk part c.0
+  pub built : IsBuilt part (chunk_at d b.0 c.0)
+  pub refusal : first_refusal (conditions edit d) ≡ (if fits_with (chunks_of d b.0) c.0 (chunk_after part (chunk_at d b.0 c.0)) then None else Some Full)
+  pub document : with_chunk d b.0 c.0 (chunk_after part (chunk_at d b.0 c.0)) ≡ (effect edit d).0
   pub answer : done ≡ (effect edit d).1
   pub kind : kind_of edit ≡ In b
-  pub cost : length s.old + length s.new ≡ cost edit d (effect edit d).0
+  pub cost : part_cost part ≡ cost edit d (effect edit d).0
 
 -- The bytes are those of the chunk that an edit makes: nothing but lack of room refuses it.
 pub record Creates (edit : Edit) (d : Document) (b : VmHandle) (bytes : List ℕ) : Type 0 where
@@ -82,16 +116,11 @@ pub record Creates (edit : Edit) (d : Document) (b : VmHandle) (bytes : List ℕ
 abbrev pub IsAt : Edit → Document → ChunkMap → ℕ → List ℕ → Type 0
 IsAt edit d m k bytes = MatchOption (place_of edit) ⊥ (λ p. IsHeapAt d p.0.0 m × (k ≡ p.1.0) × IsChunkAt d p.0.0 p.1.0 bytes)
 
-abbrev pub SplicesAt : Edit → Document → Done → Splice → Type 0
-SplicesAt edit d done s = MatchOption (place_of edit) ⊥ (λ p. Splices edit d p.0 p.1 s done)
+abbrev pub MakesAt : Edit → Document → Done → PartChange → Type 0
+MakesAt edit d done part = MatchOption (place_of edit) ⊥ (λ p. MakesPart edit d p.0 p.1 part done)
 
 abbrev pub IsHeapFor : Edit → Document → Type 0
 IsHeapFor edit d = MatchOption (new_in edit) ⊥ (λ b. IsHeapAt d b.0 (chunks_of d b.0))
 
 abbrev pub CreatesAt : Edit → Document → List ℕ → Type 0
 CreatesAt edit d bytes = MatchOption (new_in edit) ⊥ (λ b. Creates edit d b bytes)
-
--- The splice is one of a part of these bytes, and what it makes of them is no longer than any chunk.
-pub record IsBuilt (s : Splice) (bytes : List ℕ) : Type 0 where
-  pub within : s.at + length s.old ≤ length bytes
-  pub short : length (forwards s bytes) ≤ longest_chunk

@@ -12,6 +12,7 @@ use Rattle.geos_model.specs.declared.command.Edit.{Edit}
 use Rattle.geos_model.specs.declared.command.Edit.TheVariants as edits
 use Rattle.geos_model.specs.declared.command.Kind.{Kind}
 use Rattle.geos_model.specs.declared.command.Kind.TheVariants.{Plain, In, Made, Freed}
+use Rattle.chunk_edits.specs.Patching.{total_given, total_taken}
 use Rattle.vm_file.specs.Members.{imaged_blocks}
 use Rattle.vm_blocks.specs.Changes.{after_change, content_bytes, CanApply}
 use Rattle.vm_blocks.specs.declared.change.Change.{Change}
@@ -37,11 +38,13 @@ freed_by (changes.Part b part) = []
 freed_by (changes.Attributes b old new) = []
 freed_by (changes.Map old new) = []
 
--- How many bytes a step is charged for: those that its change holds, and the zeros that it need not hold.
+-- How many bytes a step is charged for: those that its change holds, the zeros that it need not hold, and of a patch also those that stay, before and after
+-- it.
 
 abbrev pub part_cost : PartChange → ℕ
 part_cost (parts.Raw s) = length s.old + length s.new
 part_cost (parts.Chunk c s) = length s.old + length s.new
+part_cost (parts.Patch c ps) = total_taken ps + total_given ps
 part_cost (parts.ChunkIn c content) = length (content_bytes content)
 part_cost (parts.ChunkOut c content) = length (content_bytes content)
 

@@ -1,73 +1,115 @@
-//! What an edit of a chunk makes of its bytes: a splice of them, or the bytes of a new chunk.
-ghost use Rattle.std.specs.Prelude.{◌≡◌, true, false, IsSome, IsTrue, MatchResult};
+//! What an edit of a chunk makes of its bytes: a change of a part of them, or the bytes of a new chunk.
+ghost use Rattle.std.specs.Prelude.{◌≡◌, ℕ, List, true, false, IsSome, IsTrue, MatchResult};
 ghost use Rattle.std.specs.FinMap.{contains_key};
 ghost use Rattle.geos_model.specs.Document.{Document};
+ghost use Rattle.geos_model.specs.Heap.{ChunkMap};
 ghost use Rattle.geos_model.specs.declared.command.Done.TheVariants as done;
+ghost use Rattle.geos_model.specs.declared.handle.ChunkHandle.{ChunkHandle};
 ghost use Rattle.vm_blocks.specs.Changes.{content_bytes};
-ghost use Rattle.doc_edits.specs.Building.{place_of, answers_token, new_in, creates_array, IsAt, SplicesAt, IsHeapFor, CreatesAt};
+ghost use Rattle.vm_blocks.specs.declared.change.PartChange.TheVariants as parts;
+ghost use Rattle.doc_edits.specs.Building.{place_of, is_of_bytes, answers_token, new_in, creates_array, IsAt, MakesAt, IsHeapFor, CreatesAt};
 ghost use Rattle.doc_edits.specs.Planning.{RefusesInMemory};
 
-use chunk_edits::Splice;
+use chunk_edits::{Patch, Splice};
 use geos_model::{Bytes, ChunkHandle, Done, Edit, Fault};
 use lmem_heap::Heap;
 use std::alloc::Global;
-use vm_blocks::Content;
+use vm_blocks::{Content, PartChange};
 
-/// What an edit of a chunk's bytes replaces, and what it answers. Whether the heap has room for what an edit of an array makes
-/// isn't looked at.
+/// What an edit changes of a chunk, and what it answers. Whether the heap has room for what an edit of an array makes isn't looked
+/// at.
 pub fn build(
     alloc: Global,
     heap: &Heap,
     chunk: ChunkHandle,
     bytes: &[u8],
     edit: &Edit,
-) -> Result<(Splice, Done), Fault>
+) -> Result<(PartChange, Done), Fault>
     requires live { IsTrue (contains_key heap.now.chunks chunk.0) }
     requires place { IsSome (place_of edit.now) }
     ensures { (d : Document) → IsAt edit.now d heap.now.chunks chunk.0 bytes.now
-        → MatchResult result (λ built. SplicesAt edit.now d built.1 built.0) (RefusesInMemory edit.now d) }
+        → MatchResult result (λ built. MakesAt edit.now d built.1 built.0) (RefusesInMemory edit.now d) }
 {
-    match edit {
-        Edit::AddElement(_, _, element) => {
-            let (splice, token) = element_arrays::add(alloc, bytes, element.as_slice())?;
-            Ok((splice, Done::Token(token)))
-        }
-        Edit::AddName(_, _, name, part, replace) => {
-            let (splice, token) = name_arrays::add(
-                alloc,
-                bytes,
-                name.as_slice(),
-                part.as_slice(),
-                *replace,
-            )?;
-            Ok((splice, Done::Token(token)))
-        }
-        _ => {
-            let splice = build_silent(alloc, heap, chunk, bytes, edit)?;
-            Ok((splice, Done::Nothing))
-        }
+    if is_of_bytes(edit) {
+        let splice = build_splice(alloc, heap, chunk, edit)?;
+        return Ok((PartChange::Chunk(chunk, splice), Done::Nothing));
     }
+    let (patch, done) = build_patch(alloc, bytes, edit)?;
+    Ok((PartChange::Patch(chunk, patch), done))
 }
 
-/// Of an edit that answers nothing.
-fn build_silent(
+/// Whether an edit is of the bytes of a chunk as such, and not of an array in it.
+fn is_of_bytes(edit: &Edit) -> bool
+    ensures { result ≡ is_of_bytes edit.now }
+{
+    matches!(
+        edit,
+        Edit::Resize(_, _, _)
+            | Edit::Insert(_, _, _, _)
+            | Edit::Delete(_, _, _, _)
+            | Edit::Write(_, _, _, _)
+    )
+}
+
+/// Of an edit of the bytes of a chunk as such.
+fn build_splice(
     alloc: Global,
     heap: &Heap,
     chunk: ChunkHandle,
-    bytes: &[u8],
     edit: &Edit,
 ) -> Result<Splice, Fault>
     requires live { IsTrue (contains_key heap.now.chunks chunk.0) }
-    requires place { IsSome (place_of edit.now) }
-    requires silent { answers_token edit.now ≡ false }
-    ensures { (d : Document) → IsAt edit.now d heap.now.chunks chunk.0 bytes.now
-        → MatchResult result (SplicesAt edit.now d done.Nothing) (RefusesInMemory edit.now d) }
+    requires bytes { is_of_bytes edit.now ≡ true }
+    ensures { (d : Document) → (bytes : List ℕ) → IsAt edit.now d heap.now.chunks chunk.0 bytes
+        → MatchResult result (λ s. MakesAt edit.now d done.Nothing (parts.Chunk chunk s)) (RefusesInMemory edit.now d) }
 {
     match edit {
         Edit::Resize(_, _, n) => chunk_edits::resize(alloc, heap, chunk, *n),
         Edit::Insert(_, _, at, n) => chunk_edits::insert(alloc, heap, chunk, *at, *n),
         Edit::Delete(_, _, at, n) => chunk_edits::delete(alloc, heap, chunk, *at, *n),
         Edit::Write(_, _, at, new) => chunk_edits::write(alloc, heap, chunk, *at, new.as_slice()),
+        _ => unreachable!(),
+    }
+}
+
+/// Of an edit of an array, whichever chunk has these bytes.
+fn build_patch(alloc: Global, bytes: &[u8], edit: &Edit) -> Result<(Patch, Done), Fault>
+    requires place { IsSome (place_of edit.now) }
+    requires array { is_of_bytes edit.now ≡ false }
+    ensures { (d : Document) → (m : ChunkMap) → (h : ChunkHandle) → IsAt edit.now d m h.0 bytes.now
+        → MatchResult result (λ built. MakesAt edit.now d built.1 (parts.Patch h built.0)) (RefusesInMemory edit.now d) }
+{
+    match edit {
+        Edit::AddElement(_, _, element) => {
+            let (patch, token) = element_arrays::add(alloc, bytes, element.as_slice())?;
+            Ok((patch, Done::Token(token)))
+        }
+        Edit::AddName(_, _, name, part, replace) => {
+            let (patch, token) = name_arrays::add(
+                alloc,
+                bytes,
+                name.as_slice(),
+                part.as_slice(),
+                *replace,
+            )?;
+            Ok((patch, Done::Token(token)))
+        }
+        _ => {
+            let patch = build_silent(alloc, bytes, edit)?;
+            Ok((patch, Done::Nothing))
+        }
+    }
+}
+
+/// Of one that answers nothing.
+fn build_silent(alloc: Global, bytes: &[u8], edit: &Edit) -> Result<Patch, Fault>
+    requires place { IsSome (place_of edit.now) }
+    requires array { is_of_bytes edit.now ≡ false }
+    requires silent { answers_token edit.now ≡ false }
+    ensures { (d : Document) → (m : ChunkMap) → (h : ChunkHandle) → IsAt edit.now d m h.0 bytes.now
+        → MatchResult result (λ ps. MakesAt edit.now d done.Nothing (parts.Patch h ps)) (RefusesInMemory edit.now d) }
+{
+    match edit {
         Edit::InsertElement(_, _, i, new) => chunk_arrays::insert(alloc, bytes, *i, new.as_slice()),
         Edit::SetElement(_, _, i, new) => chunk_arrays::set(alloc, bytes, *i, new.as_slice()),
         Edit::ResizeElement(_, _, i, n) => chunk_arrays::resize(alloc, bytes, *i, *n),

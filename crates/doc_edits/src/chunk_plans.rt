@@ -4,16 +4,15 @@ ghost use Rattle.std.specs.FinMap.{contains_key, get};
 ghost use Rattle.geos_model.specs.Document.{is_heap};
 ghost use Rattle.geos_model.specs.Heap.{fits_with, fits_new, is_chunk_handle, next_chunk};
 ghost use Rattle.geos_model.specs.declared.command.Edit.TheVariants as edits;
-ghost use Rattle.chunk_edits.specs.Splicing.{forwards};
 ghost use Rattle.vm_blocks.specs.Keeping.{is_loaded};
 ghost use Rattle.vm_blocks.specs.Allowing.{AllowsNewChunk};
 ghost use Rattle.vm_blocks.specs.Changes.{content_bytes};
-ghost use Rattle.doc_edits.specs.Building.{place_of, new_in, IsBuilt};
+ghost use Rattle.doc_edits.specs.Building.{chunk_after, place_of, new_in, IsBuilt};
 ghost use Rattle.doc_edits.specs.Planning.{Plans, RefusesInMemory};
 
 use crate::building::{build, build_chunk};
 use crate::found::{bytes_in, heap_at};
-use chunk_edits::{Splice, copied};
+use chunk_edits::{Direction, copied};
 use geos_model::{ChunkHandle, Done, Edit, Fault, VmHandle};
 use lmem_heap::Heap;
 use std::alloc::Global;
@@ -36,21 +35,36 @@ pub fn plan_in_chunk<S: Store>(
 {
     let heap = heap_at(blocks, handle);
     let bytes = bytes_in(heap, chunk)?;
-    let (splice, done) = build(alloc, heap, chunk, bytes, edit)?;
-    if !has_room(heap, chunk, bytes, &splice) {
+    let (part, done) = build(alloc, heap, chunk, bytes, edit)?;
+    if !has_room(heap, chunk, bytes, &part) {
         return Err(Fault::Full);
     }
-    Ok((Change::Part(handle, PartChange::Chunk(chunk, splice)), done))
+    Ok((Change::Part(handle, part), done))
 }
 
-/// Whether the heap has room for what a splice makes of the bytes of a chunk.
-fn has_room(heap: &Heap, chunk: ChunkHandle, bytes: &[u8], splice: &Splice) -> bool
+/// Whether the heap has room for what a change of a part makes of the bytes of a chunk.
+fn has_room(heap: &Heap, chunk: ChunkHandle, bytes: &[u8], part: &PartChange) -> bool
     requires live { IsTrue (contains_key heap.now.chunks chunk.0) }
-    requires built { IsBuilt splice.now bytes.now }
-    ensures { result ≡ fits_with heap.now.chunks chunk.0 (forwards splice.now bytes.now) }
+    requires built { IsBuilt part.now bytes.now }
+    ensures { result ≡ fits_with heap.now.chunks chunk.0 (chunk_after part.now bytes.now) }
 {
-    let kept = bytes.len() - splice.old.as_slice().len();
-    heap.fits_resize(chunk, (kept + splice.new.as_slice().len()) as u32)
+    heap.fits_resize(chunk, size_after(bytes, part) as u32)
+}
+
+/// How many bytes a change of a part leaves of those of its chunk.
+fn size_after(bytes: &[u8], part: &PartChange) -> usize
+    requires { IsBuilt part.now bytes.now }
+    ensures { result ≡ length (chunk_after part.now bytes.now) }
+{
+    match part {
+        PartChange::Chunk(_, splice) => {
+            bytes.len() - splice.old.as_slice().len() + splice.new.as_slice().len()
+        }
+        PartChange::Patch(_, patch) => patch.size_before(Direction::Backwards),
+        PartChange::Raw(_) | PartChange::ChunkIn(_, _) | PartChange::ChunkOut(_, _) => {
+            unreachable!()
+        }
+    }
 }
 
 /// Of an edit that makes a chunk: Full where the heap has no handle or no room for it.

@@ -1,5 +1,5 @@
--- Edits of a chunk's bytes by a splice, and of a heap by a chunk of given bytes.
-use Rattle.std.proofs.Common.{◌≡◌, ◌≤◌, ◌+◌, ◌-◌, ◌*◌, ◌/◌, ℕ, List, ◌++◌, Bool, true, false, not, cond, Option, Some, None, MatchOption, Result, Ok, Err, MatchResult, length, nat_lt, refl, sym, ap, subst, ◌∙◌, inl, inr, arith}
+-- What is built for an edit of a chunk's bytes: of an array a patch, and else a splice.
+use Rattle.std.proofs.Common.{◌≡◌, ◌≤◌, ◌+◌, ◌-◌, ◌*◌, ◌/◌, ℕ, List, ◌++◌, Bool, true, false, not, cond, Option, Some, None, MatchOption, Result, Ok, Err, MatchResult, length, max, nat_lt, refl, sym, ap, subst, ◌∙◌, inl, inr, arith}
 use Rattle.std.proofs.lemmas.Bool.{leb-true, le-ltb, lt-ltb, cases_lt, cases_Bool}
 use Rattle.std.specs.Result.{IfOk}
 use Rattle.std.specs.FinMap.{empty, insert, contains_key}
@@ -24,11 +24,15 @@ use Rattle.geos_model.specs.declared.handle.VmHandle.{VmHandle}
 use Rattle.geos_model.proofs.HeapTables.{heap_map-table, live_handle, is_chunk_handle-parts, trimmed-put, chunk_length_le}
 use Rattle.geos_model.proofs.HeapEdits.{get-put_same}
 use Rattle.geos_model.proofs.Tables.{put_at, slot_at-put_same, table_map-put}
+use Rattle.chunk_edits.specs.Patching.{BuildsPatch, patched, total_given, total_taken}
 use Rattle.chunk_edits.specs.Splicing.{Builds, RefusesToBuild, forwards}
+use Rattle.chunk_edits.specs.declared.patch.Piece.{Piece}
 use Rattle.chunk_edits.specs.declared.splice.Splice.{Splice}
+use Rattle.chunk_edits.proofs.PatchingLemmas.{patched_length, pieces_length}
 use Rattle.vm_blocks.proofs.RoomLemmas.{bytes-put}
+use Rattle.vm_blocks.specs.declared.change.PartChange.TheVariants as parts
 use Rattle.doc_edits.specs.Found.{AreOwn, IsHeapAt, IsChunkAt}
-use Rattle.doc_edits.specs.Building.{place_of, IsAt, SplicesAt, Splices}
+use Rattle.doc_edits.specs.Building.{place_of, IsAt, MakesAt, MakesPart}
 use Rattle.doc_edits.specs.Planning.{RefusesInMemory}
 use Rattle.doc_edits.proofs.Order.{more_refused, more_accepted, has_room}
 use Rattle.doc_edits.proofs.Refusals.{past_chunk}
@@ -41,9 +45,9 @@ pub record EditsChunk (edit : Edit) (d : Document) (b : VmHandle) (c : ChunkHand
   pub kind : kind_of edit ≡ In b
   pub cost : (after : Document) → cost edit d after ≡ both_lengths d after b.0 c.0
 
--- The splice is what an edit builds for these bytes: nothing of its own refuses it, and what it makes of them is no longer than any chunk.
-abbrev pub BuildsFor : Splice → List ℕ → (List ℕ → Conditions) → (List ℕ → List ℕ) → Type 0
-BuildsFor s bytes own to = Builds (own bytes ++ too_long (to bytes)) s bytes (to bytes) (length bytes + length (to bytes))
+-- The patch is what an edit of an array builds for these bytes: nothing of its own refuses it, and what it makes of them is no longer than any chunk.
+abbrev pub BuildsFor : List Piece → List ℕ → (List ℕ → Conditions) → (List ℕ → List ℕ) → Type 0
+BuildsFor ps bytes own to = BuildsPatch (own bytes ++ too_long (to bytes)) ps bytes (to bytes)
 
 -- no heap has room for more bytes than these in a chunk
 pub fits_short : (m : ChunkMap) (h : ℕ) (bytes : List ℕ) → is_heap_map m ≡ true → contains_key m h ≡ true → fits_with m h bytes ≡ true → length bytes ≤ longest_chunk
@@ -94,8 +98,8 @@ module _ (edit : Edit) (d : Document) (b : VmHandle) (c : ChunkHandle) (own : Li
         let here : first_refusal (own old ++ too_long (to old)) ≡ Some fault = subst (λ (x : List ℕ). first_refusal (own x ++ too_long (to x)) ≡ Some fault) there.value first in
         inr (past ∙ more_refused (own old) (means.are_own old) (nat_lt longest_chunk (length (to old))) (not (fits_with m c.0 (to old))) fault (long_full m c.0 (to old) there.valid there.live) here)
 
-    module _ (s : Splice) (builds : BuildsFor s old own to) where
-      refusal_is : first_refusal (conditions edit d) ≡ cond (fits_with m c.0 (forwards s old)) None (Some Full)
+    module _ (h : ChunkHandle) (here : h.0 ≡ c.0) (ps : List Piece) (builds : BuildsFor ps old own to) where
+      refusal_is : first_refusal (conditions edit d) ≡ cond (fits_with m c.0 (patched ps old)) None (Some Full)
       refusal_is =
           past ∙ more_accepted (own old) (means.are_own old) (nat_lt longest_chunk (length (to old))) (not (fits_with m c.0 (to old))) builds.accepted
           ∙ turned (fits_with m c.0 (to old)) ∙ ap (λ (x : List ℕ). cond (fits_with m c.0 x) None (Some Full)) (sym builds.leads.gives)
@@ -104,15 +108,22 @@ module _ (edit : Edit) (d : Document) (b : VmHandle) (c : ChunkHandle) (own : Li
           turned true = refl
           turned false = refl
 
-      cost_is : length s.old + length s.new ≡ cost edit d (effect edit d).0
+      -- it is charged for the bytes before and after it
+      lengths_are : total_taken ps + total_given ps ≡ length old + length (to old)
+      lengths_are = omega (arith, pieces_length ps old builds.leads.stands, patched_length ps old builds.leads.stands, ap length builds.leads.gives)
+
+      cost_is : total_taken ps + total_given ps ≡ cost edit d (effect edit d).0
       cost_is =
-          builds.leads.holds ∙ ap (λ (x : List ℕ). length old + length x) (sym (chunk_with d b.0 c.0 (to old))) ∙ ap (λ (p : Document × Done). length old + length (chunk_at p.0 b.0 c.0)) (sym means.does)
+          lengths_are ∙ ap (λ (x : List ℕ). length old + length x) (sym (chunk_with d b.0 c.0 (to old))) ∙ ap (λ (p : Document × Done). length old + length (chunk_at p.0 b.0 c.0)) (sym means.does)
           ∙ sym (means.cost (effect edit d).0)
 
-      splices : Splices edit d b c s done
-      splices = record {
-        stands = builds.leads.stands;
-        short = short_by (length (to old)) (length (forwards s old)) (ap length builds.leads.gives) (has_room (own old) (means.are_own old) (nat_lt longest_chunk (length (to old))) builds.accepted);
+      patch_made : MakesPart edit d b c (parts.Patch h ps) done
+      patch_made = record {
+        chunk = here;
+        built = record {
+          stands = record { stands = builds.leads.stands; gives = refl; peak = builds.leads.peak ∙ ap (λ (x : List ℕ). max (length old) (length x)) (sym builds.leads.gives) };
+          short = short_by (length (to old)) (length (patched ps old)) (ap length builds.leads.gives) (has_room (own old) (means.are_own old) (nat_lt longest_chunk (length (to old))) builds.accepted);
+        };
         refusal = refusal_is;
         document = ap (with_chunk d b.0 c.0) builds.leads.gives ∙ ap (λ p. p.0) (sym means.does);
         answer = ap (λ p. p.1) (sym means.does);
@@ -120,13 +131,15 @@ module _ (edit : Edit) (d : Document) (b : VmHandle) (c : ChunkHandle) (own : Li
         cost = cost_is;
       }
 
-    pub splices_built : (s : Splice) → BuildsFor s bytes own to → Splices edit d b c s done
-    splices_built s builds = splices s (subst (λ (x : List ℕ). BuildsFor s x own to) there.value builds)
+    module _ (h : ChunkHandle) (here : h.0 ≡ c.0) where
+      pub patch_built : (ps : List Piece) → BuildsFor ps bytes own to → MakesPart edit d b c (parts.Patch h ps) done
+      patch_built ps builds = patch_made h here ps (subst (λ (x : List ℕ). BuildsFor ps x own to) there.value builds)
 
-    -- what a builder answers
-    pub built : (r : Result Splice Fault) → MatchResult r (λ s. BuildsFor s bytes own to) (RefusesToBuild (own bytes ++ too_long (to bytes))) → MatchResult r (λ s. Splices edit d b c s done) (RefusesInMemory edit d)
-    built (Ok s) builds = splices_built s builds
-    built (Err fault) refuses = built_refused fault refuses
+      -- what a builder answers
+      pub built : (r : Result (List Piece) Fault) → MatchResult r (λ ps. BuildsFor ps bytes own to) (RefusesToBuild (own bytes ++ too_long (to bytes)))
+          → MatchResult r (λ ps. MakesPart edit d b c (parts.Patch h ps) done) (RefusesInMemory edit d)
+      built (Ok ps) builds = patch_built ps builds
+      built (Err fault) refuses = built_refused fault refuses
 
     pub refuses_built : (fault : Fault) → RefusesToBuild (own bytes ++ too_long (to bytes)) fault → RefusesInMemory edit d fault
     refuses_built fault refuses = built_refused fault refuses
@@ -137,12 +150,12 @@ module _ (edit : Edit) (d : Document) (b : VmHandle) (c : ChunkHandle) (rest : C
   plain_past : first_refusal (conditions edit d) ≡ first_refusal rest
   plain_past = ap first_refusal refusals ∙ past_chunk d b.0 c.0 (chunks_of d b.0) rest heap live
 
-  plain_splices : (s : Splice) → Builds rest s (chunk_at d b.0 c.0) to held → fits_with (chunks_of d b.0) c.0 to ≡ true → Splices edit d b c s done.Nothing
-  plain_splices s builds fit =
+  plain_made : (h : ChunkHandle) → h.0 ≡ c.0 → (s : Splice) → Builds rest s (chunk_at d b.0 c.0) to held → fits_with (chunks_of d b.0) c.0 to ≡ true → MakesPart edit d b c (parts.Chunk h s) done.Nothing
+  plain_made h here s builds fit =
       let fits_then : fits_with (chunks_of d b.0) c.0 (forwards s (chunk_at d b.0 c.0)) ≡ true = ap (fits_with (chunks_of d b.0) c.0) builds.leads.gives ∙ fit in
       record {
-        stands = builds.leads.stands;
-        short = fits_short (chunks_of d b.0) c.0 _ valid live fits_then;
+        chunk = here;
+        built = record { stands = builds.leads.stands; short = fits_short (chunks_of d b.0) c.0 _ valid live fits_then };
         refusal = plain_past ∙ builds.accepted ∙ ap (λ (t : Bool). cond t None (Some Full)) (sym fits_then);
         document = ap (with_chunk d b.0 c.0) builds.leads.gives ∙ ap (λ p. p.0) (sym does);
         answer = ap (λ p. p.1) (sym does);
@@ -154,32 +167,38 @@ module _ (edit : Edit) (d : Document) (b : VmHandle) (c : ChunkHandle) (rest : C
   plain_refuses fault (inl memory) = inl memory
   plain_refuses fault (inr first) = inr (plain_past ∙ first)
 
-  pub plain_built : (r : Result Splice Fault) → MatchResult r (λ s. Builds rest s (chunk_at d b.0 c.0) to held) (RefusesToBuild rest) → IfOk r (λ s. fits_with (chunks_of d b.0) c.0 to ≡ true)
-      → MatchResult r (λ s. Splices edit d b c s done.Nothing) (RefusesInMemory edit d)
-  plain_built (Ok s) builds fit = plain_splices s builds fit
-  plain_built (Err fault) refuses fit = plain_refuses fault refuses
+  pub plain_built : (h : ChunkHandle) → h.0 ≡ c.0 → (r : Result Splice Fault) → MatchResult r (λ s. Builds rest s (chunk_at d b.0 c.0) to held) (RefusesToBuild rest) → IfOk r (λ s. fits_with (chunks_of d b.0) c.0 to ≡ true)
+      → MatchResult r (λ s. MakesPart edit d b c (parts.Chunk h s) done.Nothing) (RefusesInMemory edit d)
+  plain_built h here (Ok s) builds fit = plain_made h here s builds fit
+  plain_built h here (Err fault) refuses fit = plain_refuses fault refuses
 
--- What a builder answers, of the place that an edit names.
+-- What a builder answers, of the place that an edit names: of the bytes of a chunk as such,
 
-abbrev pub BuildsOf : ChunkMap → ℕ → List ℕ → Done → Result Splice Fault → Edit → Type 0
-BuildsOf m k bytes done r edit = (d : Document) → IsAt edit d m k bytes → MatchResult r (SplicesAt edit d done) (RefusesInMemory edit d)
+abbrev pub SplicesOf : ChunkMap → ChunkHandle → Result Splice Fault → Edit → Type 0
+SplicesOf m h r edit = (d : Document) (bytes : List ℕ) → IsAt edit d m h.0 bytes → MatchResult r (λ s. MakesAt edit d done.Nothing (parts.Chunk h s)) (RefusesInMemory edit d)
 
-abbrev pub SplicesOf : ChunkMap → ℕ → List ℕ → Done → Splice → Edit → Type 0
-SplicesOf m k bytes done s edit = (d : Document) → IsAt edit d m k bytes → SplicesAt edit d done s
+-- and of an array, whichever chunk it is.
 
-abbrev pub RefusesOf : ChunkMap → ℕ → List ℕ → Fault → Edit → Type 0
-RefusesOf m k bytes fault edit = (d : Document) → IsAt edit d m k bytes → RefusesInMemory edit d fault
+abbrev pub BuildsOf : List ℕ → Done → Result (List Piece) Fault → Edit → Type 0
+BuildsOf bytes done r edit = (d : Document) (m : ChunkMap) (h : ChunkHandle) → IsAt edit d m h.0 bytes → MatchResult r (λ ps. MakesAt edit d done (parts.Patch h ps)) (RefusesInMemory edit d)
+
+abbrev pub PatchesOf : List ℕ → Done → List Piece → Edit → Type 0
+PatchesOf bytes done ps edit = (d : Document) (m : ChunkMap) (h : ChunkHandle) → IsAt edit d m h.0 bytes → MakesAt edit d done (parts.Patch h ps)
+
+abbrev pub RefusesOf : List ℕ → Fault → Edit → Type 0
+RefusesOf bytes fault edit = (d : Document) (m : ChunkMap) (k : ℕ) → IsAt edit d m k bytes → RefusesInMemory edit d fault
 
 -- An edit of an array, built so at the place that it names.
-module _ (now edit : Edit) (b : VmHandle) (c : ChunkHandle) (is : now ≡ edit) (named : place_of edit ≡ Some (b, c)) (m : ChunkMap) (k : ℕ) (bytes : List ℕ) where
+module _ (now edit : Edit) (b : VmHandle) (c : ChunkHandle) (is : now ≡ edit) (named : place_of edit ≡ Some (b, c)) (bytes : List ℕ) where
   place_is : place_of now ≡ Some (b, c)
   place_is = ap place_of is ∙ named
 
-  at_place : (d : Document) → IsAt now d m k bytes → IsChunkAt d b.0 c.0 bytes
-  at_place d at = (subst (λ (o : Option (VmHandle × ChunkHandle)). MatchOption o ⊥ (λ p. IsHeapAt d p.0.0 m × (k ≡ p.1.0) × IsChunkAt d p.0.0 p.1.0 bytes)) place_is at).2
+  at_place : (d : Document) (m : ChunkMap) (k : ℕ) → IsAt now d m k bytes → IsHeapAt d b.0 m × (k ≡ c.0) × IsChunkAt d b.0 c.0 bytes
+  at_place d m k at = subst (λ (o : Option (VmHandle × ChunkHandle)). MatchOption o ⊥ (λ p. IsHeapAt d p.0.0 m × (k ≡ p.1.0) × IsChunkAt d p.0.0 p.1.0 bytes)) place_is at
 
-  pub array_built : (own : List ℕ → Conditions) (to : List ℕ → List ℕ) (done : Done) → ((d : Document) → EditsChunk edit d b c own to done) → (r : Result Splice Fault)
-      → MatchResult r (λ s. BuildsFor s bytes own to) (RefusesToBuild (own bytes ++ too_long (to bytes))) → BuildsOf m k bytes done r now
-  array_built own to done means r builds = λ d at.
-      subst (λ (o : Option (VmHandle × ChunkHandle)). MatchResult r (λ s. MatchOption o ⊥ (λ p. Splices now d p.0 p.1 s done)) (RefusesInMemory now d)) (sym place_is)
-      (built now d b c own to done (subst (λ (e : Edit). EditsChunk e d b c own to done) (sym is) (means d)) bytes (at_place d at) r builds)
+  pub array_built : (own : List ℕ → Conditions) (to : List ℕ → List ℕ) (done : Done) → ((d : Document) → EditsChunk edit d b c own to done) → (r : Result (List Piece) Fault)
+      → MatchResult r (λ ps. BuildsFor ps bytes own to) (RefusesToBuild (own bytes ++ too_long (to bytes))) → BuildsOf bytes done r now
+  array_built own to done means r builds = λ d m h at.
+      let place = at_place d m h.0 at in
+      subst (λ (o : Option (VmHandle × ChunkHandle)). MatchResult r (λ ps. MatchOption o ⊥ (λ p. MakesPart now d p.0 p.1 (parts.Patch h ps) done)) (RefusesInMemory now d)) (sym place_is)
+      (built now d b c own to done (subst (λ (e : Edit). EditsChunk e d b c own to done) (sym is) (means d)) bytes place.2 h place.1 r builds)
