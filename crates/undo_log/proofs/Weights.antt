@@ -13,6 +13,7 @@ use Rattle.vm_blocks.specs.declared.change.Content.{Content}
 use Rattle.vm_blocks.specs.declared.change.Content.TheVariants as contents
 use Rattle.vm_blocks.specs.declared.change.PartChange.{PartChange}
 use Rattle.vm_blocks.specs.declared.change.PartChange.TheVariants as parts
+use Rattle.chunk_edits.proofs.PatchingLemmas.{held_le}
 use Rattle.chunk_edits.specs.declared.direction.Direction.{Direction}
 use Rattle.chunk_edits.specs.declared.direction.Direction.TheVariants.{Forwards, Backwards}
 use Rattle.doc_edits.specs.Planning.{part_cost, change_cost}
@@ -29,6 +30,7 @@ content_weight-le (contents.Zeros n) = omega arith
 part_weight-le : (part : PartChange) → part_weight part ≤ part_cost part
 part_weight-le (parts.Raw s) = omega arith
 part_weight-le (parts.Chunk c s) = omega arith
+part_weight-le (parts.Patch c ps) = held_le ps
 part_weight-le (parts.ChunkIn c content) = content_weight-le content
 part_weight-le (parts.ChunkOut c content) = content_weight-le content
 
