@@ -1,5 +1,5 @@
 //! Patches are carried out forwards and backwards, next to plain pieces.
-use chunk_edits::{Direction, Patch, apply_patch, copied, patch_law};
+use chunk_edits::{Direction, Patch, apply_patch, patch_law};
 use geos_model::ChunkHandle;
 use lmem_heap::Heap;
 use std::alloc::{AllocError, Global};
@@ -13,30 +13,22 @@ enum Plain<'a> {
     Rebase(u32, u16, u16),
 }
 
-/// The patch of these pieces; None where they hold more than tests need.
+/// The patch of these pieces; None where one holds more than tests need.
 fn patch_of(alloc: Global, pieces: &[Plain]) -> Result<Option<Patch>, AllocError> {
     let mut patch = Patch::new(alloc)?;
     for piece in pieces {
         match *piece {
             Plain::Keep(n) => patch.keep(n)?,
             Plain::Put(old, new) => {
-                if !put(alloc, &mut patch, old, new)? {
+                if old.len() > 1_000 || new.len() > 1_000 {
                     return Ok(None);
                 }
+                patch.put(old, new)?;
             }
             Plain::Rebase(words, from, to) => patch.rebase(words, from, to)?,
         }
     }
     Ok(Some(patch))
-}
-
-/// A few bytes that go, and others that come.
-fn put(alloc: Global, patch: &mut Patch, old: &[u8], new: &[u8]) -> Result<bool, AllocError> {
-    if patch.byte_count() > 100_000 || old.len() > 1_000 || new.len() > 1_000 {
-        return Ok(false);
-    }
-    patch.put(copied(alloc, old)?, copied(alloc, new)?)?;
-    Ok(true)
 }
 
 /// What the pieces make of bytes.

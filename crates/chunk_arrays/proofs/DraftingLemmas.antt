@@ -3,10 +3,8 @@ use Rattle.std.proofs.Common.{◌≡◌, ℕ, ◌+◌, ◌/◌, ◌%◌, ◌<◌
 use Rattle.std.proofs.lemmas.Bool.{cases_Bool, cond-true, cond-false, eqb-true, eq-eqb}
 use Rattle.std.proofs.lemmas.List.{take_all, drop_all, take-append-drop, take-append-le, drop-append-le, get_or_default}
 use Rattle.std.proofs.lemmas.List.Sums.{sum_by-append}
-use Rattle.chunk_edits.specs.Patching.{taken, given, held_by, peak, held, piece_after, patched, IsPieceOf, ArePiecesOf, PatchLeads}
-use Rattle.chunk_edits.specs.declared.patch.Piece.{Piece}
-use Rattle.chunk_edits.specs.declared.patch.Piece.TheVariants as pieces
-use Rattle.chunk_edits.proofs.PatchingLemmas.{taken-cons, peak-cons, held-cons, pieces_length, piece_after-length}
+use Rattle.chunk_edits.specs.Patching.{Piece, Keep, Put, Rebase, taken, given, peak, piece_after, patched, IsPieceOf, ArePiecesOf, PatchLeads}
+use Rattle.chunk_edits.proofs.PatchingLemmas.{taken-cons, peak-cons, pieces_length, piece_after-length}
 use Rattle.chunk_arrays.specs.Drafting.{drawn, settled, Draws, Adds}
 use Rattle.chunk_arrays.specs.declared.draft.Draft.{Draft}
 
@@ -36,42 +34,39 @@ patched-append (p ∷ ps) qs x u are =
     ∙ sym (append_assoc (piece_after p (take (taken p) x)) (patched ps (drop (taken p) x)) (patched qs u))
 
 -- bytes that stay
-keep_all : (n : ℕ) (bytes : List ℕ) → length bytes ≡ n → ArePiecesOf (pieces.Keep n ∷ []) bytes
+keep_all : (n : ℕ) (bytes : List ℕ) → length bytes ≡ n → ArePiecesOf (Keep n ∷ []) bytes
 keep_all n bytes is = (ap length (take_all n bytes (omega arith)) ∙ is, drop_all n bytes (omega arith))
 
 -- more bytes that stay behind some that do
-keep_more : (ps : List Piece) (k : ℕ) (x u : List ℕ) → ArePiecesOf (ps ++ pieces.Keep k ∷ []) x
-    → ArePiecesOf (ps ++ pieces.Keep (k + length u) ∷ []) (x ++ u) × (patched (ps ++ pieces.Keep (k + length u) ∷ []) (x ++ u) ≡ patched (ps ++ pieces.Keep k ∷ []) x ++ u)
+keep_more : (ps : List Piece) (k : ℕ) (x u : List ℕ) → ArePiecesOf (ps ++ Keep k ∷ []) x
+    → ArePiecesOf (ps ++ Keep (k + length u) ∷ []) (x ++ u) × (patched (ps ++ Keep (k + length u) ∷ []) (x ++ u) ≡ patched (ps ++ Keep k ∷ []) x ++ u)
 keep_more [] k x u are = (
-  keep_all (k + length u) (x ++ u) (omega (arith, length-append x u, pieces_length (pieces.Keep k ∷ []) x are)),
+  keep_all (k + length u) (x ++ u) (omega (arith, length-append x u, pieces_length (Keep k ∷ []) x are)),
   take-append-drop (k + length u) (x ++ u) ∙ ap (λ (l : List ℕ). l ++ u) (sym (take-append-drop k x)),
 )
 keep_more (p ∷ ps) k x u are =
-    let here = first-same p (ps ++ pieces.Keep k ∷ []) x u are in
-    let there = behind-same p (ps ++ pieces.Keep k ∷ []) x u are in
+    let here = first-same p (ps ++ Keep k ∷ []) x u are in
+    let there = behind-same p (ps ++ Keep k ∷ []) x u are in
     let rest = keep_more ps k (drop (taken p) x) u are.1 in (
-      (subst (IsPieceOf p) (sym here) are.0, subst (ArePiecesOf (ps ++ pieces.Keep (k + length u) ∷ [])) (sym there) rest.0),
-      ap₂ (λ (l m : List ℕ). piece_after p l ++ patched (ps ++ pieces.Keep (k + length u) ∷ []) m) here there
+      (subst (IsPieceOf p) (sym here) are.0, subst (ArePiecesOf (ps ++ Keep (k + length u) ∷ [])) (sym there) rest.0),
+      ap₂ (λ (l m : List ℕ). piece_after p l ++ patched (ps ++ Keep (k + length u) ∷ []) m) here there
           ∙ ap (λ (l : List ℕ). piece_after p (take (taken p) x) ++ l) rest.1
-          ∙ sym (append_assoc (piece_after p (take (taken p) x)) (patched (ps ++ pieces.Keep k ∷ []) (drop (taken p) x)) u),
+          ∙ sym (append_assoc (piece_after p (take (taken p) x)) (patched (ps ++ Keep k ∷ []) (drop (taken p) x)) u),
     )
 
 -- none that stay
-keep_none : (ps : List Piece) (x : List ℕ) → ArePiecesOf (ps ++ pieces.Keep 0 ∷ []) x → ArePiecesOf ps x × (patched (ps ++ pieces.Keep 0 ∷ []) x ≡ patched ps x)
+keep_none : (ps : List Piece) (x : List ℕ) → ArePiecesOf (ps ++ Keep 0 ∷ []) x → ArePiecesOf ps x × (patched (ps ++ Keep 0 ∷ []) x ≡ patched ps x)
 keep_none [] x are = (are.1, refl)
 keep_none (p ∷ ps) x are =
     let rest = keep_none ps (drop (taken p) x) are.1 in
     ((are.0, rest.0), ap (λ (l : List ℕ). piece_after p (take (taken p) x) ++ l) rest.1)
 
--- how many bytes there are at most in between, and how many are held
-peak-drawn : (ps : List Piece) (k : ℕ) → peak (ps ++ pieces.Keep k ∷ []) ≡ peak ps + k
-peak-drawn ps k = sum_by-append (λ q. max (taken q) (given q)) ps (pieces.Keep k ∷ []) ∙ (let one = peak-cons (pieces.Keep k) [] in omega (arith, one))
+-- how many bytes there are at most in between
+peak-drawn : (ps : List Piece) (k : ℕ) → peak (ps ++ Keep k ∷ []) ≡ peak ps + k
+peak-drawn ps k = sum_by-append (λ q. max (taken q) (given q)) ps (Keep k ∷ []) ∙ (let one = peak-cons (Keep k) [] in omega (arith, one))
 
 peak-pushed : (ps : List Piece) (p : Piece) → peak (ps ++ p ∷ []) ≡ peak ps + max (taken p) (given p)
 peak-pushed ps p = sum_by-append (λ q. max (taken q) (given q)) ps (p ∷ []) ∙ (let one = peak-cons p [] in omega (arith, one))
-
-held-pushed : (ps : List Piece) (p : Piece) → held (ps ++ p ∷ []) ≡ held ps + held_by p
-held-pushed ps p = sum_by-append held_by ps (p ∷ []) ∙ (let one = held-cons p [] in omega (arith, one))
 
 -- a draft without a piece of no bytes
 module _ (d : Draft) where
@@ -82,11 +77,11 @@ module _ (d : Draft) where
   settled_draws x y h = elim (cases_Bool (d.kept == 0)) [
     | inl none ↦ (
         let is : d.kept ≡ 0 = eqb-true d.kept 0 none in
-        let without = keep_none d.patch x (subst (λ (k : ℕ). ArePiecesOf (d.patch ++ pieces.Keep k ∷ []) x) is h.stands) in
+        let without = keep_none d.patch x (subst (λ (k : ℕ). ArePiecesOf (d.patch ++ Keep k ∷ []) x) is h.stands) in
         let same : settled d ≡ d.patch = settled-none is in (
           subst (λ (ps : List Piece). ArePiecesOf ps x) (sym same) without.0,
           ap (λ (ps : List Piece). patched ps x) same ∙ sym without.1
-              ∙ ap (λ (k : ℕ). patched (d.patch ++ pieces.Keep k ∷ []) x) (sym is) ∙ h.gives,
+              ∙ ap (λ (k : ℕ). patched (d.patch ++ Keep k ∷ []) x) (sym is) ∙ h.gives,
         ))
     | inr some ↦ (
         let same : settled d ≡ drawn d = cond-false (d.kept == 0) _ _ some in (
@@ -103,16 +98,10 @@ module _ (d : Draft) where
     | inr some ↦ ap peak (cond-false (d.kept == 0) _ _ some)
   ]
 
-  pub held-settled : held (settled d) ≡ held d.patch
-  held-settled = elim (cases_Bool (d.kept == 0)) [
-    | inl none ↦ ap held (settled-none (eqb-true d.kept 0 none))
-    | inr some ↦ ap held (cond-false (d.kept == 0) _ _ some) ∙ (let all = held-pushed d.patch (pieces.Keep d.kept) in omega (arith, all))
-  ]
-
 piece-long : (p : Piece) (bytes : List ℕ) → IsPieceOf p bytes → length bytes ≡ taken p
-piece-long (pieces.Keep n) bytes is = is
-piece-long (pieces.Put old new) bytes is = ap length is
-piece-long (pieces.Rebase words from to) bytes is = is.0
+piece-long (Keep n) bytes is = is
+piece-long (Put old new) bytes is = ap length is
+piece-long (Rebase words from to) bytes is = is.0
 
 -- one piece of all these bytes, and none that stay behind it
 module _ (p : Piece) (u : List ℕ) (is : IsPieceOf p u) where
@@ -122,30 +111,30 @@ module _ (p : Piece) (u : List ℕ) (is : IsPieceOf p u) where
   none_behind : drop (taken p) u ≡ []
   none_behind = drop_all (taken p) u (omega (arith, piece-long p u is))
 
-  one_piece : ArePiecesOf (p ∷ pieces.Keep 0 ∷ []) u
-  one_piece = (subst (IsPieceOf p) (sym one_whole) is, subst (ArePiecesOf (pieces.Keep 0 ∷ [])) (sym none_behind) (refl, refl))
+  one_piece : ArePiecesOf (p ∷ Keep 0 ∷ []) u
+  one_piece = (subst (IsPieceOf p) (sym one_whole) is, subst (ArePiecesOf (Keep 0 ∷ [])) (sym none_behind) (refl, refl))
 
-  one_patched : patched (p ∷ pieces.Keep 0 ∷ []) u ≡ piece_after p u
+  one_patched : patched (p ∷ Keep 0 ∷ []) u ≡ piece_after p u
   one_patched =
-      ap₂ (λ (l m : List ℕ). piece_after p l ++ patched (pieces.Keep 0 ∷ []) m) one_whole none_behind
+      ap₂ (λ (l m : List ℕ). piece_after p l ++ patched (Keep 0 ∷ []) m) one_whole none_behind
       ∙ append-nil (piece_after p u)
 
 -- a draft with one piece more
 module _ (d e : Draft) (p : Piece) (u : List ℕ) (pushed : e.patch ≡ settled d ++ p ∷ []) (none : e.kept ≡ 0) (is : IsPieceOf p u) where
-  drawn_pushed : drawn e ≡ settled d ++ (p ∷ pieces.Keep 0 ∷ [])
+  drawn_pushed : drawn e ≡ settled d ++ (p ∷ Keep 0 ∷ [])
   drawn_pushed =
-      ap₂ (λ (ps : List Piece) (k : ℕ). ps ++ pieces.Keep k ∷ []) pushed none
-      ∙ append_assoc (settled d) (p ∷ []) (pieces.Keep 0 ∷ [])
+      ap₂ (λ (ps : List Piece) (k : ℕ). ps ++ Keep k ∷ []) pushed none
+      ∙ append_assoc (settled d) (p ∷ []) (Keep 0 ∷ [])
 
-  pub adds-piece : held_by p ≤ length u + length (piece_after p u) → Adds d e u (piece_after p u)
-  adds-piece little = record {
+  pub adds-piece : Adds d e u (piece_after p u)
+  adds-piece = record {
     draws = λ x y h.
         let before = settled_draws d x y h in
         record {
           stands = subst (λ (ps : List Piece). ArePiecesOf ps (x ++ u)) (sym drawn_pushed)
-              (pieces-append (settled d) (p ∷ pieces.Keep 0 ∷ []) x u before.0 (one_piece p u is));
+              (pieces-append (settled d) (p ∷ Keep 0 ∷ []) x u before.0 (one_piece p u is));
           gives = ap (λ (ps : List Piece). patched ps (x ++ u)) drawn_pushed
-              ∙ patched-append (settled d) (p ∷ pieces.Keep 0 ∷ []) x u before.0
+              ∙ patched-append (settled d) (p ∷ Keep 0 ∷ []) x u before.0
               ∙ ap₂ (λ (l m : List ℕ). l ++ m) before.1 (one_patched p u is);
         };
     peak =
@@ -154,16 +143,13 @@ module _ (d e : Draft) (p : Piece) (u : List ℕ) (pushed : e.patch ≡ settled 
         let long = piece-long p u is in
         let after = piece_after-length p u long in
         omega (arith, all, more, long, after, peak-settled d, none);
-    held =
-        let more : held e.patch ≡ held (settled d) + held_by p = ap held pushed ∙ held-pushed (settled d) p in
-        omega (arith, more, held-settled d, little);
     kept = omega (arith, none);
   }
 
 -- a draft with more bytes that stay
 pub adds-kept : (d e : Draft) (u : List ℕ) → e.patch ≡ d.patch → e.kept ≡ d.kept + length u → Adds d e u u
 adds-kept d e u same more =
-    let drawn_is : drawn e ≡ d.patch ++ pieces.Keep (d.kept + length u) ∷ [] = ap₂ (λ (ps : List Piece) (k : ℕ). ps ++ pieces.Keep k ∷ []) same more in
+    let drawn_is : drawn e ≡ d.patch ++ Keep (d.kept + length u) ∷ [] = ap₂ (λ (ps : List Piece) (k : ℕ). ps ++ Keep k ∷ []) same more in
     record {
       draws = λ x y h.
           let both = keep_more d.patch d.kept x u h.stands in
@@ -175,7 +161,6 @@ adds-kept d e u same more =
           let before : peak (drawn d) ≡ peak d.patch + d.kept = peak-drawn d.patch d.kept in
           let after : peak (drawn e) ≡ peak d.patch + (d.kept + length u) = ap peak drawn_is ∙ peak-drawn d.patch (d.kept + length u) in
           omega (arith, before, after);
-      held = let is = ap held same in omega (arith, is);
       kept = omega (arith, more);
     }
 
@@ -198,7 +183,6 @@ adds-then d e f x y u v one two level =
             gives = ap (patched (drawn f)) (sym (append_assoc l x u)) ∙ both.gives ∙ append_assoc m y v;
           };
       peak = let a = one.peak in let b = two.peak in omega (arith, from, to, level, a, b);
-      held = let a = one.held in let b = two.held in omega (arith, from, to, a, b);
       kept = let a = one.kept in let b = two.kept in omega (arith, to, a, b);
     }
 
@@ -217,13 +201,13 @@ adds-around d e f g x x′ u v y y′ front back one two three =
 -- the patch that was drawn up from nothing
 pub drawn_leads : (d e : Draft) (x y : List ℕ) → d.patch ≡ [] → d.kept ≡ 0 → Adds d e x y → PatchLeads (settled e) x y
 drawn_leads d e x y empty none adds =
-    let start : drawn d ≡ pieces.Keep 0 ∷ [] = ap₂ (λ (ps : List Piece) (k : ℕ). ps ++ pieces.Keep k ∷ []) empty none in
+    let start : drawn d ≡ Keep 0 ∷ [] = ap₂ (λ (ps : List Piece) (k : ℕ). ps ++ Keep k ∷ []) empty none in
     let nothing : Draws d [] [] = record {
       stands = subst (λ (ps : List Piece). ArePiecesOf ps []) (sym start) (refl, refl);
       gives = ap (λ (ps : List Piece). patched ps []) start;
     } in
     let all = settled_draws e x y (adds.draws [] [] nothing) in
-    let low : peak (drawn d) ≡ 0 = ap peak start ∙ (let one = peak-cons (pieces.Keep 0) [] in omega (arith, one)) in
+    let low : peak (drawn d) ≡ 0 = ap peak start ∙ (let one = peak-cons (Keep 0) [] in omega (arith, one)) in
     record {
       stands = all.0;
       gives = all.1;
@@ -231,5 +215,10 @@ drawn_leads d e x y empty none adds =
     }
 
 -- words that are rebased are a piece
-pub words_piece : (bytes : List ℕ) (words from to : ℕ) → words ≡ length bytes / 2 → length bytes % 2 ≡ 0 → ((i : ℕ) → get_or bytes i 0 < 256) → IsPieceOf (pieces.Rebase words from to) bytes
+pub words_piece : (bytes : List ℕ) (words from to : ℕ) → words ≡ length bytes / 2 → length bytes % 2 ≡ 0 → ((i : ℕ) → get_or bytes i 0 < 256) → IsPieceOf (Rebase words from to) bytes
 words_piece bytes words from to is whole all = (omega arith, λ i d l. subst (λ (b : ℕ). b < 256) (get_or_default bytes i 0 d l) (all i))
+
+-- bytes that are none
+pub no_bytes : (bytes : List ℕ) → length bytes ≡ 0 → bytes ≡ []
+no_bytes [] none = refl
+no_bytes (b ∷ bytes) none = absurd (omega arith)

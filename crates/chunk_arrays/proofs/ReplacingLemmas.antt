@@ -8,9 +8,8 @@ use Rattle.geos_model.specs.Array.{Array, array_of, array_bytes}
 use Rattle.geos_model.specs.ArrayEdits.{too_long, array_in, new_array, with_elements, array_zeroed, on_array, insert_conditions, set_conditions, resize_conditions, delete_conditions, is_missized}
 use Rattle.geos_model.specs.declared.fault.Fault.{Fault}
 use Rattle.geos_model.specs.declared.fault.Fault.TheVariants.{Full, NotArray, NoElement, Range}
-use Rattle.chunk_edits.specs.Patching.{PatchLeads, BuildsPatch}
+use Rattle.chunk_edits.specs.Patching.{Piece, PatchLeads, BuildsPatch}
 use Rattle.chunk_edits.specs.Splicing.{RefusesToBuild}
-use Rattle.chunk_edits.specs.declared.patch.Piece.{Piece}
 use Rattle.geos_model.proofs.Arrays.{array_bytes-of}
 
 pub refused-long : (bytes : List ℕ) → 65498 < length bytes → first_refusal (too_long bytes) ≡ Some Full

@@ -1,13 +1,11 @@
 -- What a draft of a patch is of, and what becomes of it.
 use Rattle.std.specs.Prelude.{◌≡◌, ◌≤◌, ◌+◌, ◌++◌, ◌==◌, ℕ, List, [], ◌∷◌, length, max, if◌then◌else◌}
-use Rattle.chunk_edits.specs.Patching.{ArePiecesOf, patched, peak, held}
-use Rattle.chunk_edits.specs.declared.patch.Piece.{Piece}
-use Rattle.chunk_edits.specs.declared.patch.Piece.TheVariants as pieces
+use Rattle.chunk_edits.specs.Patching.{Piece, Keep, ArePiecesOf, patched, peak}
 use Rattle.chunk_arrays.specs.declared.draft.Draft.{Draft}
 
 -- the pieces of a draft, with the bytes that stay behind the others as one
 abbrev pub drawn : Draft → List Piece
-drawn d = d.patch ++ pieces.Keep d.kept ∷ []
+drawn d = d.patch ++ Keep d.kept ∷ []
 
 -- the same without a piece of no bytes
 abbrev pub settled : Draft → List Piece
@@ -22,5 +20,4 @@ pub record Draws (d : Draft) (from to : List ℕ) : Type 0 where
 pub record Adds (before after : Draft) (from to : List ℕ) : Type 0 where
   pub draws : (x y : List ℕ) → Draws before x y → Draws after (x ++ from) (y ++ to)
   pub peak : peak (drawn after) ≡ peak (drawn before) + max (length from) (length to)
-  pub held : held after.patch ≤ held before.patch + (length from + length to)
   pub kept : after.kept ≤ before.kept + length to

@@ -1,19 +1,20 @@
 //! A patch that is drawn up from the first byte of a chunk on.
 ghost use Rattle.std.specs.Prelude.{◌≡◌, ◌+◌, ◌/◌, ◌%◌, ◌^◌, ◌<◌, [], IfOk, length};
-ghost use Rattle.chunk_edits.specs.Patching.{held, rebased};
+ghost use Rattle.chunk_edits.specs.Patching.{rebased};
 
 use chunk_edits::Patch;
-use geos_model::Bytes;
 use std::alloc::{AllocError, Global};
 
 /// A patch that is drawn up from the first byte of a chunk on. Bytes that stay side by side become one piece of it.
 #[derive(Drop)]
 pub(crate) struct Draft {
-    alloc: Global,
     patch: Patch,
     /// How many bytes stay behind those of the patch.
     kept: u32,
 }
+
+/// Of how many bytes a piece is at most that puts some in their place.
+const LONGEST_PUT: usize = 0xffff_ffff;
 
 impl Draft {
     ghost use Rattle.chunk_arrays.specs.Drafting.{Adds, settled};
@@ -22,10 +23,8 @@ impl Draft {
     pub fn new(alloc: Global) -> Result<Draft, AllocError>
         ensures { IfOk result (λ draft. (draft.patch ≡ []) × (draft.kept ≡ 0)) }
     {
-        let patch = Patch::new(alloc)?;
         Ok(Draft {
-            alloc,
-            patch,
+            patch: Patch::new(alloc)?,
             kept: 0,
         })
     }
@@ -40,29 +39,17 @@ impl Draft {
 
     /// These bytes more, and others in their place. They stay where both are the same.
     pub fn put(&mut self, old: &[u8], new: &[u8]) -> Result<(), AllocError>
-        requires kept { self.old.kept + length new.now < 2 ^ 32 }
-        requires held { held self.old.patch + length new.now < 2 ^ 63 }
+        requires { self.old.kept + length new.now < 2 ^ 32 }
         ensures { IfOk result (λ _. Adds self.old self.new old.now new.now) }
     {
         if old == new {
             self.keep(old);
             return Ok(());
         }
-        let new = copy(self.alloc, new)?;
-        self.replace(old, new)
-    }
-
-    /// The same, where the others are handed over.
-    pub fn put_owned(&mut self, old: &[u8], new: Vec<u8>) -> Result<(), AllocError>
-        requires kept { self.old.kept + length new.items < 2 ^ 32 }
-        requires held { held self.old.patch + length new.items < 2 ^ 63 }
-        ensures { IfOk result (λ _. Adds self.old self.new old.now new.items) }
-    {
-        if old == new.as_slice() {
-            self.keep(old);
-            return Ok(());
-        }
-        self.replace(old, new)
+        let (first, rest) = old.split_at(old.len().min(LONGEST_PUT));
+        self.replace(first, new)?;
+        self.cut(rest)?;
+        Ok(())
     }
 
     /// These words more, of which each becomes as far behind `to`, modulo 2^16, as it is behind `from`.
@@ -77,22 +64,36 @@ impl Draft {
         Ok(())
     }
 
-    /// The patch that was drawn up.
+    /// The patch that was drawn up, with no room for more.
     pub fn finish(mut self) -> Result<Patch, AllocError>
         ensures { IfOk result (λ patch. patch ≡ settled self) }
     {
         self.settle()?;
+        self.patch.shrink_to_fit();
         Ok(self.patch)
     }
 
-    /// These bytes more, and others in their place.
-    fn replace(&mut self, old: &[u8], new: Vec<u8>) -> Result<(), AllocError>
-        requires { held self.old.patch + length new.items < 2 ^ 63 }
-        ensures { IfOk result (λ _. Adds self.old self.new old.now new.items) }
+    /// These bytes more, which go.
+    fn cut(&mut self, bytes: &[u8]) -> Result<(), AllocError>
+        ensures { IfOk result (λ _. Adds self.old self.new bytes.now []) }
     {
-        let old = copy(self.alloc, old)?;
+        let mut rest = bytes;
+        while !rest.is_empty() {
+            let (part, behind) = rest.split_at(rest.len().min(LONGEST_PUT));
+            self.replace(part, &[])?;
+            rest = behind;
+        }
+        Ok(())
+    }
+
+    /// These bytes more, and others in their place.
+    fn replace(&mut self, old: &[u8], new: &[u8]) -> Result<(), AllocError>
+        requires old { length old.now < 2 ^ 32 }
+        requires new { length new.now < 2 ^ 32 }
+        ensures { IfOk result (λ _. Adds self.old self.new old.now new.now) }
+    {
         self.settle()?;
-        self.patch.put(Bytes::from_vec(old), Bytes::from_vec(new))?;
+        self.patch.put(old, new)?;
         Ok(())
     }
 
@@ -106,13 +107,4 @@ impl Draft {
         }
         Ok(())
     }
-}
-
-/// A copy of these bytes.
-fn copy(alloc: Global, bytes: &[u8]) -> Result<Vec<u8>, AllocError>
-    ensures { IfOk result (λ copy. copy.items ≡ bytes.now) }
-{
-    let mut copy = Vec::with_capacity(alloc, bytes.len())?;
-    copy.extend_from_slice(bytes)?;
-    Ok(copy)
 }

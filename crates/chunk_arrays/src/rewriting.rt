@@ -4,7 +4,6 @@ ghost use Rattle.std.specs.List.{flat_map};
 ghost use Rattle.geos_model.specs.Words.{word};
 ghost use Rattle.geos_model.specs.Array.{array_bytes, array_start, is_even, place_table};
 ghost use Rattle.geos_model.specs.Heap.{longest_chunk};
-ghost use Rattle.chunk_edits.specs.Patching.{held};
 ghost use Rattle.chunk_arrays.specs.Drafting.{Adds};
 ghost use Rattle.chunk_arrays.specs.Reading.{element_place, words_from};
 ghost use Rattle.chunk_arrays.specs.Rewriting.{elements_after, elements_of, extra_after, rewritten};
@@ -126,7 +125,6 @@ fn draft_head(
     requires count { count < 2 ^ 16 }
     requires extra { length first.now ≤ length view.now.array.extra }
     requires room { draft.old.kept + array_start view.now.array < 2 ^ 32 }
-    requires little { held draft.old.patch < 2 ^ 62 }
     ensures { IfOk result
         (λ _. Adds draft.old draft.new (take (array_start view.now.array) (array_bytes view.now.array))
         (word count ++ take 6 (drop 2 (array_bytes view.now.array)) ++ extra_after view.now.array first.now)) }
@@ -155,7 +153,6 @@ fn draft_table(
     requires short { length (array_bytes (rewritten view.now.array view.now.array.extra from to new)) ≤ longest_chunk }
     // What the draft has room for.
     requires room { draft.old.kept + longest_chunk < 2 ^ 32 }
-    requires little { held draft.old.patch < 2 ^ 62 }
     // What the table becomes.
     ensures { IfOk result
         (λ _. Adds draft.old draft.new (place_table (array_start view.now.array) view.now.array)
@@ -208,7 +205,6 @@ fn draft_place(
 ) -> Result<(), AllocError>
     requires near { place < 2 ^ 16 }
     requires room { draft.old.kept + 2 < 2 ^ 32 }
-    requires little { held draft.old.patch + 2 < 2 ^ 63 }
     ensures { IfOk result (λ _. Adds draft.old draft.new words.now (words_from place (elements_of new.entry))) }
 {
     if new.is_none() {
@@ -233,14 +229,14 @@ fn draft_elements(
     requires short { length (flat_map (λ x. x) (elements_after view.now.array from to new)) ≤ longest_chunk }
     // What the draft has room for.
     requires room { draft.old.kept + longest_chunk < 2 ^ 32 }
-    requires little { held draft.old.patch < 2 ^ 62 }
     // What the elements become.
     ensures { IfOk result
         (λ _. Adds draft.old draft.new (flat_map (λ x. x) view.now.array.elements)
         (flat_map (λ x. x) (elements_after view.now.array from to new.entry))) }
 {
     draft.keep(view.run(0, from));
-    draft.put_owned(view.run(from, to), new_bytes(alloc, new)?)?;
+    let bytes = new_bytes(alloc, new)?;
+    draft.put(view.run(from, to), bytes.as_slice())?;
     draft.keep(view.run(to, view.count()));
     Ok(())
 }

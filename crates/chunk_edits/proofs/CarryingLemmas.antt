@@ -1,5 +1,5 @@
 -- A patch on its way: which bytes a chunk has once some of its pieces are carried out, and that there is room for them.
-use Rattle.std.proofs.Common.{◌≡◌, ℕ, ◌+◌, ◌≤◌, ◌<◌, max, true, false, List, [], ◌∷◌, ◌++◌, length, take, drop, get_or, replicate, unwrap_or, is_some, Option, Some, None, refl, sym, ap, ap₂, ◌∙◌, arith, inl, inr, append_assoc, add-one, length-append, length-drop, length-take-le, take-append-drop, take_at, drop_at, drop-drop, drop-cons}
+use Rattle.std.proofs.Common.{◌≡◌, ℕ, ◌+◌, ◌≤◌, max, true, false, List, [], ◌∷◌, ◌++◌, length, take, drop, replicate, unwrap_or, is_some, Option, Some, None, refl, sym, ap, ap₂, ◌∙◌, arith, inl, inr, append_assoc, length-append, length-drop, length-take-le, take-append-drop, take_at, drop_at, drop-drop}
 use Rattle.std.proofs.lemmas.Bool.{cases_eq, cases_lt}
 use Rattle.std.proofs.lemmas.List.{length-replicate}
 use Rattle.std.specs.Cmp.{nat_cmp_total}
@@ -7,11 +7,9 @@ use Rattle.std.specs.FinMap.{get, insert, contains_key, same_map, nat_cmp-IsAnti
 use Rattle.geos_model.specs.Heap.{ChunkMap, chunk_bytes, fits, fits_with, is_heap_map}
 use Rattle.geos_model.proofs.HeapEdits.{get-put_same, get-put_other, heap-insert}
 use Rattle.geos_model.proofs.HeapTables.{fits_with-fewer, fits_with-many, live_handle}
-use Rattle.chunk_edits.specs.Patching.{taken, given, total_taken, peak, piece_after, patched, directed_piece, directed_pieces, with_piece, reversed_piece}
+use Rattle.chunk_edits.specs.Patching.{Piece, Keep, taken, given, total_taken, peak, piece_after, patched, directed_piece, directed_pieces, with_piece}
 use Rattle.chunk_edits.specs.declared.direction.Direction.{Direction}
 use Rattle.chunk_edits.specs.declared.direction.Direction.TheVariants.{Forwards, Backwards}
-use Rattle.chunk_edits.specs.declared.patch.Piece.{Piece}
-use Rattle.chunk_edits.specs.declared.patch.Piece.TheVariants as pieces
 use Rattle.chunk_edits.proofs.PatchingLemmas.{taken-cons, peak-cons, taken_le_peak, reversed_peak, piece_after-length}
 
 -- The bytes.
@@ -68,25 +66,19 @@ module _ (p : Piece) (all rest : List Piece) (old bytes : List ℕ) (at : ℕ) (
 
 -- The pieces in a direction.
 
-pub next_piece : (d : Direction) (ps : List Piece) (i : ℕ) (p : Piece) → i < length ps → p ≡ get_or ps i p
-    → directed_pieces d (drop i ps) ≡ directed_piece d p ∷ directed_pieces d (drop (i + 1) ps)
-next_piece Forwards ps i p l is = drop-cons ps i p l ∙ ap₂ (λ (q : Piece) (k : ℕ). q ∷ drop k ps) (sym is) (sym (add-one i))
-next_piece Backwards ps i p l is =
-    ap (directed_pieces Backwards) (drop-cons ps i p l ∙ ap₂ (λ (q : Piece) (k : ℕ). q ∷ drop k ps) (sym is) (sym (add-one i)))
-
 pub directed_peak : (d : Direction) (ps : List Piece) → peak (directed_pieces d ps) ≡ peak ps
 directed_peak Forwards ps = refl
 directed_peak Backwards ps = reversed_peak ps
 
 -- a piece that stays
-kept_as : (n at : ℕ) (bytes : List ℕ) → with_piece (pieces.Keep n) at bytes ≡ bytes
+kept_as : (n at : ℕ) (bytes : List ℕ) → with_piece (Keep n) at bytes ≡ bytes
 kept_as n at bytes =
     ap (λ (l : List ℕ). take at bytes ++ (take n (drop at bytes) ++ l)) (sym (drop-drop n at bytes))
     ∙ (ap (λ (l : List ℕ). take at bytes ++ l) (take-append-drop n (drop at bytes)) ∙ take-append-drop at bytes)
 
-pub kept : (d : Direction) (p : Piece) (n at : ℕ) (bytes : List ℕ) → p ≡ pieces.Keep n → with_piece (directed_piece d p) at bytes ≡ bytes
-kept Forwards p n at bytes is = ap (λ (q : Piece). with_piece q at bytes) is ∙ kept_as n at bytes
-kept Backwards p n at bytes is = ap (λ (q : Piece). with_piece (reversed_piece q) at bytes) is ∙ kept_as n at bytes
+pub kept : (d : Direction) (n at : ℕ) (bytes : List ℕ) → with_piece (directed_piece d (Keep n)) at bytes ≡ bytes
+kept Forwards n at bytes = kept_as n at bytes
+kept Backwards n at bytes = kept_as n at bytes
 
 -- The heap.
 

@@ -4,9 +4,7 @@ use Rattle.std.proofs.Math.Nat.{div-one}
 use Rattle.std.proofs.lemmas.List.Sums.{sum_by-cons}
 use Rattle.byteorder.specs.Numbers.{little_from-bytes}
 use Rattle.geos_model.specs.Words.{word, word_at}
-use Rattle.chunk_edits.specs.Patching.{taken, given, held_by, total_taken, total_given, peak, held, rebased, piece_after, patched, IsPieceOf, ArePiecesOf, reversed_piece, reversed_pieces}
-use Rattle.chunk_edits.specs.declared.patch.Piece.{Piece}
-use Rattle.chunk_edits.specs.declared.patch.Piece.TheVariants as pieces
+use Rattle.chunk_edits.specs.Patching.{Piece, Keep, Put, Rebase, taken, given, held_by, total_taken, total_given, peak, held, rebased, piece_after, patched, IsPieceOf, ArePiecesOf, reversed_piece, reversed_pieces}
 
 -- Words.
 
@@ -82,14 +80,14 @@ rebased_words (w ∷ ws) from to =
 -- How many bytes a patch takes, gives and holds.
 
 piece-length : (p : Piece) (bytes : List ℕ) → IsPieceOf p bytes → length bytes ≡ taken p
-piece-length (pieces.Keep n) bytes is = is
-piece-length (pieces.Put old new) bytes is = ap length is
-piece-length (pieces.Rebase words from to) bytes is = is.0
+piece-length (Keep n) bytes is = is
+piece-length (Put old new) bytes is = ap length is
+piece-length (Rebase words from to) bytes is = is.0
 
 pub piece_after-length : (p : Piece) (bytes : List ℕ) → length bytes ≡ taken p → length (piece_after p bytes) ≡ given p
-piece_after-length (pieces.Keep n) bytes size = size
-piece_after-length (pieces.Put old new) bytes size = refl
-piece_after-length (pieces.Rebase words from to) bytes size = length-rebased words from to bytes
+piece_after-length (Keep n) bytes size = size
+piece_after-length (Put old new) bytes size = refl
+piece_after-length (Rebase words from to) bytes size = length-rebased words from to bytes
 
 -- sums, by the first piece
 
@@ -132,9 +130,9 @@ given_le_peak [] = omega arith
 given_le_peak (p ∷ ps) = let rest = given_le_peak ps in omega (arith, rest, given-cons p ps, peak-cons p ps)
 
 held_by-le : (p : Piece) → held_by p ≤ taken p + given p
-held_by-le (pieces.Keep n) = omega arith
-held_by-le (pieces.Put old new) = omega arith
-held_by-le (pieces.Rebase words from to) = omega arith
+held_by-le (Keep n) = omega arith
+held_by-le (Put old new) = omega arith
+held_by-le (Rebase words from to) = omega arith
 
 pub held_le : (ps : List Piece) → held ps ≤ total_taken ps + total_given ps
 held_le [] = omega arith
@@ -146,19 +144,19 @@ held_le (p ∷ ps) =
 -- The pieces the other way round.
 
 pub taken-reversed : (p : Piece) → taken (reversed_piece p) ≡ given p
-taken-reversed (pieces.Keep n) = refl
-taken-reversed (pieces.Put old new) = refl
-taken-reversed (pieces.Rebase words from to) = refl
+taken-reversed (Keep n) = refl
+taken-reversed (Put old new) = refl
+taken-reversed (Rebase words from to) = refl
 
 pub given-reversed : (p : Piece) → given (reversed_piece p) ≡ taken p
-given-reversed (pieces.Keep n) = refl
-given-reversed (pieces.Put old new) = refl
-given-reversed (pieces.Rebase words from to) = refl
+given-reversed (Keep n) = refl
+given-reversed (Put old new) = refl
+given-reversed (Rebase words from to) = refl
 
 piece-twice : (p : Piece) → reversed_piece (reversed_piece p) ≡ p
-piece-twice (pieces.Keep n) = refl
-piece-twice (pieces.Put old new) = refl
-piece-twice (pieces.Rebase words from to) = refl
+piece-twice (Keep n) = refl
+piece-twice (Put old new) = refl
+piece-twice (Rebase words from to) = refl
 
 pub reversed_taken : (ps : List Piece) → total_taken (reversed_pieces ps) ≡ total_given ps
 reversed_taken [] = refl
@@ -184,9 +182,9 @@ reversed_twice (p ∷ ps) = ap₂ (λ (x : Piece) (y : List Piece). x ∷ y) (pi
 
 piece_back : (p : Piece) (bytes : List ℕ) → IsPieceOf p bytes
     → IsPieceOf (reversed_piece p) (piece_after p bytes) × (piece_after (reversed_piece p) (piece_after p bytes) ≡ bytes)
-piece_back (pieces.Keep n) bytes is = (is, refl)
-piece_back (pieces.Put old new) bytes is = (refl, sym is)
-piece_back (pieces.Rebase words from to) bytes is =
+piece_back (Keep n) bytes is = (is, refl)
+piece_back (Put old new) bytes is = (refl, sym is)
+piece_back (Rebase words from to) bytes is =
     ((length-rebased words from to bytes, bytes_of_rebased words from to bytes), rebased_back words from to bytes is.0 is.1)
 
 -- pieces that begin with one which becomes these bytes

@@ -1,2 +1,3 @@
 pub mod Patching
+pub mod Spans
 pub mod Splicing

@@ -5,25 +5,30 @@ use Rattle.geos_model.specs.Refusal.{Conditions, first_refusal}
 use Rattle.geos_model.specs.Words.{word, word_at}
 use Rattle.chunk_edits.specs.declared.direction.Direction.{Direction}
 use Rattle.chunk_edits.specs.declared.direction.Direction.TheVariants.{Forwards, Backwards}
-use Rattle.chunk_edits.specs.declared.patch.Piece.{Piece}
-use Rattle.chunk_edits.specs.declared.patch.Piece.TheVariants as pieces
+
+-- A piece of some bytes, and what becomes of it: so many bytes stay; these go, and others come in their place; so many words,
+-- each as far behind `to` then, modulo 2^16, as it is behind `from`.
+pub data Piece : Type 0 where
+  Keep : (n : ℕ) → Piece
+  Put : (old new : List ℕ) → Piece
+  Rebase : (words from to : ℕ) → Piece
 
 -- how many bytes a piece is of, how many come in their place, and how many it holds
 
 abbrev pub taken : Piece → ℕ
-taken (pieces.Keep n) = n
-taken (pieces.Put old new) = length old
-taken (pieces.Rebase words from to) = 2 * words
+taken (Keep n) = n
+taken (Put old new) = length old
+taken (Rebase words from to) = 2 * words
 
 abbrev pub given : Piece → ℕ
-given (pieces.Keep n) = n
-given (pieces.Put old new) = length new
-given (pieces.Rebase words from to) = 2 * words
+given (Keep n) = n
+given (Put old new) = length new
+given (Rebase words from to) = 2 * words
 
 abbrev pub held_by : Piece → ℕ
-held_by (pieces.Keep n) = 0
-held_by (pieces.Put old new) = length old + length new
-held_by (pieces.Rebase words from to) = 0
+held_by (Keep n) = 0
+held_by (Put old new) = length old + length new
+held_by (Rebase words from to) = 0
 
 -- how many bytes all pieces are of, how many come in their place, how many there are at most in between, and how many are held
 abbrev pub total_taken : List Piece → ℕ
@@ -45,9 +50,9 @@ rebased (suc n) from to bytes = word (word_at bytes 0 + to + (2 ^ 16 - from % 2 
 
 -- what becomes of the bytes of a piece
 abbrev pub piece_after : Piece → List ℕ → List ℕ
-piece_after (pieces.Keep n) bytes = bytes
-piece_after (pieces.Put old new) bytes = new
-piece_after (pieces.Rebase words from to) bytes = rebased words from to bytes
+piece_after (Keep n) bytes = bytes
+piece_after (Put old new) bytes = new
+piece_after (Rebase words from to) bytes = rebased words from to bytes
 
 -- the bytes with each piece as it becomes
 abbrev pub patched : List Piece → List ℕ → List ℕ
@@ -56,9 +61,9 @@ patched (p ∷ ps) bytes = piece_after p (take (taken p) bytes) ++ patched ps (d
 
 -- these are the bytes of a piece
 abbrev pub IsPieceOf : Piece → List ℕ → Type 0
-IsPieceOf (pieces.Keep n) bytes = length bytes ≡ n
-IsPieceOf (pieces.Put old new) bytes = bytes ≡ old
-IsPieceOf (pieces.Rebase words from to) bytes = (length bytes ≡ 2 * words) × All (λ b. b < 256) bytes
+IsPieceOf (Keep n) bytes = length bytes ≡ n
+IsPieceOf (Put old new) bytes = bytes ≡ old
+IsPieceOf (Rebase words from to) bytes = (length bytes ≡ 2 * words) × All (λ b. b < 256) bytes
 
 -- the bytes are those of the pieces, one after another
 abbrev pub ArePiecesOf : List Piece → List ℕ → Type 0
@@ -68,9 +73,9 @@ ArePiecesOf (p ∷ ps) bytes = IsPieceOf p (take (taken p) bytes) × ArePiecesOf
 -- The same pieces the other way round.
 
 abbrev pub reversed_piece : Piece → Piece
-reversed_piece (pieces.Keep n) = pieces.Keep n
-reversed_piece (pieces.Put old new) = pieces.Put new old
-reversed_piece (pieces.Rebase words from to) = pieces.Rebase words to from
+reversed_piece (Keep n) = Keep n
+reversed_piece (Put old new) = Put new old
+reversed_piece (Rebase words from to) = Rebase words to from
 
 abbrev pub reversed_pieces : List Piece → List Piece
 reversed_pieces ps = map reversed_piece ps

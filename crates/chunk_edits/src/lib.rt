@@ -12,6 +12,6 @@ mod splice;
 pub use chunk::{apply, apply_back, delete, insert, resize, write};
 pub use direction::Direction;
 pub use law::{patch_law, splice_law};
-pub use patch::{Patch, Piece, apply_patch};
+pub use patch::{Patch, apply_patch};
 pub use raw::{apply_raw, apply_raw_back, raw_replace, raw_write};
 pub use splice::{Splice, copied};

@@ -3,77 +3,77 @@ ghost use Rattle.std.specs.Prelude.{◌≡◌, ◌≤◌, ◌+◌, ◌-◌, ◌*
 ghost use Rattle.std.specs.List.{splice};
 ghost use Rattle.std.specs.FinMap.{insert, contains_key};
 ghost use Rattle.geos_model.specs.Heap.{capacity, chunk_bytes, fits_with};
-ghost use Rattle.chunk_edits.specs.Patching.{directed_piece, directed_pieces, given, held, held_by, patched, peak, rebased, taken, total_taken, with_piece};
-ghost use Rattle.chunk_edits.specs.declared.patch.Piece.TheVariants as pieces;
+ghost use Rattle.chunk_edits.specs.Patching.{Keep, Put, Rebase, directed_piece, directed_pieces, given, held, patched, peak, rebased, taken, total_taken, with_piece};
+ghost use Rattle.chunk_edits.specs.Spans.{own, piece_of, pieces_of, total_own};
 
 use crate::chunk::{chunk_of, put};
 use crate::direction::Direction;
 use byteorder::{ByteOrder, LittleEndian};
-use geos_model::{Bytes, ChunkHandle};
+use geos_model::ChunkHandle;
 use lmem_heap::Heap;
 use std::alloc::{AllocError, Global};
 use std::marker::Model;
 
-/// A piece of some bytes, and what becomes of it.
-#[derive(Drop)]
-pub enum Piece {
+/// A piece as a patch keeps it: what becomes of how many bytes, without the bytes.
+#[derive(Clone, Copy)]
+enum Span {
     /// So many bytes stay.
     Keep(u32),
-    /// These bytes go, and others come in their place.
-    Put { old: Bytes, new: Bytes },
+    /// So many bytes go, and so many others come in their place.
+    Put { old: u32, new: u32 },
     /// So many words, each as far behind `to` then, modulo 2^16, as it is behind `from`.
     Rebase { words: u32, from: u16, to: u16 },
 }
 
-impl Piece {
+impl Span {
+    ghost use Rattle.chunk_edits.specs.Spans.{extent};
+
     /// How many bytes it is of in a direction.
-    fn taken(&self, direction: Direction) -> usize
-        ensures { result ≡ taken (directed_piece direction self.now) }
+    fn extent(self, direction: Direction) -> usize
+        ensures { result ≡ extent direction self }
     {
         match self {
-            Piece::Keep(n) => *n as usize,
-            Piece::Put { old, new } => match direction {
-                Direction::Forwards => old.as_slice().len(),
-                Direction::Backwards => new.as_slice().len(),
+            Span::Keep(n) => n as usize,
+            Span::Put { old, new } => match direction {
+                Direction::Forwards => old as usize,
+                Direction::Backwards => new as usize,
             },
-            Piece::Rebase { words, .. } => 2 * *words as usize,
+            Span::Rebase { words, .. } => 2 * words as usize,
         }
     }
 
-    /// How many bytes it holds.
-    fn held(&self) -> u64
-        ensures { result ≡ held_by self.now }
+    /// How many bytes its piece holds.
+    fn own(self) -> usize
+        ensures { result ≡ own self }
     {
         match self {
-            Piece::Put { old, new } => (old.as_slice().len() + new.as_slice().len()) as u64,
-            Piece::Keep(_) | Piece::Rebase { .. } => 0,
+            Span::Put { old, new } => old as usize + new as usize,
+            Span::Keep(_) | Span::Rebase { .. } => 0,
         }
     }
 }
 
-/// How many pieces a patch has room for when it is made; it takes more as it grows.
-const USUAL_PIECES: usize = 8;
+/// How many spans a patch has room for when it is made; it takes more as it grows.
+const USUAL_SPANS: usize = 8;
 
 /// All bytes of a chunk in pieces, of which some stay and others change. Contracts see it as the pieces, the first one first.
 #[derive(Drop)]
 pub struct Patch {
-    pieces: Vec<Piece>,
+    spans: Vec<Span>,
+    /// Of each piece the bytes that go, and behind them those that come.
+    content: Vec<u8>,
 }
 
 impl Model for Patch {
-    ghost use Rattle.std.specs.Prelude.{◌<◌, ◌^◌, List};
-    ghost use Rattle.std.specs.Coded.{coded_list};
-    ghost use Rattle.chunk_edits.specs.Patching.{held};
-    ghost use Rattle.chunk_edits.specs.declared.patch.Piece.{Piece};
-    ghost use Rattle.chunk_edits.specs.contracts.patch.Piece as piece_type;
+    ghost use Rattle.std.specs.Prelude.{◌≡◌, List, length};
+    ghost use Rattle.chunk_edits.specs.Patching.{Piece};
+    ghost use Rattle.chunk_edits.specs.Spans.{pieces_of, total_own};
 
     ghost Value = { List Piece };
 
-    ghost coded = { coded_list piece_type.the_row.coded };
+    ghost view = { λ p. pieces_of p.spans.items p.content.items };
 
-    ghost view = { λ p. p.pieces.items };
-
-    ghost invariant = { λ p. held p.pieces.items < 2 ^ 64 };
+    ghost invariant = { λ p. total_own p.spans.items ≡ length p.content.items };
 }
 
 impl Patch {
@@ -82,47 +82,61 @@ impl Patch {
         ensures { IfOk result (λ patch. patch ≡ []) }
     {
         Ok(Patch {
-            pieces: Vec::with_capacity(alloc, USUAL_PIECES)?,
+            spans: Vec::with_capacity(alloc, USUAL_SPANS)?,
+            content: Vec::new(alloc),
         })
     }
 
     /// So many bytes more, which stay.
     pub fn keep(&mut self, n: u32) -> Result<(), AllocError>
-        ensures ok { OnOk result (self.new ≡ self.old ++ (pieces.Keep n ∷ [])) }
+        ensures ok { OnOk result (self.new ≡ self.old ++ (Keep n ∷ [])) }
         ensures err { OnErr result (self.new ≡ self.old) }
     {
-        self.pieces.push(Piece::Keep(n))?;
+        self.spans.push(Span::Keep(n))?;
         Ok(())
     }
 
     /// These bytes more, which go, and what comes in their place.
-    pub fn put(&mut self, old: Bytes, new: Bytes) -> Result<(), AllocError>
-        requires { held self.old + length old + length new < 2 ^ 64 }
-        ensures ok { OnOk result (self.new ≡ self.old ++ (pieces.Put old new ∷ [])) }
+    pub fn put(&mut self, old: &[u8], new: &[u8]) -> Result<(), AllocError>
+        requires old { length old.now < 2 ^ 32 }
+        requires new { length new.now < 2 ^ 32 }
+        ensures ok { OnOk result (self.new ≡ self.old ++ (Put old.now new.now ∷ [])) }
         ensures err { OnErr result (self.new ≡ self.old) }
     {
-        self.pieces.push(Piece::Put { old, new })?;
+        let span = Span::Put {
+            old: old.len() as u32,
+            new: new.len() as u32,
+        };
+        self.spans.reserve(1)?;
+        self.content.reserve(span.own())?;
+        self.spans.push_reserved(span);
+        self.content.extend_from_slice(old)?;
+        self.content.extend_from_slice(new)?;
         Ok(())
     }
 
     /// So many words more, each of which will be as far behind `to`, modulo 2^16, as it is behind `from`.
     pub fn rebase(&mut self, words: u32, from: u16, to: u16) -> Result<(), AllocError>
-        ensures ok { OnOk result (self.new ≡ self.old ++ (pieces.Rebase words from to ∷ [])) }
+        ensures ok { OnOk result (self.new ≡ self.old ++ (Rebase words from to ∷ [])) }
         ensures err { OnErr result (self.new ≡ self.old) }
     {
-        self.pieces.push(Piece::Rebase { words, from, to })?;
+        self.spans.push(Span::Rebase { words, from, to })?;
         Ok(())
+    }
+
+    /// Gives back the room that it took and has no use for.
+    pub fn shrink_to_fit(&mut self)
+        ensures { self.new ≡ self.old }
+    {
+        self.spans.shrink_to_fit();
+        self.content.shrink_to_fit();
     }
 
     /// How many bytes it holds: those that go, and those that come.
     pub fn byte_count(&self) -> u64
         ensures { result ≡ held self.now }
     {
-        let mut count = 0;
-        for piece in &self.pieces {
-            count += piece.held();
-        }
-        count
+        self.content.len() as u64
     }
 
     /// How many bytes a chunk has before the patch is carried out in a direction; 2^64 - 1 where these are more.
@@ -130,8 +144,8 @@ impl Patch {
         ensures { result ≡ min (total_taken (directed_pieces direction self.now)) (2 ^ 64 - 1) }
     {
         let mut size: usize = 0;
-        for piece in &self.pieces {
-            size = size.saturating_add(piece.taken(direction));
+        for span in &self.spans {
+            size = size.saturating_add(span.extent(direction));
         }
         size
     }
@@ -141,9 +155,9 @@ impl Patch {
         ensures { result ≡ min (peak self.now) (2 ^ 64 - 1) }
     {
         let mut peak: usize = 0;
-        for piece in &self.pieces {
-            let before = piece.taken(Direction::Forwards);
-            peak = peak.saturating_add(before.max(piece.taken(Direction::Backwards)));
+        for span in &self.spans {
+            let before = span.extent(Direction::Forwards);
+            peak = peak.saturating_add(before.max(span.extent(Direction::Backwards)));
         }
         peak
     }
@@ -157,43 +171,73 @@ pub fn apply_patch(heap: &mut Heap, h: ChunkHandle, patch: &Patch, direction: Di
     ensures { heap.new.chunks ≡ insert heap.old.chunks h.0
         (patched (directed_pieces direction patch.now) (chunk_bytes heap.old.chunks h.0)) }
 {
+    let spans = patch.spans.as_slice();
+    apply_spans(heap, h, spans, patch.content.as_slice(), direction);
+}
+
+/// The same by the patch's spans, and the bytes that their pieces hold in a row.
+fn apply_spans(
+    heap: &mut Heap,
+    h: ChunkHandle,
+    spans: &[Span],
+    content: &[u8],
+    direction: Direction,
+)
+    requires live { IsTrue (contains_key heap.old.chunks h.0) }
+    requires whole { total_own spans.now ≡ length content.now }
+    requires size { total_taken (directed_pieces direction (pieces_of spans.now content.now)) ≡
+        length (chunk_bytes heap.old.chunks h.0) }
+    requires fits { IsTrue (fits_with heap.old.chunks h.0 (replicate (peak (pieces_of spans.now content.now)) 0)) }
+    ensures { heap.new.chunks ≡ insert heap.old.chunks h.0
+        (patched (directed_pieces direction (pieces_of spans.now content.now)) (chunk_bytes heap.old.chunks h.0)) }
+{
     // Any live chunk is of a heap that can be, in which fewer bytes fit where more do.
     let _all = chunk_of(heap, h);
     let mut at = 0;
-    for piece in &patch.pieces {
-        at = apply_piece(heap, h, at, piece, direction);
+    let mut row = content;
+    for span in spans {
+        at = apply_span(heap, h, at, *span, row, direction);
+        row = &row[span.own()..];
     }
 }
 
-/// Makes of the bytes at a place of a chunk what a piece makes of them in a direction. Gives the place behind them.
-fn apply_piece(
+/// Makes of the bytes at a place of a chunk what a span's piece makes of them in a direction. The bytes that it holds are
+/// the first of the row. Gives the place behind them.
+fn apply_span(
     heap: &mut Heap,
     h: ChunkHandle,
     at: usize,
-    piece: &Piece,
+    span: Span,
+    row: &[u8],
     direction: Direction,
 ) -> usize
     requires live { IsTrue (contains_key heap.old.chunks h.0) }
-    requires within { at + taken (directed_piece direction piece.now) ≤ length (chunk_bytes heap.old.chunks h.0) }
-    requires before { at + taken (directed_piece direction piece.now) ≤ capacity }
-    requires after { at + given (directed_piece direction piece.now) ≤ capacity }
+    requires whole { own span ≤ length row.now }
+    requires within { at + taken (directed_piece direction (piece_of span row.now)) ≤
+        length (chunk_bytes heap.old.chunks h.0) }
+    requires before { at + taken (directed_piece direction (piece_of span row.now)) ≤ capacity }
+    requires after { at + given (directed_piece direction (piece_of span row.now)) ≤ capacity }
     requires fits { IsTrue (fits_with heap.old.chunks h.0
-        (with_piece (directed_piece direction piece.now) at (chunk_bytes heap.old.chunks h.0))) }
+        (with_piece (directed_piece direction (piece_of span row.now)) at (chunk_bytes heap.old.chunks h.0))) }
     ensures chunks { heap.new.chunks ≡ insert heap.old.chunks h.0
-        (with_piece (directed_piece direction piece.now) at (chunk_bytes heap.old.chunks h.0)) }
-    ensures place { result ≡ at + given (directed_piece direction piece.now) }
+        (with_piece (directed_piece direction (piece_of span row.now)) at (chunk_bytes heap.old.chunks h.0)) }
+    ensures place { result ≡ at + given (directed_piece direction (piece_of span row.now)) }
 {
-    match piece {
-        Piece::Keep(n) => at + *n as usize,
-        Piece::Put { old, new } => match direction {
-            Direction::Forwards => put_piece(heap, h, at, old, new),
-            Direction::Backwards => put_piece(heap, h, at, new, old),
-        },
-        Piece::Rebase { words, from, to } => {
-            let end = at + 2 * *words as usize;
+    match span {
+        Span::Keep(n) => at + n as usize,
+        Span::Put { old, new } => {
+            let (old, behind) = row.split_at(old as usize);
+            let new = &behind[..new as usize];
             match direction {
-                Direction::Forwards => rebase_chunk(heap, h, at, end, *from, *to),
-                Direction::Backwards => rebase_chunk(heap, h, at, end, *to, *from),
+                Direction::Forwards => put_piece(heap, h, at, old, new),
+                Direction::Backwards => put_piece(heap, h, at, new, old),
+            }
+        }
+        Span::Rebase { words, from, to } => {
+            let end = at + 2 * words as usize;
+            match direction {
+                Direction::Forwards => rebase_chunk(heap, h, at, end, from, to),
+                Direction::Backwards => rebase_chunk(heap, h, at, end, to, from),
             }
             end
         }
@@ -201,7 +245,7 @@ fn apply_piece(
 }
 
 /// Puts bytes in the place of as many at a place of a chunk as others are. Gives the place behind them.
-fn put_piece(heap: &mut Heap, h: ChunkHandle, at: usize, old: &Bytes, new: &Bytes) -> usize
+fn put_piece(heap: &mut Heap, h: ChunkHandle, at: usize, old: &[u8], new: &[u8]) -> usize
     requires live { IsTrue (contains_key heap.old.chunks h.0) }
     requires within { at + length old.now ≤ length (chunk_bytes heap.old.chunks h.0) }
     requires after { at + length new.now ≤ capacity }
@@ -211,9 +255,8 @@ fn put_piece(heap: &mut Heap, h: ChunkHandle, at: usize, old: &Bytes, new: &Byte
         (splice (chunk_bytes heap.old.chunks h.0) at (at + length old.now) new.now) }
     ensures place { result ≡ at + length new.now }
 {
-    let bytes = new.as_slice();
-    put(heap, h, at, old.as_slice().len(), bytes);
-    at + bytes.len()
+    put(heap, h, at, old.len(), new);
+    at + new.len()
 }
 
 /// Rebases the words of a chunk from one place to another.

@@ -24,9 +24,8 @@ use Rattle.geos_model.specs.declared.handle.VmHandle.{VmHandle}
 use Rattle.geos_model.proofs.HeapTables.{heap_map-table, live_handle, is_chunk_handle-parts, trimmed-put, chunk_length_le}
 use Rattle.geos_model.proofs.HeapEdits.{get-put_same}
 use Rattle.geos_model.proofs.Tables.{put_at, slot_at-put_same, table_map-put}
-use Rattle.chunk_edits.specs.Patching.{BuildsPatch, patched, total_given, total_taken}
+use Rattle.chunk_edits.specs.Patching.{Piece, BuildsPatch, patched, total_given, total_taken}
 use Rattle.chunk_edits.specs.Splicing.{Builds, RefusesToBuild, forwards}
-use Rattle.chunk_edits.specs.declared.patch.Piece.{Piece}
 use Rattle.chunk_edits.specs.declared.splice.Splice.{Splice}
 use Rattle.chunk_edits.proofs.PatchingLemmas.{patched_length, pieces_length}
 use Rattle.vm_blocks.proofs.RoomLemmas.{bytes-put}

@@ -13,10 +13,9 @@ use Rattle.geos_model.specs.ElementEdits.{with_new, with_new_at}
 use Rattle.geos_model.specs.declared.fault.Fault.{Fault}
 use Rattle.geos_model.proofs.ArrayEdits.{even_with}
 use Rattle.geos_model.proofs.Images.{word-reads_back}
-use Rattle.chunk_edits.specs.Patching.{BuildsPatch, PatchLeads}
+use Rattle.chunk_edits.specs.Patching.{Piece, BuildsPatch, PatchLeads}
 use Rattle.chunk_edits.specs.Splicing.{RefusesToBuild}
 use Rattle.chunk_arrays.specs.Rewriting.{extra_after}
-use Rattle.chunk_edits.specs.declared.patch.Piece.{Piece}
 use Rattle.element_arrays.specs.Slotted.{Slotted, slotted_array, slotted_bytes, GivesSlots, RefusesSlots}
 use Rattle.std.specs.Result.{IsErrAnd}
 use Rattle.geos_model.specs.Refusal.{Conditions, first_refusal}

@@ -19,7 +19,7 @@ use Rattle.geos_model.specs.ArrayEdits.{is_missized, too_long}
 use Rattle.geos_model.proofs.Arrays.{same_bytes-is}
 use Rattle.element_arrays.specs.Referencing.{element_with_reference, element_reference_conditions}
 use Rattle.chunk_arrays.specs.Replacing.{Replaces, RefusesToReplace}
-use Rattle.chunk_edits.specs.declared.patch.Piece.{Piece}
+use Rattle.chunk_edits.specs.Patching.{Piece}
 use Rattle.element_arrays.proofs.SlottedLemmas.{slots_handed_on, refuses_for, replaces_for}
 
 -- ---- the slots that are read of an element array's bytes, and what is found of a token there

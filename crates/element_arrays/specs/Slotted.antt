@@ -4,9 +4,8 @@ use Rattle.geos_model.specs.Array.{Array, array_bytes}
 use Rattle.geos_model.specs.ArrayEdits.{too_long}
 use Rattle.geos_model.specs.ElementArray.{Slots, slots_array, is_sound}
 use Rattle.geos_model.specs.declared.fault.Fault.{Fault}
-use Rattle.chunk_edits.specs.Patching.{BuildsPatch}
+use Rattle.chunk_edits.specs.Patching.{Piece, BuildsPatch}
 use Rattle.chunk_edits.specs.Splicing.{RefusesToBuild}
-use Rattle.chunk_edits.specs.declared.patch.Piece.{Piece}
 
 pub record Slotted : Type 0 where
   pub more : List ℕ  -- the extra bytes behind the newest free token

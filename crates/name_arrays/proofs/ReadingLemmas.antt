@@ -21,7 +21,7 @@ use Rattle.name_arrays.proofs.NamingLemmas.{new_bytes, bytes_with, found_name}
 use Rattle.geos_model.specs.ArrayEdits.{too_long}
 use Rattle.geos_model.specs.declared.fault.Fault.{Fault}
 use Rattle.geos_model.specs.declared.handle.Token.{Token}
-use Rattle.chunk_edits.specs.declared.patch.Piece.{Piece}
+use Rattle.chunk_edits.specs.Patching.{Piece}
 use Rattle.chunk_arrays.specs.Replacing.{Replaces, RefusesToReplace}
 use Rattle.element_arrays.proofs.SlottedLemmas.{refuses_for, replaces_for, slots_handed_on, token_handed_on}
 

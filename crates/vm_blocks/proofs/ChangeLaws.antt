@@ -16,9 +16,8 @@ use Rattle.geos_model.proofs.HeapTables.{live_handle}
 use Rattle.geos_model.proofs.BlockLists.{put_stands, put_valid, put_map_block}
 use Rattle.geos_model.proofs.Validity.{with_block-valid}
 use Rattle.geos_model.specs.declared.block.Attributes.{Attributes}
-use Rattle.chunk_edits.specs.Patching.{ArePiecesOf, patched, peak, reversed_pieces}
+use Rattle.chunk_edits.specs.Patching.{Piece, ArePiecesOf, patched, peak, reversed_pieces}
 use Rattle.chunk_edits.specs.Splicing.{OccursAt, forwards, backwards}
-use Rattle.chunk_edits.specs.declared.patch.Piece.{Piece}
 use Rattle.chunk_edits.specs.declared.splice.Splice.{Splice}
 use Rattle.chunk_edits.proofs.PatchingLemmas.{patch_leads_back, pieces_length, reversed_peak, reversed_twice}
 use Rattle.chunk_edits.proofs.SplicingLemmas.{leads_back}

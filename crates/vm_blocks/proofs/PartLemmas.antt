@@ -12,11 +12,10 @@ use Rattle.geos_model.proofs.HeapTables.{live_handle}
 use Rattle.geos_model.proofs.HeapEdits.{heap-insert, heap-remove}
 use Rattle.geos_model.specs.declared.block.Attributes.{Attributes}
 use Rattle.geos_model.specs.declared.handle.ChunkHandle.{ChunkHandle}
-use Rattle.chunk_edits.specs.Patching.{directed_pieces, patched, peak, total_taken}
+use Rattle.chunk_edits.specs.Patching.{Piece, directed_pieces, patched, peak, total_taken}
 use Rattle.chunk_edits.specs.Splicing.{forwards}
 use Rattle.chunk_edits.specs.declared.direction.Direction.{Direction}
 use Rattle.chunk_edits.specs.declared.direction.Direction.TheVariants.{Forwards, Backwards}
-use Rattle.chunk_edits.specs.declared.patch.Piece.{Piece}
 use Rattle.chunk_edits.proofs.PatchingLemmas.{given_le_peak, patched_length_of, pieces_length, reversed_peak}
 use Rattle.vm_blocks.specs.declared.change.PartChange.{PartChange}
 use Rattle.vm_blocks.specs.declared.change.PartChange.TheVariants as parts

@@ -2,9 +2,8 @@
 use Rattle.std.specs.Prelude.{◌≡◌, ◌≤◌, ◌+◌, ℕ, List, IsTrue, None, length, replicate}
 use Rattle.std.specs.FinMap.{get, contains_key}
 use Rattle.geos_model.specs.Heap.{ChunkMap, chunk_bytes, fits_with, is_chunk_handle, capacity}
-use Rattle.chunk_edits.specs.Patching.{peak, total_taken}
+use Rattle.chunk_edits.specs.Patching.{Piece, peak, total_taken}
 use Rattle.chunk_edits.specs.Splicing.{forwards}
-use Rattle.chunk_edits.specs.declared.patch.Piece.{Piece}
 use Rattle.chunk_edits.specs.declared.splice.Splice.{Splice}
 
 -- a raw body has the part that is replaced, and room for what comes

@@ -7,11 +7,10 @@ use Rattle.geos_model.specs.Document.{Block, Document, IsValid, is_vm_handle, is
 use Rattle.geos_model.specs.ElementArray.{all_distinct}
 use Rattle.geos_model.specs.Meaning.{chunk_at, with_chunk, without_chunk}
 use Rattle.geos_model.specs.declared.command.Body.TheVariants.{Raw}
-use Rattle.chunk_edits.specs.Patching.{ArePiecesOf, held, patched, peak, reversed_pieces}
+use Rattle.chunk_edits.specs.Patching.{Piece, ArePiecesOf, held, patched, peak, reversed_pieces}
 use Rattle.chunk_edits.specs.Splicing.{OccursAt, forwards}
 use Rattle.chunk_edits.specs.declared.direction.Direction.{Direction}
 use Rattle.chunk_edits.specs.declared.direction.Direction.TheVariants.{Forwards, Backwards}
-use Rattle.chunk_edits.specs.declared.patch.Piece.{Piece}
 use Rattle.chunk_edits.specs.declared.splice.Splice.{Splice}
 use Rattle.geos_model.specs.Cost.{images_length}
 use Rattle.geos_model.specs.declared.block.Attributes.{Attributes}

@@ -1,7 +1,7 @@
 use Rattle.std.proofs.Common.{◌≡◌, ◌==◌, ◌+◌, ◌-◌, ◌*◌, ◌≤◌, ◌∙◌, ℕ, List, [], false, length, take, drop, sym, ap, arith}
 use Rattle.std.proofs.lemmas.Bool.{ne_eqb}
 use Rattle.geos_model.specs.Array.{Array, array_start}
-use Rattle.chunk_arrays.specs.Reading.{element_place, words_from}
+use Rattle.chunk_arrays.specs.Reading.{words_from}
 use Rattle.chunk_arrays.specs.Rewriting.{elements_of, rewritten}
 use Rattle.chunk_arrays.proofs.DraftingLemmas.{adds-as, adds-none}
 use Rattle.chunk_arrays.proofs.RewritingLemmas.{joined-front, length-spliced, length-words_from, place_table-even}
@@ -54,17 +54,6 @@ draft_place-requires-clause-room c =
     let kept = c.in_ok-draft_places.ensures.kept in
     let words = front_bytes xs (length c.extra.result.now + 8 + 2 * c.count_after.result) c.args.from (omega (arith, c.requires.order, c.requires.within)) in
     omega (arith, many, end, room, kept, words)
-
-pub draft_place-requires-clause-little : goal.draft_place-requires-clause-little
-draft_place-requires-clause-little c =
-    let xs : List (List ℕ) = c.args.view.now.array.elements in
-    let few = c.args.view.now.few in
-    let within : c.args.from ≤ length xs = omega (arith, c.requires.order, c.requires.within) in
-    let little = c.requires.little in
-    let held = c.in_ok-draft_places.ensures.held in
-    let old = front_bytes xs (element_place c.args.view.now.array 0) c.args.from within in
-    let new = front_bytes xs (length c.extra.result.now + 8 + 2 * c.count_after.result) c.args.from within in
-    omega (arith, few, within, little, held, old, new)
 
 pub overflow_add-place-2 : goal.overflow_add-place-2
 overflow_add-place-2 c =

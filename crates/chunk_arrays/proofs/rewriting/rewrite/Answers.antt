@@ -1,9 +1,8 @@
-use Rattle.std.proofs.Common.{◌≡◌, ◌⊎◌, ◌≤◌, ◌<◌, ◌+◌, ℕ, List, [], Option, Some, None, IsSome, true, length, length-take-le, inl, inr, refl, sym, ap, subst, arith}
+use Rattle.std.proofs.Common.{◌≡◌, ◌⊎◌, ◌≤◌, ◌<◌, ◌+◌, ℕ, List, [], Option, Some, None, IsSome, true, length, inl, inr, refl, sym, subst, arith}
 use Rattle.std.specs.List.{splice}
 use Rattle.geos_model.specs.Array.{Array, array_bytes, array_start, is_even, place_table}
 use Rattle.geos_model.proofs.Arrays.{joined, length-array_bytes}
-use Rattle.chunk_edits.specs.Patching.{held, PatchLeads}
-use Rattle.chunk_edits.specs.declared.patch.Piece.{Piece}
+use Rattle.chunk_edits.specs.Patching.{Piece, PatchLeads}
 use Rattle.chunk_arrays.specs.Rewriting.{elements_of, extra_after, rewritten}
 use Rattle.chunk_arrays.specs.declared.rewriting.NewElement.{NewElement}
 use Rattle.chunk_arrays.proofs.RewritingLemmas.{cut, head_room, length-extra_after, length-other_extra}
@@ -50,11 +49,6 @@ draft_head-requires-clause-room c =
     let none = c.in_ok-draft.ensures.1 in
     omega (arith, end, none)
 
-pub draft_head-requires-clause-little : goal.draft_head-requires-clause-little
-draft_head-requires-clause-little c =
-    let none : held c.in_ok-draft.draft.patch ≡ held [] = ap held c.in_ok-draft.ensures.0 in
-    omega (arith, none)
-
 pub draft_table-requires-clause-short : goal.draft_table-requires-clause-short
 draft_table-requires-clause-short c = omega (arith, c.length_after-len.ensures, c.if-len-gt-LONGEST_CHUNK.false)
 
@@ -67,18 +61,6 @@ draft_table-requires-clause-room c =
     let kept = c.in_ok-draft_head.ensures.kept in
     let head = length-head_after a c.count_after.result c.args.first.now c.requires.extra in
     omega (arith, end, none, kept, head)
-
-pub draft_table-requires-clause-little : goal.draft_table-requires-clause-little
-draft_table-requires-clause-little c =
-    let a : Array = c.args.view.now.array in
-    let r = room a c.args.first.now c.args.from c.args.to c.count_after.result c.args.new c.requires.extra c.requires.even (omega (arith, c.length_after-len.ensures, c.if-len-gt-LONGEST_CHUNK.false)) c.count_after.ensures in
-    let end = r.2 in
-    let none : held c.in_ok-draft.draft.patch ≡ held [] = ap held c.in_ok-draft.ensures.0 in
-    let more = c.in_ok-draft_head.ensures.held in
-    let long = length-array_bytes a in
-    let old = length-take-le (array_start a) (array_bytes a) (omega (arith, long)) in
-    let new = length-head_after a c.count_after.result c.args.first.now c.requires.extra in
-    omega (arith, end, none, more, old, new)
 
 pub draft_elements-requires-clause-short : goal.draft_elements-requires-clause-short
 draft_elements-requires-clause-short c =
@@ -96,21 +78,6 @@ draft_elements-requires-clause-room c =
     let head = length-head_after a c.count_after.result c.args.first.now c.requires.extra in
     let two = c.in_ok-draft_table.ensures.kept in
     omega (arith, end, none, one, head, two)
-
-pub draft_elements-requires-clause-little : goal.draft_elements-requires-clause-little
-draft_elements-requires-clause-little c =
-    let a : Array = c.args.view.now.array in
-    let r = room a c.args.first.now c.args.from c.args.to c.count_after.result c.args.new c.requires.extra c.requires.even (omega (arith, c.length_after-len.ensures, c.if-len-gt-LONGEST_CHUNK.false)) c.count_after.ensures in
-    let end = r.2 in
-    let none : held c.in_ok-draft.draft.patch ≡ held [] = ap held c.in_ok-draft.ensures.0 in
-    let one = c.in_ok-draft_head.ensures.held in
-    let long = length-array_bytes a in
-    let old = length-take-le (array_start a) (array_bytes a) (omega (arith, long)) in
-    let new = length-head_after a c.count_after.result c.args.first.now c.requires.extra in
-    let two = c.in_ok-draft_table.ensures.held in
-    let few = c.args.view.now.few in
-    let table = place_table-le (array_start a) a in
-    omega (arith, end, none, one, old, new, two, few, table)
 
 pub returns : goal.returns
 returns c =

@@ -1,7 +1,6 @@
 use Rattle.std.proofs.Common.{◌≡◌, ◌-◌, ◌^◌, ℕ, List, length, min, sym, subst, ◌∙◌, arith}
 use Rattle.geos_model.specs.declared.handle.ChunkHandle.{ChunkHandle}
-use Rattle.chunk_edits.specs.Patching.{reversed_pieces, total_taken}
-use Rattle.chunk_edits.specs.declared.patch.Piece.{Piece}
+use Rattle.chunk_edits.specs.Patching.{Piece, reversed_pieces, total_taken}
 use Rattle.chunk_edits.proofs.PatchingLemmas.{patched_length, reversed_taken}
 use Rattle.vm_blocks.specs.declared.change.PartChange.{PartChange}
 use Rattle.vm_blocks.specs.declared.change.PartChange.TheVariants as parts

@@ -1,6 +1,8 @@
-use Rattle.std.proofs.Common.{◌≡◌, ◌^◌, ◌-◌, min, take}
-use Rattle.chunk_edits.specs.Patching.{peak}
+use Rattle.std.proofs.Common.{◌≡◌, ◌^◌, ◌-◌, min, max, take}
+use Rattle.std.specs.List.{sum_by}
+use Rattle.chunk_edits.specs.Spans.{extent}
+use Rattle.chunk_edits.specs.declared.direction.Direction.TheVariants.{Forwards, Backwards}
 use Rattle.chunk_edits.proofs.patch.Patch.peak.Given as goal
 
-abbrev pub invariant-loop-piece : goal.invariant-loop-piece
-invariant-loop-piece l = l.peak ≡ min (peak (take l.piece-index l.self)) (2 ^ 64 - 1)
+abbrev pub invariant-loop-span : goal.invariant-loop-span
+invariant-loop-span l = l.peak ≡ min (sum_by (λ s. max (extent Forwards s) (extent Backwards s)) (take l.span-index l.span-items)) (2 ^ 64 - 1)

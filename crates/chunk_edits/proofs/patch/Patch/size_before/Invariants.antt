@@ -1,6 +1,7 @@
 use Rattle.std.proofs.Common.{◌≡◌, ◌^◌, ◌-◌, min, take}
-use Rattle.chunk_edits.specs.Patching.{directed_pieces, total_taken}
+use Rattle.std.specs.List.{sum_by}
+use Rattle.chunk_edits.specs.Spans.{extent}
 use Rattle.chunk_edits.proofs.patch.Patch.size_before.Given as goal
 
-abbrev pub invariant-loop-piece : goal.invariant-loop-piece
-invariant-loop-piece l = l.size ≡ min (total_taken (directed_pieces l.fn.direction (take l.piece-index l.self))) (2 ^ 64 - 1)
+abbrev pub invariant-loop-span : goal.invariant-loop-span
+invariant-loop-span l = l.size ≡ min (sum_by (extent l.fn.direction) (take l.span-index l.span-items)) (2 ^ 64 - 1)

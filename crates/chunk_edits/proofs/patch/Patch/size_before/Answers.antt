@@ -1,0 +1,17 @@
+use Rattle.std.proofs.Common.{◌≡◌, ◌∙◌, ◌-◌, ◌^◌, ℕ, List, take, min, sym, ap, arith}
+use Rattle.std.proofs.lemmas.List.{take_all}
+use Rattle.std.specs.List.{sum_by}
+use Rattle.chunk_edits.specs.Patching.{Piece, total_taken, directed_pieces}
+use Rattle.chunk_edits.specs.Spans.{extent}
+use Rattle.chunk_edits.proofs.SpanLemmas.{pieces-extent}
+use Rattle.chunk_edits.proofs.patch.Patch.size_before.Goals as goal
+
+pub returns : goal.returns
+returns c =
+    let d = c.args.direction in let items = c.deref-span-items.ensures.value in
+    let all : take c.loop-span.span-index c.deref-span-items.result.now ≡ c.self.inside.spans.items =
+    take_all c.loop-span.span-index c.deref-span-items.result.now (omega arith) ∙ items in
+    c.loop-span.invariant
+    ∙ ap (λ (n : ℕ). min n (2 ^ 64 - 1)) (ap (sum_by (extent d)) all
+    ∙ (sym (pieces-extent d c.self.inside.spans.items c.self.inside.content.items c.self.invariant)
+    ∙ ap (λ (ps : List Piece). total_taken (directed_pieces d ps)) c.self.view_is))
