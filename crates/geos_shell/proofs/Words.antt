@@ -1,8 +1,8 @@
 -- How a line falls into words.
-use Rattle.std.proofs.Common.{Bor, map, append_assoc, length-drop, add-zero, ◌-◌, ◌≡◌, ℕ, zero, suc, ◌<◌, ◌≤◌, true, false, List, [], ◌∷◌, ◌++◌, length, take, drop, slice_index, inl, inr, Option, Some, None, unwrap_or, refl, sym, ap, ◌∙◌, arith}
+use Rattle.std.proofs.Common.{Bor, map, append_assoc, length-drop, add-zero, ◌-◌, ◌≡◌, ℕ, zero, suc, ◌<◌, ◌≤◌, true, false, List, [], ◌∷◌, ◌++◌, length, take, drop, slice_index, inl, inr, None, refl, sym, ap, ◌∙◌, arith}
 use Rattle.std.proofs.lemmas.Bool.Decides.{nat_tests}
-use Rattle.std.proofs.lemmas.Bool.{cases_eq, cases_Bool, not-true}
-use Rattle.std.proofs.lemmas.List.{take_all, drop_all, get_or-drop, map-append}
+use Rattle.std.proofs.lemmas.Bool.{cases_eq}
+use Rattle.std.proofs.lemmas.List.{take_all, get_or-drop, map-append}
 use Rattle.geos_model.specs.Script.{command, command_of_words, words, begin_word, is_blank}
 
 -- blanks in front of a line change no word

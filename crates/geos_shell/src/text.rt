@@ -20,7 +20,8 @@ fn push_number(out: &mut Vec<u8>, lead: &[u8], number: u64) -> Result<(), AllocE
     out.extend_from_slice(itoa::Buffer::new().format(number).as_bytes())
 }
 
-// A lead, and always four digits.
+// A lead, and always four digits. Inlined, since the lead is a text of a known length.
+#[inline(always)]
 fn push_handle(out: &mut Vec<u8>, lead: &[u8], handle: u16) -> Result<(), AllocError>
     ensures ok { OnOk result (out.new.items ≡ out.old.items ++ (lead.now ++ four_digits handle)) }
     ensures err { OnErr result (Extends out.old.items out.new.items) }

@@ -1,6 +1,5 @@
-use Rattle.std.proofs.Common.{◌≡◌, sym, ◌∙◌, ap, ◌-◌, ◌<◌, ◌==◌, false, List, ℕ, Bor, map, length, take, drop, refl, arith}
-use Rattle.std.proofs.lemmas.Bool.{eqb-true}
-use Rattle.std.proofs.lemmas.List.{append-nil, length-map, take_at, take_all}
+use Rattle.std.proofs.Common.{◌≡◌, sym, ◌∙◌, ap, ◌-◌, ◌<◌, List, ℕ, Bor, map, length, take, drop, arith}
+use Rattle.std.proofs.lemmas.List.{length-map, take_at}
 use Rattle.std.proofs.lemmas.Bool.Decides.{nat_tests}
 use Rattle.geos_model.specs.Script.{words}
 use Rattle.geos_shell.proofs.Words.{solid_front, words-skip, words-step, words-pushed, take_rest}

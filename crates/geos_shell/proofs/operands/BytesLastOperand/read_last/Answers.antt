@@ -1,4 +1,4 @@
-use Rattle.std.proofs.Common.{sym, refl, inr, ◌∙◌, arith}
+use Rattle.std.proofs.Common.{sym, inr, arith}
 use Rattle.std.proofs.lemmas.Result.{err_from_is_err_and}
 use Rattle.geos_shell.proofs.Spelling.{spelled_pairs, spelled_some}
 use Rattle.geos_shell.proofs.operands.BytesLastOperand.read_last.Goals as goal
